@@ -5,7 +5,9 @@ use Rattle.std.specs.Result.{IsErr}
 use Rattle.mux_outside.specs.declared.house_mark.HouseMark.{HouseMark as Asked}
 use Rattle.mux_outside.specs.House.{Known, known_after_ask}
 use Rattle.mux_outside.specs.declared.house_mark.HouseMark.TheVariants.{HouseAsked}
-use Rattle.mux_clients.specs.Asked.{Heeds, IsAsked, IsAskedSome, TellsAsks, known_after}
+use Rattle.mux_outside.specs.HouseCalls.{HandsOn, HouseCall, calls_of}
+use Rattle.mux_outside.proofs.HouseCalls.{calls-append, hands-none, hands-then}
+use Rattle.mux_clients.specs.Asked.{HandsAsks, Heeds, IsAsked, IsAskedSome, TellsAsks, known_after}
 
 pub tells_none : (told : Option (List Asked)) → TellsAsks told told []
 tells_none None = refl
@@ -73,3 +75,15 @@ heeds_err (Err e) asks asks' told told' known known' bad some = some
 -- it was asked once more, and that is noted, or not
 pub asked_not : (asks : List Asked) (told told' : Option (List Asked)) (unnoted : List Asked) → TellsAsks told told' unnoted → IsAskedSome asks asks told told'
 asked_not asks told told' unnoted told_is = record { more = []; unnoted = unnoted; noted = sym (append-nil asks); told_is = told_is }
+
+-- ---- what it was handed
+
+pub handed_none : (asks : List Asked) (stands : List HouseCall → Type 0) → HandsAsks asks asks stands stands
+handed_none asks stands = record { more = []; noted = sym (append-nil asks); hands = hands-none stands }
+
+pub handed_then : (a b c : List Asked) (s t u : List HouseCall → Type 0) → HandsAsks a b s t → HandsAsks b c t u → HandsAsks a c s u
+handed_then a b c s t u x y = record {
+  more = x.more ++ y.more;
+  noted = y.noted ∙ (ap (λ (z : List Asked). z ++ y.more) x.noted ∙ append_assoc a x.more y.more);
+  hands = subst (λ (l : List HouseCall). HandsOn s u l) (sym (calls-append x.more y.more)) (hands-then s t u (calls_of x.more) (calls_of y.more) x.hands y.hands);
+}

@@ -5,7 +5,7 @@ ghost use Rattle.ssh_grammar.specs.declared.framing.Framing.TheVariants.{Proxy};
 ghost use Rattle.ssh_grammar.specs.IsFrame.{IsContent};
 ghost use Rattle.ssh_grammar.specs.Frames.{frame_payload};
 ghost use Rattle.mux_clients.specs.State.{refusals_of};
-ghost use Rattle.mux_clients.specs.Asked.{Heeds};
+ghost use Rattle.mux_clients.specs.Asked.{HandsAsks, Heeds};
 ghost use Rattle.mux_clients.specs.Among.{ChangesOne, HearsAt, IsUntouched, client_index, is_present, numbers};
 ghost use Rattle.mux_clients.specs.Pieces.{HearsIn, unheard};
 ghost use Rattle.mux_clients.specs.Losing.{LosesIn, loss_between};
@@ -118,7 +118,7 @@ pub fn answer_at(
 }
 
 /// A piece of the bytes of the client of a number, where it is read: what it did beyond the client.
-#[tactic(auto, using(crate::proofs::Heeding::asked_none))]
+#[tactic(auto, using(crate::proofs::Heeding::asked_none, crate::proofs::Heeding::handed_none))]
 pub fn got_at<H: House>(
     clients: &mut [Client],
     number: u64,
@@ -139,6 +139,8 @@ pub fn got_at<H: House>(
     ensures silent { is_present clients.old number ≡ false → result ≡ Ok unheard }
     ensures heeds { Heeds result asks.old asks.new (H.told house.old) (H.told house.new)
         (H.known house.old) (H.known house.new) }
+    ensures handed { OnOk result (HandsAsks asks.old asks.new (H.stands house.old)
+        (H.stands house.new)) }
     ensures untold { is_present clients.old number ≡ false → asks.new ≡ asks.old }
     ensures present { OnOk result ((j : ℕ) → is_present clients.new j ≡ is_present clients.old j) }
     ensures numbers { OnOk result (numbers clients.new ≡ numbers clients.old) }

@@ -2,7 +2,7 @@ ghost use Rattle.std.specs.Prelude.{◌≡◌, ◌≤◌, ◌+◌, [], ◌∷◌
 ghost use Rattle.ssh_grammar.specs.declared.framing.Framing.TheVariants.{Proxy};
 ghost use Rattle.ssh_grammar.specs.IsFrame.{IsContent};
 ghost use Rattle.ssh_grammar.specs.Frames.{frame_payload};
-ghost use Rattle.mux_clients.specs.Asked.{Heeds};
+ghost use Rattle.mux_clients.specs.Asked.{HandsAsks, Heeds};
 ghost use Rattle.mux_clients.specs.State.{client_took, part, refusals_of, KeepsRoom};
 ghost use Rattle.mux_clients.specs.Hears.{HearsTold};
 ghost use Rattle.ssh_grammar.specs.Said.{first_in};
@@ -124,6 +124,8 @@ impl Client {
             up.old up.new heard self.old self.new) }
         ensures heeds { Heeds result asks.old asks.new (H.told house.old) (H.told house.new)
             (H.known house.old) (H.known house.new) }
+        ensures handed { OnOk result (HandsAsks asks.old asks.new (H.stands house.old)
+            (H.stands house.new)) }
         ensures policy { OnOk result (core.new.policy ≡ core.old.policy) }
     {
         if self.seat.is_read() {
@@ -238,6 +240,8 @@ impl Client {
         requires ordering { (H.known house.old).ordering ≡ None }
         ensures heeds { Heeds result asks.old asks.new (H.told house.old) (H.told house.new)
             (H.known house.old) (H.known house.new) }
+        ensures handed { OnOk result (HandsAsks asks.old asks.new (H.stands house.old)
+            (H.stands house.new)) }
         ensures next { IfOk result (λ more.
             SaysNext H.may (Some asks.old) (Some asks.new) pid more
             (first_in (mode_of self.old.seat.standing) self.old.rest) core.old core.new up.old
@@ -290,6 +294,8 @@ impl Client {
         requires ordering { (H.known house.old).ordering ≡ None }
         ensures heeds { Heeds result asks.old asks.new (H.told house.old) (H.told house.new)
             (H.known house.old) (H.known house.new) }
+        ensures handed { OnOk result (HandsAsks asks.old asks.new (H.stands house.old)
+            (H.stands house.new)) }
         ensures hears { IfOk result (λ heard.
             HearsPiece H.may (Some asks.old) (Some asks.new) pid bytes.now core.old up.old
             self.old core.new up.new self.new heard) }

@@ -3,6 +3,7 @@ use Rattle.std.proofs.Common.{◌≡◌, ◌≢◌, ◌≤◌, ◌+◌, ℕ, Boo
 use Rattle.std.specs.Prelude.{Result, Ok, Err, IsErr}
 use Rattle.std.specs.Result.{result_unwrap_or}
 use Rattle.mux_outside.specs.House.{Known, nothing_known}
+use Rattle.mux_outside.specs.HouseCalls.{HandsOn, HouseCall}
 use Rattle.mux_outside.specs.OwnStreams.{is_one, is_own, numbers_of}
 use Rattle.mux_outside.specs.Seen.{Calls, Seen}
 use Rattle.mux_outside.specs.Streams.{among}
@@ -69,19 +70,19 @@ module _ {May : HouseReply → Type 0} {Rest : Resting} {before : Option (List H
   none-given v z = sym v.turns ∙ ap turns_in z
 
   -- a run that went to its end
-  pub ran-whole : {now : Side} {seen : Seen} {held failed : List ℕ} {s : State} (turns given : ℕ) (all : Bool) (mid : Option Ended) (m n : ℕ) (refused : Option ℕ) (answer : Ended)
-      → Serving May Rest before now policy pid start seen held failed (given + 0) (HOUSE ∷ []) s → now.unnoted ≡ []
+  pub ran-whole : {now : Side} {seen : Seen} {held failed : List ℕ} {s : State} (stands stands' : List HouseCall → Type 0) (turns given : ℕ) (all : Bool) (mid : Option Ended) (m n : ℕ) (refused : Option ℕ) (answer : Ended)
+      → Serving May Rest before now policy pid start seen held failed (given + 0) (HOUSE ∷ []) s → now.unnoted ≡ [] → HandsOn stands stands' now.calls
       → given ≤ turns → (all ≡ true → given ≡ turns) → StaysOrFails mid s.ended m n → (all ≡ false → mid ≡ None → refused ≢ None) → answer ≡ ended_as s.ended refused
-      → IsRun May Rest.rests Rest.present policy pid turns before now.told start seen.told refused answer
-  ran-whole {now} {seen} {held} {failed} {s} turns given all mid m n refused answer v noted le every stays over is =
-      subst (λ (a : Ended). IsRun May Rest.rests Rest.present policy pid turns before now.told start seen.told refused a) (sym is)
-      (ends-run May Rest before policy pid turns start refused now seen held failed (given + 0) (HOUSE ∷ []) s (ended_as s.ended refused) v noted only-house (none-more given turns le)
+      → IsRun May Rest.rests stands stands' Rest.present policy pid turns before now.told start seen.told refused answer
+  ran-whole {now} {seen} {held} {failed} {s} stands stands' turns given all mid m n refused answer v noted hands le every stays over is =
+      subst (λ (a : Ended). IsRun May Rest.rests stands stands' Rest.present policy pid turns before now.told start seen.told refused a) (sym is)
+      (ends-run May Rest stands stands' before policy pid turns start refused now seen held failed (given + 0) (HOUSE ∷ []) s (ended_as s.ended refused) v noted hands only-house (none-more given turns le)
       (ends-so turns v.journal s.ended refused (λ on none. v.turns ∙ let g : given ≡ turns = given-all all given turns mid refused every over (fails-on mid s.ended m n stays on) none in (omega (arith, g)))))
 
   -- one that want of memory cut short
-  pub ran-starved : {E : Type 0} {now : Option (List HouseMark)} {told : Option (List Mark)} {refused : Option ℕ} (turns given : ℕ) (r : Result Ended E) → IsErr r → given ≤ turns → Promised May Rest before now policy pid start told given → IsRun May Rest.rests Rest.present policy pid turns before now start told refused (result_unwrap_or r ended.OutOfMemory)
-  ran-starved turns given (Ok x) h le p = absurd (let z : false ≡ true = h in cc)
-  ran-starved {E} {now} {told} {refused} turns given (Err e) h le p = ends-starved May Rest before policy pid turns start refused now told (promised-more given turns le p)
+  pub ran-starved : {E : Type 0} {now : Option (List HouseMark)} {told : Option (List Mark)} {refused : Option ℕ} (stands stands' : List HouseCall → Type 0) (turns given : ℕ) (r : Result Ended E) → IsErr r → given ≤ turns → Promised May Rest before now policy pid start told given → IsRun May Rest.rests stands stands' Rest.present policy pid turns before now start told refused (result_unwrap_or r ended.OutOfMemory)
+  ran-starved stands stands' turns given (Ok x) h le p = absurd (let z : false ≡ true = h in cc)
+  ran-starved {E} {now} {told} {refused} stands stands' turns given (Err e) h le p = ends-starved May Rest stands stands' before policy pid turns start refused now told (promised-more given turns le p)
 
 -- ---- what is counted
 

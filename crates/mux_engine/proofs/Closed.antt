@@ -158,6 +158,7 @@ serve-closed {May} {Rest} {before} {now} {policy} {pid} {start} {seen} {held} {f
       stands = st;
       house = v.house;
       asked = v.asked ∙ sym asks;
+      called = v.called;
       askers = v.askers;
       house_in = v.house_in;
       house_there = v.house_there;

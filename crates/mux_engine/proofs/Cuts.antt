@@ -19,6 +19,9 @@ use Rattle.mux_bounds.specs.Bounds.{IsLog}
 use Rattle.mux_clients.specs.Asked.{TellsAsks}
 use Rattle.mux_machine.specs.State.{State}
 use Rattle.mux_machine.specs.Stands.{RowsFit}
+use Rattle.mux_outside.specs.HouseCalls.{HouseCall, calls_of}
+use Rattle.mux_outside.proofs.HouseCalls.{calls-append}
+use Rattle.mux_engine.specs.Called.{calls_in}
 use Rattle.mux_engine.specs.Run.{IsOfWire, RestedAt, is_by_house}
 use Rattle.mux_engine.specs.Serving.{IsLeft, Kept, Promised, Serving}
 use Rattle.mux_engine.specs.Sides.{Resting, Side, asks_in, house_mark, house_marks}
@@ -37,7 +40,7 @@ asks-left old more asks e = filter-append is_asked old more ∙ ap (λ l. l ++ a
 
 -- the rows before the mark are left, whatever the house told at the mark
 unfoldable pub cut-next : {May : HouseReply → Type 0} {Rest : Resting} {before : Option (List HouseMark)} {now : Side} {policy : Policy} {pid : ℕ} {start : Option (List Mark)} {seen : Seen} {held failed : List ℕ} {given : ℕ} {todo : List ℕ} {s : State} (v : Serving May Rest before now policy pid start seen held failed given todo s) (now' : Option (List HouseMark)) (told' : Option (List Mark)) (given' : ℕ) (mark : Mark) (more left : List HouseMark)
-    → told' ≡ option_map (λ m. m ++ mark ∷ []) seen.told → TellsAsks now.told now' more → house_mark mark ++ left ≡ now.unnoted ++ more → IsOfWire (mark ∷ v.journal) → turns_in (mark ∷ v.journal) ≤ given' → RestedAt Rest.rests before v.journal mark → (Rest.present ≡ false → is_by_house mark ≡ false)
+    → told' ≡ option_map (λ m. m ++ mark ∷ []) seen.told → TellsAsks now.told now' more → house_mark mark ++ left ≡ now.unnoted ++ more → IsOfWire (mark ∷ v.journal) → turns_in (mark ∷ v.journal) ≤ given' → ((set : Setting) → RestedAt Rest.rests set before v.journal mark) → (Rest.present ≡ false → is_by_house mark ≡ false)
     → ((set : Setting) → IsLog set (mark ∷ v.journal) (log_of_journal set v.journal)) → ((picks : List ℕ) (later : List HouseReply) → PromiseAt (by_lists policy pid (v.picked ++ picks) (v.replies ++ later)) v.journal mark) → Promised May Rest before now' policy pid start told' given'
 cut-next {May} {Rest} {before} {now} {policy} {pid} {start} {seen} {held} {failed} {given} {todo} {s} v now' told' given' mark more left e h is of le rested absent cut promise =
     let same : (house_marks v.journal ++ now.unnoted) ++ more ≡ (house_marks v.journal ++ house_mark mark) ++ left = noted-more (house_marks v.journal) (house_mark mark) left now.unnoted more is in
@@ -52,7 +55,7 @@ cut-next {May} {Rest} {before} {now} {policy} {pid} {start} {seen} {held} {faile
       each = v.stands.each;
       house = subst (TellsAsks before now') same (tells-then before now.told now' (house_marks v.journal ++ now.unnoted) more v.house h);
       asked = ap asks_in (sym same) ∙ asks-left (house_marks v.journal ++ now.unnoted) more v.stands.asks v.asked;
-      rested = (rested, v.rested);
+      rested = λ picks later. (rested (by_lists policy pid (v.picked ++ picks) (v.replies ++ later)), v.rested picks later);
       absent = λ e. All-cons (λ (m : Mark). is_by_house m ≡ false) mark v.journal (absent e) (v.absent e);
       tells = tells-more start seen.told told' v.journal (mark ∷ []) v.tells e;
       of_wire = of;
@@ -95,8 +98,8 @@ pub cut-still : {May : HouseReply → Type 0} {Rest : Resting} {before : Option 
 cut-still {now = now} {given = given} v told' e = cut-here v now.told told' given [] e (tells-none now.told) (omega arith)
 
 -- what the house tells is not noted yet
-pub serve-told : {May : HouseReply → Type 0} {Rest : Resting} {before : Option (List HouseMark)} {now : Side} {policy : Policy} {pid : ℕ} {start : Option (List Mark)} {seen : Seen} {held failed : List ℕ} {given : ℕ} {todo : List ℕ} {s : State} (v : Serving May Rest before now policy pid start seen held failed given todo s) (now' : Side) (more : List HouseMark) → TellsAsks now.told now'.told more → now'.unnoted ≡ now.unnoted ++ more → asks_in more ≡ [] → now'.asks ≡ now.asks → now'.let_in ≡ now.let_in → Serving May Rest before now' policy pid start seen held failed given todo s
-serve-told {May} {Rest} {before} {now} {policy} {pid} {start} {seen} {held} {failed} {given} {todo} {s} v now' more h is none asks within =
+pub serve-told : {May : HouseReply → Type 0} {Rest : Resting} {before : Option (List HouseMark)} {now : Side} {policy : Policy} {pid : ℕ} {start : Option (List Mark)} {seen : Seen} {held failed : List ℕ} {given : ℕ} {todo : List ℕ} {s : State} (v : Serving May Rest before now policy pid start seen held failed given todo s) (now' : Side) (more : List HouseMark) → TellsAsks now.told now'.told more → now'.unnoted ≡ now.unnoted ++ more → asks_in more ≡ [] → now'.asks ≡ now.asks → now'.let_in ≡ now.let_in → now'.calls ≡ now.calls ++ calls_of more → Serving May Rest before now' policy pid start seen held failed given todo s
+serve-told {May} {Rest} {before} {now} {policy} {pid} {start} {seen} {held} {failed} {given} {todo} {s} v now' more h is none asks within calls =
     let same : (house_marks v.journal ++ now.unnoted) ++ more ≡ house_marks v.journal ++ now'.unnoted = append_assoc (house_marks v.journal) now.unnoted more ∙ ap (λ l. house_marks v.journal ++ l) (sym is) in
     record {
       journal = v.journal;
@@ -109,6 +112,9 @@ serve-told {May} {Rest} {before} {now} {policy} {pid} {start} {seen} {held} {fai
       stands = v.stands;
       house = subst (TellsAsks before now'.told) same (tells-then before now.told now'.told (house_marks v.journal ++ now.unnoted) more v.house h);
       asked = ap asks_in (sym same) ∙ (asks-left (house_marks v.journal ++ now.unnoted) more v.stands.asks v.asked ∙ (ap (λ l. v.stands.asks ++ l) none ∙ append-nil v.stands.asks));
+      called = λ picks later.
+          let set : Setting = by_lists policy pid (v.picked ++ picks) (v.replies ++ later) in
+          ap (λ (l : List HouseCall). calls_in set v.journal ++ l) (ap calls_of is ∙ calls-append now.unnoted more) ∙ (sym (append_assoc (calls_in set v.journal) (calls_of now.unnoted) (calls_of more)) ∙ (ap (λ (l : List HouseCall). l ++ calls_of more) (v.called picks later) ∙ sym calls));
       askers = subst (λ (l : List OpenAsk). All (λ (a : OpenAsk). IsTrue (is_accepted a.client v.journal)) l) (sym asks) v.askers;
       house_in = v.house_in ∙ sym within;
       house_there = λ e. v.house_there (sym within ∙ e);

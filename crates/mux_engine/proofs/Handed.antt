@@ -6,6 +6,7 @@ use Rattle.std.proofs.lemmas.Bool.Decides.{eqb_tells}
 use Rattle.std.proofs.lemmas.List.{map-append}
 use Rattle.std.proofs.lemmas.List.Folds.{list_any-append}
 use Rattle.ssh_fields.specs.Fields.{AreBytes}
+use Rattle.mux_outside.specs.HouseCalls.{End, Failed, Got, HandsOn, HouseCall, Joined, Turns, Writable, calls_of, happening_of}
 use Rattle.mux_outside.specs.House.{IsNewTo, Known, OwnTurnFits, Quiet, known_after_own_turn}
 use Rattle.mux_outside.specs.OwnStreams.{end_one, is_one, is_own, is_silent, new_stream, numbers_of, with_end}
 use Rattle.mux_outside.specs.Seen.{Seen, seen_after_turn}
@@ -37,6 +38,7 @@ use Rattle.mux_engine.specs.Serving.{Promised, Serving}
 use Rattle.mux_engine.specs.Sides.{Housed, Resting, RestsOf, SameHouse, Side, noted}
 use Rattle.mux_engine.specs.Turns.{IsEventOf, IsOwnOf, failed_heard, held_heard, own_heard, want_of}
 use Rattle.mux_engine.proofs.Cuts.{cut-here, cut-still}
+use Rattle.mux_engine.proofs.Called.{calling}
 use Rattle.mux_engine.proofs.Lists.{among-last, among-other-last, or-last, true-false}
 use Rattle.mux_engine.proofs.Marks.{serve-alone, serve-on}
 use Rattle.mux_engine.proofs.OwnMarks.{test-same}
@@ -56,18 +58,18 @@ pub record AtWait (Rest : Resting) (now : Side) (seen : Seen) (own held failed :
   pub offered : Offered seen own held failed queue
   pub hears : seen.listens ≡ s.listening
   pub all_noted : now.unnoted ≡ []
-  pub rests : want_of s ≡ Read → Rest.rests now.told
+  pub rests : want_of s ≡ Read → Rest.rests now.told now.calls
 
-pub at-wait : {T : Type 0} (told : T → Option (List HouseMark)) (quiet : T → Quiet) (house : T) (known : Known) (seen : Seen) (own held failed : List ℕ) (queue : ℕ → List ℕ) (s : State) → Housed known seen own → IsReady known (quiet house) queue held failed own s
-    → s.leaving ≡ [] → s.refused ≡ [] → s.ended ≡ None → seen.listens ≡ s.listening → AtWait (RestsOf told quiet known.present) (noted (told house) known) seen own held failed queue s
-at-wait told quiet house known seen own held failed queue s housed ready none admitted live hears = record {
+pub at-wait : {T : Type 0} {calls : List HouseCall} (told : T → Option (List HouseMark)) (quiet : T → Quiet) (stands : T → List HouseCall → Type 0) (first house : T) (known : Known) (seen : Seen) (own held failed : List ℕ) (queue : ℕ → List ℕ) (s : State) → Housed known seen own → IsReady known (quiet house) queue held failed own s
+    → s.leaving ≡ [] → s.refused ≡ [] → s.ended ≡ None → seen.listens ≡ s.listening → HandsOn (stands first) (stands house) calls → AtWait (RestsOf told quiet stands known.present first) (noted (told house) known calls) seen own held failed queue s
+at-wait told quiet stands first house known seen own held failed queue s housed ready none admitted live hears hands = record {
   none = none;
   admitted = admitted;
   live = live;
   offered = record { own_is = housed.own_is; opened = housed.places.opened; numbered = housed.places.numbered; offered = ready.no_more.offered };
   hears = hears;
   all_noted = refl;
-  rests = λ read present. (house, (ready.rests present read, refl));
+  rests = λ read present. (house, (ready.rests present read, (refl, hands)));
 }
 
 -- the wire gave this turn
@@ -110,14 +112,14 @@ module _ {May : HouseReply → Type 0} {Rest : Resting} {before : Option (List H
     (v : Serving May Rest before now policy pid start seen held failed given [] s) (live : s.ended ≡ None) (e : Event) (seen' : Seen) (given' : ℕ) (at : EventAt v live e seen' given') where
   -- it was taken in, and all asks were noted; or there was no memory for that
   pub event-heeds : {A E : Type 0} (r : Result A E) (s' : State) (asks : List HouseMark) (told told' : Option (List HouseMark)) (known known' : Known) (seen0 seen'' : Seen) → seen0 ≡ seen' → now.told ≡ told → now.asks ≡ known.asks → now.let_in ≡ known.present
-      → Heeded r May e s s' asks told told' known known' seen0 seen'' → MatchResult r (λ x. Serving May Rest before (noted told' known') policy pid start seen'' held failed given' (0 ∷ here s') s') (λ x. Promised May Rest before told' policy pid start seen''.told given')
+      → Heeded r May e s s' asks told told' known known' seen0 seen'' → MatchResult r (λ x. Serving May Rest before (noted told' known' (now.calls ++ calls_of asks)) policy pid start seen'' held failed given' (0 ∷ here s') s') (λ x. Promised May Rest before told' policy pid start seen''.told given')
   event-heeds (Ok x) s' asks told told' known known' seen0 seen'' is same_told same_asks same_present h =
       let h' : HeedsSo May e s s' asks told told' known known' seen' seen'' (length asks) = subst (λ (y : Seen). HeedsSo May e s s' asks told told' known known' y seen'' (length asks)) is h in
-      let goes : Serving May Rest before (record { told = told'; asks = known'.asks; unnoted = drop (length asks) asks; let_in = now.let_in }) policy pid start seen'' held failed given' (0 ∷ here s') s' =
+      let goes : Serving May Rest before (record { told = told'; asks = known'.asks; unnoted = drop (length asks) asks; let_in = now.let_in; calls = now.calls ++ calls_of asks }) policy pid start seen'' held failed given' (0 ∷ here s') s' =
       event-goes v live e seen' given' at s' asks told told' known known' seen'' (length asks) same_told same_asks h' in
       let within : now.let_in ≡ known'.present = same_present ∙ sym (ap (λ (k : Known). k.present) h.known_is ∙ (after-asks asks known).present) in
-      subst (λ (b : Bool). Serving May Rest before (record { told = told'; asks = known'.asks; unnoted = []; let_in = b }) policy pid start seen'' held failed given' (0 ∷ here s') s') within
-      (subst (λ (l : List HouseMark). Serving May Rest before (record { told = told'; asks = known'.asks; unnoted = l; let_in = now.let_in }) policy pid start seen'' held failed given' (0 ∷ here s') s') (drop-all asks) goes)
+      subst (λ (b : Bool). Serving May Rest before (record { told = told'; asks = known'.asks; unnoted = []; let_in = b; calls = now.calls ++ calls_of asks }) policy pid start seen'' held failed given' (0 ∷ here s') s') within
+      (subst (λ (l : List HouseMark). Serving May Rest before (record { told = told'; asks = known'.asks; unnoted = l; let_in = now.let_in; calls = now.calls ++ calls_of asks }) policy pid start seen'' held failed given' (0 ∷ here s') s') (drop-all asks) goes)
   event-heeds (Err x) s' asks told told' known known' seen0 seen'' is same_told same_asks same_present (inl u) =
       subst (λ (y : Seen). Promised May Rest before told' policy pid start y.told given') (sym (u.seen_is ∙ is))
       (event-cut v live e seen' given' at told' u.more (subst (λ (o : Option (List HouseMark)). TellsAsks o told' u.more) (sym same_told) u.told_is))
@@ -141,7 +143,7 @@ module _ {May : HouseReply → Type 0} {Rest : Resting} {before : Option (List H
 
     -- the engine took in an event
     pub turn-heeds : {A E : Type 0} (r : Result A E) (e : Event) → IsEventOf e t bytes → (s' : State) (asks : List HouseMark) (told told' : Option (List HouseMark)) (known known' : Known) (seen'' : Seen) → now.told ≡ told → now.asks ≡ known.asks → now.let_in ≡ known.present
-        → Heeded r May e s s' asks told told' known known' seen' seen'' → MatchResult r (λ x. Serving May Rest before (noted told' known') policy pid start seen'' held failed (given + 1) (0 ∷ here s') s') (λ x. Promised May Rest before told' policy pid start seen''.told (given + 1))
+        → Heeded r May e s s' asks told told' known known' seen' seen'' → MatchResult r (λ x. Serving May Rest before (noted told' known' (now.calls ++ calls_of asks)) policy pid start seen'' held failed (given + 1) (0 ∷ here s') s') (λ x. Promised May Rest before told' policy pid start seen''.told (given + 1))
     turn-heeds r e next s' asks told told' known known' seen'' same_told same_asks same_present h =
         event-heeds told-waiting a.live e (seen-then t bytes) (given + 1) (event-there e next) r s' asks told told' known known' seen' seen'' w.seen_is same_told same_asks same_present h
 
@@ -151,40 +153,41 @@ module _ {May : HouseReply → Type 0} {Rest : Resting} {before : Option (List H
     turn-ends (Err x) e next s' asks told told' known known' seen'' h = tt
 
     -- one of the master's own listeners or streams told something
-    by-turn : (o : OwnTurn) → IsOwnOf o t bytes → Serving May Rest before now policy pid start (seen-then t bytes) (held_heard o held) (failed_heard o failed) (given + 1) (0 ∷ here s) s
+    by-turn : (o : OwnTurn) → IsOwnOf o t bytes → Serving May Rest before (calling now (Turns (happening_of o) ∷ [])) policy pid start (seen-then t bytes) (held_heard o held) (failed_heard o failed) (given + 1) (0 ∷ here s) s
     unfolding waited serve-alone serve-on
     by-turn (told.Joined l k) next =
         let fits : OwnFits (turn.Joined l k) seen.listeners seen.own seen.last_own = subst (λ (x : Turn). OwnFits x seen.listeners seen.own seen.last_own) next w.own_fits in
         let of = of-turn v a.none a.admitted a.live a.offered a.hears a.all_noted a.rests (turn.Joined l k) bytes w.are (subst (λ (x : Turn). TurnFits x (want_of s) seen.listens seen.last seen.streams seen.blocked bytes) next w.fits) fits in
-        subst (λ (x : Turn). Serving May Rest before now policy pid start (seen-then x bytes) held failed (given + 1) (0 ∷ here s) s) (sym next)
-        (offered-again (own-joins told-waiting l k fits.1 (seen-then (turn.Joined l k) bytes) (marked-twice (wait-mark v a.none a.admitted a.live a.offered) (Joins l k) seen.told) of refl refl refl refl refl))
+        subst (λ (x : Turn). Serving May Rest before (calling now (Turns (Joined l k) ∷ [])) policy pid start (seen-then x bytes) held failed (given + 1) (0 ∷ here s) s) (sym next)
+        (offered-again (own-joins told-waiting l k a.all_noted fits.1 (seen-then (turn.Joined l k) bytes) (marked-twice (wait-mark v a.none a.admitted a.live a.offered) (Joins l k) seen.told) of refl refl refl refl refl))
     by-turn (told.Got k got) next =
         let fits : TurnFits (turn.Got k) (want_of s) seen.listens seen.last seen.streams seen.blocked bytes = subst (λ (x : Turn). TurnFits x (want_of s) seen.listens seen.last seen.streams seen.blocked bytes) next.1 w.fits in
         let of = of-turn v a.none a.admitted a.live a.offered a.hears a.all_noted a.rests (turn.Got k) bytes w.are fits (subst (λ (x : Turn). OwnFits x seen.listeners seen.own seen.last_own) next.1 w.own_fits) in
-        subst (λ (x : Turn). Serving May Rest before now policy pid start (seen-then x bytes) held failed (given + 1) (0 ∷ here s) s) (sym next.1)
-        (offered-again (own-gets told-waiting k fits.1 (seen-then (turn.Got k) bytes) next.0 bytes w.are
-        record { told = marked-twice (wait-mark v a.none a.admitted a.live a.offered) (Gets k bytes) seen.told; of_wire = of; streams = refl; blocked = refl; last = refl; last_own = refl; listens = refl }))
+        subst (λ (l : List ℕ). Serving May Rest before (calling now (Turns (Got k l) ∷ [])) policy pid start (seen-then t bytes) held failed (given + 1) (0 ∷ here s) s) (sym next.2)
+        (subst (λ (x : Turn). Serving May Rest before (calling now (Turns (Got k bytes) ∷ [])) policy pid start (seen-then x bytes) held failed (given + 1) (0 ∷ here s) s) (sym next.1)
+        (offered-again (own-gets told-waiting k fits.1 (seen-then (turn.Got k) bytes) next.0 a.all_noted bytes w.are
+        record { told = marked-twice (wait-mark v a.none a.admitted a.live a.offered) (Gets k bytes) seen.told; of_wire = of; streams = refl; blocked = refl; last = refl; last_own = refl; listens = refl })))
     by-turn (told.End k) next =
         let fits : TurnFits (turn.End k) (want_of s) seen.listens seen.last seen.streams seen.blocked bytes = subst (λ (x : Turn). TurnFits x (want_of s) seen.listens seen.last seen.streams seen.blocked bytes) next.1 w.fits in
         let of = of-turn v a.none a.admitted a.live a.offered a.hears a.all_noted a.rests (turn.End k) bytes w.are fits (subst (λ (x : Turn). OwnFits x seen.listeners seen.own seen.last_own) next.1 w.own_fits) in
-        subst (λ (x : Turn). Serving May Rest before now policy pid start (seen-then x bytes) held failed (given + 1) (0 ∷ here s) s) (sym next.1)
-        (offered-again (own-ends told-waiting k fits.1 (seen-then (turn.End k) bytes) next.0
+        subst (λ (x : Turn). Serving May Rest before (calling now (Turns (End k) ∷ [])) policy pid start (seen-then x bytes) held failed (given + 1) (0 ∷ here s) s) (sym next.1)
+        (offered-again (own-ends told-waiting k fits.1 (seen-then (turn.End k) bytes) next.0 a.all_noted
         record { told = marked-twice (wait-mark v a.none a.admitted a.live a.offered) (Ends k) seen.told; of_wire = of; streams = refl; blocked = refl; last = refl; last_own = refl; listens = refl }))
     by-turn (told.Writable k) next =
         let fits : TurnFits (turn.Writable k) (want_of s) seen.listens seen.last seen.streams seen.blocked bytes = subst (λ (x : Turn). TurnFits x (want_of s) seen.listens seen.last seen.streams seen.blocked bytes) next.1 w.fits in
         let of = of-turn v a.none a.admitted a.live a.offered a.hears a.all_noted a.rests (turn.Writable k) bytes w.are fits (subst (λ (x : Turn). OwnFits x seen.listeners seen.own seen.last_own) next.1 w.own_fits) in
-        subst (λ (x : Turn). Serving May Rest before now policy pid start (seen-then x bytes) (without k held) failed (given + 1) (0 ∷ here s) s) (sym next.1)
-        (offered-again (own-frees told-waiting k fits.0 (seen-then (turn.Writable k) bytes) next.0
+        subst (λ (x : Turn). Serving May Rest before (calling now (Turns (Writable k) ∷ [])) policy pid start (seen-then x bytes) (without k held) failed (given + 1) (0 ∷ here s) s) (sym next.1)
+        (offered-again (own-frees told-waiting k fits.0 (seen-then (turn.Writable k) bytes) next.0 a.all_noted
         record { told = marked-twice (wait-mark v a.none a.admitted a.live a.offered) (Frees k) seen.told; of_wire = of; streams = refl; blocked = refl; last = refl; last_own = refl; listens = refl }))
     by-turn (told.Failed k) next =
         let fits : TurnFits (turn.Failed k) (want_of s) seen.listens seen.last seen.streams seen.blocked bytes = subst (λ (x : Turn). TurnFits x (want_of s) seen.listens seen.last seen.streams seen.blocked bytes) next.1 w.fits in
         let of = of-turn v a.none a.admitted a.live a.offered a.hears a.all_noted a.rests (turn.Failed k) bytes w.are fits (subst (λ (x : Turn). OwnFits x seen.listeners seen.own seen.last_own) next.1 w.own_fits) in
-        subst (λ (x : Turn). Serving May Rest before now policy pid start (seen-then x bytes) held (failed ++ k ∷ []) (given + 1) (0 ∷ here s) s) (sym next.1)
-        (offered-again (own-failed told-waiting k fits (seen-then (turn.Failed k) bytes) next.0
+        subst (λ (x : Turn). Serving May Rest before (calling now (Turns (Failed k) ∷ [])) policy pid start (seen-then x bytes) held (failed ++ k ∷ []) (given + 1) (0 ∷ here s) s) (sym next.1)
+        (offered-again (own-failed told-waiting k fits (seen-then (turn.Failed k) bytes) next.0 a.all_noted
         record { told = marked-twice (wait-mark v a.none a.admitted a.live a.offered) (Fails k) seen.told; of_wire = of; streams = refl; blocked = refl; last = refl; last_own = refl; listens = refl }))
 
-    pub turn-owns : (o : OwnTurn) → IsOwnOf o t bytes → Serving May Rest before now policy pid start seen' (held_heard o held) (failed_heard o failed) (given + 1) (0 ∷ here s) s
-    turn-owns o next = subst (λ (x : Seen). Serving May Rest before now policy pid start x (held_heard o held) (failed_heard o failed) (given + 1) (0 ∷ here s) s) (sym w.seen_is) (by-turn o next)
+    pub turn-owns : (o : OwnTurn) → IsOwnOf o t bytes → Serving May Rest before (calling now (Turns (happening_of o) ∷ [])) policy pid start seen' (held_heard o held) (failed_heard o failed) (given + 1) (0 ∷ here s) s
+    turn-owns o next = subst (λ (x : Seen). Serving May Rest before (calling now (Turns (happening_of o) ∷ [])) policy pid start x (held_heard o held) (failed_heard o failed) (given + 1) (0 ∷ here s) s) (sym w.seen_is) (by-turn o next)
 
     -- a stream of the server or a client takes bytes again
     by-room : (k : ℕ) → is_own k ≡ false → t ≡ turn.Writable k → Serving May Rest before now policy pid start (seen-then t bytes) (without k held) failed (given + 1) (0 ∷ here s) s
@@ -356,14 +359,14 @@ heard-asks (told.End k) known known' e = record { present = ap (λ (x : Known). 
 heard-asks (told.Writable k) known known' e = record { present = ap (λ (x : Known). x.present) e; asks = ap (λ (x : Known). x.asks) e }
 heard-asks (told.Failed k) known known' e = record { present = ap (λ (x : Known). x.present) e; asks = ap (λ (x : Known). x.asks) e }
 
-pub own-noted : {May : HouseReply → Type 0} {Rest : Resting} {before : Option (List HouseMark)} {policy : Policy} {pid : ℕ} {start : Option (List Mark)} {seen : Seen} {given : ℕ} {todo : List ℕ} {s : State} (o : OwnTurn) (told told' : Option (List HouseMark)) (known known' : Known) (held held' failed failed' : List ℕ)
-    → told' ≡ told → known' ≡ known_after_own_turn o known → held' ≡ held_heard o held → failed' ≡ failed_heard o failed → Serving May Rest before (noted told known) policy pid start seen (held_heard o held) (failed_heard o failed) given todo s → Serving May Rest before (noted told' known') policy pid start seen held' failed' given todo s
-own-noted {May} {Rest} {before} {policy} {pid} {start} {seen} {given} {todo} {s} o told told' known known' held held' failed failed' e f h i v =
+pub own-noted : {May : HouseReply → Type 0} {Rest : Resting} {before : Option (List HouseMark)} {policy : Policy} {pid : ℕ} {start : Option (List Mark)} {seen : Seen} {given : ℕ} {todo : List ℕ} {s : State} {calls : List HouseCall} (o : OwnTurn) (told told' : Option (List HouseMark)) (known known' : Known) (held held' failed failed' : List ℕ)
+    → told' ≡ told → known' ≡ known_after_own_turn o known → held' ≡ held_heard o held → failed' ≡ failed_heard o failed → Serving May Rest before (noted told known calls) policy pid start seen (held_heard o held) (failed_heard o failed) given todo s → Serving May Rest before (noted told' known' calls) policy pid start seen held' failed' given todo s
+own-noted {May} {Rest} {before} {policy} {pid} {start} {seen} {given} {todo} {s} {calls} o told told' known known' held held' failed failed' e f h i v =
     let same : SameAsks known known' = heard-asks o known known' f in
-    let side : noted told known ≡ noted told' known' = ap (λ (t : Option (List HouseMark)). noted t known) (sym e) ∙ (ap (λ (l : _). record (noted told' known) { asks = l }) (sym same.asks) ∙ ap (λ (b : Bool). record (noted told' known') { let_in = b }) (sym same.present)) in
+    let side : noted told known calls ≡ noted told' known' calls = ap (λ (t : Option (List HouseMark)). noted t known calls) (sym e) ∙ (ap (λ (l : _). record (noted told' known calls) { asks = l }) (sym same.asks) ∙ ap (λ (b : Bool). record (noted told' known' calls) { let_in = b }) (sym same.present)) in
     subst (λ (n : Side). Serving May Rest before n policy pid start seen held' failed' given todo s) side
-    (subst (λ (l : List ℕ). Serving May Rest before (noted told known) policy pid start seen l failed' given todo s) (sym h)
-    (subst (λ (l : List ℕ). Serving May Rest before (noted told known) policy pid start seen (held_heard o held) l given todo s) (sym i) v))
+    (subst (λ (l : List ℕ). Serving May Rest before (noted told known calls) policy pid start seen l failed' given todo s) (sym h)
+    (subst (λ (l : List ℕ). Serving May Rest before (noted told known calls) policy pid start seen (held_heard o held) l given todo s) (sym i) v))
 
 -- a change that keeps the numbers
 end-number : (k : ℕ) (o : OwnStream) → (end_one k o).number ≡ o.number

@@ -16,6 +16,7 @@ use Rattle.mux_outside.specs.declared.mark.Mark.TheVariants.{Accepts, Gets, Ends
 use Rattle.mux_outside.specs.declared.own_streams.TheConstants.{LAST_CLIENT}
 use Rattle.mux_history.specs.declared.limits.TheConstants.{HOUSE}
 use Rattle.mux_history.specs.Policy.{Policy}
+use Rattle.mux_history.specs.Log.{Setting}
 use Rattle.mux_history.specs.Settings.{by_lists}
 use Rattle.mux_history.specs.Journal.{is_accepted, is_blocked, is_own_stream}
 use Rattle.mux_history.specs.Promises.{SpeaksInTime, not_own, turns_in}
@@ -23,9 +24,11 @@ use Rattle.mux_history.specs.Wires.{OfWire}
 use Rattle.mux_machine.specs.State.{State}
 use Rattle.mux_machine.specs.Events.{here}
 use Rattle.mux_machine.specs.Stands.{GoesBy}
+use Rattle.mux_engine.specs.Called.{calls_at}
 use Rattle.mux_engine.specs.Run.{RestedAt, is_by_house}
 use Rattle.mux_engine.specs.Serving.{IsFree, IsUnseen, IsUnused, Serving}
 use Rattle.mux_engine.specs.Sides.{Resting, Side}
+use Rattle.mux_engine.proofs.Called.{CallsOn}
 use Rattle.mux_engine.proofs.Lists.{among-last, or-none, test-other, true-false}
 use Rattle.mux_engine.proofs.Logs.{has-failed-other}
 use Rattle.mux_engine.proofs.Marks.{Notes, Placed, serve-next}
@@ -43,18 +46,19 @@ module _ {May : HouseReply → Type 0} {Rest : Resting} {before : Option (List H
   pub serve-event : {told told' : Option (List HouseMark)} {s' : State} (mark : Mark) (g : GoesBy May told told' v.picked v.replies s s' mark v.journal v.closed) (now' : Side) (seen' : Seen) (held' failed' : List ℕ) (given' : ℕ)
       → s'.core.policy ≡ s.core.policy → s'.pid ≡ s.pid → s.ended ≡ None → IsTold mark → ((t : ℕ) → among t (0 ∷ here s') ≡ false → among t todo ≡ false) → ((k : ℕ) → among k v.closed ≡ true → Spares k mark)
       → ((picks : List ℕ) (later : List HouseReply) → SpeaksInTime (by_lists policy pid ((v.picked ++ g.picks) ++ picks) ((v.replies ++ g.replies) ++ later)) v.journal mark)
-      → Notes now now' mark g.asks → All (λ (a : OpenAsk). IsTrue (is_accepted a.client (mark ∷ v.journal))) now'.asks → is_accepted HOUSE (mark ∷ v.journal) ≡ now'.let_in → (now'.let_in ≡ true → Rest.present ≡ true) → RestedAt Rest.rests before v.journal mark → (Rest.present ≡ false → is_by_house mark ≡ false) → turns_in (mark ∷ v.journal) ≡ given'
+      → Notes now now' mark g.asks → ((set : Setting) → CallsOn now now' (calls_at set v.journal mark)) → All (λ (a : OpenAsk). IsTrue (is_accepted a.client (mark ∷ v.journal))) now'.asks → is_accepted HOUSE (mark ∷ v.journal) ≡ now'.let_in → (now'.let_in ≡ true → Rest.present ≡ true) → ((set : Setting) → RestedAt Rest.rests set before v.journal mark) → (Rest.present ≡ false → is_by_house mark ≡ false) → turns_in (mark ∷ v.journal) ≡ given'
       → seen'.told ≡ option_map (λ m. m ++ mark ∷ []) seen.told → Placed s' v.journal seen seen' held' failed' mark → Serving May Rest before now' policy pid start seen' held' failed' given' (0 ∷ here s') s'
-  serve-event {s' = s'} mark g now' seen' held' failed' given' same_policy same_pid live is covers spares speaks notes askers within there rested absent turns told placed =
+  serve-event {s' = s'} mark g now' seen' held' failed' given' same_policy same_pid live is covers spares speaks notes called askers within there rested absent turns told placed =
       serve-next v now' seen' held' failed' given' (0 ∷ here s') s' mark g record {
         told = told;
         policy_is = same_policy;
         pid_is = same_pid;
         notes = notes;
+        called = λ picks later. called (by_lists policy pid ((v.picked ++ g.picks) ++ picks) ((v.replies ++ g.replies) ++ later));
         askers = askers;
         house_in = within;
         house_there = there;
-        rested = rested;
+        rested = λ picks later. rested (by_lists policy pid ((v.picked ++ g.picks) ++ picks) ((v.replies ++ g.replies) ++ later));
         absent = absent;
         turns = turns;
         placed = placed;

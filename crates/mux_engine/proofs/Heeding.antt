@@ -9,7 +9,8 @@ use Rattle.mux_outside.specs.declared.house.HouseReply.{HouseReply}
 use Rattle.mux_outside.specs.declared.house_mark.HouseMark.{HouseMark}
 use Rattle.mux_outside.specs.declared.mark.Mark.{Mark}
 use Rattle.mux_outside.specs.declared.mark.Mark.TheVariants.{House}
-use Rattle.mux_clients.specs.Asked.{IsAsked, TellsAsks, known_after}
+use Rattle.mux_outside.specs.HouseCalls.{HandsOn, HouseCall, calls_of}
+use Rattle.mux_clients.specs.Asked.{HandsAsks, IsAsked, TellsAsks, known_after}
 use Rattle.mux_machine.specs.declared.event.Event.{Event}
 use Rattle.mux_machine.specs.Events.{EndsBy, Keeps, Tells}
 use Rattle.mux_machine.specs.Stands.{GoesOn}
@@ -51,3 +52,7 @@ heeds-so {May} e s s' none asks told told' known known' seen seen' n empty goes 
 pub heeded-some : {A E : Type 0} (r : Result A E) {May : HouseReply → Type 0} (e : Event) (s s' : State) (asks : List HouseMark) (told told' : Option (List HouseMark)) (known known' : Known) (seen seen' : Seen) (n : ℕ) → IsErr r → HeedsSo May e s s' asks told told' known known' seen seen' n → Heeded r May e s s' asks told told' known known' seen seen'
 heeded-some (Ok x) e s s' asks told told' known known' seen seen' n h so = true-false (sym h)
 heeded-some (Err x) e s s' asks told told' known known' seen seen' n h so = inr (n, so)
+
+-- the house stands for all asks, where none was there before
+pub hands-so : (stands stands' : List HouseCall → Type 0) (none asks : List HouseMark) → none ≡ [] → HandsAsks none asks stands stands' → HandsOn stands stands' (calls_of asks)
+hands-so stands stands' none asks empty h = subst (λ (l : List HouseMark). HandsOn stands stands' (calls_of l)) (sym (h.noted ∙ ap (λ (l : List HouseMark). l ++ h.more) empty)) h.hands

@@ -1,8 +1,9 @@
 -- The house is let in, is handed what waits for it, and answers.
-use Rattle.std.proofs.Common.{◌≡◌, ◌≢◌, ◌≤◌, ◌<◌, ◌+◌, ℕ, Bool, true, false, ◌||◌, List, [], ◌∷◌, ◌++◌, length, Option, None, refl, sym, ap, ◌∙◌, subst, cond, arith}
+use Rattle.std.proofs.Common.{◌≡◌, ◌≢◌, ◌≤◌, ◌<◌, ◌+◌, ℕ, Bool, true, false, ◌||◌, List, [], ◌∷◌, ◌++◌, length, Option, None, refl, sym, ap, ◌∙◌, subst, cond, arith, append-nil}
 use Rattle.std.specs.Prelude.{◌==◌, All, IsTrue}
 use Rattle.std.proofs.lemmas.List.Folds.{list_any-append}
 use Rattle.mux_outside.specs.House.{Known, OpenAsk, ReplyFits, without_ask}
+use Rattle.mux_outside.specs.HouseCalls.{HandsOn, Hears, HouseCall, calls_of}
 use Rattle.mux_outside.specs.OwnStreams.{is_one, numbers_of}
 use Rattle.mux_outside.specs.Seen.{Calls, Seen}
 use Rattle.mux_outside.specs.Streams.{among, without}
@@ -11,6 +12,7 @@ use Rattle.mux_outside.specs.declared.house_mark.HouseMark.{HouseMark}
 use Rattle.mux_outside.specs.declared.house_mark.HouseMark.TheVariants.{HouseAnswer, HouseIn, HouseTook}
 use Rattle.mux_outside.specs.declared.mark.Mark.{Mark}
 use Rattle.mux_outside.specs.declared.mark.Mark.TheVariants.{Accepts, Takes, House}
+use Rattle.mux_outside.proofs.HouseCalls.{hands-then}
 use Rattle.mux_history.specs.declared.limits.TheConstants.{HOUSE}
 use Rattle.mux_history.specs.Policy.{Policy}
 use Rattle.mux_history.specs.Journal.{is_accepted}
@@ -19,6 +21,7 @@ use Rattle.mux_machine.specs.State.{State, queue_in, taken}
 use Rattle.mux_machine.specs.declared.event.Event.TheVariants.{Accepted, HouseSays}
 use Rattle.mux_machine.specs.Events.{EndsBy, Keeps, Tells, here}
 use Rattle.mux_machine.specs.Stands.{GoesAlone, GoesOn, Stands}
+use Rattle.mux_engine.specs.Called.{Handed}
 use Rattle.mux_engine.specs.Counted.{Cut, Well}
 use Rattle.mux_engine.specs.Serving.{Promised, Serving}
 use Rattle.mux_engine.specs.Sides.{Housed, Resting, SameHouse, SamePlaces, Side, noted, noting}
@@ -101,10 +104,10 @@ pub same-rests-left : {May : HouseReply → Type 0} (Rest : Bool → Resting) {b
 same-rests-left {May} Rest {before} {now} {policy} {pid} {start} {told} {given} b b' e p = subst (λ (c : Bool). Promised May (Rest c) before now policy pid start told given) e p
 
 -- the house told nothing meanwhile, and as much is known of it
-pub same-noted : {May : HouseReply → Type 0} {Rest : Resting} {before : Option (List HouseMark)} {policy : Policy} {pid : ℕ} {start : Option (List Mark)} {seen : Seen} {held failed : List ℕ} {given : ℕ} {todo : List ℕ} {s : State} (told told' : Option (List HouseMark)) (known known' : Known) → told' ≡ told → known' ≡ known → Serving May Rest before (noted told known) policy pid start seen held failed given todo s → Serving May Rest before (noted told' known') policy pid start seen held failed given todo s
-same-noted {May} {Rest} {before} {policy} {pid} {start} {seen} {held} {failed} {given} {todo} {s} told told' known known' t k v =
-    subst (λ (x : Option (List HouseMark)). Serving May Rest before (noted x known') policy pid start seen held failed given todo s) (sym t)
-    (subst (λ (x : Known). Serving May Rest before (noted told x) policy pid start seen held failed given todo s) (sym k) v)
+pub same-noted : {May : HouseReply → Type 0} {Rest : Resting} {before : Option (List HouseMark)} {policy : Policy} {pid : ℕ} {start : Option (List Mark)} {seen : Seen} {held failed : List ℕ} {given : ℕ} {todo : List ℕ} {s : State} {calls : List HouseCall} (told told' : Option (List HouseMark)) (known known' : Known) → told' ≡ told → known' ≡ known → Serving May Rest before (noted told known calls) policy pid start seen held failed given todo s → Serving May Rest before (noted told' known' calls) policy pid start seen held failed given todo s
+same-noted {May} {Rest} {before} {policy} {pid} {start} {seen} {held} {failed} {given} {todo} {s} {calls} told told' known known' t k v =
+    subst (λ (x : Option (List HouseMark)). Serving May Rest before (noted x known' calls) policy pid start seen held failed given todo s) (sym t)
+    (subst (λ (x : Known). Serving May Rest before (noted told x calls) policy pid start seen held failed given todo s) (sym k) v)
 
 -- one list or the other is to be offered what waits
 pub replied : {May : HouseReply → Type 0} {Rest : Resting} {before : Option (List HouseMark)} {now : Side} {policy : Policy} {pid : ℕ} {start : Option (List Mark)} {seen : Seen} {held failed : List ℕ} {given : ℕ} {s : State} (xs ys : List ℕ) (more b : Bool) → more ≡ b → Serving May Rest before now policy pid start seen held failed given (cond more xs ys) s → Serving May Rest before now policy pid start seen held failed given (cond b xs ys) s
@@ -134,6 +137,7 @@ module _ {May : HouseReply → Type 0} {Rest : Resting} {before : Option (List H
     stands = v.stands;
     house = v.house;
     asked = v.asked;
+    called = v.called;
     askers = all;
     house_in = v.house_in;
     house_there = v.house_there;
@@ -156,29 +160,34 @@ module _ {May : HouseReply → Type 0} {Rest : Resting} {before : Option (List H
   -- ---- it was told something
 
   -- it told this and asked nothing
-  pub took-told : {told told' : Option (List HouseMark)} {known : Known} (known' : Known) (n : ℕ) → Serving May Rest before (noted told known) policy pid start seen held failed given todo s → TellsAsks told told' (HouseTook n ∷ []) → known' ≡ known → Serving May Rest before (noting (HouseTook n ∷ []) told' known') policy pid start seen held failed given todo s
-  took-told {told} {told'} {known} known' n v h e =
-      subst (λ (k : Known). Serving May Rest before (noting (HouseTook n ∷ []) told' k) policy pid start seen held failed given todo s) (sym e)
-      (serve-told v (noting (HouseTook n ∷ []) told' known) (HouseTook n ∷ []) h refl refl refl refl)
+  pub took-told : {told told' : Option (List HouseMark)} {known : Known} {calls : List HouseCall} (known' : Known) (n : ℕ) → Serving May Rest before (noted told known calls) policy pid start seen held failed given todo s → TellsAsks told told' (HouseTook n ∷ []) → known' ≡ known → Serving May Rest before (noting (HouseTook n ∷ []) told' known' calls) policy pid start seen held failed given todo s
+  took-told {told} {told'} {known} {calls} known' n v h e =
+      subst (λ (k : Known). Serving May Rest before (noting (HouseTook n ∷ []) told' k calls) policy pid start seen held failed given todo s) (sym e)
+      (serve-told v (noting (HouseTook n ∷ []) told' known calls) (HouseTook n ∷ []) h refl refl refl refl (sym (append-nil calls)))
 
   -- it told nothing
-  pub told-nothing : {told told' : Option (List HouseMark)} {known : Known} (known' : Known) → Serving May Rest before (noted told known) policy pid start seen held failed given todo s → TellsAsks told told' [] → known' ≡ known → Serving May Rest before (noted told' known') policy pid start seen held failed given todo s
-  told-nothing {told} {told'} {known} known' v h e =
-      subst (λ (k : Known). Serving May Rest before (noted told' k) policy pid start seen held failed given todo s) (sym e)
-      (serve-told v (noted told' known) [] h refl refl refl refl)
+  pub told-nothing : {told told' : Option (List HouseMark)} {known : Known} {calls : List HouseCall} (known' : Known) → Serving May Rest before (noted told known calls) policy pid start seen held failed given todo s → TellsAsks told told' [] → known' ≡ known → Serving May Rest before (noted told' known' calls) policy pid start seen held failed given todo s
+  told-nothing {told} {told'} {known} {calls} known' v h e =
+      subst (λ (k : Known). Serving May Rest before (noted told' k calls) policy pid start seen held failed given todo s) (sym e)
+      (serve-told v (noted told' known calls) [] h refl refl refl refl (sym (append-nil calls)))
+
+  -- nothing came of a call
+  pub still-handed : {stands mid stands' : List HouseCall → Type 0} {told told' : Option (List HouseMark)} {known : Known} {calls : List HouseCall} (known' : Known) → HandsOn stands mid calls → HandsOn mid stands' [] → TellsAsks told told' [] → known' ≡ known → Serving May Rest before (noted told known calls) policy pid start seen held failed given todo s
+      → Handed stands stands' (λ all. Serving May Rest before (noted told' known' all) policy pid start seen held failed (given + 0) todo s)
+  still-handed {stands} {mid} {stands'} {calls = calls} known' hands step h e v = record { all = calls; hands = subst (HandsOn stands stands') (append-nil calls) (hands-then stands mid stands' calls [] hands step); so = no-turns (told-nothing known' v h e) }
 
   -- it told an answer
-  pub answer-told : {told told' : Option (List HouseMark)} (known : Known) (client id : ℕ) (reply : HouseReply) → Serving May Rest before (noted told known) policy pid start seen held failed given todo s → TellsAsks told told' (HouseAnswer client id reply ∷ [])
-      → Serving May Rest before (noting (HouseAnswer client id reply ∷ []) told' (record known { asks = without_ask client id known.asks })) policy pid start seen held failed given todo s
-  answer-told {told} {told'} known client id reply v h =
-      let w = serve-told v (noting (HouseAnswer client id reply ∷ []) told' known) (HouseAnswer client id reply ∷ []) h refl refl refl refl in
+  pub answer-told : {told told' : Option (List HouseMark)} {calls : List HouseCall} (known : Known) (client id : ℕ) (reply : HouseReply) → Serving May Rest before (noted told known calls) policy pid start seen held failed given todo s → TellsAsks told told' (HouseAnswer client id reply ∷ [])
+      → Serving May Rest before (noting (HouseAnswer client id reply ∷ []) told' (record known { asks = without_ask client id known.asks }) (calls ++ calls_of (HouseAnswer client id reply ∷ []))) policy pid start seen held failed given todo s
+  answer-told {told} {told'} {calls} known client id reply v h =
+      let w = serve-told v (noting (HouseAnswer client id reply ∷ []) told' known (calls ++ calls_of (HouseAnswer client id reply ∷ []))) (HouseAnswer client id reply ∷ []) h refl refl refl refl refl in
       serve-asks w (without_ask client id known.asks) (rest-asked w.journal client id known.asks w.askers)
 
   -- to a client that was accepted
-  pub answer-asked : {told told' : Option (List HouseMark)} (known : Known) (client id : ℕ) (reply : HouseReply) (v : Serving May Rest before (noted told known) policy pid start seen held failed given todo s) (h : TellsAsks told told' (HouseAnswer client id reply ∷ [])) → ReplyFits reply client id known.asks → is_accepted client (answer-told known client id reply v h).journal ≡ true
+  pub answer-asked : {told told' : Option (List HouseMark)} {calls : List HouseCall} (known : Known) (client id : ℕ) (reply : HouseReply) (v : Serving May Rest before (noted told known calls) policy pid start seen held failed given todo s) (h : TellsAsks told told' (HouseAnswer client id reply ∷ [])) → ReplyFits reply client id known.asks → is_accepted client (answer-told known client id reply v h).journal ≡ true
   unfolding answer-told serve-asks
-  answer-asked {told} {told'} known client id reply v h fits =
-      let w = serve-told v (noting (HouseAnswer client id reply ∷ []) told' known) (HouseAnswer client id reply ∷ []) h refl refl refl refl in
+  answer-asked {told} {told'} {calls} known client id reply v h fits =
+      let w = serve-told v (noting (HouseAnswer client id reply ∷ []) told' known (calls ++ calls_of (HouseAnswer client id reply ∷ []))) (HouseAnswer client id reply ∷ []) h refl refl refl refl refl in
       reply-asked w.journal reply client id known.asks fits w.askers
 
 -- ---- it is let in
@@ -207,11 +216,11 @@ module _ {May : HouseReply → Type 0} {Rest : Resting} {before : Option (List H
       by_in true e = refl
       by_in false e = true-false (sym (ap (λ b. b || among HOUSE s.refused) (queue-present s HOUSE bytes queue some no-server)) ∙ ((v.stands.at [] []).bytes.strange HOUSE e).not_here)
 
-  pub handed : {told told' : Option (List HouseMark)} {known : Known} (known' : Known) (v : Serving May Rest before (noted told known) policy pid start seen held failed given (0 ∷ here s) s) (s' : State) (bytes : List ℕ) → TellsAsks told told' (HouseTook (length bytes) ∷ []) → known' ≡ known → bytes ≡ queue_in s HOUSE → 0 < length bytes
-      → ((picked : List ℕ) (replies : List HouseReply) (marks : List Mark) (closed : List ℕ) → Stands picked replies s marks closed → among HOUSE closed ≡ false → Waiting bytes HOUSE s picked replies marks) → s' ≡ taken s HOUSE (length bytes) → GoesAlone s s' (Takes HOUSE bytes) → Serving May Rest before (noted told' known') policy pid start (seen-with (HouseTook (length bytes) ∷ []) seen) held failed given (0 ∷ without HOUSE (here s')) s'
+  pub handed : {told told' : Option (List HouseMark)} {known : Known} {calls : List HouseCall} (known' : Known) (v : Serving May Rest before (noted told known calls) policy pid start seen held failed given (0 ∷ here s) s) (s' : State) (bytes : List ℕ) → TellsAsks told told' (HouseTook (length bytes) ∷ []) → known' ≡ known → bytes ≡ queue_in s HOUSE → 0 < length bytes
+      → ((picked : List ℕ) (replies : List HouseReply) (marks : List Mark) (closed : List ℕ) → Stands picked replies s marks closed → among HOUSE closed ≡ false → Waiting bytes HOUSE s picked replies marks) → s' ≡ taken s HOUSE (length bytes) → GoesAlone s s' (Takes HOUSE bytes) → Serving May Rest before (noted told' known' (calls ++ Hears bytes ∷ [])) policy pid start (seen-with (HouseTook (length bytes) ∷ []) seen) held failed given (0 ∷ without HOUSE (here s')) s'
   handed {told} {told'} {known} known' v s' bytes h e queue some waiting is goes =
       let w = took-told known' (length bytes) v h e in
-      house-takes w s' bytes [] refl (waits-in w bytes queue some) (took-covers (here s) (here s') (took-run s s' HOUSE (length bytes) is).streams) queue some (waiting w.picked w.replies w.journal w.closed w.stands (not-closed w)) is goes
+      house-takes w s' bytes refl (waits-in w bytes queue some) (took-covers (here s) (here s') (took-run s s' HOUSE (length bytes) is).streams) queue some (waiting w.picked w.replies w.journal w.closed w.stands (not-closed w)) is goes
     where
       no-server : HOUSE ≢ 0
       no-server e = absurd (omega (arith, e))
@@ -228,22 +237,22 @@ module _ {May : HouseReply → Type 0} {Rest : Resting} {before : Option (List H
   no-server-asked : {now : Side} {todo : List ℕ} (v : Serving May Rest before now policy pid start seen held failed given todo s) (client : ℕ) → is_accepted client v.journal ≡ true → client ≢ 0
   no-server-asked v client asked z = true-false (sym asked ∙ (ap (λ i. is_accepted i v.journal) z ∙ accepted-zero v.journal v.of_wire.lawful))
 
-  pub answered : {May' : HouseReply → Type 0} {mid mid' told told' : Option (List HouseMark)} (known known' : Known) (v : Serving May Rest before (noted told known) policy pid start seen held failed given (0 ∷ without HOUSE (here s)) s) (s' : State) (client id : ℕ) (reply : HouseReply) → known.present ≡ true → s.ended ≡ None → ReplyFits reply client id known.asks → TellsAsks told told' (HouseAnswer client id reply ∷ [])
-      → known' ≡ record known { asks = without_ask client id known.asks } → ((mark : Mark) → Tells (HouseSays client id reply) mark → GoesOn May' mid mid' s s' mark) → Keeps (HouseSays client id reply) s s' → Serving May Rest before (noted told' known') policy pid start (seen-with (HouseAnswer client id reply ∷ []) seen) held failed given (0 ∷ here s') s'
-  answered {told' = told'} known known' v s' client id reply within live fits h e goes keeps =
+  pub answered : {May' : HouseReply → Type 0} {mid mid' told told' : Option (List HouseMark)} {calls : List HouseCall} (known known' : Known) (v : Serving May Rest before (noted told known calls) policy pid start seen held failed given (0 ∷ without HOUSE (here s)) s) (s' : State) (client id : ℕ) (reply : HouseReply) → known.present ≡ true → s.ended ≡ None → ReplyFits reply client id known.asks → TellsAsks told told' (HouseAnswer client id reply ∷ [])
+      → known' ≡ record known { asks = without_ask client id known.asks } → ((mark : Mark) → Tells (HouseSays client id reply) mark → GoesOn May' mid mid' s s' mark) → Keeps (HouseSays client id reply) s s' → Serving May Rest before (noted told' known' (calls ++ calls_of (HouseAnswer client id reply ∷ []))) policy pid start (seen-with (HouseAnswer client id reply ∷ []) seen) held failed given (0 ∷ here s') s'
+  answered {told' = told'} {calls = calls} known known' v s' client id reply within live fits h e goes keeps =
       let w = answer-told known client id reply v h in
       let asked : is_accepted client w.journal ≡ true = answer-asked known client id reply v h fits in
       let nz : client ≢ 0 = no-server-asked w client asked in
-      subst (λ (k : Known). Serving May Rest before (noted told' k) policy pid start (seen-with (HouseAnswer client id reply ∷ []) seen) held failed given (0 ∷ here s') s') (sym e)
+      subst (λ (k : Known). Serving May Rest before (noted told' k (calls ++ calls_of (HouseAnswer client id reply ∷ []))) policy pid start (seen-with (HouseAnswer client id reply ∷ []) seen) held failed given (0 ∷ here s') s') (sym e)
       (house-answers w client id reply [] refl within asked live (reply-covers (here s) (here s') (stayed (HouseSays client id reply) (House (HouseAnswer client id reply)) s s' (nz, refl) tt (keeps.streams live))) (goes (House (HouseAnswer client id reply)) (nz, refl)) keeps)
 
   -- which doesn't end the run
-  pub answered-live : {told : Option (List HouseMark)} (known : Known) {todo : List ℕ} (v : Serving May Rest before (noted told known) policy pid start seen held failed given todo s) (s' : State) (client id : ℕ) (reply : HouseReply) → s.ended ≡ None → ReplyFits reply client id known.asks → ((mark : Mark) → Tells (HouseSays client id reply) mark → EndsBy (HouseSays client id reply) s s' mark) → s'.ended ≡ None
+  pub answered-live : {told : Option (List HouseMark)} {calls : List HouseCall} (known : Known) {todo : List ℕ} (v : Serving May Rest before (noted told known calls) policy pid start seen held failed given todo s) (s' : State) (client id : ℕ) (reply : HouseReply) → s.ended ≡ None → ReplyFits reply client id known.asks → ((mark : Mark) → Tells (HouseSays client id reply) mark → EndsBy (HouseSays client id reply) s s' mark) → s'.ended ≡ None
   answered-live known v s' client id reply live fits ends =
       let asked : is_accepted client v.journal ≡ true = reply-asked v.journal reply client id known.asks fits v.askers in
       let nz : client ≢ 0 = no-server-asked v client asked in
       ends (House (HouseAnswer client id reply)) (nz, refl) v.picked v.replies v.journal v.closed v.stands (nz, asked) live
 
   -- there was no memory for its answer
-  pub cut-answered : {told told' : Option (List HouseMark)} (known : Known) {todo : List ℕ} (v : Serving May Rest before (noted told known) policy pid start seen held failed given todo s) (client id : ℕ) (reply : HouseReply) → known.present ≡ true → ReplyFits reply client id known.asks → TellsAsks told told' (HouseAnswer client id reply ∷ []) → Promised May Rest before told' policy pid start (seen-with (HouseAnswer client id reply ∷ []) seen).told given
+  pub cut-answered : {told told' : Option (List HouseMark)} {calls : List HouseCall} (known : Known) {todo : List ℕ} (v : Serving May Rest before (noted told known calls) policy pid start seen held failed given todo s) (client id : ℕ) (reply : HouseReply) → known.present ≡ true → ReplyFits reply client id known.asks → TellsAsks told told' (HouseAnswer client id reply ∷ []) → Promised May Rest before told' policy pid start (seen-with (HouseAnswer client id reply ∷ []) seen).told given
   cut-answered known v client id reply within fits h = cut-answers (answer-told known client id reply v h) client id reply [] refl within (answer-asked known client id reply v h fits)

@@ -1,8 +1,9 @@
 -- The house takes what waits for it, and speaks.
-use Rattle.std.proofs.Common.{◌≡◌, ◌≢◌, ◌≤◌, ◌<◌, ◌+◌, ℕ, Bool, true, false, ◌||◌, List, [], ◌∷◌, ◌++◌, length, drop, Option, None, refl, sym, ap, ◌∙◌, subst, inl, inr, ◌⊎◌, append-nil}
+use Rattle.std.proofs.Common.{◌≡◌, ◌≢◌, ◌≤◌, ◌<◌, ◌+◌, ℕ, Bool, true, false, ◌||◌, List, [], ◌∷◌, ◌++◌, length, drop, take, Option, None, refl, sym, ap, ◌∙◌, subst, inl, inr, ◌⊎◌, append-nil}
 use Rattle.std.specs.Prelude.{◌==◌}
 use Rattle.std.proofs.lemmas.Bool.Decides.{eqb_tells}
 use Rattle.ssh_fields.specs.Fields.{AreBytes}
+use Rattle.mux_outside.specs.HouseCalls.{Hears, HouseCall}
 use Rattle.mux_outside.specs.Seen.{Seen}
 use Rattle.mux_outside.specs.Streams.{among, without}
 use Rattle.mux_outside.specs.declared.house.HouseReply.{HouseReply}
@@ -28,6 +29,7 @@ use Rattle.mux_machine.specs.Stands.{GoesAlone, RowsFit, Stands}
 use Rattle.mux_machine.proofs.Twins.{house-client, stands-alike}
 use Rattle.mux_engine.specs.Serving.{IsSound, Serving, is_open}
 use Rattle.mux_engine.specs.Sides.{Resting, Side}
+use Rattle.mux_engine.proofs.Called.{CallsOn, calls-heard}
 use Rattle.mux_engine.proofs.Lists.{among-open, none-without, open-here, test-other, true-false, without-other}
 use Rattle.mux_engine.proofs.Logs.{log-out, settled-as, took-log, took-pending}
 use Rattle.mux_engine.proofs.Marks.{log-is, serve-alone}
@@ -43,6 +45,10 @@ use Rattle.mux_engine.proofs.Turned.{EventAt, stayed}
 drop-all : (xs : List ℕ) → drop (length xs) xs ≡ []
 drop-all [] = refl
 drop-all (x ∷ xs) = drop-all xs
+
+take-all : (xs : List ℕ) → take (length xs) xs ≡ xs
+take-all [] = refl
+take-all (x ∷ xs) = ap (λ (l : List ℕ). x ∷ l) (take-all xs)
 
 -- all but the house are left as they were
 left-of-house : (t : ℕ) (xs : List ℕ) → HOUSE ≢ t → among t (0 ∷ without HOUSE xs) ≡ false → among t (0 ∷ xs) ≡ false
@@ -64,25 +70,29 @@ module _ {May : HouseReply → Type 0} {Rest : Resting} {before : Option (List H
 
   -- ---- it took all
 
-  pub house-takes : {todo : List ℕ} (v : Serving May Rest before now policy pid start seen held failed given todo s) (s' : State) (bytes : List ℕ) (rest : List HouseMark) → now.unnoted ≡ HouseTook (length bytes) ∷ rest → now.let_in ≡ true → ((t : ℕ) → HOUSE ≢ t → among t (0 ∷ without HOUSE (here s')) ≡ false → among t todo ≡ false)
-      → bytes ≡ queue_in s HOUSE → 0 < length bytes → Waiting bytes HOUSE s v.picked v.replies v.journal → s' ≡ taken s HOUSE (length bytes) → GoesAlone s s' (Takes HOUSE bytes) → Serving May Rest before (record now { unnoted = rest }) policy pid start (seen-with (HouseTook (length bytes) ∷ []) seen) held failed given (0 ∷ without HOUSE (here s')) s'
-  house-takes {todo} v s' bytes rest e within covers queue some waiting is goes =
+  pub house-takes : {todo : List ℕ} (v : Serving May Rest before now policy pid start seen held failed given todo s) (s' : State) (bytes : List ℕ) → now.unnoted ≡ HouseTook (length bytes) ∷ [] → now.let_in ≡ true → ((t : ℕ) → HOUSE ≢ t → among t (0 ∷ without HOUSE (here s')) ≡ false → among t todo ≡ false)
+      → bytes ≡ queue_in s HOUSE → 0 < length bytes → Waiting bytes HOUSE s v.picked v.replies v.journal → s' ≡ taken s HOUSE (length bytes) → GoesAlone s s' (Takes HOUSE bytes) → Serving May Rest before (record now { unnoted = []; calls = now.calls ++ Hears bytes ∷ [] }) policy pid start (seen-with (HouseTook (length bytes) ∷ []) seen) held failed given (0 ∷ without HOUSE (here s')) s'
+  house-takes {todo} v s' bytes e within covers queue some waiting is goes =
       let n : ℕ = length bytes in
       let mark : Mark = House (HouseTook n) in
       let alike = house-client.takes v.journal bytes n refl in
       let same : SameRun s s' = took-run s s' HOUSE n is in
       let st0 : Stands v.picked v.replies s' (Takes HOUSE bytes ∷ v.journal) v.closed = goes v.picked v.replies v.journal v.closed v.stands ((λ nz. queue-present s HOUSE bytes queue some nz), refl) in
-      serve-alone v (record now { unnoted = rest }) (seen-with (HouseTook n ∷ []) seen) held failed given (0 ∷ without HOUSE (here s')) s' mark
+      serve-alone v (record now { unnoted = []; calls = now.calls ++ Hears bytes ∷ [] }) (seen-with (HouseTook n ∷ []) seen) held failed given (0 ∷ without HOUSE (here s')) s' mark
       (stands-alike (Takes HOUSE bytes ∷ v.journal) (mark ∷ v.journal) v.picked v.replies s' v.closed alike st0)
       (λ picks replies. ap asked_of (sym (alike.log (by_lists s'.core.policy s'.pid picks replies))) ∙ took-asks s s' HOUSE bytes v.journal same picks replies) record {
         told = refl;
         policy_is = same.policy;
         pid_is = same.pid;
         notes = record { more = []; told_is = tells-none now.told; noted_is = sym e ∙ sym (append-nil now.unnoted); asks_are = refl };
+        called = λ picks later.
+            let set : Setting = by_lists policy pid (v.picked ++ picks) (v.replies ++ later) in
+            let was : pending HOUSE (log_of_journal set v.journal) ≡ bytes = sym (waiting picks later ∙ ap (pending HOUSE) (log-is s policy pid (v.picked ++ picks) (v.replies ++ later) v.journal v.policy_is v.pid_is)) in
+            subst (λ (l : List ℕ). CallsOn now (record now { unnoted = []; calls = now.calls ++ Hears bytes ∷ [] }) (Hears l ∷ [])) (sym (ap (take n) was ∙ take-all bytes)) (calls-heard now n bytes e);
         askers = askers-more v mark;
         house_in = v.house_in;
         house_there = v.house_there;
-        rested = tt;
+        rested = λ picks later. tt;
         absent = λ e. true-false (sym (v.house_there within) ∙ e);
         turns = v.turns;
         placed = placed-still v mark (seen-with (HouseTook n ∷ []) seen) s' ((wire-keeps seen.streams seen.blocked seen.last seen.listeners seen.own seen.last_own v.journal).note (HouseTook n) (v.house_in ∙ within) refl v.of_wire) refl refl refl refl refl same.streams (λ t. refl) (λ t. refl) (λ t. refl);
@@ -121,11 +131,12 @@ module _ {May : HouseReply → Type 0} {Rest : Resting} {before : Option (List H
         said = here_is;
         spares = λ j c. tt;
         speaks = λ picks later. subst (λ (q : List ℕ). length q < READING_STOPS_AT) (subst (RowsFit (length v.picked) v.stands.asks s v.closed) (log-is s policy pid (v.picked ++ picks) (v.replies ++ later) v.journal v.policy_is v.pid_is) (v.stands.at picks later).rows).fit.up room;
-        rested = tt;
+        rested = λ set. tt;
         absent = λ e. true-false (sym (v.house_there within) ∙ e);
         turns = ap (λ n. n + 1) v.turns;
         plain = sym noted;
         cut = λ set. inr (0, refl);
+        called = λ set. refl;
         house = refl;
         placed = λ s' arrives. placed-still v mark (seen-with (HouseSaid bytes ∷ []) seen) s' of refl refl refl refl refl (stayed e (Gets HOUSE bytes) s s' tells tt (arrives live)) (λ t. refl) (λ t. refl) (λ t. refl);
       }

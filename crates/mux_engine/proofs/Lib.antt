@@ -1,6 +1,8 @@
 mod Answering
 mod Arms
 mod Asks
+mod CallLaws
+mod Called
 mod Closed
 mod Counting
 mod Cuts

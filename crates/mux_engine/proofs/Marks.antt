@@ -25,10 +25,13 @@ use Rattle.mux_clients.specs.Asked.{asked_of, TellsAsks}
 use Rattle.mux_machine.specs.State.{State}
 use Rattle.mux_machine.specs.Events.{here}
 use Rattle.mux_machine.specs.Stands.{GoesBy, Stands, StandsFor, log}
-use Rattle.mux_engine.specs.Run.{RestedAt, is_by_house}
+use Rattle.mux_outside.specs.HouseCalls.{HouseCall, calls_of}
+use Rattle.mux_engine.specs.Called.{calls_at, calls_in}
+use Rattle.mux_engine.specs.Run.{Rested, RestedAt, is_by_house}
 use Rattle.mux_engine.specs.Serving.{IsFree, IsSound, IsUnseen, IsUnused, Kept, Serving}
 use Rattle.mux_engine.specs.Sides.{Resting, Side, asks_in, house_mark, house_marks}
 use Rattle.mux_machine.proofs.Over.{some-end}
+use Rattle.mux_engine.proofs.Called.{CallsOn}
 use Rattle.mux_engine.proofs.Lists.{true-false}
 use Rattle.mux_engine.proofs.Logs.{log-listens, log-live}
 use Rattle.mux_engine.proofs.Told.{may-more, tells-more, tells-then}
@@ -56,6 +59,18 @@ pub sound-at : {May : HouseReply → Type 0} {Rest : Resting} {before : Option (
 sound-at {policy = policy} {pid = pid} {todo = todo} {s = s} v p r picked' replies' e f picks later =
     subst (λ ps. IsSound (by_lists policy pid ps (replies' ++ later)) v.journal todo s) (sym (more-picks picked' v.picked p picks e))
     (subst (λ rs. IsSound (by_lists policy pid (v.picked ++ (p ++ picks)) rs) v.journal todo s) (sym (more-picks replies' v.replies r later f)) (v.sound (p ++ picks) (r ++ later)))
+
+pub called-at : {May : HouseReply → Type 0} {Rest : Resting} {before : Option (List HouseMark)} {now : Side} {policy : Policy} {pid : ℕ} {start : Option (List Mark)} {seen : Seen} {held failed : List ℕ} {given : ℕ} {todo : List ℕ} {s : State} (v : Serving May Rest before now policy pid start seen held failed given todo s) (p : List ℕ) (r : List HouseReply) (picked' : List ℕ) (replies' : List HouseReply)
+    → picked' ≡ v.picked ++ p → replies' ≡ v.replies ++ r → (picks : List ℕ) (later : List HouseReply) → calls_in (by_lists policy pid (picked' ++ picks) (replies' ++ later)) v.journal ++ calls_of now.unnoted ≡ now.calls
+called-at {now = now} {policy = policy} {pid = pid} v p r picked' replies' e f picks later =
+    subst (λ ps. calls_in (by_lists policy pid ps (replies' ++ later)) v.journal ++ calls_of now.unnoted ≡ now.calls) (sym (more-picks picked' v.picked p picks e))
+    (subst (λ rs. calls_in (by_lists policy pid (v.picked ++ (p ++ picks)) rs) v.journal ++ calls_of now.unnoted ≡ now.calls) (sym (more-picks replies' v.replies r later f)) (v.called (p ++ picks) (r ++ later)))
+
+pub rested-at : {May : HouseReply → Type 0} {Rest : Resting} {before : Option (List HouseMark)} {now : Side} {policy : Policy} {pid : ℕ} {start : Option (List Mark)} {seen : Seen} {held failed : List ℕ} {given : ℕ} {todo : List ℕ} {s : State} (v : Serving May Rest before now policy pid start seen held failed given todo s) (p : List ℕ) (r : List HouseReply) (picked' : List ℕ) (replies' : List HouseReply)
+    → picked' ≡ v.picked ++ p → replies' ≡ v.replies ++ r → (picks : List ℕ) (later : List HouseReply) → Rested Rest.rests (by_lists policy pid (picked' ++ picks) (replies' ++ later)) before v.journal
+rested-at {Rest = Rest} {before = before} {policy = policy} {pid = pid} v p r picked' replies' e f picks later =
+    subst (λ ps. Rested Rest.rests (by_lists policy pid ps (replies' ++ later)) before v.journal) (sym (more-picks picked' v.picked p picks e))
+    (subst (λ rs. Rested Rest.rests (by_lists policy pid (v.picked ++ (p ++ picks)) rs) before v.journal) (sym (more-picks replies' v.replies r later f)) (v.rested (p ++ picks) (r ++ later)))
 
 -- ---- what is to be shown of a mark
 
@@ -104,10 +119,11 @@ pub record Next (Rest : Resting) (before : Option (List HouseMark)) (now now' : 
   pub policy_is : s'.core.policy ≡ s.core.policy
   pub pid_is : s'.pid ≡ s.pid
   pub notes : Notes now now' mark asks
+  pub called : (picks : List ℕ) (later : List HouseReply) → CallsOn now now' (calls_at (by_lists policy pid (picked ++ picks) (replies ++ later)) journal mark)
   pub askers : All (λ (a : OpenAsk). IsTrue (is_accepted a.client (mark ∷ journal))) now'.asks
   pub house_in : is_accepted HOUSE (mark ∷ journal) ≡ now'.let_in
   pub house_there : now'.let_in ≡ true → Rest.present ≡ true
-  pub rested : RestedAt Rest.rests before journal mark
+  pub rested : (picks : List ℕ) (later : List HouseReply) → RestedAt Rest.rests (by_lists policy pid (picked ++ picks) (replies ++ later)) before journal mark
   pub absent : Rest.present ≡ false → is_by_house mark ≡ false
   pub turns : turns_in (mark ∷ journal) ≡ given'
   pub placed : Placed s' journal seen seen' held' failed' mark
@@ -158,10 +174,11 @@ serve-on {May} {Rest} {before} {now} {policy} {pid} {start} {seen} {held} {faile
       stands = st;
       house = subst (TellsAsks before now'.told) same (tells-then before now.told now'.told (house_marks v.journal ++ now.unnoted) n.notes.more v.house n.notes.told_is);
       asked = ap asks_in (sym same) ∙ (filter-append Rattle.mux_history.specs.Promises.is_asked (house_marks v.journal ++ now.unnoted) n.notes.more ∙ (ap (λ l. l ++ asks_in n.notes.more) v.asked ∙ (ap (λ l. v.stands.asks ++ l) n.notes.asks_are ∙ sym a)));
+      called = λ picks later. n.called picks later (calls_in (by_lists policy pid (picked' ++ picks) (replies' ++ later)) v.journal) (called-at v p r picked' replies' e f picks later);
       askers = n.askers;
       house_in = n.house_in;
       house_there = n.house_there;
-      rested = (n.rested, v.rested);
+      rested = λ picks later. (n.rested picks later, rested-at v p r picked' replies' e f picks later);
       absent = λ e. All-cons (λ (m : Mark). is_by_house m ≡ false) mark v.journal (n.absent e) (v.absent e);
       tells = tells-more start seen.told seen'.told v.journal (mark ∷ []) v.tells n.told;
       of_wire = n.placed.of_wire;

@@ -16,6 +16,7 @@ use Rattle.mux_machine.proofs.Twins.{own-silent, stands-alike}
 use Rattle.mux_engine.specs.Serving.{Serving}
 use Rattle.mux_engine.specs.Sides.{Resting, Side}
 use Rattle.mux_engine.proofs.Asks.{EachAsked}
+use Rattle.mux_engine.proofs.Called.{calls-told}
 use Rattle.mux_engine.proofs.Places.{placed-still}
 use Rattle.mux_engine.proofs.Quiet.{serve-quiet}
 use Rattle.mux_engine.proofs.Told.{tells-none, told-none}
@@ -32,9 +33,10 @@ module _ {May : HouseReply → Type 0} {Rest : Resting} {before : Option (List H
       let m : HouseMark = HouseAsked client id opening ask reply in
       let alike = own-silent.asked v.journal client id opening ask reply in
       serve-quiet v (record now { unnoted = rest }) (seen-with (m ∷ []) seen) held failed given (House m)
-      (record { log = alike.log; blocked = λ t client. refl; unwritten = λ t client. refl; promise = λ set. record { takes = tt; waits = tt; speaks = tt; open_streams = tt }; rested = tt; absent = λ e. refl; house = refl })
+      (record { log = alike.log; blocked = λ t client. refl; unwritten = λ t client. refl; promise = λ set. record { takes = tt; waits = tt; speaks = tt; open_streams = tt }; rested = λ set. tt; absent = λ e. refl; house = refl })
       (stands-alike v.journal (House m ∷ v.journal) v.picked v.replies s v.closed alike v.stands)
       (record { more = []; told_is = tells-none now.told; noted_is = sym e ∙ sym (append-nil now.unnoted); asks_are = refl })
+      (λ set. calls-told now (record now { unnoted = rest }) (m ∷ []) [] (sym e ∙ sym (append-nil now.unnoted)) (sym (append-nil now.calls)))
       refl refl refl v.turns
       (placed-still v (House m) (seen-with (m ∷ []) seen) s ((wire-keeps seen.streams seen.blocked seen.last seen.listeners seen.own seen.last_own v.journal).note m tt refl v.of_wire) refl refl refl refl refl refl (λ t. refl) (λ t. refl) (λ t. refl))
 

@@ -5,6 +5,8 @@ use Rattle.std.specs.Bool.{MatchBool}
 use Rattle.std.proofs.lemmas.Bool.Decides.{eqb_tells}
 use Rattle.std.proofs.lemmas.List.{take-append-drop}
 use Rattle.ssh_fields.specs.Fields.{AreBytes}
+use Rattle.mux_outside.specs.HouseCalls.{Failed, Turns}
+use Rattle.mux_outside.specs.HouseCalls as call
 use Rattle.mux_outside.specs.Seen.{Seen, seen_after_write}
 use Rattle.mux_outside.specs.Streams.{among, without}
 use Rattle.mux_outside.specs.declared.house.HouseReply.{HouseReply}
@@ -31,6 +33,7 @@ use Rattle.mux_machine.proofs.Over.{some-end}
 use Rattle.mux_engine.specs.Run.{IsOfWire}
 use Rattle.mux_engine.specs.Serving.{IsSound, Promised, Serving, is_open}
 use Rattle.mux_engine.specs.Sides.{Resting, Side}
+use Rattle.mux_engine.proofs.Called.{calls-none, calls-other}
 use Rattle.mux_engine.proofs.Cuts.{cut-next, cut-still, of-streams}
 use Rattle.mux_engine.proofs.Lists.{among-last, among-other-last, apart-or-left, not-own-stream, or-last, test-other, true-false, without-other}
 use Rattle.mux_engine.proofs.Logs.{blocked-other, failed-other, failed-pending, fails-failed, has-failed-other, holds-blocked, holds-failed, log-out, lost-out, settled-as, takes-failed, took-pending}
@@ -68,10 +71,11 @@ next-takes {May} {Rest} {before} {now} {policy} {pid} {start} {seen} {held} {fai
       policy_is = same.policy;
       pid_is = same.pid;
       notes = notes-none now mark refl;
+      called = λ picks later. calls-other now k (call.Takes k (length (take n bytes))) (open-own v k opened ne);
       askers = askers-more v mark;
       house_in = v.house_in;
       house_there = v.house_there;
-      rested = tt;
+      rested = λ picks later. tt;
       absent = λ e. refl;
       turns = v.turns;
       placed = placed-still v mark (seen_after_write (wrote.Took n) k bytes seen) s' ((wire-keeps seen.streams seen.blocked seen.last seen.listeners seen.own seen.last_own v.journal).write (wrote.Took n) k bytes are (omega arith) (stream-open v k opened ne) (one, fits) v.of_wire)
@@ -108,10 +112,11 @@ next-holds {May} {Rest} {before} {now} {policy} {pid} {start} {seen} {held} {fai
       policy_is = refl;
       pid_is = refl;
       notes = notes-none now mark refl;
+      called = λ picks later. calls-none now;
       askers = askers-more v mark;
       house_in = v.house_in;
       house_there = v.house_there;
-      rested = tt;
+      rested = λ picks later. tt;
       absent = λ e. refl;
       turns = v.turns;
       placed = placed-by v mark (seen_after_write wrote.Later k bytes seen) (held ++ k ∷ []) failed s k there ((wire-keeps seen.streams seen.blocked seen.last seen.listeners seen.own seen.last_own v.journal).write wrote.Later k bytes are some there tt v.of_wire)
@@ -151,10 +156,11 @@ next-fails {May} {Rest} {before} {now} {policy} {pid} {start} {seen} {held} {fai
       policy_is = same_policy;
       pid_is = same_pid;
       notes = subst (Rattle.mux_engine.proofs.Marks.Notes now now mark) (sym unasked) (notes-none now mark refl);
+      called = λ picks later. calls-other now k (Turns (Failed k)) (open-own v k opened ne);
       askers = askers-more v mark;
       house_in = v.house_in;
       house_there = v.house_there;
-      rested = tt;
+      rested = λ picks later. tt;
       absent = λ e. refl;
       turns = v.turns;
       placed = placed-by v mark (seen_after_write wrote.Failed k bytes seen) held failed s' k there ((wire-keeps seen.streams seen.blocked seen.last seen.listeners seen.own seen.last_own v.journal).write wrote.Failed k bytes are some there tt v.of_wire)
@@ -198,14 +204,14 @@ wrote-of-wire {seen = seen} v answer k bytes there are some fits =
 pub cut-holds : {May : HouseReply → Type 0} {Rest : Resting} {before : Option (List HouseMark)} {now : Side} {policy : Policy} {pid : ℕ} {start : Option (List Mark)} {seen : Seen} {held failed : List ℕ} {given : ℕ} {todo : List ℕ} {s : State} (v : Serving May Rest before now policy pid start seen held failed given todo s) (seen' : Seen) (k : ℕ) (bytes : List ℕ)
     → among k seen.streams ≡ true → AreBytes bytes → 0 < length bytes → seen' ≡ seen_after_write wrote.Later k bytes seen → Promised May Rest before now.told policy pid start seen'.told given
 cut-holds {now = now} {given = given} v seen' k bytes there are some e =
-    cut-next v now.told seen'.told given (Holds k) [] now.unnoted (ap (λ (x : Seen). x.told) e) (tells-none now.told) (sym (append-nil now.unnoted)) (wrote-of-wire v wrote.Later k bytes there are some tt) (let w : turns_in v.journal ≡ given = v.turns in omega arith) tt (λ e. refl)
+    cut-next v now.told seen'.told given (Holds k) [] now.unnoted (ap (λ (x : Seen). x.told) e) (tells-none now.told) (sym (append-nil now.unnoted)) (wrote-of-wire v wrote.Later k bytes there are some tt) (let w : turns_in v.journal ≡ given = v.turns in omega arith) (λ set. tt) (λ e. refl)
     (λ set. inr (0, refl)) (λ picks later. record { takes = tt; waits = tt; speaks = tt; open_streams = tt })
 
 -- none for the event of a stream that failed
 pub cut-fails : {May : HouseReply → Type 0} {Rest : Resting} {before : Option (List HouseMark)} {now : Side} {policy : Policy} {pid : ℕ} {start : Option (List Mark)} {seen : Seen} {held failed : List ℕ} {given : ℕ} {todo : List ℕ} {s : State} (v : Serving May Rest before now policy pid start seen held failed given todo s) (seen' : Seen) (k : ℕ) (bytes : List ℕ)
     → among k seen.streams ≡ true → AreBytes bytes → 0 < length bytes → seen' ≡ seen_after_write wrote.Failed k bytes seen → Promised May Rest before now.told policy pid start seen'.told given
 cut-fails {now = now} {given = given} v seen' k bytes there are some e =
-    cut-next v now.told seen'.told given (WriteFails k) [] now.unnoted (ap (λ (x : Seen). x.told) e) (tells-none now.told) (sym (append-nil now.unnoted)) (wrote-of-wire v wrote.Failed k bytes there are some tt) (let w : turns_in v.journal ≡ given = v.turns in omega arith) tt (λ e. refl)
+    cut-next v now.told seen'.told given (WriteFails k) [] now.unnoted (ap (λ (x : Seen). x.told) e) (tells-none now.told) (sym (append-nil now.unnoted)) (wrote-of-wire v wrote.Failed k bytes there are some tt) (let w : turns_in v.journal ≡ given = v.turns in omega arith) (λ set. tt) (λ e. refl)
     (λ set. inr (0, refl)) (λ picks later. record { takes = tt; waits = tt; speaks = tt; open_streams = tt })
 
 -- none for the write

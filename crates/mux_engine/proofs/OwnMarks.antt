@@ -3,7 +3,10 @@ use Rattle.std.proofs.Common.{◌≡◌, ◌≢◌, ◌<◌, ℕ, Bool, true, fa
 use Rattle.std.specs.Prelude.{◌==◌, IsTrue}
 use Rattle.std.specs.Bool.{MatchBool}
 use Rattle.std.proofs.lemmas.Bool.Decides.{eqb_tells}
+use Rattle.std.proofs.lemmas.List.{length-take-le}
 use Rattle.ssh_fields.specs.Fields.{AreBytes}
+use Rattle.mux_outside.specs.HouseCalls.{Failed, Turns}
+use Rattle.mux_outside.specs.HouseCalls as call
 use Rattle.mux_outside.specs.OwnStreams.{is_own}
 use Rattle.mux_outside.specs.Seen.{Seen, seen_after_write}
 use Rattle.mux_outside.specs.Streams.{among}
@@ -21,12 +24,14 @@ use Rattle.mux_history.specs.Promises.{IsFront, TakesFront}
 use Rattle.mux_history.proofs.Wires.{wire-keeps}
 use Rattle.mux_machine.specs.State.{State}
 use Rattle.mux_machine.proofs.Twins.{own-silent, stands-alike}
+use Rattle.mux_engine.specs.Called.{if_own}
 use Rattle.mux_engine.specs.Serving.{Promised, Serving}
 use Rattle.mux_engine.specs.Sides.{Resting, Side}
+use Rattle.mux_engine.proofs.Called.{CallsOn, calling, calls-none, calls-own}
 use Rattle.mux_engine.proofs.Lists.{among-last, among-other-last, or-last, own-stream, true-false}
 use Rattle.mux_engine.proofs.Logs.{blocked-other, failed-other, has-failed-other, holds-blocked}
 use Rattle.mux_engine.proofs.Places.{house-shut, placed-by, placed-still}
-use Rattle.mux_engine.proofs.Quiet.{notes-none, serve-quiet}
+use Rattle.mux_engine.proofs.Quiet.{notes-calling, notes-none, serve-quiet}
 use Rattle.mux_engine.proofs.Silent.{holds-alike}
 
 pub test-same : (i : ℕ) → (i == i) ≡ true
@@ -45,14 +50,15 @@ module _ {May : HouseReply → Type 0} {Rest : Resting} {before : Option (List H
   takes-own set bytes = subst (λ (b : Bool). MatchBool b (Unit {0}) (IsFront bytes (pending k (log_of_journal set v.journal)))) (sym own-is) tt
 
   -- it took bytes
-  pub own-takes : (n : ℕ) (bytes : List ℕ) (seen' : Seen) → AreBytes bytes → 0 < length bytes → WroteFits (wrote.Took n) (length bytes) → seen' ≡ seen_after_write (wrote.Took n) k bytes seen → Serving May Rest before now policy pid start seen' held failed given todo s
-  own-takes n bytes seen' are some fits e =
+  pub own-takes : (n : ℕ) (bytes : List ℕ) (seen' : Seen) → now.unnoted ≡ [] → AreBytes bytes → 0 < length bytes → WroteFits (wrote.Took n) (length bytes) → seen' ≡ seen_after_write (wrote.Took n) k bytes seen → Serving May Rest before (calling now (call.Takes k n ∷ [])) policy pid start seen' held failed given todo s
+  own-takes n bytes seen' none are some fits e =
       let mark : Mark = Takes k (take n bytes) in
       let alike = own-silent.takes v.journal k (take n bytes) own-is in
-      subst (λ (x : Seen). Serving May Rest before now policy pid start x held failed given todo s) (sym e)
-      (serve-quiet v now (seen_after_write (wrote.Took n) k bytes seen) held failed given mark
-      (record { log = alike.log; blocked = λ t client. refl; unwritten = λ t client. failed-other mark v.journal t (apart-own t client); promise = λ set. record { takes = takes-own set (take n bytes); waits = tt; speaks = tt; open_streams = tt }; rested = tt; absent = λ e. refl; house = refl })
-      (stands-alike v.journal (mark ∷ v.journal) v.picked v.replies s v.closed alike v.stands) (notes-none now mark refl) refl refl refl v.turns
+      subst (λ (x : Seen). Serving May Rest before (calling now (call.Takes k n ∷ [])) policy pid start x held failed given todo s) (sym e)
+      (serve-quiet v (calling now (call.Takes k n ∷ [])) (seen_after_write (wrote.Took n) k bytes seen) held failed given mark
+      (record { log = alike.log; blocked = λ t client. refl; unwritten = λ t client. failed-other mark v.journal t (apart-own t client); promise = λ set. record { takes = takes-own set (take n bytes); waits = tt; speaks = tt; open_streams = tt }; rested = λ set. tt; absent = λ e. refl; house = refl })
+      (stands-alike v.journal (mark ∷ v.journal) v.picked v.replies s v.closed alike v.stands) (notes-calling now (call.Takes k n ∷ []) mark refl)
+      (λ set. subst (λ (i : ℕ). CallsOn now (calling now (call.Takes k n ∷ [])) (if_own k (call.Takes k i))) (sym (length-take-le n bytes fits.1)) (calls-own now k (call.Takes k n) own none)) refl refl refl v.turns
       (placed-still v mark (seen_after_write (wrote.Took n) k bytes seen) s ((wire-keeps seen.streams seen.blocked seen.last seen.listeners seen.own seen.last_own v.journal).write (wrote.Took n) k bytes are some found fits v.of_wire) refl refl refl refl refl refl (λ t. refl) (λ t. refl) (λ t. refl)))
 
   -- it is blocked now
@@ -64,23 +70,23 @@ module _ {May : HouseReply → Type 0} {Rest : Resting} {before : Option (List H
       subst (λ (x : Seen). Serving May Rest before now policy pid start x held' failed given todo s) (sym e)
       (subst (λ (l : List ℕ). Serving May Rest before now policy pid start (seen_after_write wrote.Later k bytes seen) l failed given todo s) (sym h)
       (serve-quiet v now (seen_after_write wrote.Later k bytes seen) (held ++ k ∷ []) failed given mark
-      (record { log = alike.log; blocked = λ t client. blocked-other mark v.journal t tt (apart-own t client); unwritten = λ t client. failed-other mark v.journal t (apart-own t client); promise = λ set. record { takes = tt; waits = tt; speaks = tt; open_streams = tt }; rested = tt; absent = λ e. refl; house = refl })
-      (stands-alike v.journal (mark ∷ v.journal) v.picked v.replies s v.closed alike v.stands) (notes-none now mark refl) refl refl refl v.turns
+      (record { log = alike.log; blocked = λ t client. blocked-other mark v.journal t tt (apart-own t client); unwritten = λ t client. failed-other mark v.journal t (apart-own t client); promise = λ set. record { takes = tt; waits = tt; speaks = tt; open_streams = tt }; rested = λ set. tt; absent = λ e. refl; house = refl })
+      (stands-alike v.journal (mark ∷ v.journal) v.picked v.replies s v.closed alike v.stands) (notes-none now mark refl) (λ set. calls-none now) refl refl refl v.turns
       (placed-by v mark (seen_after_write wrote.Later k bytes seen) (held ++ k ∷ []) failed s k found ((wire-keeps seen.streams seen.blocked seen.last seen.listeners seen.own seen.last_own v.journal).write wrote.Later k bytes are some found tt v.of_wire)
       refl refl refl refl refl (ap (λ l. l ++ k ∷ []) v.held_is) (now-blocked ∙ sym (holds-blocked k k v.journal true (test-same k))) (λ t q. among-other-last k t seen.blocked q) (λ t q. blocked-other mark v.journal t tt q) (λ t. refl) (λ t q. refl)
       (λ is f. v.failed_are k is found f) (λ t a. a))))
 
   -- it failed
-  pub own-fails : (bytes : List ℕ) (seen' : Seen) (failed' : List ℕ) → AreBytes bytes → 0 < length bytes → seen' ≡ seen_after_write wrote.Failed k bytes seen → failed' ≡ failed ++ k ∷ [] → Serving May Rest before now policy pid start seen' held failed' given todo s
-  own-fails bytes seen' failed' are some e f =
+  pub own-fails : (bytes : List ℕ) (seen' : Seen) (failed' : List ℕ) → now.unnoted ≡ [] → AreBytes bytes → 0 < length bytes → seen' ≡ seen_after_write wrote.Failed k bytes seen → failed' ≡ failed ++ k ∷ [] → Serving May Rest before (calling now (Turns (Failed k) ∷ [])) policy pid start seen' held failed' given todo s
+  own-fails bytes seen' failed' none are some e f =
       let mark : Mark = WriteFails k in
       let alike = own-silent.unwritten v.journal k own-is in
       let noted : among k (failed ++ k ∷ []) ≡ true = among-last k k failed ∙ (ap (λ b. among k failed || (b || false)) (test-same k) ∙ or-last (among k failed)) in
-      subst (λ (x : Seen). Serving May Rest before now policy pid start x held failed' given todo s) (sym e)
-      (subst (λ (l : List ℕ). Serving May Rest before now policy pid start (seen_after_write wrote.Failed k bytes seen) held l given todo s) (sym f)
-      (serve-quiet v now (seen_after_write wrote.Failed k bytes seen) held (failed ++ k ∷ []) given mark
-      (record { log = alike.log; blocked = λ t client. refl; unwritten = λ t client. failed-other mark v.journal t (apart-own t client); promise = λ set. record { takes = tt; waits = tt; speaks = tt; open_streams = tt }; rested = tt; absent = λ e. refl; house = refl })
-      (stands-alike v.journal (mark ∷ v.journal) v.picked v.replies s v.closed alike v.stands) (notes-none now mark refl) refl refl refl v.turns
+      subst (λ (x : Seen). Serving May Rest before (calling now (Turns (Failed k) ∷ [])) policy pid start x held failed' given todo s) (sym e)
+      (subst (λ (l : List ℕ). Serving May Rest before (calling now (Turns (Failed k) ∷ [])) policy pid start (seen_after_write wrote.Failed k bytes seen) held l given todo s) (sym f)
+      (serve-quiet v (calling now (Turns (Failed k) ∷ [])) (seen_after_write wrote.Failed k bytes seen) held (failed ++ k ∷ []) given mark
+      (record { log = alike.log; blocked = λ t client. refl; unwritten = λ t client. failed-other mark v.journal t (apart-own t client); promise = λ set. record { takes = tt; waits = tt; speaks = tt; open_streams = tt }; rested = λ set. tt; absent = λ e. refl; house = refl })
+      (stands-alike v.journal (mark ∷ v.journal) v.picked v.replies s v.closed alike v.stands) (notes-calling now (Turns (Failed k) ∷ []) mark refl) (λ set. calls-own now k (Turns (Failed k)) own none) refl refl refl v.turns
       (placed-by v mark (seen_after_write wrote.Failed k bytes seen) held (failed ++ k ∷ []) s k found ((wire-keeps seen.streams seen.blocked seen.last seen.listeners seen.own seen.last_own v.journal).write wrote.Failed k bytes are some found tt v.of_wire)
       refl refl refl refl refl v.held_is (v.blocked_is k found) (λ t q. refl) (λ t q. refl) (λ t. refl) (λ t q. has-failed-other k t v.journal q)
       (λ is x. noted) (λ t a. among-last k t failed ∙ ap (λ b. b || ((k == t) || false)) a))))

@@ -6,6 +6,7 @@ use Rattle.std.specs.Option.{option_map}
 use Rattle.std.proofs.lemmas.Bool.Decides.{eqb_tells}
 use Rattle.std.proofs.lemmas.List.Elements.{filter-append}
 use Rattle.ssh_fields.specs.Fields.{AreBytes}
+use Rattle.mux_outside.specs.HouseCalls.{End, Failed, Got, Joined, Turns, Writable}
 use Rattle.mux_outside.specs.OwnStreams.{is_own}
 use Rattle.mux_outside.specs.Seen.{Seen}
 use Rattle.mux_outside.specs.Streams.{among, without}
@@ -29,13 +30,14 @@ use Rattle.mux_machine.proofs.Twins.{own-silent, stands-alike}
 use Rattle.std.proofs.lemmas.List.Folds.{list_any-append}
 use Rattle.mux_engine.specs.Serving.{IsFree, IsSound, IsUnseen, IsUnused, Serving}
 use Rattle.mux_engine.specs.Sides.{Resting, Side}
+use Rattle.mux_engine.proofs.Called.{calling, calls-behind, calls-other, calls-own}
 use Rattle.mux_engine.proofs.Happened.{last-or, placed-ends, placed-fails, placed-gets}
 use Rattle.mux_engine.proofs.Lists.{among-last, among-open, none-without, or-last, or-none, test-other, true-false, without-other}
 use Rattle.mux_engine.proofs.Logs.{settled-as}
 use Rattle.mux_engine.proofs.Marks.{Placed, serve-alone}
 use Rattle.mux_engine.proofs.OwnMarks.{own-is, test-same}
 use Rattle.mux_engine.proofs.Places.{open-stream, placed-by}
-use Rattle.mux_engine.proofs.Quiet.{askers-more, notes-none, serve-quiet}
+use Rattle.mux_engine.proofs.Quiet.{askers-more, notes-calling, notes-none, serve-quiet}
 use Rattle.mux_engine.proofs.Silent.{frees-alike, given-log, stands-given}
 use Rattle.mux_engine.proofs.Todo.{serve-todo}
 
@@ -66,26 +68,26 @@ module _ {May : HouseReply → Type 0} {Rest : Resting} {before : Option (List H
     here-apart own t a = apart-own own t (v.apart t (list_any-append (λ (i : ℕ). i == t) (numbers s.clients) s.refused ∙ ap (λ b. b || among t s.refused) a))
 
     -- it gave bytes
-    pub own-gets : IsTrue (is_own k) → (bytes : List ℕ) → AreBytes bytes → Same (Gets k bytes) seen.blocked → Serving May Rest before now policy pid start seen' held failed given [] s
-    own-gets own bytes are m = serve-quiet v now seen' held failed given (Gets k bytes)
-        (record { log = λ set. given-log set k bytes v.journal (own-is v k own found); blocked = λ t client. refl; unwritten = λ t client. refl; promise = λ set. record { takes = tt; waits = tt; speaks = tt; open_streams = tt }; rested = tt; absent = λ e. refl; house = refl })
-        (stands-given v.picked v.replies s k bytes v.journal v.closed (own-is v k own found) are (here-apart own) v.stands) (notes-none now (Gets k bytes) refl) refl refl m.told v.turns
+    pub own-gets : IsTrue (is_own k) → now.unnoted ≡ [] → (bytes : List ℕ) → AreBytes bytes → Same (Gets k bytes) seen.blocked → Serving May Rest before (calling now (Turns (Got k bytes) ∷ [])) policy pid start seen' held failed given [] s
+    own-gets own none bytes are m = serve-quiet v (calling now (Turns (Got k bytes) ∷ [])) seen' held failed given (Gets k bytes)
+        (record { log = λ set. given-log set k bytes v.journal (own-is v k own found); blocked = λ t client. refl; unwritten = λ t client. refl; promise = λ set. record { takes = tt; waits = tt; speaks = tt; open_streams = tt }; rested = λ set. tt; absent = λ e. refl; house = refl })
+        (stands-given v.picked v.replies s k bytes v.journal v.closed (own-is v k own found) are (here-apart own) v.stands) (notes-calling now (Turns (Got k bytes) ∷ []) (Gets k bytes) refl) (λ set. calls-own now k (Turns (Got k bytes)) own none) refl refl m.told v.turns
         (placed-gets v seen' s k bytes found m.of_wire m.streams m.blocked m.last m.last_own m.listens refl)
 
     -- it gives no more
-    pub own-ends : IsTrue (is_own k) → Same (Ends k) seen.blocked → Serving May Rest before now policy pid start seen' held failed given [] s
-    own-ends own m = let alike = own-silent.ends v.journal k (own-is v k own found) in
-        serve-quiet v now seen' held failed given (Ends k)
-        (record { log = alike.log; blocked = λ t client. refl; unwritten = λ t client. refl; promise = λ set. record { takes = tt; waits = tt; speaks = tt; open_streams = tt }; rested = tt; absent = λ e. refl; house = refl })
-        (stands-alike v.journal (Ends k ∷ v.journal) v.picked v.replies s v.closed alike v.stands) (notes-none now (Ends k) refl) refl refl m.told v.turns
+    pub own-ends : IsTrue (is_own k) → now.unnoted ≡ [] → Same (Ends k) seen.blocked → Serving May Rest before (calling now (Turns (End k) ∷ [])) policy pid start seen' held failed given [] s
+    own-ends own none m = let alike = own-silent.ends v.journal k (own-is v k own found) in
+        serve-quiet v (calling now (Turns (End k) ∷ [])) seen' held failed given (Ends k)
+        (record { log = alike.log; blocked = λ t client. refl; unwritten = λ t client. refl; promise = λ set. record { takes = tt; waits = tt; speaks = tt; open_streams = tt }; rested = λ set. tt; absent = λ e. refl; house = refl })
+        (stands-alike v.journal (Ends k ∷ v.journal) v.picked v.replies s v.closed alike v.stands) (notes-calling now (Turns (End k) ∷ []) (Ends k) refl) (λ set. calls-own now k (Turns (End k)) own none) refl refl m.told v.turns
         (placed-ends v seen' s k found m.of_wire m.streams m.blocked m.last m.last_own m.listens refl)
 
     -- it failed
-    pub own-failed : IsTrue (is_own k) → Same (Fails k) seen.blocked → Serving May Rest before now policy pid start seen' held (failed ++ k ∷ []) given [] s
-    own-failed own m = let alike = own-silent.fails v.journal k (own-is v k own found) in
-        serve-quiet v now seen' held (failed ++ k ∷ []) given (Fails k)
-        (record { log = alike.log; blocked = λ t client. refl; unwritten = λ t client. refl; promise = λ set. record { takes = tt; waits = tt; speaks = tt; open_streams = tt }; rested = tt; absent = λ e. refl; house = refl })
-        (stands-alike v.journal (Fails k ∷ v.journal) v.picked v.replies s v.closed alike v.stands) (notes-none now (Fails k) refl) refl refl m.told v.turns
+    pub own-failed : IsTrue (is_own k) → now.unnoted ≡ [] → Same (Fails k) seen.blocked → Serving May Rest before (calling now (Turns (Failed k) ∷ [])) policy pid start seen' held (failed ++ k ∷ []) given [] s
+    own-failed own none m = let alike = own-silent.fails v.journal k (own-is v k own found) in
+        serve-quiet v (calling now (Turns (Failed k) ∷ [])) seen' held (failed ++ k ∷ []) given (Fails k)
+        (record { log = alike.log; blocked = λ t client. refl; unwritten = λ t client. refl; promise = λ set. record { takes = tt; waits = tt; speaks = tt; open_streams = tt }; rested = λ set. tt; absent = λ e. refl; house = refl })
+        (stands-alike v.journal (Fails k ∷ v.journal) v.picked v.replies s v.closed alike v.stands) (notes-calling now (Turns (Failed k) ∷ []) (Fails k) refl) (λ set. calls-own now k (Turns (Failed k)) own none) refl refl m.told v.turns
         (placed-fails v seen' s (failed ++ k ∷ []) k found m.of_wire m.streams m.blocked m.last m.last_own m.listens refl
         (λ is. among-last k k failed ∙ (ap (λ b. among k failed || (b || false)) (test-same k) ∙ or-last (among k failed))) (λ t a. among-last k t failed ∙ ap (λ b. b || ((k == t) || false)) a))
 
@@ -95,11 +97,11 @@ module _ {May : HouseReply → Type 0} {Rest : Resting} {before : Option (List H
         (λ own f. v.failed_are k own found f) (λ t a. a)
 
     -- it takes bytes again
-    pub own-frees : IsTrue (is_own k) → Same (Frees k) (without k seen.blocked) → Serving May Rest before now policy pid start seen' (without k held) failed given [] s
-    own-frees own m = let alike = frees-alike k v.journal in
-        serve-quiet v now seen' (without k held) failed given (Frees k)
-        (record { log = alike.log; blocked = λ t client. freed k t v.journal false (test-other k t (apart-own own t client)); unwritten = λ t client. refl; promise = λ set. record { takes = tt; waits = tt; speaks = tt; open_streams = tt }; rested = tt; absent = λ e. refl; house = refl })
-        (stands-alike v.journal (Frees k ∷ v.journal) v.picked v.replies s v.closed alike v.stands) (notes-none now (Frees k) refl) refl refl m.told v.turns (placed-frees m)
+    pub own-frees : IsTrue (is_own k) → now.unnoted ≡ [] → Same (Frees k) (without k seen.blocked) → Serving May Rest before (calling now (Turns (Writable k) ∷ [])) policy pid start seen' (without k held) failed given [] s
+    own-frees own none m = let alike = frees-alike k v.journal in
+        serve-quiet v (calling now (Turns (Writable k) ∷ [])) seen' (without k held) failed given (Frees k)
+        (record { log = alike.log; blocked = λ t client. freed k t v.journal false (test-other k t (apart-own own t client)); unwritten = λ t client. refl; promise = λ set. record { takes = tt; waits = tt; speaks = tt; open_streams = tt }; rested = λ set. tt; absent = λ e. refl; house = refl })
+        (stands-alike v.journal (Frees k ∷ v.journal) v.picked v.replies s v.closed alike v.stands) (notes-calling now (Turns (Writable k) ∷ []) (Frees k) refl) (λ set. calls-own now k (Turns (Writable k)) own none) refl refl m.told v.turns (placed-frees m)
 
     -- so does the server's or a client's
     pub client-frees : is_own k ≡ false → Same (Frees k) (without k seen.blocked) → Serving May Rest before now policy pid start seen' (without k held) failed given (0 ∷ here s) s
@@ -110,10 +112,11 @@ module _ {May : HouseReply → Type 0} {Rest : Resting} {before : Option (List H
           policy_is = refl;
           pid_is = refl;
           notes = notes-none now (Frees k) refl;
+          called = λ picks later. calls-other now k (Turns (Writable k)) client;
           askers = askers-more v (Frees k);
           house_in = v.house_in;
           house_there = v.house_there;
-          rested = tt;
+          rested = λ picks later. tt;
           absent = λ e. refl;
           turns = v.turns;
           placed = placed-frees m;
@@ -131,14 +134,14 @@ module _ {May : HouseReply → Type 0} {Rest : Resting} {before : Option (List H
         shut t a e = true-false (sym (open-stream v k client found) ∙ (sym (among-open s k) ∙ (ap (λ i. among i (0 ∷ here s)) e ∙ a)))
 
   -- a socket was joined
-  pub own-joins : (l k : ℕ) → IsNewOwn seen.last_own k → (seen' : Seen) → seen'.told ≡ option_map (λ m. m ++ Joins l k ∷ []) seen.told → OfWire seen'.streams seen'.blocked seen'.last (Joins l k ∷ v.journal)
-      → seen'.streams ≡ seen.streams ++ k ∷ [] → seen'.blocked ≡ seen.blocked → seen'.last ≡ seen.last → seen'.last_own ≡ k → seen'.listens ≡ seen.listens → Serving May Rest before now policy pid start seen' held failed given [] s
-  own-joins l k new seen' told of streams blocked last last_own listens =
+  pub own-joins : (l k : ℕ) → now.unnoted ≡ [] → IsNewOwn seen.last_own k → (seen' : Seen) → seen'.told ≡ option_map (λ m. m ++ Joins l k ∷ []) seen.told → OfWire seen'.streams seen'.blocked seen'.last (Joins l k ∷ v.journal)
+      → seen'.streams ≡ seen.streams ++ k ∷ [] → seen'.blocked ≡ seen.blocked → seen'.last ≡ seen.last → seen'.last_own ≡ k → seen'.listens ≡ seen.listens → Serving May Rest before (calling now (Turns (Joined l k) ∷ [])) policy pid start seen' held failed given [] s
+  own-joins l k none new seen' told of streams blocked last last_own listens =
       let alike = own-silent.joins v.journal l k in
       let fresh : IsUnused v.journal seen k = v.unused k (inl (new.own, new.above)) in
-      serve-quiet v now seen' held failed given (Joins l k)
-      (record { log = alike.log; blocked = λ t client. refl; unwritten = λ t client. refl; promise = λ set. record { takes = tt; waits = tt; speaks = tt; open_streams = tt }; rested = tt; absent = λ e. refl; house = refl })
-      (stands-alike v.journal (Joins l k ∷ v.journal) v.picked v.replies s v.closed alike v.stands) (notes-none now (Joins l k) refl) refl refl told v.turns record {
+      serve-quiet v (calling now (Turns (Joined l k) ∷ [])) seen' held failed given (Joins l k)
+      (record { log = alike.log; blocked = λ t client. refl; unwritten = λ t client. refl; promise = λ set. record { takes = tt; waits = tt; speaks = tt; open_streams = tt }; rested = λ set. tt; absent = λ e. refl; house = refl })
+      (stands-alike v.journal (Joins l k ∷ v.journal) v.picked v.replies s v.closed alike v.stands) (notes-calling now (Turns (Joined l k) ∷ []) (Joins l k) refl) (λ set. calls-behind now (Turns (Joined l k) ∷ []) none) refl refl told v.turns record {
         of_wire = of;
         open_are = ap not_own streams ∙ (filter-append (λ (t : ℕ). not (is_own t)) seen.streams (k ∷ []) ∙ (ap (λ b. not_own seen.streams ++ cond (not b) (k ∷ []) []) new.own ∙ (append-nil (not_own seen.streams) ∙ v.open_are)));
         apart = v.apart;

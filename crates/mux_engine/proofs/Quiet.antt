@@ -3,6 +3,7 @@ use Rattle.std.proofs.Common.{◌≡◌, ℕ, false, List, [], ◌∷◌, ◌++�
 use Rattle.std.specs.Prelude.{All, IsTrue}
 use Rattle.std.specs.Option.{option_map}
 use Rattle.mux_outside.specs.House.{OpenAsk}
+use Rattle.mux_outside.specs.HouseCalls.{HouseCall}
 use Rattle.mux_outside.specs.Seen.{Seen}
 use Rattle.mux_outside.specs.declared.house.HouseReply.{HouseReply}
 use Rattle.mux_outside.specs.declared.house_mark.HouseMark.{HouseMark}
@@ -18,9 +19,11 @@ use Rattle.mux_history.specs.Promises.{turns_in, write_failed}
 use Rattle.mux_clients.specs.Asked.{asked_of}
 use Rattle.mux_machine.specs.State.{State}
 use Rattle.mux_machine.specs.Stands.{Stands}
+use Rattle.mux_engine.specs.Called.{calls_at}
 use Rattle.mux_engine.specs.Run.{RestedAt, is_by_house}
 use Rattle.mux_engine.specs.Serving.{IsSound, Serving}
 use Rattle.mux_engine.specs.Sides.{Resting, Side, house_mark}
+use Rattle.mux_engine.proofs.Called.{CallsOn, calling}
 use Rattle.mux_engine.proofs.Logs.{accepted-more, settled-as}
 use Rattle.mux_engine.proofs.Marks.{Notes, Placed, PromiseAt, serve-alone}
 use Rattle.mux_engine.proofs.Told.{tells-none}
@@ -28,6 +31,10 @@ use Rattle.mux_engine.proofs.Told.{tells-none}
 -- the house is not called
 pub notes-none : (now : Side) (mark : Mark) → house_mark mark ≡ [] → Notes now now mark []
 notes-none now mark e = record { more = []; told_is = tells-none now.told; noted_is = ap (λ l. l ++ now.unnoted) e ∙ sym (append-nil now.unnoted); asks_are = refl }
+
+-- it is called about a stream of its own
+pub notes-calling : (now : Side) (calls : List HouseCall) (mark : Mark) → house_mark mark ≡ [] → Notes now (calling now calls) mark []
+notes-calling now calls mark e = record { more = []; told_is = tells-none now.told; noted_is = ap (λ l. l ++ now.unnoted) e ∙ sym (append-nil now.unnoted); asks_are = refl }
 
 module _ {May : HouseReply → Type 0} {Rest : Resting} {before : Option (List HouseMark)} {now : Side} {policy : Policy} {pid : ℕ} {start : Option (List Mark)} {seen : Seen} {held failed : List ℕ} {given : ℕ} {todo : List ℕ} {s : State} (v : Serving May Rest before now policy pid start seen held failed given todo s) where
   -- whoever asked was accepted
@@ -40,22 +47,23 @@ module _ {May : HouseReply → Type 0} {Rest : Resting} {before : Option (List H
     pub blocked : (t : ℕ) → is_own_stream t ≡ false → is_blocked t (mark ∷ v.journal) ≡ is_blocked t v.journal
     pub unwritten : (t : ℕ) → is_own_stream t ≡ false → write_failed t (mark ∷ v.journal) ≡ write_failed t v.journal
     pub promise : (set : Setting) → PromiseAt set v.journal mark
-    pub rested : RestedAt Rest.rests before v.journal mark
+    pub rested : (set : Setting) → RestedAt Rest.rests set before v.journal mark
     pub absent : Rest.present ≡ false → is_by_house mark ≡ false
     pub house : is_accepted HOUSE (mark ∷ v.journal) ≡ is_accepted HOUSE v.journal
 
-  pub serve-quiet : (now' : Side) (seen' : Seen) (held' failed' : List ℕ) (given' : ℕ) (mark : Mark) → IsQuiet mark → Stands v.picked v.replies s (mark ∷ v.journal) v.closed → Notes now now' mark [] → now'.asks ≡ now.asks → now'.let_in ≡ now.let_in
+  pub serve-quiet : (now' : Side) (seen' : Seen) (held' failed' : List ℕ) (given' : ℕ) (mark : Mark) → IsQuiet mark → Stands v.picked v.replies s (mark ∷ v.journal) v.closed → Notes now now' mark [] → ((set : Setting) → CallsOn now now' (calls_at set v.journal mark)) → now'.asks ≡ now.asks → now'.let_in ≡ now.let_in
       → seen'.told ≡ option_map (λ m. m ++ mark ∷ []) seen.told → turns_in (mark ∷ v.journal) ≡ given' → Placed s v.journal seen seen' held' failed' mark → Serving May Rest before now' policy pid start seen' held' failed' given' todo s
-  serve-quiet now' seen' held' failed' given' mark q st notes asks within told turns placed =
+  serve-quiet now' seen' held' failed' given' mark q st notes called asks within told turns placed =
       serve-alone v now' seen' held' failed' given' todo s mark st (λ picks replies. ap asked_of (sym (q.log (by_lists s.core.policy s.pid picks replies)))) record {
         told = told;
         policy_is = refl;
         pid_is = refl;
         notes = notes;
+        called = λ picks later. called (by_lists policy pid (v.picked ++ picks) (v.replies ++ later));
         askers = subst (λ (l : List OpenAsk). All (λ (a : OpenAsk). IsTrue (is_accepted a.client (mark ∷ v.journal))) l) (sym asks) (askers-more mark);
         house_in = q.house ∙ (v.house_in ∙ sym within);
         house_there = λ e. v.house_there (sym within ∙ e);
-        rested = q.rested;
+        rested = λ picks later. q.rested (by_lists policy pid (v.picked ++ picks) (v.replies ++ later));
         absent = q.absent;
         turns = turns;
         placed = placed;

@@ -2,6 +2,7 @@
 use Rattle.std.proofs.Common.{◌≡◌, ◌≢◌, ◌<◌, ◌+◌, ◌++◌, ◌||◌, ℕ, Bool, true, false, List, [], ◌∷◌, Option, refl, sym, ap, ◌∙◌, subst, inl, inr, arith}
 use Rattle.std.specs.Prelude.{if◌then◌else◌, Result, Ok, Err, MatchResult, OnOk}
 use Rattle.mux_outside.specs.House.{Known}
+use Rattle.mux_outside.specs.HouseCalls.{HouseCall}
 use Rattle.mux_outside.specs.Seen.{Seen}
 use Rattle.mux_outside.specs.Streams.{among, without}
 use Rattle.mux_history.specs.declared.limits.TheConstants.{HOUSE}
@@ -87,14 +88,14 @@ match-more (Err e) T f p = p
 
 -- ---- a house that is let in
 
-abbrev side-with : Option (List HouseMark) → Known → Bool → Side
-side-with told known let_in = record { told = told; asks = known.asks; unnoted = []; let_in = let_in }
+abbrev side-with : Option (List HouseMark) → Known → List HouseCall → Bool → Side
+side-with told known calls let_in = record { told = told; asks = known.asks; unnoted = []; let_in = let_in; calls = calls }
 
-pub still-outside : (told : Option (List HouseMark)) (known : Known) → known.present ≡ false → outside told known ≡ noted told known
-still-outside told known absent = ap (side-with told known) (sym absent)
+pub still-outside : (told : Option (List HouseMark)) (known : Known) (calls : List HouseCall) → known.present ≡ false → outside told known calls ≡ noted told known calls
+still-outside told known calls absent = ap (side-with told known calls) (sym absent)
 
-pub let-inside : (told : Option (List HouseMark)) (known : Known) → known.present ≡ true → side-with told known true ≡ noted told known
-let-inside told known there = ap (side-with told known) (sym there)
+pub let-inside : (told : Option (List HouseMark)) (known : Known) (calls : List HouseCall) → known.present ≡ true → side-with told known calls true ≡ noted told known calls
+let-inside told known calls there = ap (side-with told known calls) (sym there)
 
 -- ---- the end
 

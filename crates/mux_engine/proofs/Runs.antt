@@ -3,6 +3,7 @@ use Rattle.std.proofs.Common.{◌≡◌, ◌≢◌, ◌≤◌, ℕ, Bool, true, 
 use Rattle.std.specs.Prelude.{◌==◌, All}
 use Rattle.std.proofs.lemmas.List.Elements.{All-nil}
 use Rattle.mux_outside.specs.House.{OpenAsk}
+use Rattle.mux_outside.specs.HouseCalls.{HandsOn, HouseCall, calls_of}
 use Rattle.mux_outside.specs.OwnStreams.{is_own}
 use Rattle.mux_outside.specs.Seen.{Seen}
 use Rattle.mux_outside.specs.Streams.{among}
@@ -28,6 +29,7 @@ use Rattle.mux_clients.specs.Asked.{asked_of, TellsAsks}
 use Rattle.mux_machine.specs.State.{State, numbers}
 use Rattle.mux_machine.specs.Events.{here}
 use Rattle.mux_machine.specs.Stands.{Stands, StandsFor, log}
+use Rattle.mux_engine.specs.Called.{calls_in}
 use Rattle.mux_engine.specs.Run.{EndsRight, IsOfWire, IsRun, Rested, is_by_house}
 use Rattle.mux_engine.specs.Serving.{IsFree, IsSound, Kept, Promised, Serving}
 use Rattle.mux_engine.specs.Sides.{Resting, Side, asks_in, house_marks}
@@ -49,19 +51,20 @@ nothing-pending t = by_server (t == 0)
 -- ---- the end
 
 -- all of a run whose rows are known
-run-of : (May : HouseReply → Type 0) (Rest : Option (List HouseMark) → Type 0) (present : Bool) (before now : Option (List HouseMark)) (policy : Policy) (pid turns : ℕ) (start told : Option (List Mark)) (refused : Option ℕ) (journal : List Mark) (picks : List ℕ) (replies : List HouseReply) (answer : Ended)
+run-of : (May : HouseReply → Type 0) (Rest : Option (List HouseMark) → List HouseCall → Type 0) (stands stands' : List HouseCall → Type 0) (present : Bool) (before now : Option (List HouseMark)) (policy : Policy) (pid turns : ℕ) (start told : Option (List Mark)) (refused : Option ℕ) (journal : List Mark) (picks : List ℕ) (replies : List HouseReply) (answer : Ended)
     → IsOfWire journal → MayGive May replies → Tells start told journal → turns_in journal ≤ turns
     → (rows : List Row)
     → Kept (by_lists policy pid picks replies) journal
     → IsLog (by_lists policy pid picks replies) journal rows
     → AreFresh rows → numbers_taken rows ≡ length picks → replies_given rows ≡ length replies
-    → (more more_asks : List HouseMark) → TellsAsks before now (house_marks journal ++ more) → asks_in (house_marks journal ++ more) ≡ asked_of rows ++ more_asks → Rested Rest before journal → (present ≡ false → All (λ (mark : Mark). is_by_house mark ≡ false) journal)
+    → (more more_asks : List HouseMark) → TellsAsks before now (house_marks journal ++ more) → asks_in (house_marks journal ++ more) ≡ asked_of rows ++ more_asks → Rested Rest (by_lists policy pid picks replies) before journal → (present ≡ false → All (λ (mark : Mark). is_by_house mark ≡ false) journal)
     → (answer ≢ ended.OutOfMemory → rows ≡ log_of_journal (by_lists policy pid picks replies) journal)
     → (answer ≢ ended.OutOfMemory → TellsAsks before now (house_marks journal))
     → (answer ≢ ended.OutOfMemory → asks_in (house_marks journal) ≡ asked_of rows)
+    → (answer ≢ ended.OutOfMemory → HandsOn stands stands' (calls_in (by_lists policy pid picks replies) journal))
     → (answer ≢ ended.OutOfMemory → EndsRight (by_lists policy pid picks replies) turns journal refused answer)
-    → IsRun May Rest present policy pid turns before now start told refused answer
-run-of May Rest present before now policy pid turns start told refused journal picks replies answer wire may tells given rows kept is fresh numbers answers more more_asks house asked rested absent whole house_whole asks_whole ends = record {
+    → IsRun May Rest stands stands' present policy pid turns before now start told refused answer
+run-of May Rest stands stands' present before now policy pid turns start told refused journal picks replies answer wire may tells given rows kept is fresh numbers answers more more_asks house asked rested absent whole house_whole asks_whole handed ends = record {
   journal = journal;
   picks = picks;
   replies = replies;
@@ -86,26 +89,27 @@ run-of May Rest present before now policy pid turns start told refused journal p
   asked = asked;
   house_whole = house_whole;
   asks_whole = asks_whole;
+  handed = handed;
   rested = rested;
   absent = absent;
   ends = ends;
 }
 
-module _ (May : HouseReply → Type 0) (Rest : Resting) (before : Option (List HouseMark)) (policy : Policy) (pid turns : ℕ) (start : Option (List Mark)) (refused : Option ℕ) where
+module _ (May : HouseReply → Type 0) (Rest : Resting) (stands stands' : List HouseCall → Type 0) (before : Option (List HouseMark)) (policy : Policy) (pid turns : ℕ) (start : Option (List Mark)) (refused : Option ℕ) where
   -- each stream was offered what waits for it, and the run ends so
-  pub ends-run : (now : Side) (seen : Seen) (held failed : List ℕ) (given : ℕ) (todo : List ℕ) (s : State) (answer : Ended) (v : Serving May Rest before now policy pid start seen held failed given todo s) → now.unnoted ≡ [] → ((t : ℕ) → is_own t ≡ false → among t todo ≡ false) → given ≤ turns → EndsAs turns v.journal refused s.ended answer
-      → IsRun May Rest.rests Rest.present policy pid turns before now.told start seen.told refused answer
-  ends-run now seen held failed given todo s answer v noted offered le ends =
+  pub ends-run : (now : Side) (seen : Seen) (held failed : List ℕ) (given : ℕ) (todo : List ℕ) (s : State) (answer : Ended) (v : Serving May Rest before now policy pid start seen held failed given todo s) → now.unnoted ≡ [] → HandsOn stands stands' now.calls → ((t : ℕ) → is_own t ≡ false → among t todo ≡ false) → given ≤ turns → EndsAs turns v.journal refused s.ended answer
+      → IsRun May Rest.rests stands stands' Rest.present policy pid turns before now.told start seen.told refused answer
+  ends-run now seen held failed given todo s answer v noted hands offered le ends =
       let picks : List ℕ = v.picked ++ [] in
       let replies : List HouseReply = v.replies ++ [] in
       let rows : List Row = log_of_journal (by_lists policy pid picks replies) v.journal in
       let same : log s picks replies v.journal ≡ rows = log-is s policy pid picks replies v.journal v.policy_is v.pid_is in
-      let stands : StandsFor picks replies (length v.picked) v.stands.asks s v.journal v.closed = v.stands.at [] [] in
-      let fits = stands.rows in
+      let at : StandsFor picks replies (length v.picked) v.stands.asks s v.journal v.closed = v.stands.at [] [] in
+      let fits = at.rows in
       let sound : IsSound (by_lists policy pid picks replies) v.journal todo s = v.sound [] [] in
       let asked : asked_of rows ≡ v.stands.asks = ap asked_of (sym same) ∙ fits.asked_is in
       let all : house_marks v.journal ++ now.unnoted ≡ house_marks v.journal = ap (λ l. house_marks v.journal ++ l) noted ∙ append-nil (house_marks v.journal) in
-      run-of May Rest.rests Rest.present before now.told policy pid turns start seen.told refused v.journal picks replies answer
+      run-of May Rest.rests stands stands' Rest.present before now.told policy pid turns start seen.told refused v.journal picks replies answer
       (record { lawful = v.of_wire.lawful; asked = v.of_wire.asked })
       (subst (MayGive May) (sym (append-nil v.replies)) v.may)
       v.tells
@@ -114,26 +118,28 @@ module _ (May : HouseReply → Type 0) (Rest : Resting) (before : Option (List H
       (subst AreFresh same fits.fresh)
       (ap numbers_taken (sym same) ∙ (fits.taken_is ∙ ap length (sym (append-nil v.picked))))
       (ap replies_given (sym same) ∙ (fits.drawn_is ∙ (v.stands.each ∙ ap length (sym (append-nil v.replies)))))
-      now.unnoted [] v.house (v.asked ∙ (sym asked ∙ sym (append-nil (asked_of rows)))) v.rested v.absent
+      now.unnoted [] v.house (v.asked ∙ (sym asked ∙ sym (append-nil (asked_of rows)))) (v.rested [] []) v.absent
       (λ ne. refl)
       (λ ne. subst (TellsAsks before now.told) all v.house)
       (λ ne. ap asks_in (sym all) ∙ (v.asked ∙ sym asked))
+      (λ ne. subst (HandsOn stands stands') (sym (v.called [] []) ∙ (ap (λ l. calls_in (by_lists policy pid picks replies) v.journal ++ calls_of l) noted ∙ append-nil (calls_in (by_lists policy pid picks replies) v.journal))) hands)
       (λ ne. record {
         end = subst (λ o. EndsAs turns v.journal refused o answer) (fits.ended_is ∙ ap end_of same) ends;
         settled = λ t client. sound.settled t (not-own-stream t client) (offered t client);
       })
 
   -- there was no memory
-  pub ends-starved : (now : Option (List HouseMark)) (told : Option (List Mark)) → Promised May Rest before now policy pid start told turns → IsRun May Rest.rests Rest.present policy pid turns before now start told refused ended.OutOfMemory
+  pub ends-starved : (now : Option (List HouseMark)) (told : Option (List Mark)) → Promised May Rest before now policy pid start told turns → IsRun May Rest.rests stands stands' Rest.present policy pid turns before now start told refused ended.OutOfMemory
   ends-starved now told p =
       let left = p.left [] [] in
-      run-of May Rest.rests Rest.present before now policy pid turns start told refused p.journal (p.picked ++ []) (p.replies ++ []) ended.OutOfMemory
+      run-of May Rest.rests stands stands' Rest.present before now policy pid turns start told refused p.journal (p.picked ++ []) (p.replies ++ []) ended.OutOfMemory
       p.of_wire
       (subst (MayGive May) (sym (append-nil p.replies)) p.may)
       p.tells p.turns left.rows left.kept left.is_log left.fresh
       (left.taken_is ∙ ap length (sym (append-nil p.picked)))
       (left.given_is ∙ (p.each ∙ ap length (sym (append-nil p.replies))))
-      p.more p.more_asks p.house (p.asked ∙ ap (λ l. l ++ p.more_asks) (sym left.asked_is)) p.rested p.absent
+      p.more p.more_asks p.house (p.asked ∙ ap (λ l. l ++ p.more_asks) (sym left.asked_is)) (p.rested [] []) p.absent
+      (λ ne. absurd (ne refl))
       (λ ne. absurd (ne refl))
       (λ ne. absurd (ne refl))
       (λ ne. absurd (ne refl))
@@ -178,7 +184,7 @@ starts-starved May Rest house policy pid told given = record {
   each = refl;
   house = tells-none house;
   asked = refl;
-  rested = tt;
+  rested = λ picks later. tt;
   absent = λ e. All-nil (λ (mark : Mark). is_by_house mark ≡ false);
   tells = sym (told-none told);
   of_wire = (let w = (wire-keeps (0 ∷ []) [] 0 [] [] 0 []).none in record { lawful = w.lawful; asked = w.asked });
@@ -188,8 +194,8 @@ starts-starved May Rest house policy pid told given = record {
 
 -- a new engine is served
 pub starts : (May : HouseReply → Type 0) (Rest : Resting) (now : Side) (policy : Policy) (pid : ℕ) (seen : Seen) (s : State) → Stands [] [] s [] [] → s.core.policy ≡ policy → s.pid ≡ pid → s.clients ≡ [] → s.refused ≡ []
-    → now.asks ≡ [] → now.unnoted ≡ [] → now.let_in ≡ false → seen.streams ≡ 0 ∷ [] → seen.blocked ≡ [] → seen.listens ≡ true → (v : Serving May Rest now.told now policy pid seen.told seen [] [] 0 (0 ∷ here s) s) × (v.journal ≡ [])
-starts May Rest now policy pid seen s stands e f clients refused unasked noted outside streams blocked listens =
+    → now.asks ≡ [] → now.unnoted ≡ [] → now.let_in ≡ false → now.calls ≡ [] → seen.streams ≡ 0 ∷ [] → seen.blocked ≡ [] → seen.listens ≡ true → (v : Serving May Rest now.told now policy pid seen.told seen [] [] 0 (0 ∷ here s) s) × (v.journal ≡ [])
+starts May Rest now policy pid seen s stands e f clients refused unasked noted outside uncalled streams blocked listens =
     let none : here s ≡ [] = ap (λ cs. numbers cs ++ s.refused) clients ∙ refused in
     let asks : stands.asks ≡ [] = no-asks stands.asks stands.each in (
       record {
@@ -203,10 +209,11 @@ starts May Rest now policy pid seen s stands e f clients refused unasked noted o
         stands = stands;
         house = subst (TellsAsks now.told now.told) (sym noted) (tells-none now.told);
         asked = ap asks_in noted ∙ sym asks;
+        called = λ picks later. ap calls_of noted ∙ sym uncalled;
         askers = subst (λ (l : List OpenAsk). All (λ (a : OpenAsk). false ≡ true) l) (sym unasked) (All-nil (λ (a : OpenAsk). false ≡ true));
         house_in = sym outside;
         house_there = λ e. true-false (sym e ∙ outside);
-        rested = tt;
+        rested = λ picks later. tt;
         absent = λ e. All-nil (λ (mark : Mark). is_by_house mark ≡ false);
         tells = sym (told-none seen.told);
         of_wire = subst (λ (l : List ℕ). OfWire l seen.blocked seen.last []) (sym streams) (subst (λ (l : List ℕ). OfWire (0 ∷ []) l seen.last []) (sym blocked) (wire-keeps (0 ∷ []) [] seen.last [] [] 0 []).none);

@@ -5,6 +5,7 @@ use Rattle.std.specs.Option.{option_map}
 use Rattle.std.proofs.lemmas.Bool.Decides.{nat_tests}
 use Rattle.ssh_fields.specs.Fields.{AreBytes}
 use Rattle.mux_outside.specs.House.{Known, SaysFits, says_marks}
+use Rattle.mux_outside.specs.HouseCalls.{HandsOn, HouseCall, calls_of}
 use Rattle.mux_outside.specs.Seen.{Seen}
 use Rattle.mux_outside.specs.declared.house.HouseReply.{HouseReply}
 use Rattle.mux_outside.specs.declared.house_mark.HouseMark.{HouseMark}
@@ -72,18 +73,24 @@ told-nothing r bytes told told' is e = e ∙ ap (λ (x : Result Bool _). option_
 pub told-said : {E : Type 0} (r : Result Bool E) (bytes : List ℕ) (told told' : Option (List HouseMark)) → r ≡ Ok true → told' ≡ option_map (λ marks. marks ++ says_marks r bytes) told → TellsAsks told told' (HouseSaid bytes ∷ [])
 told-said r bytes told told' is e = e ∙ ap (λ (x : Result Bool _). option_map (λ marks. marks ++ says_marks x bytes) told) is
 
+pub hands-said : {E : Type 0} (stands stands' : List HouseCall → Type 0) (r : Result Bool E) (bytes : List ℕ) → r ≡ Ok true → HandsOn stands stands' (calls_of (says_marks r bytes)) → HandsOn stands stands' (calls_of (HouseSaid bytes ∷ []))
+hands-said stands stands' r bytes is h = subst (λ (x : Result Bool _). HandsOn stands stands' (calls_of (says_marks x bytes))) is h
+
+pub hands-nothing : {E : Type 0} (stands stands' : List HouseCall → Type 0) (r : Result Bool E) (bytes : List ℕ) → r ≡ Ok false → HandsOn stands stands' (calls_of (says_marks r bytes)) → HandsOn stands stands' []
+hands-nothing stands stands' r bytes is h = subst (λ (x : Result Bool _). HandsOn stands stands' (calls_of (says_marks x bytes))) is h
+
 pub some-said : {E : Type 0} (r : Result Bool E) (bytes : List ℕ) → r ≡ Ok true → SaysFits r bytes → 0 < length bytes
 some-said {E} r bytes is fits = let f : SaysFits {E = E} (Ok true) bytes = subst (λ (x : Result Bool E). SaysFits {E = E} x bytes) is fits in f.0
 
-module _ {May : HouseReply → Type 0} {Rest : Resting} {before : Option (List HouseMark)} {policy : Policy} {pid : ℕ} {start : Option (List Mark)} {seen : Seen} {held failed : List ℕ} {given : ℕ} {s : State}
-    (told : Option (List HouseMark)) (known : Known) (v : Serving May Rest before (noted told known) policy pid start seen held failed given [] s) (live : s.ended ≡ None) (within : known.present ≡ true) (room : want_of s ≡ Read)
+module _ {May : HouseReply → Type 0} {Rest : Resting} {before : Option (List HouseMark)} {policy : Policy} {pid : ℕ} {start : Option (List Mark)} {seen : Seen} {held failed : List ℕ} {given : ℕ} {s : State} {calls : List HouseCall}
+    (told : Option (List HouseMark)) (known : Known) (v : Serving May Rest before (noted told known calls) policy pid start seen held failed given [] s) (live : s.ended ≡ None) (within : known.present ≡ true) (room : want_of s ≡ Read)
     (told' : Option (List HouseMark)) (known' : Known) (bytes : List ℕ) (tells : TellsAsks told told' (HouseSaid bytes ∷ [])) (same : known' ≡ known) where
   -- what it said is not noted yet
   abbrev unnoted-yet : Side
-  unnoted-yet = record { told = told'; asks = known'.asks; unnoted = HouseSaid bytes ∷ []; let_in = known'.present }
+  unnoted-yet = record { told = told'; asks = known'.asks; unnoted = HouseSaid bytes ∷ []; let_in = known'.present; calls = calls ++ calls_of (HouseSaid bytes ∷ []) }
 
   saying : Serving May Rest before unnoted-yet policy pid start seen held failed given [] s
-  saying = serve-told v unnoted-yet (HouseSaid bytes ∷ []) tells refl refl (ap (λ (k : Known). k.asks) same) (ap (λ (k : Known). k.present) same)
+  saying = serve-told v unnoted-yet (HouseSaid bytes ∷ []) tells refl refl (ap (λ (k : Known). k.asks) same) (ap (λ (k : Known). k.present) same) refl
 
   -- there was no memory to note it
   pub cut-said : (now : Option (List Mark)) → now ≡ seen.told → Promised May Rest before told' policy pid start now (given + 1)
@@ -94,7 +101,7 @@ module _ {May : HouseReply → Type 0} {Rest : Resting} {before : Option (List H
     said-at = house-said saying live e bytes refl (ap (λ (k : Known). k.present) same ∙ within) is some few are (room-of (length (queue_in s 0)) READING_STOPS_AT room)
 
     pub said-heeds : {A E : Type 0} (r : Result A E) (s' : State) (asks : List HouseMark) (told'' : Option (List HouseMark)) (known'' : Known) (seen0 seen'' : Seen) → seen0 ≡ seen-with (HouseSaid bytes ∷ []) seen
-        → Heeded r May e s s' asks told' told'' known' known'' seen0 seen'' → MatchResult r (λ x. Serving May Rest before (noted told'' known'') policy pid start seen'' held failed (given + 1) (0 ∷ here s') s') (λ x. Promised May Rest before told'' policy pid start seen''.told (given + 1))
+        → Heeded r May e s s' asks told' told'' known' known'' seen0 seen'' → MatchResult r (λ x. Serving May Rest before (noted told'' known'' ((calls ++ calls_of (HouseSaid bytes ∷ [])) ++ calls_of asks)) policy pid start seen'' held failed (given + 1) (0 ∷ here s') s') (λ x. Promised May Rest before told'' policy pid start seen''.told (given + 1))
     said-heeds r s' asks told'' known'' seen0 seen'' after h = event-heeds saying live e (seen-with (HouseSaid bytes ∷ []) seen) (given + 1) said-at r s' asks told' told'' known' known'' seen0 seen'' after refl refl refl h
 
     pub said-ends : {A E : Type 0} (r : Result A E) (s' : State) (asks : List HouseMark) (told'' : Option (List HouseMark)) (known'' : Known) (seen0 seen'' : Seen) → Heeded r May e s s' asks told' told'' known' known'' seen0 seen'' → OnOk r (MayEnd e s'.ended)

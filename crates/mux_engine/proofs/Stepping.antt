@@ -3,6 +3,7 @@ use Rattle.std.proofs.Common.{◌≡◌, ◌+◌, ℕ, Bool, true, false, ◌||�
 use Rattle.std.specs.Prelude.{◌==◌, IfOk, Result, Ok, Err}
 use Rattle.std.proofs.lemmas.Bool.Decides.{eqb_tells}
 use Rattle.mux_outside.specs.House.{Known, Quiet}
+use Rattle.mux_outside.specs.HouseCalls.{HouseCall}
 use Rattle.mux_outside.specs.OwnStreams.{numbers_of}
 use Rattle.mux_outside.specs.Seen.{Seen}
 use Rattle.mux_outside.specs.Streams.{among, without}
@@ -56,9 +57,9 @@ pub a-turn : {May : HouseReply → Type 0} {Rest : Resting} {before : Option (Li
 a-turn {May} {Rest} {before} {now} {policy} {pid} {start} {seen} {held} {failed} {given} {todo} {s} v = subst (λ (n : ℕ). Serving May Rest before now policy pid start seen held failed n todo s) (more-none given) v
 
 -- a house that is still there
-pub runs-same : {A E T : Type 0} (r : Result A E) (May : HouseReply → Type 0) (told : T → Option (List HouseMark)) (quiet : T → Quiet) (now now' : Side) (seen seen' : Seen) (held held' failed failed' : List ℕ) (most : ℕ) (more : A → ℕ) (todo : List ℕ) (rest : A → List ℕ) (s s' : State) (b b' : Bool) → b' ≡ b
-    → RunsOn r May (RestsOf told quiet b') now now' seen seen' held held' failed failed' most more todo rest s s' → RunsOn r May (RestsOf told quiet b) now now' seen seen' held held' failed failed' most more todo rest s s'
-runs-same r May told quiet now now' seen seen' held held' failed failed' most more todo rest s s' b b' e h = subst (λ (x : Bool). RunsOn r May (RestsOf told quiet x) now now' seen seen' held held' failed failed' most more todo rest s s') e h
+pub runs-same : {A E T : Type 0} (r : Result A E) (stands : T → List HouseCall → Type 0) (house house' : T) (May : HouseReply → Type 0) (told : T → Option (List HouseMark)) (quiet : T → Quiet) (now now' : List HouseCall → Side) (seen seen' : Seen) (held held' failed failed' : List ℕ) (most : ℕ) (more : A → ℕ) (todo : List ℕ) (rest : A → List ℕ) (s s' : State) (b b' : Bool) → b' ≡ b
+    → RunsOn r stands house house' May (RestsOf told quiet stands b') now now' seen seen' held held' failed failed' most more todo rest s s' → RunsOn r stands house house' May (RestsOf told quiet stands b) now now' seen seen' held held' failed failed' most more todo rest s s'
+runs-same r stands house house' May told quiet now now' seen seen' held held' failed failed' most more todo rest s s' b b' e h = subst (λ (x : Bool). RunsOn r stands house house' May (RestsOf told quiet stands x) now now' seen seen' held held' failed failed' most more todo rest s s') e h
 
 -- ---- the house
 

@@ -37,6 +37,7 @@ serve-with {May} {Rest} {before} {now} {policy} {pid} {start} {seen} {held} {fai
   stands = v.stands;
   house = v.house;
   asked = v.asked;
+  called = v.called;
   askers = v.askers;
   house_in = v.house_in;
   house_there = v.house_there;

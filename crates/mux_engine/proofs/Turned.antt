@@ -3,6 +3,7 @@ use Rattle.std.proofs.Common.{◌≡◌, ℕ, true, List, [], ◌∷◌, ◌++�
 use Rattle.std.specs.Prelude.{All, IsTrue}
 use Rattle.std.specs.Option.{option_map}
 use Rattle.mux_outside.specs.House.{Known}
+use Rattle.mux_outside.specs.HouseCalls.{calls_of}
 use Rattle.mux_outside.specs.Seen.{Seen}
 use Rattle.mux_outside.specs.Streams.{among}
 use Rattle.mux_outside.specs.declared.house.HouseReply.{HouseReply}
@@ -26,11 +27,13 @@ use Rattle.mux_machine.specs.Stands.{GoesBy, IsAllowed}
 use Rattle.mux_machine.specs.Twins.{AreAlike}
 use Rattle.mux_machine.proofs.Twins.{stands-alike}
 use Rattle.mux_engine.specs.Asking.{HeedsSo}
+use Rattle.mux_engine.specs.Called.{calls_at}
 use Rattle.mux_engine.specs.Run.{RestedAt, is_by_house}
 use Rattle.mux_engine.specs.Serving.{IsUnseen, Promised, Serving}
 use Rattle.mux_engine.specs.Sides.{Resting, Side, house_mark}
 use Rattle.mux_engine.specs.Turns.{IsEventOf, want_of}
 use Rattle.mux_engine.proofs.Asks.{EachAsked, SaidBy, all-asks, asked-accepted, goes-asked}
+use Rattle.mux_engine.proofs.Called.{CallsOn, calls-told}
 use Rattle.mux_engine.proofs.Cuts.{cut-next, of-streams}
 use Rattle.mux_engine.proofs.Happened.{serve-event}
 use Rattle.mux_engine.proofs.Logs.{accepted-more}
@@ -114,28 +117,30 @@ module _ {May : HouseReply → Type 0} {Rest : Resting} {before : Option (List H
     pub said : SaidBy (λ k. is_accepted k (mark ∷ v.journal) ≡ true) mark
     pub spares : (k : ℕ) → among k v.closed ≡ true → Spares k mark
     pub speaks : (picks : List ℕ) (later : List HouseReply) → SpeaksInTime (by_lists policy pid (v.picked ++ picks) (v.replies ++ later)) v.journal mark
-    pub rested : RestedAt Rest.rests before v.journal mark
+    pub rested : (set : Setting) → RestedAt Rest.rests set before v.journal mark
     pub absent : Rest.present ≡ false → is_by_house mark ≡ false
     pub turns : turns_in (mark ∷ v.journal) ≡ given'
     pub plain : house_mark mark ≡ now.unnoted
+    pub called : (set : Setting) → calls_at set v.journal mark ≡ calls_of (house_mark mark)
     pub cut : (set : Setting) → IsLog set (mark ∷ v.journal) (log_of_journal set v.journal)
     pub house : is_accepted HOUSE (mark ∷ v.journal) ≡ is_accepted HOUSE v.journal
     pub placed : (s' : State) → (s.ended ≡ None → Arrives e s s') → Placed s' v.journal seen seen' held failed mark
 
   -- the engine took it in, and so many of the asks were noted
   pub event-goes : (e : Event) (seen' : Seen) (given' : ℕ) (at : EventAt e seen' given') (s' : State) (asks : List HouseMark) (told told' : Option (List HouseMark)) (known known' : Known) (seen'' : Seen) (n : ℕ) → now.told ≡ told → now.asks ≡ known.asks → HeedsSo May e s s' asks told told' known known' seen' seen'' n
-      → Serving May Rest before (record { told = told'; asks = known'.asks; unnoted = drop n asks; let_in = now.let_in }) policy pid start seen'' held failed given' (0 ∷ here s') s'
+      → Serving May Rest before (record { told = told'; asks = known'.asks; unnoted = drop n asks; let_in = now.let_in; calls = now.calls ++ calls_of asks }) policy pid start seen'' held failed given' (0 ∷ here s') s'
   event-goes e seen' given' at s' asks told told' known known' seen'' n same_told same_asks h =
       let g : GoesBy May (Some []) (Some asks) v.picked v.replies s s' at.mark v.journal v.closed = goes-twin at.twin at.mark at.alike (h.goes at.twin at.tells v.picked v.replies v.journal v.closed v.stands at.allowed) in
       let listed : asks ≡ g.asks = asks-are asks g.asks g.told in
       let each : EachAsked (λ k. is_accepted k (at.mark ∷ v.journal) ≡ true) asks = subst (EachAsked (λ k. is_accepted k (at.mark ∷ v.journal) ≡ true)) (sym listed) (goes-asked (λ k. is_accepted k (at.mark ∷ v.journal) ≡ true) g h.keeps.policy h.keeps.pid at.said) in
-      let now' : Side = record { told = told'; asks = (known_after asks known).asks; unnoted = asks; let_in = now.let_in } in
+      let now' : Side = record { told = told'; asks = (known_after asks known).asks; unnoted = asks; let_in = now.let_in; calls = now.calls ++ calls_of asks } in
       let first : Serving May Rest before now' policy pid start seen' held failed given' (0 ∷ here s') s' = serve-event v at.mark g now' seen' held failed given' h.keeps.policy h.keeps.pid live at.is (λ t a. refl) at.spares (λ picks later. subst (λ (ps : List ℕ). SpeaksInTime (by_lists policy pid ps ((v.replies ++ g.replies) ++ later)) v.journal at.mark) (sym (append_assoc v.picked g.picks picks)) (subst (λ (rs : List HouseReply). SpeaksInTime (by_lists policy pid (v.picked ++ (g.picks ++ picks)) rs) v.journal at.mark) (sym (append_assoc v.replies g.replies later)) (at.speaks (g.picks ++ picks) (g.replies ++ later))))
       (record { more = asks; told_is = subst (λ (t : Option (List HouseMark)). TellsAsks t told' asks) (sym same_told) h.told_is; noted_is = ap (λ l. l ++ asks) at.plain; asks_are = all-asks (λ k. is_accepted k (at.mark ∷ v.journal) ≡ true) asks each ∙ listed })
+      (λ set. subst (CallsOn now now') (sym (at.called set)) (calls-told now now' (house_mark at.mark) asks (ap (λ l. l ++ asks) at.plain) refl))
       (asked-accepted (at.mark ∷ v.journal) asks known each (subst (λ l. All (λ a. IsTrue (is_accepted a.client (at.mark ∷ v.journal))) l) same_asks (λ k d lt. accepted-more at.mark v.journal _ (v.askers k d lt))))
       (at.house ∙ v.house_in) v.house_there at.rested at.absent at.turns at.marks (at.placed s' h.keeps.streams) in
-      subst (λ (x : Seen). Serving May Rest before (record { told = told'; asks = known'.asks; unnoted = drop n asks; let_in = now.let_in }) policy pid start x held failed given' (0 ∷ here s') s') (sym h.seen_is)
-      (subst (λ (k : Known). Serving May Rest before (record { told = told'; asks = k.asks; unnoted = drop n asks; let_in = now.let_in }) policy pid start (seen-with (take n asks) seen') held failed given' (0 ∷ here s') s') (sym h.known_is)
+      subst (λ (x : Seen). Serving May Rest before (record { told = told'; asks = known'.asks; unnoted = drop n asks; let_in = now.let_in; calls = now.calls ++ calls_of asks }) policy pid start x held failed given' (0 ∷ here s') s') (sym h.seen_is)
+      (subst (λ (k : Known). Serving May Rest before (record { told = told'; asks = k.asks; unnoted = drop n asks; let_in = now.let_in; calls = now.calls ++ calls_of asks }) policy pid start (seen-with (take n asks) seen') held failed given' (0 ∷ here s') s') (sym h.known_is)
       (note-some n asks (λ k. is_accepted k (at.mark ∷ v.journal) ≡ true) each first refl))
 
   -- and may end by it

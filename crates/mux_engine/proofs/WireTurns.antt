@@ -1,9 +1,10 @@
 -- What a turn of the wire tells, right behind the wait.
-use Rattle.std.proofs.Common.{◌≡◌, ◌≢◌, ◌≤◌, ◌<◌, ◌+◌, ℕ, true, false, List, [], ◌∷◌, ◌++◌, Option, Some, None, refl, sym, ap, ◌∙◌, inr, cond, arith, append_assoc}
+use Rattle.std.proofs.Common.{◌≡◌, ◌≢◌, ◌≤◌, ◌<◌, ◌+◌, ℕ, Bool, true, false, List, [], ◌∷◌, ◌++◌, Option, Some, None, refl, sym, ap, ◌∙◌, inr, cond, arith, append_assoc}
 use Rattle.std.specs.Prelude.{reverse}
 use Rattle.std.specs.Option.{option_map}
 use Rattle.std.proofs.lemmas.Bool.Decides.{nat_tests}
 use Rattle.ssh_fields.specs.Fields.{AreBytes}
+use Rattle.mux_outside.specs.HouseCalls.{End, Failed, Got, HouseCall, Turns}
 use Rattle.mux_outside.specs.OwnStreams.{is_own}
 use Rattle.mux_outside.specs.Seen.{Seen, seen_after_turn}
 use Rattle.mux_outside.specs.Streams.{among}
@@ -53,7 +54,7 @@ same-marks marks = record { log = λ set. refl; bytes = λ t. refl; accepted = �
 
 module _ {May : HouseReply → Type 0} {Rest : Resting} {before : Option (List HouseMark)} {now : Side} {policy : Policy} {pid : ℕ} {start : Option (List Mark)} {seen : Seen} {held failed : List ℕ} {given : ℕ} {s : State}
     (v : Serving May Rest before now policy pid start seen held failed given [] s) (none : s.leaving ≡ []) (admitted : s.refused ≡ []) (live : s.ended ≡ None) {own : List ℕ} {queue : ℕ → List ℕ} (o : Offered seen own held failed queue)
-    (hears : seen.listens ≡ s.listening) (noted : now.unnoted ≡ []) (rests : want_of s ≡ Read → Rest.rests now.told) where
+    (hears : seen.listens ≡ s.listening) (noted : now.unnoted ≡ []) (rests : want_of s ≡ Read → Rest.rests now.told now.calls) where
   -- what holds with the call of wait
   abbrev pub now-waiting : Serving May Rest before now policy pid start (seen-waiting v none admitted live o) held failed (given + 1) [] s
   now-waiting = waited v none admitted live o hears noted rests
@@ -92,10 +93,11 @@ module _ {May : HouseReply → Type 0} {Rest : Resting} {before : Option (List H
         said = tt;
         spares = λ j c e. true-false (sym c ∙ (ap (λ i. among i v.closed) (sym e) ∙ ((v.stands.at [] []).bytes.strange k new.not_accepted).not_closed_yet));
         speaks = λ picks later. tt;
-        rested = tt;
+        rested = λ set. tt;
         absent = λ e. refl;
         turns = now-waiting.turns;
         plain = sym noted;
+        called = λ set. refl;
         cut = λ set. inr (0, refl);
         house = ap (λ b. cond b true (is_accepted HOUSE v.journal)) (test-other k HOUSE (house-apart k few));
         placed = λ s' arrives. placed-accepts now-waiting (seen-then (turn.Accepted k) bytes) s' k fits.2 few (of-turn (turn.Accepted k) bytes are fits own_fits) refl refl refl refl refl (came e k s s' next admitted (arrives live)) (client-number k few);
@@ -112,10 +114,11 @@ module _ {May : HouseReply → Type 0} {Rest : Resting} {before : Option (List H
     said = λ nz. accepted k next.0 fits.1 nz;
     spares = λ j c. tt;
     speaks = λ picks later. tt;
-    rested = tt;
+    rested = λ set. tt;
     absent = λ e. refl;
     turns = now-waiting.turns;
     plain = sym noted;
+    called = λ set. ap (λ (b : Bool). cond b (Turns (Got k bytes) ∷ []) []) next.0;
     cut = λ set. inr (0, refl);
     house = refl;
     placed = λ s' arrives. placed-gets now-waiting (seen-then (turn.Got k) bytes) s' k bytes fits.1 (of-turn (turn.Got k) bytes are fits own_fits) refl refl refl refl refl (stayed e (Gets k bytes) s s' next.1 tt (arrives live));
@@ -132,10 +135,11 @@ module _ {May : HouseReply → Type 0} {Rest : Resting} {before : Option (List H
     said = tt;
     spares = λ j c. tt;
     speaks = λ picks later. tt;
-    rested = tt;
+    rested = λ set. tt;
     absent = λ e. refl;
     turns = now-waiting.turns;
     plain = sym noted;
+    called = λ set. ap (λ (b : Bool). cond b (Turns (End k) ∷ []) []) next.0;
     cut = λ set. inr (0, refl);
     house = refl;
     placed = λ s' arrives. placed-ends now-waiting (seen-then (turn.End k) bytes) s' k fits.1 (of-turn (turn.End k) bytes are fits own_fits) refl refl refl refl refl (stayed e (Ends k) s s' next.1 tt (arrives live));
@@ -152,10 +156,11 @@ module _ {May : HouseReply → Type 0} {Rest : Resting} {before : Option (List H
     said = tt;
     spares = λ j c. tt;
     speaks = λ picks later. tt;
-    rested = tt;
+    rested = λ set. tt;
     absent = λ e. refl;
     turns = now-waiting.turns;
     plain = sym noted;
+    called = λ set. ap (λ (b : Bool). cond b (Turns (Failed k) ∷ []) []) next.0;
     cut = λ set. inr (0, refl);
     house = refl;
     placed = λ s' arrives. placed-fails now-waiting (seen-then (turn.Failed k) bytes) s' failed k fits (of-turn (turn.Failed k) bytes are fits own_fits) refl refl refl refl refl (stayed e (Fails k) s s' next.1 tt (arrives live)) (λ own. true-false (sym own ∙ next.0)) (λ t a. a);

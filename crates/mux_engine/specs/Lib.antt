@@ -1,4 +1,6 @@
 pub mod Asking
+pub mod CallLaws
+pub mod Called
 pub mod Counted
 pub mod Orders
 pub mod Owned

@@ -1,6 +1,7 @@
 -- What is promised of a whole run.
 use Rattle.std.specs.Prelude.{◌≡◌, ◌≢◌, ◌≤◌, ◌<◌, ℕ, Bool, false, not, List, ◌++◌, length, All, Option}
 use Rattle.std.specs.Option.{option_map}
+use Rattle.mux_outside.specs.HouseCalls.{HandsOn, HouseCall}
 use Rattle.mux_outside.specs.declared.house_mark.HouseMark.{HouseMark}
 use Rattle.mux_outside.specs.declared.house.HouseReply.{HouseReply}
 use Rattle.mux_outside.specs.declared.mark.Mark.{Mark}
@@ -26,6 +27,7 @@ use Rattle.mux_isolation.specs.Laws.{WaitsBounded}
 use Rattle.mux_bounds.specs.Bounds.{IsLog, RestsShort, StaysBelow}
 use Rattle.mux_bounds.specs.Few.{ChannelsBounded, ForwardingsBounded, LeavesNothing, MattersBounded, RequestsBounded, UnansweredBounded}
 use Rattle.mux_clients.specs.Asked.{asked_of, TellsAsks}
+use Rattle.mux_engine.specs.Called.{calls_in}
 use Rattle.mux_engine.specs.Sides.{asks_in, house_marks}
 
 -- a journal that a wire can give: it is lawful, and the wire read and accepted only right behind a
@@ -34,16 +36,17 @@ pub record IsOfWire (journal : List Mark) : Type 0 where
   pub lawful : IsLawful journal
   pub asked : Throughout ReadsWhenAsked journal
 
--- what is so of each house at rest by what it told is so at each wait at which more is read
-abbrev pub RestedAt : (Option (List HouseMark) → Type 0) → Option (List HouseMark) → List Mark
-    → Mark → Type 0
-RestedAt Rest before journal (Waits waiting Read streams listens) =
-    Rest (option_map (λ told. told ++ house_marks journal) before)
-RestedAt Rest before journal mark = Unit {0}
+-- what is so of each house at rest by what it told and by its calls is so at each wait at which more
+-- is read
+abbrev pub RestedAt : (Option (List HouseMark) → List HouseCall → Type 0) → Setting
+    → Option (List HouseMark) → List Mark → Mark → Type 0
+RestedAt Rest setting before journal (Waits waiting Read streams listens) =
+    Rest (option_map (λ told. told ++ house_marks journal) before) (calls_in setting journal)
+RestedAt Rest setting before journal mark = Unit {0}
 
-abbrev pub Rested : (Option (List HouseMark) → Type 0) → Option (List HouseMark) → List Mark
-    → Type 0
-Rested Rest before journal = Throughout (RestedAt Rest before) journal
+abbrev pub Rested : (Option (List HouseMark) → List HouseCall → Type 0) → Setting
+    → Option (List HouseMark) → List Mark → Type 0
+Rested Rest setting before journal = Throughout (RestedAt Rest setting before) journal
 
 -- a mark of what a house does by itself
 abbrev pub is_by_house : Mark → Bool
@@ -93,9 +96,13 @@ pub record KeepsRows (setting : Setting) (rows : List Row) : Type 0 where
 -- the asks of clients. These rows, and all others that want of memory may have left, keep what is
 -- promised of rows; and but for want of memory the run ends right, where `refused` is the forwarding
 -- of the start that was refused, if none may be.
-pub record IsRun (May : HouseReply → Type 0) (Rest : Option (List HouseMark) → Type 0)
-    (present : Bool) (policy : Policy) (pid turns : ℕ) (before now : Option (List HouseMark))
-    (start told : Option (List Mark)) (refused : Option ℕ) (answer : Ended) : Type 0 where
+-- But for want of memory the house was handed on all that the journal has for it, once and in the
+-- order of the journal.
+pub record IsRun (May : HouseReply → Type 0)
+    (Rest : Option (List HouseMark) → List HouseCall → Type 0)
+    (stands stands' : List HouseCall → Type 0) (present : Bool) (policy : Policy) (pid turns : ℕ)
+    (before now : Option (List HouseMark)) (start told : Option (List Mark)) (refused : Option ℕ)
+    (answer : Ended) : Type 0 where
   pub journal : List Mark
   pub picks : List ℕ
   pub replies : List HouseReply
@@ -122,7 +129,9 @@ pub record IsRun (May : HouseReply → Type 0) (Rest : Option (List HouseMark) �
   pub asked : asks_in (house_marks journal ++ more) ≡ asked_of rows ++ more_asks
   pub house_whole : answer ≢ OutOfMemory → TellsAsks before now (house_marks journal)
   pub asks_whole : answer ≢ OutOfMemory → asks_in (house_marks journal) ≡ asked_of rows
-  pub rested : Rested Rest before journal
+  pub handed : answer ≢ OutOfMemory
+      → HandsOn stands stands' (calls_in (by_lists policy pid picks replies) journal)
+  pub rested : Rested Rest (by_lists policy pid picks replies) before journal
   pub absent : present ≡ false → All (λ (mark : Mark). is_by_house mark ≡ false) journal
   pub ends : answer ≢ OutOfMemory
       → EndsRight (by_lists policy pid picks replies) turns journal refused answer

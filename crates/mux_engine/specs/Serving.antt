@@ -2,6 +2,7 @@
 use Rattle.std.specs.Prelude.{◌≡◌, ◌≤◌, ◌<◌, ◌+◌, ◌⊎◌, ◌||◌, ◌==◌, ℕ, Bool, true, false, List, [], ◌∷◌, ◌++◌, length, IsTrue, All, Option, Some, None, Result, MatchResult}
 use Rattle.mux_outside.specs.Counts.{Rose}
 use Rattle.mux_outside.specs.House.{OpenAsk}
+use Rattle.mux_outside.specs.HouseCalls.{HandsOn, HouseCall, calls_of}
 use Rattle.mux_outside.specs.OwnStreams.{is_own}
 use Rattle.mux_outside.specs.Seen.{Seen}
 use Rattle.mux_outside.specs.Streams.{among}
@@ -26,6 +27,7 @@ use Rattle.mux_clients.specs.Asked.{asked_of, TellsAsks}
 use Rattle.mux_machine.specs.State.{State, is_here}
 use Rattle.mux_machine.specs.Events.{here}
 use Rattle.mux_machine.specs.Stands.{Stands}
+use Rattle.mux_engine.specs.Called.{Handed, calls_in}
 use Rattle.mux_engine.specs.Run.{IsOfWire, Rested, is_by_house}
 use Rattle.mux_engine.specs.Sides.{Resting, Side, asks_in, house_marks}
 
@@ -73,7 +75,7 @@ IsFree last k = (IsTrue (is_own k) × (last < k)) ⊎ (k ≡ HOUSE)
 -- that was let in is present, and where none is the journal has nothing of a house but the asks of
 -- clients; the journal is one that a wire can give; the streams that are open are the server's, those
 -- of the clients that are here and the master's own; and whatever is picked and replied later, all is
--- sound
+-- sound; and the calls of the house since are those of the journal and of what is not noted yet
 pub record Serving (May : HouseReply → Type 0) (Rest : Resting)
     (before : Option (List HouseMark)) (now : Side) (policy : Policy) (pid : ℕ)
     (start : Option (List Mark)) (seen : Seen) (held failed : List ℕ) (given : ℕ)
@@ -88,10 +90,15 @@ pub record Serving (May : HouseReply → Type 0) (Rest : Resting)
   pub stands : Stands picked replies s journal closed
   pub house : TellsAsks before now.told (house_marks journal ++ now.unnoted)
   pub asked : asks_in (house_marks journal ++ now.unnoted) ≡ stands.asks
+  pub called : (picks : List ℕ) (given_later : List HouseReply)
+      → calls_in (by_lists policy pid (picked ++ picks) (replies ++ given_later)) journal
+      ++ calls_of now.unnoted ≡ now.calls
   pub askers : All (λ (a : OpenAsk). IsTrue (is_accepted a.client journal)) now.asks
   pub house_in : is_accepted HOUSE journal ≡ now.let_in
   pub house_there : now.let_in ≡ true → Rest.present ≡ true
-  pub rested : Rested Rest.rests before journal
+  pub rested : (picks : List ℕ) (given_later : List HouseReply)
+      → Rested Rest.rests (by_lists policy pid (picked ++ picks) (replies ++ given_later)) before
+      journal
   pub absent : Rest.present ≡ false → All (λ (mark : Mark). is_by_house mark ≡ false) journal
   pub tells : Tells start seen.told journal
   pub of_wire : OfWire seen.streams seen.blocked seen.last journal
@@ -110,10 +117,11 @@ pub record Serving (May : HouseReply → Type 0) (Rest : Resting)
       → IsSound (by_lists policy pid (picked ++ picks) (replies ++ given_later)) journal todo s
 
 -- the same, whatever came before, and whichever streams are to be offered what waits for them
-pub record IsServed (May : HouseReply → Type 0)
-    (Rest : Bool → Resting) (seen : Seen) (held : List ℕ) (s : State) :
+pub record IsServed {T : Type 0} (May : HouseReply → Type 0)
+    (Rest : Bool → T → Resting) (seen : Seen) (held : List ℕ) (s : State) :
     Type 0 where
   pub present : Bool
+  pub first : T
   pub before : Option (List HouseMark)
   pub now : Side
   pub policy : Policy
@@ -122,17 +130,23 @@ pub record IsServed (May : HouseReply → Type 0)
   pub failed : List ℕ
   pub given : ℕ
   pub todo : List ℕ
-  pub serving : Serving May (Rest present) before now policy pid start seen held failed given todo s
+  pub serving :
+      Serving May (Rest present first) before now policy pid start seen held failed given todo s
 
 -- the same with this house, whatever came before it
-pub record ServedWith (May : HouseReply → Type 0) (Rest : Resting)
-    (now : Side) (seen : Seen) (held failed todo : List ℕ) (s : State) : Type 0 where
+pub record ServedWith {T : Type 0} (stands : T → List HouseCall → Type 0) (house : T)
+    (May : HouseReply → Type 0) (Rest : T → Resting) (now : List HouseCall → Side) (seen : Seen)
+    (held failed todo : List ℕ) (s : State) : Type 0 where
+  pub first : T
+  pub calls : List HouseCall
+  pub hands : HandsOn (stands first) (stands house) calls
   pub before : Option (List HouseMark)
   pub policy : Policy
   pub pid : ℕ
   pub start : Option (List Mark)
   pub given : ℕ
-  pub serving : Serving May Rest before now policy pid start seen held failed given todo s
+  pub serving :
+      Serving May (Rest first) before (now calls) policy pid start seen held failed given todo s
 
 -- ---- want of memory
 
@@ -161,7 +175,9 @@ pub record Promised (May : HouseReply → Type 0) (Rest : Resting)
   pub each : length asks ≡ length replies
   pub house : TellsAsks before now (house_marks journal ++ more)
   pub asked : asks_in (house_marks journal ++ more) ≡ asks ++ more_asks
-  pub rested : Rested Rest.rests before journal
+  pub rested : (picks : List ℕ) (given_later : List HouseReply)
+      → Rested Rest.rests (by_lists policy pid (picked ++ picks) (replies ++ given_later)) before
+      journal
   pub absent : Rest.present ≡ false → All (λ (mark : Mark). is_by_house mark ≡ false) journal
   pub tells : Tells start told journal
   pub of_wire : IsOfWire journal
@@ -175,43 +191,51 @@ pub record Promised (May : HouseReply → Type 0) (Rest : Resting)
 -- whatever came before: a run that was served with `todo` still to be offered is served on with
 -- `rest`, or what was promised is left. The house is not called meanwhile
 abbrev pub ServesOn :
-    {A E : Type 0} → Result A E → (HouseReply → Type 0)
-    → (Bool → Resting) → Seen → Seen → List ℕ → List ℕ → List ℕ
+    {A E T : Type 0} → Result A E → (HouseReply → Type 0)
+    → (Bool → T → Resting) → Seen → Seen → List ℕ → List ℕ → List ℕ
     → (A → List ℕ) → State → State → Type 0
-ServesOn result May Rest seen seen' held held' todo rest s s' =
-    (present : Bool) (before : Option (List HouseMark)) (now : Side) (policy : Policy) (pid : ℕ)
-    (start : Option (List Mark)) (failed : List ℕ) (given : ℕ)
-    → Serving May (Rest present) before now policy pid start seen held failed given todo s
+ServesOn {T = T} result May Rest seen seen' held held' todo rest s s' =
+    (present : Bool) (first : T) (before : Option (List HouseMark)) (now : Side)
+    (policy : Policy) (pid : ℕ) (start : Option (List Mark)) (failed : List ℕ) (given : ℕ)
+    → Serving May (Rest present first) before now policy pid start seen held failed given todo s
     → MatchResult result
-    (λ x. Serving May (Rest present) before now policy pid start seen' held' failed given (rest x)
-    s')
-    (λ e. Promised May (Rest present) before now.told policy pid start seen'.told given)
+    (λ x. Serving May (Rest present first) before now policy pid start seen' held' failed given
+    (rest x) s')
+    (λ e. Promised May (Rest present first) before now.told policy pid start seen'.told given)
 
--- the same where streams of the master's own are offered what waits for them
+-- the same where streams of the master's own are offered what waits for them, and the house, all of
+-- which was noted, is told what they take and which of them fail
 abbrev pub OwnOn :
-    {A E : Type 0} → Result A E → (HouseReply → Type 0)
-    → (Bool → Resting) → Seen → Seen → List ℕ → List ℕ → List ℕ
+    {A E T : Type 0} → Result A E → (T → List HouseCall → Type 0) → T → T
+    → (HouseReply → Type 0) → (Bool → T → Resting) → Seen → Seen → List ℕ → List ℕ → List ℕ
     → List ℕ → Type 0
-OwnOn result May Rest seen seen' held held' failed failed' =
-    (present : Bool) (before : Option (List HouseMark)) (now : Side) (policy : Policy) (pid : ℕ)
-    (start : Option (List Mark)) (given : ℕ) (todo : List ℕ) (s : State)
-    → Serving May (Rest present) before now policy pid start seen held failed given todo s
+OwnOn {T = T} result stands house house' May Rest seen seen' held held' failed failed' =
+    (present : Bool) (first : T) (before : Option (List HouseMark)) (now : Side)
+    (policy : Policy) (pid : ℕ) (start : Option (List Mark)) (given : ℕ) (todo : List ℕ)
+    (s : State) → now.unnoted ≡ [] → HandsOn (stands first) (stands house) now.calls
+    → Serving May (Rest present first) before now policy pid start seen held failed given todo s
     → MatchResult result
-    (λ x. Serving May (Rest present) before now policy pid start seen' held' failed' given todo s)
-    (λ e. Promised May (Rest present) before now.told policy pid start seen'.told given)
+    (λ x. Handed (stands first) (stands house') (λ calls. Serving May (Rest present first) before
+    (record now { calls = calls }) policy pid start seen' held' failed' given todo s))
+    (λ e. Promised May (Rest present first) before now.told policy pid start seen'.told given)
 
 -- the same where the house is called: with so many turns more, or with so many at most
 abbrev pub RunsOn :
-    {A E : Type 0} → Result A E → (HouseReply → Type 0) → Resting
-    → Side → Side → Seen → Seen → List ℕ → List ℕ → List ℕ → List ℕ → ℕ → (A → ℕ) → List ℕ
-    → (A → List ℕ) → State → State → Type 0
-RunsOn result May Rest now now' seen seen' held held' failed failed' most more todo rest s s' =
-    (before : Option (List HouseMark)) (policy : Policy) (pid : ℕ) (start : Option (List Mark))
-    (given : ℕ) → Serving May Rest before now policy pid start seen held failed given todo s
+    {A E T : Type 0} → Result A E → (T → List HouseCall → Type 0) → T → T
+    → (HouseReply → Type 0) → (T → Resting) → (List HouseCall → Side) → (List HouseCall → Side)
+    → Seen → Seen → List ℕ → List ℕ → List ℕ → List ℕ → ℕ → (A → ℕ) → List ℕ → (A → List ℕ)
+    → State → State → Type 0
+RunsOn {T = T} result stands house house' May Rest now now' seen seen' held held' failed failed'
+    most more todo rest s s' =
+    (first : T) (calls : List HouseCall) (before : Option (List HouseMark)) (policy : Policy)
+    (pid : ℕ) (start : Option (List Mark)) (given : ℕ)
+    → HandsOn (stands first) (stands house) calls
+    → Serving May (Rest first) before (now calls) policy pid start seen held failed given todo s
     → MatchResult result
-    (λ x. Serving May Rest before now' policy pid start seen' held' failed' (given + more x)
-    (rest x) s')
-    (λ e. Promised May Rest before now'.told policy pid start seen'.told (given + most))
+    (λ x. Handed (stands first) (stands house') (λ all. Serving May (Rest first) before (now' all)
+    policy pid start seen' held' failed' (given + more x) (rest x) s'))
+    (λ e. Promised May (Rest first) before (now' []).told policy pid start seen'.told
+    (given + most))
 
 -- the streams that are to be offered what waits for them: where all were, the house may be left
 abbrev pub to_offer : Bool → State → List ℕ

@@ -1,6 +1,7 @@
 -- What is kept of a house, and what its marks and the wire's streams are to each other.
 use Rattle.std.specs.Prelude.{◌≡◌, ◌≤◌, ℕ, Bool, false, List, [], ◌∷◌, ◌++◌, filter, Option, Some, None, IsTrue}
 use Rattle.mux_outside.specs.House.{IsAtRest, Known, OpenAsk, Quiet}
+use Rattle.mux_outside.specs.HouseCalls.{HandsOn, HouseCall}
 use Rattle.mux_outside.specs.OwnStreams.{is_one, is_own, numbers_of}
 use Rattle.mux_outside.specs.Seen.{Seen}
 use Rattle.mux_outside.specs.Streams.{among}
@@ -31,37 +32,48 @@ asks_in marks = filter is_asked marks
 
 -- ---- a house and what is noted of it
 
--- what it told; its open asks; the last of what it told, which is not noted yet; and whether it was
--- let in as a client
+-- what it told; its open asks; the last of what it told, which is not noted yet; whether it was
+-- let in as a client; and its calls since the run began
 pub record Side : Type 0 where
   pub told : Option (List HouseMark)
   pub asks : List OpenAsk
   pub unnoted : List HouseMark
   pub let_in : Bool
+  pub calls : List HouseCall
 
 -- a house that is let in where it is present, with this that is not noted yet
-abbrev pub noting : List HouseMark → Option (List HouseMark) → Known → Side
-noting unnoted told known =
-    record { told = told; asks = known.asks; unnoted = unnoted; let_in = known.present }
+abbrev pub noting : List HouseMark → Option (List HouseMark) → Known → List HouseCall → Side
+noting unnoted told known calls = record {
+  told = told;
+  asks = known.asks;
+  unnoted = unnoted;
+  let_in = known.present;
+  calls = calls;
+}
 
 -- all of it is noted
-abbrev pub noted : Option (List HouseMark) → Known → Side
-noted told known = noting [] told known
+abbrev pub noted : Option (List HouseMark) → Known → List HouseCall → Side
+noted told known calls = noting [] told known calls
 
 -- one that was not let in yet
-abbrev pub outside : Option (List HouseMark) → Known → Side
-outside told known = record (noted told known) { let_in = false }
+abbrev pub outside : Option (List HouseMark) → Known → List HouseCall → Side
+outside told known calls = record (noted told known calls) { let_in = false }
 
--- whether a house is present, and what is so of it at rest by what it told
+-- whether a house is present, and what is so of it at rest by what it told and by its calls since the
+-- run began
 pub record Resting : Type 1 where
   pub present : Bool
-  pub rests : Option (List HouseMark) → Type 0
+  pub rests : Option (List HouseMark) → List HouseCall → Type 0
 
--- there is a house at rest that has told this, unless none is present
-abbrev pub RestsOf : {T : Type 0} → (T → Option (List HouseMark)) → (T → Quiet) → Bool → Resting
-RestsOf {T} told quiet present = record {
+-- there is a house at rest that has told this, and to which the first one came by these calls, unless
+-- none is present
+abbrev pub RestsOf : {T : Type 0} → (T → Option (List HouseMark)) → (T → Quiet)
+    → (T → List HouseCall → Type 0) → Bool → T → Resting
+RestsOf {T} told quiet stands present first = record {
   present = present;
-  rests = λ now. IsTrue present → (house : T) × (IsAtRest (quiet house) × (told house ≡ now));
+  rests = λ now calls. IsTrue present
+      → (house : T) × (IsAtRest (quiet house) × (told house ≡ now)
+      × HandsOn (stands first) (stands house) calls);
 }
 
 -- ---- its streams and listeners

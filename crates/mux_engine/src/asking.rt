@@ -1,4 +1,5 @@
-ghost use Rattle.std.specs.Prelude.{◌≡◌, IfOk, None};
+ghost use Rattle.std.specs.Prelude.{◌≡◌, IfOk, OnOk, None};
+ghost use Rattle.mux_outside.specs.HouseCalls.{HandsOn, calls_of};
 ghost use Rattle.mux_machine.specs.Events.{went_of};
 ghost use Rattle.mux_engine.specs.Asking.{Heeded};
 
@@ -20,6 +21,8 @@ pub fn heed<W: Wire, H: House>(
     ensures heeded { Heeded result H.may e.entry engine.old engine.new asks.new
         (H.told house.old) (H.told house.new) (H.known house.old) (H.known house.new)
         (W.seen wire.old) (W.seen wire.new) }
+    ensures handed { OnOk result (HandsOn (H.stands house.old) (H.stands house.new)
+        (calls_of asks.new)) }
     ensures went { IfOk result (λ went. went ≡ went_of engine.new.ended) }
     ensures calls { W.calls wire.new ≡ W.calls wire.old }
     ensures faults { W.server_faults wire.new ≡ W.server_faults wire.old }

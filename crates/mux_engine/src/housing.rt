@@ -37,23 +37,24 @@ pub fn let_in<W: Wire, H: House>(
 ) -> Result<(), OutOfMemory>
     requires on { engine.old.ended ≡ None }
     requires refused { engine.old.refused ≡ [] }
-    ensures serving { (present : Bool) (before : Option (List TheHouseMark)) (now : TheSide)
-        (policy : ThePolicy) (pid : ℕ) (start : Option (List TheMark)) (held failed : List ℕ)
-        (given : ℕ) →
-        (v : Serving H.may (RestsOf H.told H.quiet present) before now policy pid start
-        (W.seen wire.old) held failed given (0 ∷ here engine.old) engine.old) → v.journal ≡ [] →
-        present ≡ true → MatchResult result
-        (λ x. Serving H.may (RestsOf H.told H.quiet present) before
+    ensures serving { (present : Bool) (first : H) (before : Option (List TheHouseMark))
+        (now : TheSide) (policy : ThePolicy) (pid : ℕ) (start : Option (List TheMark))
+        (held failed : List ℕ) (given : ℕ) →
+        (v : Serving H.may (RestsOf H.told H.quiet H.stands present first) before now policy pid
+        start (W.seen wire.old) held failed given (0 ∷ here engine.old) engine.old) →
+        v.journal ≡ [] → present ≡ true → MatchResult result
+        (λ x. Serving H.may (RestsOf H.told H.quiet H.stands present first) before
         (record now { let_in = true }) policy pid start (W.seen wire.new) held failed given
         (0 ∷ here engine.new) engine.new)
-        (λ e. Promised H.may (RestsOf H.told H.quiet present) before now.told policy pid start
-        (W.seen wire.new).told given) }
+        (λ e. Promised H.may (RestsOf H.told H.quiet H.stands present first) before now.told policy
+        pid start (W.seen wire.new).told given) }
     ensures places { SamePlaces (W.seen wire.old) (W.seen wire.new) }
-    ensures on { (present : Bool) (before : Option (List TheHouseMark)) (now : TheSide)
-        (policy : ThePolicy) (pid : ℕ) (start : Option (List TheMark)) (held failed : List ℕ)
-        (given : ℕ) →
-        (v : Serving H.may (RestsOf H.told H.quiet present) before now policy pid start
-        (W.seen wire.old) held failed given (0 ∷ here engine.old) engine.old) → v.journal ≡ [] →
+    ensures on { (present : Bool) (first : H) (before : Option (List TheHouseMark))
+        (now : TheSide) (policy : ThePolicy) (pid : ℕ) (start : Option (List TheMark))
+        (held failed : List ℕ) (given : ℕ) →
+        (v : Serving H.may (RestsOf H.told H.quiet H.stands present first) before now policy pid
+        start (W.seen wire.old) held failed given (0 ∷ here engine.old) engine.old) →
+        v.journal ≡ [] →
         OnOk result (engine.new.ended ≡ None) }
     ensures calls { W.calls wire.new ≡ W.calls wire.old }
     ensures faults { W.server_faults wire.new ≡ W.server_faults wire.old }
@@ -73,8 +74,9 @@ fn hand_over<W: Wire, H: House>(
     house: &mut H,
 ) -> Result<(), OutOfMemory>
     requires ordering { (H.known house.old).ordering ≡ None }
-    ensures serving { (held failed : List ℕ) → RunsOn result H.may
-        (RestsOf H.told H.quiet (H.known house.old).present)
+    ensures serving { (held failed : List ℕ) → RunsOn result H.stands
+        house.old house.new H.may
+        (RestsOf H.told H.quiet H.stands (H.known house.old).present)
         (noted (H.told house.old) (H.known house.old))
         (noted (H.told house.new) (H.known house.new)) (W.seen wire.old) (W.seen wire.new) held held
         failed failed 0 (λ done. 0) (0 ∷ here engine.old)
@@ -111,8 +113,9 @@ fn reply<W: Wire, H: House>(
     requires ordering { (H.known house.old).ordering ≡ None }
     requires present { (H.known house.old).present ≡ true }
     requires on { engine.old.ended ≡ None }
-    ensures serving { (held failed : List ℕ) → RunsOn result H.may
-        (RestsOf H.told H.quiet (H.known house.old).present)
+    ensures serving { (held failed : List ℕ) → RunsOn result H.stands
+        house.old house.new H.may
+        (RestsOf H.told H.quiet H.stands (H.known house.old).present)
         (noted (H.told house.old) (H.known house.old))
         (noted (H.told house.new) (H.known house.new)) (W.seen wire.old) (W.seen wire.new) held held
         failed failed 0 (λ more. 0) (0 ∷ without TheHouse (here engine.old))
@@ -126,7 +129,8 @@ fn reply<W: Wire, H: House>(
         → (t : ℕ) → H.queue house.new t ≡ H.queue house.old t) }
     ensures must { H.must house.new ≡ H.must house.old }
     ensures on { (held failed todo : List ℕ) →
-        ServedWith H.may (RestsOf H.told H.quiet (H.known house.old).present)
+        ServedWith H.stands house.old H.may
+        (RestsOf H.told H.quiet H.stands (H.known house.old).present)
         (noted (H.told house.old) (H.known house.old)) (W.seen wire.old) held failed todo
         engine.old → OnOk result (engine.new.ended ≡ None) }
     ensures places { SamePlaces (W.seen wire.old) (W.seen wire.new) }
@@ -157,14 +161,16 @@ pub fn reply_all<W: Wire, H: House>(
     house: &mut H,
     lists: &mut Lists,
 ) -> Result<(), OutOfMemory>
-    requires served { ServedWith H.may (RestsOf H.told H.quiet (H.known house.old).present)
+    requires served { ServedWith H.stands house.old H.may
+        (RestsOf H.told H.quiet H.stands (H.known house.old).present)
         (noted (H.told house.old) (H.known house.old)) (W.seen wire.old) lists.old.held
         lists.old.failed (0 ∷ here engine.old) engine.old }
     requires housed { Housed (H.known house.old) (W.seen wire.old) lists.old.own }
     requires present { (H.known house.old).present ≡ true }
     requires held_is { lists.old.held ≡ (W.seen wire.old).blocked }
     requires on { engine.old.ended ≡ None }
-    ensures serving { RunsOn result H.may (RestsOf H.told H.quiet (H.known house.old).present)
+    ensures serving { RunsOn result H.stands house.old house.new H.may
+        (RestsOf H.told H.quiet H.stands (H.known house.old).present)
         (noted (H.told house.old) (H.known house.old))
         (noted (H.told house.new) (H.known house.new)) (W.seen wire.old) (W.seen wire.new)
         lists.old.held lists.new.held lists.old.failed lists.new.failed 0 (λ done. 0)
@@ -226,8 +232,9 @@ fn speak<W: Wire, H: House>(
     requires present { (H.known house.old).present ≡ true }
     requires on { engine.old.ended ≡ None }
     requires room { want_of engine.old ≡ ToRead }
-    ensures serving { (held failed : List ℕ) → RunsOn result H.may
-        (RestsOf H.told H.quiet (H.known house.old).present)
+    ensures serving { (held failed : List ℕ) → RunsOn result H.stands
+        house.old house.new H.may
+        (RestsOf H.told H.quiet H.stands (H.known house.old).present)
         (noted (H.told house.old) (H.known house.old))
         (noted (H.told house.new) (H.known house.new)) (W.seen wire.old) (W.seen wire.new) held held
         failed failed 1 (λ more. if more then 1 else 0) []
@@ -240,7 +247,8 @@ fn speak<W: Wire, H: House>(
     ensures still { IfOk result (λ more. more ≡ false → (engine.new ≡ engine.old)
         × (W.seen wire.new ≡ W.seen wire.old)) }
     ensures ends { (held failed : List ℕ) →
-        ServedWith H.may (RestsOf H.told H.quiet (H.known house.old).present)
+        ServedWith H.stands house.old H.may
+        (RestsOf H.told H.quiet H.stands (H.known house.old).present)
         (noted (H.told house.old) (H.known house.old)) (W.seen wire.old) held failed []
         engine.old → OnOk result (EndsByAsk engine.new.ended) }
     ensures places { SamePlaces (W.seen wire.old) (W.seen wire.new) }
@@ -268,14 +276,16 @@ fn ask_house<W: Wire, H: House>(
     house: &mut H,
     lists: &mut Lists,
 ) -> Result<bool, OutOfMemory>
-    requires served { ServedWith H.may (RestsOf H.told H.quiet (H.known house.old).present)
+    requires served { ServedWith H.stands house.old H.may
+        (RestsOf H.told H.quiet H.stands (H.known house.old).present)
         (noted (H.told house.old) (H.known house.old)) (W.seen wire.old) lists.old.held
         lists.old.failed (0 ∷ here engine.old) engine.old }
     requires housed { Housed (H.known house.old) (W.seen wire.old) lists.old.own }
     requires alone { IsAlone (H.known house.old) }
     requires held_is { lists.old.held ≡ (W.seen wire.old).blocked }
     requires on { engine.old.ended ≡ None }
-    ensures serving { RunsOn result H.may (RestsOf H.told H.quiet (H.known house.old).present)
+    ensures serving { RunsOn result H.stands house.old house.new H.may
+        (RestsOf H.told H.quiet H.stands (H.known house.old).present)
         (noted (H.told house.old) (H.known house.old))
         (noted (H.told house.new) (H.known house.new)) (W.seen wire.old) (W.seen wire.new)
         lists.old.held lists.new.held lists.old.failed lists.new.failed 1
@@ -315,13 +325,15 @@ pub fn step_house<W: Wire, H: House>(
     lists: &mut Lists,
     piece: &mut Piece,
 ) -> Result<bool, OutOfMemory>
-    requires served { ServedWith H.may (RestsOf H.told H.quiet (H.known house.old).present)
+    requires served { ServedWith H.stands house.old H.may
+        (RestsOf H.told H.quiet H.stands (H.known house.old).present)
         (noted (H.told house.old) (H.known house.old)) (W.seen wire.old) lists.old.held
         lists.old.failed (0 ∷ here engine.old) engine.old }
     requires housed { Housed (H.known house.old) (W.seen wire.old) lists.old.own }
     requires alone { IsAlone (H.known house.old) }
     requires on { engine.old.ended ≡ None }
-    ensures serving { RunsOn result H.may (RestsOf H.told H.quiet (H.known house.old).present)
+    ensures serving { RunsOn result H.stands house.old house.new H.may
+        (RestsOf H.told H.quiet H.stands (H.known house.old).present)
         (noted (H.told house.old) (H.known house.old))
         (noted (H.told house.new) (H.known house.new)) (W.seen wire.old) (W.seen wire.new)
         lists.old.held lists.new.held lists.old.failed lists.new.failed 1

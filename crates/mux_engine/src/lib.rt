@@ -4,6 +4,7 @@
 mod asking;
 mod events;
 mod housing;
+pub mod laws;
 mod orders;
 mod owned;
 mod room;

@@ -1,6 +1,7 @@
 ghost use Rattle.std.specs.Prelude.{◌≡◌, ◌++◌, ℕ, true, false, List, IfOk, OnOk, OnErr, Some, if◌then◌else◌};
 ghost use Rattle.std.specs.Option.{option_map};
 ghost use Rattle.mux_outside.specs.House.{order_marks};
+ghost use Rattle.mux_outside.specs.HouseCalls.{HandsOn, calls_of};
 ghost use Rattle.mux_outside.specs.declared.order.Order.TheVariants.{Connect as TheConnect};
 ghost use Rattle.mux_machine.specs.State.{State as TheState};
 ghost use Rattle.mux_engine.specs.Orders.{HasOrdered, IsMade, MadeBy, failed_carried, held_carried, known_carried, more_told, own_carried, seen_carried};
@@ -48,6 +49,8 @@ fn add_stream<W: Wire, H: House>(
         ≡ option_map (λ marks. marks ++ more_told (TheConnect host.now port) number)
         (H.told house.old)) }
     ensures untold { OnErr result (H.told house.new ≡ H.told house.old) }
+    ensures stands { IfOk result (λ number. HandsOn (H.stands house.old) (H.stands house.new)
+        (calls_of (more_told (TheConnect host.now port) number))) }
     ensures must { H.must house.new ≡ H.must house.old }
     ensures calls { W.calls wire.new ≡ W.calls wire.old }
     ensures faults { W.server_faults wire.new ≡ W.server_faults wire.old }
@@ -88,6 +91,8 @@ fn carry_out<W: Wire, H: House>(
         ≡ option_map (λ marks. marks ++ more_told order.now number)
         (H.told house.old)) }
     ensures untold { OnErr result (H.told house.new ≡ H.told house.old) }
+    ensures stands { IfOk result (λ number. HandsOn (H.stands house.old) (H.stands house.new)
+        (calls_of (more_told order.now number))) }
     ensures must { H.must house.new ≡ H.must house.old }
     ensures calls { W.calls wire.new ≡ W.calls wire.old }
     ensures faults { W.server_faults wire.new ≡ W.server_faults wire.old }
@@ -125,8 +130,9 @@ fn obey<W: Wire, H: House>(
 ) -> Result<(), OutOfMemory>
     requires ordered { HasOrdered order (H.known house.old) (W.seen wire.old) lists.old.own }
     requires present { (H.known house.old).present ≡ true }
-    ensures serving { (todo : List ℕ) (s : TheState) → RunsOn result H.may
-        (RestsOf H.told H.quiet (H.known house.old).present)
+    ensures serving { (todo : List ℕ) (s : TheState) → RunsOn result H.stands
+        house.old house.new H.may
+        (RestsOf H.told H.quiet H.stands (H.known house.old).present)
         (noting (order_marks (Some order)) (H.told house.old) (H.known house.old))
         (noted (H.told house.new) (H.known house.new)) (W.seen wire.old) (W.seen wire.new)
         lists.old.held lists.new.held lists.old.failed lists.new.failed 1 (λ done. 1) todo
@@ -153,8 +159,9 @@ pub fn next_order<W: Wire, H: House>(
 ) -> Result<bool, OutOfMemory>
     requires housed { Housed (H.known house.old) (W.seen wire.old) lists.old.own }
     requires present { (H.known house.old).present ≡ true }
-    ensures serving { (todo : List ℕ) (s : TheState) → RunsOn result H.may
-        (RestsOf H.told H.quiet (H.known house.old).present)
+    ensures serving { (todo : List ℕ) (s : TheState) → RunsOn result H.stands
+        house.old house.new H.may
+        (RestsOf H.told H.quiet H.stands (H.known house.old).present)
         (noted (H.told house.old) (H.known house.old))
         (noted (H.told house.new) (H.known house.new)) (W.seen wire.old) (W.seen wire.new)
         lists.old.held lists.new.held lists.old.failed lists.new.failed 1

@@ -45,8 +45,9 @@ fn own_once<W: Wire, H: House>(
     requires own { IsTrue (is_own stream) }
     requires stream_open { IsTrue (among stream (W.seen wire.old).streams) }
     requires held_is { held.old ≡ (W.seen wire.old).blocked }
-    ensures serving { OwnOn result H.may (RestsOf H.told H.quiet) (W.seen wire.old)
-        (W.seen wire.new) held.old held.new failed.old failed.new }
+    ensures serving { OwnOn result H.stands house.old house.new H.may
+        (RestsOf H.told H.quiet H.stands) (W.seen wire.old) (W.seen wire.new) held.old held.new
+        failed.old failed.new }
     ensures less { IfOk result (λ more. more ≡ true
         → length (H.queue house.new stream) < length (H.queue house.old stream)) }
     ensures offered { IfOk result (λ more. more ≡ false
@@ -108,8 +109,9 @@ fn offer_own<W: Wire, H: House>(
     requires own { IsTrue (is_own stream) }
     requires stream_open { IsTrue (among stream (W.seen wire.old).streams) }
     requires held_is { held.old ≡ (W.seen wire.old).blocked }
-    ensures serving { OwnOn result H.may (RestsOf H.told H.quiet) (W.seen wire.old)
-        (W.seen wire.new) held.old held.new failed.old failed.new }
+    ensures serving { OwnOn result H.stands house.old house.new H.may
+        (RestsOf H.told H.quiet H.stands) (W.seen wire.old) (W.seen wire.new) held.old held.new
+        failed.old failed.new }
     ensures offered { OnOk result (IsOffered (H.queue house.new stream) held.new failed.new stream) }
     ensures known { OnOk result (H.known house.new ≡ H.known house.old) }
     ensures told { H.told house.new ≡ H.told house.old }
@@ -149,8 +151,9 @@ fn own_round<W: Wire, H: House>(
     requires each_open { (t : ℕ) → among t todo.old ≡ true
         → IsTrue (among t (W.seen wire.old).streams) }
     requires held_is { held.old ≡ (W.seen wire.old).blocked }
-    ensures serving { OwnOn result H.may (RestsOf H.told H.quiet) (W.seen wire.old)
-        (W.seen wire.new) held.old held.new failed.old failed.new }
+    ensures serving { OwnOn result H.stands house.old house.new H.may
+        (RestsOf H.told H.quiet H.stands) (W.seen wire.old) (W.seen wire.new) held.old held.new
+        failed.old failed.new }
     ensures offered { OnOk result (length failed.new ≡ length failed.old → (t : ℕ)
         → among t todo.old ≡ true → IsOffered (H.queue house.new t) held.new failed.new t) }
     ensures known { OnOk result (H.known house.new ≡ H.known house.old) }
@@ -187,8 +190,9 @@ pub fn own_rounds<W: Wire, H: House>(
 ) -> Result<(), OutOfMemory>
     requires housed { Housed (H.known house.old) (W.seen wire.old) own.now }
     requires held_is { held.old ≡ (W.seen wire.old).blocked }
-    ensures serving { OwnOn result H.may (RestsOf H.told H.quiet) (W.seen wire.old)
-        (W.seen wire.new) held.old held.new failed.old failed.new }
+    ensures serving { OwnOn result H.stands house.old house.new H.may
+        (RestsOf H.told H.quiet H.stands) (W.seen wire.old) (W.seen wire.new) held.old held.new
+        failed.old failed.new }
     ensures offered { OnOk result ((t : ℕ) → among t own.now ≡ true
         → IsOffered (H.queue house.new t) held.new failed.new t) }
     ensures known { OnOk result (H.known house.new ≡ H.known house.old) }

@@ -3,6 +3,7 @@ ghost use Rattle.std.specs.Result.{result_unwrap_or};
 ghost use Rattle.std.specs.declared.option.Option.{Option};
 ghost use Rattle.mux_outside.specs.Counts.{Rose};
 ghost use Rattle.mux_outside.specs.House.{OwnTurnFits, known_after_own_turn, nothing_known};
+ghost use Rattle.mux_outside.specs.HouseCalls.{HandsOn, HouseCall as TheCall, Turns, happening_of};
 ghost use Rattle.mux_outside.specs.Wire.{SameFaults};
 ghost use Rattle.mux_outside.specs.declared.house_mark.HouseMark.{HouseMark as TheHouseMark};
 ghost use Rattle.mux_outside.specs.declared.mark.Mark.{Mark as TheMark};
@@ -10,6 +11,7 @@ ghost use Rattle.mux_history.specs.declared.ended.Ended.TheVariants.{ServerFaile
 ghost use Rattle.mux_history.specs.declared.limits.TheConstants.{HOUSE as TheHouse};
 ghost use Rattle.mux_history.specs.Policy.{Policy as ThePolicy};
 ghost use Rattle.mux_machine.specs.Events.{went_of, here};
+ghost use Rattle.mux_engine.specs.Called.{Handed};
 ghost use Rattle.mux_engine.specs.Counted.{Counts, Cut, Spent, Stops, Turned, Well};
 ghost use Rattle.mux_engine.specs.Rests.{IsAlone, IsByRow, IsReady, ended_as, refused_if};
 ghost use Rattle.mux_engine.specs.Run.{IsRun};
@@ -42,6 +44,8 @@ fn hear<H: House>(house: &mut H, lists: &mut Lists, told: OwnTurn<'_>) -> Result
     ensures failed { OnOk result (lists.new.failed ≡ failed_heard told.entry lists.old.failed) }
     ensures must { H.must house.new ≡ H.must house.old }
     ensures told { H.told house.new ≡ H.told house.old }
+    ensures stands { OnOk result (HandsOn (H.stands house.old) (H.stands house.new)
+        (Turns (happening_of told.entry) ∷ [])) }
 {
     match told {
         OwnTurn::Joined { stream, .. } => lists.own.push(stream)?,
@@ -60,7 +64,8 @@ fn turn<W: Wire, H: House>(
     lists: &mut Lists,
     piece: &mut Piece,
 ) -> Result<Went, OutOfMemory>
-    requires served { ServedWith H.may (RestsOf H.told H.quiet (H.known house.old).present)
+    requires served { ServedWith H.stands house.old H.may
+        (RestsOf H.told H.quiet H.stands (H.known house.old).present)
         (noted (H.told house.old) (H.known house.old)) (W.seen wire.old) lists.old.held
         lists.old.failed [] engine.old }
     requires housed { Housed (H.known house.old) (W.seen wire.old) lists.old.own }
@@ -71,7 +76,8 @@ fn turn<W: Wire, H: House>(
     requires refused { engine.old.refused ≡ [] }
     requires on { engine.old.ended ≡ None }
     requires hears { (W.seen wire.old).listens ≡ engine.old.listening }
-    ensures serving { RunsOn result H.may (RestsOf H.told H.quiet (H.known house.old).present)
+    ensures serving { RunsOn result H.stands house.old house.new H.may
+        (RestsOf H.told H.quiet H.stands (H.known house.old).present)
         (noted (H.told house.old) (H.known house.old))
         (noted (H.told house.new) (H.known house.new)) (W.seen wire.old) (W.seen wire.new)
         lists.old.held lists.new.held lists.old.failed lists.new.failed 1 (λ went. 1) []
@@ -146,22 +152,26 @@ fn one_turn<W: Wire, H: House>(
     lists: &mut Lists,
     piece: &mut Piece,
 ) -> Result<bool, OutOfMemory>
-    requires served { ServedWith H.may (RestsOf H.told H.quiet (H.known house.old).present)
+    requires served { ServedWith H.stands house.old H.may
+        (RestsOf H.told H.quiet H.stands (H.known house.old).present)
         (noted (H.told house.old) (H.known house.old)) (W.seen wire.old) lists.old.held
         lists.old.failed (0 ∷ here engine.old) engine.old }
     requires housed { Housed (H.known house.old) (W.seen wire.old) lists.old.own }
     requires alone { IsAlone (H.known house.old) }
     requires on { engine.old.ended ≡ None }
-    ensures serving { (before : Option (List TheHouseMark)) (policy : ThePolicy) (pid : ℕ)
-        (start : Option (List TheMark)) (given : ℕ) →
-        Serving H.may (RestsOf H.told H.quiet (H.known house.old).present) before
-        (noted (H.told house.old) (H.known house.old)) policy pid start (W.seen wire.old)
+    ensures serving { (first : H) (calls : List TheCall) (before : Option (List TheHouseMark))
+        (policy : ThePolicy) (pid : ℕ) (start : Option (List TheMark)) (given : ℕ) →
+        HandsOn (H.stands first) (H.stands house.old) calls →
+        Serving H.may (RestsOf H.told H.quiet H.stands (H.known house.old).present first) before
+        (noted (H.told house.old) (H.known house.old) calls) policy pid start (W.seen wire.old)
         lists.old.held lists.old.failed given (0 ∷ here engine.old) engine.old →
         MatchResult result
-        (λ on. EndsTurn on given H.may (RestsOf H.told H.quiet (H.known house.old).present) before
-        (noted (H.told house.new) (H.known house.new)) policy pid start (W.seen wire.new)
-        lists.new.held lists.new.failed (to_offer lists.new.settled engine.new) engine.new)
-        (λ e. Promised H.may (RestsOf H.told H.quiet (H.known house.old).present) before
+        (λ on. Handed (H.stands first) (H.stands house.new) (λ all. EndsTurn on given H.may
+        (RestsOf H.told H.quiet H.stands (H.known house.old).present first) before
+        (noted (H.told house.new) (H.known house.new) all) policy pid start (W.seen wire.new)
+        lists.new.held lists.new.failed (to_offer lists.new.settled engine.new) engine.new))
+        (λ e. Promised H.may
+        (RestsOf H.told H.quiet H.stands (H.known house.old).present first) before
         (H.told house.new) policy pid start (W.seen wire.new).told (given + 1)) }
     ensures housed { OnOk result (Housed (H.known house.new) (W.seen wire.new) lists.new.own) }
     ensures alone { OnOk result (IsAlone (H.known house.new)) }
@@ -209,7 +219,8 @@ fn turns_of<W: Wire, H: House>(
     lists: &mut Lists,
     turns: u64,
 ) -> Result<bool, OutOfMemory>
-    requires served { ServedWith H.may (RestsOf H.told H.quiet (H.known house.old).present)
+    requires served { ServedWith H.stands house.old H.may
+        (RestsOf H.told H.quiet H.stands (H.known house.old).present)
         (noted (H.told house.old) (H.known house.old)) (W.seen wire.old) lists.old.held
         lists.old.failed (0 ∷ here engine.old) engine.old }
     requires housed { Housed (H.known house.old) (W.seen wire.old) lists.old.own }
@@ -217,16 +228,20 @@ fn turns_of<W: Wire, H: House>(
     requires on { engine.old.ended ≡ None }
     requires unsettled { lists.old.settled ≡ false }
     requires quiet { (H.known house.old).present ≡ false → engine.old.waiting ≡ [] }
-    ensures serving { (before : Option (List TheHouseMark)) (policy : ThePolicy) (pid : ℕ)
-        (start : Option (List TheMark)) →
-        Serving H.may (RestsOf H.told H.quiet (H.known house.old).present) before
-        (noted (H.told house.old) (H.known house.old)) policy pid start (W.seen wire.old)
+    ensures serving { (first : H) (calls : List TheCall) (before : Option (List TheHouseMark))
+        (policy : ThePolicy) (pid : ℕ) (start : Option (List TheMark)) →
+        HandsOn (H.stands first) (H.stands house.old) calls →
+        Serving H.may (RestsOf H.told H.quiet H.stands (H.known house.old).present first) before
+        (noted (H.told house.old) (H.known house.old) calls) policy pid start (W.seen wire.old)
         lists.old.held lists.old.failed 0 (0 ∷ here engine.old) engine.old →
         MatchResult result
-        (λ all. Spends all turns H.may (RestsOf H.told H.quiet (H.known house.old).present) before
-        (noted (H.told house.new) (H.known house.new)) policy pid start (W.seen wire.new)
-        lists.new.held lists.new.failed (to_offer lists.new.settled engine.new) engine.new)
-        (λ e. Promised H.may (RestsOf H.told H.quiet (H.known house.old).present) before
+        (λ all. Handed (H.stands first) (H.stands house.new) (λ handed. Spends all turns H.may
+        (RestsOf H.told H.quiet H.stands (H.known house.old).present first) before
+        (noted (H.told house.new) (H.known house.new) handed) policy pid start
+        (W.seen wire.new) lists.new.held lists.new.failed (to_offer lists.new.settled engine.new)
+        engine.new))
+        (λ e. Promised H.may
+        (RestsOf H.told H.quiet H.stands (H.known house.old).present first) before
         (H.told house.new) policy pid start (W.seen wire.new).told turns) }
     ensures housed { OnOk result (Housed (H.known house.new) (W.seen wire.new) lists.new.own) }
     ensures held_is { OnOk result (lists.new.held ≡ (W.seen wire.new).blocked) }
@@ -281,16 +296,19 @@ fn enter<W: Wire, H: House>(
 ) -> Result<(), OutOfMemory>
     requires on { engine.old.ended ≡ None }
     requires refused { engine.old.refused ≡ [] }
-    ensures serving { (before : Option (List TheHouseMark)) (policy : ThePolicy) (pid : ℕ)
-        (start : Option (List TheMark)) (held failed : List ℕ) (given : ℕ) →
-        (v : Serving H.may (RestsOf H.told H.quiet (H.known house.now).present) before
-        (outside (H.told house.now) (H.known house.now)) policy pid start (W.seen wire.old) held
-        failed given (0 ∷ here engine.old) engine.old) → v.journal ≡ [] →
+    ensures serving { (first : H) (calls : List TheCall) (before : Option (List TheHouseMark))
+        (policy : ThePolicy) (pid : ℕ) (start : Option (List TheMark)) (held failed : List ℕ)
+        (given : ℕ) → (v : Serving H.may
+        (RestsOf H.told H.quiet H.stands (H.known house.now).present first) before
+        (outside (H.told house.now) (H.known house.now) calls) policy pid start (W.seen wire.old)
+        held failed given (0 ∷ here engine.old) engine.old) → v.journal ≡ [] →
         MatchResult result
-        (λ done. Serving H.may (RestsOf H.told H.quiet (H.known house.now).present) before
-        (noted (H.told house.now) (H.known house.now)) policy pid start (W.seen wire.new) held
+        (λ done. Serving H.may
+        (RestsOf H.told H.quiet H.stands (H.known house.now).present first) before
+        (noted (H.told house.now) (H.known house.now) calls) policy pid start (W.seen wire.new) held
         failed given (0 ∷ here engine.new) engine.new × (engine.new.ended ≡ None))
-        (λ e. Promised H.may (RestsOf H.told H.quiet (H.known house.now).present) before
+        (λ e. Promised H.may
+        (RestsOf H.told H.quiet H.stands (H.known house.now).present first) before
         (H.told house.now) policy pid start (W.seen wire.new).told given) }
     ensures places { SamePlaces (W.seen wire.old) (W.seen wire.new) }
     ensures alone { (H.known house.now).present ≡ false → (engine.new ≡ engine.old)
@@ -314,13 +332,15 @@ fn last_replies<W: Wire, H: House>(
     lists: &mut Lists,
     all: bool,
 ) -> Result<(), OutOfMemory>
-    requires served { ServedWith H.may (RestsOf H.told H.quiet (H.known house.old).present)
+    requires served { ServedWith H.stands house.old H.may
+        (RestsOf H.told H.quiet H.stands (H.known house.old).present)
         (noted (H.told house.old) (H.known house.old)) (W.seen wire.old) lists.old.held
         lists.old.failed (0 ∷ here engine.old) engine.old }
     requires housed { Housed (H.known house.old) (W.seen wire.old) lists.old.own }
     requires held_is { lists.old.held ≡ (W.seen wire.old).blocked }
     requires on { all ≡ true → engine.old.ended ≡ None }
-    ensures serving { RunsOn result H.may (RestsOf H.told H.quiet (H.known house.old).present)
+    ensures serving { RunsOn result H.stands house.old house.new H.may
+        (RestsOf H.told H.quiet H.stands (H.known house.old).present)
         (noted (H.told house.old) (H.known house.old))
         (noted (H.told house.new) (H.known house.new)) (W.seen wire.old) (W.seen wire.new)
         lists.old.held lists.new.held lists.old.failed lists.new.failed 0 (λ done. 0)
@@ -354,13 +374,15 @@ fn finish<W: Wire, H: House>(
     lists: &mut Lists,
     all: bool,
 ) -> Result<(), OutOfMemory>
-    requires served { ServedWith H.may (RestsOf H.told H.quiet (H.known house.old).present)
+    requires served { ServedWith H.stands house.old H.may
+        (RestsOf H.told H.quiet H.stands (H.known house.old).present)
         (noted (H.told house.old) (H.known house.old)) (W.seen wire.old) lists.old.held
         lists.old.failed (to_offer lists.old.settled engine.old) engine.old }
     requires housed { Housed (H.known house.old) (W.seen wire.old) lists.old.own }
     requires held_is { lists.old.held ≡ (W.seen wire.old).blocked }
     requires on { all ≡ true → engine.old.ended ≡ None }
-    ensures serving { RunsOn result H.may (RestsOf H.told H.quiet (H.known house.old).present)
+    ensures serving { RunsOn result H.stands house.old house.new H.may
+        (RestsOf H.told H.quiet H.stands (H.known house.old).present)
         (noted (H.told house.old) (H.known house.old))
         (noted (H.told house.new) (H.known house.new)) (W.seen wire.old) (W.seen wire.new)
         lists.old.held lists.new.held lists.old.failed lists.new.failed 0 (λ done. 0)
@@ -399,7 +421,8 @@ fn run<W: Wire, H: House>(
     house: &mut H,
     turns: u64,
 ) -> Result<Ended, OutOfMemory>
-    requires running { (v : ServedWith H.may (RestsOf H.told H.quiet (H.known house.old).present)
+    requires running { (v : ServedWith H.stands house.old H.may
+        (RestsOf H.told H.quiet H.stands (H.known house.old).present)
         (outside (H.told house.old) (H.known house.old)) (W.seen wire.old) [] []
         (0 ∷ here engine.old) engine.old) × (v.serving.journal ≡ []) }
     requires housed { Housed (H.known house.old) (W.seen wire.old) [] }
@@ -409,11 +432,14 @@ fn run<W: Wire, H: House>(
     requires quiet { engine.old.waiting ≡ [] }
     ensures ran { (before : Option (List TheHouseMark)) (policy : ThePolicy) (pid : ℕ)
         (start : Option (List TheMark)) →
-        (v : Serving H.may (RestsOf H.told H.quiet (H.known house.old).present) before
-        (outside (H.told house.old) (H.known house.old)) policy pid start (W.seen wire.old) [] [] 0 (0 ∷ here engine.old) engine.old) → v.journal ≡ [] →
-        IsRun H.may (RestsOf H.told H.quiet (H.known house.old).present).rests
-        (H.known house.old).present policy pid turns before (H.told house.new)
-        start (W.seen wire.new).told
+        (v : Serving H.may
+        (RestsOf H.told H.quiet H.stands (H.known house.old).present house.old) before
+        (outside (H.told house.old) (H.known house.old) []) policy pid start (W.seen wire.old) [] []
+        0 (0 ∷ here engine.old) engine.old) → v.journal ≡ [] →
+        IsRun H.may
+        (RestsOf H.told H.quiet H.stands (H.known house.old).present house.old).rests
+        (H.stands house.old) (H.stands house.new) (H.known house.old).present policy pid turns
+        before (H.told house.new) start (W.seen wire.new).told
         (refused_if (H.known house.old).present (H.must house.new) (H.refused house.new))
         (result_unwrap_or result WantOfMemory) }
     ensures permitted { IfOk result (λ answer. (index : ℕ) → answer ≡ StartWasRefused index
@@ -440,16 +466,19 @@ fn run<W: Wire, H: House>(
     Ok(answer_of(engine, house))
 }
 
-/// Serves an open wire until the run ends, for so many turns at most: why it ended. It permits what
-/// the policy does, and tells the process id to clients that check. What the wire tells of this run
-/// is written and kept open as it must be, and ends as it must. A turn is a call of `wait`, an order
-/// of the house that is carried out, or a piece that the house said; without a house it waits once
-/// for each turn, and writes nothing before. The house is told each ask of its clients; where it is
-/// present it is let in as a client, and is at rest at each wait at which more is read: what is so of
-/// each house at rest by what it told is so there. Behind a call that wanted memory none is made.
-/// But for want of memory the wire's own listeners and streams are at the end those that the house
-/// knows, as it ordered them; without a house none was opened. The forwarding of the start that an
-/// answer names was refused, where none may be.
+/// Serves an open wire until the run ends, for so many turns at most: why it ended. It permits
+/// what the policy does, and tells the process id to clients that check. What the wire tells of
+/// this run is written and kept open as it must be, and ends as it must. A turn is a call of
+/// `wait`, an order of the house that is carried out, or a piece that the house said; without a
+/// house it waits once for each turn, and writes nothing before. The house is told each ask of
+/// its clients; where it is present it is let in as a client, and is at rest at each wait at
+/// which more is read: what is so of each house at rest by what it told is so there. But for want
+/// of memory it is handed all that happens at the streams and listeners of its own, each write
+/// there that fails, how many bytes each takes, and what waits for it as a client, once and in
+/// that order. Behind a call that wanted memory none is made. But for want of memory the wire's
+/// own listeners and streams are at the end those that the house knows, as it ordered them;
+/// without a house none was opened. The forwarding of the start that an answer names was refused,
+/// where none may be.
 pub fn serve<W: Wire, H: House>(
     alloc: Global,
     policy: Policy,
@@ -464,9 +493,10 @@ pub fn serve<W: Wire, H: House>(
     requires own { (W.seen wire.old).own ≡ [] }
     requires listeners { (W.seen wire.old).listeners ≡ [] }
     requires blank { H.known house.old ≡ nothing_known (H.known house.old).present }
-    ensures kept { IsRun H.may (RestsOf H.told H.quiet (H.known house.old).present).rests
-        (H.known house.old).present policy pid turns (H.told house.old)
-        (H.told house.new) (W.seen wire.old).told (W.seen wire.new).told
+    ensures kept { IsRun H.may
+        (RestsOf H.told H.quiet H.stands (H.known house.old).present house.old).rests
+        (H.stands house.old) (H.stands house.new) (H.known house.old).present policy pid turns
+        (H.told house.old) (H.told house.new) (W.seen wire.old).told (W.seen wire.new).told
         (refused_if (H.known house.old).present (H.must house.new) (H.refused house.new)) result }
     ensures permitted { (index : ℕ) → result ≡ StartWasRefused index
         → refused_if (H.known house.old).present (H.must house.new) (H.refused house.new)

@@ -2,7 +2,7 @@ ghost use Rattle.std.specs.Prelude.{◌≡◌, ◌≤◌, ◌*◌, [], true, fal
 ghost use Rattle.mux_outside.specs.declared.mark.Mark.{Mark as TheMark};
 ghost use Rattle.client_teardown.specs.declared.farewell.TheConstants.{FAREWELL_ROOM as TheRoom};
 ghost use Rattle.mux_history.specs.declared.limits.TheConstants.{MAX_CLIENTS as TheMost};
-ghost use Rattle.mux_clients.specs.Asked.{Heeds};
+ghost use Rattle.mux_clients.specs.Asked.{HandsAsks, Heeds};
 ghost use Rattle.mux_machine.specs.Events.{EndsBy, Keeps, Tells, went_of};
 ghost use Rattle.mux_machine.specs.Moves.{AnsweredAt, GainsAt, HeardAt, LosesAt};
 ghost use Rattle.mux_machine.specs.Ready.{IsReady};
@@ -118,6 +118,8 @@ impl Engine {
             → GoesOn H.may (Some asks.old) (Some asks.new) self.old self.new mark) }
         ensures heeds { Heeds result asks.old asks.new (H.told house.old) (H.told house.new)
             (H.known house.old) (H.known house.new) }
+        ensures handed { OnOk result (HandsAsks asks.old asks.new (H.stands house.old)
+            (H.stands house.new)) }
         ensures keeps { OnOk result (Keeps e.entry self.old self.new) }
         ensures ends { OnOk result ((mark : TheMark) → Tells e.entry mark
             → EndsBy e.entry self.old self.new mark) }
@@ -155,6 +157,8 @@ impl Engine {
             → GoesOn H.may (Some asks.old) (Some asks.new) self.old self.new mark) }
         ensures heeds { Heeds result asks.old asks.new (H.told house.old) (H.told house.new)
             (H.known house.old) (H.known house.new) }
+        ensures handed { OnOk result (HandsAsks asks.old asks.new (H.stands house.old)
+            (H.stands house.new)) }
         ensures keeps { OnOk result (Keeps e.entry self.old self.new) }
         ensures ends { OnOk result ((mark : TheMark) → Tells e.entry mark
             → EndsBy e.entry self.old self.new mark) }
@@ -221,6 +225,8 @@ impl Engine {
             → asks.new ≡ asks.old }
         ensures heeds { Heeds result asks.old asks.new (H.told house.old) (H.told house.new)
             (H.known house.old) (H.known house.new) }
+        ensures handed { OnOk result (HandsAsks asks.old asks.new (H.stands house.old)
+            (H.stands house.new)) }
         ensures policy { OnOk result (self.new.core.policy ≡ self.old.core.policy) }
         ensures numbers { OnOk result (numbers self.new.clients ≡ numbers self.old.clients) }
         ensures ready { OnOk result (IsReady self.new) }

@@ -15,7 +15,7 @@ use Rattle.ssh_mux.specs.declared.status.Status.{Status}
 use Rattle.ssh_mux.specs.declared.status.Status.TheVariants as statuses
 use Rattle.ssh_mux.specs.Answers.{Comes, IsRefused, may_open, so_far, touches}
 use Rattle.ssh_mux.specs.Causes.{Caused}
-use Rattle.ssh_mux.specs.Drill.{DrillGoes, DrillServes, DrillShares, DrillTells, EndsDrill, IsDrill, IsDrilled, NoneRests, RefusesAll, RunsDrill, SumsUp, drill_text, drill_transport}
+use Rattle.ssh_mux.specs.Drill.{AnyCalls, DrillGoes, DrillServes, DrillShares, DrillTells, EndsDrill, IsDrill, IsDrilled, NoneRests, RefusesAll, RunsDrill, SumsUp, drill_text, drill_transport}
 use Rattle.ssh_mux.specs.Ending.{shown}
 use Rattle.ssh_mux.specs.Err.{Reports}
 use Rattle.ssh_mux.specs.Master.{EndsMaster}
@@ -74,10 +74,10 @@ handed-ends text (Err ending) before now h = absurd h
 
 module _ (words : List Bytes) (turns : ℕ) (openings openings' : Option (List Opening)) (start told : Option (List Mark)) (tally : Tally) (out out' : Option (List ℕ)) where
   abbrev Shared : Result Status Ending → Type 0
-  Shared result = Shares RefusesAll NoneRests any_policy 0 turns None None start told None result
+  Shared result = Shares RefusesAll NoneRests AnyCalls AnyCalls any_policy 0 turns None None start told None result
 
   abbrev Ran : Result Status Ending → Type 0
-  Ran result = IsShared RefusesAll NoneRests any_policy 0 turns None None start told None result
+  Ran result = IsShared RefusesAll NoneRests AnyCalls AnyCalls any_policy 0 turns None None start told None result
 
   -- of a run that ended well
   summed-run : (due : Status) (result : Result Status Ending) → Ran (Ok due) → HandsOver result (drill_text tally) out out' → RunsDrill turns start told tally result out out'
@@ -108,16 +108,16 @@ module _ (words : List Bytes) (turns : ℕ) (openings openings' : Option (List O
   drilled endings.StartRefused e r = absurd cc
   drilled meant e r = e
 
-  unsummed-run : (meant : Ending) → IsShared RefusesAll NoneRests any_policy 0 turns None None start told None (Err meant) → RunsDrill turns start told tally (Err meant) out out
+  unsummed-run : (meant : Ending) → IsShared RefusesAll NoneRests AnyCalls AnyCalls any_policy 0 turns None None start told None (Err meant) → RunsDrill turns start told tally (Err meant) out out
   unsummed-run meant h = record { answer = h.answer; run = h.run; ends = subst (λ e. SumsUp e tally (Err meant) out out) h.is_told (refl, refl) }
 
-  unsummed-shared : (meant : Ending) → Shares RefusesAll NoneRests any_policy 0 turns None None start told None (Err meant) → DrillShares turns start told tally (Err meant) out out
+  unsummed-shared : (meant : Ending) → Shares RefusesAll NoneRests AnyCalls AnyCalls any_policy 0 turns None None start told None (Err meant) → DrillShares turns start told tally (Err meant) out out
   unsummed-shared endings.NotOpened h = (h, refl)
   unsummed-shared endings.NoMemory (inl h) = inl (h, refl)
   unsummed-shared endings.NoMemory (inr h) = inr (unsummed-run endings.NoMemory h)
   unsummed-shared meant h = unsummed-run meant h
 
-  pub unsummed-goes : (meant : Ending) → EndsMaster (Err meant) → StartCause (status_of (shown meant)) None → OpensAt [] (drill_transport words) (status_of (shown meant)) openings openings' → Shares RefusesAll NoneRests any_policy 0 turns None None start told None (Err meant) → DrillGoes words turns (Err meant) openings openings' start told tally out out
+  pub unsummed-goes : (meant : Ending) → EndsMaster (Err meant) → StartCause (status_of (shown meant)) None → OpensAt [] (drill_transport words) (status_of (shown meant)) openings openings' → Shares RefusesAll NoneRests AnyCalls AnyCalls any_policy 0 turns None None start told None (Err meant) → DrillGoes words turns (Err meant) openings openings' start told tally out out
   unsummed-goes meant e r o h = record { ends = drilled meant e r; opened = o; shared = unsummed-shared meant h }
 
 pub summed-cause : (text : Bytes) (result : Result Status Ending) (before now : Option (List ℕ)) (s s' c c' : ℕ) → HandsOver result text before now → WireCause (so_far result) s s' c c'

@@ -7,6 +7,7 @@ use Rattle.conf_rules.specs.Outcome.{Ends, Writes, Opens, Drills, Joins}
 use Rattle.conf_rules.specs.Texts.{Bytes}
 use Rattle.conf_rules.specs.Told.{Told}
 use Rattle.mux_engine.specs.Sides.{Resting}
+use Rattle.mux_outside.specs.HouseCalls.{HouseCall}
 use Rattle.mux_outside.specs.declared.house.HouseReply.{HouseReply}
 use Rattle.mux_outside.specs.declared.house_mark.HouseMark.{HouseMark}
 use Rattle.mux_outside.specs.declared.mark.Mark.{Mark}
@@ -132,15 +133,15 @@ unopened (Master transport os ls) status before now h = inr h
 pub opened_after : (k : Known) (status : Status) (ending : Ending) (b n : Option (List ℕ)) (f f' : ℕ) (before now : Option (List Opening)) → Reports status ending b n f f' → OpensOnce k (status_of ending) before now → OpensOnce k status before now
 opened_after k status ending b n f f' before now r h = carried (λ s. OpensOnce k s before now) status ending (reported status ending b n f f' r) (unopened k (status_of ending) before now h) h
 
-module _ (May : HouseReply → Type 0) (Rest : Resting) (policy : Policy) (pid turns : ℕ) (before now : Option (List HouseMark)) (start told : Option (List Mark)) (refused : Option ℕ) (b n : Option (List ℕ)) (f f' : ℕ) where
+module _ (May : HouseReply → Type 0) (Rest : Resting) (stands stands' : List HouseCall → Type 0) (policy : Policy) (pid turns : ℕ) (before now : Option (List HouseMark)) (start told : Option (List Mark)) (refused : Option ℕ) (b n : Option (List ℕ)) (f f' : ℕ) where
   abbrev Served : Status → Type 0
-  Served status = Serves May Rest policy pid turns before now start told refused status b n f f'
+  Served status = Serves May Rest stands stands' policy pid turns before now start told refused status b n f f'
 
   abbrev Shared : Result Status MeantEnding → Type 0
-  Shared result = Shares May Rest policy pid turns before now start told refused result
+  Shared result = Shares May Rest stands stands' policy pid turns before now start told refused result
 
   -- an end with the line that was handed over
-  with-line : (meant : MeantEnding) (status : Status) → IsShared May Rest policy pid turns before now start told refused (Err meant) → Reports status (shown meant) b n f f' → IsServed May Rest policy pid turns before now start told refused status b n f f'
+  with-line : (meant : MeantEnding) (status : Status) → IsShared May Rest stands stands' policy pid turns before now start told refused (Err meant) → Reports status (shown meant) b n f f' → IsServed May Rest stands stands' policy pid turns before now start told refused status b n f f'
   with-line meant status h r = record { answer = h.answer; run = h.run; line = subst (λ x. TellsEnd x status b n f f') h.is_told r }
 
   memory-serves : (meant : MeantEnding) → Shared (Err meant) → Reports statuses.Memory (shown meant) b n f f' → Served statuses.Memory
@@ -150,7 +151,7 @@ module _ (May : HouseReply → Type 0) (Rest : Resting) (policy : Policy) (pid t
   memory-serves meant h r = inr (with-line meant statuses.Memory h r)
 
   -- no run ends as words and configurations do
-  none-ends : (meant : MeantEnding) → ends_sharing meant ≡ false → IsShared May Rest policy pid turns before now start told refused (Err meant) → ⊥
+  none-ends : (meant : MeantEnding) → ends_sharing meant ≡ false → IsShared May Rest stands stands' policy pid turns before now start told refused (Err meant) → ⊥
   none-ends meant e h = by_end h.answer h.is_told
     where
       by_end : (x : Rattle.mux_history.specs.declared.ended.Ended.Ended) → Err meant ≡ told_as x → ⊥
@@ -205,15 +206,15 @@ done-is status (answers.StartRefused index) t = absurd cc
 done-is status answers.Spent t = absurd cc
 done-is status answers.OutOfMemory t = absurd cc
 
-shared-well-now : (May : HouseReply → Type 0) (Rest : Resting) (policy : Policy) (pid turns : ℕ) (before now : Option (List HouseMark)) (start told : Option (List Mark)) (refused : Option ℕ) (b : Option (List ℕ)) (f : ℕ) (status : Status) → IsShared May Rest policy pid turns before now start told refused (Ok status) → Serves May Rest policy pid turns before now start told refused status b b f f
-shared-well-now May Rest policy pid turns before now start told refused b f status h =
+shared-well-now : (May : HouseReply → Type 0) (Rest : Resting) (stands stands' : List HouseCall → Type 0) (policy : Policy) (pid turns : ℕ) (before now : Option (List HouseMark)) (start told : Option (List Mark)) (refused : Option ℕ) (b : Option (List ℕ)) (f : ℕ) (status : Status) → IsShared May Rest stands stands' policy pid turns before now start told refused (Ok status) → Serves May Rest stands stands' policy pid turns before now start told refused status b b f f
+shared-well-now May Rest stands stands' policy pid turns before now start told refused b f status h =
     let e : status ≡ statuses.Done = done-is status h.answer h.is_told in
-    subst (λ s. Serves May Rest policy pid turns before now start told refused s b b f f) (sym e)
+    subst (λ s. Serves May Rest stands stands' policy pid turns before now start told refused s b b f f) (sym e)
     (record { answer = h.answer; run = h.run; line = subst (λ x. TellsEnd x statuses.Done b b f f) (ap (λ (s : Status). Ok s) (sym e) ∙ h.is_told) (refl, refl) })
 
-pub shared_well : (May : HouseReply → Type 0) (Rest : Resting) (policy : Policy) (pid turns : ℕ) (before now : Option (List HouseMark)) (start told : Option (List Mark)) (refused : Option ℕ) (b : Option (List ℕ)) (f : ℕ) (shares : Bool) (status : Status) → OnTrue shares (IsShared May Rest policy pid turns before now start told refused (Ok status)) → OnTrue shares (Serves May Rest policy pid turns before now start told refused status b b f f)
-shared_well May Rest policy pid turns before now start told refused b f false status h = tt
-shared_well May Rest policy pid turns before now start told refused b f true status h = shared-well-now May Rest policy pid turns before now start told refused b f status h
+pub shared_well : (May : HouseReply → Type 0) (Rest : Resting) (stands stands' : List HouseCall → Type 0) (policy : Policy) (pid turns : ℕ) (before now : Option (List HouseMark)) (start told : Option (List Mark)) (refused : Option ℕ) (b : Option (List ℕ)) (f : ℕ) (shares : Bool) (status : Status) → OnTrue shares (IsShared May Rest stands stands' policy pid turns before now start told refused (Ok status)) → OnTrue shares (Serves May Rest stands stands' policy pid turns before now start told refused status b b f f)
+shared_well May Rest stands stands' policy pid turns before now start told refused b f false status h = tt
+shared_well May Rest stands stands' policy pid turns before now start told refused b f true status h = shared-well-now May Rest stands stands' policy pid turns before now start told refused b f status h
 
 pub calls_after : (turns : ℕ) (status : Status) (ending : Ending) (b n : Option (List ℕ)) (f f' : ℕ) (old calls : Calls) → Reports status ending b n f f' → CallsEnd turns (status_of ending) old calls → CallsEnd turns status old calls
 calls_after turns status ending b n f f' old calls r h = carried (λ s. CallsEnd turns s old calls) status ending (reported status ending b n f f' r) (record { few = h.few; wants = h.wants; starved = λ ne. refl; late = h.late }) h

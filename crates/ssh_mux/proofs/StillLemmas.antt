@@ -9,6 +9,7 @@ use Rattle.conf_rules.specs.Diagnostics.{Ending}
 use Rattle.conf_rules.specs.Outcome.{Ends, Writes, Opens, Drills, Joins}
 use Rattle.mux_engine.specs.Sides.{Resting}
 use Rattle.mux_history.specs.Policy.{Policy}
+use Rattle.mux_outside.specs.HouseCalls.{HouseCall}
 use Rattle.mux_outside.specs.Seen.{Calls}
 use Rattle.mux_outside.specs.declared.house.HouseReply.{HouseReply}
 use Rattle.mux_outside.specs.declared.house_mark.HouseMark.{HouseMark}
@@ -211,12 +212,12 @@ only-memory endings.StartRefused h = absurd cc
 only-memory endings.MasterRefused h = absurd cc
 only-memory endings.MasterBroke h = absurd cc
 
-pub still-shared : (k : Known) (meant : MeantEnding) (May : HouseReply → Type 0) (Rest : Resting) (policy : Policy) (pid turns : ℕ) (told : Option (List HouseMark)) (start : Option (List Mark)) (refused : Option ℕ) → IsRefused k (shown meant) → OnTrue (may_share k (status_of (shown meant))) (Shares May Rest policy pid turns told told start start refused (Err meant))
-still-shared k meant May Rest policy pid turns told start refused h = on (unshared k (shown meant) h) where
-  on : Unshared k (shown meant) → OnTrue (may_share k (status_of (shown meant))) (Shares May Rest policy pid turns told told start start refused (Err meant))
-  on (inl e) = not_true (may_share k (status_of (shown meant))) (Shares May Rest policy pid turns told told start start refused (Err meant)) e
-  on (inr e) = on_true (may_share k (status_of (shown meant))) (Shares May Rest policy pid turns told told start start refused (Err meant))
-      (subst (λ m. Shares May Rest policy pid turns told told start start refused (Err m)) (sym (only-memory meant e)) (inl (record { same_wire = refl; same_house = refl })))
+pub still-shared : (k : Known) (meant : MeantEnding) (May : HouseReply → Type 0) (Rest : Resting) (stands stands' : List HouseCall → Type 0) (policy : Policy) (pid turns : ℕ) (told : Option (List HouseMark)) (start : Option (List Mark)) (refused : Option ℕ) → IsRefused k (shown meant) → OnTrue (may_share k (status_of (shown meant))) (Shares May Rest stands stands' policy pid turns told told start start refused (Err meant))
+still-shared k meant May Rest stands stands' policy pid turns told start refused h = on (unshared k (shown meant) h) where
+  on : Unshared k (shown meant) → OnTrue (may_share k (status_of (shown meant))) (Shares May Rest stands stands' policy pid turns told told start start refused (Err meant))
+  on (inl e) = not_true (may_share k (status_of (shown meant))) (Shares May Rest stands stands' policy pid turns told told start start refused (Err meant)) e
+  on (inr e) = on_true (may_share k (status_of (shown meant))) (Shares May Rest stands stands' policy pid turns told told start start refused (Err meant))
+      (subst (λ m. Shares May Rest stands stands' policy pid turns told told start start refused (Err m)) (sym (only-memory meant e)) (inl (record { same_wire = refl; same_house = refl })))
 
 -- there may be no memory for anything
 pub starved-due : (k : Known) → IsRefused k ends.NoMemory

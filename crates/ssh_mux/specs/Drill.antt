@@ -7,6 +7,7 @@ use Rattle.mux_engine.specs.Run.{IsRun}
 use Rattle.mux_engine.specs.Sides.{Resting, RestsOf}
 use Rattle.mux_history.specs.declared.ended.Ended.{Ended}
 use Rattle.mux_history.specs.Policy.{any_policy}
+use Rattle.mux_outside.specs.HouseCalls.{HouseCall}
 use Rattle.mux_outside.specs.declared.file_error.FileError.TheVariants.{Failed}
 use Rattle.mux_outside.specs.declared.house.HouseReply.{HouseReply}
 use Rattle.mux_outside.specs.declared.house.HouseReply.TheVariants.{Refused}
@@ -56,7 +57,12 @@ RefusesAll reply = reply ≡ Refused
 -- it has no house, so none is at rest
 abbrev pub NoneRests : Resting
 NoneRests = RestsOf {T = NoHouse} (λ house. None)
-    (λ house. record { says = true; orders = true; answers = true }) false
+    (λ house. record { says = true; orders = true; answers = true }) (λ house calls. Unit {0})
+    false (record {})
+
+-- it stands for any calls
+abbrev pub AnyCalls : List HouseCall → Type 0
+AnyCalls calls = Unit {0}
 
 -- What was written of the end of a run. Where it ended well: the summary, without a word; a prefix
 -- of it where it could not be written; or nothing but the line of want of memory. Else the line of
@@ -79,7 +85,8 @@ pub record IsDrilled (turns : ℕ) (start told : Option (List Mark)) (tally : Ta
     (out out' err err' : Option (List ℕ)) (faults faults' : ℕ) : Type 0 where
   pub answer : Ended
   pub run :
-      IsRun RefusesAll NoneRests.rests false any_policy 0 turns None None start told None answer
+      IsRun RefusesAll NoneRests.rests AnyCalls AnyCalls false any_policy 0 turns None None start
+      told None answer
   pub ends : DrillTells (told_as answer) tally status out out' err err' faults faults'
 
 -- nothing is served, and no summary is written
@@ -130,7 +137,8 @@ pub record RunsDrill (turns : ℕ) (start told : Option (List Mark)) (tally : Ta
     (result : Result Status MeantEnding) (out out' : Option (List ℕ)) : Type 0 where
   pub answer : Ended
   pub run :
-      IsRun RefusesAll NoneRests.rests false any_policy 0 turns None None start told None answer
+      IsRun RefusesAll NoneRests.rests AnyCalls AnyCalls false any_policy 0 turns None None start
+      told None answer
   pub ends : SumsUp (told_as answer) tally result out out'
 
 -- where the wire wasn't opened nothing is served

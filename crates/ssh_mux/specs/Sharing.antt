@@ -10,6 +10,7 @@ use Rattle.mux_history.specs.declared.ended.Ended.{Ended}
 use Rattle.mux_history.specs.declared.ended.Ended.TheVariants as ends
 use Rattle.mux_history.specs.Policy.{Entries, Policy}
 use Rattle.mux_outside.specs.Counts.{Rose, counted}
+use Rattle.mux_outside.specs.HouseCalls.{HouseCall}
 use Rattle.mux_outside.specs.declared.house.HouseReply.{HouseReply}
 use Rattle.mux_outside.specs.declared.house_mark.HouseMark.{HouseMark}
 use Rattle.mux_outside.specs.declared.mark.Mark.{Mark}
@@ -97,34 +98,43 @@ pub record IsUnserved (before now : Option (List HouseMark)) (start told : Optio
   pub same_house : now ≡ before
 
 -- a run that keeps its promises, and its very end; `Rest` is whether a house is present, and what
--- is so of it at rest; `before` and `now` are what the house tells, `start` and `told` what the wire
--- does; `refused` is the forwarding of the start that was refused, if none may be
-pub record IsShared (May : HouseReply → Type 0) (Rest : Resting) (policy : Policy)
-    (pid turns : ℕ) (before now : Option (List HouseMark)) (start told : Option (List Mark))
+-- is so of it at rest; `stands` and `stands'` are the calls that it stands for before and behind
+-- the run; `before` and `now` are what the house tells, `start` and `told` what the wire does;
+-- `refused` is the forwarding of the start that was refused, if none may be
+pub record IsShared (May : HouseReply → Type 0) (Rest : Resting)
+    (stands stands' : List HouseCall → Type 0) (policy : Policy) (pid turns : ℕ)
+    (before now : Option (List HouseMark)) (start told : Option (List Mark))
     (refused : Option ℕ) (result : Result Status MeantEnding) : Type 0 where
   pub answer : Ended
   pub is_told : result ≡ told_as answer
-  pub run : IsRun May Rest.rests Rest.present policy pid turns before now start told refused answer
+  pub run : IsRun May Rest.rests stands stands' Rest.present policy pid turns before now start told
+      refused answer
 
 -- where the sockets weren't opened nothing is served
-abbrev pub Shares : (HouseReply → Type 0) → Resting → Policy → ℕ → ℕ
+abbrev pub Shares : (HouseReply → Type 0) → Resting → (List HouseCall → Type 0)
+    → (List HouseCall → Type 0) → Policy → ℕ → ℕ
     → Option (List HouseMark) → Option (List HouseMark) → Option (List Mark) → Option (List Mark)
     → Option ℕ → Result Status MeantEnding → Type 0
-Shares May Rest policy pid turns before now start told refused (Err endings.NotOpened) =
+Shares May Rest stands stands' policy pid turns before now start told refused
+    (Err endings.NotOpened) =
     IsUnserved before now start told
-Shares May Rest policy pid turns before now start told refused (Err endings.NoMemory) =
+Shares May Rest stands stands' policy pid turns before now start told refused
+    (Err endings.NoMemory) =
     IsUnserved before now start told
-    ⊎ IsShared May Rest policy pid turns before now start told refused (Err endings.NoMemory)
-Shares May Rest policy pid turns before now start told refused result =
-    IsShared May Rest policy pid turns before now start told refused result
+    ⊎ IsShared May Rest stands stands' policy pid turns before now start told refused
+    (Err endings.NoMemory)
+Shares May Rest stands stands' policy pid turns before now start told refused result =
+    IsShared May Rest stands stands' policy pid turns before now start told refused result
 
 -- the same of what comes of words: only a master serves
-abbrev pub SharesFor : (HouseReply → Type 0) → Resting → Known → ℕ → ℕ
+abbrev pub SharesFor : (HouseReply → Type 0) → Resting → (List HouseCall → Type 0)
+    → (List HouseCall → Type 0) → Known → ℕ → ℕ
     → Option (List HouseMark) → Option (List HouseMark) → Option (List Mark) → Option (List Mark)
     → Option ℕ → Result Status MeantEnding → Type 0
-SharesFor May Rest known pid turns before now start told refused result =
+SharesFor May Rest stands stands' known pid turns before now start told refused result =
     OnTrue (may_share known (so_far result))
-    (Shares May Rest (policy_in known) pid turns before now start told refused result)
+    (Shares May Rest stands stands' (policy_in known) pid turns before now start told refused
+    result)
 
 -- the line of an end was handed over, if it has one; there may be no memory for it
 abbrev pub TellsEnd :
@@ -134,35 +144,44 @@ TellsEnd (Err ending) status err err' faults faults' =
     Reports status (shown ending) err err' faults faults'
 
 -- a run that keeps its promises, and the line of its very end
-pub record IsServed (May : HouseReply → Type 0) (Rest : Resting) (policy : Policy)
-    (pid turns : ℕ) (before now : Option (List HouseMark)) (start told : Option (List Mark))
+pub record IsServed (May : HouseReply → Type 0) (Rest : Resting)
+    (stands stands' : List HouseCall → Type 0) (policy : Policy) (pid turns : ℕ)
+    (before now : Option (List HouseMark)) (start told : Option (List Mark))
     (refused : Option ℕ) (status : Status) (err err' : Option (List ℕ)) (faults faults' : ℕ) :
     Type 0 where
   pub answer : Ended
-  pub run : IsRun May Rest.rests Rest.present policy pid turns before now start told refused answer
+  pub run : IsRun May Rest.rests stands stands' Rest.present policy pid turns before now start told
+      refused answer
   pub line : TellsEnd (told_as answer) status err err' faults faults'
 
 -- the same of the program: where its sockets weren't opened nothing is served
-abbrev pub Serves : (HouseReply → Type 0) → Resting → Policy → ℕ → ℕ
+abbrev pub Serves : (HouseReply → Type 0) → Resting → (List HouseCall → Type 0)
+    → (List HouseCall → Type 0) → Policy → ℕ → ℕ
     → Option (List HouseMark) → Option (List HouseMark) → Option (List Mark) → Option (List Mark)
     → Option ℕ → Status → Option (List ℕ) → Option (List ℕ) → ℕ → ℕ → Type 0
-Serves May Rest policy pid turns before now start told refused Open err err' faults faults' =
+Serves May Rest stands stands' policy pid turns before now start told refused Open err err'
+    faults faults' =
     IsUnserved before now start told
-Serves May Rest policy pid turns before now start told refused Memory err err' faults faults' =
+Serves May Rest stands stands' policy pid turns before now start told refused Memory err err'
+    faults faults' =
     IsUnserved before now start told
-    ⊎ IsServed May Rest policy pid turns before now start told refused Memory err err'
+    ⊎ IsServed May Rest stands stands' policy pid turns before now start told refused Memory err
+    err' faults faults'
+Serves May Rest stands stands' policy pid turns before now start told refused status err err'
+    faults faults' =
+    IsServed May Rest stands stands' policy pid turns before now start told refused status err err'
     faults faults'
-Serves May Rest policy pid turns before now start told refused status err err' faults faults' =
-    IsServed May Rest policy pid turns before now start told refused status err err' faults faults'
 
 -- the same of what comes of words
-abbrev pub ServesFor : (HouseReply → Type 0) → Resting → Known → ℕ → ℕ
+abbrev pub ServesFor : (HouseReply → Type 0) → Resting → (List HouseCall → Type 0)
+    → (List HouseCall → Type 0) → Known → ℕ → ℕ
     → Option (List HouseMark) → Option (List HouseMark) → Option (List Mark) → Option (List Mark)
     → Option ℕ → Status → Option (List ℕ) → Option (List ℕ) → ℕ → ℕ → Type 0
-ServesFor May Rest known pid turns before now start told refused status err err' faults faults' =
+ServesFor May Rest stands stands' known pid turns before now start told refused status err err'
+    faults faults' =
     OnTrue (may_share known status)
-    (Serves May Rest (policy_in known) pid turns before now start told refused status err err'
-    faults faults')
+    (Serves May Rest stands stands' (policy_in known) pid turns before now start told refused
+    status err err' faults faults')
 
 -- the process id that clients are told: 0 where none is known
 abbrev pub pid_of : Option ℕ → ℕ

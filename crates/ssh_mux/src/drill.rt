@@ -4,7 +4,7 @@ ghost use Rattle.mux_history.specs.Policy.{any_policy};
 ghost use Rattle.ssh_mux.specs.Answers.{may_write, so_far};
 ghost use Rattle.ssh_mux.specs.Causes.{OutCause};
 ghost use Rattle.ssh_mux.specs.Drill.{count_line, drill_text, drill_transport};
-ghost use Rattle.ssh_mux.specs.Drill.{DrillGoes, NoneRests, RefusesAll};
+ghost use Rattle.ssh_mux.specs.Drill.{AnyCalls, DrillGoes, NoneRests, RefusesAll};
 ghost use Rattle.ssh_mux.specs.Master.{EndsMaster};
 ghost use Rattle.ssh_mux.specs.Out.{HandsOver};
 ghost use Rattle.ssh_mux.specs.Sharing.{CallsEnd, IdleCause, OpensAt, Shares};
@@ -58,7 +58,7 @@ fn serve_drill<W: Wire>(
     ensures ends { EndsMaster result }
     ensures opened { OpensAt [] (drill_transport words.now) (so_far result)
         (W.openings wire.old) (W.openings wire.new) }
-    ensures served { Shares RefusesAll NoneRests any_policy 0 turns None None
+    ensures served { Shares RefusesAll NoneRests AnyCalls AnyCalls any_policy 0 turns None None
         (W.seen wire.old).told (W.seen wire.new).told None result }
     ensures start { StartCause (so_far result) None }
     ensures joinings { W.joinings wire.new ≡ W.joinings wire.old }

@@ -56,9 +56,11 @@ pub fn share<W: Wire, F: Files, R: Runner, H: House>(
     ensures served { OnTrue (may_share
         (of_command (machine (F.told files.old) (R.told runner.old) facts.now)
         (commands.Master asked.now transport.now opens.now listens.now)) (so_far result))
-        (Shares H.may (RestsOf H.told H.quiet (H.known house.old).present)
-        (the_policy_of opens.now listens.now) (pid_of facts.now.pid) turns
-        (H.told house.old) (H.told house.new) (W.seen wire.old).told (W.seen wire.new).told
+        (Shares H.may
+        (RestsOf H.told H.quiet H.stands (H.known house.old).present house.old)
+        (H.stands house.old) (H.stands house.new) (the_policy_of opens.now listens.now)
+        (pid_of facts.now.pid) turns (H.told house.old) (H.told house.new)
+        (W.seen wire.old).told (W.seen wire.new).told
         (refused_if (H.known house.old).present (H.must house.new) (H.refused house.new)) result) }
     ensures start { OnTrue (may_share
         (of_command (machine (F.told files.old) (R.told runner.old) facts.now)
@@ -180,8 +182,10 @@ pub fn open_and_serve<W: Wire, H: House>(
     ensures opened { OpensAt control.now transport.now (so_far result)
         (W.openings wire.old) (W.openings wire.new) }
     ensures joinings { W.joinings wire.new ≡ W.joinings wire.old }
-    ensures served { Shares H.may (RestsOf H.told H.quiet (H.known house.old).present) policy pid
-        turns (H.told house.old) (H.told house.new) (W.seen wire.old).told (W.seen wire.new).told
+    ensures served { Shares H.may
+        (RestsOf H.told H.quiet H.stands (H.known house.old).present house.old)
+        (H.stands house.old) (H.stands house.new) policy pid turns (H.told house.old)
+        (H.told house.new) (W.seen wire.old).told (W.seen wire.new).told
         (refused_if (H.known house.old).present (H.must house.new) (H.refused house.new)) result }
     ensures start { StartCause (so_far result)
         (refused_if (H.known house.old).present (H.must house.new) (H.refused house.new)) }

@@ -1,5 +1,5 @@
 use Rattle.std.proofs.Common.{◌∙◌, ap, take}
-use Rattle.mux_engine.proofs.Heeding.{heeded-some, heeds-so, noted-next}
+use Rattle.mux_engine.proofs.Heeding.{hands-so, heeded-some, heeds-so, noted-next}
 use Rattle.mux_engine.proofs.Noted.{seen-with}
 use Rattle.mux_engine.proofs.asking.heed.Goals as goal
 
@@ -19,3 +19,6 @@ loop-mark-preserved g c = record {
   openings = c.note.ensures.openings ∙ c.loop-mark.invariant.openings;
   joinings = c.note.ensures.joinings ∙ c.loop-mark.invariant.joinings;
 }
+
+pub returns-clause-handed : goal.returns-clause-handed
+returns-clause-handed g c = hands-so _ _ c.clear.new.self c.event.new.asks c.clear.ensures c.in_ok-went.ensures.handed

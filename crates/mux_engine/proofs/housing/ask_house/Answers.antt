@@ -1,12 +1,15 @@
 use Rattle.std.proofs.Common.{◌≡◌, ◌+◌, ◌∙◌, ◌∷◌, sym, subst, ℕ, Bool, true, cond, List, arith}
+use Rattle.mux_outside.specs.HouseCalls.{HouseCall}
 use Rattle.mux_outside.specs.Streams.{without}
 use Rattle.mux_history.specs.declared.limits.TheConstants.{HOUSE}
 use Rattle.mux_machine.specs.Events.{here}
+use Rattle.mux_engine.specs.Called.{Handed}
 use Rattle.mux_engine.specs.Rests.{HasNoMore}
 use Rattle.mux_engine.specs.Serving.{Serving}
 use Rattle.mux_engine.specs.Sides.{Housed, RestsOf, SameHouse, noted}
 use Rattle.mux_engine.specs.declared.room.Lists.{Lists}
 use Rattle.mux_engine.proofs.Arms.{on-err, on-ok}
+use Rattle.mux_engine.proofs.Called.{handed-none}
 use Rattle.mux_engine.proofs.Lists.{true-false}
 use Rattle.mux_engine.proofs.Runs.{promised-more}
 use Rattle.mux_engine.proofs.Spoken.{err-serves, ok-serves}
@@ -16,7 +19,7 @@ use Rattle.mux_engine.proofs.housing.ask_house.Goals as goal
 -- ---- no house
 
 pub returns-then-not-present-clause-serving : goal.returns-then-not-present-clause-serving
-returns-then-not-present-clause-serving g c before policy pid start given v = none-handed v (sym c.present.ensures.present ∙ c.if-not-present.true)
+returns-then-not-present-clause-serving g c first calls before policy pid start given hands v = handed-none hands (none-handed v (sym c.present.ensures.present ∙ c.if-not-present.true))
 
 pub returns-then-not-present-clause-ready : goal.returns-then-not-present-clause-ready
 returns-then-not-present-clause-ready g c = λ e. none-more _ _ _ (g.W.Wire.seen c.args.wire.now) _ _ _ (sym c.present.ensures.present ∙ c.if-not-present.true) c.requires.alone c.requires.housed
@@ -24,8 +27,8 @@ returns-then-not-present-clause-ready g c = λ e. none-more _ _ _ (g.W.Wire.seen
 -- ---- a house
 
 pub returns-in_err-reply_all-clause-serving : goal.returns-in_err-reply_all-clause-serving
-returns-in_err-reply_all-clause-serving g c before policy pid start given v = on-err c.from_residual.result _ _ c.from_residual.ensures.0
-    (promised-more (given + 0) (given + 1) (omega arith) (err-serves c.reply_all.result _ _ c.in_err-reply_all.was (c.reply_all.ensures.serving before policy pid start given v)))
+returns-in_err-reply_all-clause-serving g c first calls before policy pid start given hands v = on-err c.from_residual.result _ _ c.from_residual.ensures.0
+    (promised-more (given + 0) (given + 1) (omega arith) (err-serves c.reply_all.result _ _ c.in_err-reply_all.was (c.reply_all.ensures.serving first calls before policy pid start given hands v)))
 
 pub next_order-requires : goal.next_order-requires
 next_order-requires g c =
@@ -36,14 +39,15 @@ next_order-requires g c =
     record { housed = subst (λ (l : List ℕ). Housed (H.known c.reply_all.new.house) (W.seen c.reply_all.new.wire) l) (sym c.reply_all.ensures.own) (housed-still _ _ _ _ c.args.lists.now.own same c.reply_all.ensures.places c.requires.housed); present = same.present ∙ here_is }
 
 pub returns-clause-serving : goal.returns-clause-serving
-returns-clause-serving g c before policy pid start given v =
+returns-clause-serving g c first calls before policy pid start given hands v =
     let H = g.H.House in
     let W = g.W.Wire in
     let here_is : (H.known c.args.house.now).present ≡ true = sym c.present.ensures.present ∙ c.if-not-present.false in
     let same : SameHouse (H.known c.args.house.now) (H.known c.reply_all.new.house) = c.in_ok-reply_all.ensures.known in
-    (runs-same c.next_order.result H.may H.told H.quiet (noted (H.told c.reply_all.new.house) (H.known c.reply_all.new.house)) (noted (H.told c.next_order.new.house) (H.known c.next_order.new.house)) (W.seen c.reply_all.new.wire) (W.seen c.next_order.new.wire) c.reply_all.new.lists.held c.next_order.new.lists.held c.reply_all.new.lists.failed c.next_order.new.lists.failed 1 (λ (more : Bool). cond more 1 0) (0 ∷ without HOUSE (here c.reply_all.new.engine)) (λ (more : Bool). 0 ∷ without HOUSE (here c.reply_all.new.engine)) c.reply_all.new.engine c.reply_all.new.engine (H.known c.args.house.now).present (H.known c.reply_all.new.house).present same.present
-    (c.next_order.ensures.serving (0 ∷ without HOUSE (here c.reply_all.new.engine)) c.reply_all.new.engine)) before policy pid start given
-    (a-turn (ok-serves c.reply_all.result _ _ c.in_ok-reply_all.was (c.reply_all.ensures.serving before policy pid start given v)))
+    let h = ok-serves c.reply_all.result _ _ c.in_ok-reply_all.was (c.reply_all.ensures.serving first calls before policy pid start given hands v) in
+    (runs-same c.next_order.result H.stands c.reply_all.new.house c.next_order.new.house H.may H.told H.quiet (noted (H.told c.reply_all.new.house) (H.known c.reply_all.new.house)) (noted (H.told c.next_order.new.house) (H.known c.next_order.new.house)) (W.seen c.reply_all.new.wire) (W.seen c.next_order.new.wire) c.reply_all.new.lists.held c.next_order.new.lists.held c.reply_all.new.lists.failed c.next_order.new.lists.failed 1 (λ (more : Bool). cond more 1 0) (0 ∷ without HOUSE (here c.reply_all.new.engine)) (λ (more : Bool). 0 ∷ without HOUSE (here c.reply_all.new.engine)) c.reply_all.new.engine c.reply_all.new.engine (H.known c.args.house.now).present (H.known c.reply_all.new.house).present same.present
+    (c.next_order.ensures.serving (0 ∷ without HOUSE (here c.reply_all.new.engine)) c.reply_all.new.engine)) first h.all before policy pid start given h.hands
+    (a-turn h.so)
 
 pub returns-clause-held_is : goal.returns-clause-held_is
 returns-clause-held_is g c =
@@ -52,9 +56,10 @@ returns-clause-held_is g c =
     let here_is : (H.known c.args.house.now).present ≡ true = sym c.present.ensures.present ∙ c.if-not-present.false in
     let same : SameHouse (H.known c.args.house.now) (H.known c.reply_all.new.house) = c.in_ok-reply_all.ensures.known in
     let s = c.requires.served in
-    match-ok c.next_order.result (λ (more : Bool). Serving H.may (RestsOf H.told H.quiet (H.known c.args.house.now).present) s.before (noted (H.told c.next_order.new.house) (H.known c.next_order.new.house)) s.policy s.pid s.start (W.seen c.next_order.new.wire) c.next_order.new.lists.held c.next_order.new.lists.failed (s.given + cond more 1 0) (0 ∷ without HOUSE (here c.reply_all.new.engine)) c.reply_all.new.engine) _ _ (λ (more : Bool) x. x.held_is) ((runs-same c.next_order.result H.may H.told H.quiet (noted (H.told c.reply_all.new.house) (H.known c.reply_all.new.house)) (noted (H.told c.next_order.new.house) (H.known c.next_order.new.house)) (W.seen c.reply_all.new.wire) (W.seen c.next_order.new.wire) c.reply_all.new.lists.held c.next_order.new.lists.held c.reply_all.new.lists.failed c.next_order.new.lists.failed 1 (λ (more : Bool). cond more 1 0) (0 ∷ without HOUSE (here c.reply_all.new.engine)) (λ (more : Bool). 0 ∷ without HOUSE (here c.reply_all.new.engine)) c.reply_all.new.engine c.reply_all.new.engine (H.known c.args.house.now).present (H.known c.reply_all.new.house).present same.present
-    (c.next_order.ensures.serving (0 ∷ without HOUSE (here c.reply_all.new.engine)) c.reply_all.new.engine)) s.before s.policy s.pid s.start s.given
-    (a-turn (ok-serves c.reply_all.result _ _ c.in_ok-reply_all.was (c.reply_all.ensures.serving s.before s.policy s.pid s.start s.given s.serving))))
+    let h = ok-serves c.reply_all.result _ _ c.in_ok-reply_all.was (c.reply_all.ensures.serving s.first s.calls s.before s.policy s.pid s.start s.given s.hands s.serving) in
+    match-ok c.next_order.result (λ (more : Bool). Handed (H.stands s.first) (H.stands c.next_order.new.house) (λ (all : List HouseCall). Serving H.may (RestsOf H.told H.quiet H.stands (H.known c.args.house.now).present s.first) s.before (noted (H.told c.next_order.new.house) (H.known c.next_order.new.house) all) s.policy s.pid s.start (W.seen c.next_order.new.wire) c.next_order.new.lists.held c.next_order.new.lists.failed (s.given + cond more 1 0) (0 ∷ without HOUSE (here c.reply_all.new.engine)) c.reply_all.new.engine)) _ _ (λ (more : Bool) x. x.so.held_is) ((runs-same c.next_order.result H.stands c.reply_all.new.house c.next_order.new.house H.may H.told H.quiet (noted (H.told c.reply_all.new.house) (H.known c.reply_all.new.house)) (noted (H.told c.next_order.new.house) (H.known c.next_order.new.house)) (W.seen c.reply_all.new.wire) (W.seen c.next_order.new.wire) c.reply_all.new.lists.held c.next_order.new.lists.held c.reply_all.new.lists.failed c.next_order.new.lists.failed 1 (λ (more : Bool). cond more 1 0) (0 ∷ without HOUSE (here c.reply_all.new.engine)) (λ (more : Bool). 0 ∷ without HOUSE (here c.reply_all.new.engine)) c.reply_all.new.engine c.reply_all.new.engine (H.known c.args.house.now).present (H.known c.reply_all.new.house).present same.present
+    (c.next_order.ensures.serving (0 ∷ without HOUSE (here c.reply_all.new.engine)) c.reply_all.new.engine)) s.first h.all s.before s.policy s.pid s.start s.given h.hands
+    (a-turn h.so))
 
 pub returns-clause-alone : goal.returns-clause-alone
 returns-clause-alone g c =

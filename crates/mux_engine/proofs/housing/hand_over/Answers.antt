@@ -1,4 +1,5 @@
-use Rattle.std.proofs.Common.{◌≤◌, ◌+◌, [], ◌∷◌, sym, ap, refl, subst, ℕ, List, length, le_refl, arith}
+use Rattle.std.proofs.Common.{◌≤◌, ◌+◌, [], ◌∷◌, ◌++◌, sym, ap, refl, subst, ℕ, List, length, le_refl, arith}
+use Rattle.mux_outside.specs.HouseCalls.{Hears}
 use Rattle.mux_outside.specs.Seen.{Seen}
 use Rattle.mux_outside.specs.Streams.{without}
 use Rattle.mux_outside.specs.declared.house_mark.HouseMark.TheVariants.{HouseTook}
@@ -7,29 +8,31 @@ use Rattle.mux_machine.specs.Events.{here}
 use Rattle.mux_engine.specs.Serving.{Serving}
 use Rattle.mux_engine.specs.Sides.{RestsOf, noted}
 use Rattle.mux_engine.proofs.Arms.{empty-is, on-err, some-bytes}
+use Rattle.mux_engine.proofs.Called.{handed-more, handed-none}
 use Rattle.mux_engine.proofs.Cuts.{cut-here}
 use Rattle.mux_engine.proofs.HouseCalls.{handed, no-turns}
 use Rattle.mux_engine.proofs.HouseTakes.{house-idle}
 use Rattle.mux_engine.proofs.housing.hand_over.Goals as goal
 
 pub returns-then-is_empty-clause-serving : goal.returns-then-is_empty-clause-serving
-returns-then-is_empty-clause-serving g c held failed before policy pid start given v =
-    no-turns (house-idle v c.queue_of-bytes.result.now (c.queue_of-bytes.ensures.waits v.picked v.replies v.journal v.closed v.stands) (empty-is c.queue_of-bytes.result.now (sym c.if-is_empty.ensures)))
+returns-then-is_empty-clause-serving g c held failed first calls before policy pid start given hands v =
+    handed-none hands (no-turns (house-idle v c.queue_of-bytes.result.now (c.queue_of-bytes.ensures.waits v.picked v.replies v.journal v.closed v.stands) (empty-is c.queue_of-bytes.result.now (sym c.if-is_empty.ensures))))
 
 pub returns-in_err-takes-clause-serving : goal.returns-in_err-takes-clause-serving
-returns-in_err-takes-clause-serving g c held failed before policy pid start given v = on-err c.from_residual.result _ _ c.from_residual.ensures.0
+returns-in_err-takes-clause-serving g c held failed first calls before policy pid start given hands v = on-err c.from_residual.result _ _ c.from_residual.ensures.0
     (cut-here v _ _ _ [] refl c.in_err-takes.ensures.told (omega arith))
 
 pub returns-in_err-note-clause-serving : goal.returns-in_err-note-clause-serving
-returns-in_err-note-clause-serving g c held failed before policy pid start given v = on-err c.from_residual-in_err-note.result _ _ c.from_residual-in_err-note.ensures.0
+returns-in_err-note-clause-serving g c held failed first calls before policy pid start given hands v = on-err c.from_residual-in_err-note.result _ _ c.from_residual-in_err-note.ensures.0
     (cut-here v _ _ _ (HouseTook (length c.queue_of-bytes.result.now) ∷ []) (ap (λ (x : Seen). x.told) c.in_err-note.ensures.seen) c.in_ok-takes.ensures.told (omega arith))
 
 pub took-requires : goal.took-requires
 took-requires g c = subst (λ (b : List ℕ). length c.queue_of-bytes.result.now ≤ length b) c.queue_of-bytes.ensures.exact (le_refl _)
 
 pub returns-clause-serving : goal.returns-clause-serving
-returns-clause-serving g c held failed before policy pid start given v =
+returns-clause-serving g c held failed first calls before policy pid start given hands v =
     let H = g.H.House in
     let bytes : List ℕ = c.queue_of-bytes.result.now in
-    subst (λ (x : Seen). Serving H.may (RestsOf H.told H.quiet (H.known c.args.house.now).present) before (noted (H.told c.takes.new.self) (H.known c.takes.new.self)) policy pid start x held failed (given + 0) (0 ∷ without HOUSE (here c.took.new.self)) c.took.new.self) (sym c.in_ok-note.ensures.seen)
-    (no-turns (handed (H.known c.takes.new.self) v c.took.new.self bytes c.in_ok-takes.ensures.told c.in_ok-takes.ensures.known c.queue_of-bytes.ensures.exact (some-bytes bytes (sym c.if-is_empty.ensures)) c.queue_of-bytes.ensures.waits c.took.ensures.exact (c.took.ensures.stands bytes refl)))
+    handed-more (Hears bytes ∷ []) hands c.in_ok-takes.ensures.stands
+    (subst (λ (x : Seen). Serving H.may (RestsOf H.told H.quiet H.stands (H.known c.args.house.now).present first) before (noted (H.told c.takes.new.self) (H.known c.takes.new.self) (calls ++ Hears bytes ∷ [])) policy pid start x held failed (given + 0) (0 ∷ without HOUSE (here c.took.new.self)) c.took.new.self) (sym c.in_ok-note.ensures.seen)
+    (no-turns (handed (H.known c.takes.new.self) v c.took.new.self bytes c.in_ok-takes.ensures.told c.in_ok-takes.ensures.known c.queue_of-bytes.ensures.exact (some-bytes bytes (sym c.if-is_empty.ensures)) c.queue_of-bytes.ensures.waits c.took.ensures.exact (c.took.ensures.stands bytes refl))))

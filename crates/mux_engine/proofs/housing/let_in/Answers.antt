@@ -12,17 +12,17 @@ use Rattle.mux_engine.proofs.HouseTurns.{cut-let-in}
 use Rattle.mux_engine.proofs.housing.let_in.Goals as goal
 
 pub returns-in_err-note-clause-serving : goal.returns-in_err-note-clause-serving
-returns-in_err-note-clause-serving g c present before now policy pid start held failed given v first there = on-err c.from_residual.result _ _ c.from_residual.ensures.0
+returns-in_err-note-clause-serving g c present first before now policy pid start held failed given v none there = on-err c.from_residual.result _ _ c.from_residual.ensures.0
     (cut-still v _ (ap (λ (x : Seen). x.told) c.in_err-note.ensures.seen))
 
 pub returns-in_err-event-clause-serving : goal.returns-in_err-event-clause-serving
-returns-in_err-event-clause-serving g c present before now policy pid start held failed given v first there = on-err c.from_residual-in_err-event.result _ _ c.from_residual-in_err-event.ensures.0
-    (subst (λ (x : Seen). Promised g.H.House.may (RestsOf g.H.House.told g.H.House.quiet present) before now.told policy pid start x.told given) (sym c.in_ok-note.ensures.seen) (cut-let-in v first there))
+returns-in_err-event-clause-serving g c present first before now policy pid start held failed given v none there = on-err c.from_residual-in_err-event.result _ _ c.from_residual-in_err-event.ensures.0
+    (subst (λ (x : Seen). Promised g.H.House.may (RestsOf g.H.House.told g.H.House.quiet g.H.House.stands present first) before now.told policy pid start x.told given) (sym c.in_ok-note.ensures.seen) (cut-let-in v none there))
 
 pub returns-clause-serving : goal.returns-clause-serving
-returns-clause-serving g c present before now policy pid start held failed given v first there =
-    subst (λ (x : Seen). Serving g.H.House.may (RestsOf g.H.House.told g.H.House.quiet present) before (record now { let_in = true }) policy pid start x held failed given (0 ∷ here c.event.new.self) c.event.new.self) (sym c.in_ok-note.ensures.seen)
-    (let-in v c.event.new.self first there c.requires.on c.requires.refused (c.in_ok-event.ensures.stands (Accepts HOUSE) refl) c.in_ok-event.ensures.keeps)
+returns-clause-serving g c present first before now policy pid start held failed given v none there =
+    subst (λ (x : Seen). Serving g.H.House.may (RestsOf g.H.House.told g.H.House.quiet g.H.House.stands present first) before (record now { let_in = true }) policy pid start x held failed given (0 ∷ here c.event.new.self) c.event.new.self) (sym c.in_ok-note.ensures.seen)
+    (let-in v c.event.new.self none there c.requires.on c.requires.refused (c.in_ok-event.ensures.stands (Accepts HOUSE) refl) c.in_ok-event.ensures.keeps)
 
 pub returns-clause-on : goal.returns-clause-on
-returns-clause-on g c present before now policy pid start held failed given v first = let-in-live v c.event.new.self first c.requires.on (c.in_ok-event.ensures.ends (Accepts HOUSE) refl)
+returns-clause-on g c present first before now policy pid start held failed given v none = let-in-live v c.event.new.self none c.requires.on (c.in_ok-event.ensures.ends (Accepts HOUSE) refl)

@@ -1,35 +1,44 @@
-use Rattle.std.proofs.Common.{◌<◌, ◌+◌, [], ◌∷◌, sym, ap, subst, length, arith}
+use Rattle.std.proofs.Common.{◌<◌, ◌+◌, List, [], ◌∷◌, ◌++◌, sym, ap, subst, length, arith}
 use Rattle.mux_outside.specs.House.{Known}
+use Rattle.mux_outside.specs.HouseCalls.{HouseCall, calls_of}
 use Rattle.mux_outside.specs.Seen.{Seen}
 use Rattle.mux_outside.specs.declared.house_mark.HouseMark.TheVariants.{HouseAnswer}
 use Rattle.mux_machine.specs.Events.{here}
 use Rattle.mux_engine.specs.Serving.{Promised, Serving}
 use Rattle.mux_engine.specs.Sides.{RestsOf, noted}
 use Rattle.mux_engine.proofs.Arms.{on-err}
+use Rattle.mux_engine.proofs.Called.{handed-more}
 use Rattle.mux_engine.proofs.Cuts.{cut-here}
-use Rattle.mux_engine.proofs.HouseCalls.{answered, answered-live, cut-answered, no-turns, no-turns-left}
+use Rattle.mux_engine.proofs.HouseCalls.{answered, answered-live, cut-answered, no-turns, no-turns-left, still-handed}
 use Rattle.mux_engine.proofs.HouseTurns.{reply-fewer}
 use Rattle.mux_engine.proofs.housing.reply.Goals as goal
 
 pub returns-in_err-note-clause-serving : goal.returns-in_err-note-clause-serving
-returns-in_err-note-clause-serving g c held failed before policy pid start given v = on-err c.from_residual.result _ _ c.from_residual.ensures.0
+returns-in_err-note-clause-serving g c held failed first calls before policy pid start given hands v = on-err c.from_residual.result _ _ c.from_residual.ensures.0
     (cut-here v _ _ _ (HouseAnswer c.in-Some.client c.in-Some.id c.in-Some.given ∷ []) (ap (λ (x : Seen). x.told) c.in_err-note.ensures.seen) c.in-Some.ensures.told (omega arith))
 
 pub returns-in_err-event-clause-serving : goal.returns-in_err-event-clause-serving
-returns-in_err-event-clause-serving g c held failed before policy pid start given v =
+returns-in_err-event-clause-serving g c held failed first calls before policy pid start given hands v =
     let H = g.H.House in
     on-err c.from_residual-in_err-event.result _ _ c.from_residual-in_err-event.ensures.0
-    (subst (λ (x : Seen). Promised H.may (RestsOf H.told H.quiet (H.known c.args.house.now).present) before (H.told c.answer.new.self) policy pid start x.told (given + 0)) (sym c.in_ok-note.ensures.seen)
+    (subst (λ (x : Seen). Promised H.may (RestsOf H.told H.quiet H.stands (H.known c.args.house.now).present first) before (H.told c.answer.new.self) policy pid start x.told (given + 0)) (sym c.in_ok-note.ensures.seen)
     (no-turns-left (cut-answered (H.known c.args.house.now) v c.in-Some.client c.in-Some.id c.in-Some.given c.requires.present c.in-Some.ensures.fits c.in-Some.ensures.told)))
 
 pub returns-clause-serving : goal.returns-clause-serving
-returns-clause-serving g c held failed before policy pid start given v =
+returns-clause-serving g c held failed first calls before policy pid start given hands v =
     let H = g.H.House in
-    subst (λ (x : Seen). Serving H.may (RestsOf H.told H.quiet (H.known c.args.house.now).present) before (noted (H.told c.answer.new.self) (H.known c.answer.new.self)) policy pid start x held failed (given + 0) (0 ∷ here c.event.new.self) c.event.new.self) (sym c.in_ok-note.ensures.seen)
-    (no-turns (answered (H.known c.args.house.now) (H.known c.answer.new.self) v c.event.new.self c.in-Some.client c.in-Some.id c.in-Some.given c.requires.present c.requires.on c.in-Some.ensures.fits c.in-Some.ensures.told c.in-Some.ensures.known c.in_ok-event.ensures.stands c.in_ok-event.ensures.keeps))
+    let more : List HouseCall = calls_of (HouseAnswer c.in-Some.client c.in-Some.id c.in-Some.given ∷ []) in
+    handed-more more hands c.in-Some.ensures.stands
+    (subst (λ (x : Seen). Serving H.may (RestsOf H.told H.quiet H.stands (H.known c.args.house.now).present first) before (noted (H.told c.answer.new.self) (H.known c.answer.new.self) (calls ++ more)) policy pid start x held failed (given + 0) (0 ∷ here c.event.new.self) c.event.new.self) (sym c.in_ok-note.ensures.seen)
+    (no-turns (answered (H.known c.args.house.now) (H.known c.answer.new.self) v c.event.new.self c.in-Some.client c.in-Some.id c.in-Some.given c.requires.present c.requires.on c.in-Some.ensures.fits c.in-Some.ensures.told c.in-Some.ensures.known c.in_ok-event.ensures.stands c.in_ok-event.ensures.keeps)))
 
 pub returns-clause-on : goal.returns-clause-on
 returns-clause-on g c held failed todo w = answered-live (g.H.House.known c.args.house.now) w.serving c.event.new.self c.in-Some.client c.in-Some.id c.in-Some.given c.requires.on c.in-Some.ensures.fits c.in_ok-event.ensures.ends
 
 pub returns-clause-fewer : goal.returns-clause-fewer
 returns-clause-fewer g c = λ more. subst (λ (k : Known). length k.asks < length (g.H.House.known c.args.house.now).asks) (sym c.in-Some.ensures.known) (reply-fewer c.in-Some.given c.in-Some.client c.in-Some.id (g.H.House.known c.args.house.now).asks c.in-Some.ensures.fits)
+
+-- ---- no answer
+
+pub returns-in_default-clause-serving : goal.returns-in_default-clause-serving
+returns-in_default-clause-serving g c held failed first calls before policy pid start given hands v = still-handed (g.H.House.known c.answer.new.self) hands c.in_default.ensures.stands c.in_default.ensures.told c.in_default.ensures.known v

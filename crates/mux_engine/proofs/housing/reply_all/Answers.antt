@@ -8,6 +8,7 @@ use Rattle.mux_engine.specs.Owned.{IsOffered}
 use Rattle.mux_engine.specs.Serving.{Promised}
 use Rattle.mux_engine.specs.Sides.{Housed, RestsOf, noted}
 use Rattle.mux_engine.proofs.Arms.{cut-then, on-err, well-none, well-then}
+use Rattle.mux_engine.proofs.Called.{handed-none, handed-so}
 use Rattle.mux_engine.proofs.HouseCalls.{cut-well, house-then, housed-still, no-turns-left, none-given, replied, same-house, same-noted, same-rests, same-rests-left, well-still}
 use Rattle.mux_engine.proofs.Loops.{counts-err}
 use Rattle.mux_engine.proofs.Places.{places-same, places-then}
@@ -15,7 +16,7 @@ use Rattle.mux_engine.proofs.housing.reply_all.Goals as goal
 
 pub loop-wire-init : goal.loop-wire-init
 loop-wire-init g c = record {
-  serving = λ before policy pid start given v. v;
+  serving = λ first calls before policy pid start given hands v. handed-none hands v;
   known = same-house _ _ refl;
   places = places-same _ _ refl;
   held_is = c.requires.held_is;
@@ -48,20 +49,34 @@ reply-requires g c = record {
 
 pub loop-wire-preserved : goal.loop-wire-preserved
 loop-wire-preserved g c = let H = g.H.House in let w = c.requires.served in record {
-  serving = λ before policy pid start given v. none-given (same-rests (RestsOf H.told H.quiet) _ _ (ap (λ (k : Known). k.present) c.in_ok-own_rounds.ensures.known ∙ (ap (λ (k : Known). k.present) c.in_ok-hand_over.ensures.known ∙ c.loop-wire.invariant.known.present)) (replied (0 ∷ here c.reply.new.engine) (0 ∷ without HOUSE (here c.reply.new.engine)) _ true c.if-not-branch.false (c.in_ok-reply.ensures.serving c.own_rounds.new.held c.own_rounds.new.failed before policy pid start given (same-rests (RestsOf H.told H.quiet) _ _ (sym (ap (λ (k : Known). k.present) c.in_ok-own_rounds.ensures.known ∙ (ap (λ (k : Known). k.present) c.in_ok-hand_over.ensures.known ∙ c.loop-wire.invariant.known.present))) (same-noted (H.told c.hand_over.new.house) (H.told c.own_rounds.new.house) (H.known c.hand_over.new.house) (H.known c.own_rounds.new.house) c.own_rounds.ensures.told c.in_ok-own_rounds.ensures.known (c.in_ok-own_rounds.ensures.serving (H.known c.args.house.now).present before (noted (H.told c.hand_over.new.house) (H.known c.hand_over.new.house)) policy pid start given (0 ∷ without HOUSE (here c.hand_over.new.engine)) c.hand_over.new.engine (none-given (same-rests (RestsOf H.told H.quiet) _ _ c.loop-wire.invariant.known.present (c.in_ok-hand_over.ensures.serving c.loop-wire.lists.held c.loop-wire.lists.failed before policy pid start given (same-rests (RestsOf H.told H.quiet) _ _ (sym c.loop-wire.invariant.known.present) (c.loop-wire.invariant.serving before policy pid start given v)))))))))));
+  serving = λ first calls before policy pid start given hands v.
+      let h0 = c.loop-wire.invariant.serving first calls before policy pid start given hands v in
+      let h1 = c.in_ok-hand_over.ensures.serving c.loop-wire.lists.held c.loop-wire.lists.failed first h0.all before policy pid start given h0.hands (same-rests (λ b. RestsOf H.told H.quiet H.stands b first) _ _ (sym c.loop-wire.invariant.known.present) h0.so) in
+      let h2 = c.in_ok-own_rounds.ensures.serving (H.known c.args.house.now).present first before (noted (H.told c.hand_over.new.house) (H.known c.hand_over.new.house) h1.all) policy pid start given (0 ∷ without HOUSE (here c.hand_over.new.engine)) c.hand_over.new.engine refl h1.hands (none-given (same-rests (λ b. RestsOf H.told H.quiet H.stands b first) _ _ c.loop-wire.invariant.known.present h1.so)) in
+      let v2 = same-rests (λ b. RestsOf H.told H.quiet H.stands b first) _ _ (sym (ap (λ (k : Known). k.present) c.in_ok-own_rounds.ensures.known ∙ (ap (λ (k : Known). k.present) c.in_ok-hand_over.ensures.known ∙ c.loop-wire.invariant.known.present))) (same-noted (H.told c.hand_over.new.house) (H.told c.own_rounds.new.house) (H.known c.hand_over.new.house) (H.known c.own_rounds.new.house) c.own_rounds.ensures.told c.in_ok-own_rounds.ensures.known h2.so) in
+      let h3 = c.in_ok-reply.ensures.serving c.own_rounds.new.held c.own_rounds.new.failed first h2.all before policy pid start given h2.hands v2 in
+      handed-so h3 (none-given (same-rests (λ b. RestsOf H.told H.quiet H.stands b first) _ _ (ap (λ (k : Known). k.present) c.in_ok-own_rounds.ensures.known ∙ (ap (λ (k : Known). k.present) c.in_ok-hand_over.ensures.known ∙ c.loop-wire.invariant.known.present)) (replied (0 ∷ here c.reply.new.engine) (0 ∷ without HOUSE (here c.reply.new.engine)) _ true c.if-not-branch.false h3.so)));
   known = house-then _ _ _ (house-then _ _ _ (house-then _ _ _ c.loop-wire.invariant.known (same-house _ _ c.in_ok-hand_over.ensures.known)) (same-house _ _ c.in_ok-own_rounds.ensures.known)) c.reply.ensures.known;
   places = (places-then _ _ _ (places-then _ _ _ (places-then _ _ _ c.loop-wire.invariant.places c.hand_over.ensures.places) c.own_rounds.ensures.places) c.reply.ensures.places);
   held_is = c.in_ok-own_rounds.ensures.held_is ∙ sym c.reply.ensures.blocked;
   own = c.loop-wire.invariant.own;
   must = c.reply.ensures.must ∙ (c.own_rounds.ensures.must ∙ (c.hand_over.ensures.must ∙ c.loop-wire.invariant.must));
-  on = c.in_ok-reply.ensures.on c.own_rounds.new.held c.own_rounds.new.failed (0 ∷ without HOUSE (here c.hand_over.new.engine)) record {
-    before = w.before;
-    policy = w.policy;
-    pid = w.pid;
-    start = w.start;
-    given = w.given;
-    serving = (same-rests (RestsOf H.told H.quiet) _ _ (sym (ap (λ (k : Known). k.present) c.in_ok-own_rounds.ensures.known ∙ (ap (λ (k : Known). k.present) c.in_ok-hand_over.ensures.known ∙ c.loop-wire.invariant.known.present))) (same-noted (H.told c.hand_over.new.house) (H.told c.own_rounds.new.house) (H.known c.hand_over.new.house) (H.known c.own_rounds.new.house) c.own_rounds.ensures.told c.in_ok-own_rounds.ensures.known (c.in_ok-own_rounds.ensures.serving (H.known c.args.house.now).present w.before (noted (H.told c.hand_over.new.house) (H.known c.hand_over.new.house)) w.policy w.pid w.start w.given (0 ∷ without HOUSE (here c.hand_over.new.engine)) c.hand_over.new.engine (none-given (same-rests (RestsOf H.told H.quiet) _ _ c.loop-wire.invariant.known.present (c.in_ok-hand_over.ensures.serving c.loop-wire.lists.held c.loop-wire.lists.failed w.before w.policy w.pid w.start w.given (same-rests (RestsOf H.told H.quiet) _ _ (sym c.loop-wire.invariant.known.present) (c.loop-wire.invariant.serving w.before w.policy w.pid w.start w.given w.serving))))))));
-  };
+  on =
+      let h0 = c.loop-wire.invariant.serving w.first w.calls w.before w.policy w.pid w.start w.given w.hands w.serving in
+      let h1 = c.in_ok-hand_over.ensures.serving c.loop-wire.lists.held c.loop-wire.lists.failed w.first h0.all w.before w.policy w.pid w.start w.given h0.hands (same-rests (λ b. RestsOf H.told H.quiet H.stands b w.first) _ _ (sym c.loop-wire.invariant.known.present) h0.so) in
+      let h2 = c.in_ok-own_rounds.ensures.serving (H.known c.args.house.now).present w.first w.before (noted (H.told c.hand_over.new.house) (H.known c.hand_over.new.house) h1.all) w.policy w.pid w.start w.given (0 ∷ without HOUSE (here c.hand_over.new.engine)) c.hand_over.new.engine refl h1.hands (none-given (same-rests (λ b. RestsOf H.told H.quiet H.stands b w.first) _ _ c.loop-wire.invariant.known.present h1.so)) in
+      let v2 = same-rests (λ b. RestsOf H.told H.quiet H.stands b w.first) _ _ (sym (ap (λ (k : Known). k.present) c.in_ok-own_rounds.ensures.known ∙ (ap (λ (k : Known). k.present) c.in_ok-hand_over.ensures.known ∙ c.loop-wire.invariant.known.present))) (same-noted (H.told c.hand_over.new.house) (H.told c.own_rounds.new.house) (H.known c.hand_over.new.house) (H.known c.own_rounds.new.house) c.own_rounds.ensures.told c.in_ok-own_rounds.ensures.known h2.so) in
+      c.in_ok-reply.ensures.on c.own_rounds.new.held c.own_rounds.new.failed (0 ∷ without HOUSE (here c.hand_over.new.engine)) record {
+        first = w.first;
+        calls = h2.all;
+        hands = h2.hands;
+        before = w.before;
+        policy = w.policy;
+        pid = w.pid;
+        start = w.start;
+        given = w.given;
+        serving = v2;
+      };
   calls = (well-still _ _ _ (well-then _ _ _ (well-still _ _ _ c.loop-wire.invariant.calls c.hand_over.ensures.calls) c.in_ok-own_rounds.ensures.calls) c.reply.ensures.calls);
   faults = c.reply.ensures.faults ∙ (c.own_rounds.ensures.faults ∙ (c.hand_over.ensures.faults ∙ c.loop-wire.invariant.faults));
   clients = c.reply.ensures.clients ∙ (c.own_rounds.ensures.clients ∙ (c.hand_over.ensures.clients ∙ c.loop-wire.invariant.clients));
@@ -75,7 +90,13 @@ loop-wire-smaller g c = let H = g.H.House in
 
 pub returns-then-not-branch : goal.returns-then-not-branch
 returns-then-not-branch g c = let H = g.H.House in let w = c.requires.served in record {
-  serving = λ before policy pid start given v. same-rests (RestsOf H.told H.quiet) _ _ (ap (λ (k : Known). k.present) c.in_ok-own_rounds.ensures.known ∙ (ap (λ (k : Known). k.present) c.in_ok-hand_over.ensures.known ∙ c.loop-wire.invariant.known.present)) (replied (0 ∷ here c.reply.new.engine) (0 ∷ without HOUSE (here c.reply.new.engine)) _ false c.if-not-branch.true (c.in_ok-reply.ensures.serving c.own_rounds.new.held c.own_rounds.new.failed before policy pid start given (same-rests (RestsOf H.told H.quiet) _ _ (sym (ap (λ (k : Known). k.present) c.in_ok-own_rounds.ensures.known ∙ (ap (λ (k : Known). k.present) c.in_ok-hand_over.ensures.known ∙ c.loop-wire.invariant.known.present))) (same-noted (H.told c.hand_over.new.house) (H.told c.own_rounds.new.house) (H.known c.hand_over.new.house) (H.known c.own_rounds.new.house) c.own_rounds.ensures.told c.in_ok-own_rounds.ensures.known (c.in_ok-own_rounds.ensures.serving (H.known c.args.house.now).present before (noted (H.told c.hand_over.new.house) (H.known c.hand_over.new.house)) policy pid start given (0 ∷ without HOUSE (here c.hand_over.new.engine)) c.hand_over.new.engine (none-given (same-rests (RestsOf H.told H.quiet) _ _ c.loop-wire.invariant.known.present (c.in_ok-hand_over.ensures.serving c.loop-wire.lists.held c.loop-wire.lists.failed before policy pid start given (same-rests (RestsOf H.told H.quiet) _ _ (sym c.loop-wire.invariant.known.present) (c.loop-wire.invariant.serving before policy pid start given v))))))))));
+  serving = λ first calls before policy pid start given hands v.
+      let h0 = c.loop-wire.invariant.serving first calls before policy pid start given hands v in
+      let h1 = c.in_ok-hand_over.ensures.serving c.loop-wire.lists.held c.loop-wire.lists.failed first h0.all before policy pid start given h0.hands (same-rests (λ b. RestsOf H.told H.quiet H.stands b first) _ _ (sym c.loop-wire.invariant.known.present) h0.so) in
+      let h2 = c.in_ok-own_rounds.ensures.serving (H.known c.args.house.now).present first before (noted (H.told c.hand_over.new.house) (H.known c.hand_over.new.house) h1.all) policy pid start given (0 ∷ without HOUSE (here c.hand_over.new.engine)) c.hand_over.new.engine refl h1.hands (none-given (same-rests (λ b. RestsOf H.told H.quiet H.stands b first) _ _ c.loop-wire.invariant.known.present h1.so)) in
+      let v2 = same-rests (λ b. RestsOf H.told H.quiet H.stands b first) _ _ (sym (ap (λ (k : Known). k.present) c.in_ok-own_rounds.ensures.known ∙ (ap (λ (k : Known). k.present) c.in_ok-hand_over.ensures.known ∙ c.loop-wire.invariant.known.present))) (same-noted (H.told c.hand_over.new.house) (H.told c.own_rounds.new.house) (H.known c.hand_over.new.house) (H.known c.own_rounds.new.house) c.own_rounds.ensures.told c.in_ok-own_rounds.ensures.known h2.so) in
+      let h3 = c.in_ok-reply.ensures.serving c.own_rounds.new.held c.own_rounds.new.failed first h2.all before policy pid start given h2.hands v2 in
+      handed-so h3 (same-rests (λ b. RestsOf H.told H.quiet H.stands b first) _ _ (ap (λ (k : Known). k.present) c.in_ok-own_rounds.ensures.known ∙ (ap (λ (k : Known). k.present) c.in_ok-hand_over.ensures.known ∙ c.loop-wire.invariant.known.present)) (replied (0 ∷ here c.reply.new.engine) (0 ∷ without HOUSE (here c.reply.new.engine)) _ false c.if-not-branch.true h3.so));
   known = house-then _ _ _ (house-then _ _ _ (house-then _ _ _ c.loop-wire.invariant.known (same-house _ _ c.in_ok-hand_over.ensures.known)) (same-house _ _ c.in_ok-own_rounds.ensures.known)) c.reply.ensures.known;
   places = (places-then _ _ _ (places-then _ _ _ (places-then _ _ _ c.loop-wire.invariant.places c.hand_over.ensures.places) c.own_rounds.ensures.places) c.reply.ensures.places);
   held_is = c.in_ok-own_rounds.ensures.held_is ∙ sym c.reply.ensures.blocked;
@@ -83,14 +104,22 @@ returns-then-not-branch g c = let H = g.H.House in let w = c.requires.served in 
   answered = c.in_ok-reply.ensures.answered c.if-not-branch.true;
   offered = λ t a. subst (λ (q : List ℕ). IsOffered q c.own_rounds.new.held c.own_rounds.new.failed t) (sym (c.in_ok-reply.ensures.queues c.if-not-branch.true t)) (c.in_ok-own_rounds.ensures.offered t a);
   must = c.reply.ensures.must ∙ (c.own_rounds.ensures.must ∙ (c.hand_over.ensures.must ∙ c.loop-wire.invariant.must));
-  on = c.in_ok-reply.ensures.on c.own_rounds.new.held c.own_rounds.new.failed (0 ∷ without HOUSE (here c.hand_over.new.engine)) record {
-    before = w.before;
-    policy = w.policy;
-    pid = w.pid;
-    start = w.start;
-    given = w.given;
-    serving = (same-rests (RestsOf H.told H.quiet) _ _ (sym (ap (λ (k : Known). k.present) c.in_ok-own_rounds.ensures.known ∙ (ap (λ (k : Known). k.present) c.in_ok-hand_over.ensures.known ∙ c.loop-wire.invariant.known.present))) (same-noted (H.told c.hand_over.new.house) (H.told c.own_rounds.new.house) (H.known c.hand_over.new.house) (H.known c.own_rounds.new.house) c.own_rounds.ensures.told c.in_ok-own_rounds.ensures.known (c.in_ok-own_rounds.ensures.serving (H.known c.args.house.now).present w.before (noted (H.told c.hand_over.new.house) (H.known c.hand_over.new.house)) w.policy w.pid w.start w.given (0 ∷ without HOUSE (here c.hand_over.new.engine)) c.hand_over.new.engine (none-given (same-rests (RestsOf H.told H.quiet) _ _ c.loop-wire.invariant.known.present (c.in_ok-hand_over.ensures.serving c.loop-wire.lists.held c.loop-wire.lists.failed w.before w.policy w.pid w.start w.given (same-rests (RestsOf H.told H.quiet) _ _ (sym c.loop-wire.invariant.known.present) (c.loop-wire.invariant.serving w.before w.policy w.pid w.start w.given w.serving))))))));
-  };
+  on =
+      let h0 = c.loop-wire.invariant.serving w.first w.calls w.before w.policy w.pid w.start w.given w.hands w.serving in
+      let h1 = c.in_ok-hand_over.ensures.serving c.loop-wire.lists.held c.loop-wire.lists.failed w.first h0.all w.before w.policy w.pid w.start w.given h0.hands (same-rests (λ b. RestsOf H.told H.quiet H.stands b w.first) _ _ (sym c.loop-wire.invariant.known.present) h0.so) in
+      let h2 = c.in_ok-own_rounds.ensures.serving (H.known c.args.house.now).present w.first w.before (noted (H.told c.hand_over.new.house) (H.known c.hand_over.new.house) h1.all) w.policy w.pid w.start w.given (0 ∷ without HOUSE (here c.hand_over.new.engine)) c.hand_over.new.engine refl h1.hands (none-given (same-rests (λ b. RestsOf H.told H.quiet H.stands b w.first) _ _ c.loop-wire.invariant.known.present h1.so)) in
+      let v2 = same-rests (λ b. RestsOf H.told H.quiet H.stands b w.first) _ _ (sym (ap (λ (k : Known). k.present) c.in_ok-own_rounds.ensures.known ∙ (ap (λ (k : Known). k.present) c.in_ok-hand_over.ensures.known ∙ c.loop-wire.invariant.known.present))) (same-noted (H.told c.hand_over.new.house) (H.told c.own_rounds.new.house) (H.known c.hand_over.new.house) (H.known c.own_rounds.new.house) c.own_rounds.ensures.told c.in_ok-own_rounds.ensures.known h2.so) in
+      c.in_ok-reply.ensures.on c.own_rounds.new.held c.own_rounds.new.failed (0 ∷ without HOUSE (here c.hand_over.new.engine)) record {
+        first = w.first;
+        calls = h2.all;
+        hands = h2.hands;
+        before = w.before;
+        policy = w.policy;
+        pid = w.pid;
+        start = w.start;
+        given = w.given;
+        serving = v2;
+      };
   calls = (well-still _ _ _ (well-then _ _ _ (well-still _ _ _ c.loop-wire.invariant.calls c.hand_over.ensures.calls) c.in_ok-own_rounds.ensures.calls) c.reply.ensures.calls);
   faults = c.reply.ensures.faults ∙ (c.own_rounds.ensures.faults ∙ (c.hand_over.ensures.faults ∙ c.loop-wire.invariant.faults));
   clients = c.reply.ensures.clients ∙ (c.own_rounds.ensures.clients ∙ (c.hand_over.ensures.clients ∙ c.loop-wire.invariant.clients));
@@ -102,7 +131,9 @@ returns-then-not-branch g c = let H = g.H.House in let w = c.requires.served in 
 
 pub returns-in_err-hand_over : goal.returns-in_err-hand_over
 returns-in_err-hand_over g c = let H = g.H.House in record {
-  serving = λ before policy pid start given v. on-err c.from_residual.result _ _ c.from_residual.ensures.0 (same-rests-left (RestsOf H.told H.quiet) _ _ c.loop-wire.invariant.known.present (c.in_err-hand_over.ensures.serving c.loop-wire.lists.held c.loop-wire.lists.failed before policy pid start given (same-rests (RestsOf H.told H.quiet) _ _ (sym c.loop-wire.invariant.known.present) (c.loop-wire.invariant.serving before policy pid start given v))));
+  serving = λ first calls before policy pid start given hands v.
+      let h0 = c.loop-wire.invariant.serving first calls before policy pid start given hands v in
+      on-err c.from_residual.result _ _ c.from_residual.ensures.0 (same-rests-left (λ b. RestsOf H.told H.quiet H.stands b first) _ _ c.loop-wire.invariant.known.present (c.in_err-hand_over.ensures.serving c.loop-wire.lists.held c.loop-wire.lists.failed first h0.all before policy pid start given h0.hands (same-rests (λ b. RestsOf H.told H.quiet H.stands b first) _ _ (sym c.loop-wire.invariant.known.present) h0.so)));
   known = on-err c.from_residual.result _ _ c.from_residual.ensures.0 tt;
   places = (places-then _ _ _ c.loop-wire.invariant.places c.hand_over.ensures.places);
   held_is = on-err c.from_residual.result _ _ c.from_residual.ensures.0 tt;
@@ -120,7 +151,10 @@ returns-in_err-hand_over g c = let H = g.H.House in record {
 
 pub returns-in_err-own_rounds : goal.returns-in_err-own_rounds
 returns-in_err-own_rounds g c = let H = g.H.House in record {
-  serving = λ before policy pid start given v. on-err c.from_residual-in_err-own_rounds.result _ _ c.from_residual-in_err-own_rounds.ensures.0 (no-turns-left (subst (λ (told : Option (List HouseMark)). Promised H.may (RestsOf H.told H.quiet (H.known c.args.house.now).present) before told policy pid start (g.W.Wire.seen c.own_rounds.new.wire).told given) (sym c.own_rounds.ensures.told) (c.in_err-own_rounds.ensures.serving (H.known c.args.house.now).present before (noted (H.told c.hand_over.new.house) (H.known c.hand_over.new.house)) policy pid start given (0 ∷ without HOUSE (here c.hand_over.new.engine)) c.hand_over.new.engine (none-given (same-rests (RestsOf H.told H.quiet) _ _ c.loop-wire.invariant.known.present (c.in_ok-hand_over.ensures.serving c.loop-wire.lists.held c.loop-wire.lists.failed before policy pid start given (same-rests (RestsOf H.told H.quiet) _ _ (sym c.loop-wire.invariant.known.present) (c.loop-wire.invariant.serving before policy pid start given v))))))));
+  serving = λ first calls before policy pid start given hands v.
+      let h0 = c.loop-wire.invariant.serving first calls before policy pid start given hands v in
+      let h1 = c.in_ok-hand_over.ensures.serving c.loop-wire.lists.held c.loop-wire.lists.failed first h0.all before policy pid start given h0.hands (same-rests (λ b. RestsOf H.told H.quiet H.stands b first) _ _ (sym c.loop-wire.invariant.known.present) h0.so) in
+      on-err c.from_residual-in_err-own_rounds.result _ _ c.from_residual-in_err-own_rounds.ensures.0 (no-turns-left (subst (λ (told : Option (List HouseMark)). Promised H.may (RestsOf H.told H.quiet H.stands (H.known c.args.house.now).present first) before told policy pid start (g.W.Wire.seen c.own_rounds.new.wire).told given) (sym c.own_rounds.ensures.told) (c.in_err-own_rounds.ensures.serving (H.known c.args.house.now).present first before (noted (H.told c.hand_over.new.house) (H.known c.hand_over.new.house) h1.all) policy pid start given (0 ∷ without HOUSE (here c.hand_over.new.engine)) c.hand_over.new.engine refl h1.hands (none-given (same-rests (λ b. RestsOf H.told H.quiet H.stands b first) _ _ c.loop-wire.invariant.known.present h1.so)))));
   known = on-err c.from_residual-in_err-own_rounds.result _ _ c.from_residual-in_err-own_rounds.ensures.0 tt;
   places = (places-then _ _ _ (places-then _ _ _ c.loop-wire.invariant.places c.hand_over.ensures.places) c.own_rounds.ensures.places);
   held_is = on-err c.from_residual-in_err-own_rounds.result _ _ c.from_residual-in_err-own_rounds.ensures.0 tt;
@@ -138,7 +172,12 @@ returns-in_err-own_rounds g c = let H = g.H.House in record {
 
 pub returns-in_err-reply : goal.returns-in_err-reply
 returns-in_err-reply g c = let H = g.H.House in record {
-  serving = λ before policy pid start given v. on-err c.from_residual-in_err-reply.result _ _ c.from_residual-in_err-reply.ensures.0 (same-rests-left (RestsOf H.told H.quiet) _ _ (ap (λ (k : Known). k.present) c.in_ok-own_rounds.ensures.known ∙ (ap (λ (k : Known). k.present) c.in_ok-hand_over.ensures.known ∙ c.loop-wire.invariant.known.present)) (c.in_err-reply.ensures.serving c.own_rounds.new.held c.own_rounds.new.failed before policy pid start given (same-rests (RestsOf H.told H.quiet) _ _ (sym (ap (λ (k : Known). k.present) c.in_ok-own_rounds.ensures.known ∙ (ap (λ (k : Known). k.present) c.in_ok-hand_over.ensures.known ∙ c.loop-wire.invariant.known.present))) (same-noted (H.told c.hand_over.new.house) (H.told c.own_rounds.new.house) (H.known c.hand_over.new.house) (H.known c.own_rounds.new.house) c.own_rounds.ensures.told c.in_ok-own_rounds.ensures.known (c.in_ok-own_rounds.ensures.serving (H.known c.args.house.now).present before (noted (H.told c.hand_over.new.house) (H.known c.hand_over.new.house)) policy pid start given (0 ∷ without HOUSE (here c.hand_over.new.engine)) c.hand_over.new.engine (none-given (same-rests (RestsOf H.told H.quiet) _ _ c.loop-wire.invariant.known.present (c.in_ok-hand_over.ensures.serving c.loop-wire.lists.held c.loop-wire.lists.failed before policy pid start given (same-rests (RestsOf H.told H.quiet) _ _ (sym c.loop-wire.invariant.known.present) (c.loop-wire.invariant.serving before policy pid start given v))))))))));
+  serving = λ first calls before policy pid start given hands v.
+      let h0 = c.loop-wire.invariant.serving first calls before policy pid start given hands v in
+      let h1 = c.in_ok-hand_over.ensures.serving c.loop-wire.lists.held c.loop-wire.lists.failed first h0.all before policy pid start given h0.hands (same-rests (λ b. RestsOf H.told H.quiet H.stands b first) _ _ (sym c.loop-wire.invariant.known.present) h0.so) in
+      let h2 = c.in_ok-own_rounds.ensures.serving (H.known c.args.house.now).present first before (noted (H.told c.hand_over.new.house) (H.known c.hand_over.new.house) h1.all) policy pid start given (0 ∷ without HOUSE (here c.hand_over.new.engine)) c.hand_over.new.engine refl h1.hands (none-given (same-rests (λ b. RestsOf H.told H.quiet H.stands b first) _ _ c.loop-wire.invariant.known.present h1.so)) in
+      let v2 = same-rests (λ b. RestsOf H.told H.quiet H.stands b first) _ _ (sym (ap (λ (k : Known). k.present) c.in_ok-own_rounds.ensures.known ∙ (ap (λ (k : Known). k.present) c.in_ok-hand_over.ensures.known ∙ c.loop-wire.invariant.known.present))) (same-noted (H.told c.hand_over.new.house) (H.told c.own_rounds.new.house) (H.known c.hand_over.new.house) (H.known c.own_rounds.new.house) c.own_rounds.ensures.told c.in_ok-own_rounds.ensures.known h2.so) in
+      on-err c.from_residual-in_err-reply.result _ _ c.from_residual-in_err-reply.ensures.0 (same-rests-left (λ b. RestsOf H.told H.quiet H.stands b first) _ _ (ap (λ (k : Known). k.present) c.in_ok-own_rounds.ensures.known ∙ (ap (λ (k : Known). k.present) c.in_ok-hand_over.ensures.known ∙ c.loop-wire.invariant.known.present)) (c.in_err-reply.ensures.serving c.own_rounds.new.held c.own_rounds.new.failed first h2.all before policy pid start given h2.hands v2));
   known = on-err c.from_residual-in_err-reply.result _ _ c.from_residual-in_err-reply.ensures.0 tt;
   places = (places-then _ _ _ (places-then _ _ _ (places-then _ _ _ c.loop-wire.invariant.places c.hand_over.ensures.places) c.own_rounds.ensures.places) c.reply.ensures.places);
   held_is = on-err c.from_residual-in_err-reply.result _ _ c.from_residual-in_err-reply.ensures.0 tt;

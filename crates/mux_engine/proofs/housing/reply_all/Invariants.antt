@@ -1,8 +1,10 @@
 use Rattle.std.proofs.Common.{◌≡◌, ◌∷◌, ℕ, List, Option, None, length}
+use Rattle.mux_outside.specs.HouseCalls.{HandsOn, HouseCall}
 use Rattle.mux_outside.specs.declared.house_mark.HouseMark.{HouseMark}
 use Rattle.mux_outside.specs.declared.mark.Mark.{Mark}
 use Rattle.mux_history.specs.Policy.{Policy}
 use Rattle.mux_machine.specs.Events.{here}
+use Rattle.mux_engine.specs.Called.{Handed}
 use Rattle.mux_engine.specs.Counted.{Well}
 use Rattle.mux_engine.specs.Serving.{Serving}
 use Rattle.mux_engine.specs.Sides.{RestsOf, SameHouse, SamePlaces, noted}
@@ -10,8 +12,8 @@ use Rattle.mux_engine.proofs.housing.reply_all.Given as goal
 
 abbrev pub invariant-loop-wire : goal.invariant-loop-wire
 invariant-loop-wire g l = let W = g.W.Wire in let H = g.H.House in record {
-  serving : (before : Option (List HouseMark)) (policy : Policy) (pid : ℕ) (start : Option (List Mark)) (given : ℕ) → Serving H.may (RestsOf H.told H.quiet (H.known l.fn.house).present) before (noted (H.told l.fn.house) (H.known l.fn.house)) policy pid start (W.seen l.fn.wire) l.fn.lists.held l.fn.lists.failed given (0 ∷ here l.fn.engine) l.fn.engine
-      → Serving H.may (RestsOf H.told H.quiet (H.known l.fn.house).present) before (noted (H.told l.house) (H.known l.house)) policy pid start (W.seen l.wire) l.lists.held l.lists.failed given (0 ∷ here l.engine) l.engine;
+  serving : (first : _) (calls : List HouseCall) (before : Option (List HouseMark)) (policy : Policy) (pid : ℕ) (start : Option (List Mark)) (given : ℕ) → HandsOn (H.stands first) (H.stands l.fn.house) calls → Serving H.may (RestsOf H.told H.quiet H.stands (H.known l.fn.house).present first) before (noted (H.told l.fn.house) (H.known l.fn.house) calls) policy pid start (W.seen l.fn.wire) l.fn.lists.held l.fn.lists.failed given (0 ∷ here l.fn.engine) l.fn.engine
+      → Handed (H.stands first) (H.stands l.house) (λ (all : List HouseCall). Serving H.may (RestsOf H.told H.quiet H.stands (H.known l.fn.house).present first) before (noted (H.told l.house) (H.known l.house) all) policy pid start (W.seen l.wire) l.lists.held l.lists.failed given (0 ∷ here l.engine) l.engine);
   known : SameHouse (H.known l.fn.house) (H.known l.house);
   places : SamePlaces (W.seen l.fn.wire) (W.seen l.wire);
   held_is : l.lists.held ≡ (W.seen l.wire).blocked;

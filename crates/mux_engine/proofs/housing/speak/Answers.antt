@@ -1,7 +1,8 @@
-use Rattle.std.proofs.Common.{◌≡◌, ◌≤◌, ◌+◌, ◌∙◌, ◌∷◌, [], refl, ap, subst, ℕ, Bool, true, List, Option, length, arith}
+use Rattle.std.proofs.Common.{◌≡◌, ◌≤◌, ◌+◌, ◌∙◌, ◌∷◌, [], refl, ap, subst, ℕ, Bool, true, false, List, Option, length, arith}
 use Rattle.std.specs.Prelude.{Ok}
 use Rattle.ssh_fields.specs.Fields.{AreBytes}
 use Rattle.mux_outside.specs.House.{Known}
+use Rattle.mux_outside.specs.HouseCalls.{calls_of}
 use Rattle.mux_outside.specs.declared.house_mark.HouseMark.{HouseMark}
 use Rattle.mux_outside.specs.declared.house_mark.HouseMark.TheVariants.{HouseSaid}
 use Rattle.mux_outside.specs.declared.mark.Mark.TheVariants.{Gets}
@@ -9,20 +10,23 @@ use Rattle.mux_history.specs.declared.limits.TheConstants.{HOUSE}
 use Rattle.mux_clients.specs.Asked.{TellsAsks}
 use Rattle.mux_machine.specs.Events.{Tells}
 use Rattle.mux_machine.specs.declared.event.Event.{Event}
+use Rattle.mux_outside.proofs.HouseCalls.{hands-then}
 use Rattle.mux_engine.specs.Sides.{SameHouse}
 use Rattle.mux_engine.proofs.Arms.{on-err}
+use Rattle.mux_engine.proofs.Called.{handed-more}
 use Rattle.mux_engine.proofs.Cuts.{cut-here}
 use Rattle.mux_engine.proofs.Handed.{turn-house}
+use Rattle.mux_engine.proofs.HouseCalls.{still-handed}
 use Rattle.mux_engine.proofs.Noted.{seen-with}
-use Rattle.mux_engine.proofs.Spoken.{asks-ends, cut-said, err-serves, ok-serves, said-ends, said-heeds, some-said, told-said}
+use Rattle.mux_engine.proofs.Spoken.{asks-ends, cut-said, err-serves, hands-nothing, hands-said, ok-serves, said-ends, said-heeds, some-said, told-nothing, told-said}
 use Rattle.mux_engine.proofs.housing.speak.Goals as goal
 
 pub returns-in_err-says-clause-serving : goal.returns-in_err-says-clause-serving
-returns-in_err-says-clause-serving g c held failed before policy pid start given v = on-err c.from_residual.result _ _ c.from_residual.ensures.0
+returns-in_err-says-clause-serving g c held failed first calls before policy pid start given hands v = on-err c.from_residual.result _ _ c.from_residual.ensures.0
     (cut-here v (g.H.House.told c.says.new.self) _ (given + 1) [] refl c.in_err-says.ensures.told (omega arith))
 
 pub returns-in_err-bytes-clause-serving : goal.returns-in_err-bytes-clause-serving
-returns-in_err-bytes-clause-serving g c held failed before policy pid start given v =
+returns-in_err-bytes-clause-serving g c held failed first calls before policy pid start given hands v =
     let H = g.H.House in
     let W = g.W.Wire in
     let told : Option (List HouseMark) = H.told c.args.house.now in
@@ -35,7 +39,7 @@ returns-in_err-bytes-clause-serving g c held failed before policy pid start give
     (cut-said told known v c.requires.on c.requires.present c.requires.room (H.told c.says.new.self) (H.known c.says.new.self) bytes tells same _ refl)
 
 pub returns-in_err-note-clause-serving : goal.returns-in_err-note-clause-serving
-returns-in_err-note-clause-serving g c held failed before policy pid start given v =
+returns-in_err-note-clause-serving g c held failed first calls before policy pid start given hands v =
     let H = g.H.House in
     let W = g.W.Wire in
     let told : Option (List HouseMark) = H.told c.args.house.now in
@@ -48,7 +52,7 @@ returns-in_err-note-clause-serving g c held failed before policy pid start given
     (cut-said told known v c.requires.on c.requires.present c.requires.room (H.told c.says.new.self) (H.known c.says.new.self) bytes tells same _ (ap (λ (x : _). x.told) c.in_err-note.ensures.seen))
 
 pub returns-in_err-heed-clause-serving : goal.returns-in_err-heed-clause-serving
-returns-in_err-heed-clause-serving g c held failed before policy pid start given v =
+returns-in_err-heed-clause-serving g c held failed first calls before policy pid start given hands v =
     let H = g.H.House in
     let W = g.W.Wire in
     let told : Option (List HouseMark) = H.told c.args.house.now in
@@ -67,7 +71,7 @@ returns-in_err-heed-clause-serving g c held failed before policy pid start given
     (err-serves c.heed.result _ _ c.in_err-heed.was (said-heeds told known v c.requires.on c.requires.present c.requires.room (H.told c.says.new.self) (H.known c.says.new.self) bytes tells same event there (some-said c.says.result bytes is c.says.ensures.fits) few (subst AreBytes e are) c.heed.result c.heed.new.engine c.heed.new.asks (H.told c.heed.new.house) (H.known c.heed.new.house) (W.seen c.note.new.self) (W.seen c.heed.new.wire) after c.heed.ensures.heeded))
 
 pub returns-clause-serving : goal.returns-clause-serving
-returns-clause-serving g c held failed before policy pid start given v =
+returns-clause-serving g c held failed first calls before policy pid start given hands v =
     let H = g.H.House in
     let W = g.W.Wire in
     let told : Option (List HouseMark) = H.told c.args.house.now in
@@ -82,7 +86,9 @@ returns-clause-serving g c held failed before policy pid start given v =
     let few : length bytes ≤ 65536 = subst (λ (l : List ℕ). length l ≤ 65536) e c.as_bytes-2.ensures.room in
     let are : AreBytes c.as_bytes-2.result.now = c.event_of_bytes-said.ensures.bytes in
     let after : W.seen c.note.new.self ≡ seen-with (HouseSaid bytes ∷ []) (W.seen c.args.wire.now) = c.in_ok-note.ensures.seen ∙ ap (λ (l : List ℕ). seen-with (HouseSaid l ∷ []) (W.seen c.args.wire.now)) (c.in_ok-bytes.ensures ∙ c.as_bytes.ensures.bytes) in
-    ok-serves c.heed.result _ _ c.in_ok-heed.was (said-heeds told known v c.requires.on c.requires.present c.requires.room (H.told c.says.new.self) (H.known c.says.new.self) bytes tells same event there (some-said c.says.result bytes is c.says.ensures.fits) few (subst AreBytes e are) c.heed.result c.heed.new.engine c.heed.new.asks (H.told c.heed.new.house) (H.known c.heed.new.house) (W.seen c.note.new.self) (W.seen c.heed.new.wire) after c.heed.ensures.heeded)
+    let said = hands-said (H.stands c.args.house.now) (H.stands c.says.new.self) _ bytes (ap (λ (b : Bool). Ok b) c.if-not-branch.false) c.in_ok-says.ensures.stands in
+    let served = ok-serves c.heed.result _ _ c.in_ok-heed.was (said-heeds told known v c.requires.on c.requires.present c.requires.room (H.told c.says.new.self) (H.known c.says.new.self) bytes tells same event there (some-said c.says.result bytes is c.says.ensures.fits) few (subst AreBytes e are) c.heed.result c.heed.new.engine c.heed.new.asks (H.told c.heed.new.house) (H.known c.heed.new.house) (W.seen c.note.new.self) (W.seen c.heed.new.wire) after c.heed.ensures.heeded) in
+    handed-more (calls_of c.heed.new.asks) (hands-then (H.stands first) (H.stands c.args.house.now) (H.stands c.says.new.self) calls (calls_of (HouseSaid bytes ∷ [])) hands said) c.in_ok-heed.ensures.handed served
 
 pub returns-clause-known : goal.returns-clause-known
 returns-clause-known g c =
@@ -108,3 +114,12 @@ returns-clause-ends g c held failed served =
     let are : AreBytes c.as_bytes-2.result.now = c.event_of_bytes-said.ensures.bytes in
     let after : W.seen c.note.new.self ≡ seen-with (HouseSaid bytes ∷ []) (W.seen c.args.wire.now) = c.in_ok-note.ensures.seen ∙ ap (λ (l : List ℕ). seen-with (HouseSaid l ∷ []) (W.seen c.args.wire.now)) (c.in_ok-bytes.ensures ∙ c.as_bytes.ensures.bytes) in
     asks-ends event bytes _ there (ok-serves c.heed.result _ _ c.in_ok-heed.was (said-ends told known v c.requires.on c.requires.present c.requires.room (H.told c.says.new.self) (H.known c.says.new.self) bytes tells same event there (some-said c.says.result bytes is c.says.ensures.fits) few (subst AreBytes e are) c.heed.result c.heed.new.engine c.heed.new.asks (H.told c.heed.new.house) (H.known c.heed.new.house) (W.seen c.note.new.self) (W.seen c.heed.new.wire) c.heed.ensures.heeded))
+
+-- ---- nothing is said
+
+pub returns-then-not-branch-clause-serving : goal.returns-then-not-branch-clause-serving
+returns-then-not-branch-clause-serving g c held failed first calls before policy pid start given hands v =
+    let H = g.H.House in
+    let none : c.says.result ≡ Ok false = c.in_ok-says.was ∙ ap (λ (b : Bool). Ok b) c.if-not-branch.true in
+    still-handed (H.known c.says.new.self) hands (hands-nothing (H.stands c.args.house.now) (H.stands c.says.new.self) _ c.says.new.into (ap (λ (b : Bool). Ok b) c.if-not-branch.true) c.in_ok-says.ensures.stands)
+    (told-nothing c.says.result c.says.new.into (H.told c.args.house.now) (H.told c.says.new.self) none c.says.ensures.told) c.in_ok-says.ensures.known v

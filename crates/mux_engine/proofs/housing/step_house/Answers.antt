@@ -1,9 +1,13 @@
-use Rattle.std.proofs.Common.{◌≡◌, ◌+◌, ◌∙◌, ◌∷◌, [], sym, ap, subst, Bool, true, false, cond, arith}
+use Rattle.std.proofs.Common.{◌≡◌, ◌+◌, ◌∙◌, List, ◌∷◌, [], sym, ap, subst, Bool, true, false, cond, arith}
 use Rattle.std.specs.Prelude.{Ok}
 use Rattle.mux_machine.specs.Events.{here}
+use Rattle.mux_outside.specs.HouseCalls.{HouseCall}
+use Rattle.mux_engine.specs.Called.{Handed}
 use Rattle.mux_engine.specs.Rests.{EndsByAsk}
 use Rattle.mux_engine.specs.Serving.{Serving}
 use Rattle.mux_engine.specs.Sides.{RestsOf, noted}
+use Rattle.mux_engine.proofs.Called.{handed-so}
+use Rattle.mux_engine.proofs.HouseCalls.{no-turns}
 use Rattle.mux_engine.proofs.Arms.{on-err, on-ok}
 use Rattle.mux_engine.proofs.Runs.{promised-more}
 use Rattle.mux_engine.proofs.Spoken.{err-serves, ok-serves}
@@ -13,11 +17,12 @@ use Rattle.mux_engine.proofs.housing.step_house.Goals as goal
 -- ---- an order
 
 pub returns-then-branch-clause-serving : goal.returns-then-branch-clause-serving
-returns-then-branch-clause-serving g c before policy pid start given v =
+returns-then-branch-clause-serving g c first calls before policy pid start given hands v =
     let H = g.H.House in
     let W = g.W.Wire in
     let is : c.ask_house.result ≡ Ok true = c.in_ok-ask_house.was ∙ ap (λ (b : Bool). Ok b) c.if-branch.true in
-    handed-again (ok-serves c.ask_house.result _ _ is (c.ask_house.ensures.serving before policy pid start given v))
+    let h = ok-serves c.ask_house.result _ _ is (c.ask_house.ensures.serving first calls before policy pid start given hands v) in
+    handed-so h (handed-again h.so)
 
 -- ---- what waits is offered
 
@@ -29,40 +34,56 @@ flush-requires-clause-served g c =
     let lists = c.ask_house.new.lists in
     let is : c.ask_house.result ≡ Ok false = c.in_ok-ask_house.was ∙ ap (λ (b : Bool). Ok b) c.if-branch.false in
     let s = c.requires.served in
+    let h = ok-serves c.ask_house.result _ _ is (c.ask_house.ensures.serving s.first s.calls s.before s.policy s.pid s.start s.given s.hands s.serving) in
     record {
       present = (H.known c.args.house.now).present;
+      first = s.first;
       before = s.before;
-      now = noted (H.told house) (H.known house);
+      now = noted (H.told house) (H.known house) h.all;
       policy = s.policy;
       pid = s.pid;
       start = s.start;
       failed = lists.failed;
       given = s.given;
       todo = _;
-      serving = (to-flush (ok-serves c.ask_house.result _ _ is (c.ask_house.ensures.serving s.before s.policy s.pid s.start s.given s.serving)));
+      serving = (to-flush h.so);
     }
 
 pub returns-in_err-flush-clause-serving : goal.returns-in_err-flush-clause-serving
-returns-in_err-flush-clause-serving g c before policy pid start given v =
+returns-in_err-flush-clause-serving g c first calls before policy pid start given hands v =
     let H = g.H.House in
     let W = g.W.Wire in
     let house = c.ask_house.new.house in
     let lists = c.ask_house.new.lists in
     let is : c.ask_house.result ≡ Ok false = c.in_ok-ask_house.was ∙ ap (λ (b : Bool). Ok b) c.if-branch.false in
+    let h = ok-serves c.ask_house.result _ _ is (c.ask_house.ensures.serving first calls before policy pid start given hands v) in
     on-err c.from_residual-in_err-flush.result _ _ c.from_residual-in_err-flush.ensures.0
-    (promised-more given (given + 1) (omega arith) (err-serves c.flush.result _ _ c.in_err-flush.was (c.flush.ensures.serving [] (H.known c.args.house.now).present before (noted (H.told house) (H.known house)) policy pid start lists.failed given (to-flush (ok-serves c.ask_house.result _ _ is (c.ask_house.ensures.serving before policy pid start given v))))))
+    (promised-more given (given + 1) (omega arith) (err-serves c.flush.result _ _ c.in_err-flush.was (c.flush.ensures.serving [] (H.known c.args.house.now).present first before (noted (H.told house) (H.known house) h.all) policy pid start lists.failed given (to-flush h.so))))
+
+-- ---- nothing is said
+
+pub returns-then-not-present-clause-serving : goal.returns-then-not-present-clause-serving
+returns-then-not-present-clause-serving g c first calls before policy pid start given hands v =
+    let H = g.H.House in
+    let W = g.W.Wire in
+    let house = c.ask_house.new.house in
+    let lists = c.ask_house.new.lists in
+    let is : c.ask_house.result ≡ Ok false = c.in_ok-ask_house.was ∙ ap (λ (b : Bool). Ok b) c.if-branch.false in
+    let h = ok-serves c.ask_house.result _ _ is (c.ask_house.ensures.serving first calls before policy pid start given hands v) in
+    handed-so h (no-turns (ok-serves c.flush.result _ _ c.in_ok-flush.was (c.flush.ensures.serving [] (H.known c.args.house.now).present first before (noted (H.told house) (H.known house) h.all) policy pid start lists.failed given (to-flush h.so))))
 
 -- ---- what it says
 
 pub returns-clause-serving : goal.returns-clause-serving
-returns-clause-serving g c before policy pid start given v =
+returns-clause-serving g c first calls before policy pid start given hands v =
     let H = g.H.House in
     let W = g.W.Wire in
     let house = c.ask_house.new.house in
     let lists = c.ask_house.new.lists in
     let is : c.ask_house.result ≡ Ok false = c.in_ok-ask_house.was ∙ ap (λ (b : Bool). Ok b) c.if-branch.false in
-    (runs-same c.speak.result H.may H.told H.quiet (noted (H.told house) (H.known house)) (noted (H.told c.speak.new.house) (H.known c.speak.new.house)) (W.seen c.flush.new.wire) (W.seen c.speak.new.wire) c.flush.new.held c.flush.new.held lists.failed lists.failed 1 (λ (more : Bool). cond more 1 0) [] (λ (more : Bool). cond more (0 ∷ here c.speak.new.engine) []) c.flush.new.engine c.speak.new.engine (H.known c.args.house.now).present (H.known house).present c.in_ok-ask_house.ensures.present
-    (c.speak.ensures.serving c.flush.new.held lists.failed)) before policy pid start given (ok-serves c.flush.result _ _ c.in_ok-flush.was (c.flush.ensures.serving [] (H.known c.args.house.now).present before (noted (H.told house) (H.known house)) policy pid start lists.failed given (to-flush (ok-serves c.ask_house.result _ _ is (c.ask_house.ensures.serving before policy pid start given v)))))
+    let h = ok-serves c.ask_house.result _ _ is (c.ask_house.ensures.serving first calls before policy pid start given hands v) in
+    (runs-same c.speak.result H.stands house c.speak.new.house H.may H.told H.quiet (noted (H.told house) (H.known house)) (noted (H.told c.speak.new.house) (H.known c.speak.new.house)) (W.seen c.flush.new.wire) (W.seen c.speak.new.wire) c.flush.new.held c.flush.new.held lists.failed lists.failed 1 (λ (more : Bool). cond more 1 0) [] (λ (more : Bool). cond more (0 ∷ here c.speak.new.engine) []) c.flush.new.engine c.speak.new.engine (H.known c.args.house.now).present (H.known house).present c.in_ok-ask_house.ensures.present
+    (c.speak.ensures.serving c.flush.new.held lists.failed)) first h.all before policy pid start given h.hands (ok-serves c.flush.result _ _ c.in_ok-flush.was (c.flush.ensures.serving [] (H.known c.args.house.now).present first before (noted (H.told house) (H.known house) h.all) policy pid start lists.failed given (to-flush h.so)))
 
 pub returns-clause-held_is : goal.returns-clause-held_is
 returns-clause-held_is g c =
@@ -72,8 +93,9 @@ returns-clause-held_is g c =
     let lists = c.ask_house.new.lists in
     let is : c.ask_house.result ≡ Ok false = c.in_ok-ask_house.was ∙ ap (λ (b : Bool). Ok b) c.if-branch.false in
     let s = c.requires.served in
-    match-ok c.speak.result (λ (more : Bool). Serving H.may (RestsOf H.told H.quiet (H.known c.args.house.now).present) s.before (noted (H.told c.speak.new.house) (H.known c.speak.new.house)) s.policy s.pid s.start (W.seen c.speak.new.wire) c.flush.new.held lists.failed (s.given + cond more 1 0) (cond more (0 ∷ here c.speak.new.engine) []) c.speak.new.engine) _ _ (λ (more : Bool) x. x.held_is) ((runs-same c.speak.result H.may H.told H.quiet (noted (H.told house) (H.known house)) (noted (H.told c.speak.new.house) (H.known c.speak.new.house)) (W.seen c.flush.new.wire) (W.seen c.speak.new.wire) c.flush.new.held c.flush.new.held lists.failed lists.failed 1 (λ (more : Bool). cond more 1 0) [] (λ (more : Bool). cond more (0 ∷ here c.speak.new.engine) []) c.flush.new.engine c.speak.new.engine (H.known c.args.house.now).present (H.known house).present c.in_ok-ask_house.ensures.present
-    (c.speak.ensures.serving c.flush.new.held lists.failed)) s.before s.policy s.pid s.start s.given (ok-serves c.flush.result _ _ c.in_ok-flush.was (c.flush.ensures.serving [] (H.known c.args.house.now).present s.before (noted (H.told house) (H.known house)) s.policy s.pid s.start lists.failed s.given (to-flush (ok-serves c.ask_house.result _ _ is (c.ask_house.ensures.serving s.before s.policy s.pid s.start s.given s.serving))))))
+    let h = ok-serves c.ask_house.result _ _ is (c.ask_house.ensures.serving s.first s.calls s.before s.policy s.pid s.start s.given s.hands s.serving) in
+    match-ok c.speak.result (λ (more : Bool). Handed (H.stands s.first) (H.stands c.speak.new.house) (λ (all : List HouseCall). Serving H.may (RestsOf H.told H.quiet H.stands (H.known c.args.house.now).present s.first) s.before (noted (H.told c.speak.new.house) (H.known c.speak.new.house) all) s.policy s.pid s.start (W.seen c.speak.new.wire) c.flush.new.held lists.failed (s.given + cond more 1 0) (cond more (0 ∷ here c.speak.new.engine) []) c.speak.new.engine)) _ _ (λ (more : Bool) x. x.so.held_is) ((runs-same c.speak.result H.stands house c.speak.new.house H.may H.told H.quiet (noted (H.told house) (H.known house)) (noted (H.told c.speak.new.house) (H.known c.speak.new.house)) (W.seen c.flush.new.wire) (W.seen c.speak.new.wire) c.flush.new.held c.flush.new.held lists.failed lists.failed 1 (λ (more : Bool). cond more 1 0) [] (λ (more : Bool). cond more (0 ∷ here c.speak.new.engine) []) c.flush.new.engine c.speak.new.engine (H.known c.args.house.now).present (H.known house).present c.in_ok-ask_house.ensures.present
+    (c.speak.ensures.serving c.flush.new.held lists.failed)) s.first h.all s.before s.policy s.pid s.start s.given h.hands (ok-serves c.flush.result _ _ c.in_ok-flush.was (c.flush.ensures.serving [] (H.known c.args.house.now).present s.first s.before (noted (H.told house) (H.known house) h.all) s.policy s.pid s.start lists.failed s.given (to-flush h.so))))
 
 pub returns-clause-failed : goal.returns-clause-failed
 returns-clause-failed g c =
@@ -83,7 +105,8 @@ returns-clause-failed g c =
     let lists = c.ask_house.new.lists in
     let is : c.ask_house.result ≡ Ok false = c.in_ok-ask_house.was ∙ ap (λ (b : Bool). Ok b) c.if-branch.false in
     let s = c.requires.served in
-    on-ok c.speak.result (λ (e : EndsByAsk c.speak.new.engine.ended) over. absurd (e.lives over)) (c.speak.ensures.ends c.flush.new.held lists.failed record { before = s.before; policy = s.policy; pid = s.pid; start = s.start; given = s.given; serving = subst (λ (b : Bool). Serving H.may (RestsOf H.told H.quiet b) s.before (noted (H.told house) (H.known house)) s.policy s.pid s.start (W.seen c.flush.new.wire) c.flush.new.held lists.failed s.given [] c.flush.new.engine) (sym c.in_ok-ask_house.ensures.present) (ok-serves c.flush.result _ _ c.in_ok-flush.was (c.flush.ensures.serving [] (H.known c.args.house.now).present s.before (noted (H.told house) (H.known house)) s.policy s.pid s.start lists.failed s.given (to-flush (ok-serves c.ask_house.result _ _ is (c.ask_house.ensures.serving s.before s.policy s.pid s.start s.given s.serving))))) })
+    let h = ok-serves c.ask_house.result _ _ is (c.ask_house.ensures.serving s.first s.calls s.before s.policy s.pid s.start s.given s.hands s.serving) in
+    on-ok c.speak.result (λ (e : EndsByAsk c.speak.new.engine.ended) over. absurd (e.lives over)) (c.speak.ensures.ends c.flush.new.held lists.failed record { first = s.first; calls = h.all; hands = h.hands; before = s.before; policy = s.policy; pid = s.pid; start = s.start; given = s.given; serving = subst (λ (b : Bool). Serving H.may (RestsOf H.told H.quiet H.stands b s.first) s.before (noted (H.told house) (H.known house) h.all) s.policy s.pid s.start (W.seen c.flush.new.wire) c.flush.new.held lists.failed s.given [] c.flush.new.engine) (sym c.in_ok-ask_house.ensures.present) (ok-serves c.flush.result _ _ c.in_ok-flush.was (c.flush.ensures.serving [] (H.known c.args.house.now).present s.first s.before (noted (H.told house) (H.known house) h.all) s.policy s.pid s.start lists.failed s.given (to-flush h.so))) })
 
 pub returns-clause-by_row : goal.returns-clause-by_row
 returns-clause-by_row g c =
@@ -93,7 +116,8 @@ returns-clause-by_row g c =
     let lists = c.ask_house.new.lists in
     let is : c.ask_house.result ≡ Ok false = c.in_ok-ask_house.was ∙ ap (λ (b : Bool). Ok b) c.if-branch.false in
     let s = c.requires.served in
-    on-ok c.speak.result (λ (e : EndsByAsk c.speak.new.engine.ended). e.by_row) (c.speak.ensures.ends c.flush.new.held lists.failed record { before = s.before; policy = s.policy; pid = s.pid; start = s.start; given = s.given; serving = subst (λ (b : Bool). Serving H.may (RestsOf H.told H.quiet b) s.before (noted (H.told house) (H.known house)) s.policy s.pid s.start (W.seen c.flush.new.wire) c.flush.new.held lists.failed s.given [] c.flush.new.engine) (sym c.in_ok-ask_house.ensures.present) (ok-serves c.flush.result _ _ c.in_ok-flush.was (c.flush.ensures.serving [] (H.known c.args.house.now).present s.before (noted (H.told house) (H.known house)) s.policy s.pid s.start lists.failed s.given (to-flush (ok-serves c.ask_house.result _ _ is (c.ask_house.ensures.serving s.before s.policy s.pid s.start s.given s.serving))))) })
+    let h = ok-serves c.ask_house.result _ _ is (c.ask_house.ensures.serving s.first s.calls s.before s.policy s.pid s.start s.given s.hands s.serving) in
+    on-ok c.speak.result (λ (e : EndsByAsk c.speak.new.engine.ended). e.by_row) (c.speak.ensures.ends c.flush.new.held lists.failed record { first = s.first; calls = h.all; hands = h.hands; before = s.before; policy = s.policy; pid = s.pid; start = s.start; given = s.given; serving = subst (λ (b : Bool). Serving H.may (RestsOf H.told H.quiet H.stands b s.first) s.before (noted (H.told house) (H.known house) h.all) s.policy s.pid s.start (W.seen c.flush.new.wire) c.flush.new.held lists.failed s.given [] c.flush.new.engine) (sym c.in_ok-ask_house.ensures.present) (ok-serves c.flush.result _ _ c.in_ok-flush.was (c.flush.ensures.serving [] (H.known c.args.house.now).present s.first s.before (noted (H.told house) (H.known house) h.all) s.policy s.pid s.start lists.failed s.given (to-flush h.so))) })
 
 pub returns-then-not-present-clause-held_is : goal.returns-then-not-present-clause-held_is
 returns-then-not-present-clause-held_is g c =
@@ -103,4 +127,5 @@ returns-then-not-present-clause-held_is g c =
     let lists = c.ask_house.new.lists in
     let is : c.ask_house.result ≡ Ok false = c.in_ok-ask_house.was ∙ ap (λ (b : Bool). Ok b) c.if-branch.false in
     let s = c.requires.served in
-    let x = (ok-serves c.flush.result _ _ c.in_ok-flush.was (c.flush.ensures.serving [] (H.known c.args.house.now).present s.before (noted (H.told house) (H.known house)) s.policy s.pid s.start lists.failed s.given (to-flush (ok-serves c.ask_house.result _ _ is (c.ask_house.ensures.serving s.before s.policy s.pid s.start s.given s.serving))))) in x.held_is
+    let h = ok-serves c.ask_house.result _ _ is (c.ask_house.ensures.serving s.first s.calls s.before s.policy s.pid s.start s.given s.hands s.serving) in
+    let x = (ok-serves c.flush.result _ _ c.in_ok-flush.was (c.flush.ensures.serving [] (H.known c.args.house.now).present s.first s.before (noted (H.told house) (H.known house) h.all) s.policy s.pid s.start lists.failed s.given (to-flush h.so))) in x.held_is

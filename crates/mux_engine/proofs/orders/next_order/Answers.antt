@@ -1,26 +1,37 @@
-use Rattle.std.proofs.Common.{◌+◌, sym, subst, Bool, Some}
+use Rattle.std.proofs.Common.{◌+◌, ◌++◌, List, sym, subst, Bool, Some}
 use Rattle.mux_outside.specs.House.{order_marks}
+use Rattle.mux_outside.specs.HouseCalls.{HouseCall, calls_of}
+use Rattle.mux_outside.proofs.HouseCalls.{hands-then}
 use Rattle.mux_engine.specs.Serving.{Promised, Serving}
 use Rattle.mux_engine.specs.Sides.{RestsOf, noted, noting}
 use Rattle.mux_engine.proofs.Arms.{on-err}
+use Rattle.mux_engine.proofs.Called.{handed-so}
+use Rattle.mux_engine.proofs.HouseCalls.{still-handed}
 use Rattle.mux_engine.proofs.Ordered.{given-side, order-given}
 use Rattle.mux_engine.proofs.orders.next_order.Goals as goal
 
 pub returns-in_err-obey-clause-serving : goal.returns-in_err-obey-clause-serving
-returns-in_err-obey-clause-serving g c todo s before policy pid start given v =
+returns-in_err-obey-clause-serving g c todo s first calls before policy pid start given hands v =
     let H = g.H.House in
     let side = given-side c.in-Some.order _ _ c.in-Some.ensures.known in
+    let more : List HouseCall = calls_of (order_marks (Some c.in-Some.order)) in
     on-err c.from_residual.result _ _ c.from_residual.ensures.0
-    (subst (λ (b : Bool). Promised H.may (RestsOf H.told H.quiet b) before (H.told c.obey.new.house) policy pid start (g.W.Wire.seen c.obey.new.wire).told (given + 1)) side.present
-    (c.in_err-obey.ensures.serving todo s before policy pid start given
-    (subst (λ (b : Bool). Serving H.may (RestsOf H.told H.quiet b) before (noting (order_marks (Some c.in-Some.order)) (H.told c.order.new.self) (H.known c.order.new.self)) policy pid start (g.W.Wire.seen c.args.wire.now) c.args.lists.now.held c.args.lists.now.failed given todo s) (sym side.present)
+    (subst (λ (b : Bool). Promised H.may (RestsOf H.told H.quiet H.stands b first) before (H.told c.obey.new.house) policy pid start (g.W.Wire.seen c.obey.new.wire).told (given + 1)) side.present
+    (c.in_err-obey.ensures.serving todo s first (calls ++ more) before policy pid start given (hands-then (H.stands first) (H.stands c.args.house.now) (H.stands c.order.new.self) calls more hands c.in-Some.ensures.stands)
+    (subst (λ (b : Bool). Serving H.may (RestsOf H.told H.quiet H.stands b first) before (noting (order_marks (Some c.in-Some.order)) (H.told c.order.new.self) (H.known c.order.new.self) (calls ++ more)) policy pid start (g.W.Wire.seen c.args.wire.now) c.args.lists.now.held c.args.lists.now.failed given todo s) (sym side.present)
     (order-given c.in-Some.order _ _ _ _ c.in-Some.ensures.told c.in-Some.ensures.known v))))
 
 pub returns-clause-serving : goal.returns-clause-serving
-returns-clause-serving g c todo s before policy pid start given v =
+returns-clause-serving g c todo s first calls before policy pid start given hands v =
     let H = g.H.House in
     let side = given-side c.in-Some.order _ _ c.in-Some.ensures.known in
-    subst (λ (b : Bool). Serving H.may (RestsOf H.told H.quiet b) before (noted (H.told c.obey.new.house) (H.known c.obey.new.house)) policy pid start (g.W.Wire.seen c.obey.new.wire) c.obey.new.lists.held c.obey.new.lists.failed (given + 1) todo s) side.present
-    (c.in_ok-obey.ensures.serving todo s before policy pid start given
-    (subst (λ (b : Bool). Serving H.may (RestsOf H.told H.quiet b) before (noting (order_marks (Some c.in-Some.order)) (H.told c.order.new.self) (H.known c.order.new.self)) policy pid start (g.W.Wire.seen c.args.wire.now) c.args.lists.now.held c.args.lists.now.failed given todo s) (sym side.present)
-    (order-given c.in-Some.order _ _ _ _ c.in-Some.ensures.told c.in-Some.ensures.known v)))
+    let more : List HouseCall = calls_of (order_marks (Some c.in-Some.order)) in
+    let obeyed = c.in_ok-obey.ensures.serving todo s first (calls ++ more) before policy pid start given (hands-then (H.stands first) (H.stands c.args.house.now) (H.stands c.order.new.self) calls more hands c.in-Some.ensures.stands)
+    (subst (λ (b : Bool). Serving H.may (RestsOf H.told H.quiet H.stands b first) before (noting (order_marks (Some c.in-Some.order)) (H.told c.order.new.self) (H.known c.order.new.self) (calls ++ more)) policy pid start (g.W.Wire.seen c.args.wire.now) c.args.lists.now.held c.args.lists.now.failed given todo s) (sym side.present)
+    (order-given c.in-Some.order _ _ _ _ c.in-Some.ensures.told c.in-Some.ensures.known v)) in
+    handed-so obeyed (subst (λ (b : Bool). Serving H.may (RestsOf H.told H.quiet H.stands b first) before (noted (H.told c.obey.new.house) (H.known c.obey.new.house) obeyed.all) policy pid start (g.W.Wire.seen c.obey.new.wire) c.obey.new.lists.held c.obey.new.lists.failed (given + 1) todo s) side.present obeyed.so)
+
+-- ---- no order
+
+pub returns-in_default-clause-serving : goal.returns-in_default-clause-serving
+returns-in_default-clause-serving g c todo s first calls before policy pid start given hands v = still-handed (g.H.House.known c.order.new.self) hands c.in_default.ensures.stands c.in_default.ensures.told c.in_default.ensures.known v

@@ -1,4 +1,5 @@
 use Rattle.std.proofs.Common.{◌∙◌, refl, arith, le_trans, le_refl}
+use Rattle.mux_engine.proofs.Called.{handed-none}
 use Rattle.mux_engine.proofs.Arms.{cut-then, on-err, well-none, well-then}
 use Rattle.mux_engine.proofs.Loops.{counts-err}
 use Rattle.mux_engine.proofs.Places.{places-same, places-then}
@@ -6,7 +7,7 @@ use Rattle.mux_engine.proofs.owned.offer_own.Goals as goal
 
 pub loop-init : goal.loop-init
 loop-init g c = record {
-  serving = λ present before now policy pid start given todo s v. v;
+  serving = λ present first before now policy pid start given todo s none hands v. handed-none hands v;
   known = refl;
   told = refl;
   must = refl;
@@ -26,7 +27,9 @@ loop-init g c = record {
 
 pub loop-preserved : goal.loop-preserved
 loop-preserved g c = let v = c.loop.invariant in let o = c.in_ok-own_once.ensures in record {
-  serving = λ present before now policy pid start given todo s v'. o.serving present before now policy pid start given todo s (v.serving present before now policy pid start given todo s v');
+  serving = λ present first before now policy pid start given todo s none hands v'.
+      let h = v.serving present first before now policy pid start given todo s none hands v' in
+      o.serving present first before (record now { calls = h.all }) policy pid start given todo s none h.hands h.so;
   known = o.known ∙ v.known;
   told = c.own_once.ensures.told ∙ v.told;
   must = c.own_once.ensures.must ∙ v.must;
@@ -69,8 +72,9 @@ pub returns-in_err-own_once-clause-joinings : goal.returns-in_err-own_once-claus
 returns-in_err-own_once-clause-joinings g c = c.own_once.ensures.joinings ∙ c.loop.invariant.joinings
 
 pub returns-in_err-own_once-clause-serving : goal.returns-in_err-own_once-clause-serving
-returns-in_err-own_once-clause-serving g c present before now policy pid start given todo s v = on-err c.from_residual.result _ _ c.from_residual.ensures.0
-    (c.in_err-own_once.ensures.serving present before now policy pid start given todo s (c.loop.invariant.serving present before now policy pid start given todo s v))
+returns-in_err-own_once-clause-serving g c present first before now policy pid start given todo s none hands v =
+    let h = c.loop.invariant.serving present first before now policy pid start given todo s none hands v in
+    on-err c.from_residual.result _ _ c.from_residual.ensures.0 (c.in_err-own_once.ensures.serving present first before (record now { calls = h.all }) policy pid start given todo s none h.hands h.so)
 
 pub returns-clause-told : goal.returns-clause-told
 returns-clause-told g c = c.own_once.ensures.told ∙ c.loop.invariant.told
@@ -97,7 +101,9 @@ pub returns-clause-joinings : goal.returns-clause-joinings
 returns-clause-joinings g c = c.own_once.ensures.joinings ∙ c.loop.invariant.joinings
 
 pub returns-clause-serving : goal.returns-clause-serving
-returns-clause-serving g c present before now policy pid start given todo s v = c.in_ok-own_once.ensures.serving present before now policy pid start given todo s (c.loop.invariant.serving present before now policy pid start given todo s v)
+returns-clause-serving g c present first before now policy pid start given todo s none hands v =
+    let h = c.loop.invariant.serving present first before now policy pid start given todo s none hands v in
+    c.in_ok-own_once.ensures.serving present first before (record now { calls = h.all }) policy pid start given todo s none h.hands h.so
 
 pub returns-clause-fewer : goal.returns-clause-fewer
 returns-clause-fewer g c own a = le_trans (c.in_ok-own_once.ensures.fewer own a) (c.loop.invariant.fewer own a)

@@ -1,36 +1,41 @@
-use Rattle.std.proofs.Common.{sym}
+use Rattle.std.proofs.Common.{[], ◌∷◌, sym}
+use Rattle.mux_outside.specs.HouseCalls.{Failed, Turns}
+use Rattle.mux_outside.specs.HouseCalls as call
 use Rattle.mux_engine.proofs.Arms.{on-err, some-bytes}
+use Rattle.mux_engine.proofs.Called.{handed-more, handed-none}
 use Rattle.mux_engine.proofs.Left.{fewer-left}
 use Rattle.mux_engine.proofs.Offers.{cut-fails, cut-holds, cut-starved}
 use Rattle.mux_engine.proofs.OwnMarks.{own-fails, own-holds, own-takes}
 use Rattle.mux_engine.proofs.owned.own_once.Goals as goal
 
 pub returns-in-Took-clause-serving : goal.returns-in-Took-clause-serving
-returns-in-Took-clause-serving g c present before now policy pid start given todo s v =
-    own-takes v c.args.stream c.requires.own c.requires.stream_open c.in-Took.n c.queue_of-bytes.result.now _ c.in-Took.ensures.bytes (some-bytes c.queue_of-bytes.result.now (sym c.if-is_empty.ensures)) c.in-Took.ensures.wrote c.in-Took.ensures.seen
+returns-in-Took-clause-serving g c present first before now policy pid start given todo s none hands v =
+    handed-more (call.Takes c.args.stream c.in-Took.n ∷ []) hands c.took.ensures.stands
+    (own-takes v c.args.stream c.requires.own c.requires.stream_open c.in-Took.n c.queue_of-bytes.result.now _ none c.in-Took.ensures.bytes (some-bytes c.queue_of-bytes.result.now (sym c.if-is_empty.ensures)) c.in-Took.ensures.wrote c.in-Took.ensures.seen)
 
 pub returns-in_ok-push-in-Later-clause-serving : goal.returns-in_ok-push-in-Later-clause-serving
-returns-in_ok-push-in-Later-clause-serving g c present before now policy pid start given todo s v =
-    own-holds v c.args.stream c.requires.own c.requires.stream_open c.queue_of-bytes.result.now _ _ c.in-Later.ensures.bytes (some-bytes c.queue_of-bytes.result.now (sym c.if-is_empty.ensures)) c.in-Later.ensures.seen c.in_ok-push-in-Later.ensures.ok
+returns-in_ok-push-in-Later-clause-serving g c present first before now policy pid start given todo s none hands v =
+    handed-none hands (own-holds v c.args.stream c.requires.own c.requires.stream_open c.queue_of-bytes.result.now _ _ c.in-Later.ensures.bytes (some-bytes c.queue_of-bytes.result.now (sym c.if-is_empty.ensures)) c.in-Later.ensures.seen c.in_ok-push-in-Later.ensures.ok)
 
 pub returns-in_err-push-in-Later-clause-serving : goal.returns-in_err-push-in-Later-clause-serving
-returns-in_err-push-in-Later-clause-serving g c present before now policy pid start given todo s v = on-err c.from_residual.result _ _ c.from_residual.ensures.0
+returns-in_err-push-in-Later-clause-serving g c present first before now policy pid start given todo s none hands v = on-err c.from_residual.result _ _ c.from_residual.ensures.0
     (cut-holds v _ c.args.stream c.queue_of-bytes.result.now c.requires.stream_open c.in-Later.ensures.bytes (some-bytes c.queue_of-bytes.result.now (sym c.if-is_empty.ensures)) c.in-Later.ensures.seen)
 
 pub returns-in_ok-turn-in-Failed-clause-serving : goal.returns-in_ok-turn-in-Failed-clause-serving
-returns-in_ok-turn-in-Failed-clause-serving g c present before now policy pid start given todo s v =
-    own-fails v c.args.stream c.requires.own c.requires.stream_open c.queue_of-bytes.result.now _ _ c.in-Failed.ensures.bytes (some-bytes c.queue_of-bytes.result.now (sym c.if-is_empty.ensures)) c.in-Failed.ensures.seen c.in_ok-push-in-Failed.ensures.ok
+returns-in_ok-turn-in-Failed-clause-serving g c present first before now policy pid start given todo s none hands v =
+    handed-more (Turns (Failed c.args.stream) ∷ []) hands c.in_ok-turn-in-Failed.ensures.stands
+    (own-fails v c.args.stream c.requires.own c.requires.stream_open c.queue_of-bytes.result.now _ _ none c.in-Failed.ensures.bytes (some-bytes c.queue_of-bytes.result.now (sym c.if-is_empty.ensures)) c.in-Failed.ensures.seen c.in_ok-push-in-Failed.ensures.ok)
 
 pub returns-in_err-push-in-Failed-clause-serving : goal.returns-in_err-push-in-Failed-clause-serving
-returns-in_err-push-in-Failed-clause-serving g c present before now policy pid start given todo s v = on-err c.from_residual-in_err-push-in-Failed.result _ _ c.from_residual-in_err-push-in-Failed.ensures.0
+returns-in_err-push-in-Failed-clause-serving g c present first before now policy pid start given todo s none hands v = on-err c.from_residual-in_err-push-in-Failed.result _ _ c.from_residual-in_err-push-in-Failed.ensures.0
     (cut-fails v _ c.args.stream c.queue_of-bytes.result.now c.requires.stream_open c.in-Failed.ensures.bytes (some-bytes c.queue_of-bytes.result.now (sym c.if-is_empty.ensures)) c.in-Failed.ensures.seen)
 
 pub returns-in_err-turn-in-Failed-clause-serving : goal.returns-in_err-turn-in-Failed-clause-serving
-returns-in_err-turn-in-Failed-clause-serving g c present before now policy pid start given todo s v = on-err c.from_residual-in_err-turn-in-Failed.result _ _ c.from_residual-in_err-turn-in-Failed.ensures.0
+returns-in_err-turn-in-Failed-clause-serving g c present first before now policy pid start given todo s none hands v = on-err c.from_residual-in_err-turn-in-Failed.result _ _ c.from_residual-in_err-turn-in-Failed.ensures.0
     (cut-fails v _ c.args.stream c.queue_of-bytes.result.now c.requires.stream_open c.in-Failed.ensures.bytes (some-bytes c.queue_of-bytes.result.now (sym c.if-is_empty.ensures)) c.in-Failed.ensures.seen)
 
 pub returns-in-NoMemory-clause-serving : goal.returns-in-NoMemory-clause-serving
-returns-in-NoMemory-clause-serving g c present before now policy pid start given todo s v = cut-starved v _ c.args.stream c.queue_of-bytes.result.now c.in-NoMemory.ensures.seen
+returns-in-NoMemory-clause-serving g c present first before now policy pid start given todo s none hands v = cut-starved v _ c.args.stream c.queue_of-bytes.result.now c.in-NoMemory.ensures.seen
 
 pub returns-in_ok-turn-in-Failed-clause-fewer : goal.returns-in_ok-turn-in-Failed-clause-fewer
 returns-in_ok-turn-in-Failed-clause-fewer g c own a = fewer-left c.args.stream c.args.failed.now _ own c.in_ok-push-in-Failed.ensures.ok a (sym c.if-contains-2.ensures)

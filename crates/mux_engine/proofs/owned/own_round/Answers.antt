@@ -3,6 +3,7 @@ use Rattle.mux_outside.specs.House.{Known}
 use Rattle.mux_outside.specs.OwnStreams.{is_one}
 use Rattle.mux_outside.specs.Streams.{among}
 use Rattle.mux_engine.specs.Owned.{IsOffered}
+use Rattle.mux_engine.proofs.Called.{handed-none}
 use Rattle.mux_engine.proofs.Arms.{cut-then, on-err, well-none, well-then}
 use Rattle.mux_engine.proofs.Loops.{counts-err}
 use Rattle.mux_engine.proofs.Places.{places-same, places-then}
@@ -20,7 +21,7 @@ offer_own-requires-clause-own g c = c.requires.each_own c.in-Some.stream (c.loop
 
 pub loop-stream-init : goal.loop-stream-init
 loop-stream-init g c = record {
-  serving = λ present before now policy pid start given todo s v. v;
+  serving = λ present first before now policy pid start given todo s none hands v. handed-none hands v;
   known = refl;
   told = refl;
   must = refl;
@@ -41,7 +42,9 @@ loop-stream-init g c = record {
 
 pub loop-stream-preserved : goal.loop-stream-preserved
 loop-stream-preserved g c = let v = c.loop-stream.invariant in let o = c.in_ok-offer_own.ensures in record {
-  serving = λ present before now policy pid start given todo s v'. o.serving present before now policy pid start given todo s (v.serving present before now policy pid start given todo s v');
+  serving = λ present first before now policy pid start given todo s none hands v'.
+      let h = v.serving present first before now policy pid start given todo s none hands v' in
+      o.serving present first before (record now { calls = h.all }) policy pid start given todo s none h.hands h.so;
   known = o.known ∙ v.known;
   told = c.offer_own.ensures.told ∙ v.told;
   must = c.offer_own.ensures.must ∙ v.must;
@@ -100,8 +103,9 @@ pub returns-in_err-offer_own-clause-joinings : goal.returns-in_err-offer_own-cla
 returns-in_err-offer_own-clause-joinings g c = c.offer_own.ensures.joinings ∙ c.loop-stream.invariant.joinings
 
 pub returns-in_err-offer_own-clause-serving : goal.returns-in_err-offer_own-clause-serving
-returns-in_err-offer_own-clause-serving g c present before now policy pid start given todo s v = on-err c.from_residual.result _ _ c.from_residual.ensures.0
-    (c.in_err-offer_own.ensures.serving present before now policy pid start given todo s (c.loop-stream.invariant.serving present before now policy pid start given todo s v))
+returns-in_err-offer_own-clause-serving g c present first before now policy pid start given todo s none hands v =
+    let h = c.loop-stream.invariant.serving present first before now policy pid start given todo s none hands v in
+    on-err c.from_residual.result _ _ c.from_residual.ensures.0 (c.in_err-offer_own.ensures.serving present first before (record now { calls = h.all }) policy pid start given todo s none h.hands h.so)
 
 pub returns-clause-told : goal.returns-clause-told
 returns-clause-told g c = c.loop-stream.invariant.told

@@ -2,6 +2,7 @@ use Rattle.std.proofs.Common.{◌∙◌, refl, sym, ap, arith}
 use Rattle.mux_outside.specs.House.{Known}
 use Rattle.mux_outside.specs.OwnStreams.{is_one}
 use Rattle.mux_outside.specs.Streams.{among}
+use Rattle.mux_engine.proofs.Called.{handed-none}
 use Rattle.mux_engine.proofs.Arms.{on-err, well-none, well-then}
 use Rattle.mux_engine.proofs.Cuts.{cut-still}
 use Rattle.mux_engine.proofs.Left.{own-known, own-one}
@@ -10,7 +11,7 @@ use Rattle.mux_engine.proofs.owned.own_rounds.Goals as goal
 
 pub loop-wire-init : goal.loop-wire-init
 loop-wire-init g c = record {
-  serving = λ present before now policy pid start given todo s v. v;
+  serving = λ present first before now policy pid start given todo s none hands v. handed-none hands v;
   known = refl;
   told = refl;
   must = refl;
@@ -25,7 +26,9 @@ loop-wire-init g c = record {
 
 pub loop-wire-preserved : goal.loop-wire-preserved
 loop-wire-preserved g c = let v = c.loop-wire.invariant in let o = c.in_ok-own_round.ensures in record {
-  serving = λ present before now policy pid start given todo s x. o.serving present before now policy pid start given todo s (v.serving present before now policy pid start given todo s x);
+  serving = λ present first before now policy pid start given todo s none hands x.
+      let h = v.serving present first before now policy pid start given todo s none hands x in
+      o.serving present first before (record now { calls = h.all }) policy pid start given todo s none h.hands h.so;
   known = o.known ∙ v.known;
   told = c.own_round.ensures.told ∙ v.told;
   must = c.own_round.ensures.must ∙ v.must;
@@ -39,12 +42,13 @@ loop-wire-preserved g c = let v = c.loop-wire.invariant in let o = c.in_ok-own_r
 }
 
 pub returns-in_err-own_round-clause-serving : goal.returns-in_err-own_round-clause-serving
-returns-in_err-own_round-clause-serving g c present before now policy pid start given todo s v = on-err c.from_residual-in_err-own_round.result _ _ c.from_residual-in_err-own_round.ensures.0
-    (c.in_err-own_round.ensures.serving present before now policy pid start given todo s (c.loop-wire.invariant.serving present before now policy pid start given todo s v))
+returns-in_err-own_round-clause-serving g c present first before now policy pid start given todo s none hands v =
+    let h = c.loop-wire.invariant.serving present first before now policy pid start given todo s none hands v in
+    on-err c.from_residual-in_err-own_round.result _ _ c.from_residual-in_err-own_round.ensures.0 (c.in_err-own_round.ensures.serving present first before (record now { calls = h.all }) policy pid start given todo s none h.hands h.so)
 
 pub returns-in_err-refill-clause-serving : goal.returns-in_err-refill-clause-serving
-returns-in_err-refill-clause-serving g c present before now policy pid start given todo s v = on-err c.from_residual.result _ _ c.from_residual.ensures.0
-    (cut-still (c.loop-wire.invariant.serving present before now policy pid start given todo s v) _ refl)
+returns-in_err-refill-clause-serving g c present first before now policy pid start given todo s none hands v = on-err c.from_residual.result _ _ c.from_residual.ensures.0
+    (cut-still (c.loop-wire.invariant.serving present first before now policy pid start given todo s none hands v).so _ refl)
 
 pub own_round-requires-clause-each : goal.own_round-requires-clause-each
 own_round-requires-clause-each g c = λ t a. ap (λ (k : Known). is_one t k.streams) c.loop-wire.invariant.known ∙ own-known _ _ _ c.requires.housed t (sym (ap (among t) (c.in_ok-refill.ensures.ok ∙ c.as_slice.ensures)) ∙ a)

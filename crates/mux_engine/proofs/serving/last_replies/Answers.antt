@@ -1,6 +1,7 @@
 use Rattle.std.proofs.Common.{◌+◌, ◌∷◌, ◌∙◌, refl, sym, inl, arith}
 use Rattle.mux_machine.specs.Events.{here}
 use Rattle.mux_engine.proofs.Arms.{on-ok, well-none}
+use Rattle.mux_engine.proofs.Called.{handed-none, handed-so}
 use Rattle.mux_engine.proofs.HouseCalls.{reply-covers, same-house}
 use Rattle.mux_engine.proofs.Lists.{true-false}
 use Rattle.mux_engine.proofs.Places.{places-same}
@@ -10,7 +11,7 @@ use Rattle.mux_engine.proofs.serving.last_replies.Goals as goal
 
 pub returns-then-not-all : goal.returns-then-not-all
 returns-then-not-all g c = record {
-  serving = λ before policy pid start given v. given-is given (given + 0) (omega arith) v;
+  serving = λ first calls before policy pid start given hands v. handed-none hands (given-is given (given + 0) (omega arith) v);
   known = same-house _ _ refl;
   places = places-same _ _ refl;
   unasked = λ e. refl;
@@ -24,7 +25,7 @@ returns-then-not-all g c = record {
 
 pub returns-then-not-present : goal.returns-then-not-present
 returns-then-not-present g c = record {
-  serving = λ before policy pid start given v. given-is given (given + 0) (omega arith) v;
+  serving = λ first calls before policy pid start given hands v. handed-none hands (given-is given (given + 0) (omega arith) v);
   known = same-house _ _ refl;
   places = places-same _ _ refl;
   unasked = λ e. refl;
@@ -41,7 +42,7 @@ reply_all-requires g c = record { served = c.requires.served; housed = c.require
 
 pub returns : goal.returns
 returns g c = let o = c.reply_all.ensures in record {
-  serving = λ before policy pid start given v. match-more c.reply_all.result _ (λ x. serve-todo x (0 ∷ here c.reply_all.new.engine) (λ t a. inl (reply-covers _ _ refl t a))) (o.serving before policy pid start given v);
+  serving = λ first calls before policy pid start given hands v. match-more c.reply_all.result _ (λ h. handed-so h (serve-todo h.so (0 ∷ here c.reply_all.new.engine) (λ t a. inl (reply-covers _ _ refl t a)))) (o.serving first calls before policy pid start given hands v);
   known = o.known;
   places = o.places;
   unasked = λ e. true-false (sym c.if-not-all.false ∙ e);

@@ -3,6 +3,7 @@ use Rattle.mux_history.specs.declared.limits.TheConstants.{HOUSE}
 use Rattle.mux_machine.specs.Events.{here}
 use Rattle.mux_engine.specs.Sides.{RestsOf, noted}
 use Rattle.mux_engine.proofs.Arms.{on-err}
+use Rattle.mux_engine.proofs.Called.{handed-so}
 use Rattle.mux_engine.proofs.HouseCalls.{housed-still, same-house}
 use Rattle.mux_engine.proofs.Running.{all-left, present-is, promised-is, step-took, step-waits}
 use Rattle.mux_engine.proofs.serving.one_turn.Goals as goal
@@ -10,8 +11,9 @@ use Rattle.mux_engine.proofs.serving.one_turn.Goals as goal
 -- ---- the house took a turn
 
 pub returns-then-branch-clause-serving : goal.returns-then-branch-clause-serving
-returns-then-branch-clause-serving g c before policy pid start given v =
-    inl (step-took given (0 ∷ here c.step_house.new.engine) c.in_ok-step_house.field-0 c.if-branch.true (c.in_ok-step_house.ensures.serving before policy pid start given v))
+returns-then-branch-clause-serving g c first calls before policy pid start given hands v =
+    let h = c.in_ok-step_house.ensures.serving first calls before policy pid start given hands v in
+    handed-so h (inl (step-took given (0 ∷ here c.step_house.new.engine) c.in_ok-step_house.field-0 c.if-branch.true h.so))
 
 -- ---- before a wait
 
@@ -20,18 +22,20 @@ close_lost-requires g c =
     let H = g.H.House in
     let house = c.step_house.new.house in
     let s = c.requires.served in
+    let h = c.in_ok-step_house.ensures.serving s.first s.calls s.before s.policy s.pid s.start s.given s.hands s.serving in
     record {
       served = record {
         present = (H.known c.args.house.now).present;
+        first = s.first;
         before = s.before;
-        now = noted (H.told house) (H.known house);
+        now = noted (H.told house) (H.known house) h.all;
         policy = s.policy;
         pid = s.pid;
         start = s.start;
         failed = c.step_house.new.lists.failed;
         given = s.given;
         todo = [];
-        serving = step-waits s.given (0 ∷ here c.step_house.new.engine) c.in_ok-step_house.field-0 c.if-branch.false (c.in_ok-step_house.ensures.serving s.before s.policy s.pid s.start s.given s.serving);
+        serving = step-waits s.given (0 ∷ here c.step_house.new.engine) c.in_ok-step_house.field-0 c.if-branch.false h.so;
       };
     }
 
@@ -40,20 +44,22 @@ hush-requires g c =
     let H = g.H.House in
     let house = c.step_house.new.house in
     let s = c.requires.served in
-    let v = c.close_lost.ensures.serving (H.known c.args.house.now).present s.before (noted (H.told house) (H.known house)) s.policy s.pid s.start c.step_house.new.lists.failed s.given []
-    (step-waits s.given (0 ∷ here c.step_house.new.engine) c.in_ok-step_house.field-0 c.if-branch.false (c.in_ok-step_house.ensures.serving s.before s.policy s.pid s.start s.given s.serving)) in
+    let h = c.in_ok-step_house.ensures.serving s.first s.calls s.before s.policy s.pid s.start s.given s.hands s.serving in
+    let v = c.close_lost.ensures.serving (H.known c.args.house.now).present s.first s.before (noted (H.told house) (H.known house) h.all) s.policy s.pid s.start c.step_house.new.lists.failed s.given []
+    (step-waits s.given (0 ∷ here c.step_house.new.engine) c.in_ok-step_house.field-0 c.if-branch.false h.so) in
     record { hears = v.hears }
 
 -- ---- the run is over
 
 pub returns-then-is_over-clause-serving : goal.returns-then-is_over-clause-serving
-returns-then-is_over-clause-serving g c before policy pid start given v =
+returns-then-is_over-clause-serving g c first calls before policy pid start given hands v =
     let H = g.H.House in
+    let h = c.in_ok-step_house.ensures.serving first calls before policy pid start given hands v in
     let house = c.step_house.new.house in
     let lists = c.step_house.new.lists in
-    let stepped = step-waits given (0 ∷ here c.step_house.new.engine) c.in_ok-step_house.field-0 c.if-branch.false (c.in_ok-step_house.ensures.serving before policy pid start given v) in
-    let closed = c.close_lost.ensures.serving (H.known c.args.house.now).present before (noted (H.told house) (H.known house)) policy pid start lists.failed given [] stepped in
-    inr (refl, all-left (HOUSE ∷ []) (c.hush.ensures.serving (H.known c.args.house.now).present before (noted (H.told house) (H.known house)) policy pid start c.close_lost.new.held lists.failed given [] closed))
+    let stepped = step-waits given (0 ∷ here c.step_house.new.engine) c.in_ok-step_house.field-0 c.if-branch.false h.so in
+    let closed = c.close_lost.ensures.serving (H.known c.args.house.now).present first before (noted (H.told house) (H.known house) h.all) policy pid start lists.failed given [] stepped in
+    handed-so h (inr (refl, all-left (HOUSE ∷ []) (c.hush.ensures.serving (H.known c.args.house.now).present first before (noted (H.told house) (H.known house) h.all) policy pid start c.close_lost.new.held lists.failed given [] closed)))
 
 pub returns-then-is_over-clause-housed : goal.returns-then-is_over-clause-housed
 returns-then-is_over-clause-housed g c = let H = g.H.House in let known = H.known c.step_house.new.house in let own = c.step_house.new.lists.own in
@@ -65,9 +71,10 @@ returns-then-is_over-clause-held_is g c =
     let house = c.step_house.new.house in
     let lists = c.step_house.new.lists in
     let s = c.requires.served in
-    let stepped = step-waits s.given (0 ∷ here c.step_house.new.engine) c.in_ok-step_house.field-0 c.if-branch.false (c.in_ok-step_house.ensures.serving s.before s.policy s.pid s.start s.given s.serving) in
-    let closed = c.close_lost.ensures.serving (H.known c.args.house.now).present s.before (noted (H.told house) (H.known house)) s.policy s.pid s.start lists.failed s.given [] stepped in
-    let hushed = c.hush.ensures.serving (H.known c.args.house.now).present s.before (noted (H.told house) (H.known house)) s.policy s.pid s.start c.close_lost.new.held lists.failed s.given [] closed in
+    let h = c.in_ok-step_house.ensures.serving s.first s.calls s.before s.policy s.pid s.start s.given s.hands s.serving in
+    let stepped = step-waits s.given (0 ∷ here c.step_house.new.engine) c.in_ok-step_house.field-0 c.if-branch.false h.so in
+    let closed = c.close_lost.ensures.serving (H.known c.args.house.now).present s.first s.before (noted (H.told house) (H.known house) h.all) s.policy s.pid s.start lists.failed s.given [] stepped in
+    let hushed = c.hush.ensures.serving (H.known c.args.house.now).present s.first s.before (noted (H.told house) (H.known house) h.all) s.policy s.pid s.start c.close_lost.new.held lists.failed s.given [] closed in
     hushed.held_is
 
 -- ---- a wait
@@ -78,16 +85,20 @@ turn-requires-clause-served g c =
     let house = c.step_house.new.house in
     let lists = c.step_house.new.lists in
     let s = c.requires.served in
-    let stepped = step-waits s.given (0 ∷ here c.step_house.new.engine) c.in_ok-step_house.field-0 c.if-branch.false (c.in_ok-step_house.ensures.serving s.before s.policy s.pid s.start s.given s.serving) in
-    let closed = c.close_lost.ensures.serving (H.known c.args.house.now).present s.before (noted (H.told house) (H.known house)) s.policy s.pid s.start lists.failed s.given [] stepped in
-    let hushed = c.hush.ensures.serving (H.known c.args.house.now).present s.before (noted (H.told house) (H.known house)) s.policy s.pid s.start c.close_lost.new.held lists.failed s.given [] closed in
+    let h = c.in_ok-step_house.ensures.serving s.first s.calls s.before s.policy s.pid s.start s.given s.hands s.serving in
+    let stepped = step-waits s.given (0 ∷ here c.step_house.new.engine) c.in_ok-step_house.field-0 c.if-branch.false h.so in
+    let closed = c.close_lost.ensures.serving (H.known c.args.house.now).present s.first s.before (noted (H.told house) (H.known house) h.all) s.policy s.pid s.start lists.failed s.given [] stepped in
+    let hushed = c.hush.ensures.serving (H.known c.args.house.now).present s.first s.before (noted (H.told house) (H.known house) h.all) s.policy s.pid s.start c.close_lost.new.held lists.failed s.given [] closed in
     record {
+      first = s.first;
+      calls = h.all;
+      hands = h.hands;
       before = s.before;
       policy = s.policy;
       pid = s.pid;
       start = s.start;
       given = s.given;
-      serving = present-is (RestsOf H.told H.quiet) _ _ (sym c.in_ok-step_house.ensures.present) hushed;
+      serving = present-is (λ b. RestsOf H.told H.quiet H.stands b s.first) _ _ (sym c.in_ok-step_house.ensures.present) hushed;
     }
 
 pub turn-requires-clause-housed : goal.turn-requires-clause-housed
@@ -95,23 +106,25 @@ turn-requires-clause-housed g c = let H = g.H.House in let known = H.known c.ste
     housed-still known known _ _ own (c.close_lost.ensures.housed known own c.in_ok-step_house.ensures.housed) (same-house known known refl) c.hush.ensures.places
 
 pub returns-in_err-went-clause-serving : goal.returns-in_err-went-clause-serving
-returns-in_err-went-clause-serving g c before policy pid start given v =
+returns-in_err-went-clause-serving g c first calls before policy pid start given hands v =
     let H = g.H.House in
+    let h = c.in_ok-step_house.ensures.serving first calls before policy pid start given hands v in
     let house = c.step_house.new.house in
     let lists = c.step_house.new.lists in
-    let stepped = step-waits given (0 ∷ here c.step_house.new.engine) c.in_ok-step_house.field-0 c.if-branch.false (c.in_ok-step_house.ensures.serving before policy pid start given v) in
-    let closed = c.close_lost.ensures.serving (H.known c.args.house.now).present before (noted (H.told house) (H.known house)) policy pid start lists.failed given [] stepped in
-    let hushed = c.hush.ensures.serving (H.known c.args.house.now).present before (noted (H.told house) (H.known house)) policy pid start c.close_lost.new.held lists.failed given [] closed in
-    on-err c.from_residual-in_err-went.result _ _ c.from_residual-in_err-went.ensures.0 (promised-is (RestsOf H.told H.quiet) _ _ c.in_ok-step_house.ensures.present
-    (c.in_err-went.ensures.serving before policy pid start given (present-is (RestsOf H.told H.quiet) _ _ (sym c.in_ok-step_house.ensures.present) hushed)))
+    let stepped = step-waits given (0 ∷ here c.step_house.new.engine) c.in_ok-step_house.field-0 c.if-branch.false h.so in
+    let closed = c.close_lost.ensures.serving (H.known c.args.house.now).present first before (noted (H.told house) (H.known house) h.all) policy pid start lists.failed given [] stepped in
+    let hushed = c.hush.ensures.serving (H.known c.args.house.now).present first before (noted (H.told house) (H.known house) h.all) policy pid start c.close_lost.new.held lists.failed given [] closed in
+    on-err c.from_residual-in_err-went.result _ _ c.from_residual-in_err-went.ensures.0 (promised-is (λ b. RestsOf H.told H.quiet H.stands b first) _ _ c.in_ok-step_house.ensures.present
+    (c.in_err-went.ensures.serving first h.all before policy pid start given h.hands (present-is (λ b. RestsOf H.told H.quiet H.stands b first) _ _ (sym c.in_ok-step_house.ensures.present) hushed)))
 
 pub returns-clause-serving : goal.returns-clause-serving
-returns-clause-serving g c before policy pid start given v =
+returns-clause-serving g c first calls before policy pid start given hands v =
     let H = g.H.House in
+    let h = c.in_ok-step_house.ensures.serving first calls before policy pid start given hands v in
     let house = c.step_house.new.house in
     let lists = c.step_house.new.lists in
-    let stepped = step-waits given (0 ∷ here c.step_house.new.engine) c.in_ok-step_house.field-0 c.if-branch.false (c.in_ok-step_house.ensures.serving before policy pid start given v) in
-    let closed = c.close_lost.ensures.serving (H.known c.args.house.now).present before (noted (H.told house) (H.known house)) policy pid start lists.failed given [] stepped in
-    let hushed = c.hush.ensures.serving (H.known c.args.house.now).present before (noted (H.told house) (H.known house)) policy pid start c.close_lost.new.held lists.failed given [] closed in
-    inl (present-is (RestsOf H.told H.quiet) _ _ c.in_ok-step_house.ensures.present
-    (c.in_ok-went.ensures.serving before policy pid start given (present-is (RestsOf H.told H.quiet) _ _ (sym c.in_ok-step_house.ensures.present) hushed)))
+    let stepped = step-waits given (0 ∷ here c.step_house.new.engine) c.in_ok-step_house.field-0 c.if-branch.false h.so in
+    let closed = c.close_lost.ensures.serving (H.known c.args.house.now).present first before (noted (H.told house) (H.known house) h.all) policy pid start lists.failed given [] stepped in
+    let hushed = c.hush.ensures.serving (H.known c.args.house.now).present first before (noted (H.told house) (H.known house) h.all) policy pid start c.close_lost.new.held lists.failed given [] closed in
+    let t = c.in_ok-went.ensures.serving first h.all before policy pid start given h.hands (present-is (λ b. RestsOf H.told H.quiet H.stands b first) _ _ (sym c.in_ok-step_house.ensures.present) hushed) in
+    handed-so t (inl (present-is (λ b. RestsOf H.told H.quiet H.stands b first) _ _ c.in_ok-step_house.ensures.present t.so))

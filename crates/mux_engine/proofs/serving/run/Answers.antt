@@ -1,4 +1,5 @@
 use Rattle.std.proofs.Common.{◌+◌, ◌∙◌, [], refl, sym, ap, arith}
+use Rattle.mux_outside.proofs.HouseCalls.{hands-none}
 use Rattle.mux_machine.specs.State.{State}
 use Rattle.mux_engine.specs.Sides.{RestsOf}
 use Rattle.mux_engine.proofs.Answering.{answer-is, none-given, none-held, over-still, ran-starved, ran-whole, refused-whole, stops-whole}
@@ -8,51 +9,61 @@ use Rattle.mux_engine.proofs.serving.run.Goals as goal
 
 pub returns-in_err-enter-clause-ran : goal.returns-in_err-enter-clause-ran
 returns-in_err-enter-clause-ran g c before policy pid start v z =
-    ran-starved c.args.turns 0 c.from_residual.result c.from_residual.ensures.0 (omega arith) (c.in_err-enter.ensures.serving before policy pid start [] [] 0 v z)
+    ran-starved _ _ c.args.turns 0 c.from_residual.result c.from_residual.ensures.0 (omega arith) (c.in_err-enter.ensures.serving c.args.house.now [] before policy pid start [] [] 0 v z)
 
 pub turns_of-requires-clause-served : goal.turns_of-requires-clause-served
 turns_of-requires-clause-served g c = let w = c.requires.running.0 in record {
+  first = w.first;
+  calls = w.calls;
+  hands = w.hands;
   before = w.before;
   policy = w.policy;
   pid = w.pid;
   start = w.start;
   given = w.given;
-  serving = none-held _ _ c.new-lists.ensures.held c.new-lists.ensures.failed (c.in_ok-enter.ensures.serving w.before w.policy w.pid w.start [] [] w.given w.serving c.requires.running.1).0;
+  serving = none-held _ _ c.new-lists.ensures.held c.new-lists.ensures.failed (c.in_ok-enter.ensures.serving w.first w.calls w.before w.policy w.pid w.start [] [] w.given w.serving c.requires.running.1).0;
 }
 
 pub turns_of-requires-clause-on : goal.turns_of-requires-clause-on
 turns_of-requires-clause-on g c = let w = c.requires.running.0 in
-    (c.in_ok-enter.ensures.serving w.before w.policy w.pid w.start [] [] w.given w.serving c.requires.running.1).1
+    (c.in_ok-enter.ensures.serving w.first w.calls w.before w.policy w.pid w.start [] [] w.given w.serving c.requires.running.1).1
 
 pub returns-in_err-all-clause-ran : goal.returns-in_err-all-clause-ran
 returns-in_err-all-clause-ran g c before policy pid start v z = let r = c.from_residual-in_err-all in
-    ran-starved c.args.turns c.args.turns r.result r.ensures.0 (omega arith)
-    (c.in_err-all.ensures.serving before policy pid start (none-held _ _ c.new-lists.ensures.held c.new-lists.ensures.failed (c.in_ok-enter.ensures.serving before policy pid start [] [] 0 v z).0))
+    ran-starved _ _ c.args.turns c.args.turns r.result r.ensures.0 (omega arith)
+    (c.in_err-all.ensures.serving c.args.house.now [] before policy pid start (hands-none (g.H.House.stands c.args.house.now)) (none-held _ _ c.new-lists.ensures.held c.new-lists.ensures.failed (c.in_ok-enter.ensures.serving c.args.house.now [] before policy pid start [] [] 0 v z).0))
 
 pub finish-requires-clause-served : goal.finish-requires-clause-served
 finish-requires-clause-served g c = let H = g.H.House in let w = c.requires.running.0 in
-    let entered = (c.in_ok-enter.ensures.serving w.before w.policy w.pid w.start [] [] w.given w.serving c.requires.running.1).0 in
-    let spent = c.in_ok-all.ensures.serving w.before w.policy w.pid w.start (given-is w.given 0 (none-given w.serving c.requires.running.1) (none-held _ _ c.new-lists.ensures.held c.new-lists.ensures.failed entered)) in record {
+    let entered = (c.in_ok-enter.ensures.serving w.first w.calls w.before w.policy w.pid w.start [] [] w.given w.serving c.requires.running.1).0 in
+    let handed = c.in_ok-all.ensures.serving w.first w.calls w.before w.policy w.pid w.start w.hands (given-is w.given 0 (none-given w.serving c.requires.running.1) (none-held _ _ c.new-lists.ensures.held c.new-lists.ensures.failed entered)) in
+    let spent = handed.so in record {
+      first = w.first;
+      calls = handed.all;
+      hands = handed.hands;
       before = w.before;
       policy = w.policy;
       pid = w.pid;
       start = w.start;
       given = spent.given;
-      serving = present-is (RestsOf H.told H.quiet) _ _ (sym c.in_ok-all.ensures.present) spent.serving;
+      serving = present-is (λ b. RestsOf H.told H.quiet H.stands b w.first) _ _ (sym c.in_ok-all.ensures.present) spent.serving;
     }
 
 pub returns-in_err-finish-clause-ran : goal.returns-in_err-finish-clause-ran
 returns-in_err-finish-clause-ran g c before policy pid start v z = let H = g.H.House in let r = c.from_residual-in_err-finish in
-    let spent = c.in_ok-all.ensures.serving before policy pid start (none-held _ _ c.new-lists.ensures.held c.new-lists.ensures.failed (c.in_ok-enter.ensures.serving before policy pid start [] [] 0 v z).0) in
-    ran-starved c.args.turns (spent.given + 0) r.result r.ensures.0 (none-more spent.given c.args.turns spent.most)
-    (promised-is (RestsOf H.told H.quiet) _ _ c.in_ok-all.ensures.present (c.in_err-finish.ensures.serving before policy pid start spent.given (present-is (RestsOf H.told H.quiet) _ _ (sym c.in_ok-all.ensures.present) spent.serving)))
+    let handed = c.in_ok-all.ensures.serving c.args.house.now [] before policy pid start (hands-none (H.stands c.args.house.now)) (none-held _ _ c.new-lists.ensures.held c.new-lists.ensures.failed (c.in_ok-enter.ensures.serving c.args.house.now [] before policy pid start [] [] 0 v z).0) in
+    let spent = handed.so in
+    ran-starved _ _ c.args.turns (spent.given + 0) r.result r.ensures.0 (none-more spent.given c.args.turns spent.most)
+    (promised-is (λ b. RestsOf H.told H.quiet H.stands b c.args.house.now) _ _ c.in_ok-all.ensures.present (c.in_err-finish.ensures.serving c.args.house.now handed.all before policy pid start spent.given handed.hands (present-is (λ b. RestsOf H.told H.quiet H.stands b c.args.house.now) _ _ (sym c.in_ok-all.ensures.present) spent.serving)))
 
 pub returns-clause-ran : goal.returns-clause-ran
 returns-clause-ran g c before policy pid start v z = let H = g.H.House in let t = c.in_ok-all.ensures in let f = c.in_ok-finish.ensures in
-    let spent = t.serving before policy pid start (none-held _ _ c.new-lists.ensures.held c.new-lists.ensures.failed (c.in_ok-enter.ensures.serving before policy pid start [] [] 0 v z).0) in
-    ran-whole c.args.turns spent.given _ c.turns_of.new.engine.ended _ _ _ c.answer_of.result
-    (present-is (RestsOf H.told H.quiet) _ _ t.present (f.serving before policy pid start spent.given (present-is (RestsOf H.told H.quiet) _ _ (sym t.present) spent.serving)))
-    refl spent.most spent.all_given f.ended
+    let handed = t.serving c.args.house.now [] before policy pid start (hands-none (H.stands c.args.house.now)) (none-held _ _ c.new-lists.ensures.held c.new-lists.ensures.failed (c.in_ok-enter.ensures.serving c.args.house.now [] before policy pid start [] [] 0 v z).0) in
+    let spent = handed.so in
+    let last = f.serving c.args.house.now handed.all before policy pid start spent.given handed.hands (present-is (λ b. RestsOf H.told H.quiet H.stands b c.args.house.now) _ _ (sym t.present) spent.serving) in
+    ran-whole (H.stands c.args.house.now) (H.stands c.finish.new.house) c.args.turns spent.given _ c.turns_of.new.engine.ended _ _ _ c.answer_of.result
+    (present-is (λ b. RestsOf H.told H.quiet H.stands b c.args.house.now) _ _ t.present last.so)
+    refl last.hands spent.most spent.all_given f.ended
     (λ q on. over-still (λ h. (H.known h).present) H.must H.refused c.turns_of.new.house c.finish.new.house _ (f.unasked q) t.present (t.over q on))
     (answer-is c.answer_of.result c.finish.new.engine.ended _ _ _ _ (f.known.present ∙ t.present) c.answer_of.ensures)
 

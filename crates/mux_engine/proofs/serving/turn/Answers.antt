@@ -1,6 +1,7 @@
 use Rattle.std.proofs.Common.{◌≡◌, ◌++◌, ◌+◌, ◌∙◌, ◌∷◌, [], refl, sym, ap, subst, ℕ, List, arith}
 use Rattle.std.specs.Prelude.{All, IsTrue, length, ◌<◌, filter}
 use Rattle.mux_outside.specs.Counts.{Rose}
+use Rattle.mux_outside.specs.HouseCalls.{Turns, calls_of, happening_of}
 use Rattle.mux_outside.specs.Seen.{Seen}
 use Rattle.mux_outside.specs.Streams.{among}
 use Rattle.mux_machine.specs.Events.{here}
@@ -9,18 +10,20 @@ use Rattle.mux_engine.specs.Serving.{Serving}
 use Rattle.mux_engine.specs.Sides.{RestsOf, SameHouse, noted}
 use Rattle.mux_engine.specs.Turns.{IsEventOf, IsOwnOf}
 use Rattle.mux_engine.proofs.Arms.{on-err, on-ok}
+use Rattle.mux_engine.proofs.Called.{handed-more, handed-none}
 use Rattle.mux_engine.proofs.Counting.{turn-by-row, turn-rose}
 use Rattle.mux_engine.proofs.Cuts.{cut-here, cut-still}
 use Rattle.mux_engine.proofs.Handed.{AtWait, HasWaited, alone-as, alone-heard, at-wait, own-noted, has-waited, turn-ends, turn-fits, turn-frees, turn-heeds, turn-house, turn-housed, turn-own-housed, turn-owns, turn-starved}
 use Rattle.mux_engine.proofs.Places.{server-open}
 use Rattle.mux_engine.proofs.Runs.{promised-more}
+use Rattle.mux_engine.proofs.Running.{both-ok}
 use Rattle.mux_engine.proofs.Told.{tells-none}
 use Rattle.mux_engine.proofs.Unopened.{event-opens, wait-opens}
 use Rattle.mux_engine.proofs.Waits.{some-waits, waiting-blocked, waiting-open}
 use Rattle.mux_engine.proofs.serving.turn.Goals as goal
 
 pub returns-in_err-list_waiting-clause-serving : goal.returns-in_err-list_waiting-clause-serving
-returns-in_err-list_waiting-clause-serving g c before policy pid start given v = on-err c.from_residual.result _ _ c.from_residual.ensures.0
+returns-in_err-list_waiting-clause-serving g c first calls before policy pid start given hands v = on-err c.from_residual.result _ _ c.from_residual.ensures.0
     (promised-more given (given + 1) (omega arith) (cut-still v _ refl))
 
 pub wait-told-requires-clause-waiting_blocked : goal.wait-told-requires-clause-waiting_blocked
@@ -30,8 +33,8 @@ wait-told-requires-clause-waiting_blocked g c =
     let house = c.args.house.now in
     let lists = c.args.lists.now in
     let seen : Seen = W.seen c.args.wire.now in
-    let a : AtWait (RestsOf H.told H.quiet (H.known house).present) (noted (H.told house) (H.known house)) seen lists.own lists.held lists.failed (H.queue house) c.args.engine.now =
-    at-wait H.told H.quiet house (H.known house) seen lists.own lists.held lists.failed (H.queue house) c.args.engine.now c.requires.housed c.requires.ready c.requires.closed c.requires.refused c.requires.on c.requires.hears in
+    let a : AtWait (RestsOf H.told H.quiet H.stands (H.known house).present c.requires.served.first) (noted (H.told house) (H.known house) c.requires.served.calls) seen lists.own lists.held lists.failed (H.queue house) c.args.engine.now =
+    at-wait H.told H.quiet H.stands c.requires.served.first house (H.known house) seen lists.own lists.held lists.failed (H.queue house) c.args.engine.now c.requires.housed c.requires.ready c.requires.closed c.requires.refused c.requires.on c.requires.hears c.requires.served.hands in
     let todo : c.list_waiting.new.todo ≡ c.args.engine.now.waiting ++ filter (waits_for (H.queue house) lists.failed) lists.own =
     c.in_ok-list_waiting.ensures ∙ ap (λ (l : List ℕ). l ++ filter (waits_for (H.queue house) lists.failed) lists.own) c.waiting.ensures.exact in
     subst (λ (l : List ℕ). All (λ t. IsTrue (among t seen.blocked)) l) (sym todo) (waiting-blocked c.requires.served.serving a.none a.admitted a.live a.offered)
@@ -43,8 +46,8 @@ wait-told-requires-clause-waiting_open g c =
     let house = c.args.house.now in
     let lists = c.args.lists.now in
     let seen : Seen = W.seen c.args.wire.now in
-    let a : AtWait (RestsOf H.told H.quiet (H.known house).present) (noted (H.told house) (H.known house)) seen lists.own lists.held lists.failed (H.queue house) c.args.engine.now =
-    at-wait H.told H.quiet house (H.known house) seen lists.own lists.held lists.failed (H.queue house) c.args.engine.now c.requires.housed c.requires.ready c.requires.closed c.requires.refused c.requires.on c.requires.hears in
+    let a : AtWait (RestsOf H.told H.quiet H.stands (H.known house).present c.requires.served.first) (noted (H.told house) (H.known house) c.requires.served.calls) seen lists.own lists.held lists.failed (H.queue house) c.args.engine.now =
+    at-wait H.told H.quiet H.stands c.requires.served.first house (H.known house) seen lists.own lists.held lists.failed (H.queue house) c.args.engine.now c.requires.housed c.requires.ready c.requires.closed c.requires.refused c.requires.on c.requires.hears c.requires.served.hands in
     let todo : c.list_waiting.new.todo ≡ c.args.engine.now.waiting ++ filter (waits_for (H.queue house) lists.failed) lists.own =
     c.in_ok-list_waiting.ensures ∙ ap (λ (l : List ℕ). l ++ filter (waits_for (H.queue house) lists.failed) lists.own) c.waiting.ensures.exact in
     subst (λ (l : List ℕ). All (λ t. IsTrue (among t seen.streams)) l) (sym todo) (waiting-open c.requires.served.serving a.none a.admitted a.live a.offered)
@@ -59,8 +62,8 @@ wait-told-requires-clause-some g c write =
     let house = c.args.house.now in
     let lists = c.args.lists.now in
     let seen : Seen = W.seen c.args.wire.now in
-    let a : AtWait (RestsOf H.told H.quiet (H.known house).present) (noted (H.told house) (H.known house)) seen lists.own lists.held lists.failed (H.queue house) c.args.engine.now =
-    at-wait H.told H.quiet house (H.known house) seen lists.own lists.held lists.failed (H.queue house) c.args.engine.now c.requires.housed c.requires.ready c.requires.closed c.requires.refused c.requires.on c.requires.hears in
+    let a : AtWait (RestsOf H.told H.quiet H.stands (H.known house).present c.requires.served.first) (noted (H.told house) (H.known house) c.requires.served.calls) seen lists.own lists.held lists.failed (H.queue house) c.args.engine.now =
+    at-wait H.told H.quiet H.stands c.requires.served.first house (H.known house) seen lists.own lists.held lists.failed (H.queue house) c.args.engine.now c.requires.housed c.requires.ready c.requires.closed c.requires.refused c.requires.on c.requires.hears c.requires.served.hands in
     let todo : c.list_waiting.new.todo ≡ c.args.engine.now.waiting ++ filter (waits_for (H.queue house) lists.failed) lists.own =
     c.in_ok-list_waiting.ensures ∙ ap (λ (l : List ℕ). l ++ filter (waits_for (H.queue house) lists.failed) lists.own) c.waiting.ensures.exact in
     subst (λ (l : List ℕ). 0 < length l) (sym todo) (some-waits c.requires.served.serving a.none a.admitted a.live a.offered (sym c.wanted.ensures ∙ write))
@@ -68,18 +71,19 @@ wait-told-requires-clause-some g c write =
 -- ---- an event
 
 pub returns-in-Event-clause-serving : goal.returns-in-Event-clause-serving
-returns-in-Event-clause-serving g c before policy pid start given v =
+returns-in-Event-clause-serving g c first calls before policy pid start given hands v =
     let H = g.H.House in
     let W = g.W.Wire in
     let house = c.args.house.now in
     let lists = c.args.lists.now in
     let seen : Seen = W.seen c.args.wire.now in
-    let a : AtWait (RestsOf H.told H.quiet (H.known house).present) (noted (H.told house) (H.known house)) seen lists.own lists.held lists.failed (H.queue house) c.args.engine.now =
-    at-wait H.told H.quiet house (H.known house) seen lists.own lists.held lists.failed (H.queue house) c.args.engine.now c.requires.housed c.requires.ready c.requires.closed c.requires.refused c.requires.on c.requires.hears in
+    let a : AtWait (RestsOf H.told H.quiet H.stands (H.known house).present first) (noted (H.told house) (H.known house) calls) seen lists.own lists.held lists.failed (H.queue house) c.args.engine.now =
+    at-wait H.told H.quiet H.stands first house (H.known house) seen lists.own lists.held lists.failed (H.queue house) c.args.engine.now c.requires.housed c.requires.ready c.requires.closed c.requires.refused c.requires.on c.requires.hears hands in
     let w : HasWaited seen (W.seen c.wait-told.new.self) lists.own lists.failed (H.queue house) c.args.engine.now c.wait-told.result c.wait-told.new.into =
     has-waited seen (W.seen c.wait-told.new.self) lists.own lists.failed (H.queue house) c.args.engine.now c.wait-told.result c.wait-told.new.into c.as_bytes.result.now c.list_waiting.new.todo c.waiting.result.now c.wanted.result c.wait-told.ensures.seen c.in_ok-list_waiting.ensures c.waiting.ensures.exact c.wanted.ensures c.next_of.ensures.bytes c.as_bytes.ensures.bytes c.wait-told.ensures.turn c.wait-told.ensures.own_turn in
     let next : IsEventOf c.in-Event.e c.wait-told.result c.wait-told.new.into = subst (λ (b : List ℕ). IsEventOf c.in-Event.e c.wait-told.result b) c.as_bytes.ensures.bytes c.in-Event.ensures.next in
-    turn-heeds v a w c.heed.result c.in-Event.e next c.heed.new.engine c.heed.new.asks (H.told house) (H.told c.heed.new.house) (H.known house) (H.known c.heed.new.house) (W.seen c.heed.new.wire) refl refl refl c.heed.ensures.heeded
+    both-ok c.heed.result _ (λ served step. handed-more (calls_of c.heed.new.asks) hands step served)
+    (turn-heeds v a w c.heed.result c.in-Event.e next c.heed.new.engine c.heed.new.asks (H.told house) (H.told c.heed.new.house) (H.known house) (H.known c.heed.new.house) (W.seen c.heed.new.wire) refl refl refl c.heed.ensures.heeded) c.heed.ensures.handed
 
 pub returns-in-Event-clause-housed : goal.returns-in-Event-clause-housed
 returns-in-Event-clause-housed g c =
@@ -88,8 +92,8 @@ returns-in-Event-clause-housed g c =
     let house = c.args.house.now in
     let lists = c.args.lists.now in
     let seen : Seen = W.seen c.args.wire.now in
-    let a : AtWait (RestsOf H.told H.quiet (H.known house).present) (noted (H.told house) (H.known house)) seen lists.own lists.held lists.failed (H.queue house) c.args.engine.now =
-    at-wait H.told H.quiet house (H.known house) seen lists.own lists.held lists.failed (H.queue house) c.args.engine.now c.requires.housed c.requires.ready c.requires.closed c.requires.refused c.requires.on c.requires.hears in
+    let a : AtWait (RestsOf H.told H.quiet H.stands (H.known house).present c.requires.served.first) (noted (H.told house) (H.known house) c.requires.served.calls) seen lists.own lists.held lists.failed (H.queue house) c.args.engine.now =
+    at-wait H.told H.quiet H.stands c.requires.served.first house (H.known house) seen lists.own lists.held lists.failed (H.queue house) c.args.engine.now c.requires.housed c.requires.ready c.requires.closed c.requires.refused c.requires.on c.requires.hears c.requires.served.hands in
     let w : HasWaited seen (W.seen c.wait-told.new.self) lists.own lists.failed (H.queue house) c.args.engine.now c.wait-told.result c.wait-told.new.into =
     has-waited seen (W.seen c.wait-told.new.self) lists.own lists.failed (H.queue house) c.args.engine.now c.wait-told.result c.wait-told.new.into c.as_bytes.result.now c.list_waiting.new.todo c.waiting.result.now c.wanted.result c.wait-told.ensures.seen c.in_ok-list_waiting.ensures c.waiting.ensures.exact c.wanted.ensures c.next_of.ensures.bytes c.as_bytes.ensures.bytes c.wait-told.ensures.turn c.wait-told.ensures.own_turn in
     let next : IsEventOf c.in-Event.e c.wait-told.result c.wait-told.new.into = subst (λ (b : List ℕ). IsEventOf c.in-Event.e c.wait-told.result b) c.as_bytes.ensures.bytes c.in-Event.ensures.next in
@@ -114,8 +118,8 @@ returns-in-Event-clause-failed g c =
     let house = c.args.house.now in
     let lists = c.args.lists.now in
     let seen : Seen = W.seen c.args.wire.now in
-    let a : AtWait (RestsOf H.told H.quiet (H.known house).present) (noted (H.told house) (H.known house)) seen lists.own lists.held lists.failed (H.queue house) c.args.engine.now =
-    at-wait H.told H.quiet house (H.known house) seen lists.own lists.held lists.failed (H.queue house) c.args.engine.now c.requires.housed c.requires.ready c.requires.closed c.requires.refused c.requires.on c.requires.hears in
+    let a : AtWait (RestsOf H.told H.quiet H.stands (H.known house).present c.requires.served.first) (noted (H.told house) (H.known house) c.requires.served.calls) seen lists.own lists.held lists.failed (H.queue house) c.args.engine.now =
+    at-wait H.told H.quiet H.stands c.requires.served.first house (H.known house) seen lists.own lists.held lists.failed (H.queue house) c.args.engine.now c.requires.housed c.requires.ready c.requires.closed c.requires.refused c.requires.on c.requires.hears c.requires.served.hands in
     let w : HasWaited seen (W.seen c.wait-told.new.self) lists.own lists.failed (H.queue house) c.args.engine.now c.wait-told.result c.wait-told.new.into =
     has-waited seen (W.seen c.wait-told.new.self) lists.own lists.failed (H.queue house) c.args.engine.now c.wait-told.result c.wait-told.new.into c.as_bytes.result.now c.list_waiting.new.todo c.waiting.result.now c.wanted.result c.wait-told.ensures.seen c.in_ok-list_waiting.ensures c.waiting.ensures.exact c.wanted.ensures c.next_of.ensures.bytes c.as_bytes.ensures.bytes c.wait-told.ensures.turn c.wait-told.ensures.own_turn in
     let next : IsEventOf c.in-Event.e c.wait-told.result c.wait-told.new.into = subst (λ (b : List ℕ). IsEventOf c.in-Event.e c.wait-told.result b) c.as_bytes.ensures.bytes c.in-Event.ensures.next in
@@ -130,8 +134,8 @@ returns-in-Event-clause-by_row g c =
     let house = c.args.house.now in
     let lists = c.args.lists.now in
     let seen : Seen = W.seen c.args.wire.now in
-    let a : AtWait (RestsOf H.told H.quiet (H.known house).present) (noted (H.told house) (H.known house)) seen lists.own lists.held lists.failed (H.queue house) c.args.engine.now =
-    at-wait H.told H.quiet house (H.known house) seen lists.own lists.held lists.failed (H.queue house) c.args.engine.now c.requires.housed c.requires.ready c.requires.closed c.requires.refused c.requires.on c.requires.hears in
+    let a : AtWait (RestsOf H.told H.quiet H.stands (H.known house).present c.requires.served.first) (noted (H.told house) (H.known house) c.requires.served.calls) seen lists.own lists.held lists.failed (H.queue house) c.args.engine.now =
+    at-wait H.told H.quiet H.stands c.requires.served.first house (H.known house) seen lists.own lists.held lists.failed (H.queue house) c.args.engine.now c.requires.housed c.requires.ready c.requires.closed c.requires.refused c.requires.on c.requires.hears c.requires.served.hands in
     let w : HasWaited seen (W.seen c.wait-told.new.self) lists.own lists.failed (H.queue house) c.args.engine.now c.wait-told.result c.wait-told.new.into =
     has-waited seen (W.seen c.wait-told.new.self) lists.own lists.failed (H.queue house) c.args.engine.now c.wait-told.result c.wait-told.new.into c.as_bytes.result.now c.list_waiting.new.todo c.waiting.result.now c.wanted.result c.wait-told.ensures.seen c.in_ok-list_waiting.ensures c.waiting.ensures.exact c.wanted.ensures c.next_of.ensures.bytes c.as_bytes.ensures.bytes c.wait-told.ensures.turn c.wait-told.ensures.own_turn in
     let next : IsEventOf c.in-Event.e c.wait-told.result c.wait-told.new.into = subst (λ (b : List ℕ). IsEventOf c.in-Event.e c.wait-told.result b) c.as_bytes.ensures.bytes c.in-Event.ensures.next in
@@ -147,22 +151,22 @@ hear-requires-clause-fits g c =
     let house = c.args.house.now in
     let lists = c.args.lists.now in
     let seen : Seen = W.seen c.args.wire.now in
-    let a : AtWait (RestsOf H.told H.quiet (H.known house).present) (noted (H.told house) (H.known house)) seen lists.own lists.held lists.failed (H.queue house) c.args.engine.now =
-    at-wait H.told H.quiet house (H.known house) seen lists.own lists.held lists.failed (H.queue house) c.args.engine.now c.requires.housed c.requires.ready c.requires.closed c.requires.refused c.requires.on c.requires.hears in
+    let a : AtWait (RestsOf H.told H.quiet H.stands (H.known house).present c.requires.served.first) (noted (H.told house) (H.known house) c.requires.served.calls) seen lists.own lists.held lists.failed (H.queue house) c.args.engine.now =
+    at-wait H.told H.quiet H.stands c.requires.served.first house (H.known house) seen lists.own lists.held lists.failed (H.queue house) c.args.engine.now c.requires.housed c.requires.ready c.requires.closed c.requires.refused c.requires.on c.requires.hears c.requires.served.hands in
     let w : HasWaited seen (W.seen c.wait-told.new.self) lists.own lists.failed (H.queue house) c.args.engine.now c.wait-told.result c.wait-told.new.into =
     has-waited seen (W.seen c.wait-told.new.self) lists.own lists.failed (H.queue house) c.args.engine.now c.wait-told.result c.wait-told.new.into c.as_bytes.result.now c.list_waiting.new.todo c.waiting.result.now c.wanted.result c.wait-told.ensures.seen c.in_ok-list_waiting.ensures c.waiting.ensures.exact c.wanted.ensures c.next_of.ensures.bytes c.as_bytes.ensures.bytes c.wait-told.ensures.turn c.wait-told.ensures.own_turn in
     let next : IsOwnOf c.in-Own.told c.wait-told.result c.wait-told.new.into = subst (λ (b : List ℕ). IsOwnOf c.in-Own.told c.wait-told.result b) c.as_bytes.ensures.bytes c.in-Own.ensures.next in
     turn-fits w c.in-Own.told next (H.known house) (H.quiet house) c.requires.housed c.requires.alone c.requires.ready
 
 pub returns-in_err-hear-in-Own-clause-serving : goal.returns-in_err-hear-in-Own-clause-serving
-returns-in_err-hear-in-Own-clause-serving g c before policy pid start given v =
+returns-in_err-hear-in-Own-clause-serving g c first calls before policy pid start given hands v =
     let H = g.H.House in
     let W = g.W.Wire in
     let house = c.args.house.now in
     let lists = c.args.lists.now in
     let seen : Seen = W.seen c.args.wire.now in
-    let a : AtWait (RestsOf H.told H.quiet (H.known house).present) (noted (H.told house) (H.known house)) seen lists.own lists.held lists.failed (H.queue house) c.args.engine.now =
-    at-wait H.told H.quiet house (H.known house) seen lists.own lists.held lists.failed (H.queue house) c.args.engine.now c.requires.housed c.requires.ready c.requires.closed c.requires.refused c.requires.on c.requires.hears in
+    let a : AtWait (RestsOf H.told H.quiet H.stands (H.known house).present first) (noted (H.told house) (H.known house) calls) seen lists.own lists.held lists.failed (H.queue house) c.args.engine.now =
+    at-wait H.told H.quiet H.stands first house (H.known house) seen lists.own lists.held lists.failed (H.queue house) c.args.engine.now c.requires.housed c.requires.ready c.requires.closed c.requires.refused c.requires.on c.requires.hears hands in
     let w : HasWaited seen (W.seen c.wait-told.new.self) lists.own lists.failed (H.queue house) c.args.engine.now c.wait-told.result c.wait-told.new.into =
     has-waited seen (W.seen c.wait-told.new.self) lists.own lists.failed (H.queue house) c.args.engine.now c.wait-told.result c.wait-told.new.into c.as_bytes.result.now c.list_waiting.new.todo c.waiting.result.now c.wanted.result c.wait-told.ensures.seen c.in_ok-list_waiting.ensures c.waiting.ensures.exact c.wanted.ensures c.next_of.ensures.bytes c.as_bytes.ensures.bytes c.wait-told.ensures.turn c.wait-told.ensures.own_turn in
     let next : IsOwnOf c.in-Own.told c.wait-told.result c.wait-told.new.into = subst (λ (b : List ℕ). IsOwnOf c.in-Own.told c.wait-told.result b) c.as_bytes.ensures.bytes c.in-Own.ensures.next in
@@ -170,18 +174,19 @@ returns-in_err-hear-in-Own-clause-serving g c before policy pid start given v =
     (cut-here (turn-owns v a w c.in-Own.told next) _ _ _ [] refl (c.hear.ensures.told ∙ tells-none _) (omega arith))
 
 pub returns-in_ok-hear-in-Own-clause-serving : goal.returns-in_ok-hear-in-Own-clause-serving
-returns-in_ok-hear-in-Own-clause-serving g c before policy pid start given v =
+returns-in_ok-hear-in-Own-clause-serving g c first calls before policy pid start given hands v =
     let H = g.H.House in
     let W = g.W.Wire in
     let house = c.args.house.now in
     let lists = c.args.lists.now in
     let seen : Seen = W.seen c.args.wire.now in
-    let a : AtWait (RestsOf H.told H.quiet (H.known house).present) (noted (H.told house) (H.known house)) seen lists.own lists.held lists.failed (H.queue house) c.args.engine.now =
-    at-wait H.told H.quiet house (H.known house) seen lists.own lists.held lists.failed (H.queue house) c.args.engine.now c.requires.housed c.requires.ready c.requires.closed c.requires.refused c.requires.on c.requires.hears in
+    let a : AtWait (RestsOf H.told H.quiet H.stands (H.known house).present first) (noted (H.told house) (H.known house) calls) seen lists.own lists.held lists.failed (H.queue house) c.args.engine.now =
+    at-wait H.told H.quiet H.stands first house (H.known house) seen lists.own lists.held lists.failed (H.queue house) c.args.engine.now c.requires.housed c.requires.ready c.requires.closed c.requires.refused c.requires.on c.requires.hears hands in
     let w : HasWaited seen (W.seen c.wait-told.new.self) lists.own lists.failed (H.queue house) c.args.engine.now c.wait-told.result c.wait-told.new.into =
     has-waited seen (W.seen c.wait-told.new.self) lists.own lists.failed (H.queue house) c.args.engine.now c.wait-told.result c.wait-told.new.into c.as_bytes.result.now c.list_waiting.new.todo c.waiting.result.now c.wanted.result c.wait-told.ensures.seen c.in_ok-list_waiting.ensures c.waiting.ensures.exact c.wanted.ensures c.next_of.ensures.bytes c.as_bytes.ensures.bytes c.wait-told.ensures.turn c.wait-told.ensures.own_turn in
     let next : IsOwnOf c.in-Own.told c.wait-told.result c.wait-told.new.into = subst (λ (b : List ℕ). IsOwnOf c.in-Own.told c.wait-told.result b) c.as_bytes.ensures.bytes c.in-Own.ensures.next in
-    own-noted c.in-Own.told _ _ _ _ _ _ _ _ c.hear.ensures.told c.in_ok-hear-in-Own.ensures.known c.in_ok-hear-in-Own.ensures.held c.in_ok-hear-in-Own.ensures.failed (turn-owns v a w c.in-Own.told next)
+    handed-more (Turns (happening_of c.in-Own.told) ∷ []) hands c.in_ok-hear-in-Own.ensures.stands
+    (own-noted c.in-Own.told _ _ _ _ _ _ _ _ c.hear.ensures.told c.in_ok-hear-in-Own.ensures.known c.in_ok-hear-in-Own.ensures.held c.in_ok-hear-in-Own.ensures.failed (turn-owns v a w c.in-Own.told next))
 
 pub returns-in_ok-hear-in-Own-clause-housed : goal.returns-in_ok-hear-in-Own-clause-housed
 returns-in_ok-hear-in-Own-clause-housed g c =
@@ -190,8 +195,8 @@ returns-in_ok-hear-in-Own-clause-housed g c =
     let house = c.args.house.now in
     let lists = c.args.lists.now in
     let seen : Seen = W.seen c.args.wire.now in
-    let a : AtWait (RestsOf H.told H.quiet (H.known house).present) (noted (H.told house) (H.known house)) seen lists.own lists.held lists.failed (H.queue house) c.args.engine.now =
-    at-wait H.told H.quiet house (H.known house) seen lists.own lists.held lists.failed (H.queue house) c.args.engine.now c.requires.housed c.requires.ready c.requires.closed c.requires.refused c.requires.on c.requires.hears in
+    let a : AtWait (RestsOf H.told H.quiet H.stands (H.known house).present c.requires.served.first) (noted (H.told house) (H.known house) c.requires.served.calls) seen lists.own lists.held lists.failed (H.queue house) c.args.engine.now =
+    at-wait H.told H.quiet H.stands c.requires.served.first house (H.known house) seen lists.own lists.held lists.failed (H.queue house) c.args.engine.now c.requires.housed c.requires.ready c.requires.closed c.requires.refused c.requires.on c.requires.hears c.requires.served.hands in
     let w : HasWaited seen (W.seen c.wait-told.new.self) lists.own lists.failed (H.queue house) c.args.engine.now c.wait-told.result c.wait-told.new.into =
     has-waited seen (W.seen c.wait-told.new.self) lists.own lists.failed (H.queue house) c.args.engine.now c.wait-told.result c.wait-told.new.into c.as_bytes.result.now c.list_waiting.new.todo c.waiting.result.now c.wanted.result c.wait-told.ensures.seen c.in_ok-list_waiting.ensures c.waiting.ensures.exact c.wanted.ensures c.next_of.ensures.bytes c.as_bytes.ensures.bytes c.wait-told.ensures.turn c.wait-told.ensures.own_turn in
     let next : IsOwnOf c.in-Own.told c.wait-told.result c.wait-told.new.into = subst (λ (b : List ℕ). IsOwnOf c.in-Own.told c.wait-told.result b) c.as_bytes.ensures.bytes c.in-Own.ensures.next in
@@ -204,8 +209,8 @@ returns-in_ok-hear-in-Own-clause-alone g c =
     let house = c.args.house.now in
     let lists = c.args.lists.now in
     let seen : Seen = W.seen c.args.wire.now in
-    let a : AtWait (RestsOf H.told H.quiet (H.known house).present) (noted (H.told house) (H.known house)) seen lists.own lists.held lists.failed (H.queue house) c.args.engine.now =
-    at-wait H.told H.quiet house (H.known house) seen lists.own lists.held lists.failed (H.queue house) c.args.engine.now c.requires.housed c.requires.ready c.requires.closed c.requires.refused c.requires.on c.requires.hears in
+    let a : AtWait (RestsOf H.told H.quiet H.stands (H.known house).present c.requires.served.first) (noted (H.told house) (H.known house) c.requires.served.calls) seen lists.own lists.held lists.failed (H.queue house) c.args.engine.now =
+    at-wait H.told H.quiet H.stands c.requires.served.first house (H.known house) seen lists.own lists.held lists.failed (H.queue house) c.args.engine.now c.requires.housed c.requires.ready c.requires.closed c.requires.refused c.requires.on c.requires.hears c.requires.served.hands in
     let w : HasWaited seen (W.seen c.wait-told.new.self) lists.own lists.failed (H.queue house) c.args.engine.now c.wait-told.result c.wait-told.new.into =
     has-waited seen (W.seen c.wait-told.new.self) lists.own lists.failed (H.queue house) c.args.engine.now c.wait-told.result c.wait-told.new.into c.as_bytes.result.now c.list_waiting.new.todo c.waiting.result.now c.wanted.result c.wait-told.ensures.seen c.in_ok-list_waiting.ensures c.waiting.ensures.exact c.wanted.ensures c.next_of.ensures.bytes c.as_bytes.ensures.bytes c.wait-told.ensures.turn c.wait-told.ensures.own_turn in
     let next : IsOwnOf c.in-Own.told c.wait-told.result c.wait-told.new.into = subst (λ (b : List ℕ). IsOwnOf c.in-Own.told c.wait-told.result b) c.as_bytes.ensures.bytes c.in-Own.ensures.next in
@@ -218,8 +223,8 @@ returns-in_ok-hear-in-Own-clause-held_is g c =
     let house = c.args.house.now in
     let lists = c.args.lists.now in
     let seen : Seen = W.seen c.args.wire.now in
-    let a : AtWait (RestsOf H.told H.quiet (H.known house).present) (noted (H.told house) (H.known house)) seen lists.own lists.held lists.failed (H.queue house) c.args.engine.now =
-    at-wait H.told H.quiet house (H.known house) seen lists.own lists.held lists.failed (H.queue house) c.args.engine.now c.requires.housed c.requires.ready c.requires.closed c.requires.refused c.requires.on c.requires.hears in
+    let a : AtWait (RestsOf H.told H.quiet H.stands (H.known house).present c.requires.served.first) (noted (H.told house) (H.known house) c.requires.served.calls) seen lists.own lists.held lists.failed (H.queue house) c.args.engine.now =
+    at-wait H.told H.quiet H.stands c.requires.served.first house (H.known house) seen lists.own lists.held lists.failed (H.queue house) c.args.engine.now c.requires.housed c.requires.ready c.requires.closed c.requires.refused c.requires.on c.requires.hears c.requires.served.hands in
     let w : HasWaited seen (W.seen c.wait-told.new.self) lists.own lists.failed (H.queue house) c.args.engine.now c.wait-told.result c.wait-told.new.into =
     has-waited seen (W.seen c.wait-told.new.self) lists.own lists.failed (H.queue house) c.args.engine.now c.wait-told.result c.wait-told.new.into c.as_bytes.result.now c.list_waiting.new.todo c.waiting.result.now c.wanted.result c.wait-told.ensures.seen c.in_ok-list_waiting.ensures c.waiting.ensures.exact c.wanted.ensures c.next_of.ensures.bytes c.as_bytes.ensures.bytes c.wait-told.ensures.turn c.wait-told.ensures.own_turn in
     let next : IsOwnOf c.in-Own.told c.wait-told.result c.wait-told.new.into = subst (λ (b : List ℕ). IsOwnOf c.in-Own.told c.wait-told.result b) c.as_bytes.ensures.bytes c.in-Own.ensures.next in
@@ -228,30 +233,30 @@ returns-in_ok-hear-in-Own-clause-held_is g c =
 -- ---- a stream takes bytes again
 
 pub returns-in-Freed-clause-serving : goal.returns-in-Freed-clause-serving
-returns-in-Freed-clause-serving g c before policy pid start given v =
+returns-in-Freed-clause-serving g c first calls before policy pid start given hands v =
     let H = g.H.House in
     let W = g.W.Wire in
     let house = c.args.house.now in
     let lists = c.args.lists.now in
     let seen : Seen = W.seen c.args.wire.now in
-    let a : AtWait (RestsOf H.told H.quiet (H.known house).present) (noted (H.told house) (H.known house)) seen lists.own lists.held lists.failed (H.queue house) c.args.engine.now =
-    at-wait H.told H.quiet house (H.known house) seen lists.own lists.held lists.failed (H.queue house) c.args.engine.now c.requires.housed c.requires.ready c.requires.closed c.requires.refused c.requires.on c.requires.hears in
+    let a : AtWait (RestsOf H.told H.quiet H.stands (H.known house).present first) (noted (H.told house) (H.known house) calls) seen lists.own lists.held lists.failed (H.queue house) c.args.engine.now =
+    at-wait H.told H.quiet H.stands first house (H.known house) seen lists.own lists.held lists.failed (H.queue house) c.args.engine.now c.requires.housed c.requires.ready c.requires.closed c.requires.refused c.requires.on c.requires.hears hands in
     let w : HasWaited seen (W.seen c.wait-told.new.self) lists.own lists.failed (H.queue house) c.args.engine.now c.wait-told.result c.wait-told.new.into =
     has-waited seen (W.seen c.wait-told.new.self) lists.own lists.failed (H.queue house) c.args.engine.now c.wait-told.result c.wait-told.new.into c.as_bytes.result.now c.list_waiting.new.todo c.waiting.result.now c.wanted.result c.wait-told.ensures.seen c.in_ok-list_waiting.ensures c.waiting.ensures.exact c.wanted.ensures c.next_of.ensures.bytes c.as_bytes.ensures.bytes c.wait-told.ensures.turn c.wait-told.ensures.own_turn in
-    subst (λ (l : List ℕ). Serving H.may (RestsOf H.told H.quiet (H.known house).present) before (noted (H.told house) (H.known house)) policy pid start (W.seen c.wait-told.new.self) l lists.failed (given + 1) (0 ∷ here c.args.engine.now) c.args.engine.now) (sym c.remove.ensures)
-    (turn-frees v a w c.in-Freed.stream c.in-Freed.ensures.next.0 c.in-Freed.ensures.next.1)
+    handed-none hands (subst (λ (l : List ℕ). Serving H.may (RestsOf H.told H.quiet H.stands (H.known house).present first) before (noted (H.told house) (H.known house) calls) policy pid start (W.seen c.wait-told.new.self) l lists.failed (given + 1) (0 ∷ here c.args.engine.now) c.args.engine.now) (sym c.remove.ensures)
+    (turn-frees v a w c.in-Freed.stream c.in-Freed.ensures.next.0 c.in-Freed.ensures.next.1))
 
 -- ---- no memory
 
 pub returns-in-NoMemory-clause-serving : goal.returns-in-NoMemory-clause-serving
-returns-in-NoMemory-clause-serving g c before policy pid start given v =
+returns-in-NoMemory-clause-serving g c first calls before policy pid start given hands v =
     let H = g.H.House in
     let W = g.W.Wire in
     let house = c.args.house.now in
     let lists = c.args.lists.now in
     let seen : Seen = W.seen c.args.wire.now in
-    let a : AtWait (RestsOf H.told H.quiet (H.known house).present) (noted (H.told house) (H.known house)) seen lists.own lists.held lists.failed (H.queue house) c.args.engine.now =
-    at-wait H.told H.quiet house (H.known house) seen lists.own lists.held lists.failed (H.queue house) c.args.engine.now c.requires.housed c.requires.ready c.requires.closed c.requires.refused c.requires.on c.requires.hears in
+    let a : AtWait (RestsOf H.told H.quiet H.stands (H.known house).present first) (noted (H.told house) (H.known house) calls) seen lists.own lists.held lists.failed (H.queue house) c.args.engine.now =
+    at-wait H.told H.quiet H.stands first house (H.known house) seen lists.own lists.held lists.failed (H.queue house) c.args.engine.now c.requires.housed c.requires.ready c.requires.closed c.requires.refused c.requires.on c.requires.hears hands in
     let w : HasWaited seen (W.seen c.wait-told.new.self) lists.own lists.failed (H.queue house) c.args.engine.now c.wait-told.result c.wait-told.new.into =
     has-waited seen (W.seen c.wait-told.new.self) lists.own lists.failed (H.queue house) c.args.engine.now c.wait-told.result c.wait-told.new.into c.as_bytes.result.now c.list_waiting.new.todo c.waiting.result.now c.wanted.result c.wait-told.ensures.seen c.in_ok-list_waiting.ensures c.waiting.ensures.exact c.wanted.ensures c.next_of.ensures.bytes c.as_bytes.ensures.bytes c.wait-told.ensures.turn c.wait-told.ensures.own_turn in
     turn-starved v a w c.in-NoMemory.ensures.next

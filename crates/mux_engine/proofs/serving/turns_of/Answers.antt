@@ -3,6 +3,7 @@ use Rattle.mux_history.specs.declared.ended.Ended.TheVariants.{ServerFailed}
 use Rattle.mux_machine.specs.State.{State}
 use Rattle.mux_engine.specs.Sides.{RestsOf}
 use Rattle.mux_engine.proofs.Arms.{on-err}
+use Rattle.mux_engine.proofs.Called.{handed-none, handed-so}
 use Rattle.mux_engine.proofs.Counting.{cut-none, later-on, rose-behind}
 use Rattle.mux_engine.proofs.Cuts.{cut-still}
 use Rattle.mux_engine.proofs.Lists.{true-false}
@@ -14,7 +15,7 @@ use Rattle.mux_engine.proofs.serving.turns_of.Goals as goal
 
 pub loop-init : goal.loop-init
 loop-init g c = record {
-  serving = λ before policy pid start given v. given-is given (given + 0) (omega arith) v;
+  serving = λ first calls before policy pid start given hands v. handed-none hands (given-is given (given + 0) (omega arith) v);
   housed = c.requires.housed;
   alone = c.requires.alone;
   held_is = c.requires.served.serving.held_is;
@@ -30,25 +31,31 @@ loop-init g c = record {
 }
 
 pub one_turn-requires : goal.one_turn-requires
-one_turn-requires g c = let H = g.H.House in let w = c.requires.served in let i = c.loop.invariant in record {
-  served = record {
-    before = w.before;
-    policy = w.policy;
-    pid = w.pid;
-    start = w.start;
-    given = w.given + c.loop.counter;
-    serving = present-is (RestsOf H.told H.quiet) _ _ (sym i.present) (i.serving w.before w.policy w.pid w.start w.given w.serving);
-  };
-  housed = i.housed;
-  alone = i.alone;
-  on = i.on;
-}
+one_turn-requires g c = let H = g.H.House in let w = c.requires.served in let i = c.loop.invariant in
+    let h = i.serving w.first w.calls w.before w.policy w.pid w.start w.given w.hands w.serving in record {
+      served = record {
+        first = w.first;
+        calls = h.all;
+        hands = h.hands;
+        before = w.before;
+        policy = w.policy;
+        pid = w.pid;
+        start = w.start;
+        given = w.given + c.loop.counter;
+        serving = present-is (λ b. RestsOf H.told H.quiet H.stands b w.first) _ _ (sym i.present) h.so;
+      };
+      housed = i.housed;
+      alone = i.alone;
+      on = i.on;
+    }
 
 pub loop-preserved : goal.loop-preserved
 loop-preserved g c = let H = g.H.House in let i = c.loop.invariant in let o = c.in_ok-one_turn.ensures in record {
-  serving = λ before policy pid start given v. given-is (given + c.loop.counter + 1) (given + (c.loop.counter + 1)) (omega arith)
-      (none-settled _ (o.settled c.if-not-branch.false) (went-on _ c.if-not-branch.false (ends-is (RestsOf H.told H.quiet) _ _ i.present
-      (o.serving before policy pid start (given + c.loop.counter) (present-is (RestsOf H.told H.quiet) _ _ (sym i.present) (i.serving before policy pid start given v))))));
+  serving = λ first calls before policy pid start given hands v.
+      let h = i.serving first calls before policy pid start given hands v in
+      let t = o.serving first h.all before policy pid start (given + c.loop.counter) h.hands (present-is (λ b. RestsOf H.told H.quiet H.stands b first) _ _ (sym i.present) h.so) in
+      handed-so t (given-is (given + c.loop.counter + 1) (given + (c.loop.counter + 1)) (omega arith)
+      (none-settled _ (o.settled c.if-not-branch.false) (went-on _ c.if-not-branch.false (ends-is (λ b. RestsOf H.told H.quiet H.stands b first) _ _ i.present t.so))));
   housed = o.housed;
   alone = o.alone;
   held_is = o.held_is;
@@ -65,8 +72,10 @@ loop-preserved g c = let H = g.H.House in let i = c.loop.invariant in let o = c.
 
 pub returns-then-not-branch : goal.returns-then-not-branch
 returns-then-not-branch g c = let H = g.H.House in let i = c.loop.invariant in let o = c.in_ok-one_turn.ensures in record {
-  serving = λ before policy pid start v. went-over c.loop.counter c.args.turns _ (omega arith) (ends-is (RestsOf H.told H.quiet) _ _ i.present
-      (o.serving before policy pid start c.loop.counter (present-is (RestsOf H.told H.quiet) _ _ (sym i.present) (given-is (0 + c.loop.counter) c.loop.counter (omega arith) (i.serving before policy pid start 0 v)))));
+  serving = λ first calls before policy pid start hands v.
+      let h = i.serving first calls before policy pid start 0 hands v in
+      let t = o.serving first h.all before policy pid start c.loop.counter h.hands (present-is (λ b. RestsOf H.told H.quiet H.stands b first) _ _ (sym i.present) (given-is (0 + c.loop.counter) c.loop.counter (omega arith) h.so)) in
+      handed-so t (went-over c.loop.counter c.args.turns _ (omega arith) (ends-is (λ b. RestsOf H.told H.quiet H.stands b first) _ _ i.present t.so));
   housed = o.housed;
   held_is = o.held_is;
   present = o.present ∙ i.present;
@@ -85,7 +94,9 @@ returns-then-not-branch g c = let H = g.H.House in let i = c.loop.invariant in l
 
 pub returns : goal.returns
 returns g c = let W = g.W.Wire in let i = c.loop.invariant in record {
-  serving = λ before policy pid start v. all-spent c.loop.counter c.args.turns (omega arith) (yet-unsettled _ i.settled (given-is (0 + c.loop.counter) c.loop.counter (omega arith) (i.serving before policy pid start 0 v)));
+  serving = λ first calls before policy pid start hands v.
+      let h = i.serving first calls before policy pid start 0 hands v in
+      handed-so h (all-spent c.loop.counter c.args.turns (omega arith) (yet-unsettled _ i.settled (given-is (0 + c.loop.counter) c.loop.counter (omega arith) h.so)));
   housed = i.housed;
   held_is = i.held_is;
   present = i.present;
@@ -105,8 +116,10 @@ returns g c = let W = g.W.Wire in let i = c.loop.invariant in record {
 
 pub returns-in_err-one_turn : goal.returns-in_err-one_turn
 returns-in_err-one_turn g c = let H = g.H.House in let i = c.loop.invariant in let r = c.from_residual-in_err-one_turn in record {
-  serving = λ before policy pid start v. on-err r.result _ _ r.ensures.0 (promised-more (c.loop.counter + 1) c.args.turns (omega arith) (promised-is (RestsOf H.told H.quiet) _ _ i.present
-      (c.in_err-one_turn.ensures.serving before policy pid start c.loop.counter (present-is (RestsOf H.told H.quiet) _ _ (sym i.present) (given-is (0 + c.loop.counter) c.loop.counter (omega arith) (i.serving before policy pid start 0 v))))));
+  serving = λ first calls before policy pid start hands v.
+      let h = i.serving first calls before policy pid start 0 hands v in
+      on-err r.result _ _ r.ensures.0 (promised-more (c.loop.counter + 1) c.args.turns (omega arith) (promised-is (λ b. RestsOf H.told H.quiet H.stands b first) _ _ i.present
+      (c.in_err-one_turn.ensures.serving first h.all before policy pid start c.loop.counter h.hands (present-is (λ b. RestsOf H.told H.quiet H.stands b first) _ _ (sym i.present) (given-is (0 + c.loop.counter) c.loop.counter (omega arith) h.so)))));
   housed = on-err r.result _ _ r.ensures.0 tt;
   held_is = on-err r.result _ _ r.ensures.0 tt;
   present = on-err r.result _ _ r.ensures.0 tt;
@@ -124,7 +137,7 @@ returns-in_err-one_turn g c = let H = g.H.House in let i = c.loop.invariant in l
 
 pub returns-in_err-piece : goal.returns-in_err-piece
 returns-in_err-piece g c = let r = c.from_residual in record {
-  serving = λ before policy pid start v. on-err r.result _ _ r.ensures.0 (promised-more 0 c.args.turns (omega arith) (cut-still v _ refl));
+  serving = λ first calls before policy pid start hands v. on-err r.result _ _ r.ensures.0 (promised-more 0 c.args.turns (omega arith) (cut-still v _ refl));
   housed = on-err r.result _ _ r.ensures.0 tt;
   held_is = on-err r.result _ _ r.ensures.0 tt;
   present = on-err r.result _ _ r.ensures.0 tt;

@@ -12,28 +12,28 @@ use Rattle.mux_engine.proofs.settling.close_lost.Goals as goal
 
 pub loop-client-smaller : goal.loop-client-smaller
 loop-client-smaller g c =
-    let first : IsFirst c.in-Some.client c.loop-client.engine.leaving = first-is c.in-Some.client c.in-Some.field-0-1 c.loop-client.engine.leaving (sym c.in-Some.ensures.exact) in
-    subst (λ (n : ℕ). n < length c.loop-client.engine.leaving) (ap (λ (s : State). length s.leaving) (sym c.closed.ensures.exact)) (fewer c.in-Some.client c.loop-client.engine.leaving first)
+    let leaves : IsFirst c.in-Some.client c.loop-client.engine.leaving = first-is c.in-Some.client c.in-Some.field-0-1 c.loop-client.engine.leaving (sym c.in-Some.ensures.exact) in
+    subst (λ (n : ℕ). n < length c.loop-client.engine.leaving) (ap (λ (s : State). length s.leaving) (sym c.closed.ensures.exact)) (fewer c.in-Some.client c.loop-client.engine.leaving leaves)
 
 pub loop-client-preserved : goal.loop-client-preserved
 loop-client-preserved g c =
     let k : ℕ = c.in-Some.client in
     let s : State = c.loop-client.engine in
-    let first : IsFirst k s.leaving = first-is k c.in-Some.field-0-1 s.leaving (sym c.in-Some.ensures.exact) in
+    let leaves : IsFirst k s.leaving = first-is k c.in-Some.field-0-1 s.leaving (sym c.in-Some.ensures.exact) in
     let closes : Closes s (closed_by s k) k = subst (λ (t : State). Closes s t k) c.closed.ensures.exact c.closed.ensures.stands in
     record {
-      serving = λ present before now policy pid start failed given todo v.
-          subst (λ (x : Seen). Serving g.H.House.may (RestsOf g.H.House.told g.H.House.quiet present) before now policy pid start x c.remove.new.self failed given todo c.closed.new.self) (sym c.close.ensures.seen)
-          (subst (λ h. Serving g.H.House.may (RestsOf g.H.House.told g.H.House.quiet present) before now policy pid start (seen_after_close k (g.W.Wire.seen c.loop-client.wire)) h failed given todo c.closed.new.self) (sym c.remove.ensures)
-          (subst (λ (t : State). Serving g.H.House.may (RestsOf g.H.House.told g.H.House.quiet present) before now policy pid start (seen_after_close k (g.W.Wire.seen c.loop-client.wire)) (without k c.loop-client.held) failed given todo t) (sym c.closed.ensures.exact)
-          (serve-closed (c.loop-client.invariant.serving present before now policy pid start failed given todo v) k first closes)));
+      serving = λ present first before now policy pid start failed given todo v.
+          subst (λ (x : Seen). Serving g.H.House.may (RestsOf g.H.House.told g.H.House.quiet g.H.House.stands present first) before now policy pid start x c.remove.new.self failed given todo c.closed.new.self) (sym c.close.ensures.seen)
+          (subst (λ h. Serving g.H.House.may (RestsOf g.H.House.told g.H.House.quiet g.H.House.stands present first) before now policy pid start (seen_after_close k (g.W.Wire.seen c.loop-client.wire)) h failed given todo c.closed.new.self) (sym c.remove.ensures)
+          (subst (λ (t : State). Serving g.H.House.may (RestsOf g.H.House.told g.H.House.quiet g.H.House.stands present first) before now policy pid start (seen_after_close k (g.W.Wire.seen c.loop-client.wire)) (without k c.loop-client.held) failed given todo t) (sym c.closed.ensures.exact)
+          (serve-closed (c.loop-client.invariant.serving present first before now policy pid start failed given todo v) k leaves closes)));
       housed = λ known own h. let w = c.requires.served in
           subst (λ (x : Seen). Housed known x own) (sym c.close.ensures.seen)
-          (housed-closed (c.loop-client.invariant.serving w.present w.before w.now w.policy w.pid w.start w.failed w.given w.todo w.serving) k first known own (c.loop-client.invariant.housed known own h));
+          (housed-closed (c.loop-client.invariant.serving w.present w.first w.before w.now w.policy w.pid w.start w.failed w.given w.todo w.serving) k leaves known own (c.loop-client.invariant.housed known own h));
       ready = λ known quiet queue failed own h r. let w = c.requires.served in
           subst (λ x. IsReady known quiet queue x failed own c.closed.new.self) (sym c.remove.ensures)
           (subst (λ (t : State). IsReady known quiet queue (without k c.loop-client.held) failed own t) (sym c.closed.ensures.exact)
-          (ready-closed (c.loop-client.invariant.serving w.present w.before w.now w.policy w.pid w.start w.failed w.given w.todo w.serving) k first known quiet queue failed own (c.loop-client.invariant.housed known own h) (c.loop-client.invariant.ready known quiet queue failed own h r)));
+          (ready-closed (c.loop-client.invariant.serving w.present w.first w.before w.now w.policy w.pid w.start w.failed w.given w.todo w.serving) k leaves known quiet queue failed own (c.loop-client.invariant.housed known own h) (c.loop-client.invariant.ready known quiet queue failed own h r)));
       ended = ap (λ (t : State). t.ended) c.closed.ensures.exact ∙ c.loop-client.invariant.ended;
       unopened = ap (λ (x : Seen). x.last_own) c.close.ensures.seen ∙ c.loop-client.invariant.unopened;
       faults = c.close.ensures.server ∙ c.loop-client.invariant.faults;

@@ -15,6 +15,7 @@ pub offer_clients-requires : goal.offer_clients-requires
 offer_clients-requires g c = let w = c.requires.served in record {
   served = record {
     present = w.present;
+    first = w.first;
     before = w.before;
     now = w.now;
     policy = w.policy;
@@ -23,7 +24,7 @@ offer_clients-requires g c = let w = c.requires.served in record {
     failed = w.failed;
     given = w.given;
     todo = w.todo;
-    serving = c.hush.ensures.serving w.present w.before w.now w.policy w.pid w.start _ w.failed w.given w.todo w.serving;
+    serving = c.hush.ensures.serving w.present w.first w.before w.now w.policy w.pid w.start _ w.failed w.given w.todo w.serving;
   };
   numbered = λ t one. c.requires.numbered t (ap (is_one t) (sym c.hush.ensures.places.own) ∙ one);
 }
@@ -31,6 +32,7 @@ offer_clients-requires g c = let w = c.requires.served in record {
 pub offer-requires-clause-served : goal.offer-requires-clause-served
 offer-requires-clause-served g c = let w = c.requires.served in record {
   present = w.present;
+  first = w.first;
   before = w.before;
   now = w.now;
   policy = w.policy;
@@ -39,8 +41,8 @@ offer-requires-clause-served g c = let w = c.requires.served in record {
   failed = w.failed;
   given = w.given;
   todo = 0 ∷ w.todo;
-  serving = c.in_ok-offer_clients.ensures.serving w.todo w.present w.before w.now w.policy w.pid w.start w.failed w.given
-      (more-left w.todo (c.hush.ensures.serving w.present w.before w.now w.policy w.pid w.start _ w.failed w.given w.todo w.serving));
+  serving = c.in_ok-offer_clients.ensures.serving w.todo w.present w.first w.before w.now w.policy w.pid w.start w.failed w.given
+      (more-left w.todo (c.hush.ensures.serving w.present w.first w.before w.now w.policy w.pid w.start _ w.failed w.given w.todo w.serving));
 }
 
 pub offer-requires-clause-numbered : goal.offer-requires-clause-numbered
@@ -50,8 +52,8 @@ pub offer-requires-clause-no_house : goal.offer-requires-clause-no_house
 offer-requires-clause-no_house g c = no-zero
 
 pub returns-in_err-offer_clients-clause-serving : goal.returns-in_err-offer_clients-clause-serving
-returns-in_err-offer_clients-clause-serving g c left present before now policy pid start failed given v = on-err c.from_residual.result _ _ c.from_residual.ensures.0
-    (c.in_err-offer_clients.ensures.serving left present before now policy pid start failed given (c.hush.ensures.serving present before now policy pid start _ failed given _ v))
+returns-in_err-offer_clients-clause-serving g c left present first before now policy pid start failed given v = on-err c.from_residual.result _ _ c.from_residual.ensures.0
+    (c.in_err-offer_clients.ensures.serving left present first before now policy pid start failed given (c.hush.ensures.serving present first before now policy pid start _ failed given _ v))
 
 pub returns-in_err-offer_clients-clause-places : goal.returns-in_err-offer_clients-clause-places
 returns-in_err-offer_clients-clause-places g c = places-then _ _ _ c.hush.ensures.places c.offer_clients.ensures.places
@@ -64,8 +66,8 @@ returns-in_err-offer_clients-clause-calls g c = counts-err c.from_residual.resul
     (subst (λ (x : Calls). Cut 0 x (g.W.Wire.calls c.offer_clients.new.wire)) c.hush.ensures.calls c.in_err-offer_clients.ensures.calls)
 
 pub returns-clause-serving : goal.returns-clause-serving
-returns-clause-serving g c left present before now policy pid start failed given v = c.offer.ensures.serving left refl present before now policy pid start failed given
-    (c.in_ok-offer_clients.ensures.serving left present before now policy pid start failed given (c.hush.ensures.serving present before now policy pid start _ failed given _ v))
+returns-clause-serving g c left present first before now policy pid start failed given v = c.offer.ensures.serving left refl present first before now policy pid start failed given
+    (c.in_ok-offer_clients.ensures.serving left present first before now policy pid start failed given (c.hush.ensures.serving present first before now policy pid start _ failed given _ v))
 
 pub returns-clause-places : goal.returns-clause-places
 returns-clause-places g c = places-then _ _ _ c.hush.ensures.places (places-then _ _ _ c.offer_clients.ensures.places c.offer.ensures.places)

@@ -10,7 +10,7 @@ use Rattle.mux_engine.proofs.settling.offer.Goals as goal
 
 pub loop-init : goal.loop-init
 loop-init g c = let w = c.requires.served in record {
-  serving = λ todo zero present before now policy pid start failed given v. v;
+  serving = λ todo zero present first before now policy pid start failed given v. v;
   streams = refl;
   holds = λ t a. a;
   places = places-same _ _ refl;
@@ -27,6 +27,7 @@ loop-init g c = let w = c.requires.served in record {
 pub offer_once-requires-clause-served : goal.offer_once-requires-clause-served
 offer_once-requires-clause-served g c = let w = c.requires.served in record {
   present = w.present;
+  first = w.first;
   before = w.before;
   now = w.now;
   policy = w.policy;
@@ -35,7 +36,7 @@ offer_once-requires-clause-served g c = let w = c.requires.served in record {
   failed = w.failed;
   given = w.given;
   todo = c.args.stream ∷ (0 ∷ w.todo);
-  serving = c.loop.invariant.serving (0 ∷ w.todo) (zero-among c.args.stream w.todo) w.present w.before w.now w.policy w.pid w.start w.failed w.given (wider c.args.stream (wider 0 w.serving));
+  serving = c.loop.invariant.serving (0 ∷ w.todo) (zero-among c.args.stream w.todo) w.present w.first w.before w.now w.policy w.pid w.start w.failed w.given (wider c.args.stream (wider 0 w.serving));
 }
 
 pub offer_once-requires-clause-stream_open : goal.offer_once-requires-clause-stream_open
@@ -47,8 +48,8 @@ offer_once-requires-clause-numbered g c = λ t one. c.requires.numbered t (ap (i
 -- ---- want of memory
 
 pub returns-in_err-offer_once-clause-serving : goal.returns-in_err-offer_once-clause-serving
-returns-in_err-offer_once-clause-serving g c todo zero present before now policy pid start failed given v = on-err c.from_residual.result _ _ c.from_residual.ensures.0
-    (c.in_err-offer_once.ensures.serving (c.args.stream ∷ todo) (twice-among c.args.stream todo zero) present before now policy pid start failed given (c.loop.invariant.serving todo zero present before now policy pid start failed given v))
+returns-in_err-offer_once-clause-serving g c todo zero present first before now policy pid start failed given v = on-err c.from_residual.result _ _ c.from_residual.ensures.0
+    (c.in_err-offer_once.ensures.serving (c.args.stream ∷ todo) (twice-among c.args.stream todo zero) present first before now policy pid start failed given (c.loop.invariant.serving todo zero present first before now policy pid start failed given v))
 
 pub returns-in_err-offer_once-clause-later : goal.returns-in_err-offer_once-clause-later
 returns-in_err-offer_once-clause-later g c = le_trans c.loop.invariant.later c.offer_once.ensures.later
@@ -60,7 +61,7 @@ returns-in_err-offer_once-clause-calls g c = counts-err c.from_residual.result 0
 
 pub loop-preserved : goal.loop-preserved
 loop-preserved g c = record {
-  serving = λ todo zero present before now policy pid start failed given v. on-more c.args.stream todo _ c.if-branch.true (c.in_ok-offer_once.ensures.serving (c.args.stream ∷ todo) (twice-among c.args.stream todo zero) present before now policy pid start failed given (c.loop.invariant.serving todo zero present before now policy pid start failed given v));
+  serving = λ todo zero present first before now policy pid start failed given v. on-more c.args.stream todo _ c.if-branch.true (c.in_ok-offer_once.ensures.serving (c.args.stream ∷ todo) (twice-among c.args.stream todo zero) present first before now policy pid start failed given (c.loop.invariant.serving todo zero present first before now policy pid start failed given v));
   streams = c.in_ok-offer_once.ensures.streams ∙ c.loop.invariant.streams;
   holds = λ t a. c.in_ok-offer_once.ensures.holds t (c.loop.invariant.holds t a);
   places = places-then _ _ _ c.loop.invariant.places c.offer_once.ensures.places;
@@ -77,7 +78,7 @@ loop-preserved g c = record {
 -- ---- the end
 
 pub returns-clause-serving : goal.returns-clause-serving
-returns-clause-serving g c todo zero present before now policy pid start failed given v = on-done c.args.stream todo _ c.if-branch.false (c.in_ok-offer_once.ensures.serving (c.args.stream ∷ todo) (twice-among c.args.stream todo zero) present before now policy pid start failed given (c.loop.invariant.serving todo zero present before now policy pid start failed given v))
+returns-clause-serving g c todo zero present first before now policy pid start failed given v = on-done c.args.stream todo _ c.if-branch.false (c.in_ok-offer_once.ensures.serving (c.args.stream ∷ todo) (twice-among c.args.stream todo zero) present first before now policy pid start failed given (c.loop.invariant.serving todo zero present first before now policy pid start failed given v))
 
 pub returns-clause-ended : goal.returns-clause-ended
 returns-clause-ended g c = then-stays-or-fails _ _ _ _ _ _ c.loop.invariant.ended c.in_ok-offer_once.ensures.ended
@@ -97,7 +98,7 @@ returns-clause-calls g c = well-then _ _ _ c.loop.invariant.calls c.in_ok-offer_
 -- ---- the stream is blocked
 
 pub returns-then-contains-clause-serving : goal.returns-then-contains-clause-serving
-returns-then-contains-clause-serving g c todo zero present before now policy pid start failed given v = held-back c.args.stream v c.requires.stream_open c.requires.no_house (sym c.if-contains.ensures)
+returns-then-contains-clause-serving g c todo zero present first before now policy pid start failed given v = held-back c.args.stream v c.requires.stream_open c.requires.no_house (sym c.if-contains.ensures)
 
 pub returns-then-contains-clause-ended : goal.returns-then-contains-clause-ended
 returns-then-contains-clause-ended g c = stays _ _ _ _ refl refl

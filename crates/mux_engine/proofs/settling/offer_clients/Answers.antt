@@ -17,7 +17,7 @@ loop-stream-init g c =
     let items : c.as_slice-stream-items.result.now ≡ clients-of c.waiting.result.now = c.as_slice-stream-items.ensures ∙ (c.remove-2.ensures ∙ ap (without HOUSE) (c.remove.ensures ∙ ap (without 0) (c.in_ok-refill.ensures.ok ∙ c.as_slice.ensures))) in
     let listed : c.waiting.result.now ≡ waiting_in s = c.waiting.ensures.listed w.serving.picked w.serving.replies w.serving.journal w.serving.closed w.serving.stands in
     record {
-      serving = λ left present before now policy pid start failed given v. todo-is (clients-of c.waiting.result.now ++ (0 ∷ left)) (c.as_slice-stream-items.result.now ++ (0 ∷ left)) (ap (λ l. l ++ (0 ∷ left)) (sym items)) (only-waiting left v c.waiting.result.now (c.waiting.ensures.waits v.picked v.replies v.journal v.closed v.stands));
+      serving = λ left present first before now policy pid start failed given v. todo-is (clients-of c.waiting.result.now ++ (0 ∷ left)) (c.as_slice-stream-items.result.now ++ (0 ∷ left)) (ap (λ l. l ++ (0 ∷ left)) (sym items)) (only-waiting left v c.waiting.result.now (c.waiting.ensures.waits v.picked v.replies v.journal v.closed v.stands));
       streams = refl;
       holds = λ t a. a;
       places = places-same _ _ refl;
@@ -34,6 +34,7 @@ loop-stream-init g c =
 pub offer-requires-clause-served : goal.offer-requires-clause-served
 offer-requires-clause-served g c = let w = c.requires.served in record {
   present = w.present;
+  first = w.first;
   before = w.before;
   now = w.now;
   policy = w.policy;
@@ -42,7 +43,7 @@ offer-requires-clause-served g c = let w = c.requires.served in record {
   failed = w.failed;
   given = w.given;
   todo = drop c.loop-stream.stream-index c.as_slice-stream-items.result.now ++ (0 ∷ w.todo);
-  serving = c.loop-stream.invariant.serving w.todo w.present w.before w.now w.policy w.pid w.start w.failed w.given (more-left w.todo w.serving);
+  serving = c.loop-stream.invariant.serving w.todo w.present w.first w.before w.now w.policy w.pid w.start w.failed w.given (more-left w.todo w.serving);
 }
 
 pub offer-requires-clause-stream_open : goal.offer-requires-clause-stream_open
@@ -59,12 +60,12 @@ pub offer-requires-clause-numbered : goal.offer-requires-clause-numbered
 offer-requires-clause-numbered g c = λ t one. c.requires.numbered t (ap (is_one t) (sym c.loop-stream.invariant.places.own) ∙ one)
 
 pub returns-in_err-offer-clause-serving : goal.returns-in_err-offer-clause-serving
-returns-in_err-offer-clause-serving g c left present before now policy pid start failed given v =
+returns-in_err-offer-clause-serving g c left present first before now policy pid start failed given v =
     let items : List ℕ = c.as_slice-stream-items.result.now in let i : ℕ = c.loop-stream.stream-index in
     let k : ℕ = get_or items i 0 in
     on-err c.from_residual-in_err-offer.result _ _ c.from_residual-in_err-offer.ensures.0
-    (c.in_err-offer.ensures.serving (drop (i + 1) items ++ (0 ∷ left)) (server-behind (k ∷ drop (i + 1) items) left) present before now policy pid start failed given
-    (todo-is (drop i items ++ (0 ∷ left)) (k ∷ (drop (i + 1) items ++ (0 ∷ left))) (ap (λ l. l ++ (0 ∷ left)) (drop-next i items (omega arith))) (c.loop-stream.invariant.serving left present before now policy pid start failed given v)))
+    (c.in_err-offer.ensures.serving (drop (i + 1) items ++ (0 ∷ left)) (server-behind (k ∷ drop (i + 1) items) left) present first before now policy pid start failed given
+    (todo-is (drop i items ++ (0 ∷ left)) (k ∷ (drop (i + 1) items ++ (0 ∷ left))) (ap (λ l. l ++ (0 ∷ left)) (drop-next i items (omega arith))) (c.loop-stream.invariant.serving left present first before now policy pid start failed given v)))
 
 pub returns-in_err-offer-clause-later : goal.returns-in_err-offer-clause-later
 returns-in_err-offer-clause-later g c = le_trans c.loop-stream.invariant.later c.offer.ensures.later
@@ -80,8 +81,8 @@ loop-stream-preserved g c =
     let items : List ℕ = c.as_slice-stream-items.result.now in let i : ℕ = c.loop-stream.stream-index in
     let k : ℕ = get_or items i 0 in
     record {
-      serving = λ left present before now policy pid start failed given v. c.in_ok-offer.ensures.serving (drop (i + 1) items ++ (0 ∷ left)) (server-behind (k ∷ drop (i + 1) items) left) present before now policy pid start failed given
-          (todo-is (drop i items ++ (0 ∷ left)) (k ∷ (drop (i + 1) items ++ (0 ∷ left))) (ap (λ l. l ++ (0 ∷ left)) (drop-next i items (omega arith))) (c.loop-stream.invariant.serving left present before now policy pid start failed given v));
+      serving = λ left present first before now policy pid start failed given v. c.in_ok-offer.ensures.serving (drop (i + 1) items ++ (0 ∷ left)) (server-behind (k ∷ drop (i + 1) items) left) present first before now policy pid start failed given
+          (todo-is (drop i items ++ (0 ∷ left)) (k ∷ (drop (i + 1) items ++ (0 ∷ left))) (ap (λ l. l ++ (0 ∷ left)) (drop-next i items (omega arith))) (c.loop-stream.invariant.serving left present first before now policy pid start failed given v));
       streams = c.in_ok-offer.ensures.streams ∙ c.loop-stream.invariant.streams;
       holds = λ t a. c.in_ok-offer.ensures.holds t (c.loop-stream.invariant.holds t a);
       places = places-then _ _ _ c.loop-stream.invariant.places c.offer.ensures.places;
@@ -99,7 +100,7 @@ pub returns-in_err-offer-clause-idle : goal.returns-in_err-offer-clause-idle
 returns-in_err-offer-clause-idle g c = λ e. none-there c.loop-stream.stream-index c.as_slice-stream-items.result.now (omega arith) (c.loop-stream.invariant.none e)
 
 pub returns-in_err-refill-clause-serving : goal.returns-in_err-refill-clause-serving
-returns-in_err-refill-clause-serving g c left present before now policy pid start failed given v = on-err c.from_residual.result _ _ c.from_residual.ensures.0 (cut-still v _ refl)
+returns-in_err-refill-clause-serving g c left present first before now policy pid start failed given v = on-err c.from_residual.result _ _ c.from_residual.ensures.0 (cut-still v _ refl)
 
 pub returns-in_err-refill-clause-places : goal.returns-in_err-refill-clause-places
 returns-in_err-refill-clause-places g c = places-same _ _ refl

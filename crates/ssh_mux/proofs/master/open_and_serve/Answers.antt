@@ -2,7 +2,7 @@ use Rattle.ssh_mux.proofs.SharingLemmas.{shares_end, idle_end, start_end, waits_
 use Rattle.ssh_mux.proofs.master.open_and_serve.Goals as goal
 
 pub returns-in-Ok-clause-served : goal.returns-in-Ok-clause-served
-returns-in-Ok-clause-served g c = shares_end _ _ _ _ _ _ _ _ _ _ _ _ c.ending_of.ensures.told (rw c.in-Ok.ensures.seen at c.serve.ensures.kept)
+returns-in-Ok-clause-served g c = shares_end _ _ _ _ _ _ _ _ _ _ _ _ _ _ c.ending_of.ensures.told (rw c.in-Ok.ensures.seen at c.serve.ensures.kept)
 
 pub returns-in-Ok-clause-waited : goal.returns-in-Ok-clause-waited
 returns-in-Ok-clause-waited g c = rw c.ending_of.ensures.told (waits_end _ _ _ _ _ (rw c.in-Ok.ensures.calls at c.serve.ensures.calls))

@@ -32,10 +32,10 @@ pub returns-in-Err-clause-opened : goal.returns-in-Err-clause-opened
 returns-in-Err-clause-opened g c = opened_after _ _ _ _ _ _ _ _ _ c.report.ensures c.in-Err.ensures.opened
 
 pub returns-in-Ok-clause-shared : goal.returns-in-Ok-clause-shared
-returns-in-Ok-clause-shared g c = shared_well _ _ _ _ _ _ _ _ _ _ _ _ _ _ c.in-Ok.ensures.shared
+returns-in-Ok-clause-shared g c = shared_well _ _ _ _ _ _ _ _ _ _ _ _ _ _ _ _ c.in-Ok.ensures.shared
 
 pub returns-in-Err-clause-shared : goal.returns-in-Err-clause-shared
-returns-in-Err-clause-shared g c = shared_after _ _ _ _ _ _ _ _ _ _ _ _ _ _ _ _ _ c.report.ensures c.in-Err.ensures.shared (same_told _ (λ w. (g.W.Wire.seen w).told) _ _ c.in-Err.ensures.leaves.wire) (same_told _ g.H.House.told _ _ c.in-Err.ensures.leaves.house)
+returns-in-Err-clause-shared g c = shared_after _ _ _ _ _ _ _ _ _ _ _ _ _ _ _ _ _ _ _ c.report.ensures c.in-Err.ensures.shared (same_told _ (λ w. (g.W.Wire.seen w).told) _ _ c.in-Err.ensures.leaves.wire) (same_told _ g.H.House.told _ _ c.in-Err.ensures.leaves.house)
 
 pub returns-in-Err-clause-calls : goal.returns-in-Err-clause-calls
 returns-in-Err-clause-calls g c = calls_after _ _ _ _ _ _ _ _ _ c.report.ensures c.in-Err.ensures.calls

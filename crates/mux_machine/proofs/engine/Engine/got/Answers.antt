@@ -4,7 +4,7 @@ use Rattle.mux_machine.specs.Shown.{state_of}
 use Rattle.mux_machine.specs.State.{State}
 use Rattle.mux_machine.specs.Steps.{is_heard}
 use Rattle.mux_machine.proofs.Written.{gain-written, gain_new}
-use Rattle.mux_machine.proofs.Heeded.{heeded}
+use Rattle.mux_machine.proofs.Heeded.{handed, heeded}
 use Rattle.mux_machine.proofs.engine.Engine.got.Goals as goal
 
 pub returns-clause-gains : goal.returns-clause-gains
@@ -32,3 +32,6 @@ returns-in_err-note_loss-clause-heeds g c = heeded c.from_residual-in_err-note_l
 
 pub returns-clause-heeds : goal.returns-clause-heeds
 returns-clause-heeds g c = heeded c.list_waiting.result c.args.asks.now c.got_at.new.asks (g.H.House.told c.args.house.now) (g.H.House.told c.got_at.new.house) (g.H.House.known c.args.house.now) (g.H.House.known c.got_at.new.house) c.in_ok-heard.ensures.heeds
+
+pub returns-clause-handed : goal.returns-clause-handed
+returns-clause-handed g c = handed c.list_waiting.result c.args.asks.now c.got_at.new.asks (g.H.House.stands c.args.house.now) (g.H.House.stands c.got_at.new.house) c.in_ok-heard.ensures.handed

@@ -3,8 +3,8 @@ use Rattle.std.proofs.lemmas.Result.{on_ok_weaker}
 use Rattle.mux_clients.specs.Server.{stream_end}
 use Rattle.mux_outside.specs.declared.house_mark.HouseMark.{HouseMark}
 use Rattle.mux_machine.specs.State.{State, over}
-use Rattle.mux_clients.proofs.Heeding.{asked_none}
-use Rattle.mux_machine.proofs.Heeded.{heeded}
+use Rattle.mux_clients.proofs.Heeding.{asked_none, handed_none}
+use Rattle.mux_machine.proofs.Heeded.{handed, heeded}
 use Rattle.mux_machine.proofs.Endings.{alone-ends, asking-ends}
 use Rattle.mux_machine.proofs.Kept.{asking-keeps, did-keeps}
 use Rattle.mux_machine.proofs.Stepped.{DidAlone, DidAsking, asking-goes, cause-as, did-goes, gained-on, lost-on, replied-on}
@@ -72,3 +72,18 @@ returns-in-HouseSays-clause-heeds g c = heeded c.answer.result c.args.asks.now c
 
 pub returns-in-FromServer-clause-heeds : goal.returns-in-FromServer-clause-heeds
 returns-in-FromServer-clause-heeds g c = heeded c.hear.result c.args.asks.now c.args.asks.now (g.H.House.told c.args.house.now) (g.H.House.told c.args.house.now) (g.H.House.known c.args.house.now) (g.H.House.known c.args.house.now) (asked_none c.args.asks.now (g.H.House.told c.args.house.now) (g.H.House.known c.args.house.now))
+
+pub returns-in-Accepted-clause-handed : goal.returns-in-Accepted-clause-handed
+returns-in-Accepted-clause-handed g c = handed c.enter.result c.args.asks.now c.args.asks.now (g.H.House.stands c.args.house.now) (g.H.House.stands c.args.house.now) (handed_none c.args.asks.now (g.H.House.stands c.args.house.now))
+
+pub returns-in-ClientEnd-clause-handed : goal.returns-in-ClientEnd-clause-handed
+returns-in-ClientEnd-clause-handed g c = handed c.lose.result c.args.asks.now c.args.asks.now (g.H.House.stands c.args.house.now) (g.H.House.stands c.args.house.now) (handed_none c.args.asks.now (g.H.House.stands c.args.house.now))
+
+pub returns-in-ClientFailed-clause-handed : goal.returns-in-ClientFailed-clause-handed
+returns-in-ClientFailed-clause-handed g c = handed c.lose-in-ClientFailed.result c.args.asks.now c.args.asks.now (g.H.House.stands c.args.house.now) (g.H.House.stands c.args.house.now) (handed_none c.args.asks.now (g.H.House.stands c.args.house.now))
+
+pub returns-in-HouseSays-clause-handed : goal.returns-in-HouseSays-clause-handed
+returns-in-HouseSays-clause-handed g c = handed c.answer.result c.args.asks.now c.args.asks.now (g.H.House.stands c.args.house.now) (g.H.House.stands c.args.house.now) (handed_none c.args.asks.now (g.H.House.stands c.args.house.now))
+
+pub returns-in-FromServer-clause-handed : goal.returns-in-FromServer-clause-handed
+returns-in-FromServer-clause-handed g c = handed c.hear.result c.args.asks.now c.args.asks.now (g.H.House.stands c.args.house.now) (g.H.House.stands c.args.house.now) (handed_none c.args.asks.now (g.H.House.stands c.args.house.now))

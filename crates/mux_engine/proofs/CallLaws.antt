@@ -1,0 +1,133 @@
+-- What the calls that a journal has say of the streams of the house.
+use Rattle.std.proofs.Common.{◌≡◌, ◌≢◌, ◌+◌, ℕ, Bool, true, false, not, ◌&&◌, List, [], ◌∷◌, ◌++◌, length, refl, sym, ap, ◌∙◌, subst, cond, append_assoc, append-nil, arith}
+use Rattle.std.specs.Prelude.{◌==◌}
+use Rattle.std.proofs.lemmas.List.{length-append}
+use Rattle.std.proofs.lemmas.Bool.Decides.{eqb_tells}
+use Rattle.mux_outside.specs.HouseCalls.{End, Failed, Got, Hears, HouseCall, Joined, Marks, Turns, Writable}
+use Rattle.mux_outside.specs.HouseCalls as call
+use Rattle.mux_outside.specs.OwnStreams.{is_own}
+use Rattle.mux_outside.specs.declared.house_mark.HouseMark.{HouseMark}
+use Rattle.mux_outside.specs.declared.house_mark.HouseMark.TheVariants.{HouseIn, HouseSaid, HouseTook, HouseAsked, HouseAnswer, HouseOrder}
+use Rattle.mux_outside.specs.declared.mark.Mark.{Mark}
+use Rattle.mux_outside.specs.declared.mark.Mark.TheVariants.{Waits, Accepts, Gets, Ends, Frees, Fails, Takes, Holds, WriteFails, Joins, House}
+use Rattle.mux_history.specs.declared.limits.TheConstants.{HOUSE}
+use Rattle.mux_history.specs.Log.{Setting}
+use Rattle.mux_history.specs.Journal.{bytes_in, bytes_of, house_said, is_own_stream, taken_by, taken_in}
+use Rattle.mux_engine.specs.CallLaws.{IsGivenAll, IsToldAll, bytes_got, got_by, size_by, sizes_taken}
+use Rattle.mux_engine.specs.Called.{calls_at, calls_in, house_calls, if_own}
+use Rattle.mux_engine.proofs.Lists.{test-other, true-false}
+
+-- ---- a stream of the house's own
+
+own-first : (b c : Bool) → (b && c) ≡ true → b ≡ true
+own-first true c e = refl
+own-first false c e = e
+
+own-last : (b c : Bool) → (b && not c) ≡ true → c ≡ false
+own-last true false e = refl
+own-last true true e = sym e
+own-last false c e = true-false (sym e)
+
+is-own : (t : ℕ) → is_own_stream t ≡ true → is_own t ≡ true
+is-own t own = own-first (is_own t) (not (t == HOUSE)) own
+
+no-house : (t : ℕ) → is_own_stream t ≡ true → (HOUSE == t) ≡ false
+no-house t own = test-other HOUSE t (λ e. true-false (sym own ∙ (ap is_own_stream (sym e))))
+
+-- ---- bytes that it gave
+
+got-append : (t : ℕ) (a b : List HouseCall) → bytes_got t (a ++ b) ≡ bytes_got t a ++ bytes_got t b
+got-append t [] b = refl
+got-append t (one ∷ a) b = ap (λ l. got_by t one ++ l) (got-append t a b) ∙ sym (append_assoc (got_by t one) (bytes_got t a) (bytes_got t b))
+
+-- a call that gives none, for whichever streams it is
+got-none : (t : ℕ) (one : HouseCall) → got_by t one ≡ [] → (b : Bool) → bytes_got t (cond b (one ∷ []) []) ≡ []
+got-none t one e true = append-nil (got_by t one) ∙ e
+got-none t one e false = refl
+
+got-house : (t : ℕ) (waiting : List ℕ) (mark : HouseMark) → bytes_got t (house_calls waiting mark) ≡ []
+got-house t waiting HouseIn = refl
+got-house t waiting (HouseSaid bytes) = refl
+got-house t waiting (HouseTook size) = refl
+got-house t waiting (HouseAsked client id opening ask reply) = refl
+got-house t waiting (HouseAnswer client id reply) = refl
+got-house t waiting (HouseOrder order number) = refl
+
+got-at : (setting : Setting) (before : List Mark) (mark : Mark) (t : ℕ) → is_own_stream t ≡ true → bytes_got t (calls_at setting before mark) ≡ bytes_in t mark
+got-at setting before (Gets k bytes) t own = by_test (k == t) refl (is_own k) refl
+  where
+    by_test : (b : Bool) → (k == t) ≡ b → (c : Bool) → is_own k ≡ c → bytes_got t (cond c (Turns (Got k bytes) ∷ []) []) ≡ elim b as (λ _. List ℕ) [ true ↦ bytes | false ↦ [] ]
+    by_test b e true f = append-nil (cond (k == t) bytes []) ∙ ap (λ (x : Bool). cond x bytes []) e ∙ by_flag b
+      where
+        by_flag : (x : Bool) → cond x bytes [] ≡ elim x as (λ _. List ℕ) [ true ↦ bytes | false ↦ [] ]
+        by_flag true = refl
+        by_flag false = refl
+    by_test false e false f = refl
+    by_test true e false f = elim (eqb_tells k t) [
+      | inl q ↦ true-false (sym (subst (λ (i : ℕ). is_own i ≡ true) (sym q.1) (is-own t own)) ∙ f)
+      | inr q ↦ true-false (sym e ∙ q.0)
+    ]
+got-at setting before (Joins l k) t own = refl
+got-at setting before (Ends k) t own = got-none t (Turns (End k)) refl (is_own k)
+got-at setting before (Frees k) t own = got-none t (Turns (Writable k)) refl (is_own k)
+got-at setting before (Fails k) t own = got-none t (Turns (Failed k)) refl (is_own k)
+got-at setting before (WriteFails k) t own = got-none t (Turns (Failed k)) refl (is_own k)
+got-at setting before (Takes k bytes) t own = got-none t (call.Takes k (length bytes)) refl (is_own k)
+got-at setting before (House mark) t own = got-house t _ mark ∙ sym (ap (λ (b : Bool). elim b as (λ _. List ℕ) [ true ↦ house_said mark | false ↦ [] ]) (no-house t own))
+got-at setting before (Waits waiting want streams listens) t own = refl
+got-at setting before (Accepts k) t own = refl
+got-at setting before (Holds k) t own = refl
+
+pub given-all : IsGivenAll
+given-all setting [] t own = refl
+given-all setting (mark ∷ before) t own =
+    got-append t (calls_in setting before) (calls_at setting before mark)
+    ∙ (ap (λ l. l ++ bytes_got t (calls_at setting before mark)) (given-all setting before t own)
+    ∙ ap (λ l. bytes_of t before ++ l) (got-at setting before mark t own))
+
+-- ---- bytes that it took
+
+sizes-append : (t : ℕ) (a b : List HouseCall) → sizes_taken t (a ++ b) ≡ sizes_taken t a + sizes_taken t b
+sizes-append t [] b = omega arith
+sizes-append t (one ∷ a) b = let e = sizes-append t a b in omega (arith, e)
+
+size-none : (t : ℕ) (one : HouseCall) → size_by t one ≡ 0 → (b : Bool) → sizes_taken t (cond b (one ∷ []) []) ≡ 0
+size-none t one e true = omega (arith, e)
+size-none t one e false = refl
+
+size-house : (t : ℕ) (waiting : List ℕ) (mark : HouseMark) → sizes_taken t (house_calls waiting mark) ≡ 0
+size-house t waiting HouseIn = refl
+size-house t waiting (HouseSaid bytes) = refl
+size-house t waiting (HouseTook size) = refl
+size-house t waiting (HouseAsked client id opening ask reply) = refl
+size-house t waiting (HouseAnswer client id reply) = refl
+size-house t waiting (HouseOrder order number) = refl
+
+size-at : (setting : Setting) (before : List Mark) (mark : Mark) (t : ℕ) → is_own_stream t ≡ true → sizes_taken t (calls_at setting before mark) ≡ length (taken_in t mark)
+size-at setting before (Takes k bytes) t own = by_test (k == t) refl (is_own k) refl
+  where
+    by_test : (b : Bool) → (k == t) ≡ b → (c : Bool) → is_own k ≡ c → sizes_taken t (cond c (call.Takes k (length bytes) ∷ []) []) ≡ length (elim b as (λ _. List ℕ) [ true ↦ bytes | false ↦ [] ])
+    by_test true e true f = let w : cond (k == t) (length bytes) 0 ≡ length bytes = ap (λ (x : Bool). cond x (length bytes) 0) e in omega (arith, w)
+    by_test false e true f = let w : cond (k == t) (length bytes) 0 ≡ 0 = ap (λ (x : Bool). cond x (length bytes) 0) e in omega (arith, w)
+    by_test false e false f = refl
+    by_test true e false f = elim (eqb_tells k t) [
+      | inl q ↦ true-false (sym (subst (λ (i : ℕ). is_own i ≡ true) (sym q.1) (is-own t own)) ∙ f)
+      | inr q ↦ true-false (sym e ∙ q.0)
+    ]
+size-at setting before (Gets k bytes) t own = size-none t (Turns (Got k bytes)) refl (is_own k)
+size-at setting before (Joins l k) t own = refl
+size-at setting before (Ends k) t own = size-none t (Turns (End k)) refl (is_own k)
+size-at setting before (Frees k) t own = size-none t (Turns (Writable k)) refl (is_own k)
+size-at setting before (Fails k) t own = size-none t (Turns (Failed k)) refl (is_own k)
+size-at setting before (WriteFails k) t own = size-none t (Turns (Failed k)) refl (is_own k)
+size-at setting before (House mark) t own = size-house t _ mark
+size-at setting before (Waits waiting want streams listens) t own = refl
+size-at setting before (Accepts k) t own = refl
+size-at setting before (Holds k) t own = refl
+
+pub told-all : IsToldAll
+told-all setting [] t own = refl
+told-all setting (mark ∷ before) t own =
+    sizes-append t (calls_in setting before) (calls_at setting before mark)
+    ∙ (ap (λ n. n + sizes_taken t (calls_at setting before mark)) (told-all setting before t own)
+    ∙ (ap (λ n. length (taken_by t before) + n) (size-at setting before mark t own) ∙ sym (length-append (taken_by t before) (taken_in t mark))))

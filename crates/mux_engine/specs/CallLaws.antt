@@ -1,0 +1,49 @@
+-- What the calls that a journal has say of the streams of the house.
+use Rattle.std.specs.Prelude.{◌≡◌, ◌+◌, ◌==◌, ℕ, true, List, [], ◌∷◌, ◌++◌, if◌then◌else◌, length, reverse, Some, codes}
+use Rattle.mux_outside.specs.HouseCalls.{End, Failed, Got, HouseCall, Joined, Marks, Turns, Writable}
+use Rattle.mux_outside.specs.HouseCalls as call
+use Rattle.mux_outside.specs.declared.house_mark.HouseMark.TheVariants.{HouseOrder}
+use Rattle.mux_outside.specs.declared.mark.Mark.{Mark}
+use Rattle.mux_outside.specs.declared.order.Order.TheVariants.{Connect}
+use Rattle.mux_history.specs.Log.{Setting}
+use Rattle.mux_history.specs.Journal.{bytes_of, is_own_stream, taken_by}
+use Rattle.mux_history.specs.WorkedHouse.{own_streams}
+use Rattle.mux_engine.specs.Called.{calls_in}
+
+-- the bytes that a house was given of a stream by a call, and by all of them
+abbrev pub got_by : ℕ → HouseCall → List ℕ
+got_by t (Turns (Got stream bytes)) = if stream == t then bytes else []
+got_by t _ = []
+
+abbrev pub bytes_got : ℕ → List HouseCall → List ℕ
+bytes_got t [] = []
+bytes_got t (one ∷ calls) = got_by t one ++ bytes_got t calls
+
+-- how many bytes of a stream it was told were taken, by a call and by all of them
+abbrev pub size_by : ℕ → HouseCall → ℕ
+size_by t (call.Takes stream size) = if stream == t then size else 0
+size_by t _ = 0
+
+abbrev pub sizes_taken : ℕ → List HouseCall → ℕ
+sizes_taken t [] = 0
+sizes_taken t (one ∷ calls) = size_by t one + sizes_taken t calls
+
+-- it is given what a stream of its own gave: all of it, once and in that order
+abbrev pub IsGivenAll : Type 0
+IsGivenAll = (setting : Setting) (journal : List Mark) (t : ℕ) → is_own_stream t ≡ true
+    → bytes_got t (calls_in setting journal) ≡ bytes_of t journal
+
+-- it is told of as many bytes as a stream of its own took
+abbrev pub IsToldAll : Type 0
+IsToldAll = (setting : Setting) (journal : List Mark) (t : ℕ) → is_own_stream t ≡ true
+    → sizes_taken t (calls_in setting journal) ≡ length (taken_by t journal)
+
+-- a worked journal: a stream that was joined and gives "hello", and one that the house ordered,
+-- which is connected and fails
+abbrev pub OwnStreamsAreCalled : Type 0
+OwnStreamsAreCalled = (setting : Setting) → calls_in setting (reverse own_streams)
+    ≡ Turns (Joined 9223372036854775808 9223372036854775809)
+    ∷ Turns (Got 9223372036854775809 (codes "hello"))
+    ∷ Turns (End 9223372036854775809)
+    ∷ Marks (HouseOrder (Connect (codes "web") 80) (Some 9223372036854775810))
+    ∷ Turns (Writable 9223372036854775810) ∷ Turns (Failed 9223372036854775810) ∷ []

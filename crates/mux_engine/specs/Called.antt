@@ -1,0 +1,47 @@
+-- The calls of the house that a journal has, the oldest first.
+use Rattle.std.specs.Prelude.{ℕ, List, [], ◌∷◌, ◌++◌, if◌then◌else◌, length, take}
+use Rattle.mux_outside.specs.HouseCalls.{Got, End, Failed, HandsOn, Hears, HouseCall, Joined, Turns, Writable, call_of}
+use Rattle.mux_outside.specs.HouseCalls as call
+use Rattle.mux_outside.specs.OwnStreams.{is_own}
+use Rattle.mux_outside.specs.declared.house_mark.HouseMark.{HouseMark}
+use Rattle.mux_outside.specs.declared.house_mark.HouseMark.TheVariants.{HouseTook}
+use Rattle.mux_outside.specs.declared.mark.Mark.{Mark}
+use Rattle.mux_outside.specs.declared.mark.Mark.TheVariants.{Gets, Ends, Frees, Fails, Takes, WriteFails, Joins, House}
+use Rattle.mux_history.specs.declared.limits.TheConstants.{HOUSE}
+use Rattle.mux_history.specs.Pending.{pending}
+use Rattle.mux_history.specs.Log.{Setting}
+use Rattle.mux_history.specs.Journal.{log_of_journal}
+
+-- a call for one of the master's own streams; another stream is none of the house
+abbrev pub if_own : ℕ → HouseCall → List HouseCall
+if_own stream one = if is_own stream then one ∷ [] else []
+
+-- the call of a house's mark, where this waits for the house: what it took is the front of that
+abbrev pub house_calls : List ℕ → HouseMark → List HouseCall
+house_calls waiting (HouseTook size) = Hears (take size waiting) ∷ []
+house_calls waiting mark = call_of mark
+
+-- the call of a mark after those before it: a turn of a listener or a stream of the master's own is
+-- handed on, and so is a failed write there, and how many bytes such a stream took
+abbrev pub calls_at : Setting → List Mark → Mark → List HouseCall
+calls_at setting before (Joins l t) = Turns (Joined l t) ∷ []
+calls_at setting before (Gets t bytes) = if_own t (Turns (Got t bytes))
+calls_at setting before (Ends t) = if_own t (Turns (End t))
+calls_at setting before (Frees t) = if_own t (Turns (Writable t))
+calls_at setting before (Fails t) = if_own t (Turns (Failed t))
+calls_at setting before (WriteFails t) = if_own t (Turns (Failed t))
+calls_at setting before (Takes t bytes) = if_own t (call.Takes t (length bytes))
+calls_at setting before (House mark) =
+    house_calls (pending HOUSE (log_of_journal setting before)) mark
+calls_at setting before _ = []
+
+abbrev pub calls_in : Setting → List Mark → List HouseCall
+calls_in setting [] = []
+calls_in setting (mark ∷ before) = calls_in setting before ++ calls_at setting before mark
+
+-- the house, which was another as the run began, was handed this since, and of all of it this is so
+pub record Handed (stands stands' : List HouseCall → Type 0) (So : List HouseCall → Type 0) :
+    Type 0 where
+  pub all : List HouseCall
+  pub hands : HandsOn stands stands' all
+  pub so : So all
