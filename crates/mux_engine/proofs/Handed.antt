@@ -69,7 +69,7 @@ at-wait told quiet stands first house known seen own held failed queue s housed 
   offered = record { own_is = housed.own_is; opened = housed.places.opened; numbered = housed.places.numbered; offered = ready.no_more.offered };
   hears = hears;
   all_noted = refl;
-  rests = λ read present. (house, (ready.rests present read, (refl, hands)));
+  rests = λ read present. (house, (ready.rests present read, refl, hands));
 }
 
 -- the wire gave this turn

@@ -33,7 +33,7 @@ use Rattle.mux_engine.specs.Called.{calls_in}
 use Rattle.mux_engine.specs.Owned.{IsOffered, waits_for}
 use Rattle.mux_engine.specs.Run.{RestedAt}
 use Rattle.mux_engine.specs.Serving.{IsSound, Serving, is_open}
-use Rattle.mux_engine.specs.Sides.{Housed, Resting, Side, house_marks}
+use Rattle.mux_engine.specs.Sides.{Resting, Side, house_marks}
 use Rattle.mux_engine.specs.Turns.{want_of}
 use Rattle.mux_engine.proofs.Called.{calls-none}
 use Rattle.mux_engine.proofs.Closed.{both-tests}
