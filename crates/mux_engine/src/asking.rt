@@ -23,6 +23,7 @@ pub fn heed<W: Wire, H: House>(
         (W.seen wire.old) (W.seen wire.new) }
     ensures handed { OnOk result (HandsOn (H.stands house.old) (H.stands house.new)
         (calls_of asks.new)) }
+    ensures must { H.must house.new ≡ H.must house.old }
     ensures went { IfOk result (λ went. went ≡ went_of engine.new.ended) }
     ensures calls { W.calls wire.new ≡ W.calls wire.old }
     ensures faults { W.server_faults wire.new ≡ W.server_faults wire.old }

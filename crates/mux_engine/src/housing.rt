@@ -246,6 +246,7 @@ fn speak<W: Wire, H: House>(
         → (t : ℕ) → H.queue house.new t ≡ H.queue house.old t) }
     ensures still { IfOk result (λ more. more ≡ false → (engine.new ≡ engine.old)
         × (W.seen wire.new ≡ W.seen wire.old)) }
+    ensures must { H.must house.new ≡ H.must house.old }
     ensures ends { (held failed : List ℕ) →
         ServedWith H.stands house.old H.may
         (RestsOf H.told H.quiet H.stands (H.known house.old).present)
@@ -347,6 +348,7 @@ pub fn step_house<W: Wire, H: House>(
     ensures ready { IfOk result (λ more. more ≡ false → engine.new.ended ≡ None
         → IsReady (H.known house.new) (H.quiet house.new) (H.queue house.new) lists.new.held
         lists.new.failed lists.new.own engine.new) }
+    ensures must { H.must house.new ≡ H.must house.old }
     ensures failed { OnOk result (engine.new.ended ≡ Some ServerFailed
         → Rose (W.server_faults wire.old) (W.server_faults wire.new)) }
     ensures by_row { OnOk result (IsByRow engine.new.ended) }

@@ -86,6 +86,7 @@ fn turn<W: Wire, H: House>(
     ensures alone { OnOk result (IsAlone (H.known house.new)) }
     ensures held_is { OnOk result (lists.new.held ≡ (W.seen wire.new).blocked) }
     ensures present { OnOk result ((H.known house.new).present ≡ (H.known house.old).present) }
+    ensures must { H.must house.new ≡ H.must house.old }
     ensures went { IfOk result (λ went. went ≡ went_of engine.new.ended) }
     ensures failed { OnOk result (engine.new.ended ≡ Some ServerFailed
         → Rose (W.server_faults wire.old) (W.server_faults wire.new)) }
@@ -179,6 +180,7 @@ fn one_turn<W: Wire, H: House>(
     ensures present { OnOk result ((H.known house.new).present ≡ (H.known house.old).present) }
     ensures on { IfOk result (λ on. on ≡ true → engine.new.ended ≡ None) }
     ensures settled { IfOk result (λ on. on ≡ true → lists.new.settled ≡ false) }
+    ensures must { H.must house.new ≡ H.must house.old }
     ensures over { IfOk result (λ on. on ≡ false → engine.new.ended ≡ None
         → refused_if (H.known house.new).present (H.must house.new) (H.refused house.new) ≢ None) }
     ensures failed { OnOk result (engine.new.ended ≡ Some ServerFailed
@@ -247,6 +249,7 @@ fn turns_of<W: Wire, H: House>(
     ensures held_is { OnOk result (lists.new.held ≡ (W.seen wire.new).blocked) }
     ensures present { OnOk result ((H.known house.new).present ≡ (H.known house.old).present) }
     ensures on { IfOk result (λ all. all ≡ true → engine.new.ended ≡ None) }
+    ensures must { H.must house.new ≡ H.must house.old }
     ensures over { IfOk result (λ all. all ≡ false → engine.new.ended ≡ None
         → refused_if (H.known house.new).present (H.must house.new) (H.refused house.new) ≢ None) }
     ensures failed { OnOk result (engine.new.ended ≡ Some ServerFailed
@@ -348,6 +351,7 @@ fn last_replies<W: Wire, H: House>(
     ensures known { OnOk result (SameHouse (H.known house.old) (H.known house.new)) }
     ensures places { SamePlaces (W.seen wire.old) (W.seen wire.new) }
     ensures unasked { all ≡ false → house.new ≡ house.old }
+    ensures must { H.must house.new ≡ H.must house.old }
     ensures ended { OnOk result (engine.new.ended ≡ engine.old.ended) }
     ensures alone { (H.known house.old).present ≡ false → (engine.new ≡ engine.old)
         × (wire.new ≡ wire.old) }
@@ -390,6 +394,7 @@ fn finish<W: Wire, H: House>(
     ensures known { OnOk result (SameHouse (H.known house.old) (H.known house.new)) }
     ensures places { SamePlaces (W.seen wire.old) (W.seen wire.new) }
     ensures unasked { all ≡ false → house.new ≡ house.old }
+    ensures must { H.must house.new ≡ H.must house.old }
     ensures ended { OnOk result (StaysOrFails engine.old.ended engine.new.ended
         (W.server_faults wire.old) (W.server_faults wire.new)) }
     ensures calls { Counts 0 result (W.calls wire.old) (W.calls wire.new) }
@@ -442,6 +447,7 @@ fn run<W: Wire, H: House>(
         before (H.told house.new) start (W.seen wire.new).told
         (refused_if (H.known house.old).present (H.must house.new) (H.refused house.new))
         (result_unwrap_or result WantOfMemory) }
+    ensures must { H.must house.new ≡ H.must house.old }
     ensures permitted { IfOk result (λ answer. (index : ℕ) → answer ≡ StartWasRefused index
         → refused_if (H.known house.old).present (H.must house.new) (H.refused house.new)
         ≡ Some index) }
@@ -498,6 +504,7 @@ pub fn serve<W: Wire, H: House>(
         (H.stands house.old) (H.stands house.new) (H.known house.old).present policy pid turns
         (H.told house.old) (H.told house.new) (W.seen wire.old).told (W.seen wire.new).told
         (refused_if (H.known house.old).present (H.must house.new) (H.refused house.new)) result }
+    ensures must { H.must house.new ≡ H.must house.old }
     ensures permitted { (index : ℕ) → result ≡ StartWasRefused index
         → refused_if (H.known house.old).present (H.must house.new) (H.refused house.new)
         ≡ Some index }

@@ -43,6 +43,7 @@ returns-in_err-last_replies g c = let W = g.W.Wire in let r = c.from_residual in
   known = on-err r.result _ _ r.ensures.0 tt;
   places = c.last_replies.ensures.places;
   unasked = c.last_replies.ensures.unasked;
+  must = c.last_replies.ensures.must;
   ended = on-err r.result _ _ r.ensures.0 tt;
   calls = counts-err r.result 0 _ _ r.ensures.0 c.in_err-last_replies.ensures.calls;
   openings = c.last_replies.ensures.openings;
@@ -58,6 +59,7 @@ returns g c = let H = g.H.House in let W = g.W.Wire in let o = c.in_ok-last_repl
   known = on-ok c.flush.result (λ e. o.known) c.flush.ensures.streams;
   places = places-then _ _ _ c.last_replies.ensures.places c.flush.ensures.places;
   unasked = c.last_replies.ensures.unasked;
+  must = c.last_replies.ensures.must;
   ended = on-ok c.flush.result (λ e. then-stays-or-fails _ _ _ _ _ _ (stays _ _ _ _ o.ended c.last_replies.ensures.faults) e) c.flush.ensures.ended;
   calls = counts-then c.flush.result _ _ _ o.calls c.flush.ensures.calls;
   openings = c.flush.ensures.openings ∙ c.last_replies.ensures.openings;

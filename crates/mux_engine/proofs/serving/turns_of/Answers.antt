@@ -26,6 +26,7 @@ loop-init g c = record {
   unopened = λ p. refl;
   later = omega arith;
   calls = spent-none _ _;
+  must = refl;
   openings = refl;
   joinings = refl;
 }
@@ -66,6 +67,7 @@ loop-preserved g c = let H = g.H.House in let i = c.loop.invariant in let o = c.
   unopened = λ p. c.one_turn.ensures.unopened (i.present ∙ p) ∙ i.unopened p;
   later = later-on _ _ _ i.later c.one_turn.ensures.later;
   calls = spent-on _ _ _ _ _ i.calls (turned-is _ _ _ _ _ _ i.present c.if-not-branch.false o.calls);
+  must = c.one_turn.ensures.must ∙ i.must;
   openings = c.one_turn.ensures.openings ∙ i.openings;
   joinings = c.one_turn.ensures.joinings ∙ i.joinings;
 }
@@ -88,6 +90,7 @@ returns-then-not-branch g c = let H = g.H.House in let i = c.loop.invariant in l
   calls = spent-over _ c.loop.counter c.args.turns _ _ _ (omega arith) i.calls (turned-is _ _ _ _ _ _ i.present c.if-not-branch.true o.calls)
       (λ z p. o.idle (ap (λ (s : State). s.waiting) (i.first z).1 ∙ c.requires.quiet p) (i.present ∙ p));
   idle = λ z. absurd (omega (arith, z));
+  must = c.one_turn.ensures.must ∙ i.must;
   openings = c.one_turn.ensures.openings ∙ i.openings;
   joinings = c.one_turn.ensures.joinings ∙ i.joinings;
 }
@@ -108,6 +111,7 @@ returns g c = let W = g.W.Wire in let i = c.loop.invariant in record {
   later = i.later;
   calls = spent-all _ c.loop.counter c.args.turns _ _ (omega arith) i.calls;
   idle = λ z. let f = i.first (omega (arith, z)) in (f.0, f.1, record { same_server = ap W.server_faults f.2; same_client = ap W.client_faults f.2 });
+  must = i.must;
   openings = i.openings;
   joinings = i.joinings;
 }
@@ -131,6 +135,7 @@ returns-in_err-one_turn g c = let H = g.H.House in let i = c.loop.invariant in l
   later = later-on _ _ _ i.later c.one_turn.ensures.later;
   calls = on-err r.result _ _ r.ensures.0 (spent-cut _ c.loop.counter c.args.turns _ _ _ (omega arith) i.calls c.in_err-one_turn.ensures.calls);
   idle = λ z. absurd (omega (arith, z));
+  must = c.one_turn.ensures.must ∙ i.must;
   openings = c.one_turn.ensures.openings ∙ i.openings;
   joinings = c.one_turn.ensures.joinings ∙ i.joinings;
 }
@@ -149,6 +154,7 @@ returns-in_err-piece g c = let r = c.from_residual in record {
   later = omega arith;
   calls = on-err r.result _ _ r.ensures.0 (cut-none c.args.turns _);
   idle = λ z. (refl, refl, record { same_server = refl; same_client = refl });
+  must = refl;
   openings = refl;
   joinings = refl;
 }

@@ -25,6 +25,7 @@ invariant-loop g l = let W = g.W.Wire in let H = g.H.House in record {
   unopened : (H.known l.fn.house).present ≡ false → (W.seen l.wire).last_own ≡ (W.seen l.fn.wire).last_own;
   later : W.server_faults l.fn.wire ≤ W.server_faults l.wire;
   calls : Spent (H.known l.fn.house).present true l.counter (W.calls l.fn.wire) (W.calls l.wire);
+  must : H.must l.house ≡ H.must l.fn.house;
   openings : W.openings l.wire ≡ W.openings l.fn.wire;
   joinings : W.joinings l.wire ≡ W.joinings l.fn.wire;
 }
