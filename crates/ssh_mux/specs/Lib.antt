@@ -12,5 +12,6 @@ pub mod Places
 pub mod Reads
 pub mod Sharing
 pub mod Asks
+pub mod Starts
 pub mod Client
 pub mod Drill

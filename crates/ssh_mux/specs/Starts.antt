@@ -1,0 +1,81 @@
+-- What the master's own forwardings begin with, by the settings (ssh_config(5): LocalForward,
+-- RemoteForward, DynamicForward, ClearAllForwardings, GatewayPorts, ExitOnForwardFailure).
+use Rattle.std.specs.Prelude.{ℕ, Bool, true, false, ◌||◌, if◌then◌else◌, List, [], ◌∷◌, ◌++◌, flat_map, Option, Some, None}
+use Rattle.conf_options.specs.Kept.{Given}
+use Rattle.conf_output.specs.Shown.{first_value}
+use Rattle.conf_rules.specs.declared.key.Key.{Key}
+use Rattle.conf_rules.specs.declared.key.Key.TheVariants.{ClearAllForwardings, DynamicForward, ExitOnForwardFailure, GatewayPorts, LocalForward, RemoteForward}
+use Rattle.conf_rules.specs.declared.value.End.{End}
+use Rattle.conf_rules.specs.declared.value.End.TheVariants.{Path, Port}
+use Rattle.conf_rules.specs.declared.value.Forward.{Forward}
+use Rattle.conf_rules.specs.declared.value.Value.{Value}
+use Rattle.conf_rules.specs.declared.value.Value.TheVariants as values
+use Rattle.conf_rules.specs.Listing.{is_set}
+use Rattle.conf_rules.specs.Rows.{values_among}
+use Rattle.mux_outside.specs.declared.start_ask.StartAsk.{StartAsk}
+use Rattle.mux_outside.specs.declared.starts.Starts.{Starts}
+use Rattle.ssh_mux.specs.declared.asks.AskedEnd.{AskedEnd}
+use Rattle.ssh_mux.specs.Asks.{forward_kind, host_or_empty}
+
+-- ---- a forwarding
+
+-- no end: an empty host and port 0
+abbrev pub no_end : AskedEnd
+no_end = record { host = []; port = 0 }
+
+-- the host and port of an end; a path has neither
+abbrev pub end_of : End → AskedEnd
+end_of (Path path) = no_end
+end_of (Port host port) = record { host = host_or_empty host; port = port }
+
+-- the same of the end that is connected to, which a dynamic forwarding hasn't
+abbrev pub connect_of : Option End → AskedEnd
+connect_of None = no_end
+connect_of (Some end) = end_of end
+
+-- whether an end is a path
+abbrev pub is_path : End → Bool
+is_path (Path path) = true
+is_path (Port host port) = false
+
+-- whether a path is connected to
+abbrev pub connects_path : Option End → Bool
+connects_path None = false
+connects_path (Some end) = is_path end
+
+-- a forwarding as the settings ask for it
+abbrev pub start_of : ℕ → Forward → StartAsk
+start_of kind f = record {
+  kind = kind;
+  listen_host = (end_of f.listen).host;
+  listen_port = (end_of f.listen).port;
+  connect_host = (connect_of f.connect).host;
+  connect_port = (connect_of f.connect).port;
+  path = is_path f.listen || connects_path f.connect;
+}
+
+-- ---- the settings
+
+-- the forwarding of a value
+abbrev pub value_starts : ℕ → Value → List StartAsk
+value_starts kind (values.Forward f) = start_of kind f ∷ []
+value_starts kind value = []
+
+-- the forwardings of a key, in the order of its values
+abbrev pub key_starts : Key → List Given → List StartAsk
+key_starts key settings = flat_map (value_starts (forward_kind key)) (values_among key settings)
+
+-- local forwardings, remote and dynamic ones in this order; none where all are cleared
+abbrev pub start_asks : List Given → List StartAsk
+start_asks settings = if is_set (first_value ClearAllForwardings settings) then []
+    else key_starts LocalForward settings ++ key_starts RemoteForward settings
+    ++ key_starts DynamicForward settings
+
+-- what the settings ask for at the start, whether other machines may connect to local forwardings,
+-- and whether the run ends where a forwarding can't be set up
+abbrev pub starts_for : List Given → Starts
+starts_for settings = record {
+  asks = start_asks settings;
+  gateway = is_set (first_value GatewayPorts settings);
+  must = is_set (first_value ExitOnForwardFailure settings);
+}
