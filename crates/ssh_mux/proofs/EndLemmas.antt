@@ -30,6 +30,7 @@ use Rattle.ssh_mux.specs.Master.{ends_sharing}
 use Rattle.ssh_mux.specs.Places.{EndPlace}
 use Rattle.ssh_mux.specs.Sharing.{CallsEnd, IdleCause, IsServed, IsShared, OpensOnce, Serves, Shares, StartCause, TellsEnd, WaitsFor, WireCause}
 use Rattle.ssh_mux.specs.Sharing.{told_as}
+use Rattle.ssh_mux.specs.Starts.{MustsAs}
 use Rattle.ssh_mux.specs.Status.{status_of}
 use Rattle.ssh_mux.proofs.StillLemmas.{loud, not_true}
 use Rattle.ssh_mux.proofs.CauseLemmas.{fault-cause, fault-later, runs-starved}
@@ -228,6 +229,9 @@ wire_after k status ending b n f f' s s' c c' r h = carried (λ x. OnTrue (touch
 
 pub start_after : (k : Known) (status : Status) (ending : Ending) (b n : Option (List ℕ)) (f f' : ℕ) (refused : Option ℕ) → Reports status ending b n f f' → OnTrue (may_share k (status_of ending)) (StartCause (status_of ending) refused) → OnTrue (may_share k status) (StartCause status refused)
 start_after k status ending b n f f' refused r h = carried (λ x. OnTrue (may_share k x) (StartCause x refused)) status ending (reported status ending b n f f' r) (on-memory (opens k)) h
+
+pub must_after : (k : Known) (due : Option Bool) (must : Bool) (status : Status) (ending : Ending) (b n : Option (List ℕ)) (f f' : ℕ) → Reports status ending b n f f' → OnTrue (may_share k (status_of ending)) (MustsAs (status_of ending) due must) → OnTrue (may_share k status) (MustsAs status due must)
+must_after k due must status ending b n f f' r h = carried (λ x. OnTrue (may_share k x) (MustsAs x due must)) status ending (reported status ending b n f f' r) (on-memory (opens k)) h
 
 pub waits_after : (k : Known) (turns : ℕ) (status : Status) (ending : Ending) (b n : Option (List ℕ)) (f f' : ℕ) (old calls : Calls) → Reports status ending b n f f' → OnTrue (touches k (status_of ending)) (WaitsFor turns (status_of ending) old calls) → OnTrue (touches k status) (WaitsFor turns status old calls)
 waits_after k turns status ending b n f f' old calls r h = carried (λ x. OnTrue (touches k x) (WaitsFor turns x old calls)) status ending (reported status ending b n f f' r) (on-memory (opens k || drills k)) h

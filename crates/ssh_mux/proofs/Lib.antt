@@ -16,5 +16,6 @@ pub mod PolicyLemmas
 pub mod ReadLemmas
 pub mod RefusalLemmas
 pub mod SharingLemmas
+pub mod StartLemmas
 pub mod StillLemmas
 pub mod TalkLemmas

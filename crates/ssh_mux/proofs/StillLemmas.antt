@@ -25,6 +25,7 @@ use Rattle.ssh_mux.specs.Ending.{shown}
 use Rattle.ssh_mux.specs.Out.{OutStays, OutTakes}
 use Rattle.ssh_mux.specs.Outcomes.{Known, Certain, Listing, Master, Client, drills, opens}
 use Rattle.ssh_mux.specs.Sharing.{CallsEnd, IdleCause, OpensOnce, Shares, StartCause, WaitsFor, WireCause}
+use Rattle.ssh_mux.specs.Starts.{MustsAs}
 use Rattle.ssh_mux.specs.Status.{status_of, refusal_status, listing_status}
 
 -- ---- small facts
@@ -245,6 +246,12 @@ still-start k ending refused h = on (unshared k ending h) where
   on : Unshared k ending → OnTrue (may_share k (status_of ending)) (StartCause (status_of ending) refused)
   on (inl e) = not_true (may_share k (status_of ending)) (StartCause (status_of ending) refused) e
   on (inr e) = subst (λ x. OnTrue (may_share k x) (StartCause x refused)) (sym e) (on_true (may_share k statuses.Memory) (StartCause statuses.Memory refused) tt)
+
+pub still-must : (k : Known) (ending : Ending) (due : Option Bool) (must : Bool) → IsRefused k ending → OnTrue (may_share k (status_of ending)) (MustsAs (status_of ending) due must)
+still-must k ending due must h = on (unshared k ending h) where
+  on : Unshared k ending → OnTrue (may_share k (status_of ending)) (MustsAs (status_of ending) due must)
+  on (inl e) = not_true (may_share k (status_of ending)) (MustsAs (status_of ending) due must) e
+  on (inr e) = subst (λ x. OnTrue (may_share k x) (MustsAs x due must)) (sym e) (on_true (may_share k statuses.Memory) (MustsAs statuses.Memory due must) tt)
 
 pub still-waits : (k : Known) (ending : Ending) (turns : ℕ) (old new : Calls) → IsRefused k ending → OnTrue (may_share k (status_of ending)) (WaitsFor turns (status_of ending) old new)
 still-waits k ending turns old new h = on (unshared k ending h) where

@@ -1,7 +1,7 @@
 -- What the master's own forwardings begin with, by the settings (ssh_config(5): LocalForward,
 -- RemoteForward, DynamicForward, ClearAllForwardings, GatewayPorts, ExitOnForwardFailure).
-use Rattle.std.specs.Prelude.{ℕ, Bool, true, false, ◌||◌, if◌then◌else◌, List, [], ◌∷◌, ◌++◌, flat_map, Option, Some, None}
-use Rattle.conf_options.specs.Kept.{Given}
+use Rattle.std.specs.Prelude.{◌≡◌, ℕ, Bool, true, false, ◌||◌, if◌then◌else◌, List, [], ◌∷◌, ◌++◌, flat_map, Option, Some, None}
+use Rattle.conf_options.specs.Kept.{Given, Keeps}
 use Rattle.conf_output.specs.Shown.{first_value}
 use Rattle.conf_rules.specs.declared.key.Key.{Key}
 use Rattle.conf_rules.specs.declared.key.Key.TheVariants.{ClearAllForwardings, DynamicForward, ExitOnForwardFailure, GatewayPorts, LocalForward, RemoteForward}
@@ -11,10 +11,14 @@ use Rattle.conf_rules.specs.declared.value.Forward.{Forward}
 use Rattle.conf_rules.specs.declared.value.Value.{Value}
 use Rattle.conf_rules.specs.declared.value.Value.TheVariants as values
 use Rattle.conf_rules.specs.Listing.{is_set}
-use Rattle.conf_rules.specs.Rows.{values_among}
+use Rattle.conf_rules.specs.Resolution.{all_rows}
+use Rattle.conf_rules.specs.Rows.{given, value, values_among}
+use Rattle.conf_rules.specs.Told.{Told}
 use Rattle.mux_outside.specs.declared.start_ask.StartAsk.{StartAsk}
 use Rattle.mux_outside.specs.declared.starts.Starts.{Starts}
 use Rattle.ssh_mux.specs.declared.asks.AskedEnd.{AskedEnd}
+use Rattle.ssh_mux.specs.declared.status.Status.{Status}
+use Rattle.ssh_mux.specs.declared.status.Status.TheVariants.{Memory}
 use Rattle.ssh_mux.specs.Asks.{forward_kind, host_or_empty}
 
 -- ---- a forwarding
@@ -79,3 +83,21 @@ starts_for settings = record {
   gateway = is_set (first_value GatewayPorts settings);
   must = is_set (first_value ExitOnForwardFailure settings);
 }
+
+-- ---- ExitOnForwardFailure
+
+-- settings keep what the rows of all that is told give
+abbrev pub SettledFor : Option Told → List Given → Type 0
+SettledFor None settings = Unit
+SettledFor (Some told) settings = Keeps settings (flat_map given (all_rows told))
+
+-- whether the run of a master ends where a forwarding of the start is refused, where this is known
+abbrev pub must_for : Option Told → Option Bool
+must_for None = None
+must_for (Some told) = Some (is_set (value ExitOnForwardFailure (all_rows told)))
+
+-- but for want of memory, it ends so exactly where it is due, if this is known
+abbrev pub MustsAs : Status → Option Bool → Bool → Type 0
+MustsAs Memory due must = Unit
+MustsAs status None must = Unit
+MustsAs status (Some due) must = must ≡ due

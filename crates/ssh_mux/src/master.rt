@@ -1,4 +1,4 @@
-ghost use Rattle.std.specs.Prelude.{◌≡◌, List, IfOk, IsOk, IsTrue, OnOk};
+ghost use Rattle.std.specs.Prelude.{◌≡◌, List, IfOk, IsOk, IsTrue, OnOk, Some};
 ghost use Rattle.std.specs.Bool.{OnTrue, OnFalse};
 ghost use Rattle.conf_rules.specs.declared.command.Command.TheVariants as commands;
 ghost use Rattle.conf_rules.specs.declared.control.Control.{Control};
@@ -15,7 +15,7 @@ ghost use Rattle.ssh_mux.specs.Places.{Placed, told_over};
 ghost use Rattle.ssh_mux.specs.Reads.{ReadsFor, ReadsUnless};
 ghost use Rattle.ssh_mux.specs.Sharing.{CallsEnd, IdleCause, OpensAt, OpensOnce, Shares};
 ghost use Rattle.ssh_mux.specs.Sharing.{StartCause, WaitsFor, WireCause, pid_of, policy_of as the_policy_of, told_as};
-ghost use Rattle.ssh_mux.specs.Starts.{starts_for};
+ghost use Rattle.ssh_mux.specs.Starts.{MustsAs, SettledFor, must_for, starts_for};
 
 use crate::ending::Ending;
 use crate::starts::starts_of;
@@ -78,6 +78,12 @@ pub fn share<W: Wire, F: Files, R: Runner, H: House>(
         (commands.Master asked.now transport.now opens.now listens.now)) (so_far result))
         (StartCause (so_far result)
         (refused_if (H.known house.old).present (H.must house.new) (H.refused house.new))) }
+    ensures must { IsTrue (H.known house.old).present → OnTrue (may_share
+        (of_command (machine (F.told files.old) (R.told runner.old) facts.now)
+        (commands.Master asked.now transport.now opens.now listens.now)) (so_far result))
+        (MustsAs (so_far result)
+        (must_for (told_over (machine (F.told files.old) (R.told runner.old) facts.now) asked.now))
+        (H.must house.new)) }
     ensures wire_cause { OnTrue (may_share
         (of_command (machine (F.told files.old) (R.told runner.old) facts.now)
         (commands.Master asked.now transport.now opens.now listens.now)) (so_far result))
@@ -156,6 +162,9 @@ fn found_of<F: Files, R: Runner>(
     ensures read { ReadsUnless
         (told_over (machine (F.told files.old) (R.told runner.old) facts.now) asked.now)
         result (F.readings files.old) (F.readings files.new) }
+    ensures settled { IfOk result (λ found. SettledFor
+        (told_over (machine (F.told files.old) (R.told runner.old) facts.now) asked.now)
+        found.settings) }
     ensures cause { Caused result (F.faults files.old) (F.faults files.new)
         (R.faults runner.old) (R.faults runner.new) }
 {
@@ -252,6 +261,8 @@ fn begin_and_serve<W: Wire, H: House>(
         (refused_if (H.known house.old).present (H.must house.new) (H.refused house.new)) result }
     ensures start { StartCause (so_far result)
         (refused_if (H.known house.old).present (H.must house.new) (H.refused house.new)) }
+    ensures must { IsTrue (H.known house.old).present → MustsAs (so_far result)
+        (Some (starts_for found.now.settings).must) (H.must house.new) }
     ensures cause { WireCause (so_far result) (W.server_faults wire.old) (W.server_faults wire.new)
         (W.client_faults wire.old) (W.client_faults wire.new) }
     ensures calls { CallsEnd turns (so_far result) (W.calls wire.old) (W.calls wire.new) }
@@ -297,6 +308,7 @@ pub fn open_and_serve<W: Wire, H: House>(
         (refused_if (H.known house.old).present (H.must house.new) (H.refused house.new)) result }
     ensures start { StartCause (so_far result)
         (refused_if (H.known house.old).present (H.must house.new) (H.refused house.new)) }
+    ensures must { H.must house.new ≡ H.must house.old }
     ensures cause { WireCause (so_far result) (W.server_faults wire.old) (W.server_faults wire.new)
         (W.client_faults wire.old) (W.client_faults wire.new) }
     ensures calls { CallsEnd turns (so_far result) (W.calls wire.old) (W.calls wire.new) }

@@ -1,4 +1,4 @@
-ghost use Rattle.std.specs.Prelude.{◌≡◌};
+ghost use Rattle.std.specs.Prelude.{◌≡◌, IsTrue};
 ghost use Rattle.std.specs.Bool.{OnFalse, OnTrue};
 ghost use Rattle.mux_engine.specs.Rests.{refused_if};
 ghost use Rattle.mux_engine.specs.Sides.{RestsOf};
@@ -14,6 +14,7 @@ ghost use Rattle.ssh_mux.specs.Places.{Placed, told_for};
 ghost use Rattle.ssh_mux.specs.Reads.{ReadsFor};
 ghost use Rattle.ssh_mux.specs.Sharing.{CallsEnd, IdleCause, OpensOnce, ServesFor, SharesFor};
 ghost use Rattle.ssh_mux.specs.Sharing.{StartCause, WaitsFor, WireCause, pid_of};
+ghost use Rattle.ssh_mux.specs.Starts.{MustsAs, must_for};
 
 use crate::client::ask_master;
 use crate::drill::drill;
@@ -89,6 +90,11 @@ pub fn run<W: Wire, F: Files, R: Runner, S: Sink, H: House>(
         (known_of (F.told files.old) (R.told runner.old) facts.now words.now)
         result) (StartCause result
         (refused_if (H.known house.old).present (H.must house.new) (H.refused house.new))) }
+    ensures must { IsTrue (H.known house.old).present → OnTrue (may_share
+        (known_of (F.told files.old) (R.told runner.old) facts.now words.now)
+        result) (MustsAs result
+        (must_for (told_for (machine (F.told files.old) (R.told runner.old) facts.now) words.now))
+        (H.must house.new)) }
     ensures wire_cause { OnTrue (touches
         (known_of (F.told files.old) (R.told runner.old) facts.now words.now)
         result) (WireCause result (W.server_faults wire.old) (W.server_faults wire.new)
@@ -181,6 +187,11 @@ fn obey<W: Wire, F: Files, R: Runner, S: Sink, H: House>(
         (known_of (F.told files.old) (R.told runner.old) facts.now words.now)
         (so_far result)) (StartCause (so_far result)
         (refused_if (H.known house.old).present (H.must house.new) (H.refused house.new))) }
+    ensures must { IsTrue (H.known house.old).present → OnTrue (may_share
+        (known_of (F.told files.old) (R.told runner.old) facts.now words.now)
+        (so_far result)) (MustsAs (so_far result)
+        (must_for (told_for (machine (F.told files.old) (R.told runner.old) facts.now) words.now))
+        (H.must house.new)) }
     ensures wire_cause { OnTrue (touches
         (known_of (F.told files.old) (R.told runner.old) facts.now words.now)
         (so_far result)) (WireCause (so_far result)

@@ -1,5 +1,6 @@
-use Rattle.std.proofs.Common.{inl, refl}
+use Rattle.std.proofs.Common.{inl, refl, ◌∙◌}
 use Rattle.std.proofs.lemmas.Result.{err_from_is_err_and}
+use Rattle.ssh_mux.proofs.StartLemmas.{musts-begun}
 use Rattle.ssh_mux.proofs.StillLemmas.{still-calls, where_false}
 use Rattle.ssh_mux.proofs.master.begin_and_serve.Goals as goal
 
@@ -38,3 +39,9 @@ returns-clause-waited g c = rw c.in_ok-begin.ensures.known at c.open_and_serve.e
 
 pub returns-clause-idle : goal.returns-clause-idle
 returns-clause-idle g c = λ z. rw c.in_ok-begin.ensures.known at (c.open_and_serve.ensures.idle z)
+
+pub returns-in_err-begin-clause-must : goal.returns-in_err-begin-clause-must
+returns-in_err-begin-clause-must g c = λ x. let p = err_from_is_err_and c.from_residual.result c.from_residual.ensures.1 in let e = c.in_err-begin.ensures.err in rw (p.1, p.2, e) tt
+
+pub returns-clause-must : goal.returns-clause-must
+returns-clause-must g c = λ x. musts-begun _ _ _ (c.open_and_serve.ensures.must ∙ c.in_ok-begin.ensures.must x)

@@ -6,6 +6,7 @@ use Rattle.ssh_mux.proofs.JoinLemmas.{client-refused, client-unlisted, client-fo
 use Rattle.ssh_mux.proofs.RefusalLemmas.{master-refused, path-unlisted, path-found, path-unset}
 use Rattle.ssh_mux.proofs.PlaceLemmas.{failed-place, unlisted-place}
 use Rattle.ssh_mux.proofs.ReadLemmas.{all-read, refused-reads, resolved-reads}
+use Rattle.ssh_mux.proofs.StartLemmas.{settled-for}
 use Rattle.ssh_mux.proofs.master.found_of.Goals as goal
 
 pub returns-in_err-settings-clause-exact : goal.returns-in_err-settings-clause-exact
@@ -79,3 +80,6 @@ returns-in-Some-clause-read g c = resolved-reads _ (g.F.Files.told c.args.files.
 
 pub returns-in-None-clause-read : goal.returns-in-None-clause-read
 returns-in-None-clause-read g c = all-read (tt {0}) _ _ _ _ (resolved-reads (tt {0}) (g.F.Files.told c.args.files.now) (g.R.Runner.told c.args.runner.now) c.args.facts.now c.args.asked.now _ _ c.in_ok-settings.ensures.noted)
+
+pub returns-in-Some-clause-settled : goal.returns-in-Some-clause-settled
+returns-in-Some-clause-settled g c = settled-for (g.F.Files.told c.args.files.now) (g.R.Runner.told c.args.runner.now) c.args.facts.now c.args.asked.now _ c.in_ok-settings.ensures.exact

@@ -7,11 +7,14 @@ use Rattle.mux_engine.specs.Sides.{RestsOf}
 use Rattle.ssh_mux.specs.declared.ending.Ending.TheVariants as endings
 use Rattle.ssh_mux.specs.Answers.{serves_house, so_far}
 use Rattle.ssh_mux.specs.Outcomes.{machine, of_command}
+use Rattle.ssh_mux.specs.Places.{told_over}
 use Rattle.ssh_mux.specs.Sharing.{pid_of, policy_of}
+use Rattle.ssh_mux.specs.Starts.{must_for}
 use Rattle.ssh_mux.proofs.CauseLemmas.{shared-cause, all-ran}
 use Rattle.ssh_mux.proofs.ReadLemmas.{all-read}
 use Rattle.ssh_mux.proofs.SharingLemmas.{pid_is, master-comes, master-opens, master-opened, master-shares, master-idle, master-waits}
-use Rattle.ssh_mux.proofs.StillLemmas.{on_false, on_true, not_false, still-due, still-opened, still-shared, still-wire, still-calls, still-idle, still-waits, starved-due, still-start, unshared-waits, where_false}
+use Rattle.ssh_mux.proofs.StartLemmas.{musts-told}
+use Rattle.ssh_mux.proofs.StillLemmas.{still-must, on_false, on_true, not_false, still-due, still-opened, still-shared, still-wire, still-calls, still-idle, still-waits, starved-due, still-start, unshared-waits, where_false}
 use Rattle.ssh_mux.proofs.master.share.Goals as goal
 
 pub returns-in_err-found-clause-exact : goal.returns-in_err-found-clause-exact
@@ -130,3 +133,12 @@ returns-in_err-found-clause-start g c = let p = err_from_is_err_and c.from_resid
 
 pub returns-in_err-policy-clause-start : goal.returns-in_err-policy-clause-start
 returns-in_err-policy-clause-start g c = let p = err_from_is_err_and c.from_residual-in_err-policy.result c.from_residual-in_err-policy.ensures.1 in let e = c.in_err-policy.ensures.err in rw (p.1, p.2, e) (still-start (of_command (machine (g.F.Files.told c.args.files.now) (g.R.Runner.told c.args.runner.now) c.args.facts.now) (commands.Master c.args.asked.now c.args.transport.now c.args.opens.now c.args.listens.now)) ends.NoMemory (refused_if (g.H.House.known c.args.house.now).present (g.H.House.must c.args.house.now) (g.H.House.refused c.args.house.now)) (starved-due (of_command (machine (g.F.Files.told c.args.files.now) (g.R.Runner.told c.args.runner.now) c.args.facts.now) (commands.Master c.args.asked.now c.args.transport.now c.args.opens.now c.args.listens.now))))
+
+pub returns-in_err-found-clause-must : goal.returns-in_err-found-clause-must
+returns-in_err-found-clause-must g c = λ x. let p = err_from_is_err_and c.from_residual.result c.from_residual.ensures.1 in rw (p.1, p.2) (still-must _ _ _ _ (c.in_err-found.ensures.exact _ _ _))
+
+pub returns-in_err-policy-clause-must : goal.returns-in_err-policy-clause-must
+returns-in_err-policy-clause-must g c = λ x. let p = err_from_is_err_and c.from_residual-in_err-policy.result c.from_residual-in_err-policy.ensures.1 in let e = c.in_err-policy.ensures.err in rw (p.1, p.2, e) (still-must (of_command (machine (g.F.Files.told c.args.files.now) (g.R.Runner.told c.args.runner.now) c.args.facts.now) (commands.Master c.args.asked.now c.args.transport.now c.args.opens.now c.args.listens.now)) ends.NoMemory (must_for (told_over (machine (g.F.Files.told c.args.files.now) (g.R.Runner.told c.args.runner.now) c.args.facts.now) c.args.asked.now)) (g.H.House.must c.args.house.now) (starved-due (of_command (machine (g.F.Files.told c.args.files.now) (g.R.Runner.told c.args.runner.now) c.args.facts.now) (commands.Master c.args.asked.now c.args.transport.now c.args.opens.now c.args.listens.now))))
+
+pub returns-clause-must : goal.returns-clause-must
+returns-clause-must g c = λ x. on_true _ _ (musts-told _ _ _ _ c.in_ok-found.ensures.settled (c.begin_and_serve.ensures.must x))

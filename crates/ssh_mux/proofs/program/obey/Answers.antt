@@ -15,7 +15,7 @@ use Rattle.ssh_mux.proofs.PolicyLemmas.{are-permitted, with-policy}
 use Rattle.ssh_mux.proofs.RefusalLemmas.{list-looks, list-shut, list-undrilled, master-looks, master-quiet, master-undrilled}
 use Rattle.ssh_mux.proofs.SharingLemmas.{none-opened, none-taken, none-counted}
 use Rattle.ssh_mux.proofs.MisreadLemmas.{of-drill, of-read, for-read, misread, misread-runs, misread-cause, drilled-runs}
-use Rattle.ssh_mux.proofs.StillLemmas.{on_false, not_false, not_true, shut, loud, quiet-out, quiet-count, still-due, still-opened, still-shared, still-caused, still-calls, still-idle, still-waited, shut-all, for-master, on_true, or-else, else-or, untouched, follows, refused-waits, still-start, unopened-waits, where_false}
+use Rattle.ssh_mux.proofs.StillLemmas.{on_false, not_false, not_true, shut, loud, quiet-out, quiet-count, still-due, still-opened, still-shared, still-caused, still-calls, still-idle, still-waited, shut-all, for-master, on_true, or-else, else-or, untouched, follows, refused-waits, still-must, still-start, unopened-waits, where_false}
 use Rattle.ssh_mux.proofs.PlaceLemmas.{client-told, misread-place, list-told, master-told}
 use Rattle.ssh_mux.proofs.ReadLemmas.{drilled-reads, misread-reads}
 use Rattle.ssh_mux.proofs.TalkLemmas.{none-joined, refused-unjoined, still-asked-cause, still-asked-waits, still-joined, still-talked, unasked}
@@ -331,3 +331,18 @@ returns-in-Control-clause-start g c = rw (of-read _ _ _ (rw c.in-Control.is at c
 
 pub returns-in-Control-clause-idle : goal.returns-in-Control-clause-idle
 returns-in-Control-clause-idle g c = λ z. where_false _ _ (c.ask_master.ensures.idle z)
+
+pub returns-in_err-command-clause-must : goal.returns-in_err-command-clause-must
+returns-in_err-command-clause-must g c = λ x. let p = err_from_is_err_and c.from_residual.result c.from_residual.ensures.1 in rw (p.1, p.2) (still-must _ _ _ _ (misread _ _ _ c.in_err-command.ensures.exact))
+
+pub returns-in-List-clause-must : goal.returns-in-List-clause-must
+returns-in-List-clause-must g c = λ x. rw (of-read _ _ _ (rw c.in-List.is at c.in_ok-command.ensures.exact)) (not_true _ _ (shut _ _ (list-shut _ _)))
+
+pub returns-in-Master-clause-must : goal.returns-in-Master-clause-must
+returns-in-Master-clause-must g c = λ x. rw (of-read _ _ _ (rw c.in-Master.is at c.in_ok-command.ensures.exact), master-told _ _ _ _ _ _ (rw c.in-Master.is at c.in_ok-command.ensures.exact)) (c.share.ensures.must x)
+
+pub returns-in-Control-clause-must : goal.returns-in-Control-clause-must
+returns-in-Control-clause-must g c = λ x. rw (of-read _ _ _ (rw c.in-Control.is at c.in_ok-command.ensures.exact)) (not_true _ _ (shut _ _ (client-shut _ _ _)))
+
+pub returns-in-Drill-clause-must : goal.returns-in-Drill-clause-must
+returns-in-Drill-clause-must g c = λ x. rw (of-drill _ _ _ _ _ (rw c.in-Drill.is at c.in_ok-command.ensures.exact)) (not_true _ _ (shut (Certain (Drills c.in-Drill.seed c.in-Drill.clients c.in-Drill.messages)) (so_far c.drill.result) refl))

@@ -3,7 +3,7 @@ use Rattle.ssh_mux.specs.Outcomes.{known_of}
 use Rattle.ssh_mux.proofs.AnswerLemmas.{asked_after, asked_cause_after, asked_waits_after, asked_well, joined_after}
 use Rattle.ssh_mux.proofs.DrillLemmas.{drill_after, drill_well}
 use Rattle.ssh_mux.proofs.ReadLemmas.{reads_after}
-use Rattle.ssh_mux.proofs.EndLemmas.{ended, ended-well, well-cause, out_after, untouched_after, fault_after, runs_after, sink_after, opened_after, shared_after, shared_well, calls_after, idle_after, waits_after, wire_after, wire_stays_after, stays_after, same_told, told_after, start_after}
+use Rattle.ssh_mux.proofs.EndLemmas.{ended, ended-well, well-cause, out_after, untouched_after, fault_after, runs_after, sink_after, opened_after, shared_after, shared_well, calls_after, idle_after, waits_after, wire_after, wire_stays_after, stays_after, same_told, told_after, start_after, must_after}
 use Rattle.ssh_mux.proofs.StillLemmas.{on_true, follows}
 use Rattle.ssh_mux.proofs.program.run.Goals as goal
 
@@ -91,3 +91,6 @@ returns-in-Err-clause-read g c = reads_after _ _ _ _ _ _ _ _ _ c.report.ensures 
 
 pub returns-in-Err-clause-start : goal.returns-in-Err-clause-start
 returns-in-Err-clause-start g c = start_after _ _ _ _ _ _ _ _ c.report.ensures c.in-Err.ensures.start
+
+pub returns-in-Err-clause-must : goal.returns-in-Err-clause-must
+returns-in-Err-clause-must g c = λ x. must_after _ _ _ _ _ _ _ _ _ c.report.ensures (c.in-Err.ensures.must x)
