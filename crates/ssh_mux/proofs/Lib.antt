@@ -13,6 +13,7 @@ pub mod PermitWords
 pub mod Permits
 pub mod PlaceLemmas
 pub mod PolicyLemmas
+pub mod PutLemmas
 pub mod ReadLemmas
 pub mod RefusalLemmas
 pub mod SharingLemmas

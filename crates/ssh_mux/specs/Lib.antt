@@ -9,6 +9,7 @@ pub mod Out
 pub mod Err
 pub mod Master
 pub mod Places
+pub mod Puts
 pub mod Reads
 pub mod Sharing
 pub mod Asks

@@ -2,6 +2,7 @@ ghost use Rattle.std.specs.Prelude.{◌≡◌, IsTrue};
 ghost use Rattle.std.specs.Bool.{OnFalse, OnTrue};
 ghost use Rattle.mux_engine.specs.Rests.{refused_if};
 ghost use Rattle.mux_engine.specs.Sides.{RestsOf};
+ghost use Rattle.mux_outside.specs.Counts.{counted};
 ghost use Rattle.ssh_mux.specs.Answers.{Comes, Leaves, is_silent, may_ask, may_share, serves_house, so_far, touches};
 ghost use Rattle.ssh_mux.specs.Causes.{Caused, FaultCause, OutCause};
 ghost use Rattle.ssh_mux.specs.Client.{AnswersFor, ConversesFor, JoinsOnce, TalksFor};
@@ -11,6 +12,7 @@ ghost use Rattle.ssh_mux.specs.Err.{Ended};
 ghost use Rattle.ssh_mux.specs.Out.{OutTakes};
 ghost use Rattle.ssh_mux.specs.Outcomes.{machine, known_of, drills};
 ghost use Rattle.ssh_mux.specs.Places.{Placed, told_for};
+ghost use Rattle.ssh_mux.specs.Puts.{PutsOnce, prints};
 ghost use Rattle.ssh_mux.specs.Reads.{ReadsFor};
 ghost use Rattle.ssh_mux.specs.Sharing.{CallsEnd, IdleCause, OpensOnce, ServesFor, SharesFor};
 ghost use Rattle.ssh_mux.specs.Sharing.{StartCause, WaitsFor, WireCause, pid_of};
@@ -66,6 +68,10 @@ pub fn run<W: Wire, F: Files, R: Runner, S: Sink, H: House>(
         (known_of (F.told files.old) (R.told runner.old) facts.now words.now)
         (S.told out.old) (S.told out.new) }
     ensures out_cause { OutCause result (S.faults out.old) (S.faults out.new) }
+    ensures out_once { OnTrue
+        (prints (known_of (F.told files.old) (R.told runner.old) facts.now words.now))
+        (PutsOnce result (S.puts out.old) (S.puts out.new)) }
+    ensures err_once { OnFalse (is_silent result) (S.puts err.new ≡ counted (S.puts err.old)) }
     ensures ran { RunsFor
         (commands_for (machine (F.told files.old) (R.told runner.old) facts.now) words.now)
         result (R.ran runner.old) (R.ran runner.new) }
@@ -164,6 +170,9 @@ fn obey<W: Wire, F: Files, R: Runner, S: Sink, H: House>(
         (known_of (F.told files.old) (R.told runner.old) facts.now words.now)
         (S.told out.old) (S.told out.new) }
     ensures out_cause { OutCause (so_far result) (S.faults out.old) (S.faults out.new) }
+    ensures out_once { OnTrue
+        (prints (known_of (F.told files.old) (R.told runner.old) facts.now words.now))
+        (PutsOnce (so_far result) (S.puts out.old) (S.puts out.new)) }
     ensures ran { RunsFor
         (commands_for (machine (F.told files.old) (R.told runner.old) facts.now) words.now)
         (so_far result) (R.ran runner.old) (R.ran runner.new) }

@@ -17,6 +17,7 @@ use Rattle.ssh_mux.proofs.SharingLemmas.{none-opened, none-taken, none-counted}
 use Rattle.ssh_mux.proofs.MisreadLemmas.{of-drill, of-read, for-read, misread, misread-runs, misread-cause, drilled-runs}
 use Rattle.ssh_mux.proofs.StillLemmas.{on_false, not_false, not_true, shut, loud, quiet-out, quiet-count, still-due, still-opened, still-shared, still-caused, still-calls, still-idle, still-waited, shut-all, for-master, on_true, or-else, else-or, untouched, follows, refused-waits, still-must, still-start, unopened-waits, where_false}
 use Rattle.ssh_mux.proofs.PlaceLemmas.{client-told, misread-place, list-told, master-told}
+use Rattle.ssh_mux.proofs.PutLemmas.{client-unprinted, quiet-puts, unprinted}
 use Rattle.ssh_mux.proofs.ReadLemmas.{drilled-reads, misread-reads}
 use Rattle.ssh_mux.proofs.TalkLemmas.{none-joined, refused-unjoined, still-asked-cause, still-asked-waits, still-joined, still-talked, unasked}
 use Rattle.ssh_mux.proofs.program.obey.Goals as goal
@@ -346,3 +347,18 @@ returns-in-Control-clause-must g c = λ x. rw (of-read _ _ _ (rw c.in-Control.is
 
 pub returns-in-Drill-clause-must : goal.returns-in-Drill-clause-must
 returns-in-Drill-clause-must g c = λ x. rw (of-drill _ _ _ _ _ (rw c.in-Drill.is at c.in_ok-command.ensures.exact)) (not_true _ _ (shut (Certain (Drills c.in-Drill.seed c.in-Drill.clients c.in-Drill.messages)) (so_far c.drill.result) refl))
+
+pub returns-in_err-command-clause-out_once : goal.returns-in_err-command-clause-out_once
+returns-in_err-command-clause-out_once g c = let p = err_from_is_err_and c.from_residual.result c.from_residual.ensures.1 in rw (p.1, p.2) (on_true _ _ (quiet-puts _ _ (loud _)))
+
+pub returns-in-List-clause-out_once : goal.returns-in-List-clause-out_once
+returns-in-List-clause-out_once g c = on_true _ _ c.list.ensures.once
+
+pub returns-in-Master-clause-out_once : goal.returns-in-Master-clause-out_once
+returns-in-Master-clause-out_once g c = rw (of-read _ _ _ (rw c.in-Master.is at c.in_ok-command.ensures.exact)) (not_true _ _ (unprinted _ (master-quiet _ _ _ _ _)))
+
+pub returns-in-Control-clause-out_once : goal.returns-in-Control-clause-out_once
+returns-in-Control-clause-out_once g c = rw (of-read _ _ _ (rw c.in-Control.is at c.in_ok-command.ensures.exact)) (not_true _ _ (client-unprinted _ _ _))
+
+pub returns-in-Drill-clause-out_once : goal.returns-in-Drill-clause-out_once
+returns-in-Drill-clause-out_once g c = on_true _ _ c.drill.ensures.once
