@@ -1,6 +1,6 @@
 -- What the master's own forwardings begin with, by the settings (ssh_config(5): LocalForward,
 -- RemoteForward, DynamicForward, ClearAllForwardings, GatewayPorts, ExitOnForwardFailure).
-use Rattle.std.specs.Prelude.{◌≡◌, ℕ, Bool, true, false, ◌||◌, if◌then◌else◌, List, [], ◌∷◌, ◌++◌, flat_map, Option, Some, None}
+use Rattle.std.specs.Prelude.{◌≡◌, ℕ, Bool, true, false, ◌||◌, if◌then◌else◌, List, [], ◌∷◌, ◌++◌, flat_map, Option, Some, None, IsTrue}
 use Rattle.conf_options.specs.Kept.{Given, Keeps}
 use Rattle.conf_output.specs.Shown.{first_value}
 use Rattle.conf_rules.specs.declared.key.Key.{Key}
@@ -12,8 +12,12 @@ use Rattle.conf_rules.specs.declared.value.Value.{Value}
 use Rattle.conf_rules.specs.declared.value.Value.TheVariants as values
 use Rattle.conf_rules.specs.Listing.{is_set}
 use Rattle.conf_rules.specs.Resolution.{all_rows}
-use Rattle.conf_rules.specs.Rows.{given, value, values_among}
+use Rattle.conf_rules.specs.Rows.{Row, given, value, values, values_among}
 use Rattle.conf_rules.specs.Told.{Told}
+use Rattle.mux_engine.specs.Sides.{Resting}
+use Rattle.mux_outside.specs.House.{IsAtRest, Quiet}
+use Rattle.mux_outside.specs.HouseCalls.{Begins, HouseCall}
+use Rattle.mux_outside.specs.declared.house_mark.HouseMark.{HouseMark}
 use Rattle.mux_outside.specs.declared.start_ask.StartAsk.{StartAsk}
 use Rattle.mux_outside.specs.declared.starts.Starts.{Starts}
 use Rattle.ssh_mux.specs.declared.asks.AskedEnd.{AskedEnd}
@@ -82,6 +86,50 @@ starts_for settings = record {
   asks = start_asks settings;
   gateway = is_set (first_value GatewayPorts settings);
   must = is_set (first_value ExitOnForwardFailure settings);
+}
+
+-- ---- what is due by the rows
+
+-- the forwardings of a key
+abbrev pub key_due : Key → List Row → List StartAsk
+key_due key rows = flat_map (value_starts (forward_kind key)) (values key rows)
+
+-- local forwardings, remote and dynamic ones in this order; none where all are cleared
+abbrev pub asks_due : List Row → List StartAsk
+asks_due rows = if is_set (value ClearAllForwardings rows) then []
+    else key_due LocalForward rows ++ key_due RemoteForward rows ++ key_due DynamicForward rows
+
+abbrev pub starts_due : List Row → Starts
+starts_due rows = record {
+  asks = asks_due rows;
+  gateway = is_set (value GatewayPorts rows);
+  must = is_set (value ExitOnForwardFailure rows);
+}
+
+-- what a house begins with is what the rows of all that is told ask for, if this is known
+abbrev pub StartsAs : Option Told → Starts → Type 0
+StartsAs None starts = Unit
+StartsAs (Some told) starts = starts ≡ starts_due (all_rows told)
+
+-- a house begins so by what is told of files and commands, and of this beginning something is so
+pub record Begun (by : Option Told) (So : Starts → Type 0) : Type 0 where
+  pub starts : Starts
+  pub due : StartsAs by starts
+  pub so : So starts
+
+-- a house stands for its beginning alone
+abbrev pub BeganWith : Starts → List HouseCall → Type 0
+BeganWith starts calls = calls ≡ Begins starts ∷ []
+
+-- there is a house at rest that has told this, and that stands for its beginning and these calls
+-- behind it, unless none is present
+abbrev pub BegunRests : {T : Type 0} → (T → Option (List HouseMark)) → (T → Quiet)
+    → (T → List HouseCall → Type 0) → Bool → Starts → Resting
+BegunRests {T} told quiet stands present starts = record {
+  present = present;
+  rests = λ now calls. IsTrue present
+      → (house : T) × (IsAtRest (quiet house) × (told house ≡ now)
+      × stands house (Begins starts ∷ calls));
 }
 
 -- ---- ExitOnForwardFailure

@@ -1,4 +1,4 @@
-ghost use Rattle.std.specs.Prelude.{◌≡◌, List, IfOk, IsOk, IsTrue, OnOk, Some};
+ghost use Rattle.std.specs.Prelude.{◌≡◌, ◌∷◌, [], List, IfOk, IsOk, IsTrue, OnOk, Some};
 ghost use Rattle.std.specs.Bool.{OnTrue, OnFalse};
 ghost use Rattle.conf_rules.specs.declared.command.Command.TheVariants as commands;
 ghost use Rattle.conf_rules.specs.declared.control.Control.{Control};
@@ -6,6 +6,7 @@ ghost use Rattle.conf_rules.specs.Texts.{Bytes};
 ghost use Rattle.forward_rules.specs.Allows.{read_policy};
 ghost use Rattle.mux_engine.specs.Rests.{refused_if};
 ghost use Rattle.mux_engine.specs.Sides.{RestsOf};
+ghost use Rattle.mux_outside.specs.HouseCalls.{Begins};
 ghost use Rattle.ssh_mux.specs.Answers.{Comes, Finds, so_far, may_share, serves_house};
 ghost use Rattle.ssh_mux.specs.Causes.{Caused};
 ghost use Rattle.ssh_mux.specs.Commands.{RunsFor, RunsUnless, commands_of};
@@ -15,7 +16,8 @@ ghost use Rattle.ssh_mux.specs.Places.{Placed, told_over};
 ghost use Rattle.ssh_mux.specs.Reads.{ReadsFor, ReadsUnless};
 ghost use Rattle.ssh_mux.specs.Sharing.{CallsEnd, IdleCause, OpensAt, OpensOnce, Shares};
 ghost use Rattle.ssh_mux.specs.Sharing.{StartCause, WaitsFor, WireCause, pid_of, policy_of as the_policy_of, told_as};
-ghost use Rattle.ssh_mux.specs.Starts.{MustsAs, SettledFor, must_for, starts_for};
+ghost use Rattle.ssh_mux.specs.Starts.{BeganWith, Begun, BegunRests, MustsAs, SettledFor};
+ghost use Rattle.ssh_mux.specs.Starts.{must_for, starts_for};
 
 use crate::ending::Ending;
 use crate::starts::starts_of;
@@ -67,12 +69,13 @@ pub fn share<W: Wire, F: Files, R: Runner, H: House>(
     ensures served { OnTrue (may_share
         (of_command (machine (F.told files.old) (R.told runner.old) facts.now)
         (commands.Master asked.now transport.now opens.now listens.now)) (so_far result))
-        (Shares H.may
-        (RestsOf H.told H.quiet H.stands (H.known house.old).present house.old)
-        (H.stands house.old) (H.stands house.new) (the_policy_of opens.now listens.now)
-        (pid_of facts.now.pid) turns (H.told house.old) (H.told house.new)
-        (W.seen wire.old).told (W.seen wire.new).told
-        (refused_if (H.known house.old).present (H.must house.new) (H.refused house.new)) result) }
+        (Begun (told_over (machine (F.told files.old) (R.told runner.old) facts.now) asked.now)
+        (λ starts. Shares H.may
+        (BegunRests H.told H.quiet H.stands (H.known house.old).present starts) (BeganWith starts)
+        (H.stands house.new) (the_policy_of opens.now listens.now) (pid_of facts.now.pid) turns
+        (H.told house.old) (H.told house.new) (W.seen wire.old).told (W.seen wire.new).told
+        (refused_if (H.known house.old).present (H.must house.new) (H.refused house.new))
+        result)) }
     ensures start { OnTrue (may_share
         (of_command (machine (F.told files.old) (R.told runner.old) facts.now)
         (commands.Master asked.now transport.now opens.now listens.now)) (so_far result))
@@ -233,8 +236,11 @@ fn begin<H: House>(alloc: Global, settings: &Settings, house: &mut H) -> Result<
     ensures must { OnOk result (IsTrue (H.known house.old).present
         → H.must house.new ≡ (starts_for settings.now).must) }
     ensures told { H.told house.new ≡ H.told house.old }
+    ensures stands { OnOk result (H.stands house.new (Begins (starts_for settings.now) ∷ [])) }
     ensures err { OnlyStarves result }
 {
+    // A house that was never called says by this that it stands for no call.
+    let _fresh = house.present();
     let starts = starts_of(alloc, settings)?;
     house.begin(&starts)?;
     Ok(())
@@ -256,8 +262,10 @@ fn begin_and_serve<W: Wire, H: House>(
     ensures opened { OpensAt found.now.control transport.now (so_far result)
         (W.openings wire.old) (W.openings wire.new) }
     ensures joinings { W.joinings wire.new ≡ W.joinings wire.old }
-    ensures served { Shares H.may (RestsOf H.told H.quiet (H.known house.old).present) policy pid
-        turns (H.told house.old) (H.told house.new) (W.seen wire.old).told (W.seen wire.new).told
+    ensures served { Shares H.may (BegunRests H.told H.quiet H.stands (H.known house.old).present
+        (starts_for found.now.settings)) (BeganWith (starts_for found.now.settings))
+        (H.stands house.new) policy pid turns (H.told house.old) (H.told house.new)
+        (W.seen wire.old).told (W.seen wire.new).told
         (refused_if (H.known house.old).present (H.must house.new) (H.refused house.new)) result }
     ensures start { StartCause (so_far result)
         (refused_if (H.known house.old).present (H.must house.new) (H.refused house.new)) }

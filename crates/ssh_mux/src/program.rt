@@ -1,7 +1,6 @@
 ghost use Rattle.std.specs.Prelude.{◌≡◌, IsTrue};
 ghost use Rattle.std.specs.Bool.{OnFalse, OnTrue};
 ghost use Rattle.mux_engine.specs.Rests.{refused_if};
-ghost use Rattle.mux_engine.specs.Sides.{RestsOf};
 ghost use Rattle.mux_outside.specs.Counts.{counted};
 ghost use Rattle.ssh_mux.specs.Answers.{Comes, Leaves, is_silent, may_ask, may_share, serves_house, so_far, touches};
 ghost use Rattle.ssh_mux.specs.Causes.{Caused, FaultCause, OutCause};
@@ -16,7 +15,7 @@ ghost use Rattle.ssh_mux.specs.Puts.{PutsOnce, prints};
 ghost use Rattle.ssh_mux.specs.Reads.{ReadsFor};
 ghost use Rattle.ssh_mux.specs.Sharing.{CallsEnd, IdleCause, OpensOnce, ServesFor, SharesFor};
 ghost use Rattle.ssh_mux.specs.Sharing.{StartCause, WaitsFor, WireCause, pid_of};
-ghost use Rattle.ssh_mux.specs.Starts.{MustsAs, must_for};
+ghost use Rattle.ssh_mux.specs.Starts.{BegunRests, MustsAs, must_for};
 
 use crate::client::ask_master;
 use crate::drill::drill;
@@ -85,9 +84,9 @@ pub fn run<W: Wire, F: Files, R: Runner, S: Sink, H: House>(
         (known_of (F.told files.old) (R.told runner.old) facts.now words.now)
         result (W.joinings wire.old) (W.joinings wire.new) }
     ensures shared { ServesFor H.may
-        (RestsOf H.told H.quiet H.stands (H.known house.old).present house.old)
-        (H.stands house.old) (H.stands house.new)
+        (BegunRests H.told H.quiet H.stands (H.known house.old).present) (H.stands house.new)
         (known_of (F.told files.old) (R.told runner.old) facts.now words.now)
+        (told_for (machine (F.told files.old) (R.told runner.old) facts.now) words.now)
         (pid_of facts.now.pid) turns (H.told house.old) (H.told house.new)
         (W.seen wire.old).told (W.seen wire.new).told
         (refused_if (H.known house.old).present (H.must house.new) (H.refused house.new)) result
@@ -186,9 +185,9 @@ fn obey<W: Wire, F: Files, R: Runner, S: Sink, H: House>(
         (known_of (F.told files.old) (R.told runner.old) facts.now words.now)
         (so_far result) (W.joinings wire.old) (W.joinings wire.new) }
     ensures shared { SharesFor H.may
-        (RestsOf H.told H.quiet H.stands (H.known house.old).present house.old)
-        (H.stands house.old) (H.stands house.new)
+        (BegunRests H.told H.quiet H.stands (H.known house.old).present) (H.stands house.new)
         (known_of (F.told files.old) (R.told runner.old) facts.now words.now)
+        (told_for (machine (F.told files.old) (R.told runner.old) facts.now) words.now)
         (pid_of facts.now.pid) turns (H.told house.old) (H.told house.new)
         (W.seen wire.old).told (W.seen wire.new).told
         (refused_if (H.known house.old).present (H.must house.new) (H.refused house.new)) result }

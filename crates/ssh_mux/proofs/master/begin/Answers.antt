@@ -1,5 +1,6 @@
-use Rattle.std.proofs.Common.{refl, ap, ◌∙◌}
+use Rattle.std.proofs.Common.{[], ◌∷◌, refl, ap, subst, ◌∙◌}
 use Rattle.std.proofs.lemmas.Result.{err_from_is_err_and}
+use Rattle.mux_outside.specs.HouseCalls.{Begins}
 use Rattle.mux_outside.specs.declared.starts.Starts.{Starts}
 use Rattle.ssh_mux.proofs.master.begin.Goals as goal
 
@@ -11,3 +12,6 @@ returns-in_err-begin-clause-err g c = let p = err_from_is_err_and c.from_residua
 
 pub returns-clause-must : goal.returns-clause-must
 returns-clause-must g c = λ x. c.in_ok-begin.ensures.must x ∙ ap (λ (s : Starts). s.must) c.in_ok-starts.ensures.exact
+
+pub returns-clause-stands : goal.returns-clause-stands
+returns-clause-stands g c = subst (λ s. g.H.House.stands _ (Begins s ∷ [])) c.in_ok-starts.ensures.exact (c.in_ok-begin.ensures.stands (c.present-_fresh.ensures.stands c.requires.fresh))
