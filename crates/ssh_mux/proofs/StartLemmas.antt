@@ -17,6 +17,7 @@ use Rattle.mux_engine.specs.Run.{IsRun, Rested, RestedAt}
 use Rattle.mux_engine.specs.Sides.{Resting, RestsOf}
 use Rattle.mux_history.specs.Log.{Setting}
 use Rattle.mux_history.specs.Policy.{Policy}
+use Rattle.mux_history.specs.Settings.{by_lists}
 use Rattle.mux_history.specs.declared.ended.Ended.{Ended}
 use Rattle.mux_outside.specs.House.{Quiet}
 use Rattle.mux_outside.specs.HouseCalls.{Begins, HouseCall}
@@ -116,7 +117,7 @@ module _ (May : HouseReply → Type 0) (R R' : Option (List HouseMark) → List 
     house_whole = h.house_whole;
     asks_whole = h.asks_whole;
     handed = λ e calls b. h.handed e calls (stood calls b);
-    rested = rested R R' rests _ before h.journal h.rested;
+    rested = rested R R' rests (by_lists policy pid h.picks h.replies) before h.journal h.rested;
     absent = h.absent;
     ends = h.ends;
   }
@@ -129,7 +130,7 @@ module _ {T : Type 0} (told_by : T → Option (List HouseMark)) (quiet : T → Q
   Second = BegunRests told_by quiet stands present starts
 
   at-rest : (now : Option (List HouseMark)) (calls : List HouseCall) → First.rests now calls → Second.rests now calls
-  at-rest now calls h = λ p. let r = h p in (r.0, r.1.0, r.1.1.0, r.1.1.1 (Begins starts ∷ []) begun)
+  at-rest now calls h = λ p. let r = h p in let x = r.1 in (r.0, (x.0, x.1, x.2 (Begins starts ∷ []) begun))
 
   stood-for : (calls : List HouseCall) → BeganWith starts calls → stands first calls
   stood-for calls e = subst (stands first) (sym e) begun
