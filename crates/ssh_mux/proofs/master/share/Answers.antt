@@ -7,8 +7,8 @@ use Rattle.ssh_mux.specs.declared.ending.Ending.TheVariants as endings
 use Rattle.ssh_mux.specs.Answers.{serves_house, so_far}
 use Rattle.ssh_mux.specs.Outcomes.{machine, of_command}
 use Rattle.ssh_mux.specs.Places.{told_over}
-use Rattle.ssh_mux.specs.Sharing.{pid_of, policy_of}
-use Rattle.ssh_mux.specs.Starts.{BegunRests, must_for}
+use Rattle.ssh_mux.specs.Sharing.{Shares, pid_of, policy_of}
+use Rattle.ssh_mux.specs.Starts.{BeganWith, Begun, BegunRests, must_for}
 use Rattle.ssh_mux.proofs.CauseLemmas.{shared-cause, all-ran}
 use Rattle.ssh_mux.proofs.ReadLemmas.{all-read}
 use Rattle.ssh_mux.proofs.SharingLemmas.{pid_is, master-comes, master-opens, master-opened, master-shares, master-idle, master-waits}
@@ -47,7 +47,7 @@ pub returns-clause-opened : goal.returns-clause-opened
 returns-clause-opened g c = master-opened _ _ _ _ _ _ _ _ (c.in_ok-found.ensures.exact _ _ _) (master-opens _ c.begin_and_serve.ensures.ends) c.begin_and_serve.ensures.opened
 
 pub returns-clause-served : goal.returns-clause-served
-returns-clause-served g c = on_true _ _ (record { starts = _; due = starts-told _ _ c.in_ok-found.ensures.settled; so = rw (c.in_ok-policy.ensures.exact, c.unwrap_or-pid.ensures ∙ pid_is c.args.facts.now.pid) at c.begin_and_serve.ensures.served })
+returns-clause-served g c = on_true _ (Begun (told_over (machine (g.F.Files.told c.args.files.now) (g.R.Runner.told c.args.runner.now) c.args.facts.now) c.args.asked.now) (λ starts. Shares g.H.House.may (BegunRests g.H.House.told g.H.House.quiet g.H.House.stands (g.H.House.known c.args.house.now).present starts) (BeganWith starts) (g.H.House.stands c.begin_and_serve.new.house) (policy_of c.args.opens.now c.args.listens.now) (pid_of c.args.facts.now.pid) c.args.turns (g.H.House.told c.args.house.now) (g.H.House.told c.begin_and_serve.new.house) (g.W.Wire.seen c.args.wire.now).told (g.W.Wire.seen c.begin_and_serve.new.wire).told (refused_if (g.H.House.known c.args.house.now).present (g.H.House.must c.begin_and_serve.new.house) (g.H.House.refused c.begin_and_serve.new.house)) c.begin_and_serve.result)) (record { starts = _; due = starts-told _ _ c.in_ok-found.ensures.settled; so = rw (c.in_ok-policy.ensures.exact, c.unwrap_or-pid.ensures ∙ pid_is c.args.facts.now.pid) at c.begin_and_serve.ensures.served })
 
 pub returns-clause-wire_cause : goal.returns-clause-wire_cause
 returns-clause-wire_cause g c = on_true _ _ c.begin_and_serve.ensures.cause
