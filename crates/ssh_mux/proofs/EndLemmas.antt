@@ -12,6 +12,7 @@ use Rattle.mux_outside.specs.declared.house.HouseReply.{HouseReply}
 use Rattle.mux_outside.specs.declared.house_mark.HouseMark.{HouseMark}
 use Rattle.mux_outside.specs.declared.mark.Mark.{Mark}
 use Rattle.mux_outside.specs.declared.mark.Opening.{Opening}
+use Rattle.mux_outside.specs.declared.starts.Starts.{Starts}
 use Rattle.mux_history.specs.declared.ended.Ended.TheVariants as answers
 use Rattle.mux_history.specs.Policy.{Policy}
 use Rattle.mux_outside.specs.Seen.{Calls}
@@ -30,8 +31,9 @@ use Rattle.ssh_mux.specs.Master.{ends_sharing}
 use Rattle.ssh_mux.specs.Places.{EndPlace}
 use Rattle.ssh_mux.specs.Sharing.{CallsEnd, IdleCause, IsServed, IsShared, OpensOnce, Serves, Shares, StartCause, TellsEnd, WaitsFor, WireCause}
 use Rattle.ssh_mux.specs.Sharing.{told_as}
+use Rattle.ssh_mux.specs.Starts.{BeganWith, Begun, MustsAs}
 use Rattle.ssh_mux.specs.Status.{status_of}
-use Rattle.ssh_mux.proofs.StillLemmas.{loud, not_true}
+use Rattle.ssh_mux.proofs.StillLemmas.{loud, not_true, some-begun}
 use Rattle.ssh_mux.proofs.CauseLemmas.{fault-cause, fault-later, runs-starved}
 
 -- ---- the status of a run whose line was handed over
@@ -178,21 +180,28 @@ module _ (May : HouseReply → Type 0) (Rest : Resting) (stands stands' : List H
   own-serves endings.MasterRefused h r = absurd (none-ends endings.MasterRefused refl h)
   own-serves endings.MasterBroke h r = absurd (none-ends endings.MasterBroke refl h)
 
+module _ (May : HouseReply → Type 0) (Rest : Starts → Resting) (stands : List HouseCall → Type 0) (by : Option Told) (policy : Policy) (pid turns : ℕ) (before now : Option (List HouseMark)) (start told : Option (List Mark)) (refused : Option ℕ) (b n : Option (List ℕ)) (f f' : ℕ) where
+  abbrev ServedSo : Status → Type 0
+  ServedSo status = Begun by (λ starts. Serves May (Rest starts) (BeganWith starts) stands policy pid turns before now start told refused status b n f f')
+
+  abbrev SharedSo : Result Status MeantEnding → Type 0
+  SharedSo result = Begun by (λ starts. Shares May (Rest starts) (BeganWith starts) stands policy pid turns before now start told refused result)
+
   -- a wire that wasn't touched is served by nobody
-  memory-by : (opened shares drilled asked : Bool) (meant : MeantEnding) → OnTrue (opened && shares) (Shared (Err meant)) → OnFalse ((opened && (shares || drilled)) || (opened && asked)) (told ≡ start) → OnFalse (opened && shares) (now ≡ before) → Reports statuses.Memory (shown meant) b n f f' → OnTrue shares (Served statuses.Memory)
+  memory-by : (opened shares drilled asked : Bool) (meant : MeantEnding) → OnTrue (opened && shares) (SharedSo (Err meant)) → OnFalse ((opened && (shares || drilled)) || (opened && asked)) (told ≡ start) → OnFalse (opened && shares) (now ≡ before) → Reports statuses.Memory (shown meant) b n f f' → OnTrue shares (ServedSo statuses.Memory)
   memory-by opened false drilled asked meant h w g r = tt
-  memory-by true true drilled asked meant h w g r = memory-serves meant h r
-  memory-by false true drilled asked meant h w g r = inl (record { same_wire = w; same_house = g })
+  memory-by true true drilled asked meant h w g r = record { starts = h.starts; due = h.due; so = memory-serves May (Rest h.starts) (BeganWith h.starts) stands policy pid turns before now start told refused b n f f' meant h.so r }
+  memory-by false true drilled asked meant h w g r = some-begun by (λ starts. Serves May (Rest starts) (BeganWith starts) stands policy pid turns before now start told refused statuses.Memory b n f f') (λ starts. inl (record { same_wire = w; same_house = g }))
 
-  own-by : (b' : Bool) (meant : MeantEnding) → OnTrue b' (Shared (Err meant)) → Reports (status_of (shown meant)) (shown meant) b n f f' → OnTrue b' (Served (status_of (shown meant)))
+  own-by : (b' : Bool) (meant : MeantEnding) → OnTrue b' (SharedSo (Err meant)) → Reports (status_of (shown meant)) (shown meant) b n f f' → OnTrue b' (ServedSo (status_of (shown meant)))
   own-by false meant h r = tt
-  own-by true meant h r = own-serves meant h r
+  own-by true meant h r = record { starts = h.starts; due = h.due; so = own-serves May (Rest h.starts) (BeganWith h.starts) stands policy pid turns before now start told refused b n f f' meant h.so r }
 
-  shared-by : (k : Known) (status : Status) (meant : MeantEnding) → (status ≡ statuses.Memory) ⊎ (status ≡ status_of (shown meant)) → Reports status (shown meant) b n f f' → OnTrue (may_share k (status_of (shown meant))) (Shared (Err meant)) → OnFalse (reaches k (status_of (shown meant))) (told ≡ start) → OnFalse (may_share k (status_of (shown meant))) (now ≡ before) → OnTrue (may_share k status) (Served status)
-  shared-by k status meant (inl e) r h w g = subst (λ s. OnTrue (may_share k s) (Served s)) (sym e) (memory-by (may_open (status_of (shown meant))) (opens k) (drills k) (asks k) meant h w g (subst (λ s. Reports s (shown meant) b n f f') e r))
-  shared-by k status meant (inr e) r h w g = subst (λ s. OnTrue (may_share k s) (Served s)) (sym e) (own-by (may_share k (status_of (shown meant))) meant h (subst (λ s. Reports s (shown meant) b n f f') e r))
+  shared-by : (k : Known) (status : Status) (meant : MeantEnding) → (status ≡ statuses.Memory) ⊎ (status ≡ status_of (shown meant)) → Reports status (shown meant) b n f f' → OnTrue (may_share k (status_of (shown meant))) (SharedSo (Err meant)) → OnFalse (reaches k (status_of (shown meant))) (told ≡ start) → OnFalse (may_share k (status_of (shown meant))) (now ≡ before) → OnTrue (may_share k status) (ServedSo status)
+  shared-by k status meant (inl e) r h w g = subst (λ s. OnTrue (may_share k s) (ServedSo s)) (sym e) (memory-by (may_open (status_of (shown meant))) (opens k) (drills k) (asks k) meant h w g (subst (λ s. Reports s (shown meant) b n f f') e r))
+  shared-by k status meant (inr e) r h w g = subst (λ s. OnTrue (may_share k s) (ServedSo s)) (sym e) (own-by (may_share k (status_of (shown meant))) meant h (subst (λ s. Reports s (shown meant) b n f f') e r))
 
-  pub shared_after : (k : Known) (status : Status) (meant : MeantEnding) → Reports status (shown meant) b n f f' → OnTrue (may_share k (status_of (shown meant))) (Shared (Err meant)) → OnFalse (reaches k (status_of (shown meant))) (told ≡ start) → OnFalse (may_share k (status_of (shown meant))) (now ≡ before) → OnTrue (may_share k status) (Served status)
+  pub shared_after : (k : Known) (status : Status) (meant : MeantEnding) → Reports status (shown meant) b n f f' → OnTrue (may_share k (status_of (shown meant))) (SharedSo (Err meant)) → OnFalse (reaches k (status_of (shown meant))) (told ≡ start) → OnFalse (may_share k (status_of (shown meant))) (now ≡ before) → OnTrue (may_share k status) (ServedSo status)
   shared_after k status meant r h w g = shared-by k status meant (reported status (shown meant) b n f f' r) r h w g
 
 -- an end without a line
@@ -212,9 +221,9 @@ shared-well-now May Rest stands stands' policy pid turns before now start told r
     subst (λ s. Serves May Rest stands stands' policy pid turns before now start told refused s b b f f) (sym e)
     (record { answer = h.answer; run = h.run; line = subst (λ x. TellsEnd x statuses.Done b b f f) (ap (λ (s : Status). Ok s) (sym e) ∙ h.is_told) (refl, refl) })
 
-pub shared_well : (May : HouseReply → Type 0) (Rest : Resting) (stands stands' : List HouseCall → Type 0) (policy : Policy) (pid turns : ℕ) (before now : Option (List HouseMark)) (start told : Option (List Mark)) (refused : Option ℕ) (b : Option (List ℕ)) (f : ℕ) (shares : Bool) (status : Status) → OnTrue shares (IsShared May Rest stands stands' policy pid turns before now start told refused (Ok status)) → OnTrue shares (Serves May Rest stands stands' policy pid turns before now start told refused status b b f f)
-shared_well May Rest stands stands' policy pid turns before now start told refused b f false status h = tt
-shared_well May Rest stands stands' policy pid turns before now start told refused b f true status h = shared-well-now May Rest stands stands' policy pid turns before now start told refused b f status h
+pub shared_well : (May : HouseReply → Type 0) (Rest : Starts → Resting) (stands : List HouseCall → Type 0) (by : Option Told) (policy : Policy) (pid turns : ℕ) (before now : Option (List HouseMark)) (start told : Option (List Mark)) (refused : Option ℕ) (b : Option (List ℕ)) (f : ℕ) (shares : Bool) (status : Status) → OnTrue shares (Begun by (λ starts. IsShared May (Rest starts) (BeganWith starts) stands policy pid turns before now start told refused (Ok status))) → OnTrue shares (Begun by (λ starts. Serves May (Rest starts) (BeganWith starts) stands policy pid turns before now start told refused status b b f f))
+shared_well May Rest stands by policy pid turns before now start told refused b f false status h = tt
+shared_well May Rest stands by policy pid turns before now start told refused b f true status h = record { starts = h.starts; due = h.due; so = shared-well-now May (Rest h.starts) (BeganWith h.starts) stands policy pid turns before now start told refused b f status h.so }
 
 pub calls_after : (turns : ℕ) (status : Status) (ending : Ending) (b n : Option (List ℕ)) (f f' : ℕ) (old calls : Calls) → Reports status ending b n f f' → CallsEnd turns (status_of ending) old calls → CallsEnd turns status old calls
 calls_after turns status ending b n f f' old calls r h = carried (λ s. CallsEnd turns s old calls) status ending (reported status ending b n f f' r) (record { few = h.few; wants = h.wants; starved = λ ne. refl; late = h.late }) h
@@ -228,6 +237,9 @@ wire_after k status ending b n f f' s s' c c' r h = carried (λ x. OnTrue (touch
 
 pub start_after : (k : Known) (status : Status) (ending : Ending) (b n : Option (List ℕ)) (f f' : ℕ) (refused : Option ℕ) → Reports status ending b n f f' → OnTrue (may_share k (status_of ending)) (StartCause (status_of ending) refused) → OnTrue (may_share k status) (StartCause status refused)
 start_after k status ending b n f f' refused r h = carried (λ x. OnTrue (may_share k x) (StartCause x refused)) status ending (reported status ending b n f f' r) (on-memory (opens k)) h
+
+pub must_after : (k : Known) (due : Option Bool) (must : Bool) (status : Status) (ending : Ending) (b n : Option (List ℕ)) (f f' : ℕ) → Reports status ending b n f f' → OnTrue (may_share k (status_of ending)) (MustsAs (status_of ending) due must) → OnTrue (may_share k status) (MustsAs status due must)
+must_after k due must status ending b n f f' r h = carried (λ x. OnTrue (may_share k x) (MustsAs x due must)) status ending (reported status ending b n f f' r) (on-memory (opens k)) h
 
 pub waits_after : (k : Known) (turns : ℕ) (status : Status) (ending : Ending) (b n : Option (List ℕ)) (f f' : ℕ) (old calls : Calls) → Reports status ending b n f f' → OnTrue (touches k (status_of ending)) (WaitsFor turns (status_of ending) old calls) → OnTrue (touches k status) (WaitsFor turns status old calls)
 waits_after k turns status ending b n f f' old calls r h = carried (λ x. OnTrue (touches k x) (WaitsFor turns x old calls)) status ending (reported status ending b n f f' r) (on-memory (opens k || drills k)) h

@@ -13,8 +13,10 @@ pub mod PermitWords
 pub mod Permits
 pub mod PlaceLemmas
 pub mod PolicyLemmas
+pub mod PutLemmas
 pub mod ReadLemmas
 pub mod RefusalLemmas
 pub mod SharingLemmas
+pub mod StartLemmas
 pub mod StillLemmas
 pub mod TalkLemmas

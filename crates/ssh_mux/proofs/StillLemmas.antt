@@ -1,5 +1,5 @@
 -- An ending that came before anything was written or opened.
-use Rattle.std.proofs.Common.{◌≡◌, ◌⊎◌, inl, inr, ◌&&◌, ◌||◌, ℕ, Bool, true, false, List, Option, Err, refl, sym, subst, arith}
+use Rattle.std.proofs.Common.{◌≡◌, ◌⊎◌, inl, inr, ◌&&◌, ◌||◌, ℕ, Bool, true, false, List, [], Option, Some, None, Err, refl, sym, subst, arith}
 use Rattle.std.specs.Bool.{OnFalse, OnTrue}
 use Rattle.conf_rules.specs.declared.causes.Cause.TheVariants.{ReadFault, RunFault}
 use Rattle.conf_rules.specs.declared.causes.ListError.TheVariants as list_errors
@@ -7,6 +7,8 @@ use Rattle.conf_rules.specs.declared.causes.ResolveError.TheVariants.{At, OutOfM
 use Rattle.conf_rules.specs.Diagnostics as ends
 use Rattle.conf_rules.specs.Diagnostics.{Ending}
 use Rattle.conf_rules.specs.Outcome.{Ends, Writes, Opens, Drills, Joins}
+use Rattle.conf_rules.specs.Resolution.{all_rows}
+use Rattle.conf_rules.specs.Told.{Told}
 use Rattle.mux_engine.specs.Sides.{Resting}
 use Rattle.mux_history.specs.Policy.{Policy}
 use Rattle.mux_outside.specs.HouseCalls.{HouseCall}
@@ -15,6 +17,7 @@ use Rattle.mux_outside.specs.declared.house.HouseReply.{HouseReply}
 use Rattle.mux_outside.specs.declared.house_mark.HouseMark.{HouseMark}
 use Rattle.mux_outside.specs.declared.mark.Mark.{Mark}
 use Rattle.mux_outside.specs.declared.mark.Opening.{Opening}
+use Rattle.mux_outside.specs.declared.starts.Starts.{Starts}
 use Rattle.ssh_mux.specs.declared.ending.Ending.{Ending as MeantEnding}
 use Rattle.ssh_mux.specs.declared.ending.Ending.TheVariants as endings
 use Rattle.ssh_mux.specs.declared.status.Status.{Status}
@@ -25,6 +28,7 @@ use Rattle.ssh_mux.specs.Ending.{shown}
 use Rattle.ssh_mux.specs.Out.{OutStays, OutTakes}
 use Rattle.ssh_mux.specs.Outcomes.{Known, Certain, Listing, Master, Client, drills, opens}
 use Rattle.ssh_mux.specs.Sharing.{CallsEnd, IdleCause, OpensOnce, Shares, StartCause, WaitsFor, WireCause}
+use Rattle.ssh_mux.specs.Starts.{BeganWith, Begun, MustsAs, starts_due}
 use Rattle.ssh_mux.specs.Status.{status_of, refusal_status, listing_status}
 
 -- ---- small facts
@@ -212,12 +216,17 @@ only-memory endings.StartRefused h = absurd cc
 only-memory endings.MasterRefused h = absurd cc
 only-memory endings.MasterBroke h = absurd cc
 
-pub still-shared : (k : Known) (meant : MeantEnding) (May : HouseReply → Type 0) (Rest : Resting) (stands stands' : List HouseCall → Type 0) (policy : Policy) (pid turns : ℕ) (told : Option (List HouseMark)) (start : Option (List Mark)) (refused : Option ℕ) → IsRefused k (shown meant) → OnTrue (may_share k (status_of (shown meant))) (Shares May Rest stands stands' policy pid turns told told start start refused (Err meant))
-still-shared k meant May Rest stands stands' policy pid turns told start refused h = on (unshared k (shown meant) h) where
-  on : Unshared k (shown meant) → OnTrue (may_share k (status_of (shown meant))) (Shares May Rest stands stands' policy pid turns told told start start refused (Err meant))
-  on (inl e) = not_true (may_share k (status_of (shown meant))) (Shares May Rest stands stands' policy pid turns told told start start refused (Err meant)) e
-  on (inr e) = on_true (may_share k (status_of (shown meant))) (Shares May Rest stands stands' policy pid turns told told start start refused (Err meant))
-      (subst (λ m. Shares May Rest stands stands' policy pid turns told told start start refused (Err m)) (sym (only-memory meant e)) (inl (record { same_wire = refl; same_house = refl })))
+-- a house begins somehow, as is due
+pub some-begun : (by : Option Told) (So : Starts → Type 0) → ((starts : Starts) → So starts) → Begun by So
+some-begun None So h = let none : Starts = record { asks = []; gateway = false; must = false } in record { starts = none; due = tt; so = h none }
+some-begun (Some told) So h = record { starts = starts_due (all_rows told); due = refl; so = h (starts_due (all_rows told)) }
+
+pub still-shared : (k : Known) (meant : MeantEnding) (May : HouseReply → Type 0) (Rest : Starts → Resting) (stands : List HouseCall → Type 0) (by : Option Told) (policy : Policy) (pid turns : ℕ) (told : Option (List HouseMark)) (start : Option (List Mark)) (refused : Option ℕ) → IsRefused k (shown meant) → OnTrue (may_share k (status_of (shown meant))) (Begun by (λ starts. Shares May (Rest starts) (BeganWith starts) stands policy pid turns told told start start refused (Err meant)))
+still-shared k meant May Rest stands by policy pid turns told start refused h = on (unshared k (shown meant) h) where
+  on : Unshared k (shown meant) → OnTrue (may_share k (status_of (shown meant))) (Begun by (λ starts. Shares May (Rest starts) (BeganWith starts) stands policy pid turns told told start start refused (Err meant)))
+  on (inl e) = not_true (may_share k (status_of (shown meant))) (Begun by (λ starts. Shares May (Rest starts) (BeganWith starts) stands policy pid turns told told start start refused (Err meant))) e
+  on (inr e) = on_true (may_share k (status_of (shown meant))) (Begun by (λ starts. Shares May (Rest starts) (BeganWith starts) stands policy pid turns told told start start refused (Err meant)))
+      (subst (λ m. Begun by (λ starts. Shares May (Rest starts) (BeganWith starts) stands policy pid turns told told start start refused (Err m))) (sym (only-memory meant e)) (some-begun by (λ starts. Shares May (Rest starts) (BeganWith starts) stands policy pid turns told told start start refused (Err endings.NoMemory)) (λ starts. inl (record { same_wire = refl; same_house = refl }))))
 
 -- there may be no memory for anything
 pub starved-due : (k : Known) → IsRefused k ends.NoMemory
@@ -245,6 +254,12 @@ still-start k ending refused h = on (unshared k ending h) where
   on : Unshared k ending → OnTrue (may_share k (status_of ending)) (StartCause (status_of ending) refused)
   on (inl e) = not_true (may_share k (status_of ending)) (StartCause (status_of ending) refused) e
   on (inr e) = subst (λ x. OnTrue (may_share k x) (StartCause x refused)) (sym e) (on_true (may_share k statuses.Memory) (StartCause statuses.Memory refused) tt)
+
+pub still-must : (k : Known) (ending : Ending) (due : Option Bool) (must : Bool) → IsRefused k ending → OnTrue (may_share k (status_of ending)) (MustsAs (status_of ending) due must)
+still-must k ending due must h = on (unshared k ending h) where
+  on : Unshared k ending → OnTrue (may_share k (status_of ending)) (MustsAs (status_of ending) due must)
+  on (inl e) = not_true (may_share k (status_of ending)) (MustsAs (status_of ending) due must) e
+  on (inr e) = subst (λ x. OnTrue (may_share k x) (MustsAs x due must)) (sym e) (on_true (may_share k statuses.Memory) (MustsAs statuses.Memory due must) tt)
 
 pub still-waits : (k : Known) (ending : Ending) (turns : ℕ) (old new : Calls) → IsRefused k ending → OnTrue (may_share k (status_of ending)) (WaitsFor turns (status_of ending) old new)
 still-waits k ending turns old new h = on (unshared k ending h) where

@@ -9,8 +9,10 @@ pub mod Out
 pub mod Err
 pub mod Master
 pub mod Places
+pub mod Puts
 pub mod Reads
 pub mod Sharing
 pub mod Asks
+pub mod Starts
 pub mod Client
 pub mod Drill

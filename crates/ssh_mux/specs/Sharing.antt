@@ -3,6 +3,7 @@ use Rattle.std.specs.Prelude.{◌≡◌, ◌≢◌, ◌≤◌, ◌<◌, ◌+◌,
 use Rattle.std.specs.Bool.{OnTrue}
 use Rattle.conf_rules.specs.Outcome.{Drills, Opens}
 use Rattle.conf_rules.specs.Texts.{Bytes}
+use Rattle.conf_rules.specs.Told.{Told}
 use Rattle.forward_rules.specs.Allows.{read_policy}
 use Rattle.mux_engine.specs.Run.{IsRun}
 use Rattle.mux_engine.specs.Sides.{Resting}
@@ -15,6 +16,7 @@ use Rattle.mux_outside.specs.declared.house.HouseReply.{HouseReply}
 use Rattle.mux_outside.specs.declared.house_mark.HouseMark.{HouseMark}
 use Rattle.mux_outside.specs.declared.mark.Mark.{Mark}
 use Rattle.mux_outside.specs.declared.mark.Opening.{Opening}
+use Rattle.mux_outside.specs.declared.starts.Starts.{Starts}
 use Rattle.mux_outside.specs.Seen.{Calls}
 use Rattle.mux_outside.specs.Wire.{SameFaults, SomeFault}
 use Rattle.ssh_mux.specs.declared.ending.Ending.{Ending as MeantEnding}
@@ -26,6 +28,7 @@ use Rattle.ssh_mux.specs.Answers.{may_share, so_far}
 use Rattle.ssh_mux.specs.Ending.{shown}
 use Rattle.ssh_mux.specs.Err.{Reports}
 use Rattle.ssh_mux.specs.Outcomes.{Known, Certain, Master}
+use Rattle.ssh_mux.specs.Starts.{BeganWith, Begun}
 
 -- ---- the opening
 
@@ -126,15 +129,16 @@ Shares May Rest stands stands' policy pid turns before now start told refused
 Shares May Rest stands stands' policy pid turns before now start told refused result =
     IsShared May Rest stands stands' policy pid turns before now start told refused result
 
--- the same of what comes of words: only a master serves
-abbrev pub SharesFor : (HouseReply → Type 0) → Resting → (List HouseCall → Type 0)
-    → (List HouseCall → Type 0) → Known → ℕ → ℕ
+-- the same of what comes of words: only a master serves, with a house that begins as is due by what
+-- is told of files and commands
+abbrev pub SharesFor : (HouseReply → Type 0) → (Starts → Resting) → (List HouseCall → Type 0)
+    → Known → Option Told → ℕ → ℕ
     → Option (List HouseMark) → Option (List HouseMark) → Option (List Mark) → Option (List Mark)
     → Option ℕ → Result Status MeantEnding → Type 0
-SharesFor May Rest stands stands' known pid turns before now start told refused result =
+SharesFor May Rest stands known by pid turns before now start told refused result =
     OnTrue (may_share known (so_far result))
-    (Shares May Rest stands stands' (policy_in known) pid turns before now start told refused
-    result)
+    (Begun by (λ starts. Shares May (Rest starts) (BeganWith starts) stands (policy_in known) pid
+    turns before now start told refused result))
 
 -- the line of an end was handed over, if it has one; there may be no memory for it
 abbrev pub TellsEnd :
@@ -172,16 +176,17 @@ Serves May Rest stands stands' policy pid turns before now start told refused st
     IsServed May Rest stands stands' policy pid turns before now start told refused status err err'
     faults faults'
 
--- the same of what comes of words
-abbrev pub ServesFor : (HouseReply → Type 0) → Resting → (List HouseCall → Type 0)
-    → (List HouseCall → Type 0) → Known → ℕ → ℕ
+-- the same of what comes of words: only a master serves, with a house that begins as is due by what
+-- is told of files and commands
+abbrev pub ServesFor : (HouseReply → Type 0) → (Starts → Resting) → (List HouseCall → Type 0)
+    → Known → Option Told → ℕ → ℕ
     → Option (List HouseMark) → Option (List HouseMark) → Option (List Mark) → Option (List Mark)
     → Option ℕ → Status → Option (List ℕ) → Option (List ℕ) → ℕ → ℕ → Type 0
-ServesFor May Rest stands stands' known pid turns before now start told refused status err err'
-    faults faults' =
+ServesFor May Rest stands known by pid turns before now start told refused status err err' faults
+    faults' =
     OnTrue (may_share known status)
-    (Serves May Rest stands stands' (policy_in known) pid turns before now start told refused
-    status err err' faults faults')
+    (Begun by (λ starts. Serves May (Rest starts) (BeganWith starts) stands (policy_in known) pid
+    turns before now start told refused status err err' faults faults'))
 
 -- the process id that clients are told: 0 where none is known
 abbrev pub pid_of : Option ℕ → ℕ

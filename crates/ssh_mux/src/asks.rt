@@ -20,11 +20,11 @@ use std::alloc::Global;
 /// How many bytes a host has at most that a running master is told.
 const LONGEST_HOST: usize = 255;
 
-/// An end of a forwarding as a running master is told it.
+/// An end of a forwarding as it is asked for.
 #[derive(Drop)]
-struct AskedEnd {
-    host: Text,
-    port: u32,
+pub struct AskedEnd {
+    pub host: Text,
+    pub port: u32,
 }
 
 // The key of a forwarding that a letter names.
@@ -43,8 +43,8 @@ fn forward_key(keyword: &[u8]) -> Option<Key>
     None
 }
 
-// The kind of a forwarding: 1 for a local, 2 for a remote and 3 for a dynamic one.
-fn forward_kind(key: Key) -> u32
+/// The kind of a forwarding: 1 for a local, 2 for a remote and 3 for a dynamic one.
+pub fn forward_kind(key: Key) -> u32
     ensures { result ≡ forward_kind key }
 {
     match key {

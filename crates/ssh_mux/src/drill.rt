@@ -7,6 +7,7 @@ ghost use Rattle.ssh_mux.specs.Drill.{count_line, drill_text, drill_transport};
 ghost use Rattle.ssh_mux.specs.Drill.{AnyCalls, DrillGoes, NoneRests, RefusesAll};
 ghost use Rattle.ssh_mux.specs.Master.{EndsMaster};
 ghost use Rattle.ssh_mux.specs.Out.{HandsOver};
+ghost use Rattle.ssh_mux.specs.Puts.{PutsOnce};
 ghost use Rattle.ssh_mux.specs.Sharing.{CallsEnd, IdleCause, OpensAt, Shares};
 ghost use Rattle.ssh_mux.specs.Sharing.{StartCause, WaitsFor, WireCause};
 
@@ -37,6 +38,7 @@ pub fn drill<W: Wire, S: Sink>(
         (W.client_faults wire.old) (W.client_faults wire.new) }
     ensures unwritten { OnFalse (may_write (so_far result)) (out.new ≡ out.old) }
     ensures out_cause { OutCause (so_far result) (S.faults out.old) (S.faults out.new) }
+    ensures once { PutsOnce (so_far result) (S.puts out.old) (S.puts out.new) }
     ensures calls { CallsEnd turns (so_far result) (W.calls wire.old) (W.calls wire.new) }
     ensures waited { WaitsFor turns (so_far result) (W.calls wire.old) (W.calls wire.new) }
     ensures idle { turns ≡ 0 → IdleCause (so_far result)
@@ -111,6 +113,7 @@ fn spaced(alloc: Global, a: &[u8], b: &[u8], c: &[u8]) -> Result<Text, OutOfMemo
 fn sum_up<S: Sink>(alloc: Global, tally: &Tally, out: &mut S) -> Result<Status, Ending>
     ensures handed { HandsOver result (drill_text tally.now) (S.told out.old) (S.told out.new) }
     ensures cause { OutCause (so_far result) (S.faults out.old) (S.faults out.new) }
+    ensures once { PutsOnce (so_far result) (S.puts out.old) (S.puts out.new) }
 {
     let text = text_of(alloc, tally)?;
     hand_over(out, text.as_bytes())

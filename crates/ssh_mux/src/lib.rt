@@ -12,6 +12,7 @@ mod listing;
 mod master;
 mod program;
 mod reporting;
+mod starts;
 mod status;
 
 pub use ending::Ending;

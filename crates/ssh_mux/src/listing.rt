@@ -2,12 +2,14 @@ ghost use Rattle.std.specs.Prelude.{◌≡◌};
 ghost use Rattle.std.specs.Bool.{OnFalse};
 ghost use Rattle.conf_rules.specs.declared.command.Command.TheVariants as commands;
 ghost use Rattle.conf_rules.specs.Outcome.{Writes};
+ghost use Rattle.mux_outside.specs.Counts.{counted};
 ghost use Rattle.ssh_mux.specs.Answers.{Comes, Finds, so_far, may_write};
 ghost use Rattle.ssh_mux.specs.Causes.{Caused, OutCause};
 ghost use Rattle.ssh_mux.specs.Commands.{RunsFor, RunsUnless, commands_of};
 ghost use Rattle.ssh_mux.specs.Out.{HandsOver, OutTakes};
 ghost use Rattle.ssh_mux.specs.Outcomes.{Listing, machine, of_command, writes_out};
 ghost use Rattle.ssh_mux.specs.Places.{Placed, told_over};
+ghost use Rattle.ssh_mux.specs.Puts.{PutsOnce};
 ghost use Rattle.ssh_mux.specs.Reads.{ReadsFor, ReadsUnless};
 
 use crate::ending::Ending;
@@ -38,6 +40,7 @@ pub fn list<F: Files, R: Runner, S: Sink>(
         (writes_out (of_command (machine (F.told files.old) (R.told runner.old) facts.now)
         (commands.List asked.now))) (out.new ≡ out.old) }
     ensures out_cause { OutCause (so_far result) (S.faults out.old) (S.faults out.new) }
+    ensures once { PutsOnce (so_far result) (S.puts out.old) (S.puts out.new) }
     ensures ran { RunsFor (commands_of (machine (F.told files.old) (R.told runner.old) facts.now)
         (commands.List asked.now)) (so_far result) (R.ran runner.old) (R.ran runner.new) }
     ensures place { Placed
@@ -86,6 +89,7 @@ fn listing_of<F: Files, R: Runner>(
 pub fn hand_over<S: Sink>(out: &mut S, text: &[u8]) -> Result<Status, Ending>
     ensures handed { HandsOver result text.now (S.told out.old) (S.told out.new) }
     ensures cause { OutCause (so_far result) (S.faults out.old) (S.faults out.new) }
+    ensures once { S.puts out.new ≡ counted (S.puts out.old) }
 {
     match out.put(text) {
         Ok(()) => Ok(Status::Done),

@@ -1,4 +1,4 @@
-ghost use Rattle.std.specs.Prelude.{◌≡◌, List, IfOk, IsOk};
+ghost use Rattle.std.specs.Prelude.{◌≡◌, ◌∷◌, [], List, IfOk, IsOk, IsTrue, OnOk, Some};
 ghost use Rattle.std.specs.Bool.{OnTrue, OnFalse};
 ghost use Rattle.conf_rules.specs.declared.command.Command.TheVariants as commands;
 ghost use Rattle.conf_rules.specs.declared.control.Control.{Control};
@@ -6,6 +6,7 @@ ghost use Rattle.conf_rules.specs.Texts.{Bytes};
 ghost use Rattle.forward_rules.specs.Allows.{read_policy};
 ghost use Rattle.mux_engine.specs.Rests.{refused_if};
 ghost use Rattle.mux_engine.specs.Sides.{RestsOf};
+ghost use Rattle.mux_outside.specs.HouseCalls.{Begins};
 ghost use Rattle.ssh_mux.specs.Answers.{Comes, Finds, so_far, may_share, serves_house};
 ghost use Rattle.ssh_mux.specs.Causes.{Caused};
 ghost use Rattle.ssh_mux.specs.Commands.{RunsFor, RunsUnless, commands_of};
@@ -15,9 +16,13 @@ ghost use Rattle.ssh_mux.specs.Places.{Placed, told_over};
 ghost use Rattle.ssh_mux.specs.Reads.{ReadsFor, ReadsUnless};
 ghost use Rattle.ssh_mux.specs.Sharing.{CallsEnd, IdleCause, OpensAt, OpensOnce, Shares};
 ghost use Rattle.ssh_mux.specs.Sharing.{StartCause, WaitsFor, WireCause, pid_of, policy_of as the_policy_of, told_as};
+ghost use Rattle.ssh_mux.specs.Starts.{BeganWith, Begun, BegunRests, MustsAs, SettledFor};
+ghost use Rattle.ssh_mux.specs.Starts.{must_for, starts_for};
 
 use crate::ending::Ending;
+use crate::starts::starts_of;
 use crate::status::Status;
+use conf_options::Settings;
 use conf_output::control_path;
 use conf_resolve::resolve;
 use conf_rules::Asked;
@@ -28,9 +33,17 @@ use mux_outside::{Facts, FileError, Files, House, Runner, Wire};
 use ssh_fields::{Text, Texts};
 use std::alloc::Global;
 
-/// Shares a connection as the words ask: `-M`. The wire is opened at the control path of their
-/// settings, and is served for so many turns at most, with the permissions of the words, which have
-/// no bad entry.
+/// What is found of what the words ask for.
+#[derive(Drop)]
+struct Found {
+    settings: Settings,
+    /// Their control path.
+    control: Text,
+}
+
+/// Shares a connection as the words ask: `-M`. The house begins with the forwardings that their
+/// settings ask for. Then the wire is opened at the control path of these settings, and is served
+/// for so many turns at most, with the permissions of the words, which have no bad entry.
 pub fn share<W: Wire, F: Files, R: Runner, H: House>(
     alloc: Global,
     asked: &Asked,
@@ -56,17 +69,24 @@ pub fn share<W: Wire, F: Files, R: Runner, H: House>(
     ensures served { OnTrue (may_share
         (of_command (machine (F.told files.old) (R.told runner.old) facts.now)
         (commands.Master asked.now transport.now opens.now listens.now)) (so_far result))
-        (Shares H.may
-        (RestsOf H.told H.quiet H.stands (H.known house.old).present house.old)
-        (H.stands house.old) (H.stands house.new) (the_policy_of opens.now listens.now)
-        (pid_of facts.now.pid) turns (H.told house.old) (H.told house.new)
-        (W.seen wire.old).told (W.seen wire.new).told
-        (refused_if (H.known house.old).present (H.must house.new) (H.refused house.new)) result) }
+        (Begun (told_over (machine (F.told files.old) (R.told runner.old) facts.now) asked.now)
+        (λ starts. Shares H.may
+        (BegunRests H.told H.quiet H.stands (H.known house.old).present starts) (BeganWith starts)
+        (H.stands house.new) (the_policy_of opens.now listens.now) (pid_of facts.now.pid) turns
+        (H.told house.old) (H.told house.new) (W.seen wire.old).told (W.seen wire.new).told
+        (refused_if (H.known house.old).present (H.must house.new) (H.refused house.new))
+        result)) }
     ensures start { OnTrue (may_share
         (of_command (machine (F.told files.old) (R.told runner.old) facts.now)
         (commands.Master asked.now transport.now opens.now listens.now)) (so_far result))
         (StartCause (so_far result)
         (refused_if (H.known house.old).present (H.must house.new) (H.refused house.new))) }
+    ensures must { IsTrue (H.known house.old).present → OnTrue (may_share
+        (of_command (machine (F.told files.old) (R.told runner.old) facts.now)
+        (commands.Master asked.now transport.now opens.now listens.now)) (so_far result))
+        (MustsAs (so_far result)
+        (must_for (told_over (machine (F.told files.old) (R.told runner.old) facts.now) asked.now))
+        (H.must house.new)) }
     ensures wire_cause { OnTrue (may_share
         (of_command (machine (F.told files.old) (R.told runner.old) facts.now)
         (commands.Master asked.now transport.now opens.now listens.now)) (so_far result))
@@ -107,10 +127,56 @@ pub fn share<W: Wire, F: Files, R: Runner, H: House>(
     ensures cause { Caused result (F.faults files.old) (F.faults files.new)
         (R.faults runner.old) (R.faults runner.new) }
 {
-    let control = control_of(alloc, asked, facts, files, runner)?;
+    let found = found_of(alloc, asked, facts, files, runner)?;
     let policy = policy_of(alloc, opens, listens)?;
     let pid = facts.pid.unwrap_or(0);
-    open_and_serve(alloc, &control, transport, policy, pid, wire, house, turns)
+    begin_and_serve(alloc, &found, transport, policy, pid, wire, house, turns)
+}
+
+// The settings of what the words ask for, and the control path of them: of a master, and of a client
+// of one.
+fn found_of<F: Files, R: Runner>(
+    alloc: Global,
+    asked: &Asked,
+    facts: &Facts,
+    files: &mut F,
+    runner: &mut R,
+) -> Result<Found, Ending>
+    ensures exact { (transport : Bytes) (opens listens : List Bytes) →
+        Finds (λ found. opens_at transport opens listens found.control)
+        (Master transport opens listens)
+        (of_command (machine (F.told files.old) (R.told runner.old) facts.now)
+        (commands.Master asked.now transport opens listens)) result }
+    ensures ran { (transport : Bytes) (opens listens : List Bytes) →
+        RunsUnless (commands_of (machine (F.told files.old) (R.told runner.old) facts.now)
+        (commands.Master asked.now transport opens listens)) result
+        (R.ran runner.old) (R.ran runner.new) }
+    ensures client { (what : Control) →
+        Finds (λ found. joins_at asked.now what found.control) (Client asked.now what)
+        (of_command (machine (F.told files.old) (R.told runner.old) facts.now)
+        (commands.Control asked.now what)) result }
+    ensures client_ran { (what : Control) → RunsUnless
+        (commands_of (machine (F.told files.old) (R.told runner.old) facts.now)
+        (commands.Control asked.now what)) result (R.ran runner.old) (R.ran runner.new) }
+    ensures place { Placed
+        (told_over (machine (F.told files.old) (R.told runner.old) facts.now) asked.now)
+        result (R.ran runner.old) (R.ran runner.new)
+        (F.failed files.old) (F.failed files.new) }
+    ensures read { ReadsUnless
+        (told_over (machine (F.told files.old) (R.told runner.old) facts.now) asked.now)
+        result (F.readings files.old) (F.readings files.new) }
+    ensures settled { IfOk result (λ found. SettledFor
+        (told_over (machine (F.told files.old) (R.told runner.old) facts.now) asked.now)
+        found.settings) }
+    ensures cause { Caused result (F.faults files.old) (F.faults files.new)
+        (R.faults runner.old) (R.faults runner.new) }
+{
+    let settings = resolve(alloc, asked, facts, files, runner)?;
+    let found = control_path(alloc, &settings, asked.original.as_bytes(), facts)?;
+    match found {
+        Some(control) => Ok(Found { settings, control }),
+        None => Err(Ending::NoControlPath),
+    }
 }
 
 /// The control path of what the words ask for: of a master, and of a client of one.
@@ -145,12 +211,8 @@ pub fn control_of<F: Files, R: Runner>(
     ensures cause { Caused result (F.faults files.old) (F.faults files.new)
         (R.faults runner.old) (R.faults runner.new) }
 {
-    let settings = resolve(alloc, asked, facts, files, runner)?;
-    let found = control_path(alloc, &settings, asked.original.as_bytes(), facts)?;
-    match found {
-        Some(path) => Ok(path),
-        None => Err(Ending::NoControlPath),
-    }
+    let found = found_of(alloc, asked, facts, files, runner)?;
+    Ok(found.control)
 }
 
 /// The policy of permissions without a bad entry.
@@ -166,7 +228,72 @@ pub fn policy_of(alloc: Global, opens: &Texts, listens: &Texts) -> Result<Policy
     }
 }
 
-/// Opens the wire, and serves it with a house that was never called.
+// Begins a house with the forwardings that the settings ask for.
+fn begin<H: House>(alloc: Global, settings: &Settings, house: &mut H) -> Result<(), Ending>
+    requires fresh { H.fresh house.old }
+    ensures begun { OnOk result (H.begun house.new) }
+    ensures known { OnOk result (H.known house.new ≡ H.known house.old) }
+    ensures must { OnOk result (IsTrue (H.known house.old).present
+        → H.must house.new ≡ (starts_for settings.now).must) }
+    ensures told { H.told house.new ≡ H.told house.old }
+    ensures stands { OnOk result (H.stands house.new (Begins (starts_for settings.now) ∷ [])) }
+    ensures err { OnlyStarves result }
+{
+    // A house that was never called says by this that it stands for no call.
+    let _fresh = house.present();
+    let starts = starts_of(alloc, settings)?;
+    house.begin(&starts)?;
+    Ok(())
+}
+
+// Begins the house, opens the wire, and serves it with both.
+fn begin_and_serve<W: Wire, H: House>(
+    alloc: Global,
+    found: &Found,
+    transport: &Text,
+    policy: Policy,
+    pid: u32,
+    wire: &mut W,
+    house: &mut H,
+    turns: u64,
+) -> Result<Status, Ending>
+    requires fresh { H.fresh house.old }
+    ensures ends { EndsMaster result }
+    ensures opened { OpensAt found.now.control transport.now (so_far result)
+        (W.openings wire.old) (W.openings wire.new) }
+    ensures joinings { W.joinings wire.new ≡ W.joinings wire.old }
+    ensures served { Shares H.may (BegunRests H.told H.quiet H.stands (H.known house.old).present
+        (starts_for found.now.settings)) (BeganWith (starts_for found.now.settings))
+        (H.stands house.new) policy pid turns (H.told house.old) (H.told house.new)
+        (W.seen wire.old).told (W.seen wire.new).told
+        (refused_if (H.known house.old).present (H.must house.new) (H.refused house.new)) result }
+    ensures start { StartCause (so_far result)
+        (refused_if (H.known house.old).present (H.must house.new) (H.refused house.new)) }
+    ensures must { IsTrue (H.known house.old).present → MustsAs (so_far result)
+        (Some (starts_for found.now.settings).must) (H.must house.new) }
+    ensures cause { WireCause (so_far result) (W.server_faults wire.old) (W.server_faults wire.new)
+        (W.client_faults wire.old) (W.client_faults wire.new) }
+    ensures calls { CallsEnd turns (so_far result) (W.calls wire.old) (W.calls wire.new) }
+    ensures waited { OnFalse (H.known house.old).present
+        (WaitsFor turns (so_far result) (W.calls wire.old) (W.calls wire.new)) }
+    ensures idle { turns ≡ 0 → OnFalse (H.known house.old).present (IdleCause (so_far result)
+        (W.server_faults wire.old) (W.server_faults wire.new)
+        (W.client_faults wire.old) (W.client_faults wire.new)) }
+{
+    begin(alloc, &found.settings, house)?;
+    open_and_serve(
+        alloc,
+        &found.control,
+        transport,
+        policy,
+        pid,
+        wire,
+        house,
+        turns,
+    )
+}
+
+/// Opens the wire, and serves it with a house of which `begin` alone was called.
 pub fn open_and_serve<W: Wire, H: House>(
     alloc: Global,
     control: &Text,
@@ -177,7 +304,7 @@ pub fn open_and_serve<W: Wire, H: House>(
     house: &mut H,
     turns: u64,
 ) -> Result<Status, Ending>
-    requires fresh { H.fresh house.old }
+    requires begun { H.begun house.old }
     ensures ends { EndsMaster result }
     ensures opened { OpensAt control.now transport.now (so_far result)
         (W.openings wire.old) (W.openings wire.new) }
@@ -189,6 +316,7 @@ pub fn open_and_serve<W: Wire, H: House>(
         (refused_if (H.known house.old).present (H.must house.new) (H.refused house.new)) result }
     ensures start { StartCause (so_far result)
         (refused_if (H.known house.old).present (H.must house.new) (H.refused house.new)) }
+    ensures must { H.must house.new ≡ H.must house.old }
     ensures cause { WireCause (so_far result) (W.server_faults wire.old) (W.server_faults wire.new)
         (W.client_faults wire.old) (W.client_faults wire.new) }
     ensures calls { CallsEnd turns (so_far result) (W.calls wire.old) (W.calls wire.new) }
@@ -198,7 +326,7 @@ pub fn open_and_serve<W: Wire, H: House>(
         (W.server_faults wire.old) (W.server_faults wire.new)
         (W.client_faults wire.old) (W.client_faults wire.new)) }
 {
-    // A house that was never called says by this that nothing is known of it.
+    // A house that has only begun says by this that nothing is known of it.
     let _blank = house.present();
     match wire.open(control.as_bytes(), transport.as_bytes()) {
         Ok(()) => ending_of(serve(alloc, policy, pid, wire, house, turns)),

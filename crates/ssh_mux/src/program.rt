@@ -1,7 +1,7 @@
-ghost use Rattle.std.specs.Prelude.{◌≡◌};
+ghost use Rattle.std.specs.Prelude.{◌≡◌, IsTrue};
 ghost use Rattle.std.specs.Bool.{OnFalse, OnTrue};
 ghost use Rattle.mux_engine.specs.Rests.{refused_if};
-ghost use Rattle.mux_engine.specs.Sides.{RestsOf};
+ghost use Rattle.mux_outside.specs.Counts.{counted};
 ghost use Rattle.ssh_mux.specs.Answers.{Comes, Leaves, is_silent, may_ask, may_share, serves_house, so_far, touches};
 ghost use Rattle.ssh_mux.specs.Causes.{Caused, FaultCause, OutCause};
 ghost use Rattle.ssh_mux.specs.Client.{AnswersFor, ConversesFor, JoinsOnce, TalksFor};
@@ -11,9 +11,11 @@ ghost use Rattle.ssh_mux.specs.Err.{Ended};
 ghost use Rattle.ssh_mux.specs.Out.{OutTakes};
 ghost use Rattle.ssh_mux.specs.Outcomes.{machine, known_of, drills};
 ghost use Rattle.ssh_mux.specs.Places.{Placed, told_for};
+ghost use Rattle.ssh_mux.specs.Puts.{PutsOnce, prints};
 ghost use Rattle.ssh_mux.specs.Reads.{ReadsFor};
 ghost use Rattle.ssh_mux.specs.Sharing.{CallsEnd, IdleCause, OpensOnce, ServesFor, SharesFor};
 ghost use Rattle.ssh_mux.specs.Sharing.{StartCause, WaitsFor, WireCause, pid_of};
+ghost use Rattle.ssh_mux.specs.Starts.{BegunRests, MustsAs, must_for};
 
 use crate::client::ask_master;
 use crate::drill::drill;
@@ -65,6 +67,10 @@ pub fn run<W: Wire, F: Files, R: Runner, S: Sink, H: House>(
         (known_of (F.told files.old) (R.told runner.old) facts.now words.now)
         (S.told out.old) (S.told out.new) }
     ensures out_cause { OutCause result (S.faults out.old) (S.faults out.new) }
+    ensures out_once { OnTrue
+        (prints (known_of (F.told files.old) (R.told runner.old) facts.now words.now))
+        (PutsOnce result (S.puts out.old) (S.puts out.new)) }
+    ensures err_once { OnFalse (is_silent result) (S.puts err.new ≡ counted (S.puts err.old)) }
     ensures ran { RunsFor
         (commands_for (machine (F.told files.old) (R.told runner.old) facts.now) words.now)
         result (R.ran runner.old) (R.ran runner.new) }
@@ -78,9 +84,9 @@ pub fn run<W: Wire, F: Files, R: Runner, S: Sink, H: House>(
         (known_of (F.told files.old) (R.told runner.old) facts.now words.now)
         result (W.joinings wire.old) (W.joinings wire.new) }
     ensures shared { ServesFor H.may
-        (RestsOf H.told H.quiet H.stands (H.known house.old).present house.old)
-        (H.stands house.old) (H.stands house.new)
+        (BegunRests H.told H.quiet H.stands (H.known house.old).present) (H.stands house.new)
         (known_of (F.told files.old) (R.told runner.old) facts.now words.now)
+        (told_for (machine (F.told files.old) (R.told runner.old) facts.now) words.now)
         (pid_of facts.now.pid) turns (H.told house.old) (H.told house.new)
         (W.seen wire.old).told (W.seen wire.new).told
         (refused_if (H.known house.old).present (H.must house.new) (H.refused house.new)) result
@@ -89,6 +95,11 @@ pub fn run<W: Wire, F: Files, R: Runner, S: Sink, H: House>(
         (known_of (F.told files.old) (R.told runner.old) facts.now words.now)
         result) (StartCause result
         (refused_if (H.known house.old).present (H.must house.new) (H.refused house.new))) }
+    ensures must { IsTrue (H.known house.old).present → OnTrue (may_share
+        (known_of (F.told files.old) (R.told runner.old) facts.now words.now)
+        result) (MustsAs result
+        (must_for (told_for (machine (F.told files.old) (R.told runner.old) facts.now) words.now))
+        (H.must house.new)) }
     ensures wire_cause { OnTrue (touches
         (known_of (F.told files.old) (R.told runner.old) facts.now words.now)
         result) (WireCause result (W.server_faults wire.old) (W.server_faults wire.new)
@@ -158,6 +169,9 @@ fn obey<W: Wire, F: Files, R: Runner, S: Sink, H: House>(
         (known_of (F.told files.old) (R.told runner.old) facts.now words.now)
         (S.told out.old) (S.told out.new) }
     ensures out_cause { OutCause (so_far result) (S.faults out.old) (S.faults out.new) }
+    ensures out_once { OnTrue
+        (prints (known_of (F.told files.old) (R.told runner.old) facts.now words.now))
+        (PutsOnce (so_far result) (S.puts out.old) (S.puts out.new)) }
     ensures ran { RunsFor
         (commands_for (machine (F.told files.old) (R.told runner.old) facts.now) words.now)
         (so_far result) (R.ran runner.old) (R.ran runner.new) }
@@ -171,9 +185,9 @@ fn obey<W: Wire, F: Files, R: Runner, S: Sink, H: House>(
         (known_of (F.told files.old) (R.told runner.old) facts.now words.now)
         (so_far result) (W.joinings wire.old) (W.joinings wire.new) }
     ensures shared { SharesFor H.may
-        (RestsOf H.told H.quiet H.stands (H.known house.old).present house.old)
-        (H.stands house.old) (H.stands house.new)
+        (BegunRests H.told H.quiet H.stands (H.known house.old).present) (H.stands house.new)
         (known_of (F.told files.old) (R.told runner.old) facts.now words.now)
+        (told_for (machine (F.told files.old) (R.told runner.old) facts.now) words.now)
         (pid_of facts.now.pid) turns (H.told house.old) (H.told house.new)
         (W.seen wire.old).told (W.seen wire.new).told
         (refused_if (H.known house.old).present (H.must house.new) (H.refused house.new)) result }
@@ -181,6 +195,11 @@ fn obey<W: Wire, F: Files, R: Runner, S: Sink, H: House>(
         (known_of (F.told files.old) (R.told runner.old) facts.now words.now)
         (so_far result)) (StartCause (so_far result)
         (refused_if (H.known house.old).present (H.must house.new) (H.refused house.new))) }
+    ensures must { IsTrue (H.known house.old).present → OnTrue (may_share
+        (known_of (F.told files.old) (R.told runner.old) facts.now words.now)
+        (so_far result)) (MustsAs (so_far result)
+        (must_for (told_for (machine (F.told files.old) (R.told runner.old) facts.now) words.now))
+        (H.must house.new)) }
     ensures wire_cause { OnTrue (touches
         (known_of (F.told files.old) (R.told runner.old) facts.now words.now)
         (so_far result)) (WireCause (so_far result)

@@ -1,6 +1,7 @@
 ghost use Rattle.std.specs.Prelude.{◌≡◌};
 ghost use Rattle.conf_rules.specs.Diagnostics.{line_of, NoMemory};
 ghost use Rattle.ssh_mux.specs.Ending.{shown};
+ghost use Rattle.mux_outside.specs.Counts.{counted};
 ghost use Rattle.ssh_mux.specs.Err.{Reports, PutsLine};
 
 use crate::ending::Ending;
@@ -14,8 +15,9 @@ const NO_MEMORY: &[u8] = b"ssh-mux: out of memory\n";
 /// Tells how the run ended, in one line, and its status. Want of memory for the line is the
 /// status then.
 pub fn report<S: Sink>(alloc: Global, err: &mut S, ending: &Ending) -> Status
-    ensures { Reports result (shown ending.now)
+    ensures told { Reports result (shown ending.now)
         (S.told err.old) (S.told err.new) (S.faults err.old) (S.faults err.new) }
+    ensures once { S.puts err.new ≡ counted (S.puts err.old) }
 {
     match ending.line(alloc) {
         Ok(line) => put_line(err, line.as_bytes(), ending.status()),
@@ -25,8 +27,9 @@ pub fn report<S: Sink>(alloc: Global, err: &mut S, ending: &Ending) -> Status
 
 // Hands a line over, whole.
 fn put_line<S: Sink>(err: &mut S, line: &[u8], status: Status) -> Status
-    ensures { PutsLine result status line.now
+    ensures told { PutsLine result status line.now
         (S.told err.old) (S.told err.new) (S.faults err.old) (S.faults err.new) }
+    ensures once { S.puts err.new ≡ counted (S.puts err.old) }
 {
     match err.put(line) {
         Err(FileError::OutOfMemory) => Status::Memory,

@@ -1,5 +1,6 @@
 use Rattle.std.proofs.lemmas.Result.{err_from_is_err_and}
 use Rattle.ssh_mux.proofs.CauseLemmas.{written-cause, all-ran}
+use Rattle.ssh_mux.proofs.PutLemmas.{handed-puts, quiet-puts}
 use Rattle.ssh_mux.proofs.ReadLemmas.{all-read}
 use Rattle.ssh_mux.proofs.ListLemmas.{handed-comes, handed-taken, handed-tried, list-comes, list-taken, list-writes}
 use Rattle.ssh_mux.proofs.StillLemmas.{on_false, not_false, still-due, quiet-out, quiet-count, loud}
@@ -52,3 +53,9 @@ returns-in_err-text-clause-read g c = let p = err_from_is_err_and c.from_residua
 
 pub returns-clause-read : goal.returns-clause-read
 returns-clause-read g c = all-read _ _ _ _ _ c.in_ok-text.ensures.read
+
+pub returns-in_err-text-clause-once : goal.returns-in_err-text-clause-once
+returns-in_err-text-clause-once g c = let p = err_from_is_err_and c.from_residual.result c.from_residual.ensures.1 in rw (p.1, p.2) (quiet-puts _ _ (loud _))
+
+pub returns-clause-once : goal.returns-clause-once
+returns-clause-once g c = handed-puts _ _ _ _ _ _ c.hand_over.ensures.handed c.hand_over.ensures.once

@@ -2,11 +2,12 @@ use Rattle.std.proofs.Common.{◌≡◌, refl}
 use Rattle.std.proofs.lemmas.Result.{err_from_is_err_and}
 use Rattle.conf_rules.specs.declared.command.Command.TheVariants as commands
 use Rattle.mux_engine.specs.Rests.{refused_if}
-use Rattle.mux_engine.specs.Sides.{RestsOf}
 use Rattle.ssh_mux.specs.Answers.{may_ask, may_open, may_write, serves_house, so_far, touches}
 use Rattle.conf_rules.specs.Outcome.{Drills}
 use Rattle.ssh_mux.specs.Outcomes.{Certain, drills, known_of, machine, of_command, opens}
+use Rattle.ssh_mux.specs.Places.{told_over}
 use Rattle.ssh_mux.specs.Sharing.{Shares, WaitsFor, WireCause, pid_of}
+use Rattle.ssh_mux.specs.Starts.{BeganWith, Begun, BegunRests}
 use Rattle.ssh_mux.proofs.DrillLemmas.{drill-cause, drill-comes, drill-takes, drill-touches, still-drill}
 use Rattle.ssh_mux.proofs.EndLemmas.{same_told}
 use Rattle.ssh_mux.proofs.JoinLemmas.{client-looks, client-shut, client-taken, client-undrilled, list-unasked, master-unasked, unlisted-client}
@@ -15,8 +16,9 @@ use Rattle.ssh_mux.proofs.PolicyLemmas.{are-permitted, with-policy}
 use Rattle.ssh_mux.proofs.RefusalLemmas.{list-looks, list-shut, list-undrilled, master-looks, master-quiet, master-undrilled}
 use Rattle.ssh_mux.proofs.SharingLemmas.{none-opened, none-taken, none-counted}
 use Rattle.ssh_mux.proofs.MisreadLemmas.{of-drill, of-read, for-read, misread, misread-runs, misread-cause, drilled-runs}
-use Rattle.ssh_mux.proofs.StillLemmas.{on_false, not_false, not_true, shut, loud, quiet-out, quiet-count, still-due, still-opened, still-shared, still-caused, still-calls, still-idle, still-waited, shut-all, for-master, on_true, or-else, else-or, untouched, follows, refused-waits, still-start, unopened-waits, where_false}
+use Rattle.ssh_mux.proofs.StillLemmas.{on_false, not_false, not_true, shut, loud, quiet-out, quiet-count, still-due, still-opened, still-shared, still-caused, still-calls, still-idle, still-waited, shut-all, for-master, on_true, or-else, else-or, untouched, follows, refused-waits, still-must, still-start, unopened-waits, where_false}
 use Rattle.ssh_mux.proofs.PlaceLemmas.{client-told, misread-place, list-told, master-told}
+use Rattle.ssh_mux.proofs.PutLemmas.{client-unprinted, quiet-puts, unprinted}
 use Rattle.ssh_mux.proofs.ReadLemmas.{drilled-reads, misread-reads}
 use Rattle.ssh_mux.proofs.TalkLemmas.{none-joined, refused-unjoined, still-asked-cause, still-asked-waits, still-joined, still-talked, unasked}
 use Rattle.ssh_mux.proofs.program.obey.Goals as goal
@@ -82,7 +84,7 @@ pub returns-in-Master-clause-opened : goal.returns-in-Master-clause-opened
 returns-in-Master-clause-opened g c = rw (of-read _ _ _ (rw c.in-Master.is at c.in_ok-command.ensures.exact)) c.share.ensures.opened
 
 pub returns-in-Master-clause-shared : goal.returns-in-Master-clause-shared
-returns-in-Master-clause-shared g c = rw (of-read _ _ _ (rw c.in-Master.is at c.in_ok-command.ensures.exact)) (with-policy (machine (g.F.Files.told c.args.files.now) (g.R.Runner.told c.args.runner.now) c.args.facts.now) c.in-Master.asked c.in-Master.transport c.in-Master.opens c.in-Master.listens (so_far c.share.result) (λ p. Shares g.H.House.may (RestsOf g.H.House.told g.H.House.quiet g.H.House.stands (g.H.House.known c.args.house.now).present c.args.house.now) (g.H.House.stands c.args.house.now) (g.H.House.stands c.share.new.house) p (pid_of c.args.facts.now.pid) c.args.turns (g.H.House.told c.args.house.now) (g.H.House.told c.share.new.house) (g.W.Wire.seen c.args.wire.now).told (g.W.Wire.seen c.share.new.wire).told (refused_if (g.H.House.known c.args.house.now).present (g.H.House.must c.share.new.house) (g.H.House.refused c.share.new.house)) c.share.result) c.share.ensures.served)
+returns-in-Master-clause-shared g c = rw (of-read _ _ _ (rw c.in-Master.is at c.in_ok-command.ensures.exact), master-told _ _ _ _ _ _ (rw c.in-Master.is at c.in_ok-command.ensures.exact)) (with-policy (machine (g.F.Files.told c.args.files.now) (g.R.Runner.told c.args.runner.now) c.args.facts.now) c.in-Master.asked c.in-Master.transport c.in-Master.opens c.in-Master.listens (so_far c.share.result) (λ p. Begun (told_over (machine (g.F.Files.told c.args.files.now) (g.R.Runner.told c.args.runner.now) c.args.facts.now) c.in-Master.asked) (λ starts. Shares g.H.House.may (BegunRests g.H.House.told g.H.House.quiet g.H.House.stands (g.H.House.known c.args.house.now).present starts) (BeganWith starts) (g.H.House.stands c.share.new.house) p (pid_of c.args.facts.now.pid) c.args.turns (g.H.House.told c.args.house.now) (g.H.House.told c.share.new.house) (g.W.Wire.seen c.args.wire.now).told (g.W.Wire.seen c.share.new.wire).told (refused_if (g.H.House.known c.args.house.now).present (g.H.House.must c.share.new.house) (g.H.House.refused c.share.new.house)) c.share.result)) c.share.ensures.served)
 
 pub returns-in-Master-clause-wire_cause : goal.returns-in-Master-clause-wire_cause
 returns-in-Master-clause-wire_cause g c = rw (of-read _ _ _ (rw c.in-Master.is at c.in_ok-command.ensures.exact)) (for-master (may_open (so_far c.share.result)) (opens (of_command (machine (g.F.Files.told c.args.files.now) (g.R.Runner.told c.args.runner.now) c.args.facts.now) (commands.Master c.in-Master.asked c.in-Master.transport c.in-Master.opens c.in-Master.listens))) (drills (of_command (machine (g.F.Files.told c.args.files.now) (g.R.Runner.told c.args.runner.now) c.args.facts.now) (commands.Master c.in-Master.asked c.in-Master.transport c.in-Master.opens c.in-Master.listens))) (WireCause (so_far c.share.result) (g.W.Wire.server_faults c.args.wire.now) (g.W.Wire.server_faults c.share.new.wire) (g.W.Wire.client_faults c.args.wire.now) (g.W.Wire.client_faults c.share.new.wire)) (master-undrilled (machine (g.F.Files.told c.args.files.now) (g.R.Runner.told c.args.runner.now) c.args.facts.now) c.in-Master.asked c.in-Master.transport c.in-Master.opens c.in-Master.listens) c.share.ensures.wire_cause)
@@ -331,3 +333,33 @@ returns-in-Control-clause-start g c = rw (of-read _ _ _ (rw c.in-Control.is at c
 
 pub returns-in-Control-clause-idle : goal.returns-in-Control-clause-idle
 returns-in-Control-clause-idle g c = λ z. where_false _ _ (c.ask_master.ensures.idle z)
+
+pub returns-in_err-command-clause-must : goal.returns-in_err-command-clause-must
+returns-in_err-command-clause-must g c = λ x. let p = err_from_is_err_and c.from_residual.result c.from_residual.ensures.1 in rw (p.1, p.2) (still-must _ _ _ _ (misread _ _ _ c.in_err-command.ensures.exact))
+
+pub returns-in-List-clause-must : goal.returns-in-List-clause-must
+returns-in-List-clause-must g c = λ x. rw (of-read _ _ _ (rw c.in-List.is at c.in_ok-command.ensures.exact)) (not_true _ _ (shut _ _ (list-shut _ _)))
+
+pub returns-in-Master-clause-must : goal.returns-in-Master-clause-must
+returns-in-Master-clause-must g c = λ x. rw (of-read _ _ _ (rw c.in-Master.is at c.in_ok-command.ensures.exact), master-told _ _ _ _ _ _ (rw c.in-Master.is at c.in_ok-command.ensures.exact)) (c.share.ensures.must x)
+
+pub returns-in-Control-clause-must : goal.returns-in-Control-clause-must
+returns-in-Control-clause-must g c = λ x. rw (of-read _ _ _ (rw c.in-Control.is at c.in_ok-command.ensures.exact)) (not_true _ _ (shut _ _ (client-shut _ _ _)))
+
+pub returns-in-Drill-clause-must : goal.returns-in-Drill-clause-must
+returns-in-Drill-clause-must g c = λ x. rw (of-drill _ _ _ _ _ (rw c.in-Drill.is at c.in_ok-command.ensures.exact)) (not_true _ _ (shut (Certain (Drills c.in-Drill.seed c.in-Drill.clients c.in-Drill.messages)) (so_far c.drill.result) refl))
+
+pub returns-in_err-command-clause-out_once : goal.returns-in_err-command-clause-out_once
+returns-in_err-command-clause-out_once g c = let p = err_from_is_err_and c.from_residual.result c.from_residual.ensures.1 in rw (p.1, p.2) (on_true _ _ (quiet-puts _ _ (loud _)))
+
+pub returns-in-List-clause-out_once : goal.returns-in-List-clause-out_once
+returns-in-List-clause-out_once g c = on_true _ _ c.list.ensures.once
+
+pub returns-in-Master-clause-out_once : goal.returns-in-Master-clause-out_once
+returns-in-Master-clause-out_once g c = rw (of-read _ _ _ (rw c.in-Master.is at c.in_ok-command.ensures.exact)) (not_true _ _ (unprinted _ (master-quiet _ _ _ _ _)))
+
+pub returns-in-Control-clause-out_once : goal.returns-in-Control-clause-out_once
+returns-in-Control-clause-out_once g c = rw (of-read _ _ _ (rw c.in-Control.is at c.in_ok-command.ensures.exact)) (not_true _ _ (client-unprinted _ _ _))
+
+pub returns-in-Drill-clause-out_once : goal.returns-in-Drill-clause-out_once
+returns-in-Drill-clause-out_once g c = on_true _ _ c.drill.ensures.once

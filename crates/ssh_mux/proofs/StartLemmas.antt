@@ -1,0 +1,161 @@
+-- What a house begins with, from settings to what is told, and what is so of it then.
+use Rattle.std.proofs.Common.{◌≡◌, ◌⊎◌, inl, inr, ℕ, Bool, List, [], ◌∷◌, Option, Some, None, Result, Ok, Err, refl, ap, sym, subst}
+use Rattle.std.specs.Prelude.{◌++◌, flat_map, if◌then◌else◌, IsTrue}
+use Rattle.std.specs.List.{slice_get}
+use Rattle.conf_options.specs.Kept.{Given, Keeps}
+use Rattle.conf_output.specs.Shown.{first_value}
+use Rattle.conf_resolve.specs.Passes.{Resolved}
+use Rattle.conf_rules.specs.declared.asked.Asked.{Asked}
+use Rattle.conf_rules.specs.declared.key.Key.{Key}
+use Rattle.conf_rules.specs.declared.key.Key.TheVariants.{ClearAllForwardings, DynamicForward, ExitOnForwardFailure, GatewayPorts, LocalForward, RemoteForward}
+use Rattle.conf_rules.specs.declared.value.Value.{Value}
+use Rattle.conf_rules.specs.Listing.{is_set}
+use Rattle.conf_rules.specs.Resolution.{all_rows}
+use Rattle.conf_rules.specs.Rows.{Row, given, value, values, values_among}
+use Rattle.conf_rules.specs.Told.{Told}
+use Rattle.mux_engine.specs.Run.{IsRun, Rested, RestedAt}
+use Rattle.mux_engine.specs.Sides.{Resting, RestsOf}
+use Rattle.mux_history.specs.Log.{Setting}
+use Rattle.mux_history.specs.Policy.{Policy}
+use Rattle.mux_history.specs.Settings.{by_lists}
+use Rattle.mux_history.specs.declared.ended.Ended.{Ended}
+use Rattle.mux_outside.specs.House.{Quiet}
+use Rattle.mux_outside.specs.HouseCalls.{Begins, HouseCall}
+use Rattle.mux_outside.specs.declared.facts.Facts.{Facts}
+use Rattle.mux_outside.specs.declared.house.HouseReply.{HouseReply}
+use Rattle.mux_outside.specs.declared.house_mark.HouseMark.{HouseMark}
+use Rattle.mux_outside.specs.declared.mark.Mark.{Mark}
+use Rattle.mux_outside.specs.declared.mark.Mark.TheVariants.{Waits}
+use Rattle.mux_outside.specs.declared.pairs.Pair.{Pair}
+use Rattle.mux_outside.specs.declared.starts.Starts.{Starts}
+use Rattle.mux_outside.specs.declared.statuses.CommandStatus.{CommandStatus}
+use Rattle.mux_outside.specs.declared.turn.Want.TheVariants.{Read}
+use Rattle.ssh_mux.specs.declared.ending.Ending.{Ending}
+use Rattle.ssh_mux.specs.declared.ending.Ending.TheVariants as endings
+use Rattle.ssh_mux.specs.declared.status.Status.{Status}
+use Rattle.ssh_mux.specs.declared.status.Status.TheVariants as statuses
+use Rattle.ssh_mux.specs.Outcomes.{machine}
+use Rattle.ssh_mux.specs.Places.{told_over}
+use Rattle.ssh_mux.specs.Asks.{forward_kind}
+use Rattle.ssh_mux.specs.Sharing.{IsShared, Shares}
+use Rattle.ssh_mux.specs.Starts.{BeganWith, Begun, BegunRests, MustsAs, SettledFor, StartsAs, must_for, starts_due, starts_for, value_starts}
+use Rattle.ssh_mux.proofs.RefusalLemmas.{Promise, kept}
+
+-- the settings of a resolution
+pub settled-for : (files : Option (List Pair)) (ends_with : Option (List CommandStatus)) (facts : Facts) (asked : Asked) (settings : List Given) → Promise files ends_with facts asked (λ told. Resolved told (Ok settings)) → SettledFor (told_over (machine files ends_with facts) asked) settings
+unfolding machine
+settled-for None ends_with facts asked settings h = tt
+settled-for (Some files) None facts asked settings h = tt
+settled-for (Some files) (Some ends_with) facts asked settings h = (kept files ends_with facts asked (λ t. Resolved t (Ok settings)) h).1
+
+-- the first value of a key is that of the rows
+same-first : (rows : List Row) (settings : List Given) → Keeps settings (flat_map given rows) → (key : Key) → first_value key settings ≡ value key rows
+unfolding values
+same-first rows settings keeps key = ap (λ vs. slice_get vs 0) (keeps.each key)
+
+same-values : (rows : List Row) (settings : List Given) → Keeps settings (flat_map given rows) → (key : Key) → values_among key settings ≡ values key rows
+unfolding values
+same-values rows settings keeps key = keeps.each key
+
+-- what is made of these values
+abbrev made : Option Value → Option Value → Option Value → List Value → List Value → List Value → Starts
+made clears gateway must locals remotes dynamics = record {
+  asks = if is_set clears then [] else flat_map (value_starts (forward_kind LocalForward)) locals
+      ++ flat_map (value_starts (forward_kind RemoteForward)) remotes
+      ++ flat_map (value_starts (forward_kind DynamicForward)) dynamics;
+  gateway = is_set gateway;
+  must = is_set must;
+}
+
+same-made : (c c' g g' m m' : Option Value) (l l' r r' d d' : List Value) → c ≡ c' → g ≡ g' → m ≡ m' → l ≡ l' → r ≡ r' → d ≡ d' → made c g m l r d ≡ made c' g' m' l' r' d'
+same-made c c' g g' m m' l l' r r' d d' ec eg em el er ed = rw (ec, eg, em, el, er, ed) refl
+
+same-starts : (rows : List Row) (settings : List Given) → Keeps settings (flat_map given rows) → starts_for settings ≡ starts_due rows
+same-starts rows settings keeps = same-made (first_value ClearAllForwardings settings) (value ClearAllForwardings rows) (first_value GatewayPorts settings) (value GatewayPorts rows) (first_value ExitOnForwardFailure settings) (value ExitOnForwardFailure rows) (values_among LocalForward settings) (values LocalForward rows) (values_among RemoteForward settings) (values RemoteForward rows) (values_among DynamicForward settings) (values DynamicForward rows)
+    (same-first rows settings keeps ClearAllForwardings) (same-first rows settings keeps GatewayPorts) (same-first rows settings keeps ExitOnForwardFailure) (same-values rows settings keeps LocalForward) (same-values rows settings keeps RemoteForward) (same-values rows settings keeps DynamicForward)
+
+-- a house begins as is due by what is told
+pub starts-told : (told : Option Told) (settings : List Given) → SettledFor told settings → StartsAs told (starts_for settings)
+starts-told None settings s = tt
+starts-told (Some told) settings s = same-starts (all_rows told) settings s
+
+-- ---- a run with a house that has begun
+
+rested-at : (R R' : Option (List HouseMark) → List HouseCall → Type 0) → ((now : Option (List HouseMark)) (calls : List HouseCall) → R now calls → R' now calls) → (setting : Setting) (before : Option (List HouseMark)) (journal : List Mark) (mark : Mark) → RestedAt R setting before journal mark → RestedAt R' setting before journal mark
+rested-at R R' f setting before journal (Waits waiting Read streams listens) h = f _ _ h
+rested-at R R' f setting before journal mark h = tt
+
+rested : (R R' : Option (List HouseMark) → List HouseCall → Type 0) → ((now : Option (List HouseMark)) (calls : List HouseCall) → R now calls → R' now calls) → (setting : Setting) (before : Option (List HouseMark)) (journal : List Mark) → Rested R setting before journal → Rested R' setting before journal
+rested R R' f setting before [] h = tt
+rested R R' f setting before (mark ∷ journal) h = (rested-at R R' f setting before journal mark h.0, rested R R' f setting before journal h.1)
+
+module _ (May : HouseReply → Type 0) (R R' : Option (List HouseMark) → List HouseCall → Type 0) (stands begun stands' : List HouseCall → Type 0) (present : Bool) (policy : Policy) (pid turns : ℕ) (before now : Option (List HouseMark)) (start told : Option (List Mark)) (refused : Option ℕ) (rests : (now : Option (List HouseMark)) (calls : List HouseCall) → R now calls → R' now calls) (stood : (calls : List HouseCall) → begun calls → stands calls) where
+  run-of : (answer : Ended) → IsRun May R stands stands' present policy pid turns before now start told refused answer → IsRun May R' begun stands' present policy pid turns before now start told refused answer
+  run-of answer h = record {
+    journal = h.journal;
+    picks = h.picks;
+    replies = h.replies;
+    rows = h.rows;
+    tells = h.tells;
+    of_wire = h.of_wire;
+    may = h.may;
+    written = h.written;
+    open_streams = h.open_streams;
+    is_log = h.is_log;
+    whole = h.whole;
+    fresh = h.fresh;
+    keeps = h.keeps;
+    alone = h.alone;
+    rests = h.rests;
+    turns_given = h.turns_given;
+    numbers = h.numbers;
+    answers = h.answers;
+    more = h.more;
+    more_asks = h.more_asks;
+    house = h.house;
+    asked = h.asked;
+    house_whole = h.house_whole;
+    asks_whole = h.asks_whole;
+    handed = λ e calls b. h.handed e calls (stood calls b);
+    rested = rested R R' rests (by_lists policy pid h.picks h.replies) before h.journal h.rested;
+    absent = h.absent;
+    ends = h.ends;
+  }
+
+module _ {T : Type 0} (told_by : T → Option (List HouseMark)) (quiet : T → Quiet) (stands : T → List HouseCall → Type 0) (present : Bool) (first : T) (starts : Starts) (begun : stands first (Begins starts ∷ [])) (May : HouseReply → Type 0) (stands' : List HouseCall → Type 0) (policy : Policy) (pid turns : ℕ) (before now : Option (List HouseMark)) (start told : Option (List Mark)) (refused : Option ℕ) where
+  abbrev First : Resting
+  First = RestsOf told_by quiet stands present first
+
+  abbrev Second : Resting
+  Second = BegunRests told_by quiet stands present starts
+
+  at-rest : (now : Option (List HouseMark)) (calls : List HouseCall) → First.rests now calls → Second.rests now calls
+  at-rest now calls h = λ p. let r = h p in let x = r.1 in (r.0, (x.0, x.1, x.2 (Begins starts ∷ []) begun))
+
+  stood-for : (calls : List HouseCall) → BeganWith starts calls → stands first calls
+  stood-for calls e = subst (stands first) (sym e) begun
+
+  shared-begun : (result : Result Status Ending) → IsShared May First (stands first) stands' policy pid turns before now start told refused result → IsShared May Second (BeganWith starts) stands' policy pid turns before now start told refused result
+  shared-begun result h = record {
+    answer = h.answer;
+    is_told = h.is_told;
+    run = run-of May First.rests Second.rests (stands first) (BeganWith starts) stands' present policy pid turns before now start told refused at-rest stood-for h.answer h.run;
+  }
+
+  pub shares-begun : (result : Result Status Ending) → Shares May First (stands first) stands' policy pid turns before now start told refused result → Shares May Second (BeganWith starts) stands' policy pid turns before now start told refused result
+  shares-begun (Err endings.NotOpened) h = h
+  shares-begun (Err endings.NoMemory) (inl h) = inl h
+  shares-begun (Err endings.NoMemory) (inr h) = inr (shared-begun (Err endings.NoMemory) h)
+  shares-begun result h = shared-begun result h
+
+-- ---- ExitOnForwardFailure
+
+-- a house that was begun as the settings say
+pub musts-begun : (status : Status) (due must : Bool) → must ≡ due → MustsAs status (Some due) must
+musts-begun statuses.Memory due must e = tt
+musts-begun status due must e = e
+
+pub musts-told : (told : Option Told) (settings : List Given) (status : Status) (must : Bool) → SettledFor told settings → MustsAs status (Some (is_set (first_value ExitOnForwardFailure settings))) must → MustsAs status (must_for told) must
+musts-told None settings statuses.Memory must s h = tt
+musts-told None settings status must s h = tt
+musts-told (Some told) settings status must s h = subst (λ x. MustsAs status (Some x) must) (ap is_set (same-first (all_rows told) settings s ExitOnForwardFailure)) h

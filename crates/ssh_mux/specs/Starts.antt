@@ -1,0 +1,151 @@
+-- What the master's own forwardings begin with, by the settings (ssh_config(5): LocalForward,
+-- RemoteForward, DynamicForward, ClearAllForwardings, GatewayPorts, ExitOnForwardFailure).
+use Rattle.std.specs.Prelude.{◌≡◌, ℕ, Bool, true, false, ◌||◌, if◌then◌else◌, List, [], ◌∷◌, ◌++◌, flat_map, Option, Some, None, IsTrue}
+use Rattle.conf_options.specs.Kept.{Given, Keeps}
+use Rattle.conf_output.specs.Shown.{first_value}
+use Rattle.conf_rules.specs.declared.key.Key.{Key}
+use Rattle.conf_rules.specs.declared.key.Key.TheVariants.{ClearAllForwardings, DynamicForward, ExitOnForwardFailure, GatewayPorts, LocalForward, RemoteForward}
+use Rattle.conf_rules.specs.declared.value.End.{End}
+use Rattle.conf_rules.specs.declared.value.End.TheVariants.{Path, Port}
+use Rattle.conf_rules.specs.declared.value.Forward.{Forward}
+use Rattle.conf_rules.specs.declared.value.Value.{Value}
+use Rattle.conf_rules.specs.declared.value.Value.TheVariants as values
+use Rattle.conf_rules.specs.Listing.{is_set}
+use Rattle.conf_rules.specs.Resolution.{all_rows}
+use Rattle.conf_rules.specs.Rows.{Row, given, value, values, values_among}
+use Rattle.conf_rules.specs.Told.{Told}
+use Rattle.mux_engine.specs.Sides.{Resting}
+use Rattle.mux_outside.specs.House.{IsAtRest, Quiet}
+use Rattle.mux_outside.specs.HouseCalls.{Begins, HouseCall}
+use Rattle.mux_outside.specs.declared.house_mark.HouseMark.{HouseMark}
+use Rattle.mux_outside.specs.declared.start_ask.StartAsk.{StartAsk}
+use Rattle.mux_outside.specs.declared.starts.Starts.{Starts}
+use Rattle.ssh_mux.specs.declared.asks.AskedEnd.{AskedEnd}
+use Rattle.ssh_mux.specs.declared.status.Status.{Status}
+use Rattle.ssh_mux.specs.declared.status.Status.TheVariants.{Memory}
+use Rattle.ssh_mux.specs.Asks.{forward_kind, host_or_empty}
+
+-- ---- a forwarding
+
+-- no end: an empty host and port 0
+abbrev pub no_end : AskedEnd
+no_end = record { host = []; port = 0 }
+
+-- the host and port of an end; a path has neither
+abbrev pub end_of : End → AskedEnd
+end_of (Path path) = no_end
+end_of (Port host port) = record { host = host_or_empty host; port = port }
+
+-- the same of the end that is connected to, which a dynamic forwarding hasn't
+abbrev pub connect_of : Option End → AskedEnd
+connect_of None = no_end
+connect_of (Some end) = end_of end
+
+-- whether an end is a path
+abbrev pub is_path : End → Bool
+is_path (Path path) = true
+is_path (Port host port) = false
+
+-- whether a path is connected to
+abbrev pub connects_path : Option End → Bool
+connects_path None = false
+connects_path (Some end) = is_path end
+
+-- a forwarding as the settings ask for it
+abbrev pub start_of : ℕ → Forward → StartAsk
+start_of kind f = record {
+  kind = kind;
+  listen_host = (end_of f.listen).host;
+  listen_port = (end_of f.listen).port;
+  connect_host = (connect_of f.connect).host;
+  connect_port = (connect_of f.connect).port;
+  path = is_path f.listen || connects_path f.connect;
+}
+
+-- ---- the settings
+
+-- the forwarding of a value
+abbrev pub value_starts : ℕ → Value → List StartAsk
+value_starts kind (values.Forward f) = start_of kind f ∷ []
+value_starts kind value = []
+
+-- the forwardings of a key, in the order of its values
+abbrev pub key_starts : Key → List Given → List StartAsk
+key_starts key settings = flat_map (value_starts (forward_kind key)) (values_among key settings)
+
+-- local forwardings, remote and dynamic ones in this order; none where all are cleared
+abbrev pub start_asks : List Given → List StartAsk
+start_asks settings = if is_set (first_value ClearAllForwardings settings) then []
+    else key_starts LocalForward settings ++ key_starts RemoteForward settings
+    ++ key_starts DynamicForward settings
+
+-- what the settings ask for at the start, whether other machines may connect to local forwardings,
+-- and whether the run ends where a forwarding can't be set up
+abbrev pub starts_for : List Given → Starts
+starts_for settings = record {
+  asks = start_asks settings;
+  gateway = is_set (first_value GatewayPorts settings);
+  must = is_set (first_value ExitOnForwardFailure settings);
+}
+
+-- ---- what is due by the rows
+
+-- the forwardings of a key
+abbrev pub key_due : Key → List Row → List StartAsk
+key_due key rows = flat_map (value_starts (forward_kind key)) (values key rows)
+
+-- local forwardings, remote and dynamic ones in this order; none where all are cleared
+abbrev pub asks_due : List Row → List StartAsk
+asks_due rows = if is_set (value ClearAllForwardings rows) then []
+    else key_due LocalForward rows ++ key_due RemoteForward rows ++ key_due DynamicForward rows
+
+abbrev pub starts_due : List Row → Starts
+starts_due rows = record {
+  asks = asks_due rows;
+  gateway = is_set (value GatewayPorts rows);
+  must = is_set (value ExitOnForwardFailure rows);
+}
+
+-- what a house begins with is what the rows of all that is told ask for, if this is known
+abbrev pub StartsAs : Option Told → Starts → Type 0
+StartsAs None starts = Unit
+StartsAs (Some told) starts = starts ≡ starts_due (all_rows told)
+
+-- a house begins so by what is told of files and commands, and of this beginning something is so
+pub record Begun (by : Option Told) (So : Starts → Type 0) : Type 0 where
+  pub starts : Starts
+  pub due : StartsAs by starts
+  pub so : So starts
+
+-- a house stands for its beginning alone
+abbrev pub BeganWith : Starts → List HouseCall → Type 0
+BeganWith starts calls = calls ≡ Begins starts ∷ []
+
+-- there is a house at rest that has told this, and that stands for its beginning and these calls
+-- behind it, unless none is present
+abbrev pub BegunRests : {T : Type 0} → (T → Option (List HouseMark)) → (T → Quiet)
+    → (T → List HouseCall → Type 0) → Bool → Starts → Resting
+BegunRests {T} told quiet stands present starts = record {
+  present = present;
+  rests = λ now calls. IsTrue present
+      → (house : T) × (IsAtRest (quiet house) × (told house ≡ now)
+      × stands house (Begins starts ∷ calls));
+}
+
+-- ---- ExitOnForwardFailure
+
+-- settings keep what the rows of all that is told give
+abbrev pub SettledFor : Option Told → List Given → Type 0
+SettledFor None settings = Unit
+SettledFor (Some told) settings = Keeps settings (flat_map given (all_rows told))
+
+-- whether the run of a master ends where a forwarding of the start is refused, where this is known
+abbrev pub must_for : Option Told → Option Bool
+must_for None = None
+must_for (Some told) = Some (is_set (value ExitOnForwardFailure (all_rows told)))
+
+-- but for want of memory, it ends so exactly where it is due, if this is known
+abbrev pub MustsAs : Status → Option Bool → Bool → Type 0
+MustsAs Memory due must = Unit
+MustsAs status None must = Unit
+MustsAs status (Some due) must = must ≡ due

@@ -1,0 +1,157 @@
+//! What the master's own forwardings begin with, by the settings.
+ghost use Rattle.std.specs.Prelude.{◌≡◌, ◌++◌, IfOk, OnOk};
+ghost use Rattle.conf_output.specs.Shown.{first_value};
+ghost use Rattle.conf_rules.specs.Listing.{is_set};
+ghost use Rattle.ssh_mux.specs.Starts.{connect_of, connects_path, end_of, is_path, key_starts, no_end};
+ghost use Rattle.ssh_mux.specs.Starts.{start_asks, start_of, starts_for, value_starts};
+
+use crate::asks::{AskedEnd, forward_kind};
+use conf_options::{End, Forward, Key, Settings, Value};
+use mux_outside::{StartAsk, StartAsks, Starts};
+use ssh_fields::{OutOfMemory, Text};
+use std::alloc::Global;
+
+// No end: an empty host and port 0.
+fn no_end(alloc: Global) -> AskedEnd
+    ensures { result ≡ no_end }
+{
+    AskedEnd {
+        host: Text::new(alloc),
+        port: 0,
+    }
+}
+
+// The host and port of an end; a path has neither, and a host that isn't named is empty.
+fn end_of(alloc: Global, end: &End) -> Result<AskedEnd, OutOfMemory>
+    ensures { IfOk result (λ asked. asked ≡ end_of end.now) }
+{
+    match end {
+        End::Path(_) => Ok(no_end(alloc)),
+        End::Port { host, port } => {
+            let host = match host {
+                None => Text::new(alloc),
+                Some(host) => Text::copy(alloc, host.as_bytes())?,
+            };
+            Ok(AskedEnd {
+                host,
+                port: u32::from(*port),
+            })
+        }
+    }
+}
+
+// The same of the end that is connected to, which a dynamic forwarding hasn't.
+fn connect_of(alloc: Global, connect: &Option<End>) -> Result<AskedEnd, OutOfMemory>
+    ensures { IfOk result (λ asked. asked ≡ connect_of connect.now) }
+{
+    match connect {
+        None => Ok(no_end(alloc)),
+        Some(end) => end_of(alloc, end),
+    }
+}
+
+// Whether an end is a path.
+fn is_path(end: &End) -> bool
+    ensures { result ≡ is_path end.now }
+{
+    matches!(end, End::Path(_))
+}
+
+// Whether a path is connected to.
+fn connects_path(connect: &Option<End>) -> bool
+    ensures { result ≡ connects_path connect.now }
+{
+    match connect {
+        None => false,
+        Some(end) => is_path(end),
+    }
+}
+
+// A forwarding as the settings ask for it.
+fn start_of(alloc: Global, kind: u32, forward: &Forward) -> Result<StartAsk, OutOfMemory>
+    ensures { IfOk result (λ ask. ask ≡ start_of kind forward.now) }
+{
+    let listen = end_of(alloc, &forward.listen)?;
+    let connect = connect_of(alloc, &forward.connect)?;
+    Ok(StartAsk {
+        kind,
+        listen_host: listen.host,
+        listen_port: listen.port,
+        connect_host: connect.host,
+        connect_port: connect.port,
+        path: is_path(&forward.listen) || connects_path(&forward.connect),
+    })
+}
+
+// Takes the forwarding of a value behind the others.
+fn add_start(
+    alloc: Global,
+    asks: &mut StartAsks,
+    kind: u32,
+    value: &Value,
+) -> Result<(), OutOfMemory>
+    ensures { OnOk result (asks.new ≡ asks.old ++ value_starts kind value.now) }
+{
+    match value {
+        Value::Forward(forward) => {
+            let ask = start_of(alloc, kind, forward)?;
+            asks.push(ask)
+        }
+        _ => Ok(()),
+    }
+}
+
+// Takes the forwardings of a key behind the others.
+fn add_starts(
+    alloc: Global,
+    asks: &mut StartAsks,
+    settings: &Settings,
+    key: Key,
+) -> Result<(), OutOfMemory>
+    ensures { OnOk result (asks.new ≡ asks.old ++ key_starts key settings.now) }
+{
+    let given = settings.among(key);
+    for (other, value) in given {
+        if key.place() == other.place() {
+            add_start(alloc, asks, forward_kind(key), value)?;
+        }
+    }
+    Ok(())
+}
+
+// Whether a flag is set to yes.
+fn is_set(settings: &Settings, key: Key) -> bool
+    ensures { result ≡ is_set (first_value key settings.now) }
+{
+    match settings.first(key) {
+        Some(Value::Flag(flag)) => *flag,
+        _ => false,
+    }
+}
+
+// The forwardings that the settings ask for: local, remote and dynamic ones in this order, and none
+// where all are cleared.
+fn start_asks(alloc: Global, settings: &Settings) -> Result<StartAsks, OutOfMemory>
+    ensures { IfOk result (λ asks. asks ≡ start_asks settings.now) }
+{
+    let mut asks = StartAsks::new(alloc);
+    if is_set(settings, Key::ClearAllForwardings) {
+        return Ok(asks);
+    }
+    add_starts(alloc, &mut asks, settings, Key::LocalForward)?;
+    add_starts(alloc, &mut asks, settings, Key::RemoteForward)?;
+    add_starts(alloc, &mut asks, settings, Key::DynamicForward)?;
+    Ok(asks)
+}
+
+/// What the settings ask of the master's own forwardings.
+pub fn starts_of(alloc: Global, settings: &Settings) -> Result<Starts, OutOfMemory>
+    ensures exact { IfOk result (λ starts. starts ≡ starts_for settings.now) }
+{
+    let asks = start_asks(alloc, settings)?;
+    Ok(Starts {
+        asks,
+        gateway: is_set(settings, Key::GatewayPorts),
+        must: is_set(settings, Key::ExitOnForwardFailure),
+    })
+}
