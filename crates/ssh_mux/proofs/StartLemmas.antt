@@ -112,6 +112,7 @@ module _ (May : HouseReply → Type 0) (R R' : Option (List HouseMark) → List 
     answers = h.answers;
     more = h.more;
     more_asks = h.more_asks;
+    asks_on = h.asks_on;
     house = h.house;
     asked = h.asked;
     house_whole = h.house_whole;
