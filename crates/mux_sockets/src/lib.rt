@@ -2,10 +2,12 @@
 //! holds no clause can say, so these objects tell nothing; each `Failed` raises their count.
 #![tactic(auto)]
 
+mod address;
 mod control;
 mod exchange;
 mod faults;
 mod files;
+mod numbers;
 mod runner;
 mod sink;
 mod sockets;

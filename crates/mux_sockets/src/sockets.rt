@@ -1,15 +1,18 @@
 //! The sockets of a run, and which of them are ready, in the order in which they became so.
-ghost use Rattle.std.specs.Prelude.{◌≡◌, ◌≢◌, ℕ, List, Option, Err, IfOk, IfSome, IsErr, IsNone, IsSome, IsUtf8, None, OnOk, false, nat_eq};
+ghost use Rattle.std.specs.Prelude.{◌≡◌, ◌≢◌, ℕ, List, Err, IfOk, IfSome, IsErr, IsNone, IsSome, IsUtf8, None, OnOk, false, true, nat_eq};
 ghost use Rattle.std.specs.IoError.{error_kind};
 ghost use Rattle.mux_sockets.specs.Sockets.{FoundFits};
-ghost use Rattle.mux_sockets.specs.Entries.{HasClient, HasEntry, OthersStay, StopsShort};
+ghost use Rattle.mux_sockets.specs.Entries.{HasEntry, IsBlocked, OthersStay, Stands, StopsShort};
+ghost use Rattle.mux_sockets.specs.declared.numbers.Numbers.{Numbers};
 ghost use Rattle.indexmap.specs.IndexMap.{get};
 
+mod own;
 mod ready;
 mod served;
 
-use self::ready::{Entry, Queue};
+use self::ready::{Door, Entry, Queue};
 use crate::control::{Control, Unnamed, listen_beside};
+use crate::numbers::Numbers;
 use crate::stream::Stream;
 use crate::transport::{connect, connect_unix};
 use indexmap::IndexMap;
@@ -40,7 +43,8 @@ struct Listening<R: Files + Drop> {
     listener: UnixListener,
 }
 
-/// The sockets of a run, each under its stream's number, which is the system's token for it too.
+/// The sockets of a run, each under the number of its stream or listener, which is the system's token
+/// for it too.
 ///
 /// The system tells once that bytes came, and not again while they are there. So a stream stays
 /// noted until a read shows that none are left: one that would wait, or one that doesn't fill the
@@ -48,6 +52,9 @@ struct Listening<R: Files + Drop> {
 /// of a Unix socket stops at them: so nothing on the streams of clients. Nobody passes any on the
 /// server's stream. There a read stops short at urgent bytes over TCP, and before the end: once the
 /// system told of one, or of an error, a short read shows nothing any more.
+///
+/// Of a stream that is paused, or whose connection isn't made, it is kept that it may be read, since
+/// the system won't tell again.
 ///
 /// What becomes ready goes behind what was ready before, and the system is asked again when all
 /// that was ready then was served at most twice. So no stream is passed over for longer than that.
@@ -59,8 +66,12 @@ pub struct Sockets<R: Files + Drop> {
     poll: Poll,
     events: Events,
     entries: IndexMap<u64, Entry>,
+    // the listeners of the master's own
+    doors: IndexMap<u64, Door>,
     // an accept failed for want of descriptors or memory, and is tried again
     pauses: bool,
+    // the same at a listener of the master's own
+    joins_pause: bool,
     ready: Queue,
     // what is read into
     spare: Piece,
@@ -136,7 +147,7 @@ impl<R: Files + Net + Clone + Drop> Sockets<R> {
         ensures { IfOk result (λ sockets. IsNone sockets.listening) }
     {
         let mut sockets = Sockets::new(rt, alloc)?;
-        sockets.add(0, stream)?;
+        sockets.add(0, stream, false)?;
         Ok(sockets)
     }
 
@@ -148,7 +159,9 @@ impl<R: Files + Net + Clone + Drop> Sockets<R> {
             poll: Poll::new(rt)?,
             events: Events::with_capacity(alloc, EVENTS)?,
             entries: IndexMap::new(alloc),
+            doors: IndexMap::new(alloc),
             pauses: false,
+            joins_pause: false,
             ready: Queue::new(alloc),
             spare: Piece::new(alloc).map_err(|_| AllocError)?,
         })
@@ -168,18 +181,28 @@ impl<R: Files + Net + Clone + Drop> Sockets<R> {
 
     // Takes a stream in, with room for all that can be ready. Whoever is a client may pass
     // descriptors.
-    fn add(&mut self, number: u64, mut stream: Stream) -> io::Result<()>
+    fn add(&mut self, number: u64, mut stream: Stream, connecting: bool) -> io::Result<()>
         ensures there { OnOk result (HasEntry number self.new.entries) }
         ensures client { OnOk result (number ≢ 0 → StopsShort number self.new.entries) }
+        ensures waits { OnOk result (connecting ≡ true → IsBlocked number self.new.entries) }
         ensures others { OthersStay number self.old.entries self.new.entries }
         ensures listening { self.new.listening ≡ self.old.listening }
     {
-        self.ready.reserve(self.entries.len().saturating_add(1))?;
+        self.make_room()?;
         self.entries.reserve(1)?;
         stream.register(self.poll.registry(), Token(number as usize))?;
-        let entry = Entry::new(stream, number != 0);
+        let entry = Entry::new(stream, number != 0, connecting);
         self.entries.insert(number, entry).map_err(|_| AllocError)?;
         Ok(())
+    }
+
+    // Makes room for all that can be ready, with one more.
+    fn make_room(&mut self) -> Result<(), AllocError>
+        ensures entries { self.new.entries ≡ self.old.entries }
+        ensures listening { self.new.listening ≡ self.old.listening }
+    {
+        let all = self.entries.len().saturating_add(self.doors.len());
+        self.ready.reserve(all.saturating_add(1))
     }
 
     /// Lets go of a stream.
@@ -193,8 +216,9 @@ impl<R: Files + Net + Clone + Drop> Sockets<R> {
         };
         self.ready.drop_stream(number, &entry);
         if self.pauses {
-            self.resume();
+            self.accept_again();
         }
+        self.joins_pause = false;
     }
 
     /// Accepts no more clients, and lets go of the listener and its name.
@@ -209,7 +233,7 @@ impl<R: Files + Net + Clone + Drop> Sockets<R> {
     }
 
     // Tries to accept again.
-    fn resume(&mut self)
+    fn accept_again(&mut self)
         ensures entries { self.new.entries ≡ self.old.entries }
         ensures listening { self.new.listening ≡ self.old.listening }
     {
@@ -219,21 +243,18 @@ impl<R: Files + Net + Clone + Drop> Sockets<R> {
     }
 
     /// What happens next. A turn is given for the writes of the waiting streams alone, or for all
-    /// that can be read too; and for what was written, whatever is waited for. A client gets the
-    /// given number; without one none is accepted.
-    pub fn next(
-        &mut self,
-        waiting: &[u64],
-        want: Want,
-        client: Option<u64>,
-        into: &mut Piece,
-    ) -> Turn
-        ensures fits { FoundFits result client into.old into.new }
-        ensures client { HasClient result self.new.entries }
+    /// that can be read too; and for what was written, whatever is waited for. A client and a stream
+    /// that is joined get the given number; without one none is accepted.
+    pub fn next(&mut self, waiting: &[u64], want: Want, numbers: Numbers, into: &mut Piece) -> Turn
+        ensures fits { FoundFits result numbers into.old into.new }
+        ensures stands { Stands result self.new.entries }
         ensures listening { self.new.listening ≡ self.old.listening }
     {
         for _ in 0..u64::MAX {
-            let at = self.ready.first(waiting, want, client.is_some());
+            let joins = numbers.own.is_some() && !self.joins_pause;
+            let at = self
+                .ready
+                .first(waiting, want, numbers.client.is_some(), joins);
             if at.is_none() || self.ready.is_round_over() {
                 if let Err(e) = self.look(at.is_some()) {
                     return failure_of(&e);
@@ -243,7 +264,7 @@ impl<R: Files + Net + Clone + Drop> Sockets<R> {
             let Some(ready) = self.ready.take(at) else {
                 continue;
             };
-            if let Some(turn) = self.go_on(ready, client, into) {
+            if let Some(turn) = self.go_on(ready, numbers, into) {
                 return turn;
             }
         }
@@ -257,15 +278,16 @@ impl<R: Files + Net + Clone + Drop> Sockets<R> {
         let timeout = if some {
             Some(Duration::from_millis(0))
         } else {
-            self.pauses.then_some(Duration::from_millis(PAUSE_MILLIS))
+            (self.pauses || self.joins_pause).then_some(Duration::from_millis(PAUSE_MILLIS))
         };
         self.poll.poll(&mut self.events, timeout)?;
         for event in self.events.iter() {
-            note_event(event, &mut self.entries, &mut self.ready)?;
+            note_event(event, &mut self.entries, &mut self.doors, &mut self.ready)?;
         }
         if self.pauses {
-            self.resume();
+            self.accept_again();
         }
+        self.joins_pause = false;
         self.ready.begin_round();
         Ok(())
     }
@@ -274,23 +296,38 @@ impl<R: Files + Net + Clone + Drop> Sockets<R> {
 fn note_event(
     event: &Event,
     entries: &mut IndexMap<u64, Entry>,
+    doors: &mut IndexMap<u64, Door>,
     ready: &mut Queue,
 ) -> Result<(), AllocError> {
     if event.token() == LISTENER {
         return ready.note_accept();
     }
     let number = event.token().0 as u64;
-    let Some(entry) = entries.get_mut(&number) else {
-        return Ok(());
-    };
+    if let Some(entry) = entries.get_mut(&number) {
+        return note_stream(event, number, entry, ready);
+    }
+    match doors.get_mut(&number) {
+        Some(door) => ready.note_join(number, door),
+        None => Ok(()),
+    }
+}
+
+fn note_stream(
+    event: &Event,
+    number: u64,
+    entry: &mut Entry,
+    ready: &mut Queue,
+) -> Result<(), AllocError> {
     // An error and a peer that went away show at the next read or write.
     let ends = event.is_read_closed() || event.is_error();
     entry.stops_short |= ends || event.is_priority();
     if (event.is_readable() || ends) && !entry.ended {
-        ready.note_read(number, entry)?;
+        ready.note_bytes(number, entry)?;
     }
     let writes = event.is_writable() || event.is_write_closed() || event.is_error();
-    if writes && entry.blocked {
+    if writes && entry.connecting {
+        ready.note_connect(number, entry)?;
+    } else if writes && entry.blocked {
         ready.note_write(number, entry)?;
     }
     Ok(())
@@ -309,7 +346,7 @@ fn fault_of(e: &io::Error, other: Fault) -> Fault
 fn failure_of(e: &io::Error) -> Turn
     ensures memory { error_kind e.now ≡ ErrorKind.OutOfMemory → result ≡ Turn.NoMemory }
     ensures other { error_kind e.now ≢ ErrorKind.OutOfMemory → result ≡ Turn.Failed 0 }
-    ensures fits { (client : Option ℕ) (piece : List ℕ) → FoundFits result client piece piece }
+    ensures fits { (numbers : Numbers) (piece : List ℕ) → FoundFits result numbers piece piece }
 {
     match e.kind() {
         ErrorKind::OutOfMemory => Turn::NoMemory,

@@ -1,22 +1,26 @@
-ghost use Rattle.std.specs.Prelude.{◌≡◌, ◌≢◌, ◌<◌, ◌+◌, ◌++◌, ℕ, List, [], length, false, true, IfSome, IsErr, IsNone, IsSome, IsSomeAnd, IsTrue, IsUtf8, None, OnOk, nat_eq, option_map};
-ghost use Rattle.mux_outside.specs.Seen.{no_calls, seen_after_join, seen_after_open};
+ghost use Rattle.std.specs.Prelude.{◌≡◌, ◌≢◌, ◌<◌, ◌+◌, ◌++◌, ◌∷◌, ◌&&◌, not, ℕ, List, [], length, false, true, IfSome, IsErr, IsNone, IsSome, IsSomeAnd, IsTrue, IsUtf8, None, OnErr, OnOk, nat_eq, option_map};
+ghost use Rattle.mux_outside.specs.Seen.{no_calls, seen_after_connect, seen_after_finish, seen_after_join, seen_after_listen, seen_after_open, seen_after_pause};
 ghost use Rattle.mux_outside.specs.Streams.{among};
 ghost use Rattle.mux_outside.specs.Tally.{no_tally};
 ghost use Rattle.mux_outside.specs.Wire.{JoinFaults, OpenFaults, TurnFits, TurnFaults, open_after, blocked_after, last_after};
 ghost use Rattle.mux_outside.specs.Wire.{WroteFits, WroteFaults, blocked_after_write};
-ghost use Rattle.mux_outside.specs.Wire.{OwnFits, OwnTurnFaults, OwnWroteFaults};
+ghost use Rattle.mux_outside.specs.OwnStreams.{is_own, is_silent, new_stream};
+ghost use Rattle.mux_outside.specs.Wire.{OwnFault, OwnFits, OwnTurnFaults, OwnWroteFaults, StreamFault, IsNewOwn, NumberFits, own_after, last_own_after};
 ghost use Rattle.mux_outside.specs.declared.own_streams.TheConstants.{LAST_CLIENT};
 ghost use Rattle.mux_outside.specs.declared.turn.Want.TheVariants.{Read as WantsAll};
 ghost use Rattle.mux_outside.specs.declared.turn.Turn.TheVariants.{NoMemory};
 ghost use Rattle.indexmap.specs.IndexMap.{get};
-ghost use Rattle.mux_sockets.specs.Entries.{HasClient};
+ghost use Rattle.mux_sockets.specs.Entries.{HasEntry, IsFinished, IsPaused, Stands};
 ghost use Rattle.mux_sockets.specs.Sockets.{FoundFits, Tells};
 ghost use Rattle.mux_sockets.specs.Untold.{untold};
 
+use crate::address::address_of;
+use crate::faults::{count_failed, file_error};
+use crate::numbers::Numbers;
 use crate::sockets::{Fault, Sockets};
 use mux_outside::{
-    CallCounts, FileError, HouseMark, LAST_CLIENT, Piece, Streams, Tally, Turn, Want, Wire, Wrote,
-    count_fault, raised,
+    CallCounts, FileError, HouseMark, LAST_CLIENT, LAST_OWN, OwnStreams, Piece, Streams, Tally,
+    Turn, Want, Wire, Wrote, count_fault, is_own, raised,
 };
 use ssh_fields::OutOfMemory;
 use std::alloc::Global;
@@ -25,8 +29,8 @@ use std::net::Net;
 
 /// A wire over the system's sockets: a Unix socket for the clients, and a Unix socket or TCP for
 /// the server. A client that fails, resets or takes its bytes slowly is that client's matter alone;
-/// while the system has no descriptors left, clients wait. It opens no listener and no stream of the
-/// master's own.
+/// while the system has no descriptors left, clients wait. The master's own listeners and streams
+/// are over TCP, at numeric addresses.
 #[derive(Drop)]
 pub struct RealWire<R: Files + Net + Clone + Drop> {
     rt: R,
@@ -40,6 +44,10 @@ pub struct RealWire<R: Files + Net + Clone + Drop> {
     server_faults: u64,
     client_faults: u64,
     own_faults: u64,
+    listeners: Streams,
+    own: OwnStreams,
+    // the last number of either
+    last_own: u64,
 }
 
 impl<R: Files + Net + Clone + Drop> RealWire<R> {
@@ -52,7 +60,10 @@ impl<R: Files + Net + Clone + Drop> RealWire<R> {
         ensures calls { result.calls ≡ no_calls }
         ensures server { result.server_faults ≡ 0 }
         ensures client { result.client_faults ≡ 0 }
-        ensures own { result.own_faults ≡ 0 }
+        ensures own_faults { result.own_faults ≡ 0 }
+        ensures listeners { result.listeners ≡ [] }
+        ensures own { result.own ≡ [] }
+        ensures last_own { result.last_own ≡ LAST_CLIENT }
     {
         RealWire {
             rt,
@@ -66,6 +77,9 @@ impl<R: Files + Net + Clone + Drop> RealWire<R> {
             server_faults: 0,
             client_faults: 0,
             own_faults: 0,
+            listeners: Streams::new(alloc),
+            own: OwnStreams::new(alloc),
+            last_own: LAST_CLIENT,
         }
     }
 
@@ -80,35 +94,65 @@ impl<R: Files + Net + Clone + Drop> RealWire<R> {
             None
         }
     }
+
+    // The number of the next listener or stream of the master's own, if one is left.
+    fn next_own(&self) -> Option<u64>
+        ensures { IfSome result (IsNewOwn self.now.last_own) }
+    {
+        let number = self.last_own.checked_add(1)?;
+        (is_own(number) && number <= LAST_OWN).then_some(number)
+    }
+
+    // The numbers that may be given now.
+    fn numbers(&self, want: Want) -> Numbers
+        ensures client { IfSome result.client (λ k. (want ≡ WantsAll) × (self.now.listening ≡ true)
+            × (k ≡ self.now.last + 1) × (self.now.last < LAST_CLIENT)) }
+        ensures own { IfSome result.own (λ t. (want ≡ WantsAll) × IsNewOwn self.now.last_own t) }
+    {
+        let own = match want {
+            Want::Read => self.next_own(),
+            Want::WriteOnly => None,
+        };
+        Numbers {
+            client: self.next_client(want),
+            own,
+        }
+    }
 }
 
 impl<R: Files + Net + Clone + Drop> RealWire<R> {
     // The turn of what the sockets found. What they may not find is a fault of the server's stream.
-    fn turn_of(&mut self, found: Turn, want: Want, client: Option<u64>) -> Turn
-        requires next { IfSome client (λ k. (want ≡ WantsAll) × (self.old.listening ≡ true)
+    fn turn_of(&mut self, found: Turn, want: Want, numbers: Numbers) -> Turn
+        requires next { IfSome numbers.client (λ k. (want ≡ WantsAll) × (self.old.listening ≡ true)
             × (k ≡ self.old.last + 1) × (self.old.last < LAST_CLIENT)) }
+        requires next_own { IfSome numbers.own (λ t.
+            (want ≡ WantsAll) × IsNewOwn self.old.last_own t) }
         requires server { IsTrue (among 0 self.old.streams) }
-        ensures turn { (before now : List ℕ) → FoundFits found client before now
+        ensures turn { (before now : List ℕ) → FoundFits found numbers before now
             → TurnFits result want self.old.listening self.old.last self.old.streams
             self.old.blocked now }
-        ensures own_turn { OwnFits result [] [] LAST_CLIENT }
-        ensures told { (before now : List ℕ) → FoundFits found client before now
+        ensures own_turn { OwnFits result self.old.listeners self.old.own self.old.last_own }
+        ensures told { (before now : List ℕ) → FoundFits found numbers before now
             → TurnFits found want self.old.listening self.old.last self.old.streams
-            self.old.blocked now → Tells found result }
-        ensures kept { (before now : List ℕ) → FoundFits found client before now
+            self.old.blocked now → OwnFits found self.old.listeners self.old.own self.old.last_own
+            → Tells found result }
+        ensures kept { (before now : List ℕ) → FoundFits found numbers before now
             → result ≡ NoMemory → now ≡ before }
         ensures sockets { result ≢ NoMemory → self.new.sockets ≡ self.old.sockets }
         ensures streams { self.new.streams ≡ open_after result self.old.streams }
         ensures blocked { self.new.blocked ≡ blocked_after result self.old.blocked }
         ensures listens { self.new.listening ≡ self.old.listening }
         ensures last { self.new.last ≡ last_after result self.old.last }
+        ensures listeners { self.new.listeners ≡ self.old.listeners }
+        ensures own { self.new.own ≡ own_after result self.old.own }
+        ensures last_own { self.new.last_own ≡ last_own_after result self.old.last_own }
         ensures calls { self.new.calls ≡ self.old.calls }
         ensures cause { TurnFaults result self.old.server_faults self.new.server_faults
             self.old.client_faults self.new.client_faults }
-        ensures own { OwnTurnFaults result self.old.own_faults self.new.own_faults }
+        ensures own_faults { OwnTurnFaults result self.old.own_faults self.new.own_faults }
     {
         match found {
-            Turn::Accepted(number) if client == Some(number) => {
+            Turn::Accepted(number) if numbers.client == Some(number) => {
                 if self.streams.push(number).is_err() {
                     drop_socket(&mut self.sockets, number);
                     return Turn::NoMemory;
@@ -116,19 +160,25 @@ impl<R: Files + Net + Clone + Drop> RealWire<R> {
                 self.last = number;
                 Turn::Accepted(number)
             }
-            Turn::Got(t) if want == Want::Read && self.streams.contains(t) => Turn::Got(t),
-            Turn::End(t) if want == Want::Read && self.streams.contains(t) => Turn::End(t),
+            Turn::Joined(listener, number)
+                if numbers.own == Some(number) && self.listeners.contains(listener) => {
+                if self.take_in(number).is_err() {
+                    drop_socket(&mut self.sockets, number);
+                    return Turn::NoMemory;
+                }
+                Turn::Joined(listener, number)
+            }
+            Turn::Got(t) if want == Want::Read && self.gives(t) => Turn::Got(t),
+            Turn::End(t) if want == Want::Read && self.gives(t) => {
+                self.own.end(t);
+                Turn::End(t)
+            }
             Turn::Writable(t) if self.streams.contains(t) && self.blocked.contains(t) => {
                 self.blocked.remove(t);
                 Turn::Writable(t)
             }
             Turn::Failed(t) if self.streams.contains(t) => {
-                count_fault(
-                    t,
-                    &mut self.server_faults,
-                    &mut self.client_faults,
-                    &mut self.own_faults,
-                );
+                self.count(t);
                 Turn::Failed(t)
             }
             Turn::NoMemory => Turn::NoMemory,
@@ -139,6 +189,112 @@ impl<R: Files + Net + Clone + Drop> RealWire<R> {
         }
     }
 
+    // Counts a fault of a stream.
+    fn count(&mut self, stream: u64)
+        ensures same { self.new ≡ record self.old {
+          server_faults = self.new.server_faults;
+          client_faults = self.new.client_faults;
+          own_faults = self.new.own_faults;
+        } }
+        ensures cause { StreamFault stream self.old.server_faults self.new.server_faults
+            self.old.client_faults self.new.client_faults }
+        ensures own { OwnFault stream self.old.own_faults self.new.own_faults }
+    {
+        count_fault(
+            stream,
+            &mut self.server_faults,
+            &mut self.client_faults,
+            &mut self.own_faults,
+        );
+    }
+
+    // Whether a stream is open and may give something.
+    fn gives(&self, stream: u64) -> bool
+        ensures { result ≡ among stream self.now.streams
+            && not (is_own stream && is_silent stream self.now.own) }
+    {
+        self.streams.contains(stream) && !(is_own(stream) && self.own.is_silent(stream))
+    }
+
+    // Takes a stream of the master's own in. An `Err` changes nothing.
+    fn take_in(&mut self, number: u64) -> Result<(), OutOfMemory>
+        ensures ok { OnOk result (self.new ≡ record self.old {
+          streams = self.old.streams ++ number ∷ [];
+          own = self.old.own ++ new_stream number ∷ [];
+          last_own = number;
+        }) }
+        ensures err { OnErr result (self.new ≡ self.old) }
+    {
+        self.streams.push(number)?;
+        if self.own.push(number).is_err() {
+            let _ = self.streams.pop();
+            return Err(OutOfMemory);
+        }
+        self.last_own = number;
+        Ok(())
+    }
+
+    // Listens at an address with the next number.
+    fn listen_at(&mut self, host: &[u8], port: u32) -> Result<u64, FileError>
+        ensures fits { NumberFits result self.old.last_own }
+        ensures seen { untold self.new.streams self.new.blocked self.new.listening self.new.last
+            self.new.listeners self.new.own self.new.last_own ≡ seen_after_listen result
+            (untold self.old.streams self.old.blocked self.old.listening self.old.last
+            self.old.listeners self.old.own self.old.last_own) }
+        ensures calls { self.new.calls ≡ self.old.calls }
+        ensures server { self.new.server_faults ≡ self.old.server_faults }
+        ensures client { self.new.client_faults ≡ self.old.client_faults }
+        ensures own_faults { self.new.own_faults ≡ self.old.own_faults }
+    {
+        let number = self.next_own().ok_or(FileError::Failed)?;
+        self.listeners.push(number)?;
+        if let Err(e) = listen(&mut self.sockets, &self.rt, number, host, port) {
+            let _ = self.listeners.pop();
+            return Err(e);
+        }
+        self.last_own = number;
+        Ok(number)
+    }
+
+    // Begins to connect to an address with the next number.
+    fn connect_to(&mut self, host: &[u8], port: u32) -> Result<u64, FileError>
+        ensures fits { NumberFits result self.old.last_own }
+        ensures seen { untold self.new.streams self.new.blocked self.new.listening self.new.last
+            self.new.listeners self.new.own self.new.last_own ≡ seen_after_connect result
+            (untold self.old.streams self.old.blocked self.old.listening self.old.last
+            self.old.listeners self.old.own self.old.last_own) }
+        ensures calls { self.new.calls ≡ self.old.calls }
+        ensures server { self.new.server_faults ≡ self.old.server_faults }
+        ensures client { self.new.client_faults ≡ self.old.client_faults }
+        ensures own_faults { self.new.own_faults ≡ self.old.own_faults }
+    {
+        let number = self.next_own().ok_or(FileError::Failed)?;
+        connect(&mut self.sockets, &self.rt, number, host, port)?;
+        if self.take_in_blocked(number).is_err() {
+            drop_socket(&mut self.sockets, number);
+            return Err(FileError::OutOfMemory);
+        }
+        Ok(number)
+    }
+
+    // Takes in a stream that isn't connected yet. An `Err` changes nothing.
+    fn take_in_blocked(&mut self, number: u64) -> Result<(), OutOfMemory>
+        ensures ok { OnOk result (self.new ≡ record self.old {
+          streams = self.old.streams ++ number ∷ [];
+          blocked = self.old.blocked ++ number ∷ [];
+          own = self.old.own ++ new_stream number ∷ [];
+          last_own = number;
+        }) }
+        ensures err { OnErr result (self.new ≡ self.old) }
+    {
+        self.blocked.push(number)?;
+        if self.take_in(number).is_err() {
+            let _ = self.blocked.pop();
+            return Err(OutOfMemory);
+        }
+        Ok(())
+    }
+
     // Hands bytes to a stream's socket.
     fn hand_over(&mut self, stream: u64, bytes: &[u8]) -> Wrote
         requires { 0 < length bytes.now }
@@ -147,10 +303,13 @@ impl<R: Files + Net + Clone + Drop> RealWire<R> {
         ensures blocked { self.new.blocked ≡ blocked_after_write result stream self.old.blocked }
         ensures listens { self.new.listening ≡ self.old.listening }
         ensures last { self.new.last ≡ self.old.last }
+        ensures listeners { self.new.listeners ≡ self.old.listeners }
+        ensures own { self.new.own ≡ self.old.own }
+        ensures last_own { self.new.last_own ≡ self.old.last_own }
         ensures calls { self.new.calls ≡ self.old.calls }
         ensures cause { WroteFaults result stream self.old.server_faults self.new.server_faults
             self.old.client_faults self.new.client_faults }
-        ensures own { OwnWroteFaults result stream self.old.own_faults self.new.own_faults }
+        ensures own_faults { OwnWroteFaults result stream self.old.own_faults self.new.own_faults }
     {
         // The room for a stream that blocks comes before the write, which can't be taken back.
         if self.blocked.push(stream).is_err() {
@@ -168,12 +327,7 @@ impl<R: Files + Net + Clone + Drop> RealWire<R> {
             }
             Wrote::Failed => {
                 let _ = self.blocked.pop();
-                count_fault(
-                    stream,
-                    &mut self.server_faults,
-                    &mut self.client_faults,
-                    &mut self.own_faults,
-                );
+                self.count(stream);
                 Wrote::Failed
             }
             Wrote::NoMemory => {
@@ -189,7 +343,7 @@ impl<R: Files + Net + Clone + Drop> Wire for RealWire<R> {
 
     ghost joinings = { λ _. None };
 
-    ghost seen = { λ w. untold w.streams w.blocked w.listening w.last };
+    ghost seen = { λ w. untold w.streams w.blocked w.listening w.last w.listeners w.own w.last_own };
 
     ghost calls = { λ w. w.calls };
 
@@ -206,12 +360,14 @@ impl<R: Files + Net + Clone + Drop> Wire for RealWire<R> {
         ensures listens { OnOk result
             (IsSomeAnd self.new.sockets (λ sockets. IsSome sockets.listening)) }
         ensures seen { untold self.new.streams self.new.blocked self.new.listening self.new.last
+            self.new.listeners self.new.own self.new.last_own
             ≡ seen_after_open result
-            (untold self.old.streams self.old.blocked self.old.listening self.old.last) }
+            (untold self.old.streams self.old.blocked self.old.listening self.old.last
+            self.old.listeners self.old.own self.old.last_own) }
         ensures calls { self.new.calls ≡ self.old.calls }
         ensures cause { OpenFaults result self.old.server_faults self.new.server_faults
             self.old.client_faults self.new.client_faults }
-        ensures own { self.new.own_faults ≡ self.old.own_faults }
+        ensures own_faults { self.new.own_faults ≡ self.old.own_faults }
     {
         let mut streams = Streams::new(self.alloc);
         streams.push(0)?;
@@ -220,6 +376,8 @@ impl<R: Files + Net + Clone + Drop> Wire for RealWire<R> {
                 self.sockets = Some(sockets);
                 self.streams = streams;
                 self.blocked = Streams::new(self.alloc);
+                self.listeners = Streams::new(self.alloc);
+                self.own = OwnStreams::new(self.alloc);
                 self.listening = true;
                 Ok(())
             }
@@ -240,12 +398,14 @@ impl<R: Files + Net + Clone + Drop> Wire for RealWire<R> {
         ensures deaf { OnOk result
             (IsSomeAnd self.new.sockets (λ sockets. IsNone sockets.listening)) }
         ensures seen { untold self.new.streams self.new.blocked self.new.listening self.new.last
+            self.new.listeners self.new.own self.new.last_own
             ≡ seen_after_join result
-            (untold self.old.streams self.old.blocked self.old.listening self.old.last) }
+            (untold self.old.streams self.old.blocked self.old.listening self.old.last
+            self.old.listeners self.old.own self.old.last_own) }
         ensures calls { self.new.calls ≡ self.old.calls }
         ensures cause { JoinFaults result self.old.server_faults self.new.server_faults
             self.old.client_faults self.new.client_faults }
-        ensures own { self.new.own_faults ≡ self.old.own_faults }
+        ensures own_faults { self.new.own_faults ≡ self.old.own_faults }
     {
         let mut streams = Streams::new(self.alloc);
         streams.push(0)?;
@@ -254,6 +414,8 @@ impl<R: Files + Net + Clone + Drop> Wire for RealWire<R> {
                 self.sockets = Some(sockets);
                 self.streams = streams;
                 self.blocked = Streams::new(self.alloc);
+                self.listeners = Streams::new(self.alloc);
+                self.own = OwnStreams::new(self.alloc);
                 self.listening = false;
                 Ok(())
             }
@@ -266,9 +428,9 @@ impl<R: Files + Net + Clone + Drop> Wire for RealWire<R> {
     }
 
     fn wait(&mut self, waiting: &Streams, want: Want, into: &mut Piece) -> Turn {
-        let client = self.next_client(want);
-        let found = found_next(&mut self.sockets, waiting, want, client, into);
-        let turn = self.turn_of(found, want, client);
+        let numbers = self.numbers(want);
+        let found = found_next(&mut self.sockets, waiting, want, numbers, into);
+        let turn = self.turn_of(found, want, numbers);
         self.calls.waited(turn);
         turn
     }
@@ -282,11 +444,13 @@ impl<R: Files + Net + Clone + Drop> Wire for RealWire<R> {
     fn stop_listening(&mut self)
         ensures deaf { IfSome self.new.sockets (λ sockets. IsNone sockets.listening) }
         ensures seen { untold self.new.streams self.new.blocked self.new.listening self.new.last
-            ≡ untold self.old.streams self.old.blocked false self.old.last }
+            self.new.listeners self.new.own self.new.last_own
+            ≡ untold self.old.streams self.old.blocked false self.old.last self.old.listeners
+            self.old.own self.old.last_own }
         ensures calls { self.new.calls ≡ self.old.calls }
         ensures server { self.new.server_faults ≡ self.old.server_faults }
         ensures client { self.new.client_faults ≡ self.old.client_faults }
-        ensures own { self.new.own_faults ≡ self.old.own_faults }
+        ensures own_faults { self.new.own_faults ≡ self.old.own_faults }
     {
         self.listening = false;
         if let Some(sockets) = &mut self.sockets {
@@ -297,6 +461,7 @@ impl<R: Files + Net + Clone + Drop> Wire for RealWire<R> {
     fn close(&mut self, stream: u64) {
         self.streams.remove(stream);
         self.blocked.remove(stream);
+        self.own.remove(stream);
         drop_socket(&mut self.sockets, stream);
     }
 
@@ -304,23 +469,87 @@ impl<R: Files + Net + Clone + Drop> Wire for RealWire<R> {
         Ok(())
     }
 
-    fn listen(&mut self, _host: &[u8], _port: u32) -> Result<u64, FileError> {
-        self.own_faults = raised(self.own_faults);
-        Err(FileError::Failed)
+    fn listen(&mut self, host: &[u8], port: u32) -> Result<u64, FileError> {
+        let answer = self.listen_at(host, port);
+        count_failed(&answer, &mut self.own_faults);
+        answer
     }
 
-    fn connect(&mut self, _host: &[u8], _port: u32) -> Result<u64, FileError> {
-        self.own_faults = raised(self.own_faults);
-        Err(FileError::Failed)
+    fn connect(&mut self, host: &[u8], port: u32) -> Result<u64, FileError> {
+        let answer = self.connect_to(host, port);
+        count_failed(&answer, &mut self.own_faults);
+        answer
     }
 
-    fn unlisten(&mut self, _listener: u64) {}
+    fn unlisten(&mut self, listener: u64) {
+        self.listeners.remove(listener);
+        if let Some(sockets) = &mut self.sockets {
+            sockets.unlisten(listener);
+        }
+    }
 
-    fn pause(&mut self, _stream: u64) {}
+    fn pause(&mut self, stream: u64)
+        ensures paused { IfSome self.old.sockets (λ old. is_own stream ≡ true
+            → HasEntry stream old.entries
+            → IsSomeAnd self.new.sockets (λ new. IsPaused true stream new.entries)) }
+        ensures seen { untold self.new.streams self.new.blocked self.new.listening self.new.last
+            self.new.listeners self.new.own self.new.last_own
+            ≡ seen_after_pause true stream
+            (untold self.old.streams self.old.blocked self.old.listening self.old.last
+            self.old.listeners self.old.own self.old.last_own) }
+        ensures calls { self.new.calls ≡ self.old.calls }
+        ensures server { self.new.server_faults ≡ self.old.server_faults }
+        ensures client { self.new.client_faults ≡ self.old.client_faults }
+        ensures own_faults { self.new.own_faults ≡ self.old.own_faults }
+    {
+        self.own.set_paused(stream, true);
+        match &mut self.sockets {
+            Some(sockets) if is_own(stream) => sockets.pause(stream),
+            _ => {}
+        }
+    }
 
-    fn resume(&mut self, _stream: u64) {}
+    fn resume(&mut self, stream: u64)
+        ensures resumed { IfSome self.old.sockets (λ old. is_own stream ≡ true
+            → HasEntry stream old.entries
+            → IsSomeAnd self.new.sockets (λ new. IsPaused false stream new.entries)) }
+        ensures seen { untold self.new.streams self.new.blocked self.new.listening self.new.last
+            self.new.listeners self.new.own self.new.last_own
+            ≡ seen_after_pause false stream
+            (untold self.old.streams self.old.blocked self.old.listening self.old.last
+            self.old.listeners self.old.own self.old.last_own) }
+        ensures calls { self.new.calls ≡ self.old.calls }
+        ensures server { self.new.server_faults ≡ self.old.server_faults }
+        ensures client { self.new.client_faults ≡ self.old.client_faults }
+        ensures own_faults { self.new.own_faults ≡ self.old.own_faults }
+    {
+        self.own.set_paused(stream, false);
+        match &mut self.sockets {
+            Some(sockets) if is_own(stream) => sockets.resume(stream),
+            _ => {}
+        }
+    }
 
-    fn finish(&mut self, _stream: u64) {}
+    fn finish(&mut self, stream: u64)
+        ensures finished { IfSome self.old.sockets (λ old. is_own stream ≡ true
+            → HasEntry stream old.entries
+            → IsSomeAnd self.new.sockets (λ new. IsFinished stream new.entries)) }
+        ensures seen { untold self.new.streams self.new.blocked self.new.listening self.new.last
+            self.new.listeners self.new.own self.new.last_own
+            ≡ seen_after_finish stream
+            (untold self.old.streams self.old.blocked self.old.listening self.old.last
+            self.old.listeners self.old.own self.old.last_own) }
+        ensures calls { self.new.calls ≡ self.old.calls }
+        ensures server { self.new.server_faults ≡ self.old.server_faults }
+        ensures client { self.new.client_faults ≡ self.old.client_faults }
+        ensures own_faults { self.new.own_faults ≡ self.old.own_faults }
+    {
+        self.own.finish(stream);
+        match &mut self.sockets {
+            Some(sockets) if is_own(stream) => sockets.finish(stream),
+            _ => {}
+        }
+    }
 
     fn tally(&self) -> Tally {
         Tally::zero()
@@ -332,16 +561,16 @@ fn found_next<R: Files + Net + Clone + Drop>(
     sockets: &mut Option<Sockets<R>>,
     waiting: &Streams,
     want: Want,
-    client: Option<u64>,
+    numbers: Numbers,
     into: &mut Piece,
 ) -> Turn
-    ensures fits { FoundFits result client into.old into.new }
-    ensures client { IfSome sockets.new (λ s. HasClient result s.entries) }
+    ensures fits { FoundFits result numbers into.old into.new }
+    ensures stands { IfSome sockets.new (λ s. Stands result s.entries) }
     ensures listening { option_map (λ s. s.listening) sockets.new
         ≡ option_map (λ s. s.listening) sockets.old }
 {
     match sockets {
-        Some(sockets) => sockets.next(waiting.as_slice(), want, client, into),
+        Some(sockets) => sockets.next(waiting.as_slice(), want, numbers, into),
         None => Turn::Failed(0),
     }
 }
@@ -354,5 +583,48 @@ fn drop_socket<R: Files + Net + Clone + Drop>(sockets: &mut Option<Sockets<R>>, 
 {
     if let Some(sockets) = sockets {
         sockets.remove(stream);
+    }
+}
+
+// Listens at an address with this number.
+fn listen<R: Files + Net + Clone + Drop>(
+    sockets: &mut Option<Sockets<R>>,
+    rt: &R,
+    number: u64,
+    host: &[u8],
+    port: u32,
+) -> Result<(), FileError>
+    ensures there { OnOk result
+        (IfSome sockets.new (λ s. IsSome (get nat_eq s.doors number))) }
+    ensures listening { option_map (λ s. s.listening) sockets.new
+        ≡ option_map (λ s. s.listening) sockets.old }
+{
+    let address = address_of(host, port).ok_or(FileError::Failed)?;
+    match sockets {
+        Some(sockets) => sockets
+            .listen(rt, number, address)
+            .map_err(|e| file_error(&e)),
+        None => Err(FileError::Failed),
+    }
+}
+
+// Begins to connect to an address with this number.
+fn connect<R: Files + Net + Clone + Drop>(
+    sockets: &mut Option<Sockets<R>>,
+    rt: &R,
+    number: u64,
+    host: &[u8],
+    port: u32,
+) -> Result<(), FileError>
+    ensures there { OnOk result (IfSome sockets.new (λ s. HasEntry number s.entries)) }
+    ensures listening { option_map (λ s. s.listening) sockets.new
+        ≡ option_map (λ s. s.listening) sockets.old }
+{
+    let address = address_of(host, port).ok_or(FileError::Failed)?;
+    match sockets {
+        Some(sockets) => sockets
+            .connect(rt, number, address)
+            .map_err(|e| file_error(&e)),
+        None => Err(FileError::Failed),
     }
 }

@@ -1,11 +1,13 @@
 //! What is ready, in the order in which it became so.
-ghost use Rattle.std.specs.Prelude.{◌≡◌, ◌++◌, ◌∷◌, [], false, true, OnErr, OnOk};
+ghost use Rattle.std.specs.Prelude.{◌≡◌, ◌++◌, ◌∷◌, [], false, true, IsNone, Some, OnErr, OnOk};
 ghost use Rattle.mux_sockets.specs.Ready.{IsFull};
 
 use crate::stream::Stream;
-use mux_outside::Want;
+use mio::net::TcpListener;
+use mux_outside::{Turn, Want};
 use std::alloc::{AllocError, Global};
 use std::collections::VecDeque;
+use std::io;
 
 /// A stream with what is known of it.
 #[derive(Drop)]
@@ -21,17 +23,35 @@ pub struct Entry {
     pub reads: bool,
     /// it is among those that can be written to
     pub writes: bool,
+    /// its connection isn't made yet
+    pub connecting: bool,
+    /// nothing is read for now
+    pub paused: bool,
+    /// it may be read once it gives something again
+    pub held: bool,
+    /// nothing more is written
+    pub finished: bool,
+}
+
+/// A listener of the master's own.
+#[derive(Drop)]
+pub struct Door {
+    pub listener: TcpListener,
+    /// it is among those at which a socket may wait
+    pub joins: bool,
 }
 
 #[derive(Clone, Copy, PartialEq, Eq)]
 pub enum Ready {
     Accept,
+    Join(u64),
     Read(u64),
     Write(u64),
+    Connect(u64),
 }
 
-/// What is ready, each once, so at most twice as many as there are streams, and one. A round goes
-/// over it twice: the second read of a stream mostly shows that nothing is left.
+/// What is ready, each once, so at most twice as many as there are streams and listeners, and one. A
+/// round goes over it twice: the second read of a stream mostly shows that nothing is left.
 #[derive(Drop)]
 pub struct Queue {
     items: VecDeque<Ready>,
@@ -41,22 +61,100 @@ pub struct Queue {
 }
 
 impl Entry {
-    pub fn new(stream: Stream, stops_short: bool) -> Entry
+    ghost use Rattle.mux_sockets.specs.Connections.{met_turn};
+    ghost use Rattle.mux_sockets.specs.Entries.{is_silent};
+
+    /// A stream, whose connection is made or is being made.
+    pub fn new(stream: Stream, stops_short: bool, connecting: bool) -> Entry
         ensures short { result.stops_short ≡ stops_short }
-        ensures blocked { result.blocked ≡ false }
+        ensures connecting { result.connecting ≡ connecting }
+        ensures blocked { result.blocked ≡ connecting }
     {
         Entry {
             stream,
             stops_short,
             ended: false,
-            blocked: false,
+            blocked: connecting,
             reads: false,
             writes: false,
+            connecting,
+            paused: false,
+            held: false,
+            finished: false,
+        }
+    }
+
+    /// Whether it gives nothing for now, or nothing more.
+    pub fn is_silent(&self) -> bool
+        ensures { result ≡ is_silent self.now }
+    {
+        self.paused || (self.connecting || self.ended)
+    }
+
+    /// Says the end to the other side, as soon as its connection is made.
+    pub fn finish(&mut self)
+        ensures { self.new ≡ record self.old { finished = true } }
+    {
+        self.finished = true;
+        if !self.connecting {
+            self.stream.finish();
+        }
+    }
+
+    /// Goes on by what a look at its connection showed: it is made, or not yet, or it failed.
+    pub fn meet(&mut self, number: u64, made: &io::Result<bool>) -> Option<Turn>
+        ensures turn { result ≡ met_turn made.now number }
+        ensures writable { result ≡ Some (Turn.Writable number)
+            → self.new ≡ record self.old { connecting = false; blocked = false } }
+        ensures failed { result ≡ Some (Turn.Failed number)
+            → self.new ≡ record self.old { ended = true } }
+        ensures not_yet { IsNone result → self.new ≡ self.old }
+    {
+        match made {
+            Ok(true) => {
+                self.made();
+                Some(Turn::Writable(number))
+            }
+            Ok(false) => None,
+            Err(_) => {
+                self.ended = true;
+                Some(Turn::Failed(number))
+            }
+        }
+    }
+
+    // Its connection is made.
+    fn made(&mut self)
+        ensures { self.new ≡ record self.old { connecting = false; blocked = false } }
+    {
+        self.connecting = false;
+        self.blocked = false;
+        if self.finished {
+            self.stream.finish();
         }
     }
 }
 
+impl Door {
+    pub fn new(listener: TcpListener) -> Door {
+        Door {
+            listener,
+            joins: false,
+        }
+    }
+}
+
+// Whether this is of a stream.
+fn is_of(number: u64, ready: Ready) -> bool {
+    match ready {
+        Ready::Read(n) | Ready::Write(n) | Ready::Connect(n) => n == number,
+        Ready::Accept | Ready::Join(_) => false,
+    }
+}
+
 impl Queue {
+    ghost use Rattle.mux_sockets.specs.Entries.{is_silent};
+
     pub fn new(alloc: Global) -> Queue {
         Queue {
             items: VecDeque::new(alloc),
@@ -65,7 +163,7 @@ impl Queue {
         }
     }
 
-    /// Makes room for all that can be ready of so many streams.
+    /// Makes room for all that can be ready of so many streams and listeners.
     pub fn reserve(&mut self, streams: usize) -> Result<(), AllocError> {
         self.items
             .reserve(streams.saturating_mul(2).saturating_add(1))
@@ -82,6 +180,52 @@ impl Queue {
         if !self.accepts {
             self.items.push_back(Ready::Accept)?;
             self.accepts = true;
+        }
+        Ok(())
+    }
+
+    /// Notes that a socket may wait at a listener of the master's own.
+    pub fn note_join(&mut self, number: u64, door: &mut Door) -> Result<(), AllocError>
+        ensures listener { door.new ≡ record door.old { joins = door.new.joins } }
+        ensures noted { OnOk result (door.new.joins ≡ true) }
+        ensures queued { OnOk result (door.old.joins ≡ false
+            → self.new.items.items ≡ self.old.items.items ++ Ready.Join number ∷ []) }
+        ensures once { door.old.joins ≡ true → self.new ≡ self.old }
+        ensures full { OnErr result (IsFull self.old) }
+    {
+        if !door.joins {
+            self.items.push_back(Ready::Join(number))?;
+            door.joins = true;
+        }
+        Ok(())
+    }
+
+    /// Notes that a stream may be read, or that it may be once it isn't silent any more.
+    pub fn note_bytes(&mut self, number: u64, entry: &mut Entry) -> Result<(), AllocError>
+        ensures entry { entry.new
+            ≡ record entry.old { reads = entry.new.reads; held = entry.new.held } }
+        ensures held { is_silent entry.old ≡ true → entry.new.held ≡ true }
+        ensures noted { OnOk result (is_silent entry.old ≡ false → entry.new.reads ≡ true) }
+        ensures full { OnErr result (IsFull self.old) }
+    {
+        if entry.is_silent() {
+            entry.held = true;
+            return Ok(());
+        }
+        self.note_read(number, entry)
+    }
+
+    /// Notes that a stream may be read of which that was kept back, where it isn't silent any more.
+    pub fn note_held(&mut self, number: u64, entry: &mut Entry) -> Result<(), AllocError>
+        ensures entry { entry.new
+            ≡ record entry.old { reads = entry.new.reads; held = entry.new.held } }
+        ensures noted { OnOk result (is_silent entry.old ≡ false → entry.old.held ≡ true
+            → entry.new.reads ≡ true) }
+        ensures full { OnErr result (IsFull self.old) }
+    {
+        if entry.held && !entry.is_silent() {
+            self.note_read(number, entry)?;
+            entry.held = false;
         }
         Ok(())
     }
@@ -118,6 +262,22 @@ impl Queue {
         Ok(())
     }
 
+    /// Notes that a connection may be made.
+    pub fn note_connect(&mut self, number: u64, entry: &mut Entry) -> Result<(), AllocError>
+        ensures entry { entry.new ≡ record entry.old { writes = entry.new.writes } }
+        ensures noted { OnOk result (entry.new.writes ≡ true) }
+        ensures queued { OnOk result (entry.old.writes ≡ false
+            → self.new.items.items ≡ self.old.items.items ++ Ready.Connect number ∷ []) }
+        ensures once { entry.old.writes ≡ true → self.new ≡ self.old }
+        ensures full { OnErr result (IsFull self.old) }
+    {
+        if !entry.writes {
+            self.items.push_back(Ready::Connect(number))?;
+            entry.writes = true;
+        }
+        Ok(())
+    }
+
     /// Forgets the clients that may wait.
     pub fn drop_accept(&mut self) {
         self.items.retain(|r| *r != Ready::Accept);
@@ -127,7 +287,14 @@ impl Queue {
     /// Forgets a stream.
     pub fn drop_stream(&mut self, number: u64, entry: &Entry) {
         if entry.reads || entry.writes {
-            self.items.retain(|r| *r != Ready::Read(number) && *r != Ready::Write(number));
+            self.items.retain(|r| !is_of(number, *r));
+        }
+    }
+
+    /// Forgets a listener of the master's own.
+    pub fn drop_door(&mut self, number: u64, door: &Door) {
+        if door.joins {
+            self.items.retain(|r| *r != Ready::Join(number));
         }
     }
 
@@ -142,11 +309,13 @@ impl Queue {
     }
 
     /// Where the first is that may be served.
-    pub fn first(&self, waiting: &[u64], want: Want, accepts: bool) -> Option<usize> {
+    pub fn first(&self, waiting: &[u64], want: Want, accepts: bool, joins: bool) -> Option<usize> {
         self.items.iter().position(|r| match *r {
             Ready::Accept => want == Want::Read && accepts,
+            Ready::Join(_) => want == Want::Read && joins,
             Ready::Read(_) => want == Want::Read,
             Ready::Write(number) => waiting.contains(&number),
+            Ready::Connect(number) => want == Want::Read || waiting.contains(&number),
         })
     }
 

@@ -1,13 +1,15 @@
 //! What is done with a socket that is ready, and the write to one.
-ghost use Rattle.std.specs.Prelude.{◌≡◌, ◌<◌, ◌⊎◌, length, ℕ, Option, Some, IfSome, IfNone, OnSome};
+ghost use Rattle.std.specs.Prelude.{◌≡◌, ◌<◌, ◌⊎◌, length, Some, IfSome, IfNone, IsNone, OnSome};
 ghost use Rattle.mux_outside.specs.Wire.{WroteFits};
 ghost use Rattle.mux_sockets.specs.Sockets.{FoundFits, IsOf, Serves};
-ghost use Rattle.mux_sockets.specs.Entries.{HasClient, HasEntry, IsBlocked, IsNoted, OthersStay, StopsShort};
+ghost use Rattle.mux_sockets.specs.Entries.{HasEntry, IsBlocked, IsConnected, IsHeld, IsNoted, IsSilent, OthersStay, Stands, StopsShort};
+ghost use Rattle.mux_sockets.specs.declared.numbers.Numbers.{Numbers};
 ghost use Rattle.mux_sockets.specs.Ready.{IsFull};
 
 use super::Sockets;
 use super::ready::Ready;
 use crate::exchange::{Sent, hear, send};
+use crate::numbers::Numbers;
 use crate::stream::Stream;
 use mux_outside::{LONGEST_PIECE, Piece, Turn, Wrote};
 use std::fs::Files;
@@ -17,22 +19,19 @@ use std::net::Net;
 
 impl<R: Files + Net + Clone + Drop> Sockets<R> {
     /// Goes on with what was ready. `None`: it was not, or not any more.
-    pub(super) fn go_on(
-        &mut self,
-        ready: Ready,
-        client: Option<u64>,
-        into: &mut Piece,
-    ) -> Option<Turn>
-        ensures serves { IfSome result (Serves ready client) }
-        ensures fits { IfSome result (λ turn. FoundFits turn client into.old into.new) }
+    pub(super) fn go_on(&mut self, ready: Ready, numbers: Numbers, into: &mut Piece) -> Option<Turn>
+        ensures serves { IfSome result (Serves ready numbers) }
+        ensures fits { IfSome result (λ turn. FoundFits turn numbers into.old into.new) }
         ensures kept { IfNone result (into.new ≡ into.old) }
-        ensures client { IfSome result (λ turn. HasClient turn self.new.entries) }
+        ensures stands { IfSome result (λ turn. Stands turn self.new.entries) }
         ensures listening { self.new.listening ≡ self.old.listening }
     {
         match ready {
-            Ready::Accept => self.accept(client?),
+            Ready::Accept => self.accept(numbers.client?),
+            Ready::Join(listener) => self.join_at(listener, numbers.own?),
             Ready::Read(number) => self.read(number, into),
             Ready::Write(number) => self.free(number),
+            Ready::Connect(number) => self.meet(number),
         }
     }
 
@@ -46,7 +45,7 @@ impl<R: Files + Net + Clone + Drop> Sockets<R> {
         let listening = self.listening.as_ref()?;
         match listening.listener.accept() {
             Ok((stream, _)) => {
-                if let Err(e) = self.add(number, Stream::Unix(stream)) {
+                if let Err(e) = self.add(number, Stream::Unix(stream), false) {
                     self.not_accepted(&e);
                     return None;
                 }
@@ -68,7 +67,7 @@ impl<R: Files + Net + Clone + Drop> Sockets<R> {
     {
         match e.kind() {
             ErrorKind::WouldBlock => {}
-            ErrorKind::Interrupted | ErrorKind::ConnectionAborted => self.resume(),
+            ErrorKind::Interrupted | ErrorKind::ConnectionAborted => self.accept_again(),
             _ => self.pauses = true,
         }
     }
@@ -77,6 +76,10 @@ impl<R: Files + Net + Clone + Drop> Sockets<R> {
     fn read(&mut self, number: u64, into: &mut Piece) -> Option<Turn>
         ensures turn { IfSome result (IsOf number) }
 
+        // What may be read of a silent stream is kept back, and it gives nothing.
+        ensures silent { IsSilent number self.old.entries → IsNone result }
+        ensures held { IsSilent number self.old.entries → IsHeld number self.new.entries }
+
         // More may wait, so it stays noted: its note finds room, since that was made for it.
         ensures full_piece { result ≡ Some (Turn.Got number) → length into.new ≡ LONGEST_PIECE
             → IsNoted number self.new.entries ⊎ IsFull self.old.ready }
@@ -84,13 +87,17 @@ impl<R: Files + Net + Clone + Drop> Sockets<R> {
             → IsNoted number self.new.entries ⊎ IsFull self.old.ready }
 
         ensures fits { IfSome result (λ turn.
-            (client : Option ℕ) → FoundFits turn client into.old into.new) }
+            (numbers : Numbers) → FoundFits turn numbers into.old into.new) }
         ensures kept { IfNone result (into.new ≡ into.old) }
         ensures others { OthersStay number self.old.entries self.new.entries }
         ensures listening { self.new.listening ≡ self.old.listening }
     {
         let entry = self.entries.get_mut(&number)?;
         entry.reads = false;
+        if entry.is_silent() {
+            entry.held = true;
+            return None;
+        }
         let heard = hear(&mut entry.stream, &mut self.spare, into);
         entry.ended = heard.is_last();
         if heard.leaves_more(entry.stops_short) {
@@ -102,11 +109,15 @@ impl<R: Files + Net + Clone + Drop> Sockets<R> {
     // Notes that a stream can be written to.
     fn free(&mut self, number: u64) -> Option<Turn>
         ensures turn { IfSome result (λ turn. turn ≡ Turn.Writable number) }
+        ensures connected { OnSome result (IsConnected number self.new.entries) }
         ensures others { OthersStay number self.old.entries self.new.entries }
         ensures listening { self.new.listening ≡ self.old.listening }
     {
         let entry = self.entries.get_mut(&number)?;
         entry.writes = false;
+        if entry.connecting {
+            return None;
+        }
         entry.blocked = false;
         Some(Turn::Writable(number))
     }
