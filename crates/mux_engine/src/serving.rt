@@ -512,7 +512,6 @@ pub fn serve<W: Wire, H: House>(
         → Rose (W.server_faults wire.old) (W.server_faults wire.new) }
     ensures calls { Stops (H.known house.old).present turns result (W.calls wire.old)
         (W.calls wire.new) }
-    ensures must { H.must house.new ≡ H.must house.old }
     ensures unopened { (H.known house.old).present ≡ false
         → (W.seen wire.new).last_own ≡ (W.seen wire.old).last_own }
     ensures places { result ≢ WantOfMemory
