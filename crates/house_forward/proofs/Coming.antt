@@ -1,0 +1,89 @@
+-- What comes of an ask.
+use Rattle.std.proofs.Common.{◌≡◌, refl, ℕ, Bool, true, false, List, Some, arith}
+use Rattle.std.specs.Prelude.{not, length, Result, Ok, Err, IfOk}
+use Rattle.mux_outside.specs.House.{order_marks}
+use Rattle.mux_outside.specs.declared.order.Order.{Order}
+use Rattle.mux_outside.specs.declared.order.Order.TheVariants as order
+use Rattle.mux_outside.specs.declared.start_ask.StartAsk.{StartAsk}
+use Rattle.house_forward.specs.Forwardings.{ComesIf, Comes, ComesUnless, comes_of_ends, standing, opens_of, closes_of, ListensFirst}
+use Rattle.house_forward.specs.Links.{ConnectsFirst}
+use Rattle.house_forward.specs.Rules.{is_refused_alone, AreEnds}
+use Rattle.house_forward.specs.declared.asks.Asked.{Asked}
+use Rattle.house_forward.specs.declared.asks.Asked.TheVariants.{Now, Later}
+use Rattle.house_forward.specs.declared.asks.Outcome.TheVariants.{Refused}
+use Rattle.house_forward.specs.declared.forwarding.Forwarding.{Forwarding}
+use Rattle.house_forward.specs.declared.link.Link.{Link}
+use Rattle.house_forward.specs.declared.rules.Ends.{Ends}
+
+-- ---- asks
+
+refused-if : (b gateway opening : Bool) (ask : StartAsk) (serial : ℕ) (fs : List Forwarding) → false ≡ not b
+    → ComesIf b gateway opening ask serial fs (Now Refused)
+refused-if true gateway opening ask serial fs e = refl
+refused-if false gateway opening ask serial fs e = cc
+
+ends-if : (b gateway opening : Bool) (ask : StartAsk) (serial : ℕ) (fs : List Forwarding) → true ≡ not b
+    → (ends : Ends) → AreEnds gateway ask ends → (asked : Asked) → asked ≡ comes_of_ends opening serial ends fs
+    → ComesIf b gateway opening ask serial fs asked
+ends-if true gateway opening ask serial fs e ends are asked same = cc
+ends-if false gateway opening ask serial fs e ends are asked same = (ends, are, same)
+
+unless : (has gateway opening : Bool) (ask : StartAsk) (serial : ℕ) (fs : List Forwarding) (asked : Asked) → has ≡ false
+    → Comes gateway opening ask serial fs asked → ComesUnless has gateway opening ask serial fs asked
+unless true gateway opening ask serial fs asked e h = cc
+unless false gateway opening ask serial fs asked e h = h
+
+-- the client has an open ask with its id
+pub asked-twice : (has gateway opening : Bool) (ask : StartAsk) (serial : ℕ) (fs : List Forwarding) → has ≡ true
+    → ComesUnless has gateway opening ask serial fs (Now Refused)
+asked-twice true gateway opening ask serial fs e = refl
+asked-twice false gateway opening ask serial fs e = cc
+
+-- it is refused whatever stands
+pub refused-alone : (has gateway opening : Bool) (ask : StartAsk) (serial : ℕ) (fs : List Forwarding) → has ≡ false
+    → false ≡ not (is_refused_alone ask) → ComesUnless has gateway opening ask serial fs (Now Refused)
+refused-alone has gateway opening ask serial fs e alone =
+    unless has gateway opening ask serial fs (Now Refused) e (refused-if (is_refused_alone ask) gateway opening ask serial fs alone)
+
+-- its two ends are looked at
+pub by-ends : (has gateway opening : Bool) (ask : StartAsk) (serial : ℕ) (fs : List Forwarding) → has ≡ false
+    → true ≡ not (is_refused_alone ask) → (ends : Ends) → AreEnds gateway ask ends → (asked : Asked)
+    → asked ≡ comes_of_ends opening serial ends fs → ComesUnless has gateway opening ask serial fs asked
+by-ends has gateway opening ask serial fs e alone ends are asked same =
+    unless has gateway opening ask serial fs asked e (ends-if (is_refused_alone ask) gateway opening ask serial fs alone ends are asked same)
+
+pub opens-there : (opening : Bool) (serial : ℕ) (ends : Ends) (fs : List Forwarding) (asked : Asked) → opening ≡ true
+    → asked ≡ opens_of serial ends fs (standing ends fs) → asked ≡ comes_of_ends opening serial ends fs
+opens-there true serial ends fs asked e h = h
+opens-there false serial ends fs asked e h = cc
+
+pub closes-there : (opening : Bool) (serial : ℕ) (ends : Ends) (fs : List Forwarding) (asked : Asked) → opening ≡ false
+    → asked ≡ closes_of (standing ends fs) → asked ≡ comes_of_ends opening serial ends fs
+closes-there true serial ends fs asked e h = cc
+closes-there false serial ends fs asked e h = h
+
+pub if-ok : {X E : Type 0} (P Q : X → Type 0) (o : Result X E) → ((x : X) → P x → Q x) → IfOk o P → IfOk o Q
+if-ok P Q (Ok x) f h = f x h
+if-ok P Q (Err e) f h = tt
+
+-- ---- orders
+
+-- an order that has its mark at once is no Connect
+pub connects-none : (o : Order) (ls : List Link) → length (order_marks (Some o)) ≡ 1 → ConnectsFirst (Some o) ls
+connects-none (order.Listen host port) ls e = tt
+connects-none (order.Connect host port) ls e = absurd (omega (arith, e))
+connects-none (order.Unlisten l) ls e = tt
+connects-none (order.Pause t) ls e = tt
+connects-none (order.Resume t) ls e = tt
+connects-none (order.Finish t) ls e = tt
+connects-none (order.Close t) ls e = tt
+
+-- and no Listen
+pub listens-none : (o : Order) (fs : List Forwarding) → length (order_marks (Some o)) ≡ 1 → ListensFirst (Some o) fs
+listens-none (order.Listen host port) fs e = absurd (omega (arith, e))
+listens-none (order.Connect host port) fs e = tt
+listens-none (order.Unlisten l) fs e = tt
+listens-none (order.Pause t) fs e = tt
+listens-none (order.Resume t) fs e = tt
+listens-none (order.Finish t) fs e = tt
+listens-none (order.Close t) fs e = tt
