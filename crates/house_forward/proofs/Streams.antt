@@ -35,7 +35,7 @@ distinct-tail : (o : Option OwnStream) (ss : List OwnStream) → are_distinct (c
 distinct-tail None ss e = e
 distinct-tail (Some own) ss e = (and_parts (not (is_one own.number ss)) (are_distinct ss) e).1
 
-alone : (s : Stream) (ss : List OwnStream) (t : ℕ) → are_distinct (cons_option (own_of s) ss) ≡ true
+pub alone : (s : Stream) (ss : List OwnStream) (t : ℕ) → are_distinct (cons_option (own_of s) ss) ≡ true
     → numbered t s ≡ true → is_one t ss ≡ false
 alone (Offered host port) ss t e n = cc
 alone Awaited ss t e n = cc
@@ -44,7 +44,7 @@ alone (Made own) ss t e n =
     subst (λ k. is_one k ss ≡ false) (eqb-true own.number t n) none
 alone Gone ss t e n = cc
 
-differs-in : (s : Stream) (ss : List OwnStream) (t : ℕ) (b : Bool) → numbered t s ≡ b → are_distinct (cons_option (own_of s) ss) ≡ true
+pub differs-in : (s : Stream) (ss : List OwnStream) (t : ℕ) (b : Bool) → numbered t s ≡ b → are_distinct (cons_option (own_of s) ss) ≡ true
     → is_one t ss ≡ true → b ≡ false
 differs-in s ss t true n e is = absurd (both_ways (is_one t ss) (alone s ss t e n) is)
 differs-in s ss t false n e is = refl

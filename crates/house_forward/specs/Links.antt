@@ -10,14 +10,15 @@ use Rattle.house_relay.specs.Line.{counts}
 use Rattle.house_relay.specs.Next.{says_of, orders_of}
 use Rattle.house_relay.specs.Relay.{stream_of, stuck_in, OrdersRight}
 use Rattle.house_relay.specs.Steps.{is_gone, connected, failing, said_of, fresh_relay, fresh_dialing}
-use Rattle.house_relay.specs.declared.line.Line.TheVariants.{Asked, Over, Offered as OfServer}
+use Rattle.house_relay.specs.declared.line.Line.{Line}
+use Rattle.house_relay.specs.declared.line.Line.TheVariants.{Dialing, Asked, Opened, Live, Over, Offered as OfServer}
 use Rattle.house_relay.specs.declared.relay.Relay.{Relay}
 use Rattle.house_relay.specs.declared.relay.Saying.{Saying}
 use Rattle.house_relay.specs.declared.relay.Socket.TheVariants as socket
 use Rattle.house_forward.specs.declared.forwarding.Forwarding.{Forwarding}
 use Rattle.house_forward.specs.declared.rules.Kind.{Kind}
 use Rattle.house_forward.specs.declared.rules.Kind.TheVariants.{Local, Remote, Dynamic}
-use Rattle.house_forward.specs.declared.rules.TheConstants.{MOST_CHANNELS}
+use Rattle.house_forward.specs.declared.rules.TheConstants.{MOST_CHANNELS, MOST_DIALOGS}
 use Rattle.house_forward.specs.declared.link.Link.{Link}
 use Rattle.house_forward.specs.declared.link.Step.{Step}
 use Rattle.house_forward.specs.declared.link.Step.TheVariants.{Pause, Finish, End, Close, Writable, Failed}
@@ -64,6 +65,13 @@ finishes t Gone = false
 -- whether it has this stream
 abbrev pub has_number : ℕ → Link → Bool
 has_number t l = numbered t l.stream
+
+-- the number of this stream
+abbrev pub number_in : Stream → Option ℕ
+number_in (Offered host port) = None
+number_in Awaited = None
+number_in (Made own) = Some own.number
+number_in Gone = None
 
 abbrev pub is_number : ℕ → Option ℕ → Bool
 is_number t None = false
@@ -121,6 +129,25 @@ channels links = length (filter is_channel links)
 -- whether the house has all channels that it may have
 abbrev pub is_full : List Link → Bool
 is_full links = nat_le MOST_CHANNELS (channels links)
+
+-- whether a dialog is to say its end
+abbrev pub dials : Line → Bool
+dials (Dialing dialog) = true
+dials (Asked host port version) = false
+dials (Opened version) = false
+dials (OfServer remote window maximum) = false
+dials (Live live) = false
+dials Over = false
+
+abbrev pub is_dialog : Link → Bool
+is_dialog l = dials l.relay.line
+
+abbrev pub dialogs : List Link → ℕ
+dialogs links = length (filter is_dialog links)
+
+-- whether the house has all dialogs that it may have
+abbrev pub is_crowded : List Link → Bool
+is_crowded links = nat_le MOST_DIALOGS (dialogs links)
 
 -- whether the house's own number of a channel is this one
 abbrev pub is_number_of : ℕ → List Link → Bool
@@ -238,26 +265,33 @@ pub record Offers (f : Forwarding) (remote window maximum : ℕ) (old new : List
 
 -- ---- what is joined at a listener
 
--- the channel is to be to where the forwarding connects, or to where a dialog says
-abbrev pub IsJoinedAt : Kind → Forwarding → ℕ → Relay → Type 0
-IsJoinedAt Local f t r =
-    r ≡ fresh_relay r.number (Asked f.connect_host f.connect_port None) (socket.Open t)
-IsJoinedAt Remote f t r =
-    r ≡ fresh_relay r.number (Asked f.connect_host f.connect_port None) (socket.Open t)
-IsJoinedAt Dynamic f t r = r ≡ fresh_relay r.number fresh_dialing (socket.Open t)
-
+-- one that is joined beyond what the house may have is closed
 abbrev pub IsSurplus : ℕ → Relay → Type 0
 IsSurplus t r = r ≡ fresh_relay r.number Over (socket.Surplus t)
 
+-- a dialog is to say the channel's end; where the house has all dialogs that it may have, the socket is
+-- closed
+abbrev pub IsDialed : Bool → ℕ → Relay → Type 0
+IsDialed true t r = IsSurplus t r
+IsDialed false t r = r ≡ fresh_relay r.number fresh_dialing (socket.Open t)
+
+-- the channel is to be to where the forwarding connects, or to where a dialog says
+abbrev pub IsJoinedAt : Kind → Bool → Forwarding → ℕ → Relay → Type 0
+IsJoinedAt Local crowded f t r =
+    r ≡ fresh_relay r.number (Asked f.connect_host f.connect_port None) (socket.Open t)
+IsJoinedAt Remote crowded f t r =
+    r ≡ fresh_relay r.number (Asked f.connect_host f.connect_port None) (socket.Open t)
+IsJoinedAt Dynamic crowded f t r = IsDialed crowded t r
+
 -- the relay of a socket that is joined: where the house has all channels that it may have, it is closed
-abbrev pub IsJoined : Bool → Option Forwarding → ℕ → Relay → Type 0
-IsJoined true f t r = IsSurplus t r
-IsJoined false None t r = IsSurplus t r
-IsJoined false (Some f) t r = IsJoinedAt f.kind f t r
+abbrev pub IsJoined : Bool → Bool → Option Forwarding → ℕ → Relay → Type 0
+IsJoined true crowded f t r = IsSurplus t r
+IsJoined false crowded None t r = IsSurplus t r
+IsJoined false crowded (Some f) t r = IsJoinedAt f.kind crowded f t r
 
 -- one relay more, for a socket that is joined
-pub record Joins (full : Bool) (f : Option Forwarding) (t : ℕ) (old new : List Link) : Type 0 where
+pub record Joins (f : Option Forwarding) (t : ℕ) (old new : List Link) : Type 0 where
   pub relay : Relay
-  pub joined : IsJoined full f t relay
+  pub joined : IsJoined (is_full old) (is_crowded old) f t relay
   pub free : is_number_of relay.number old ≡ false
   pub more : new ≡ old ++ record { relay = relay; stream = Made (new_stream t) } ∷ []

@@ -8,7 +8,7 @@ ghost use Rattle.house_forward.specs.Asks.{has_open};
 ghost use Rattle.house_forward.specs.Due.{due, most_due};
 ghost use Rattle.house_forward.specs.Forwardings.{listeners_of, has_request, request_of, has_listener, ComesUnless, Replies, ListensFirst};
 ghost use Rattle.house_forward.specs.Known.{known_of, ordering_of, is_there};
-ghost use Rattle.house_forward.specs.Links.{streams_of, queue_at, is_full, ConnectsFirst, IsJoined, IsJoinedAt, Joins};
+ghost use Rattle.house_forward.specs.Links.{streams_of, queue_at, is_full, is_crowded, ConnectsFirst, IsJoined, IsJoinedAt, IsDialed, Joins};
 ghost use Rattle.house_forward.specs.Quiet.{quiet_of, says_none, orders_none};
 ghost use Rattle.house_forward.specs.Said.{framed, request_payload};
 
@@ -426,7 +426,7 @@ impl Holdings {
     fn joined(&mut self, listener: u64, stream: u64) -> Result<(), OutOfMemory>
         requires ordering { self.old.ordering ≡ None }
         requires free { is_one stream (streams_of self.old.relays.all.items) ≡ false }
-        ensures joins { OnOk result (Joins (is_full self.old.relays.all.items)
+        ensures joins { OnOk result (Joins
             (find (has_listener listener) self.old.forwardings.all.items) stream
             self.old.relays.all.items self.new.relays.all.items) }
         ensures streams { OnOk result (streams_of self.new.relays.all.items
@@ -450,6 +450,7 @@ impl Holdings {
     /// The relay of a socket that was joined at a listener.
     fn relay_of(&self, listener: u64, number: u32, stream: u64) -> Result<Relay, OutOfMemory>
         ensures joined { IfOk result (λ r. IsJoined (is_full self.now.relays.all.items)
+            (is_crowded self.now.relays.all.items)
             (find (has_listener listener) self.now.forwardings.all.items) stream r) }
         ensures number { IfOk result (λ r. r.number ≡ number) }
         ensures few { IfOk result (λ r. length r.held.waiting ≤ LONGEST_PIECE) }
@@ -459,7 +460,10 @@ impl Holdings {
         }
         match self.forwardings.of_listener(listener) {
             None => Ok(Relay::surplus(self.alloc, number, stream)),
-            Some(forwarding) => joined_at(self.alloc, forwarding, number, stream),
+            Some(forwarding) => {
+                let crowded = self.relays.is_crowded();
+                joined_at(self.alloc, crowded, forwarding, number, stream)
+            }
         }
     }
 
@@ -495,23 +499,38 @@ impl Holdings {
     }
 }
 
-/// The relay of a socket that was joined at the listener of a forwarding.
+/// The relay of a socket that was joined at the listener of a forwarding, where the house has all
+/// dialogs that it may have or not.
 fn joined_at(
     alloc: Global,
+    crowded: bool,
     forwarding: &Forwarding,
     number: u32,
     stream: u64,
 ) -> Result<Relay, OutOfMemory>
     ensures joined { IfOk result
-        (λ r. IsJoinedAt forwarding.now.kind forwarding.now stream r) }
+        (λ r. IsJoinedAt forwarding.now.kind crowded forwarding.now stream r) }
     ensures number { IfOk result (λ r. r.number ≡ number) }
     ensures few { IfOk result (λ r. length r.held.waiting ≤ LONGEST_PIECE) }
 {
     match forwarding.kind {
-        Kind::Dynamic => Ok(Relay::dynamic(alloc, number, stream)),
+        Kind::Dynamic => Ok(dialed(alloc, crowded, number, stream)),
         Kind::Local | Kind::Remote => {
             let host = Text::copy(alloc, forwarding.connect_host.as_bytes())?;
             Ok(Relay::joined(alloc, number, stream, host, forwarding.connect_port))
         }
+    }
+}
+
+/// The relay of a socket whose dialog is to say the end, where there is room for one more or not.
+fn dialed(alloc: Global, crowded: bool, number: u32, stream: u64) -> Relay
+    ensures dialed { IsDialed crowded stream result }
+    ensures number { result.number ≡ number }
+    ensures few { length result.held.waiting ≤ LONGEST_PIECE }
+{
+    if crowded {
+        Relay::surplus(alloc, number, stream)
+    } else {
+        Relay::dynamic(alloc, number, stream)
     }
 }

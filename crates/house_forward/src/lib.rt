@@ -25,6 +25,7 @@ mod hearing;
 mod holdings;
 mod link;
 mod ordering;
+mod places;
 mod relays;
 mod reserved;
 mod rules;

@@ -3,11 +3,11 @@ ghost use Rattle.std.specs.Prelude.{◌≡◌, is_some, true, IfSome, OnOk, None
 ghost use Rattle.house_relay.specs.Relay.{stream_of};
 ghost use Rattle.house_relay.specs.Steps.{made_as};
 ghost use Rattle.house_forward.specs.Heard.{heard_of};
-ghost use Rattle.house_forward.specs.Links.{has_number, is_of, is_offered, is_awaited, is_left, link_after, relay_after, made_stream, link_order, has_order, has_saying, finishes, is_channel, ConnectsAt, IsOrderOf};
+ghost use Rattle.house_forward.specs.Links.{has_number, is_of, is_offered, is_awaited, is_left, link_after, relay_after, made_stream, link_order, has_order, has_saying, finishes, number_in, is_channel, is_dialog, ConnectsAt, IsOrderOf};
 
 use crate::two_texts::TwoTexts;
 use conn_messages::Message;
-use house_relay::Relay;
+use house_relay::{Line, Relay};
 use mux_outside::{Order, OwnStream};
 use ssh_fields::OutOfMemory;
 use std::mem;
@@ -45,6 +45,16 @@ pub struct Link {
 }
 
 impl Link {
+    /// The number of its stream.
+    pub fn number(&self) -> Option<u64>
+        ensures { result ≡ number_in self.now.stream }
+    {
+        match &self.stream {
+            Stream::Made(own) => Some(own.number),
+            Stream::Offered { .. } | Stream::Awaited | Stream::Gone => None,
+        }
+    }
+
     /// Whether its stream has this number.
     pub fn has_number(&self, stream: u64) -> bool
         ensures { result ≡ has_number stream self.now }
@@ -97,6 +107,20 @@ impl Link {
         ensures { result ≡ is_channel self.now }
     {
         self.relay.line.counts()
+    }
+
+    /// Whether a dialog is to say the end of its channel.
+    pub fn is_dialog(&self) -> bool
+        ensures { result ≡ is_dialog self.now }
+    {
+        match &self.relay.line {
+            Line::Dialing(_) => true,
+            Line::Asked { .. }
+            | Line::Opened { .. }
+            | Line::Offered { .. }
+            | Line::Live(_)
+            | Line::Over => false,
+        }
     }
 
     /// Whether nothing is left of it.

@@ -8,10 +8,11 @@ ghost use Rattle.mux_outside.specs.declared.piece.TheConstants.{LONGEST_PIECE};
 ghost use Rattle.house_forward.specs.Due.{link_due};
 ghost use Rattle.house_forward.specs.Going.{GoesAt, LeavesAt, Gets, TakesOf, Says, Hears, swept};
 ghost use Rattle.house_forward.specs.Said.{framed, said_by};
-ghost use Rattle.house_forward.specs.Links.{streams_of, has_number, finishes, are_distinct, is_taken, is_of, queue_in, link_after, is_offered, is_awaited, is_left, is_full, channels, is_number_of, has_order, has_saying, made_streams, obeyed, ConnectsAt};
+ghost use Rattle.house_forward.specs.Links.{streams_of, has_number, are_distinct, is_taken, is_of, queue_in, link_after, is_offered, is_awaited, is_left, is_full, channels, dialogs, is_crowded, is_number_of, has_order, has_saying, made_streams, obeyed, ConnectsAt};
 
 use crate::link::{Link, Step};
-use crate::rules::MOST_CHANNELS;
+use crate::places::Places;
+use crate::rules::{MOST_CHANNELS, MOST_DIALOGS};
 use crate::saying;
 use crate::two_texts::TwoTexts;
 use conn_messages::Message;
@@ -25,6 +26,7 @@ use std::alloc::Global;
 pub struct Relays {
     alloc: Global,
     all: Vec<Link>,
+    places: Places,
     /// The number at which the search for a free one begins.
     next: u32,
     ghost few: { All (λ l. length l.relay.held.waiting ≤ LONGEST_PIECE) all.items },
@@ -38,6 +40,7 @@ impl Relays {
         Relays {
             alloc,
             all: Vec::new(alloc),
+            places: Places::new(alloc),
             next: 0,
         }
     }
@@ -57,7 +60,9 @@ impl Relays {
         ensures err { OnErr result (self.new.all.items ≡ self.old.all.items) }
     {
         let number = link.relay.number;
+        self.places.room(self.all.len().saturating_add(1))?;
         self.all.push(link)?;
+        self.places.note(&self.all);
         self.next = number.wrapping_add(1);
         Ok(())
     }
@@ -67,6 +72,13 @@ impl Relays {
         ensures { result ≡ is_full self.now.all.items }
     {
         channels_in(&self.all) >= MOST_CHANNELS
+    }
+
+    /// Whether it has all dialogs that it may have.
+    pub fn is_crowded(&self) -> bool
+        ensures { result ≡ is_crowded self.now.all.items }
+    {
+        dialogs_in(&self.all) >= MOST_DIALOGS
     }
 
     /// A number that no relay has.
@@ -94,29 +106,61 @@ impl Relays {
     pub fn of_stream(&self, stream: u64) -> Option<&Link>
         ensures { option_copied result ≡ find (is_of stream) self.now.all.items }
     {
-        self.all.iter().find(|l| l.is_of(stream))
+        let i = self.place_of(stream)?;
+        Some(&self.all[i])
     }
 
     /// Whether a stream is one of them.
     pub fn owns(&self, stream: u64) -> bool
         ensures { result ≡ is_one stream (streams_of self.now.all.items) }
     {
-        any_numbered(&self.all, stream)
+        self.place_with(stream).is_some()
     }
 
     /// Whether a stream takes no more bytes.
     pub fn has_finished(&self, stream: u64) -> bool
         ensures { result ≡ is_finished stream (streams_of self.now.all.items) }
     {
-        any_finished(&self.all, stream)
+        match self.place_with(stream) {
+            Some(i) => self.all[i].is_finished(stream),
+            None => false,
+        }
     }
 
     // ---- places
 
+    /// The place of the one whose stream has this number.
+    fn place_with(&self, stream: u64) -> Option<usize>
+        ensures { result ≡ position (has_number stream) self.now.all.items }
+    {
+        if let Some(i) = self.places.of(stream) {
+            if self.is_at(i, stream) {
+                return Some(i);
+            }
+        }
+        self.all.iter().position(|l| l.has_number(stream))
+    }
+
+    /// Whether the stream with this number is at this place.
+    fn is_at(&self, i: usize, stream: u64) -> bool
+        ensures { result ≡ true → position (has_number stream) self.now.all.items ≡ Some i }
+    {
+        if i >= self.all.len() {
+            return false;
+        }
+        self.all[i].has_number(stream)
+    }
+
+    /// The place of the one whose stream that is, and its relay's too.
     fn place_of(&self, stream: u64) -> Option<usize>
         ensures { result ≡ position (is_of stream) self.now.all.items }
     {
-        self.all.iter().position(|l| l.is_of(stream))
+        let i = self.place_with(stream)?;
+        if self.all[i].is_of(stream) {
+            Some(i)
+        } else {
+            None
+        }
     }
 
     fn place(&self, number: u32) -> Option<usize>
@@ -244,6 +288,7 @@ impl Relays {
     {
         if let Some(i) = self.left() {
             self.all.remove(i);
+            self.places.note(&self.all);
         }
     }
 
@@ -276,6 +321,7 @@ impl Relays {
         let mut link = self.all.remove(i);
         link.made(stream);
         self.all.push_reserved(link);
+        self.places.note(&self.all);
     }
 
     // ---- what is said and heard
@@ -362,14 +408,9 @@ fn channels_in(links: &[Link]) -> usize
     links.iter().filter(|l| l.is_channel()).count()
 }
 
-fn any_numbered(links: &[Link], stream: u64) -> bool
-    ensures { result ≡ list_any (has_number stream) links.now }
+/// How many dialogs are under way.
+fn dialogs_in(links: &[Link]) -> usize
+    ensures { result ≡ dialogs links.now }
 {
-    links.iter().any(|l| l.has_number(stream))
-}
-
-fn any_finished(links: &[Link], stream: u64) -> bool
-    ensures { result ≡ list_any (λ l. finishes stream l.stream) links.now }
-{
-    links.iter().any(|l| l.is_finished(stream))
+    links.iter().filter(|l| l.is_dialog()).count()
 }

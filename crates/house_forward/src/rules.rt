@@ -12,6 +12,9 @@ pub const MOST_FORWARDINGS: usize = 64;
 /// The most channels of one client of the master.
 pub const MOST_CHANNELS: usize = 256;
 
+/// The most sockets whose dialog is under way.
+pub const MOST_DIALOGS: usize = 256;
+
 /// The longest host that is listened on or connected to.
 pub const LONGEST_HOST: usize = 255;
 

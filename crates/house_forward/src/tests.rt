@@ -102,6 +102,14 @@ impl<N: Notes + Drop> Bench<N> {
         })
     }
 
+    /// A socket is joined at its first listener.
+    fn join(&mut self, stream: u64) -> Result<(), OutOfMemory> {
+        self.house.turn(OwnTurn::Joined {
+            listener: 0x8000_0000_0000_0000,
+            stream,
+        })
+    }
+
     /// The master's hello, and PROXY granted.
     fn greet(&mut self) -> Result<(), OutOfMemory> {
         self.house.takes(&[
@@ -150,6 +158,14 @@ fn started(
 fn listens_at(orders: &[Order], at: usize, there: &[u8], on: u32) -> bool {
     match orders.get(at) {
         Some(Order::Listen { host, port }) => host.as_bytes() == there && *port == on,
+        _ => false,
+    }
+}
+
+/// Whether nothing is ordered but that this stream is closed.
+fn only_closes(orders: &[Order], stream: u64) -> bool {
+    match orders.get(0) {
+        Some(Order::Close(closed)) => *closed == stream && orders.len() == 1,
         _ => false,
     }
 }
@@ -482,5 +498,30 @@ fn a_dialog_that_breaks_is_ended(rt: HostRuntime) -> Result<(), Fail> {
             Some(Order::Close(0x8000_0000_0000_0001))
         )
     );
+    Ok(())
+}
+
+#[test]
+fn one_dialog_more_than_may_be_is_closed(rt: HostRuntime) -> Result<(), Fail> {
+    let first: u64 = 0x8000_0000_0000_0001;
+    let mut bench = started(&rt, rt.alloc(), 3, b"", 0)?;
+    for more in 1..256 {
+        bench.join(first + more)?;
+    }
+    bench.settle()?;
+    assert_eq!(rt; bench.orders.len(), 0);
+    bench.join(first + 256)?;
+    bench.settle()?;
+    assert!(rt; only_closes(&bench.orders, first + 256));
+    // One ends, and one more has its dialog.
+    bench.house.turn(OwnTurn::End(first))?;
+    bench.settle()?;
+    assert!(rt; only_closes(&bench.orders, first));
+    let last = first + 257;
+    bench.join(last)?;
+    bench.house.turn(OwnTurn::Got(last, b"\x05\x01\x00"))?;
+    bench.settle()?;
+    assert_eq!(rt; bench.orders.len(), 0);
+    assert_eq!(rt; bench.house.queue_of(last), b"\x05\x00".as_slice());
     Ok(())
 }
