@@ -1,6 +1,6 @@
 -- The place of a stream in the list of the relays: where one has its number, it is the only one.
 use Rattle.std.proofs.Common.{◌≡◌, ◌∙◌, refl, sym, ap, subst, ℕ, zero, suc, ◌<◌, ◌≤◌, Bool, true, false, cond, List, [], ◌∷◌, length, get_or, Option, Some, None, arith}
-use Rattle.std.specs.Prelude.{◌||◌, find}
+use Rattle.std.specs.Prelude.{◌||◌, find, is_some}
 use Rattle.std.specs.List.{list_any, position, position_or_len}
 use Rattle.std.proofs.lemmas.Bool.{and_parts, and_left, or_parts, or_from, both_ways, cond_below}
 use Rattle.std.proofs.lemmas.List.{get_or_default}
@@ -95,11 +95,18 @@ found-of ls i t x e at = first-is (is_of t) ls i x e at
 pub found-nowhere : (ls : List Link) (t : ℕ) → position (is_of t) ls ≡ None → find (is_of t) ls ≡ None
 found-nowhere ls t e = none-found (is_of t) ls (none-passes (is_of t) ls e)
 
-pub owned-there : (ls : List Link) (i t : ℕ) → position (has_number t) ls ≡ Some i → is_one t (streams_of ls) ≡ true
+owned-there : (ls : List Link) (i t : ℕ) → position (has_number t) ls ≡ Some i → is_one t (streams_of ls) ≡ true
 owned-there ls i t e = sym (one_of_links t ls) ∙ one-there (has_number t) ls i e
 
-pub owned-nowhere : (ls : List Link) (t : ℕ) → position (has_number t) ls ≡ None → is_one t (streams_of ls) ≡ false
+owned-nowhere : (ls : List Link) (t : ℕ) → position (has_number t) ls ≡ None → is_one t (streams_of ls) ≡ false
 owned-nowhere ls t e = sym (one_of_links t ls) ∙ none-passes (has_number t) ls e
+
+owned-if : (ls : List Link) (t : ℕ) (o : Option ℕ) → position (has_number t) ls ≡ o → is_some o ≡ is_one t (streams_of ls)
+owned-if ls t None e = sym (owned-nowhere ls t e)
+owned-if ls t (Some i) e = sym (owned-there ls i t e)
+
+pub owned : (ls : List Link) (t : ℕ) → is_some (position (has_number t) ls) ≡ is_one t (streams_of ls)
+owned ls t = owned-if ls t (position (has_number t) ls) refl
 
 not-finished : (s : Stream) (t : ℕ) → numbered t s ≡ false → finishes t s ≡ false
 not-finished (Offered host port) t e = refl

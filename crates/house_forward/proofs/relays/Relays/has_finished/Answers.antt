@@ -1,5 +1,9 @@
-use Rattle.house_forward.proofs.Streams.{finished_of_links}
+use Rattle.std.proofs.Common.{◌≡◌, ◌∙◌, sym}
+use Rattle.house_forward.proofs.Finding.{finished-there, finished-nowhere}
 use Rattle.house_forward.proofs.relays.Relays.has_finished.Goals as goal
 
-pub returns : goal.returns
-returns c = rw (c.any_finished.ensures, c.deref.ensures.value) (finished_of_links c.args.stream c.args.self.now.all.items)
+pub returns-in-Some : goal.returns-in-Some
+returns-in-Some c = c.is_finished.ensures ∙ finished-there c.args.self.now.all.items c.in-Some.i c.args.stream c.index.result.now c.args.self.now.distinct (sym c.in-Some.ensures) c.index.ensures
+
+pub returns-in-None : goal.returns-in-None
+returns-in-None c = sym (finished-nowhere c.args.self.now.all.items c.args.stream (sym c.in-None.ensures))
