@@ -78,9 +78,9 @@ of-none ls i t x d e at isnt = none-of (position (is_of t) ls) (λ k there.
     let z : Link = get_or ls k x in
     let has : has_number t z ≡ true = (and_parts (has_number t z) (is_number t (stream_of z.relay.socket)) first.1).0 in
     let same : i ≡ k = same-place i k (position (has_number t) ls) e
-        (has-there ls k t z d first.0 (get_or_default ls k x z first.0) has) in
+    (has-there ls k t z d first.0 (get_or_default ls k x z first.0) has) in
     both_ways (is_of t x) isnt (subst (λ (y : Link). is_of t y ≡ true) (sym at)
-        (subst (λ (j : ℕ). is_of t (get_or ls j x) ≡ true) (sym same) first.1)))
+    (subst (λ (j : ℕ). is_of t (get_or ls j x) ≡ true) (sym same) first.1)))
 
 -- none has the number
 pub of-nowhere : (ls : List Link) (t : ℕ) → position (has_number t) ls ≡ None → position (is_of t) ls ≡ None

@@ -36,5 +36,5 @@ pub returns-clause-reads : goal.returns-clause-reads
 returns-clause-reads c =
     let ls = c.args.self.now.all.items in
     let x = c.index_mut-link.result.now in
-    let both = on-both _ _ c.got.result (rw c.is_full.ensures at c.got.ensures.dials) c.got.ensures.stands in
+    let both = on-both _ _ c.got.result (rw c.is_full-free.ensures at c.got.ensures.dials) c.got.ensures.stands in
     on-ok c.got.result (λ gets. goes-at (position (is_of c.args.stream) ls) c.in-Some.i (Gets (not (is_full ls)) c.args.bytes.now) ls x c.got.new.self (sym c.in-Some.ensures) c.index_mut-link.ensures.value gets) both
