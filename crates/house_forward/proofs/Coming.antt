@@ -28,29 +28,29 @@ ends-if : (b gateway opening : Bool) (ask : StartAsk) (serial : ℕ) (fs : List 
 ends-if true gateway opening ask serial fs e ends are asked same = cc
 ends-if false gateway opening ask serial fs e ends are asked same = (ends, are, same)
 
-unless : (has gateway opening : Bool) (ask : StartAsk) (serial : ℕ) (fs : List Forwarding) (asked : Asked) → has ≡ false
-    → Comes gateway opening ask serial fs asked → ComesUnless has gateway opening ask serial fs asked
+unless : (away gateway opening : Bool) (ask : StartAsk) (serial : ℕ) (fs : List Forwarding) (asked : Asked) → away ≡ false
+    → Comes gateway opening ask serial fs asked → ComesUnless away gateway opening ask serial fs asked
 unless true gateway opening ask serial fs asked e h = cc
 unless false gateway opening ask serial fs asked e h = h
 
--- the client has an open ask with its id
-pub asked-twice : (has gateway opening : Bool) (ask : StartAsk) (serial : ℕ) (fs : List Forwarding) → has ≡ true
-    → ComesUnless has gateway opening ask serial fs (Now Refused)
-asked-twice true gateway opening ask serial fs e = refl
-asked-twice false gateway opening ask serial fs e = cc
+-- the client has an open ask with its id, or as many wait as may
+pub turned-away : (away gateway opening : Bool) (ask : StartAsk) (serial : ℕ) (fs : List Forwarding) → away ≡ true
+    → ComesUnless away gateway opening ask serial fs (Now Refused)
+turned-away true gateway opening ask serial fs e = refl
+turned-away false gateway opening ask serial fs e = cc
 
 -- it is refused whatever stands
-pub refused-alone : (has gateway opening : Bool) (ask : StartAsk) (serial : ℕ) (fs : List Forwarding) → has ≡ false
-    → false ≡ not (is_refused_alone ask) → ComesUnless has gateway opening ask serial fs (Now Refused)
-refused-alone has gateway opening ask serial fs e alone =
-    unless has gateway opening ask serial fs (Now Refused) e (refused-if (is_refused_alone ask) gateway opening ask serial fs alone)
+pub refused-alone : (away gateway opening : Bool) (ask : StartAsk) (serial : ℕ) (fs : List Forwarding) → away ≡ false
+    → false ≡ not (is_refused_alone ask) → ComesUnless away gateway opening ask serial fs (Now Refused)
+refused-alone away gateway opening ask serial fs e alone =
+    unless away gateway opening ask serial fs (Now Refused) e (refused-if (is_refused_alone ask) gateway opening ask serial fs alone)
 
 -- its two ends are looked at
-pub by-ends : (has gateway opening : Bool) (ask : StartAsk) (serial : ℕ) (fs : List Forwarding) → has ≡ false
+pub by-ends : (away gateway opening : Bool) (ask : StartAsk) (serial : ℕ) (fs : List Forwarding) → away ≡ false
     → true ≡ not (is_refused_alone ask) → (ends : Ends) → AreEnds gateway ask ends → (asked : Asked)
-    → asked ≡ comes_of_ends opening serial ends fs → ComesUnless has gateway opening ask serial fs asked
-by-ends has gateway opening ask serial fs e alone ends are asked same =
-    unless has gateway opening ask serial fs asked e (ends-if (is_refused_alone ask) gateway opening ask serial fs alone ends are asked same)
+    → asked ≡ comes_of_ends opening serial ends fs → ComesUnless away gateway opening ask serial fs asked
+by-ends away gateway opening ask serial fs e alone ends are asked same =
+    unless away gateway opening ask serial fs asked e (ends-if (is_refused_alone ask) gateway opening ask serial fs alone ends are asked same)
 
 pub opens-there : (opening : Bool) (serial : ℕ) (ends : Ends) (fs : List Forwarding) (asked : Asked) → opening ≡ true
     → asked ≡ opens_of serial ends fs (standing ends fs) → asked ≡ comes_of_ends opening serial ends fs

@@ -1,5 +1,5 @@
 -- The forwardings of the house, and what comes of an ask by those that stand.
-use Rattle.std.specs.Prelude.{◌≡◌, ℕ, Bool, true, false, not, ◌&&◌, if◌then◌else◌, ◌==◌, nat_lt, List, [], ◌∷◌, ◌++◌, length, map, filter, find, get_or, is_some, IfSome, IsTrue, Option, Some, None}
+use Rattle.std.specs.Prelude.{◌≡◌, ℕ, Bool, true, false, not, ◌&&◌, ◌||◌, if◌then◌else◌, ◌==◌, nat_lt, List, [], ◌∷◌, ◌++◌, length, map, filter, find, get_or, is_some, IfSome, IsTrue, Option, Some, None}
 use Rattle.std.specs.List.{list_any, filter_map}
 use Rattle.std.specs.Str.{bytes_eq}
 use Rattle.mux_outside.specs.Streams.{among, without}
@@ -9,7 +9,7 @@ use Rattle.mux_outside.specs.declared.order.Order.TheVariants as order
 use Rattle.mux_outside.specs.declared.house.HouseReply.{HouseReply}
 use Rattle.mux_outside.specs.declared.house.HouseReply.TheVariants as reply
 use Rattle.mux_outside.specs.declared.start_ask.StartAsk.{StartAsk}
-use Rattle.house_forward.specs.Rules.{listens_here, same_kind, is_refused_alone, AreEnds}
+use Rattle.house_forward.specs.Rules.{listens_here, connects_there, same_kind, is_refused_alone, AreEnds}
 use Rattle.house_forward.specs.declared.asks.Outcome.{Outcome}
 use Rattle.house_forward.specs.declared.asks.Outcome.TheVariants.{Done, Port, Refused}
 use Rattle.house_forward.specs.declared.asks.Waiting.{Waiting}
@@ -40,10 +40,10 @@ abbrev pub listens_at : Ends → Forwarding → Bool
 listens_at ends f = same_kind f.kind ends.kind
     && ((f.listen_port == ends.listen_port) && bytes_eq f.listen_host ends.listen_host.now)
 
--- whether it connects where this is to connect
+-- whether it connects where this is to connect: where a dialog says that, whatever was asked
 abbrev pub connects_to : Ends → Forwarding → Bool
-connects_to ends f =
-    (f.connect_port == ends.connect_port) && bytes_eq f.connect_host ends.connect_host.now
+connects_to ends f = not (connects_there f.kind)
+    || ((f.connect_port == ends.connect_port) && bytes_eq f.connect_host ends.connect_host.now)
 
 abbrev pub listener_at : Stage → Option ℕ
 listener_at (ToListen host) = None
@@ -177,15 +177,15 @@ reply_to (Now (Port port)) = reply.Port port
 reply_to (Now Refused) = reply.Refused
 reply_to (Later serial) = reply.Later
 
--- one whose client has an open ask with its id is refused
+-- one is refused whose client has an open ask with its id, or while as many asks wait as may
 abbrev pub ComesUnless : Bool → Bool → Bool → StartAsk → ℕ → List Forwarding → Asked → Type 0
 ComesUnless true gateway opening ask serial fs asked = asked ≡ Now Refused
 ComesUnless false gateway opening ask serial fs asked = Comes gateway opening ask serial fs asked
 
 -- the reply to an ask
 abbrev pub Replies : Bool → Bool → Bool → StartAsk → ℕ → List Forwarding → HouseReply → Type 0
-Replies has gateway opening ask serial fs answer =
-    (asked : Asked) × ComesUnless has gateway opening ask serial fs asked × (answer ≡ reply_to asked)
+Replies away gateway opening ask serial fs answer =
+    (asked : Asked) × ComesUnless away gateway opening ask serial fs asked × (answer ≡ reply_to asked)
 
 abbrev pub requests_at : Stage → Bool → Bool
 requests_at (ToListen host) closing = false

@@ -2,10 +2,11 @@
 ghost use Rattle.std.specs.Prelude.{◌≡◌, ◌≤◌, ◌+◌, ◌++◌, ◌∷◌, [], length, OnOk, None};
 ghost use Rattle.std.specs.List.{position};
 ghost use Rattle.mux_outside.specs.House.{AnswerFits, gives_none, is_ask};
-ghost use Rattle.house_forward.specs.Asks.{has_open, waiting_for, settle_one, settled, refused, counted, owes_opening, earlier, earliest, stamp_of, reply_of, answer_of, answers_in};
+ghost use Rattle.house_forward.specs.Asks.{has_open, turns_away, waiting_for, settle_one, settled, refused, counted, owes_opening, earlier, earliest, stamp_of, reply_of, answer_of, answers_in};
 ghost use Rattle.house_forward.specs.Known.{open_ask, open_asks, asks_after_answer};
 ghost use Rattle.house_forward.specs.Quiet.{answers_none};
 
+use crate::rules::MOST_ASKS;
 use mux_outside::HouseReply;
 use ssh_fields::OutOfMemory;
 use std::alloc::Global;
@@ -65,12 +66,20 @@ impl Asks {
     }
 
     /// Whether a client has an ask with this id.
-    pub fn has(&self, client: u64, id: u32) -> bool
+    fn has(&self, client: u64, id: u32) -> bool
         ensures { result ≡ has_open client id self.now.waiting.items }
     {
         self.waiting
             .iter()
             .any(|w| w.client == client && w.id == id)
+    }
+
+    /// Whether an ask is refused for those that wait: its client has one with its id, or they are as
+    /// many as may wait.
+    pub fn turns_away(&self, client: u64, id: u32) -> bool
+        ensures { result ≡ turns_away client id self.now.waiting.items }
+    {
+        self.has(client, id) || self.len() >= MOST_ASKS
     }
 
     /// One more, that waits for the fate of a forwarding.

@@ -293,11 +293,13 @@ impl Forwarding {
             && self.listen_host.as_bytes() == ends.listen_host
     }
 
-    /// Whether it connects where this is to connect.
+    /// Whether it connects where this is to connect: where a dialog says that, whatever was asked.
     pub fn connects_to(&self, ends: Ends<'_>) -> bool
         ensures { result ≡ connects_to ends.entry self.now }
     {
-        self.connect_port == ends.connect_port && self.connect_host.as_bytes() == ends.connect_host
+        !self.kind.connects_there()
+            || (self.connect_port == ends.connect_port
+                && self.connect_host.as_bytes() == ends.connect_host)
     }
 
     /// What those that ask for it come to, once that is known.
