@@ -1,6 +1,6 @@
 -- The forwardings of the house, and what comes of an ask by those that stand.
-use Rattle.std.specs.Prelude.{◌≡◌, ℕ, Bool, true, false, not, ◌&&◌, ◌||◌, if◌then◌else◌, ◌==◌, nat_lt, List, [], ◌∷◌, ◌++◌, length, map, filter, find, get_or, is_some, IfSome, IsTrue, Option, Some, None}
-use Rattle.std.specs.List.{list_any, filter_map}
+use Rattle.std.specs.Prelude.{◌≡◌, ◌+◌, ℕ, zero, suc, Bool, true, false, not, ◌&&◌, ◌||◌, if◌then◌else◌, ◌==◌, nat_lt, nat_le, List, [], ◌∷◌, ◌++◌, length, map, filter, find, get_or, set, slice_get, is_some, IfSome, IsTrue, Option, Some, None}
+use Rattle.std.specs.List.{list_any, filter_map, position, remove}
 use Rattle.std.specs.Str.{bytes_eq}
 use Rattle.mux_outside.specs.Streams.{among, without}
 use Rattle.house_forward.specs.Asks.{owes_opening, settled, refused}
@@ -74,6 +74,11 @@ bound_at (Cancelling port) = Some port
 -- the port that the server listens on, if it does
 abbrev pub bound_of : Forwarding → Option ℕ
 bound_of f = bound_at f.stage
+
+-- serials rise from this number on, and are below that one
+abbrev pub is_numbered : ℕ → List Forwarding → ℕ → Bool
+is_numbered low [] high = nat_le low high
+is_numbered low (f ∷ fs) high = nat_le low f.serial && is_numbered (f.serial + 1) fs high
 
 -- with the port where it was asked as 0
 abbrev pub granted : ℕ → ℕ → Outcome
@@ -419,6 +424,11 @@ Opens false ends serial start old new = new ≡ old
 Opens true ends serial start old new =
     (f : Forwarding) × IsAskedFor ends serial start f × (new ≡ old ++ f ∷ [])
 
+-- a new one takes the next serial
+abbrev pub serials_after : Bool → ℕ → ℕ
+serials_after false serials = serials
+serials_after true serials = serials + 1
+
 -- a request that was said is unanswered
 abbrev pub after_saying : Request → List Forwarding → List Forwarding
 after_saying (Listen serial) fs = map (changed change.Request serial) fs
@@ -433,6 +443,75 @@ first_refused (Some first) start = Some first
 abbrev pub FailsAt : ℕ → List Forwarding → Option ℕ → Option ℕ → Type 0
 FailsAt i fs old new =
     (f : Forwarding) × (f ≡ get_or fs i f) × (new ≡ first_refused old f.start)
+
+abbrev pub start_of : Option Forwarding → Option ℕ
+start_of None = None
+start_of (Some f) = f.start
+
+-- ---- the start
+
+-- the forwardings, the next serial, and the first of those asked for at the start that was refused
+pub record Standing : Type 0 where
+  pub all : List Forwarding
+  pub serials : ℕ
+  pub refused : Option ℕ
+
+abbrev pub what_stands : List Forwarding → ℕ → Option ℕ → Standing
+what_stands fs serials refused = record { all = fs; serials = serials; refused = refused }
+
+abbrev pub refused_if : Asked → ℕ → Option ℕ → Option ℕ
+refused_if (Now Done) i refused = refused
+refused_if (Now (Port port)) i refused = refused
+refused_if (Now Refused) i refused = first_refused refused (Some i)
+refused_if (Later serial) i refused = refused
+
+-- one with these two ends is asked for at the start, at this place
+pub record StartsAt (ends : Ends) (i : ℕ) (old new : Standing) : Type 0 where
+  pub all : Opens (is_new ends old.all (standing ends old.all)) ends old.serials (Some i) old.all new.all
+  pub serials : new.serials ≡ serials_after (is_new ends old.all (standing ends old.all)) old.serials
+  pub refused : new.refused ≡ refused_if (opens_of old.serials ends old.all (standing ends old.all)) i old.refused
+
+-- one that is refused whatever stands is the first that was refused, if none was yet
+abbrev pub StartsIf : Bool → Bool → StartAsk → ℕ → Standing → Standing → Type 0
+StartsIf true gateway ask i old new =
+    new ≡ what_stands old.all old.serials (first_refused old.refused (Some i))
+StartsIf false gateway ask i old new =
+    (ends : Ends) × AreEnds gateway ask ends × StartsAt ends i old new
+
+-- so many of them were asked for, one after another
+abbrev pub Begins : Bool → List StartAsk → ℕ → Standing → Standing → Type 0
+Begins gateway asks zero old new = new ≡ old
+Begins gateway asks (suc i) old new = (one : Standing) × Begins gateway asks i old one
+    × IfSome (slice_get asks i) (λ ask. StartsIf (is_refused_alone ask) gateway ask i one new)
+
+-- ---- what orders leave
+
+-- the one at a place is ordered
+abbrev pub OrderedAt : ℕ → List Forwarding → List Forwarding → Type 0
+OrderedAt i old new =
+    (f : Forwarding) × (f ≡ get_or old i f) × (new ≡ set old i (record f { stage = Ordered }))
+
+-- an order about a listener leaves the first that has none yet as ordered, or none with that listener
+abbrev pub Leaves : ListenerOrder → List Forwarding → List Forwarding → Type 0
+Leaves (ListensAt host port) old new =
+    IfSome (position to_listen old) (λ i. OrderedAt i old new)
+Leaves (Unlistens l) old new = new ≡ filter (λ f. not (has_listener l f)) old
+
+-- those that asked to close one get their answer as it is closed
+abbrev pub order_asks : Option Want → ℕ → List Waiting → List Waiting
+order_asks None at waiting = waiting
+order_asks (Some want.Listen) at waiting = waiting
+order_asks (Some (want.Unlisten serial l)) at waiting = settled serial false at Done waiting
+
+-- the one at a place has this listener, or is gone where none could be made
+abbrev pub MadeAt : Option ℕ → ℕ → List Forwarding → List Forwarding → Type 0
+MadeAt None i old new = new ≡ remove old i
+MadeAt (Some l) i old new = (f : Forwarding) × (f ≡ get_or old i f)
+    × (new ≡ set old i (record f { stage = Listening l }))
+
+abbrev pub made_refused : Option ℕ → Option Forwarding → Option ℕ → Option ℕ
+made_refused None first refused = first_refused refused (start_of first)
+made_refused (Some l) first refused = refused
 
 -- ---- replies of the server
 
@@ -477,6 +556,25 @@ replied_asks true port (Some (Listen serial)) fs at waiting =
 replied_asks false port (Some (Listen serial)) fs at waiting = refused serial at waiting
 replied_asks true port (Some (Cancel serial)) fs at waiting = settled serial false at Done waiting
 replied_asks false port (Some (Cancel serial)) fs at waiting = settled serial false at Refused waiting
+
+abbrev pub removed_at : Option ℕ → List Forwarding → List Forwarding
+removed_at None fs = fs
+removed_at (Some i) fs = remove fs i
+
+-- what a reply leaves: a forwarding whose request is refused, or whose cancel is granted, is gone
+abbrev pub replied_all : Bool → Option ℕ → Option Request → List Forwarding → List Forwarding
+replied_all success port None fs = fs
+replied_all true port (Some (Listen serial)) fs = map (changed (change.Live port) serial) fs
+replied_all false port (Some (Listen serial)) fs = removed_at (position (is_asked serial) fs) fs
+replied_all true port (Some (Cancel serial)) fs = removed_at (position (is_cancelled serial) fs) fs
+replied_all false port (Some (Cancel serial)) fs = map (changed change.Stay serial) fs
+
+abbrev pub replied_refused : Bool → Option Request → List Forwarding → Option ℕ → Option ℕ
+replied_refused success None fs refused = refused
+replied_refused true (Some (Listen serial)) fs refused = refused
+replied_refused false (Some (Listen serial)) fs refused =
+    first_refused refused (start_of (find (is_asked serial) fs))
+replied_refused success (Some (Cancel serial)) fs refused = refused
 
 abbrev pub first_of : List Request → Option Request
 first_of [] = None

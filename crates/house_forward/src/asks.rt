@@ -1,10 +1,11 @@
 //! The asks of clients that are to be answered later.
-ghost use Rattle.std.specs.Prelude.{◌≡◌, ◌≤◌, ◌+◌, ◌++◌, ◌∷◌, [], length, OnOk, None};
+ghost use Rattle.std.specs.Prelude.{◌≡◌, ◌≤◌, ◌<◌, ◌+◌, ◌++◌, ◌∷◌, [], length, OnOk, None};
 ghost use Rattle.std.specs.List.{position};
 ghost use Rattle.mux_outside.specs.House.{AnswerFits, gives_none, is_ask};
 ghost use Rattle.house_forward.specs.Asks.{has_open, turns_away, waiting_for, settle_one, settled, refused, counted, owes_opening, earlier, earliest, stamp_of, reply_of, answer_of, answers_in};
 ghost use Rattle.house_forward.specs.Known.{open_ask, open_asks, asks_after_answer};
 ghost use Rattle.house_forward.specs.Quiet.{answers_none};
+ghost use Rattle.house_forward.specs.declared.rules.TheConstants.{MOST_ASKS};
 
 use crate::rules::MOST_ASKS;
 use mux_outside::HouseReply;
@@ -46,6 +47,7 @@ pub struct Asks {
     waiting: Vec<Waiting>,
     /// How many came to something.
     done: u64,
+    ghost few: { length waiting.items ≤ MOST_ASKS },
 }
 
 impl Asks {
@@ -90,12 +92,14 @@ impl Asks {
         opening: bool,
         forwarding: u64,
     ) -> Result<(), OutOfMemory>
+        requires { length self.old.waiting.items < MOST_ASKS }
         ensures waits { OnOk result (self.new.waiting.items ≡ self.old.waiting.items
             ++ waiting_for client id opening forwarding ∷ []) }
         ensures ok { OnOk result (open_asks self.new.waiting.items
             ≡ open_asks self.old.waiting.items
             ++ record { client = client; id = id; opening = opening } ∷ []) }
         ensures count { length self.new.waiting.items ≤ length self.old.waiting.items + 1 }
+        ensures done { self.new.done ≡ self.old.done }
     {
         self.waiting.push(Waiting {
             client,
@@ -126,6 +130,7 @@ impl Asks {
     pub fn refuse(&mut self, forwarding: u64)
         ensures waiting { self.new.waiting.items
             ≡ refused forwarding self.old.done self.old.waiting.items }
+        ensures done { self.new.done ≡ counted (counted self.old.done) }
         ensures open { open_asks self.new.waiting.items ≡ open_asks self.old.waiting.items }
         ensures count { length self.new.waiting.items ≡ length self.old.waiting.items }
     {
@@ -152,6 +157,7 @@ impl Asks {
             ≡ asks_after_answer result (open_asks self.old.waiting.items) }
         ensures count { length self.new.waiting.items + answers_in result
             ≡ length self.old.waiting.items }
+        ensures done { self.new.done ≡ self.old.done }
     {
         let w = self.earliest()?;
         let i = self.place_of(w.client, w.id)?;

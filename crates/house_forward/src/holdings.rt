@@ -7,6 +7,7 @@ ghost use Rattle.mux_outside.specs.declared.piece.TheConstants.{LONGEST_PIECE};
 ghost use Rattle.house_forward.specs.Asks.{turns_away};
 ghost use Rattle.house_forward.specs.Due.{due, most_due};
 ghost use Rattle.house_forward.specs.Forwardings.{listeners_of, has_request, request_of, has_listener, ComesUnless, Replies, ListensFirst};
+ghost use Rattle.house_forward.specs.declared.rules.TheConstants.{MOST_ASKS};
 ghost use Rattle.house_forward.specs.Known.{known_of, ordering_of, is_there};
 ghost use Rattle.house_forward.specs.Links.{streams_of, queue_at, is_full, ConnectsFirst, IsJoined, IsJoinedAt, Joins};
 ghost use Rattle.house_forward.specs.Quiet.{quiet_of, says_none, orders_none};
@@ -164,6 +165,8 @@ impl Holdings {
             (turns_away client id self.old.asks.waiting.items) self.old.gateway opening
             (ask_of what.now) self.old.forwardings.serials
             self.old.forwardings.all.items asked) }
+        ensures room { (serial : ℕ) → result ≡ Ok (Asked.Later serial)
+            → length self.new.asks.waiting.items < MOST_ASKS }
         ensures listeners { listeners_of self.new.forwardings.all.items
             ≡ listeners_of self.old.forwardings.all.items }
         ensures count { length self.new.forwardings.all.items
