@@ -3,7 +3,7 @@ use Rattle.std.specs.Prelude.{◌≡◌, ◌+◌, ℕ, zero, suc, Bool, true, fa
 use Rattle.std.specs.List.{list_any, filter_map, position, remove}
 use Rattle.std.specs.Str.{bytes_eq}
 use Rattle.mux_outside.specs.Streams.{among, without}
-use Rattle.house_forward.specs.Asks.{owes_opening, settled, refused}
+use Rattle.house_forward.specs.Asks.{owes_opening, settled, refused, waiting_for}
 use Rattle.mux_outside.specs.declared.order.Order.{Order}
 use Rattle.mux_outside.specs.declared.order.Order.TheVariants as order
 use Rattle.mux_outside.specs.declared.house.HouseReply.{HouseReply}
@@ -121,6 +121,19 @@ host_at (Cancelling port) host = host
 abbrev pub IsAt : Stage → List ℕ → Type 0
 IsAt stage host = host_at stage host ≡ host
 
+abbrev pub waits_at : Stage → Bool
+waits_at (ToListen host) = true
+waits_at Ordered = true
+waits_at (Listening l) = false
+waits_at ToRequest = false
+waits_at Requested = false
+waits_at (Live port) = false
+waits_at (Cancelling port) = false
+
+-- whether it is to listen here, and has no listener yet
+abbrev pub to_listen : Forwarding → Bool
+to_listen f = waits_at f.stage
+
 -- a forwarding that is asked for
 pub record IsAskedFor (ends : Ends) (serial : ℕ) (start : Option ℕ) (f : Forwarding) : Type 0 where
   pub serial_is : f.serial ≡ serial
@@ -130,6 +143,7 @@ pub record IsAskedFor (ends : Ends) (serial : ℕ) (start : Option ℕ) (f : For
   pub connects : f.connect_host ≡ ends.connect_host.now
   pub connect_port_is : f.connect_port ≡ ends.connect_port
   pub first : is_first f.stage ≡ true
+  pub here : to_listen f ≡ listens_here ends.kind
   pub place : IsAt f.stage f.listen_host
   pub open_yet : f.closing ≡ false
   pub start_is : f.start ≡ start
@@ -166,32 +180,6 @@ abbrev pub comes_of_ends : Bool → ℕ → Ends → List Forwarding → Asked
 comes_of_ends true serial ends fs = opens_of serial ends fs (standing ends fs)
 comes_of_ends false serial ends fs = closes_of (standing ends fs)
 
--- what comes of an ask that is refused whatever stands, or of the two ends of another
-abbrev pub ComesIf : Bool → Bool → Bool → StartAsk → ℕ → List Forwarding → Asked → Type 0
-ComesIf true gateway opening ask serial fs asked = asked ≡ Now Refused
-ComesIf false gateway opening ask serial fs asked =
-    (ends : Ends) × AreEnds gateway ask ends × (asked ≡ comes_of_ends opening serial ends fs)
-
-abbrev pub Comes : Bool → Bool → StartAsk → ℕ → List Forwarding → Asked → Type 0
-Comes gateway opening ask serial fs asked =
-    ComesIf (is_refused_alone ask) gateway opening ask serial fs asked
-
-abbrev pub reply_to : Asked → HouseReply
-reply_to (Now Done) = reply.Done
-reply_to (Now (Port port)) = reply.Port port
-reply_to (Now Refused) = reply.Refused
-reply_to (Later serial) = reply.Later
-
--- one is refused whose client has an open ask with its id, or while as many asks wait as may
-abbrev pub ComesUnless : Bool → Bool → Bool → StartAsk → ℕ → List Forwarding → Asked → Type 0
-ComesUnless true gateway opening ask serial fs asked = asked ≡ Now Refused
-ComesUnless false gateway opening ask serial fs asked = Comes gateway opening ask serial fs asked
-
--- the reply to an ask
-abbrev pub Replies : Bool → Bool → Bool → StartAsk → ℕ → List Forwarding → HouseReply → Type 0
-Replies away gateway opening ask serial fs answer =
-    (asked : Asked) × ComesUnless away gateway opening ask serial fs asked × (answer ≡ reply_to asked)
-
 abbrev pub requests_at : Stage → Bool → Bool
 requests_at (ToListen host) closing = false
 requests_at Ordered closing = false
@@ -223,19 +211,6 @@ request_of f = request_at f.stage f.serial
 -- the listeners, in the order in which they were made
 abbrev pub listeners_of : List Forwarding → List ℕ
 listeners_of fs = filter_map listener_of fs
-
-abbrev pub waits_at : Stage → Bool
-waits_at (ToListen host) = true
-waits_at Ordered = true
-waits_at (Listening l) = false
-waits_at ToRequest = false
-waits_at Requested = false
-waits_at (Live port) = false
-waits_at (Cancelling port) = false
-
--- whether it is to listen here, and has no listener yet
-abbrev pub to_listen : Forwarding → Bool
-to_listen f = waits_at f.stage
 
 abbrev pub ordered_at : Stage → Bool
 ordered_at (ToListen host) = false
@@ -428,6 +403,38 @@ Opens true ends serial start old new =
 abbrev pub serials_after : Bool → ℕ → ℕ
 serials_after false serials = serials
 serials_after true serials = serials + 1
+
+-- ---- what an ask comes to
+
+-- what an ask leaves of the forwardings
+abbrev pub EndsLeave : Bool → ℕ → Ends → List Forwarding → List Forwarding → Type 0
+EndsLeave true serial ends old new =
+    Opens (is_new ends old (standing ends old)) ends serial None old new
+EndsLeave false serial ends old new = new ≡ after_close (closes_of (standing ends old)) old
+
+-- an ask that is refused whatever stands changes nothing; of another the two ends are looked at
+abbrev pub ComesIf : Bool → Bool → Bool → StartAsk → ℕ → List Forwarding → List Forwarding → Asked → Type 0
+ComesIf true gateway opening ask serial old new asked = (asked ≡ Now Refused) × (new ≡ old)
+ComesIf false gateway opening ask serial old new asked = (ends : Ends) × AreEnds gateway ask ends
+    × (asked ≡ comes_of_ends opening serial ends old) × EndsLeave opening serial ends old new
+
+-- one is refused whose client has an open ask with its id, or while as many asks wait as may
+abbrev pub ComesUnless : Bool → Bool → Bool → StartAsk → ℕ → List Forwarding → List Forwarding → Asked → Type 0
+ComesUnless true gateway opening ask serial old new asked = (asked ≡ Now Refused) × (new ≡ old)
+ComesUnless false gateway opening ask serial old new asked =
+    ComesIf (is_refused_alone ask) gateway opening ask serial old new asked
+
+abbrev pub reply_to : Asked → HouseReply
+reply_to (Now Done) = reply.Done
+reply_to (Now (Port port)) = reply.Port port
+reply_to (Now Refused) = reply.Refused
+reply_to (Later serial) = reply.Later
+
+-- an ask waits where it has no reply yet
+abbrev pub asks_after : Asked → ℕ → ℕ → Bool → List Waiting → List Waiting
+asks_after (Now outcome) client id opening waiting = waiting
+asks_after (Later serial) client id opening waiting =
+    waiting ++ waiting_for client id opening serial ∷ []
 
 -- a request that was said is unanswered
 abbrev pub after_saying : Request → List Forwarding → List Forwarding
