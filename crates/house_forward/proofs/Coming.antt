@@ -9,7 +9,7 @@ use Rattle.house_forward.specs.Forwardings.{ComesIf, ComesUnless, EndsLeave, Ope
 use Rattle.house_forward.specs.Links.{ConnectsFirst}
 use Rattle.house_forward.specs.Rules.{is_refused_alone, AreEnds}
 use Rattle.house_forward.specs.declared.asks.Asked.{Asked}
-use Rattle.house_forward.specs.declared.asks.Asked.TheVariants.{Now, Later}
+use Rattle.house_forward.specs.declared.asks.Asked.TheVariants.{Now}
 use Rattle.house_forward.specs.declared.asks.Outcome.TheVariants.{Refused}
 use Rattle.house_forward.specs.declared.forwarding.Forwarding.{Forwarding}
 use Rattle.house_forward.specs.declared.link.Link.{Link}

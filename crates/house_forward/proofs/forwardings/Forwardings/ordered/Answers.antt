@@ -1,6 +1,5 @@
-use Rattle.std.proofs.Common.{sym, refl, ap, ◌≡◌, ◌∙◌}
-use Rattle.house_forward.specs.Asks.{refused}
-use Rattle.house_forward.specs.Forwardings.{ordered_asks, to_listen}
+use Rattle.std.proofs.Common.{sym, refl}
+use Rattle.house_forward.specs.Forwardings.{to_listen}
 use Rattle.house_forward.specs.declared.forwarding.Forwarding.{Forwarding}
 use Rattle.house_forward.specs.declared.forwarding.Stage.TheVariants.{Listening}
 use Rattle.house_forward.proofs.InOrder.{none-waits, waits-serial, made, fails}
