@@ -1,8 +1,8 @@
 -- The next answer, and what it leaves of the asks.
-use Rattle.std.proofs.Common.{◌≡◌, ◌∙◌, refl, sym, ap, subst, ℕ, zero, suc, ◌+◌, ◌<◌, Bool, true, false, cond, List, [], ◌∷◌, ◌++◌, length, get_or, map, Option, Some, None, arith}
-use Rattle.std.specs.Prelude.{◌||◌, ◌&&◌, ◌==◌, nat_lt, not, is_some, IsTrue, if◌then◌else◌}
+use Rattle.std.proofs.Common.{◌≡◌, ◌∙◌, refl, sym, ap, ℕ, zero, suc, ◌<◌, Bool, true, false, List, [], ◌∷◌, length, get_or, Option, Some, None, arith}
+use Rattle.std.specs.Prelude.{◌||◌, ◌&&◌, nat_lt, not, is_some, IsTrue, if◌then◌else◌}
 use Rattle.std.specs.List.{list_any, fold, position, remove}
-use Rattle.std.proofs.lemmas.Bool.{or_left, or_right, both_ways, and_from, eq-eqb, false≢true}
+use Rattle.std.proofs.lemmas.Bool.{or_left, or_right, both_ways, and_from, eq-eqb}
 use Rattle.std.proofs.lemmas.List.Quantifiers.{position-Some}
 use Rattle.mux_outside.specs.House.{ReplyFits, is_ask, has_ask, without_ask, OpenAsk}
 use Rattle.house_forward.specs.Asks.{has_outcome, is_settled, earlier, earlier_at, earliest, reply_of, reply_in, stamp_of}

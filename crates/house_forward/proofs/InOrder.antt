@@ -1,14 +1,14 @@
 -- The listeners of the forwardings, in the order in which they were made.
-use Rattle.std.proofs.Common.{◌≡◌, ◌∙◌, refl, sym, ap, subst, ℕ, zero, suc, ◌+◌, ◌<◌, ◌≤◌, Bool, true, false, cond, List, [], ◌∷◌, ◌++◌, length, get_or, set, take, drop, map, filter, Option, Some, None, arith}
-use Rattle.std.specs.Prelude.{◌||◌, ◌&&◌, ◌==◌, not, is_some, IsTrue, find, if◌then◌else◌}
-use Rattle.std.specs.List.{list_any, filter_map, cons_option, sum_by, position, remove}
-use Rattle.std.proofs.lemmas.Bool.{or_left, or_right, or_parts, or_from, and_parts, and_from, both_ways, not-true, not_from_false, eq-eqb, eqb-true}
+use Rattle.std.proofs.Common.{◌≡◌, ◌∙◌, refl, sym, ap, subst, ℕ, zero, suc, ◌+◌, ◌<◌, ◌≤◌, Bool, true, false, cond, List, [], ◌∷◌, ◌++◌, length, get_or, set, map, filter, Option, Some, None, arith}
+use Rattle.std.specs.Prelude.{◌||◌, ◌&&◌, ◌==◌, not, is_some, find, if◌then◌else◌}
+use Rattle.std.specs.List.{cons_option, sum_by, position, remove}
+use Rattle.std.proofs.lemmas.Bool.{or_left, or_right, or_parts, or_from, and_parts, and_from, both_ways, not-true, not_from_false, eq-eqb}
 use Rattle.std.proofs.lemmas.List.Quantifiers.{position-Some}
 use Rattle.std.proofs.lemmas.List.Sums.{sum_by-cons, sum_by-set, sum_by-remove}
 use Rattle.mux_outside.specs.Streams.{among, without}
 use Rattle.house_forward.specs.Asks.{owes_opening}
 use Rattle.house_forward.specs.Due.{forwarding_due, stage_due}
-use Rattle.house_forward.specs.Forwardings.{listener_of, listener_at, listeners_of, listens, to_listen, waits_at, is_in_order, has_listener, is_listener, changed, stage_after, next_of, next_at, ends_at, is_ordered_first, ordered_at, is_to_listen, is_first, asks_at, cancels_at, is_asked, is_cancelled, serial_of, want_in, pends, is_pending, is_first_to_listen}
+use Rattle.house_forward.specs.Forwardings.{listener_of, listener_at, listeners_of, listens, to_listen, waits_at, is_in_order, has_listener, is_listener, changed, stage_after, next_of, next_at, is_ordered_first, is_to_listen, is_first, asks_at, cancels_at, is_asked, is_cancelled, serial_of, want_in, pends, is_pending, is_first_to_listen}
 use Rattle.house_forward.specs.declared.asks.Waiting.{Waiting}
 use Rattle.house_forward.specs.declared.forwarding.Change.{Change}
 use Rattle.house_forward.specs.declared.forwarding.Change.TheVariants as change

@@ -1,10 +1,10 @@
 -- A listener is ordered where its forwarding is to listen.
-use Rattle.std.proofs.Common.{◌≡◌, ◌∙◌, refl, sym, ap, subst, ℕ, suc, ◌+◌, ◌<◌, Bool, true, false, List, [], ◌∷◌, ◌++◌, length, get_or, set, take, drop, map, filter, Option, Some, None, arith}
-use Rattle.std.specs.Prelude.{if◌then◌else◌, find, is_some, IfSome}
+use Rattle.std.proofs.Common.{◌≡◌, ◌∙◌, refl, sym, ap, subst, ℕ, suc, Bool, true, false, List, [], ◌∷◌, ◌++◌, get_or, set, take, drop, map, filter, Option, Some, None}
+use Rattle.std.specs.Prelude.{if◌then◌else◌, find, IfSome}
 use Rattle.std.specs.List.{All, position, remove}
 use Rattle.std.proofs.lemmas.List.Elements.{All-set, All-append, All-take, All-drop, All-filter, All-map, All-push}
 use Rattle.std.proofs.lemmas.List.Quantifiers.{position-Some}
-use Rattle.house_forward.specs.Forwardings.{IsAt, ListensFor, changed, stage_after, closing_after, to_listen}
+use Rattle.house_forward.specs.Forwardings.{IsAt, ListensFor, changed, stage_after, to_listen}
 use Rattle.house_forward.specs.declared.forwarding.Change.{Change}
 use Rattle.house_forward.specs.declared.forwarding.Change.TheVariants as change
 use Rattle.house_forward.specs.declared.forwarding.Forwarding.{Forwarding}

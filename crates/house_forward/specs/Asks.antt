@@ -1,15 +1,21 @@
 -- The asks that have no answer yet, and the answers.
-use Rattle.std.specs.Prelude.{◌≡◌, ◌+◌, ◌-◌, ◌^◌, ℕ, Bool, true, false, ◌&&◌, ◌==◌, nat_lt, min, if◌then◌else◌, List, map, IsTrue, Option, Some, None}
+use Rattle.std.specs.Prelude.{◌+◌, ◌-◌, ◌^◌, ℕ, Bool, true, false, ◌&&◌, ◌||◌, ◌==◌, nat_lt, nat_le, min, if◌then◌else◌, List, length, map, Option, Some, None}
 use Rattle.std.specs.List.{list_any, fold}
 use Rattle.mux_outside.specs.declared.house.HouseReply.{HouseReply}
 use Rattle.mux_outside.specs.declared.house.HouseReply.TheVariants as reply
 use Rattle.house_forward.specs.declared.asks.Outcome.{Outcome}
 use Rattle.house_forward.specs.declared.asks.Outcome.TheVariants.{Done, Port, Refused}
 use Rattle.house_forward.specs.declared.asks.Waiting.{Waiting}
+use Rattle.house_forward.specs.declared.rules.TheConstants.{MOST_ASKS}
 
 -- whether a client has an ask with this id
 abbrev pub has_open : ℕ → ℕ → List Waiting → Bool
 has_open client id waiting = list_any (λ w. (w.client == client) && (w.id == id)) waiting
+
+-- whether an ask is refused for those that wait: one of them is of its client with its id, or they are
+-- as many as may wait
+abbrev pub turns_away : ℕ → ℕ → List Waiting → Bool
+turns_away client id waiting = has_open client id waiting || nat_le MOST_ASKS (length waiting)
 
 -- an ask that waits for the fate of a forwarding
 abbrev pub waiting_for : ℕ → ℕ → Bool → ℕ → Waiting

@@ -1,15 +1,15 @@
 -- The forwardings of the house, and what comes of an ask by those that stand.
-use Rattle.std.specs.Prelude.{◌≡◌, ℕ, Bool, true, false, not, ◌&&◌, if◌then◌else◌, ◌==◌, nat_lt, List, [], ◌∷◌, ◌++◌, length, map, filter, find, get_or, is_some, IfSome, IsTrue, Option, Some, None}
-use Rattle.std.specs.List.{list_any, filter_map}
+use Rattle.std.specs.Prelude.{◌≡◌, ◌+◌, ℕ, zero, suc, Bool, true, false, not, ◌&&◌, ◌||◌, if◌then◌else◌, ◌==◌, nat_lt, nat_le, List, [], ◌∷◌, ◌++◌, length, map, filter, find, get_or, set, slice_get, is_some, IfSome, IsTrue, Option, Some, None}
+use Rattle.std.specs.List.{list_any, filter_map, position, remove}
 use Rattle.std.specs.Str.{bytes_eq}
 use Rattle.mux_outside.specs.Streams.{among, without}
-use Rattle.house_forward.specs.Asks.{owes_opening, settled, refused}
+use Rattle.house_forward.specs.Asks.{owes_opening, settled, refused, waiting_for}
 use Rattle.mux_outside.specs.declared.order.Order.{Order}
 use Rattle.mux_outside.specs.declared.order.Order.TheVariants as order
 use Rattle.mux_outside.specs.declared.house.HouseReply.{HouseReply}
 use Rattle.mux_outside.specs.declared.house.HouseReply.TheVariants as reply
 use Rattle.mux_outside.specs.declared.start_ask.StartAsk.{StartAsk}
-use Rattle.house_forward.specs.Rules.{listens_here, same_kind, is_refused_alone, AreEnds}
+use Rattle.house_forward.specs.Rules.{listens_here, connects_there, same_kind, is_refused_alone, AreEnds}
 use Rattle.house_forward.specs.declared.asks.Outcome.{Outcome}
 use Rattle.house_forward.specs.declared.asks.Outcome.TheVariants.{Done, Port, Refused}
 use Rattle.house_forward.specs.declared.asks.Waiting.{Waiting}
@@ -40,10 +40,10 @@ abbrev pub listens_at : Ends → Forwarding → Bool
 listens_at ends f = same_kind f.kind ends.kind
     && ((f.listen_port == ends.listen_port) && bytes_eq f.listen_host ends.listen_host.now)
 
--- whether it connects where this is to connect
+-- whether it connects where this is to connect: where a dialog says that, whatever was asked
 abbrev pub connects_to : Ends → Forwarding → Bool
-connects_to ends f =
-    (f.connect_port == ends.connect_port) && bytes_eq f.connect_host ends.connect_host.now
+connects_to ends f = not (connects_there f.kind)
+    || ((f.connect_port == ends.connect_port) && bytes_eq f.connect_host ends.connect_host.now)
 
 abbrev pub listener_at : Stage → Option ℕ
 listener_at (ToListen host) = None
@@ -74,6 +74,11 @@ bound_at (Cancelling port) = Some port
 -- the port that the server listens on, if it does
 abbrev pub bound_of : Forwarding → Option ℕ
 bound_of f = bound_at f.stage
+
+-- serials rise from this number on, and are below that one
+abbrev pub is_numbered : ℕ → List Forwarding → ℕ → Bool
+is_numbered low [] high = nat_le low high
+is_numbered low (f ∷ fs) high = nat_le low f.serial && is_numbered (f.serial + 1) fs high
 
 -- with the port where it was asked as 0
 abbrev pub granted : ℕ → ℕ → Outcome
@@ -116,6 +121,19 @@ host_at (Cancelling port) host = host
 abbrev pub IsAt : Stage → List ℕ → Type 0
 IsAt stage host = host_at stage host ≡ host
 
+abbrev pub waits_at : Stage → Bool
+waits_at (ToListen host) = true
+waits_at Ordered = true
+waits_at (Listening l) = false
+waits_at ToRequest = false
+waits_at Requested = false
+waits_at (Live port) = false
+waits_at (Cancelling port) = false
+
+-- whether it is to listen here, and has no listener yet
+abbrev pub to_listen : Forwarding → Bool
+to_listen f = waits_at f.stage
+
 -- a forwarding that is asked for
 pub record IsAskedFor (ends : Ends) (serial : ℕ) (start : Option ℕ) (f : Forwarding) : Type 0 where
   pub serial_is : f.serial ≡ serial
@@ -125,6 +143,7 @@ pub record IsAskedFor (ends : Ends) (serial : ℕ) (start : Option ℕ) (f : For
   pub connects : f.connect_host ≡ ends.connect_host.now
   pub connect_port_is : f.connect_port ≡ ends.connect_port
   pub first : is_first f.stage ≡ true
+  pub here : to_listen f ≡ listens_here ends.kind
   pub place : IsAt f.stage f.listen_host
   pub open_yet : f.closing ≡ false
   pub start_is : f.start ≡ start
@@ -161,32 +180,6 @@ abbrev pub comes_of_ends : Bool → ℕ → Ends → List Forwarding → Asked
 comes_of_ends true serial ends fs = opens_of serial ends fs (standing ends fs)
 comes_of_ends false serial ends fs = closes_of (standing ends fs)
 
--- what comes of an ask that is refused whatever stands, or of the two ends of another
-abbrev pub ComesIf : Bool → Bool → Bool → StartAsk → ℕ → List Forwarding → Asked → Type 0
-ComesIf true gateway opening ask serial fs asked = asked ≡ Now Refused
-ComesIf false gateway opening ask serial fs asked =
-    (ends : Ends) × AreEnds gateway ask ends × (asked ≡ comes_of_ends opening serial ends fs)
-
-abbrev pub Comes : Bool → Bool → StartAsk → ℕ → List Forwarding → Asked → Type 0
-Comes gateway opening ask serial fs asked =
-    ComesIf (is_refused_alone ask) gateway opening ask serial fs asked
-
-abbrev pub reply_to : Asked → HouseReply
-reply_to (Now Done) = reply.Done
-reply_to (Now (Port port)) = reply.Port port
-reply_to (Now Refused) = reply.Refused
-reply_to (Later serial) = reply.Later
-
--- one whose client has an open ask with its id is refused
-abbrev pub ComesUnless : Bool → Bool → Bool → StartAsk → ℕ → List Forwarding → Asked → Type 0
-ComesUnless true gateway opening ask serial fs asked = asked ≡ Now Refused
-ComesUnless false gateway opening ask serial fs asked = Comes gateway opening ask serial fs asked
-
--- the reply to an ask
-abbrev pub Replies : Bool → Bool → Bool → StartAsk → ℕ → List Forwarding → HouseReply → Type 0
-Replies has gateway opening ask serial fs answer =
-    (asked : Asked) × ComesUnless has gateway opening ask serial fs asked × (answer ≡ reply_to asked)
-
 abbrev pub requests_at : Stage → Bool → Bool
 requests_at (ToListen host) closing = false
 requests_at Ordered closing = false
@@ -218,19 +211,6 @@ request_of f = request_at f.stage f.serial
 -- the listeners, in the order in which they were made
 abbrev pub listeners_of : List Forwarding → List ℕ
 listeners_of fs = filter_map listener_of fs
-
-abbrev pub waits_at : Stage → Bool
-waits_at (ToListen host) = true
-waits_at Ordered = true
-waits_at (Listening l) = false
-waits_at ToRequest = false
-waits_at Requested = false
-waits_at (Live port) = false
-waits_at (Cancelling port) = false
-
--- whether it is to listen here, and has no listener yet
-abbrev pub to_listen : Forwarding → Bool
-to_listen f = waits_at f.stage
 
 abbrev pub ordered_at : Stage → Bool
 ordered_at (ToListen host) = false
@@ -419,6 +399,43 @@ Opens false ends serial start old new = new ≡ old
 Opens true ends serial start old new =
     (f : Forwarding) × IsAskedFor ends serial start f × (new ≡ old ++ f ∷ [])
 
+-- a new one takes the next serial
+abbrev pub serials_after : Bool → ℕ → ℕ
+serials_after false serials = serials
+serials_after true serials = serials + 1
+
+-- ---- what an ask comes to
+
+-- what an ask leaves of the forwardings
+abbrev pub EndsLeave : Bool → ℕ → Ends → List Forwarding → List Forwarding → Type 0
+EndsLeave true serial ends old new =
+    Opens (is_new ends old (standing ends old)) ends serial None old new
+EndsLeave false serial ends old new = new ≡ after_close (closes_of (standing ends old)) old
+
+-- an ask that is refused whatever stands changes nothing; of another the two ends are looked at
+abbrev pub ComesIf : Bool → Bool → Bool → StartAsk → ℕ → List Forwarding → List Forwarding → Asked → Type 0
+ComesIf true gateway opening ask serial old new asked = (asked ≡ Now Refused) × (new ≡ old)
+ComesIf false gateway opening ask serial old new asked = (ends : Ends) × AreEnds gateway ask ends
+    × (asked ≡ comes_of_ends opening serial ends old) × EndsLeave opening serial ends old new
+
+-- one is refused whose client has an open ask with its id, or while as many asks wait as may
+abbrev pub ComesUnless : Bool → Bool → Bool → StartAsk → ℕ → List Forwarding → List Forwarding → Asked → Type 0
+ComesUnless true gateway opening ask serial old new asked = (asked ≡ Now Refused) × (new ≡ old)
+ComesUnless false gateway opening ask serial old new asked =
+    ComesIf (is_refused_alone ask) gateway opening ask serial old new asked
+
+abbrev pub reply_to : Asked → HouseReply
+reply_to (Now Done) = reply.Done
+reply_to (Now (Port port)) = reply.Port port
+reply_to (Now Refused) = reply.Refused
+reply_to (Later serial) = reply.Later
+
+-- an ask waits where it has no reply yet
+abbrev pub asks_after : Asked → ℕ → ℕ → Bool → List Waiting → List Waiting
+asks_after (Now outcome) client id opening waiting = waiting
+asks_after (Later serial) client id opening waiting =
+    waiting ++ waiting_for client id opening serial ∷ []
+
 -- a request that was said is unanswered
 abbrev pub after_saying : Request → List Forwarding → List Forwarding
 after_saying (Listen serial) fs = map (changed change.Request serial) fs
@@ -433,6 +450,75 @@ first_refused (Some first) start = Some first
 abbrev pub FailsAt : ℕ → List Forwarding → Option ℕ → Option ℕ → Type 0
 FailsAt i fs old new =
     (f : Forwarding) × (f ≡ get_or fs i f) × (new ≡ first_refused old f.start)
+
+abbrev pub start_of : Option Forwarding → Option ℕ
+start_of None = None
+start_of (Some f) = f.start
+
+-- ---- the start
+
+-- the forwardings, the next serial, and the first of those asked for at the start that was refused
+pub record Standing : Type 0 where
+  pub all : List Forwarding
+  pub serials : ℕ
+  pub refused : Option ℕ
+
+abbrev pub what_stands : List Forwarding → ℕ → Option ℕ → Standing
+what_stands fs serials refused = record { all = fs; serials = serials; refused = refused }
+
+abbrev pub refused_if : Asked → ℕ → Option ℕ → Option ℕ
+refused_if (Now Done) i refused = refused
+refused_if (Now (Port port)) i refused = refused
+refused_if (Now Refused) i refused = first_refused refused (Some i)
+refused_if (Later serial) i refused = refused
+
+-- one with these two ends is asked for at the start, at this place
+pub record StartsAt (ends : Ends) (i : ℕ) (old new : Standing) : Type 0 where
+  pub all : Opens (is_new ends old.all (standing ends old.all)) ends old.serials (Some i) old.all new.all
+  pub serials : new.serials ≡ serials_after (is_new ends old.all (standing ends old.all)) old.serials
+  pub refused : new.refused ≡ refused_if (opens_of old.serials ends old.all (standing ends old.all)) i old.refused
+
+-- one that is refused whatever stands is the first that was refused, if none was yet
+abbrev pub StartsIf : Bool → Bool → StartAsk → ℕ → Standing → Standing → Type 0
+StartsIf true gateway ask i old new =
+    new ≡ what_stands old.all old.serials (first_refused old.refused (Some i))
+StartsIf false gateway ask i old new =
+    (ends : Ends) × AreEnds gateway ask ends × StartsAt ends i old new
+
+-- so many of them were asked for, one after another
+abbrev pub Begins : Bool → List StartAsk → ℕ → Standing → Standing → Type 0
+Begins gateway asks zero old new = new ≡ old
+Begins gateway asks (suc i) old new = (one : Standing) × Begins gateway asks i old one
+    × IfSome (slice_get asks i) (λ ask. StartsIf (is_refused_alone ask) gateway ask i one new)
+
+-- ---- what orders leave
+
+-- the one at a place is ordered
+abbrev pub OrderedAt : ℕ → List Forwarding → List Forwarding → Type 0
+OrderedAt i old new =
+    (f : Forwarding) × (f ≡ get_or old i f) × (new ≡ set old i (record f { stage = Ordered }))
+
+-- an order about a listener leaves the first that has none yet as ordered, or none with that listener
+abbrev pub Leaves : ListenerOrder → List Forwarding → List Forwarding → Type 0
+Leaves (ListensAt host port) old new =
+    IfSome (position to_listen old) (λ i. OrderedAt i old new)
+Leaves (Unlistens l) old new = new ≡ filter (λ f. not (has_listener l f)) old
+
+-- those that asked to close one get their answer as it is closed
+abbrev pub order_asks : Option Want → ℕ → List Waiting → List Waiting
+order_asks None at waiting = waiting
+order_asks (Some want.Listen) at waiting = waiting
+order_asks (Some (want.Unlisten serial l)) at waiting = settled serial false at Done waiting
+
+-- the one at a place has this listener, or is gone where none could be made
+abbrev pub MadeAt : Option ℕ → ℕ → List Forwarding → List Forwarding → Type 0
+MadeAt None i old new = new ≡ remove old i
+MadeAt (Some l) i old new = (f : Forwarding) × (f ≡ get_or old i f)
+    × (new ≡ set old i (record f { stage = Listening l }))
+
+abbrev pub made_refused : Option ℕ → Option Forwarding → Option ℕ → Option ℕ
+made_refused None first refused = first_refused refused (start_of first)
+made_refused (Some l) first refused = refused
 
 -- ---- replies of the server
 
@@ -477,6 +563,25 @@ replied_asks true port (Some (Listen serial)) fs at waiting =
 replied_asks false port (Some (Listen serial)) fs at waiting = refused serial at waiting
 replied_asks true port (Some (Cancel serial)) fs at waiting = settled serial false at Done waiting
 replied_asks false port (Some (Cancel serial)) fs at waiting = settled serial false at Refused waiting
+
+abbrev pub removed_at : Option ℕ → List Forwarding → List Forwarding
+removed_at None fs = fs
+removed_at (Some i) fs = remove fs i
+
+-- what a reply leaves: a forwarding whose request is refused, or whose cancel is granted, is gone
+abbrev pub replied_all : Bool → Option ℕ → Option Request → List Forwarding → List Forwarding
+replied_all success port None fs = fs
+replied_all true port (Some (Listen serial)) fs = map (changed (change.Live port) serial) fs
+replied_all false port (Some (Listen serial)) fs = removed_at (position (is_asked serial) fs) fs
+replied_all true port (Some (Cancel serial)) fs = removed_at (position (is_cancelled serial) fs) fs
+replied_all false port (Some (Cancel serial)) fs = map (changed change.Stay serial) fs
+
+abbrev pub replied_refused : Bool → Option Request → List Forwarding → Option ℕ → Option ℕ
+replied_refused success None fs refused = refused
+replied_refused true (Some (Listen serial)) fs refused = refused
+replied_refused false (Some (Listen serial)) fs refused =
+    first_refused refused (start_of (find (is_asked serial) fs))
+replied_refused success (Some (Cancel serial)) fs refused = refused
 
 abbrev pub first_of : List Request → Option Request
 first_of [] = None

@@ -1,11 +1,13 @@
 //! The asks of clients that are to be answered later.
-ghost use Rattle.std.specs.Prelude.{◌≡◌, ◌≤◌, ◌+◌, ◌++◌, ◌∷◌, [], length, OnOk, None};
+ghost use Rattle.std.specs.Prelude.{◌≡◌, ◌≤◌, ◌<◌, ◌+◌, ◌++◌, ◌∷◌, [], length, OnOk, None};
 ghost use Rattle.std.specs.List.{position};
 ghost use Rattle.mux_outside.specs.House.{AnswerFits, gives_none, is_ask};
-ghost use Rattle.house_forward.specs.Asks.{has_open, waiting_for, settle_one, settled, refused, counted, owes_opening, earlier, earliest, stamp_of, reply_of, answer_of, answers_in};
+ghost use Rattle.house_forward.specs.Asks.{has_open, turns_away, waiting_for, settle_one, settled, refused, counted, owes_opening, earlier, earliest, stamp_of, reply_of, answer_of, answers_in};
 ghost use Rattle.house_forward.specs.Known.{open_ask, open_asks, asks_after_answer};
 ghost use Rattle.house_forward.specs.Quiet.{answers_none};
+ghost use Rattle.house_forward.specs.declared.rules.TheConstants.{MOST_ASKS};
 
+use crate::rules::MOST_ASKS;
 use mux_outside::HouseReply;
 use ssh_fields::OutOfMemory;
 use std::alloc::Global;
@@ -45,6 +47,7 @@ pub struct Asks {
     waiting: Vec<Waiting>,
     /// How many came to something.
     done: u64,
+    ghost few: { length waiting.items ≤ MOST_ASKS },
 }
 
 impl Asks {
@@ -65,12 +68,20 @@ impl Asks {
     }
 
     /// Whether a client has an ask with this id.
-    pub fn has(&self, client: u64, id: u32) -> bool
+    fn has(&self, client: u64, id: u32) -> bool
         ensures { result ≡ has_open client id self.now.waiting.items }
     {
         self.waiting
             .iter()
             .any(|w| w.client == client && w.id == id)
+    }
+
+    /// Whether an ask is refused for those that wait: its client has one with its id, or they are as
+    /// many as may wait.
+    pub fn turns_away(&self, client: u64, id: u32) -> bool
+        ensures { result ≡ turns_away client id self.now.waiting.items }
+    {
+        self.has(client, id) || self.len() >= MOST_ASKS
     }
 
     /// One more, that waits for the fate of a forwarding.
@@ -81,12 +92,14 @@ impl Asks {
         opening: bool,
         forwarding: u64,
     ) -> Result<(), OutOfMemory>
+        requires { length self.old.waiting.items < MOST_ASKS }
         ensures waits { OnOk result (self.new.waiting.items ≡ self.old.waiting.items
             ++ waiting_for client id opening forwarding ∷ []) }
         ensures ok { OnOk result (open_asks self.new.waiting.items
             ≡ open_asks self.old.waiting.items
             ++ record { client = client; id = id; opening = opening } ∷ []) }
         ensures count { length self.new.waiting.items ≤ length self.old.waiting.items + 1 }
+        ensures done { self.new.done ≡ self.old.done }
     {
         self.waiting.push(Waiting {
             client,
@@ -117,6 +130,7 @@ impl Asks {
     pub fn refuse(&mut self, forwarding: u64)
         ensures waiting { self.new.waiting.items
             ≡ refused forwarding self.old.done self.old.waiting.items }
+        ensures done { self.new.done ≡ counted (counted self.old.done) }
         ensures open { open_asks self.new.waiting.items ≡ open_asks self.old.waiting.items }
         ensures count { length self.new.waiting.items ≡ length self.old.waiting.items }
     {
@@ -143,6 +157,7 @@ impl Asks {
             ≡ asks_after_answer result (open_asks self.old.waiting.items) }
         ensures count { length self.new.waiting.items + answers_in result
             ≡ length self.old.waiting.items }
+        ensures done { self.new.done ≡ self.old.done }
     {
         let w = self.earliest()?;
         let i = self.place_of(w.client, w.id)?;

@@ -2,7 +2,8 @@
 ghost use Rattle.std.specs.Prelude.{◌≡◌, true, not, is_some, IfOk, IfSome, None, Some};
 ghost use Rattle.house_forward.specs.Forwardings.{counts, listens_at, connects_to, outcome_of, bound_of, listener_of, is_first, as_first, has_request, request_of, IsAt, IsAskedFor};
 ghost use Rattle.house_forward.specs.Said.{request_name, request_port};
-ghost use Rattle.house_forward.specs.Forwardings.{to_listen, has_listener, changed, stage_after, bound_to, granted, is_asked, is_cancelled, is_to_listen, is_pending, want_in, served_at};
+ghost use Rattle.house_forward.specs.Rules.{listens_here};
+ghost use Rattle.house_forward.specs.Forwardings.{to_listen, waits_at, has_listener, changed, stage_after, bound_to, granted, is_asked, is_cancelled, is_to_listen, is_pending, want_in, served_at};
 
 use crate::asks::{Asked, Asks, Outcome};
 use crate::forwardings::Want;
@@ -293,11 +294,13 @@ impl Forwarding {
             && self.listen_host.as_bytes() == ends.listen_host
     }
 
-    /// Whether it connects where this is to connect.
+    /// Whether it connects where this is to connect: where a dialog says that, whatever was asked.
     pub fn connects_to(&self, ends: Ends<'_>) -> bool
         ensures { result ≡ connects_to ends.entry self.now }
     {
-        self.connect_port == ends.connect_port && self.connect_host.as_bytes() == ends.connect_host
+        !self.kind.connects_there()
+            || (self.connect_port == ends.connect_port
+                && self.connect_host.as_bytes() == ends.connect_host)
     }
 
     /// What those that ask for it come to, once that is known.
@@ -420,6 +423,7 @@ impl Forwarding {
 /// What is to be done first.
 fn first_stage(alloc: Global, ends: Ends<'_>) -> Result<Stage, OutOfMemory>
     ensures first { IfOk result (λ stage. is_first stage ≡ true) }
+    ensures here { IfOk result (λ stage. waits_at stage ≡ listens_here ends.entry.kind) }
     ensures place { IfOk result (λ stage. IsAt stage ends.entry.listen_host.now) }
 {
     match ends.kind {

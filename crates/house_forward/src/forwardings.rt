@@ -1,5 +1,5 @@
 //! The forwardings of the house, in order of asking.
-ghost use Rattle.std.specs.Prelude.{◌≡◌, ◌≤◌, ◌<◌, ◌+◌, ◌++◌, ◌∷◌, [], None, true, false, not, length, map, IfOk, IfSome, OnOk, Some, find, filter, is_some};
+ghost use Rattle.std.specs.Prelude.{◌≡◌, ◌≤◌, ◌<◌, ◌+◌, ◌++◌, ◌∷◌, [], None, true, false, not, drop, length, map, IfOk, IfSome, OnOk, Some, find, filter, is_some};
 ghost use Rattle.std.specs.List.{All, position, remove, sum_by};
 ghost use Rattle.std.specs.Option.{option_copied};
 ghost use Rattle.mux_outside.specs.House.{gives_none};
@@ -8,7 +8,9 @@ ghost use Rattle.house_forward.specs.Asks.{refused};
 ghost use Rattle.house_forward.specs.Due.{forwarding_due};
 ghost use Rattle.house_forward.specs.Known.{open_asks};
 ghost use Rattle.house_forward.specs.Forwardings.{standing, how_many, opens_of, closes_of, has_request, is_first};
-ghost use Rattle.house_forward.specs.Forwardings.{first_refused, FailsAt, IsAt, ListensFor};
+ghost use Rattle.house_forward.specs.Forwardings.{first_refused, FailsAt, IsAt, is_numbered, ListensFor};
+ghost use Rattle.house_forward.specs.Forwardings.{Begins, StartsIf, Leaves, OrderedAt, MadeAt, made_refused, order_asks, removed_at, replied_all, replied_refused, serials_after, start_of, what_stands};
+ghost use Rattle.house_forward.specs.Rules.{is_refused_alone};
 ghost use Rattle.house_forward.specs.Forwardings.{listeners_of, is_pending, to_listen, is_first_to_listen, IsListen, is_ordered_first, is_in_order, next_of, changed, after_close, is_new, Opens};
 ghost use Rattle.house_forward.specs.Forwardings.{is_asked, is_cancelled, live_in, replied_asks, after_saying, first_of, ordered_asks, served_at, serial_of, Orders, marks_in, listeners_made, has_listener};
 
@@ -16,7 +18,7 @@ use crate::asks::{Asked, Asks, Outcome};
 use crate::forwarding::{Change, Forwarding, Request, Stage};
 use crate::rules::{Ends, Kind, MOST_FORWARDINGS, ends_of, of_start};
 use crate::two_texts::TwoTexts;
-use mux_outside::Starts;
+use mux_outside::{StartAsk, Starts};
 use ssh_fields::OutOfMemory;
 use std::alloc::Global;
 use std::collections::VecDeque;
@@ -52,6 +54,7 @@ pub struct Forwardings {
     pub refused: Option<usize>,
     ghost in_order: { is_in_order all.items ≡ true },
     ghost placed: { All (λ f. IsAt f.stage f.listen_host) all.items },
+    ghost numbered: { is_numbered 0 all.items serials ≡ true },
 }
 
 impl Forwardings {
@@ -79,6 +82,7 @@ impl Forwardings {
     fn refuse_start(&mut self, start: Option<usize>)
         ensures all { self.new.all ≡ self.old.all }
         ensures serials { self.new.serials ≡ self.old.serials }
+        ensures requests { self.new.requests ≡ self.old.requests }
         ensures refused { self.new.refused ≡ first_refused self.old.refused start }
     {
         if self.refused.is_none() {
@@ -124,7 +128,7 @@ impl Forwardings {
     }
 
     /// An ask to open a forwarding.
-    #[tactic(auto, using(crate::proofs::InOrder::order_more, crate::proofs::InOrder::listeners_more, crate::proofs::InOrder::first_listens, crate::proofs::Placed::placed_more))]
+    #[tactic(auto, using(crate::proofs::InOrder::order_more, crate::proofs::InOrder::listeners_more, crate::proofs::InOrder::first_listens, crate::proofs::Placed::placed_more, crate::proofs::Numbered::numbered_more))]
     pub fn open(&mut self, ends: Ends<'_>, start: Option<usize>) -> Result<Asked, OutOfMemory>
         ensures exact { IfOk result (λ asked. asked ≡ opens_of self.old.serials ends.entry
             self.old.all.items (standing ends.entry self.old.all.items)) }
@@ -134,38 +138,60 @@ impl Forwardings {
         ensures listeners { listeners_of self.new.all.items
             ≡ listeners_of self.old.all.items }
         ensures count { length self.new.all.items ≤ length self.old.all.items + 1 }
+        ensures serials { OnOk result (self.new.serials ≡ serials_after (is_new ends.entry
+            self.old.all.items (standing ends.entry self.old.all.items)) self.old.serials) }
+        ensures requests { self.new.requests.items ≡ self.old.requests.items }
         ensures refused { self.new.refused ≡ self.old.refused }
     {
         let asked = self.may_open(ends);
         if self.standing(ends).is_none() && self.how_many() < MOST_FORWARDINGS {
             let serial = self.serials;
+            let next = serial.checked_add(1).ok_or(OutOfMemory)?;
             let forwarding = Forwarding::asked(self.alloc, serial, ends, start)?;
             self.requests.reserve(2)?;
             self.all.push(forwarding)?;
-            self.serials = serial.saturating_add(1);
+            self.serials = next;
         }
         Ok(asked)
     }
 
-    /// All that is asked for at the start.
+    /// All that is asked for at the start, one after another.
     pub fn start_all(&mut self, starts: &Starts) -> Result<(), OutOfMemory>
+        ensures begins { OnOk result (Begins starts.now.gateway starts.now.asks
+            (length starts.now.asks) (what_stands self.old.all.items self.old.serials
+            self.old.refused) (what_stands self.new.all.items self.new.serials
+            self.new.refused)) }
         ensures listeners { listeners_of self.new.all.items
             ≡ listeners_of self.old.all.items }
         ensures count { length self.new.all.items
             ≤ length self.old.all.items + length starts.now.asks }
+        ensures requests { self.new.requests.items ≡ self.old.requests.items }
     {
         for i in 0..starts.asks.len() {
-            let Some(ask) = starts.asks.get(i) else {
-                return Ok(());
-            };
-            let asked = match ends_of(of_start(ask), starts.gateway) {
-                Some(ends) => self.open(ends, Some(i))?,
-                None => Asked::Now(Outcome::Refused),
-            };
-            match asked {
-                Asked::Now(Outcome::Refused) => self.refuse_start(Some(i)),
-                Asked::Now(_) | Asked::Later(_) => {}
+            if let Some(ask) = starts.asks.get(i) {
+                self.start(ask, starts.gateway, i)?;
             }
+        }
+        Ok(())
+    }
+
+    /// One that is asked for at the start, at this place.
+    fn start(&mut self, ask: &StartAsk, gateway: bool, i: usize) -> Result<(), OutOfMemory>
+        ensures starts { OnOk result (StartsIf (is_refused_alone ask.now) gateway ask.now i
+            (what_stands self.old.all.items self.old.serials self.old.refused)
+            (what_stands self.new.all.items self.new.serials self.new.refused)) }
+        ensures listeners { listeners_of self.new.all.items
+            ≡ listeners_of self.old.all.items }
+        ensures count { length self.new.all.items ≤ length self.old.all.items + 1 }
+        ensures requests { self.new.requests.items ≡ self.old.requests.items }
+    {
+        let Some(ends) = ends_of(of_start(ask), gateway) else {
+            self.refuse_start(Some(i));
+            return Ok(());
+        };
+        match self.open(ends, Some(i))? {
+            Asked::Now(Outcome::Refused) => self.refuse_start(Some(i)),
+            Asked::Now(Outcome::Done | Outcome::Port(_)) | Asked::Later(_) => {}
         }
         Ok(())
     }
@@ -177,6 +203,8 @@ impl Forwardings {
         ensures listeners { listeners_of self.new.all.items
             ≡ listeners_of self.old.all.items }
         ensures count { length self.new.all.items ≡ length self.old.all.items }
+        ensures serials { self.new.serials ≡ self.old.serials }
+        ensures requests { self.new.requests ≡ self.old.requests }
         ensures refused { self.new.refused ≡ self.old.refused }
     {
         let asked = self.may_close(ends);
@@ -193,6 +221,7 @@ impl Forwardings {
             ≡ listeners_of self.old.all.items }
         ensures count { length self.new.all.items ≡ length self.old.all.items }
         ensures serials { self.new.serials ≡ self.old.serials }
+        ensures requests { self.new.requests ≡ self.old.requests }
         ensures refused { self.new.refused ≡ self.old.refused }
     {
         change_all(&mut self.all, serial, change);
@@ -244,6 +273,13 @@ impl Forwardings {
         ensures open { open_asks asks.new.waiting.items ≡ open_asks asks.old.waiting.items }
         ensures count { length asks.new.waiting.items ≡ length asks.old.waiting.items }
         ensures silent { result ≡ None → (self.new ≡ self.old) × (asks.new ≡ asks.old) }
+        ensures leaves { IfSome result
+            (λ o. Leaves o self.old.all.items self.new.all.items) }
+        ensures asks { asks.new.waiting.items ≡ order_asks
+            (next_of asks.old.waiting.items self.old.all.items) asks.old.done
+            asks.old.waiting.items }
+        ensures serials { self.new.serials ≡ self.old.serials }
+        ensures requests { self.new.requests ≡ self.old.requests }
         ensures refused { self.new.refused ≡ self.old.refused }
     {
         match self.next(asks)? {
@@ -268,6 +304,10 @@ impl Forwardings {
         ensures first { is_ordered_first (find to_listen self.new.all.items) ≡ true }
         ensures due { sum_by forwarding_due self.new.all.items
             ≡ sum_by forwarding_due self.old.all.items }
+        ensures leaves { IfSome result
+            (λ o. Leaves o self.old.all.items self.new.all.items) }
+        ensures serials { self.new.serials ≡ self.old.serials }
+        ensures requests { self.new.requests ≡ self.old.requests }
         ensures refused { self.new.refused ≡ self.old.refused }
     {
         let i = self.waits()?;
@@ -288,6 +328,9 @@ impl Forwardings {
         ensures first { is_ordered_first (find to_listen self.new.all.items) ≡ true }
         ensures due { sum_by forwarding_due self.new.all.items
             ≡ sum_by forwarding_due self.old.all.items }
+        ensures leaves { OrderedAt i self.old.all.items self.new.all.items }
+        ensures serials { self.new.serials ≡ self.old.serials }
+        ensures requests { self.new.requests ≡ self.old.requests }
         ensures refused { self.new.refused ≡ self.old.refused }
     {
         self.all[i].ordered()
@@ -297,6 +340,8 @@ impl Forwardings {
     fn unlisten(&mut self, listener: u64)
         ensures all { self.new.all.items
             ≡ filter (λ f. not (has_listener listener f)) self.old.all.items }
+        ensures serials { self.new.serials ≡ self.old.serials }
+        ensures requests { self.new.requests ≡ self.old.requests }
         ensures refused { self.new.refused ≡ self.old.refused }
     {
         self.all.retain(|f| f.lacks_listener(listener));
@@ -315,6 +360,12 @@ impl Forwardings {
             asks.old.waiting.items }
         ensures open { open_asks asks.new.waiting.items ≡ open_asks asks.old.waiting.items }
         ensures count { length asks.new.waiting.items ≡ length asks.old.waiting.items }
+        ensures leaves { IfSome (position to_listen self.old.all.items)
+            (λ i. MadeAt listener i self.old.all.items self.new.all.items) }
+        ensures serials { self.new.serials ≡ self.old.serials }
+        ensures requests { self.new.requests ≡ self.old.requests }
+        ensures refused { self.new.refused ≡ made_refused listener
+            (find to_listen self.old.all.items) self.old.refused }
     {
         let Some(i) = self.waits() else {
             return;
@@ -337,6 +388,8 @@ impl Forwardings {
     fn fail(&mut self, i: usize)
         requires { i < length self.old.all.items }
         ensures all { self.new.all.items ≡ remove self.old.all.items i }
+        ensures serials { self.new.serials ≡ self.old.serials }
+        ensures requests { self.new.requests ≡ self.old.requests }
         ensures refused { FailsAt i self.old.all.items self.old.refused self.new.refused }
     {
         let f = self.all.remove(i);
@@ -359,6 +412,7 @@ impl Forwardings {
         ensures listeners { listeners_of self.new.all.items
             ≡ listeners_of self.old.all.items }
         ensures count { length self.new.all.items ≡ length self.old.all.items }
+        ensures serials { self.new.serials ≡ self.old.serials }
         ensures refused { self.new.refused ≡ self.old.refused }
     {
         self.requests.push_back(request)?;
@@ -380,6 +434,12 @@ impl Forwardings {
         ensures listeners { listeners_of self.new.all.items
             ≡ listeners_of self.old.all.items }
         ensures count { length self.new.all.items ≤ length self.old.all.items }
+        ensures all { self.new.all.items ≡ replied_all success port
+            (first_of self.old.requests.items) self.old.all.items }
+        ensures serials { self.new.serials ≡ self.old.serials }
+        ensures requests { self.new.requests.items ≡ drop 1 self.old.requests.items }
+        ensures refused { self.new.refused ≡ replied_refused success
+            (first_of self.old.requests.items) self.old.all.items self.old.refused }
     {
         match self.requests.pop_front() {
             None => {}
@@ -440,6 +500,12 @@ impl Forwardings {
         ensures listeners { listeners_of self.new.all.items
             ≡ listeners_of self.old.all.items }
         ensures count { length self.new.all.items ≤ length self.old.all.items }
+        ensures all { self.new.all.items
+            ≡ removed_at (position (is_asked serial) self.old.all.items) self.old.all.items }
+        ensures serials { self.new.serials ≡ self.old.serials }
+        ensures requests { self.new.requests ≡ self.old.requests }
+        ensures refused { self.new.refused ≡ first_refused self.old.refused
+            (start_of (find (is_asked serial) self.old.all.items)) }
     {
         if let Some(i) = self.asked(serial) {
             self.fail(i);
@@ -451,6 +517,11 @@ impl Forwardings {
         ensures listeners { listeners_of self.new.all.items
             ≡ listeners_of self.old.all.items }
         ensures count { length self.new.all.items ≤ length self.old.all.items }
+        ensures all { self.new.all.items ≡ removed_at
+            (position (is_cancelled serial) self.old.all.items) self.old.all.items }
+        ensures serials { self.new.serials ≡ self.old.serials }
+        ensures requests { self.new.requests ≡ self.old.requests }
+        ensures refused { self.new.refused ≡ self.old.refused }
     {
         if let Some(i) = self.cancelled(serial) {
             self.all.remove(i);

@@ -4,9 +4,11 @@ ghost use Rattle.mux_outside.specs.House.{SaysFits, says_nothing, gives_none, or
 ghost use Rattle.mux_outside.specs.House.{known_after_ask, known_after_order, known_after_ordered, known_after_own_turn, queue_after_took};
 ghost use Rattle.mux_outside.specs.OwnStreams.{is_one, new_stream};
 ghost use Rattle.mux_outside.specs.declared.piece.TheConstants.{LONGEST_PIECE};
-ghost use Rattle.house_forward.specs.Asks.{has_open};
+ghost use Rattle.house_forward.specs.Asks.{turns_away};
 ghost use Rattle.house_forward.specs.Due.{due, most_due};
-ghost use Rattle.house_forward.specs.Forwardings.{listeners_of, has_request, request_of, has_listener, ComesUnless, Replies, ListensFirst};
+ghost use Rattle.house_forward.specs.Forwardings.{listeners_of, has_request, request_of, has_listener, ComesUnless, reply_to, asks_after, ListensFirst};
+ghost use Rattle.house_forward.specs.declared.asks.Asked.{Asked as CameTo};
+ghost use Rattle.house_forward.specs.declared.rules.TheConstants.{MOST_ASKS};
 ghost use Rattle.house_forward.specs.Known.{known_of, ordering_of, is_there};
 ghost use Rattle.house_forward.specs.Links.{streams_of, queue_at, is_full, is_crowded, ConnectsFirst, IsJoined, IsJoinedAt, IsDialed, Joins};
 ghost use Rattle.house_forward.specs.Quiet.{quiet_of, says_none, orders_none};
@@ -129,10 +131,13 @@ impl Holdings {
             ≡ known_after_ask reply client id opening (known_of
             self.old.forwardings.all.items self.old.relays.all.items
             self.old.asks.waiting.items self.old.ordering)) }
-        ensures exact { IfOk result (λ reply. Replies
-            (has_open client id self.old.asks.waiting.items) self.old.gateway opening
-            (ask_of what.now) self.old.forwardings.serials
-            self.old.forwardings.all.items reply) }
+        ensures exact { IfOk result (λ reply. (asked : CameTo) × ComesUnless
+            (turns_away client id self.old.asks.waiting.items) self.old.gateway opening
+            (ask_of what.now) self.old.forwardings.serials self.old.forwardings.all.items
+            self.new.forwardings.all.items asked × (reply ≡ reply_to asked)
+            × (self.new.asks.waiting.items
+            ≡ asks_after asked client id opening self.old.asks.waiting.items)) }
+        ensures refused { self.new.forwardings.refused ≡ self.old.forwardings.refused }
         ensures must { self.new.must ≡ self.old.must }
         ensures forwardings { length self.new.forwardings.all.items
             ≤ length self.old.forwardings.all.items + 1 }
@@ -161,9 +166,12 @@ impl Holdings {
     ) -> Result<Asked, OutOfMemory>
         requires { self.old.ordering ≡ None }
         ensures comes { IfOk result (λ asked. ComesUnless
-            (has_open client id self.old.asks.waiting.items) self.old.gateway opening
+            (turns_away client id self.old.asks.waiting.items) self.old.gateway opening
             (ask_of what.now) self.old.forwardings.serials
-            self.old.forwardings.all.items asked) }
+            self.old.forwardings.all.items self.new.forwardings.all.items asked) }
+        ensures refused { self.new.forwardings.refused ≡ self.old.forwardings.refused }
+        ensures room { (serial : ℕ) → result ≡ Ok (Asked.Later serial)
+            → length self.new.asks.waiting.items < MOST_ASKS }
         ensures listeners { listeners_of self.new.forwardings.all.items
             ≡ listeners_of self.old.forwardings.all.items }
         ensures count { length self.new.forwardings.all.items
@@ -173,7 +181,7 @@ impl Holdings {
         ensures ordering { self.new.ordering ≡ self.old.ordering }
         ensures must { self.new.must ≡ self.old.must }
     {
-        if self.asks.has(client, id) {
+        if self.asks.turns_away(client, id) {
             return Ok(Asked::Now(Outcome::Refused));
         }
         let Some(ends) = ends_of(of_client(what), self.gateway) else {

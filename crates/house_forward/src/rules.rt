@@ -9,6 +9,9 @@ use mux_outside::{FwdAsk, StartAsk as OneAsk};
 /// The most forwardings that are asked or live.
 pub const MOST_FORWARDINGS: usize = 64;
 
+/// The most asks that wait for their answer.
+pub const MOST_ASKS: usize = 1_024;
+
 /// The most channels of one client of the master.
 pub const MOST_CHANNELS: usize = 256;
 

@@ -380,6 +380,83 @@ fn a_place_is_free_before_it_is_listened_on_again(rt: HostRuntime) -> Result<(),
 }
 
 #[test]
+fn as_many_asks_wait_as_may(rt: HostRuntime) -> Result<(), Fail> {
+    let mut bench = asked(&rt, rt.alloc())?;
+    let what = FwdAsk {
+        kind: 2,
+        listen_host: b"",
+        listen_port: 0,
+        connect_host: b"web",
+        connect_port: 80,
+    };
+    for id in 5..1028 {
+        let reply = bench.house.ask(1, id, true, &what)?;
+        assert_eq!(rt; reply, HouseReply::Later);
+    }
+    let more = bench.house.ask(1, 1028, true, &what)?;
+    assert_eq!(rt; more, HouseReply::Refused);
+    let closes = bench.house.ask(2, 4, false, &what)?;
+    assert_eq!(rt; closes, HouseReply::Refused);
+    bench
+        .house
+        .takes(b"\x00\x00\x00\x06\x00\x51\x00\x00\x9c\x41")?;
+    bench.settle()?;
+    assert_eq!(rt;
+        bench.answers.get(0),
+        Some(&(1, 4, HouseReply::Port(40001)))
+    );
+    let again = bench.house.ask(1, 1028, true, &what)?;
+    assert_eq!(rt; again, HouseReply::Port(40001));
+    Ok(())
+}
+
+/// An ask for a proxy of SOCKS, with this host as the one to connect to.
+fn proxy<'a>(connect_host: &'a [u8], connect_port: u32) -> FwdAsk<'a> {
+    FwdAsk {
+        kind: 3,
+        listen_host: b"",
+        listen_port: 1080,
+        connect_host,
+        connect_port,
+    }
+}
+
+#[test]
+fn where_a_proxy_of_socks_connects_does_not_count(rt: HostRuntime) -> Result<(), Fail> {
+    let mut bench = Bench::new(rt.alloc(), KeptNotes::new(rt.alloc()))?;
+    let first = bench.house.ask(1, 4, true, &proxy(b"socks", 0))?;
+    assert_eq!(rt; first, HouseReply::Later);
+    let second = bench.house.ask(1, 5, true, &proxy(b"", 0))?;
+    assert_eq!(rt; second, HouseReply::Later);
+    bench.settle()?;
+    assert_eq!(rt; bench.orders.len(), 1);
+    assert!(rt; listens_at(&bench.orders, 0, b"127.0.0.1", 1080));
+    assert_eq!(rt;
+        bench.answers.as_slice(),
+        [(1, 4, HouseReply::Done), (1, 5, HouseReply::Done)].as_slice()
+    );
+    let third = bench.house.ask(1, 6, true, &proxy(b"", 80))?;
+    assert_eq!(rt; third, HouseReply::Done);
+    let closes = bench.house.ask(1, 7, false, &proxy(b"", 0))?;
+    assert_eq!(rt; closes, HouseReply::Later);
+    bench.settle()?;
+    assert_eq!(rt; bench.orders.len(), 1);
+    assert!(rt;
+        matches!(
+            bench.orders.get(0),
+            Some(Order::Unlisten(0x8000_0000_0000_0000))
+        )
+    );
+    assert_eq!(rt;
+        bench.answers.as_slice(),
+        [(1, 7, HouseReply::Done)].as_slice()
+    );
+    let gone = bench.house.ask(1, 8, false, &proxy(b"socks", 0))?;
+    assert_eq!(rt; gone, HouseReply::Refused);
+    Ok(())
+}
+
+#[test]
 fn a_remote_forwarding_is_refused(rt: HostRuntime) -> Result<(), Fail> {
     let mut bench = asked(&rt, rt.alloc())?;
     bench.house.takes(b"\x00\x00\x00\x02\x00\x52")?;

@@ -21,3 +21,9 @@ returns-in-Unlisten-clause-due c =
     sym c.in_ok-next.ensures ∙ ap (λ w. Some w) c.in-Unlisten.is in
     let u = unlistens c.args.asks.now.waiting.items c.args.self.now.all.items c.in-Unlisten.serial c.in-Unlisten.listener e in
     rw c.unlisten.ensures.all u.due
+
+pub returns-in-Unlisten-clause-asks : goal.returns-in-Unlisten-clause-asks
+returns-in-Unlisten-clause-asks c =
+    let e : next_of c.args.asks.now.waiting.items c.args.self.now.all.items ≡ Some (want.Unlisten c.in-Unlisten.serial c.in-Unlisten.listener) =
+    sym c.in_ok-next.ensures ∙ ap (λ w. Some w) c.in-Unlisten.is in
+    rw e c.settle.ensures.waiting
