@@ -34,5 +34,3 @@ mod two_texts;
 
 pub use forwarder::Forwarder;
 
-#[cfg(test)]
-mod tests;
