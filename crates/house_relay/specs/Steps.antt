@@ -3,6 +3,7 @@ use Rattle.std.specs.Prelude.{◌≡◌, ◌&&◌, ℕ, Bool, true, false, not, 
 use Rattle.proxy_frames.specs.Queued.{empty_queue, with_bytes, without_first}
 use Rattle.socks_dialog.specs.declared.outcome.Outcome.{Outcome}
 use Rattle.socks_dialog.specs.declared.outcome.Outcome.TheVariants.{Wants, Connects, Breaks}
+use Rattle.socks_dialog.specs.State.{new_dialog}
 use Rattle.house_relay.specs.Acts.{outcome_in}
 use Rattle.house_relay.specs.Dialing.{IsReading, grant_of, refusal_of}
 use Rattle.house_relay.specs.Line.{counts, in_live, fresh_live, closes, answers, sends, ends, grants, hears_room, hears_eof, hears_close, hears_request, takes_in}
@@ -24,6 +25,10 @@ fresh_relay number line socket = record {
   held = empty_queue;
   queue = empty_queue;
 }
+
+-- a channel whose end a dialog is to say, of which nothing was read yet
+abbrev pub fresh_dialing : Line
+fresh_dialing = Dialing new_dialog
 
 -- whether nothing is left of it
 abbrev pub is_closed : Socket → Bool

@@ -1,0 +1,116 @@
+-- The next answer, and what it leaves of the asks.
+use Rattle.std.proofs.Common.{◌≡◌, ◌∙◌, refl, sym, ap, ℕ, zero, suc, ◌<◌, Bool, true, false, List, [], ◌∷◌, length, get_or, Option, Some, None, arith}
+use Rattle.std.specs.Prelude.{◌||◌, ◌&&◌, nat_lt, not, is_some, IsTrue, if◌then◌else◌}
+use Rattle.std.specs.List.{list_any, fold, position, remove}
+use Rattle.std.proofs.lemmas.Bool.{or_left, or_right, both_ways, and_from, eq-eqb}
+use Rattle.std.proofs.lemmas.List.Quantifiers.{position-Some}
+use Rattle.mux_outside.specs.House.{ReplyFits, is_ask, has_ask, without_ask, OpenAsk}
+use Rattle.house_forward.specs.Asks.{has_outcome, is_settled, earlier, earlier_at, earliest, reply_of, reply_in, stamp_of}
+use Rattle.house_forward.specs.Known.{open_ask, open_asks}
+use Rattle.house_forward.specs.Quiet.{answers_none}
+use Rattle.house_forward.specs.declared.asks.Outcome.{Outcome}
+use Rattle.house_forward.specs.declared.asks.Outcome.TheVariants.{Done, Port, Refused}
+use Rattle.house_forward.specs.declared.asks.Waiting.{Waiting}
+use Rattle.house_forward.proofs.Lists.{any-map, none-passes}
+
+-- ---- there is one where an ask came to something
+
+one-of : (b : Bool) (v w : Waiting) → is_some (if b then Some v else Some w) ≡ true
+one-of true v w = refl
+one-of false v w = refl
+
+some-step : (o : Option (ℕ × Outcome)) (a : Option Waiting) (w : Waiting) (b : Bool)
+    → (is_some (earlier_at o a w) || b) ≡ (is_some a || (is_settled o || b))
+some-step None a w b = refl
+some-step (Some o) None w b = refl
+some-step (Some o) (Some f) w b = or_left _ b (one-of (nat_lt o.0 (stamp_of f.outcome)) w f)
+
+some-fold : (ws : List Waiting) (a : Option Waiting)
+    → is_some (fold earlier a ws) ≡ (is_some a || list_any has_outcome ws)
+some-fold [] None = refl
+some-fold [] (Some f) = refl
+some-fold (w ∷ ws) a = some-fold ws (earlier a w) ∙ some-step w.outcome a w (list_any has_outcome ws)
+
+pub none-earliest : (ws : List Waiting) → earliest ws ≡ None → true ≡ answers_none ws
+none-earliest ws e = ap (λ b. not b) (ap is_some (sym e) ∙ some-fold ws None)
+
+pub some-earliest : (ws : List Waiting) (w : Waiting) → earliest ws ≡ Some w → false ≡ answers_none ws
+some-earliest ws w e = ap (λ b. not b) (ap is_some (sym e) ∙ some-fold ws None)
+
+-- ---- it is one of them
+
+abbrev passes : (Waiting → Bool) → Option Waiting → Bool
+passes q None = false
+passes q (Some f) = q f
+
+weaker : (x y b : Bool) → (x || b) ≡ true → (x || (y || b)) ≡ true
+weaker true y b h = refl
+weaker false true b h = refl
+weaker false false b h = h
+
+pick-one : (c : Bool) (q : Waiting → Bool) (f v : Waiting) (b : Bool)
+    → (passes q (if c then Some v else Some f) || b) ≡ true → (q f || (q v || b)) ≡ true
+pick-one true q f v b h = or_right (q f) _ h
+pick-one false q f v b h = weaker (q f) (q v) b h
+
+pick : (o : Option (ℕ × Outcome)) (q : Waiting → Bool) (a : Option Waiting) (v : Waiting) (b : Bool)
+    → (passes q (earlier_at o a v) || b) ≡ true → (passes q a || (q v || b)) ≡ true
+pick None q a v b h = weaker (passes q a) (q v) b h
+pick (Some o) q None v b h = h
+pick (Some o) q (Some f) v b h = pick-one (nat_lt o.0 (stamp_of f.outcome)) q f v b h
+
+found : (ws : List Waiting) (a : Option Waiting) (w : Waiting) (q : Waiting → Bool) → fold earlier a ws ≡ Some w
+    → q w ≡ true → (passes q a || list_any q ws) ≡ true
+found [] None w q e h = cc
+found [] (Some f) w q e h = or_left (q f) false (let same : f ≡ w = cc in rw same h)
+found (v ∷ ws) a w q e h = pick v.outcome q a v (list_any q ws) (found ws (earlier a v) w q e h)
+
+pub among-them : (ws : List Waiting) (w : Waiting) (q : Waiting → Bool) → earliest ws ≡ Some w → q w ≡ true
+    → list_any q ws ≡ true
+among-them ws w q e h = found ws None w q e h
+
+-- ---- its reply fits
+
+is-own : (w : Waiting) → is_ask w.client w.id (open_ask w) ≡ true
+is-own w = and_from _ _ (eq-eqb w.client w.client refl) (eq-eqb w.id w.id refl)
+
+fits-in : (o : Option (ℕ × Outcome)) (b : Bool) (client id : ℕ) (asks : List OpenAsk)
+    → IsTrue (list_any (is_ask client id) asks) → (b ≡ true → IsTrue (has_ask client id true asks))
+    → ReplyFits (reply_in o b) client id asks
+fits-in None b client id asks one may = one
+fits-in (Some (at, Done)) b client id asks one may = one
+fits-in (Some (at, Port port)) true client id asks one may = may refl
+fits-in (Some (at, Port port)) false client id asks one may = one
+fits-in (Some (at, Refused)) b client id asks one may = one
+
+pub reply-fits : (ws : List Waiting) (w : Waiting) → earliest ws ≡ Some w
+    → ReplyFits (reply_of w) w.client w.id (open_asks ws)
+reply-fits ws w e = fits-in w.outcome w.opening w.client w.id (open_asks ws)
+    (any-map (is_ask w.client w.id) open_ask ws ∙ among-them ws w (λ v. is_ask w.client w.id (open_ask v)) e (is-own w))
+    (λ opens. any-map (λ a. is_ask w.client w.id a && a.opening) open_ask ws
+    ∙ among-them ws w (λ v. is_ask w.client w.id (open_ask v) && v.opening) e (and_from _ _ (is-own w) opens))
+
+-- ---- the first with its client and id is answered
+
+answered : (ws : List Waiting) (client id i : ℕ) (d : Waiting) → i < length ws
+    → is_ask client id (open_ask (get_or ws i d)) ≡ true
+    → ((k : ℕ) → k < i → is_ask client id (open_ask (get_or ws k d)) ≡ false)
+    → open_asks (remove ws i) ≡ without_ask client id (open_asks ws)
+answered [] client id i d l is before = absurd (omega arith)
+answered (w ∷ ws) client id zero d l is before = rw is refl
+answered (w ∷ ws) client id (suc i) d l is before =
+    rw (before 0 (omega arith)) (ap (λ asks. open_ask w ∷ asks)
+    (answered ws client id i d (omega arith) is (λ k lt. before (suc k) (omega arith))))
+
+pub without-first : (ws : List Waiting) (client id i : ℕ) (d : Waiting)
+    → position (λ v. is_ask client id (open_ask v)) ws ≡ Some i
+    → open_asks (remove ws i) ≡ without_ask client id (open_asks ws)
+without-first ws client id i d e =
+    let at = position-Some (λ v. is_ask client id (open_ask v)) ws i d e in
+    answered ws client id i d at.0 at.1 at.2
+
+pub is-there : (ws : List Waiting) (w : Waiting) → earliest ws ≡ Some w
+    → position (λ v. is_ask w.client w.id (open_ask v)) ws ≡ None → ⊥
+is-there ws w e none = both_ways (list_any (λ v. is_ask w.client w.id (open_ask v)) ws)
+    (none-passes (λ v. is_ask w.client w.id (open_ask v)) ws none)
+    (among-them ws w (λ v. is_ask w.client w.id (open_ask v)) e (is-own w))

@@ -1,0 +1,37 @@
+-- How the relays go on.
+use Rattle.std.proofs.Common.{◌≡◌, refl, ap, ℕ, true, List, get_or, set, Option, Some, None}
+use Rattle.std.specs.Prelude.{Result, Ok, Err, OnOk, IfSome, is_some}
+use Rattle.house_relay.specs.declared.relay.Relay.{Relay}
+use Rattle.house_relay.specs.declared.relay.Saying.{Saying}
+use Rattle.house_forward.specs.Going.{GoesAt, LeavesAt, swept}
+use Rattle.house_forward.specs.Said.{framed, payload_of, payload_if}
+use Rattle.house_forward.specs.declared.link.Link.{Link}
+use Rattle.house_forward.specs.declared.link.Stream.{Stream}
+
+pub goes-at : (o : Option ℕ) (i : ℕ) (so : Relay → Relay → Type 0) (ls : List Link) (x : Link) (r : Relay) → o ≡ Some i
+    → x ≡ get_or ls i x → so x.relay r → GoesAt o so ls (set ls i (record x { relay = r }))
+goes-at o i so ls x r e at goes = rw e (x, r, at, goes, refl)
+
+same-link : (x y : Link) → y.stream ≡ x.stream → y ≡ record x { relay = y.relay }
+same-link x y e = ap (λ (s : Stream). record y { stream = s }) e
+
+pub went-at : (i : ℕ) (so : Relay → Relay → Type 0) (ls : List Link) (x y : Link) → x ≡ get_or ls i x → y.stream ≡ x.stream
+    → so x.relay y.relay → GoesAt (Some i) so ls (set ls i y)
+went-at i so ls x y at same goes = (x, y.relay, at, goes, ap (λ (z : Link). set ls i z) (same-link x y same))
+
+pub leaves : (o : Option ℕ) (i : ℕ) (so : Relay → Relay → Type 0) (old now new : List Link) → o ≡ Some i
+    → GoesAt (Some i) so old now → new ≡ swept now → LeavesAt o so old new
+leaves o i so old now new e goes same = rw e (now, goes, same)
+
+pub said-one : (r : Relay) (o : Option Saying) (bytes : List ℕ) → is_some o ≡ true
+    → IfSome o (λ saying. bytes ≡ framed (payload_of r saying)) → bytes ≡ framed (payload_if r o)
+said-one r None bytes is h = cc
+said-one r (Some saying) bytes is h = h
+
+pub on-ok : {X E A B : Type 0} (o : Result X E) → (A → B) → OnOk o A → OnOk o B
+on-ok (Ok x) f a = f a
+on-ok (Err e) f a = tt
+
+pub on-both : {X E : Type 0} (A B : Type 0) (o : Result X E) → OnOk o A → OnOk o B → OnOk o (A × B)
+on-both A B (Ok x) a b = (a, b)
+on-both A B (Err e) a b = tt

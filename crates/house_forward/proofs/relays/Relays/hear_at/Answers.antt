@@ -1,0 +1,27 @@
+use Rattle.std.proofs.Common.{◌≡◌, ap}
+use Rattle.std.specs.Prelude.{◌==◌}
+use Rattle.house_forward.specs.declared.link.Link.{Link}
+use Rattle.house_forward.proofs.Changes.{fits-at, changes-at}
+use Rattle.house_forward.specs.Going.{Hears}
+use Rattle.house_forward.proofs.Going.{went-at, on-ok}
+use Rattle.house_forward.proofs.relays.Relays.hear_at.Goals as goal
+
+pub invariant_of-self : goal.invariant_of-self
+invariant_of-self c =
+    let x = c.index_mut-link.result.now in
+    let p = λ (l : Link). l.relay.number == c.args.number in
+    let fits = fits-at p c.args.self.now.all.items c.args.i x c.requires c.index_mut-link.ensures.value c.args.self.now.few in
+    let k = changes-at p c.args.self.now.all.items c.args.i x c.hears.new.self c.requires c.index_mut-link.ensures.value c.args.self.now.few c.args.self.now.distinct (rw c.hears.ensures.held fits) c.hears.ensures.stream in
+    record { few = k.few; distinct = k.distinct }
+
+pub returns-clause-streams : goal.returns-clause-streams
+returns-clause-streams c =
+    let x = c.index_mut-link.result.now in
+    let p = λ (l : Link). l.relay.number == c.args.number in
+    let fits = fits-at p c.args.self.now.all.items c.args.i x c.requires c.index_mut-link.ensures.value c.args.self.now.few in
+    let k = changes-at p c.args.self.now.all.items c.args.i x c.hears.new.self c.requires c.index_mut-link.ensures.value c.args.self.now.few c.args.self.now.distinct (rw c.hears.ensures.held fits) c.hears.ensures.stream in
+    k.streams
+
+pub returns-clause-hears : goal.returns-clause-hears
+returns-clause-hears c =
+    on-ok c.hears.result (λ heard. went-at c.args.i (Hears c.args.message.now) c.args.self.now.all.items c.index_mut-link.result.now c.hears.new.self c.index_mut-link.ensures.value c.hears.ensures.stream heard) c.hears.ensures.heard

@@ -1,0 +1,33 @@
+use Rattle.std.proofs.Common.{sym}
+use Rattle.std.specs.List.{list_any}
+use Rattle.std.proofs.lemmas.Bool.{both_ways}
+use Rattle.house_forward.specs.Links.{is_awaited}
+use Rattle.house_forward.proofs.Changes.{made}
+use Rattle.house_forward.proofs.Lists.{none-passes}
+use Rattle.house_forward.proofs.relays.Relays.made.Goals as goal
+
+pub returns-in_default-clause-streams : goal.returns-in_default-clause-streams
+returns-in_default-clause-streams c =
+    absurd (both_ways (list_any is_awaited c.args.self.now.all.items) (none-passes is_awaited c.args.self.now.all.items (sym c.in_default.ensures)) c.requires.awaited)
+
+pub returns-in_default-clause-due : goal.returns-in_default-clause-due
+returns-in_default-clause-due c =
+    absurd (both_ways (list_any is_awaited c.args.self.now.all.items) (none-passes is_awaited c.args.self.now.all.items (sym c.in_default.ensures)) c.requires.awaited)
+
+pub invariant_of-self : goal.invariant_of-self
+invariant_of-self c =
+    let m = made c.args.self.now.all.items c.in-Some.i c.remove-link.result c.made.new.self c.args.stream (sym c.in-Some.ensures) c.remove-link.ensures.value c.args.self.now.few c.args.self.now.distinct c.requires.free c.made.ensures.stream c.made.ensures.held in
+    record {
+      few = rw (c.push_reserved.ensures.items, c.remove-link.ensures.items) m.few;
+      distinct = rw (c.push_reserved.ensures.items, c.remove-link.ensures.items) m.distinct;
+    }
+
+pub returns-clause-streams : goal.returns-clause-streams
+returns-clause-streams c =
+    let m = made c.args.self.now.all.items c.in-Some.i c.remove-link.result c.made.new.self c.args.stream (sym c.in-Some.ensures) c.remove-link.ensures.value c.args.self.now.few c.args.self.now.distinct c.requires.free c.made.ensures.stream c.made.ensures.held in
+    rw (c.push_reserved.ensures.items, c.remove-link.ensures.items) m.streams
+
+pub returns-clause-due : goal.returns-clause-due
+returns-clause-due c =
+    let m = made c.args.self.now.all.items c.in-Some.i c.remove-link.result c.made.new.self c.args.stream (sym c.in-Some.ensures) c.remove-link.ensures.value c.args.self.now.few c.args.self.now.distinct c.requires.free c.made.ensures.stream c.made.ensures.held in
+    rw (c.push_reserved.ensures.items, c.remove-link.ensures.items) m.due

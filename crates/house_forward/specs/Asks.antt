@@ -1,0 +1,113 @@
+-- The asks that have no answer yet, and the answers.
+use Rattle.std.specs.Prelude.{◌+◌, ◌-◌, ◌^◌, ℕ, Bool, true, false, ◌&&◌, ◌||◌, ◌==◌, nat_lt, nat_le, min, if◌then◌else◌, List, length, map, Option, Some, None}
+use Rattle.std.specs.List.{list_any, fold}
+use Rattle.mux_outside.specs.declared.house.HouseReply.{HouseReply}
+use Rattle.mux_outside.specs.declared.house.HouseReply.TheVariants as reply
+use Rattle.house_forward.specs.declared.asks.Outcome.{Outcome}
+use Rattle.house_forward.specs.declared.asks.Outcome.TheVariants.{Done, Port, Refused}
+use Rattle.house_forward.specs.declared.asks.Waiting.{Waiting}
+use Rattle.house_forward.specs.declared.rules.TheConstants.{MOST_ASKS}
+
+-- whether a client has an ask with this id
+abbrev pub has_open : ℕ → ℕ → List Waiting → Bool
+has_open client id waiting = list_any (λ w. (w.client == client) && (w.id == id)) waiting
+
+-- whether an ask is refused for those that wait: one of them is of its client with its id, or they are
+-- as many as may wait
+abbrev pub turns_away : ℕ → ℕ → List Waiting → Bool
+turns_away client id waiting = has_open client id waiting || nat_le MOST_ASKS (length waiting)
+
+-- an ask that waits for the fate of a forwarding
+abbrev pub waiting_for : ℕ → ℕ → Bool → ℕ → Waiting
+waiting_for client id opening serial = record {
+  client = client;
+  id = id;
+  opening = opening;
+  forwarding = serial;
+  outcome = None;
+}
+
+-- ---- what an ask came to
+
+abbrev pub is_settled : Option (ℕ × Outcome) → Bool
+is_settled None = false
+is_settled (Some o) = true
+
+-- whether it came to something
+abbrev pub has_outcome : Waiting → Bool
+has_outcome w = is_settled w.outcome
+
+abbrev pub same : Bool → Bool → Bool
+same true b = b
+same false true = false
+same false false = true
+
+abbrev pub is_about : ℕ → Bool → Waiting → Bool
+is_about serial opening w = (w.forwarding == serial) && same w.opening opening
+
+abbrev pub settled_at : ℕ → Outcome → Option (ℕ × Outcome) → Option (ℕ × Outcome)
+settled_at at outcome None = Some (at, outcome)
+settled_at at outcome (Some o) = Some o
+
+-- it came to this as that many had come to something, where it is one of these and came to nothing yet
+abbrev pub settle_one : ℕ → Bool → ℕ → Outcome → Waiting → Waiting
+settle_one serial opening at outcome w = if is_about serial opening w
+    then record w { outcome = settled_at at outcome w.outcome } else w
+
+abbrev pub settled : ℕ → Bool → ℕ → Outcome → List Waiting → List Waiting
+settled serial opening at outcome waiting = map (settle_one serial opening at outcome) waiting
+
+-- one more
+abbrev pub counted : ℕ → ℕ
+counted at = min (at + 1) (2 ^ 64 - 1)
+
+-- all asks about a forwarding are refused
+abbrev pub refused : ℕ → ℕ → List Waiting → List Waiting
+refused serial at waiting =
+    settled serial false (counted at) Refused (settled serial true at Refused waiting)
+
+-- whether the answer to an ask to open this forwarding is still to be given
+abbrev pub owes_opening : ℕ → List Waiting → Bool
+owes_opening serial waiting = list_any (λ w. (w.forwarding == serial) && w.opening) waiting
+
+-- ---- answers
+
+abbrev pub stamp_of : Option (ℕ × Outcome) → ℕ
+stamp_of None = 0
+stamp_of (Some o) = o.0
+
+abbrev pub earlier_at : Option (ℕ × Outcome) → Option Waiting → Waiting → Option Waiting
+earlier_at None first w = first
+earlier_at (Some o) None w = Some w
+earlier_at (Some o) (Some f) w = if nat_lt o.0 (stamp_of f.outcome) then Some w else Some f
+
+-- the one of both that came to something earlier
+abbrev pub earlier : Option Waiting → Waiting → Option Waiting
+earlier first w = earlier_at w.outcome first w
+
+-- the one that came to something first
+abbrev pub earliest : List Waiting → Option Waiting
+earliest waiting = fold earlier None waiting
+
+abbrev pub reply_in : Option (ℕ × Outcome) → Bool → HouseReply
+reply_in None opening = reply.Refused
+reply_in (Some (at, Done)) opening = reply.Done
+reply_in (Some (at, Port port)) opening = if opening then reply.Port port else reply.Refused
+reply_in (Some (at, Refused)) opening = reply.Refused
+
+-- its answer
+abbrev pub reply_of : Waiting → HouseReply
+reply_of w = reply_in w.outcome w.opening
+
+abbrev pub answer_in : Option Waiting → Option (ℕ × ℕ × HouseReply)
+answer_in None = None
+answer_in (Some w) = Some (w.client, w.id, reply_of w)
+
+-- the next answer
+abbrev pub answer_of : List Waiting → Option (ℕ × ℕ × HouseReply)
+answer_of waiting = answer_in (earliest waiting)
+
+-- how many answers are given
+abbrev pub answers_in : {X : Type 0} → Option X → ℕ
+answers_in None = 0
+answers_in (Some a) = 1

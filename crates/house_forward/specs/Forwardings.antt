@@ -1,0 +1,602 @@
+-- The forwardings of the house, and what comes of an ask by those that stand.
+use Rattle.std.specs.Prelude.{◌≡◌, ◌+◌, ℕ, zero, suc, Bool, true, false, not, ◌&&◌, ◌||◌, if◌then◌else◌, ◌==◌, nat_lt, nat_le, List, [], ◌∷◌, ◌++◌, length, map, filter, find, get_or, set, slice_get, is_some, IfSome, IsTrue, Option, Some, None}
+use Rattle.std.specs.List.{list_any, filter_map, position, remove}
+use Rattle.std.specs.Str.{bytes_eq}
+use Rattle.mux_outside.specs.Streams.{among, without}
+use Rattle.house_forward.specs.Asks.{owes_opening, settled, refused, waiting_for}
+use Rattle.mux_outside.specs.declared.order.Order.{Order}
+use Rattle.mux_outside.specs.declared.order.Order.TheVariants as order
+use Rattle.mux_outside.specs.declared.house.HouseReply.{HouseReply}
+use Rattle.mux_outside.specs.declared.house.HouseReply.TheVariants as reply
+use Rattle.mux_outside.specs.declared.start_ask.StartAsk.{StartAsk}
+use Rattle.house_forward.specs.Rules.{listens_here, connects_there, same_kind, is_refused_alone, AreEnds}
+use Rattle.house_forward.specs.declared.asks.Outcome.{Outcome}
+use Rattle.house_forward.specs.declared.asks.Outcome.TheVariants.{Done, Port, Refused}
+use Rattle.house_forward.specs.declared.asks.Waiting.{Waiting}
+use Rattle.house_forward.specs.declared.forwarding.Change.{Change}
+use Rattle.house_forward.specs.declared.forwarding.Change.TheVariants as change
+use Rattle.house_forward.specs.declared.forwarding.Forwarding.{Forwarding}
+use Rattle.house_forward.specs.declared.forwarding.Request.{Request}
+use Rattle.house_forward.specs.declared.forwarding.Request.TheVariants.{Listen, Cancel}
+use Rattle.house_forward.specs.declared.forwarding.Stage.{Stage}
+use Rattle.house_forward.specs.declared.forwarding.Stage.TheVariants.{ToListen, Ordered, Listening, ToRequest, Requested, Live, Cancelling}
+use Rattle.house_forward.specs.declared.asks.Asked.{Asked}
+use Rattle.house_forward.specs.declared.asks.Asked.TheVariants.{Now, Later}
+use Rattle.house_forward.specs.declared.forwardings.ListenerOrder.{ListenerOrder}
+use Rattle.house_forward.specs.declared.forwardings.ListenerOrder.TheVariants.{Listen as ListensAt, Unlisten as Unlistens}
+use Rattle.house_forward.specs.declared.forwardings.Want.{Want}
+use Rattle.house_forward.specs.declared.forwardings.Want.TheVariants as want
+use Rattle.house_forward.specs.declared.rules.Ends.{Ends}
+use Rattle.house_forward.specs.declared.rules.Kind.{Kind}
+use Rattle.house_forward.specs.declared.rules.Kind.TheVariants.{Local, Remote, Dynamic}
+use Rattle.house_forward.specs.declared.rules.TheConstants.{MOST_FORWARDINGS}
+
+-- whether it is asked or live: one that listens here ends as it is asked to close
+abbrev pub counts : Forwarding → Bool
+counts f = not (f.closing && listens_here f.kind)
+
+-- whether it listens where this is to listen
+abbrev pub listens_at : Ends → Forwarding → Bool
+listens_at ends f = same_kind f.kind ends.kind
+    && ((f.listen_port == ends.listen_port) && bytes_eq f.listen_host ends.listen_host.now)
+
+-- whether it connects where this is to connect: where a dialog says that, whatever was asked
+abbrev pub connects_to : Ends → Forwarding → Bool
+connects_to ends f = not (connects_there f.kind)
+    || ((f.connect_port == ends.connect_port) && bytes_eq f.connect_host ends.connect_host.now)
+
+abbrev pub listener_at : Stage → Option ℕ
+listener_at (ToListen host) = None
+listener_at Ordered = None
+listener_at (Listening l) = Some l
+listener_at ToRequest = None
+listener_at Requested = None
+listener_at (Live port) = None
+listener_at (Cancelling port) = None
+
+abbrev pub is_listener : ℕ → Option ℕ → Bool
+is_listener l None = false
+is_listener l (Some k) = k == l
+
+-- the listener, if it listens here
+abbrev pub listener_of : Forwarding → Option ℕ
+listener_of f = listener_at f.stage
+
+abbrev pub bound_at : Stage → Option ℕ
+bound_at (ToListen host) = None
+bound_at Ordered = None
+bound_at (Listening l) = None
+bound_at ToRequest = None
+bound_at Requested = None
+bound_at (Live port) = Some port
+bound_at (Cancelling port) = Some port
+
+-- the port that the server listens on, if it does
+abbrev pub bound_of : Forwarding → Option ℕ
+bound_of f = bound_at f.stage
+
+-- serials rise from this number on, and are below that one
+abbrev pub is_numbered : ℕ → List Forwarding → ℕ → Bool
+is_numbered low [] high = nat_le low high
+is_numbered low (f ∷ fs) high = nat_le low f.serial && is_numbered (f.serial + 1) fs high
+
+-- with the port where it was asked as 0
+abbrev pub granted : ℕ → ℕ → Outcome
+granted asked port = if asked == 0 then Port port else Done
+
+abbrev pub outcome_at : Stage → ℕ → Option Outcome
+outcome_at (ToListen host) asked = None
+outcome_at Ordered asked = None
+outcome_at (Listening l) asked = Some Done
+outcome_at ToRequest asked = None
+outcome_at Requested asked = None
+outcome_at (Live port) asked = Some (granted asked port)
+outcome_at (Cancelling port) asked = Some (granted asked port)
+
+-- what those that ask for it come to, once that is known
+abbrev pub outcome_of : Forwarding → Option Outcome
+outcome_of f = outcome_at f.stage f.listen_port
+
+-- nothing was done for it yet
+abbrev pub is_first : Stage → Bool
+is_first (ToListen host) = true
+is_first Ordered = false
+is_first (Listening l) = false
+is_first ToRequest = true
+is_first Requested = false
+is_first (Live port) = false
+is_first (Cancelling port) = false
+
+-- the host at which a listener is to be ordered, and else this one
+abbrev pub host_at : Stage → List ℕ → List ℕ
+host_at (ToListen texts) host = texts.one
+host_at Ordered host = host
+host_at (Listening l) host = host
+host_at ToRequest host = host
+host_at Requested host = host
+host_at (Live port) host = host
+host_at (Cancelling port) host = host
+
+-- a listener is to be ordered at this host
+abbrev pub IsAt : Stage → List ℕ → Type 0
+IsAt stage host = host_at stage host ≡ host
+
+abbrev pub waits_at : Stage → Bool
+waits_at (ToListen host) = true
+waits_at Ordered = true
+waits_at (Listening l) = false
+waits_at ToRequest = false
+waits_at Requested = false
+waits_at (Live port) = false
+waits_at (Cancelling port) = false
+
+-- whether it is to listen here, and has no listener yet
+abbrev pub to_listen : Forwarding → Bool
+to_listen f = waits_at f.stage
+
+-- a forwarding that is asked for
+pub record IsAskedFor (ends : Ends) (serial : ℕ) (start : Option ℕ) (f : Forwarding) : Type 0 where
+  pub serial_is : f.serial ≡ serial
+  pub kind_is : f.kind ≡ ends.kind
+  pub listens : f.listen_host ≡ ends.listen_host.now
+  pub listen_port_is : f.listen_port ≡ ends.listen_port
+  pub connects : f.connect_host ≡ ends.connect_host.now
+  pub connect_port_is : f.connect_port ≡ ends.connect_port
+  pub first : is_first f.stage ≡ true
+  pub here : to_listen f ≡ listens_here ends.kind
+  pub place : IsAt f.stage f.listen_host
+  pub open_yet : f.closing ≡ false
+  pub start_is : f.start ≡ start
+
+-- ---- asks
+
+-- the forwarding that listens there, asked or live
+abbrev pub standing : Ends → List Forwarding → Option Forwarding
+standing ends fs = find (λ f. counts f && listens_at ends f) fs
+
+-- how many are asked or live
+abbrev pub how_many : List Forwarding → ℕ
+how_many fs = length (filter counts fs)
+
+-- the same ask again gets what the first one gets
+abbrev pub as_first : Forwarding → Option Outcome → Asked
+as_first f None = Later f.serial
+as_first f (Some outcome) = Now outcome
+
+-- what comes of an ask to open: another connect end is refused, and so is one that isn't the same ask
+-- again while as many are asked or live as may be; else there is a new one with this serial
+abbrev pub opens_of : ℕ → Ends → List Forwarding → Option Forwarding → Asked
+opens_of serial ends fs None =
+    if nat_lt (how_many fs) MOST_FORWARDINGS then Later serial else Now Refused
+opens_of serial ends fs (Some f) =
+    if connects_to ends f then as_first f (outcome_of f) else Now Refused
+
+-- what comes of an ask to close
+abbrev pub closes_of : Option Forwarding → Asked
+closes_of None = Now Refused
+closes_of (Some f) = if f.closing then Now Refused else Later f.serial
+
+abbrev pub comes_of_ends : Bool → ℕ → Ends → List Forwarding → Asked
+comes_of_ends true serial ends fs = opens_of serial ends fs (standing ends fs)
+comes_of_ends false serial ends fs = closes_of (standing ends fs)
+
+abbrev pub requests_at : Stage → Bool → Bool
+requests_at (ToListen host) closing = false
+requests_at Ordered closing = false
+requests_at (Listening l) closing = false
+requests_at ToRequest closing = true
+requests_at Requested closing = false
+requests_at (Live port) closing = closing
+requests_at (Cancelling port) closing = false
+
+-- whether a request is to be said for it: to listen, or to do so no longer
+abbrev pub has_request : Forwarding → Bool
+has_request f = requests_at f.stage f.closing
+
+abbrev pub request_at : Stage → ℕ → Request
+request_at (ToListen host) serial = Listen serial
+request_at Ordered serial = Listen serial
+request_at (Listening l) serial = Listen serial
+request_at ToRequest serial = Listen serial
+request_at Requested serial = Listen serial
+request_at (Live port) serial = Cancel serial
+request_at (Cancelling port) serial = Listen serial
+
+-- the request that is to be said for it: where the server listens it is to do so no longer
+abbrev pub request_of : Forwarding → Request
+request_of f = request_at f.stage f.serial
+
+-- ---- listeners
+
+-- the listeners, in the order in which they were made
+abbrev pub listeners_of : List Forwarding → List ℕ
+listeners_of fs = filter_map listener_of fs
+
+abbrev pub ordered_at : Stage → Bool
+ordered_at (ToListen host) = false
+ordered_at Ordered = true
+ordered_at (Listening l) = false
+ordered_at ToRequest = false
+ordered_at Requested = false
+ordered_at (Live port) = false
+ordered_at (Cancelling port) = false
+
+abbrev pub is_ordered_first : Option Forwarding → Bool
+is_ordered_first None = false
+is_ordered_first (Some f) = ordered_at f.stage
+
+-- whether one has a listener
+abbrev pub listens : List Forwarding → Bool
+listens fs = list_any (λ f. is_some (listener_of f)) fs
+
+-- listeners were made in the order of asking: none that has one stands behind one that has none yet
+abbrev pub is_in_order : List Forwarding → Bool
+is_in_order [] = true
+is_in_order (f ∷ fs) = not (to_listen f && listens fs) && is_in_order fs
+
+abbrev pub has_listener : ℕ → Forwarding → Bool
+has_listener l f = is_listener l (listener_of f)
+
+-- ---- what is ordered
+
+abbrev pub ends_at : ℕ → Bool → ℕ → List Waiting → Option Want → Option Want
+ends_at listener false serial waiting next = next
+ends_at listener true serial waiting next =
+    if owes_opening serial waiting then None else Some (want.Unlisten serial listener)
+
+abbrev pub next_at : Stage → Bool → ℕ → List Waiting → Option Want → Option Want
+next_at (ToListen host) closing serial waiting next = Some want.Listen
+next_at Ordered closing serial waiting next = None
+next_at (Listening l) closing serial waiting next = ends_at l closing serial waiting next
+next_at ToRequest closing serial waiting next = next
+next_at Requested closing serial waiting next = next
+next_at (Live port) closing serial waiting next = next
+next_at (Cancelling port) closing serial waiting next = next
+
+-- the next order about a listener, in the order of asking: the first that is to listen, or that is to be
+-- closed; that one waits for the answers of those that asked for it
+abbrev pub next_of : List Waiting → List Forwarding → Option Want
+next_of waiting [] = None
+next_of waiting (f ∷ fs) = next_at f.stage f.closing f.serial waiting (next_of waiting fs)
+
+abbrev pub pends : Stage → Bool → Bool
+pends (ToListen host) closing = true
+pends Ordered closing = true
+pends (Listening l) closing = closing
+pends ToRequest closing = false
+pends Requested closing = false
+pends (Live port) closing = false
+pends (Cancelling port) closing = false
+
+-- whether it is to be ordered, or to be closed
+abbrev pub is_pending : Forwarding → Bool
+is_pending f = pends f.stage f.closing
+
+-- the order that it is to have, if nothing is in the way
+abbrev pub want_in : List Waiting → Option Forwarding → Option Want
+want_in waiting None = None
+want_in waiting (Some f) = next_at f.stage f.closing f.serial waiting None
+
+abbrev pub is_to_listen : Stage → Bool
+is_to_listen (ToListen host) = true
+is_to_listen Ordered = false
+is_to_listen (Listening l) = false
+is_to_listen ToRequest = false
+is_to_listen Requested = false
+is_to_listen (Live port) = false
+is_to_listen (Cancelling port) = false
+
+abbrev pub is_first_to_listen : Option Forwarding → Bool
+is_first_to_listen None = false
+is_first_to_listen (Some f) = is_to_listen f.stage
+
+abbrev pub IsListen : ListenerOrder → Type 0
+IsListen (ListensAt host port) = Unit {0}
+IsListen (Unlistens l) = ⊥
+
+-- what an order about a listener leaves: the first that has no listener is the one that is ordered; and
+-- the one that was to be closed is gone
+abbrev pub Orders : ListenerOrder → List Waiting → List Forwarding → List Forwarding → Type 0
+Orders (ListensAt host port) waiting old new = (listeners_of new ≡ listeners_of old)
+    × (is_ordered_first (find to_listen new) ≡ true)
+Orders (Unlistens l) waiting old new = IsTrue (among l (listeners_of old))
+    × (listeners_of new ≡ without l (listeners_of old))
+    × ((serial : ℕ) × (next_of waiting old ≡ Some (want.Unlisten serial l)))
+
+-- a Listen is where the first that has no listener yet is to listen
+abbrev pub ListensFor : ListenerOrder → Option Forwarding → Type 0
+ListensFor (ListensAt host port) None = ⊥
+ListensFor (ListensAt host port) (Some f) = (host.one ≡ f.listen_host) × (port ≡ f.listen_port)
+ListensFor (Unlistens l) first = Unit {0}
+
+abbrev pub ListensFirst : Option Order → List Forwarding → Type 0
+ListensFirst None fs = Unit {0}
+ListensFirst (Some (order.Listen host port)) fs =
+    IfSome (find to_listen fs) (λ f. (host ≡ f.listen_host) × (port ≡ f.listen_port))
+ListensFirst (Some (order.Connect host port)) fs = Unit {0}
+ListensFirst (Some (order.Unlisten l)) fs = Unit {0}
+ListensFirst (Some (order.Pause t)) fs = Unit {0}
+ListensFirst (Some (order.Resume t)) fs = Unit {0}
+ListensFirst (Some (order.Finish t)) fs = Unit {0}
+ListensFirst (Some (order.Close t)) fs = Unit {0}
+
+-- for how many marks an order about a listener needs room at once
+abbrev pub marks_in : Option ListenerOrder → ℕ
+marks_in None = 0
+marks_in (Some (ListensAt host port)) = 0
+marks_in (Some (Unlistens l)) = 1
+
+abbrev pub listeners_made : Option ℕ → List ℕ
+listeners_made None = []
+listeners_made (Some l) = l ∷ []
+
+abbrev pub serial_of : Option Forwarding → ℕ
+serial_of None = 0
+serial_of (Some f) = f.serial
+
+-- ---- changes
+
+abbrev pub chosen : Option ℕ → ℕ
+chosen None = 0
+chosen (Some port) = port
+
+-- the port on which the server listens: it chose one where it was asked for 0
+abbrev pub bound_to : ℕ → Option ℕ → ℕ
+bound_to asked port = if asked == 0 then chosen port else asked
+
+abbrev pub stage_after : Change → ℕ → Stage → Stage
+stage_after c asked (ToListen host) = ToListen host
+stage_after c asked Ordered = Ordered
+stage_after c asked (Listening l) = Listening l
+stage_after change.Close asked ToRequest = ToRequest
+stage_after change.Request asked ToRequest = Requested
+stage_after change.Cancel asked ToRequest = ToRequest
+stage_after (change.Live port) asked ToRequest = ToRequest
+stage_after change.Stay asked ToRequest = ToRequest
+stage_after change.Close asked Requested = Requested
+stage_after change.Request asked Requested = Requested
+stage_after change.Cancel asked Requested = Requested
+stage_after (change.Live port) asked Requested = Live (bound_to asked port)
+stage_after change.Stay asked Requested = Requested
+stage_after change.Close asked (Live port) = Live port
+stage_after change.Request asked (Live port) = Live port
+stage_after change.Cancel asked (Live port) = Cancelling port
+stage_after (change.Live chosen) asked (Live port) = Live port
+stage_after change.Stay asked (Live port) = Live port
+stage_after change.Close asked (Cancelling port) = Cancelling port
+stage_after change.Request asked (Cancelling port) = Cancelling port
+stage_after change.Cancel asked (Cancelling port) = Cancelling port
+stage_after (change.Live chosen) asked (Cancelling port) = Cancelling port
+stage_after change.Stay asked (Cancelling port) = Live port
+
+abbrev pub closing_after : Change → Bool → Bool
+closing_after change.Close closing = true
+closing_after change.Request closing = closing
+closing_after change.Cancel closing = closing
+closing_after (change.Live port) closing = closing
+closing_after change.Stay closing = false
+
+-- the forwarding with this serial changes
+abbrev pub changed : Change → ℕ → Forwarding → Forwarding
+changed c serial f = if f.serial == serial then record f {
+  stage = stage_after c f.listen_port f.stage;
+  closing = closing_after c f.closing;
+} else f
+
+-- an ask to close leaves one that closes
+abbrev pub after_close : Asked → List Forwarding → List Forwarding
+after_close (Now outcome) fs = fs
+after_close (Later serial) fs = map (changed change.Close serial) fs
+
+-- whether there is a new one for an ask to open
+abbrev pub is_new : Ends → List Forwarding → Option Forwarding → Bool
+is_new ends fs None = nat_lt (how_many fs) MOST_FORWARDINGS
+is_new ends fs (Some f) = false
+
+-- an ask to open leaves the same, or one more behind them
+abbrev pub Opens : Bool → Ends → ℕ → Option ℕ → List Forwarding → List Forwarding → Type 0
+Opens false ends serial start old new = new ≡ old
+Opens true ends serial start old new =
+    (f : Forwarding) × IsAskedFor ends serial start f × (new ≡ old ++ f ∷ [])
+
+-- a new one takes the next serial
+abbrev pub serials_after : Bool → ℕ → ℕ
+serials_after false serials = serials
+serials_after true serials = serials + 1
+
+-- ---- what an ask comes to
+
+-- what an ask leaves of the forwardings
+abbrev pub EndsLeave : Bool → ℕ → Ends → List Forwarding → List Forwarding → Type 0
+EndsLeave true serial ends old new =
+    Opens (is_new ends old (standing ends old)) ends serial None old new
+EndsLeave false serial ends old new = new ≡ after_close (closes_of (standing ends old)) old
+
+-- an ask that is refused whatever stands changes nothing; of another the two ends are looked at
+abbrev pub ComesIf : Bool → Bool → Bool → StartAsk → ℕ → List Forwarding → List Forwarding → Asked → Type 0
+ComesIf true gateway opening ask serial old new asked = (asked ≡ Now Refused) × (new ≡ old)
+ComesIf false gateway opening ask serial old new asked = (ends : Ends) × AreEnds gateway ask ends
+    × (asked ≡ comes_of_ends opening serial ends old) × EndsLeave opening serial ends old new
+
+-- one is refused whose client has an open ask with its id, or while as many asks wait as may
+abbrev pub ComesUnless : Bool → Bool → Bool → StartAsk → ℕ → List Forwarding → List Forwarding → Asked → Type 0
+ComesUnless true gateway opening ask serial old new asked = (asked ≡ Now Refused) × (new ≡ old)
+ComesUnless false gateway opening ask serial old new asked =
+    ComesIf (is_refused_alone ask) gateway opening ask serial old new asked
+
+abbrev pub reply_to : Asked → HouseReply
+reply_to (Now Done) = reply.Done
+reply_to (Now (Port port)) = reply.Port port
+reply_to (Now Refused) = reply.Refused
+reply_to (Later serial) = reply.Later
+
+-- an ask waits where it has no reply yet
+abbrev pub asks_after : Asked → ℕ → ℕ → Bool → List Waiting → List Waiting
+asks_after (Now outcome) client id opening waiting = waiting
+asks_after (Later serial) client id opening waiting =
+    waiting ++ waiting_for client id opening serial ∷ []
+
+-- a request that was said is unanswered
+abbrev pub after_saying : Request → List Forwarding → List Forwarding
+after_saying (Listen serial) fs = map (changed change.Request serial) fs
+after_saying (Cancel serial) fs = map (changed change.Cancel serial) fs
+
+-- the first of those asked for at the start that was refused, with one more
+abbrev pub first_refused : Option ℕ → Option ℕ → Option ℕ
+first_refused None start = start
+first_refused (Some first) start = Some first
+
+-- the forwarding at a place can't be had
+abbrev pub FailsAt : ℕ → List Forwarding → Option ℕ → Option ℕ → Type 0
+FailsAt i fs old new =
+    (f : Forwarding) × (f ≡ get_or fs i f) × (new ≡ first_refused old f.start)
+
+abbrev pub start_of : Option Forwarding → Option ℕ
+start_of None = None
+start_of (Some f) = f.start
+
+-- ---- the start
+
+-- the forwardings, the next serial, and the first of those asked for at the start that was refused
+pub record Standing : Type 0 where
+  pub all : List Forwarding
+  pub serials : ℕ
+  pub refused : Option ℕ
+
+abbrev pub what_stands : List Forwarding → ℕ → Option ℕ → Standing
+what_stands fs serials refused = record { all = fs; serials = serials; refused = refused }
+
+abbrev pub refused_if : Asked → ℕ → Option ℕ → Option ℕ
+refused_if (Now Done) i refused = refused
+refused_if (Now (Port port)) i refused = refused
+refused_if (Now Refused) i refused = first_refused refused (Some i)
+refused_if (Later serial) i refused = refused
+
+-- one with these two ends is asked for at the start, at this place
+pub record StartsAt (ends : Ends) (i : ℕ) (old new : Standing) : Type 0 where
+  pub all : Opens (is_new ends old.all (standing ends old.all)) ends old.serials (Some i) old.all new.all
+  pub serials : new.serials ≡ serials_after (is_new ends old.all (standing ends old.all)) old.serials
+  pub refused : new.refused ≡ refused_if (opens_of old.serials ends old.all (standing ends old.all)) i old.refused
+
+-- one that is refused whatever stands is the first that was refused, if none was yet
+abbrev pub StartsIf : Bool → Bool → StartAsk → ℕ → Standing → Standing → Type 0
+StartsIf true gateway ask i old new =
+    new ≡ what_stands old.all old.serials (first_refused old.refused (Some i))
+StartsIf false gateway ask i old new =
+    (ends : Ends) × AreEnds gateway ask ends × StartsAt ends i old new
+
+-- so many of them were asked for, one after another
+abbrev pub Begins : Bool → List StartAsk → ℕ → Standing → Standing → Type 0
+Begins gateway asks zero old new = new ≡ old
+Begins gateway asks (suc i) old new = (one : Standing) × Begins gateway asks i old one
+    × IfSome (slice_get asks i) (λ ask. StartsIf (is_refused_alone ask) gateway ask i one new)
+
+-- ---- what orders leave
+
+-- the one at a place is ordered
+abbrev pub OrderedAt : ℕ → List Forwarding → List Forwarding → Type 0
+OrderedAt i old new =
+    (f : Forwarding) × (f ≡ get_or old i f) × (new ≡ set old i (record f { stage = Ordered }))
+
+-- an order about a listener leaves the first that has none yet as ordered, or none with that listener
+abbrev pub Leaves : ListenerOrder → List Forwarding → List Forwarding → Type 0
+Leaves (ListensAt host port) old new =
+    IfSome (position to_listen old) (λ i. OrderedAt i old new)
+Leaves (Unlistens l) old new = new ≡ filter (λ f. not (has_listener l f)) old
+
+-- those that asked to close one get their answer as it is closed
+abbrev pub order_asks : Option Want → ℕ → List Waiting → List Waiting
+order_asks None at waiting = waiting
+order_asks (Some want.Listen) at waiting = waiting
+order_asks (Some (want.Unlisten serial l)) at waiting = settled serial false at Done waiting
+
+-- the one at a place has this listener, or is gone where none could be made
+abbrev pub MadeAt : Option ℕ → ℕ → List Forwarding → List Forwarding → Type 0
+MadeAt None i old new = new ≡ remove old i
+MadeAt (Some l) i old new = (f : Forwarding) × (f ≡ get_or old i f)
+    × (new ≡ set old i (record f { stage = Listening l }))
+
+abbrev pub made_refused : Option ℕ → Option Forwarding → Option ℕ → Option ℕ
+made_refused None first refused = first_refused refused (start_of first)
+made_refused (Some l) first refused = refused
+
+-- ---- replies of the server
+
+abbrev pub asks_at : Stage → Bool
+asks_at (ToListen host) = false
+asks_at Ordered = false
+asks_at (Listening l) = false
+asks_at ToRequest = false
+asks_at Requested = true
+asks_at (Live port) = false
+asks_at (Cancelling port) = false
+
+-- whether the request to listen for this forwarding is unanswered
+abbrev pub is_asked : ℕ → Forwarding → Bool
+is_asked serial f = (f.serial == serial) && asks_at f.stage
+
+abbrev pub cancels_at : Stage → Bool
+cancels_at (ToListen host) = false
+cancels_at Ordered = false
+cancels_at (Listening l) = false
+cancels_at ToRequest = false
+cancels_at Requested = false
+cancels_at (Live port) = false
+cancels_at (Cancelling port) = true
+
+-- whether the cancel of this forwarding is unanswered
+abbrev pub is_cancelled : ℕ → Forwarding → Bool
+is_cancelled serial f = (f.serial == serial) && cancels_at f.stage
+
+abbrev pub live_in : Option ℕ → Option Forwarding → Option Outcome
+live_in port None = None
+live_in port (Some f) = Some (granted f.listen_port (bound_to f.listen_port port))
+
+abbrev pub opened_asks : Option Outcome → ℕ → ℕ → List Waiting → List Waiting
+opened_asks None serial at waiting = waiting
+opened_asks (Some outcome) serial at waiting = settled serial true at outcome waiting
+
+abbrev pub replied_asks : Bool → Option ℕ → Option Request → List Forwarding → ℕ → List Waiting → List Waiting
+replied_asks success port None fs at waiting = waiting
+replied_asks true port (Some (Listen serial)) fs at waiting =
+    opened_asks (live_in port (find (is_asked serial) fs)) serial at waiting
+replied_asks false port (Some (Listen serial)) fs at waiting = refused serial at waiting
+replied_asks true port (Some (Cancel serial)) fs at waiting = settled serial false at Done waiting
+replied_asks false port (Some (Cancel serial)) fs at waiting = settled serial false at Refused waiting
+
+abbrev pub removed_at : Option ℕ → List Forwarding → List Forwarding
+removed_at None fs = fs
+removed_at (Some i) fs = remove fs i
+
+-- what a reply leaves: a forwarding whose request is refused, or whose cancel is granted, is gone
+abbrev pub replied_all : Bool → Option ℕ → Option Request → List Forwarding → List Forwarding
+replied_all success port None fs = fs
+replied_all true port (Some (Listen serial)) fs = map (changed (change.Live port) serial) fs
+replied_all false port (Some (Listen serial)) fs = removed_at (position (is_asked serial) fs) fs
+replied_all true port (Some (Cancel serial)) fs = removed_at (position (is_cancelled serial) fs) fs
+replied_all false port (Some (Cancel serial)) fs = map (changed change.Stay serial) fs
+
+abbrev pub replied_refused : Bool → Option Request → List Forwarding → Option ℕ → Option ℕ
+replied_refused success None fs refused = refused
+replied_refused true (Some (Listen serial)) fs refused = refused
+replied_refused false (Some (Listen serial)) fs refused =
+    first_refused refused (start_of (find (is_asked serial) fs))
+replied_refused success (Some (Cancel serial)) fs refused = refused
+
+abbrev pub first_of : List Request → Option Request
+first_of [] = None
+first_of (r ∷ rs) = Some r
+
+-- what the asks came to as a listener was made, or couldn't be
+abbrev pub ordered_asks : Option ℕ → ℕ → ℕ → List Waiting → List Waiting
+ordered_asks None serial at waiting = refused serial at waiting
+ordered_asks (Some listener) serial at waiting = settled serial true at Done waiting
+
+abbrev is_remote : Kind → Bool
+is_remote Local = false
+is_remote Remote = true
+is_remote Dynamic = false
+
+-- whether the server listens for it at this address and port
+abbrev pub served_at : List ℕ → ℕ → Forwarding → Bool
+served_at address port f = is_remote f.kind && (is_listener port (bound_of f) && bytes_eq f.listen_host address)

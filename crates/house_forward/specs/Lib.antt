@@ -1,0 +1,10 @@
+pub mod Asks
+pub mod Due
+pub mod Forwardings
+pub mod Going
+pub mod Heard
+pub mod Known
+pub mod Links
+pub mod Quiet
+pub mod Rules
+pub mod Said

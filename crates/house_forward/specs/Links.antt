@@ -1,0 +1,297 @@
+-- The relays of the house, each with its stream.
+use Rattle.std.specs.Prelude.{◌≡◌, ℕ, Bool, true, false, not, ◌&&◌, if◌then◌else◌, ◌==◌, nat_le, List, [], ◌∷◌, ◌++◌, length, map, filter, find, is_some, IfSome, Option, Some, None}
+use Rattle.mux_outside.specs.OwnStreams.{new_stream, is_one, is_finished}
+use Rattle.mux_outside.specs.declared.order.Order.{Order}
+use Rattle.mux_outside.specs.declared.order.Order.TheVariants.{Listen, Connect, Unlisten}
+use Rattle.mux_outside.specs.declared.order.Order.TheVariants as order
+use Rattle.mux_outside.specs.declared.own_streams.OwnStream.{OwnStream}
+use Rattle.std.specs.List.{list_any, filter_map}
+use Rattle.house_relay.specs.Line.{counts}
+use Rattle.house_relay.specs.Next.{says_of, orders_of}
+use Rattle.house_relay.specs.Relay.{stream_of, stuck_in, OrdersRight}
+use Rattle.house_relay.specs.Steps.{is_gone, connected, failing, said_of, fresh_relay, fresh_dialing}
+use Rattle.house_relay.specs.declared.line.Line.{Line}
+use Rattle.house_relay.specs.declared.line.Line.TheVariants.{Dialing, Asked, Opened, Live, Over, Offered as OfServer}
+use Rattle.house_relay.specs.declared.relay.Relay.{Relay}
+use Rattle.house_relay.specs.declared.relay.Saying.{Saying}
+use Rattle.house_relay.specs.declared.relay.Socket.TheVariants as socket
+use Rattle.house_forward.specs.declared.forwarding.Forwarding.{Forwarding}
+use Rattle.house_forward.specs.declared.rules.Kind.{Kind}
+use Rattle.house_forward.specs.declared.rules.Kind.TheVariants.{Local, Remote, Dynamic}
+use Rattle.house_forward.specs.declared.rules.TheConstants.{MOST_CHANNELS, MOST_DIALOGS}
+use Rattle.house_forward.specs.declared.link.Link.{Link}
+use Rattle.house_forward.specs.declared.link.Step.{Step}
+use Rattle.house_forward.specs.declared.link.Step.TheVariants.{Pause, Finish, End, Close, Writable, Failed}
+use Rattle.house_forward.specs.declared.link.Stream.{Stream}
+use Rattle.house_forward.specs.declared.link.Stream.TheVariants.{Offered, Awaited, Made, Gone}
+
+-- ---- streams
+
+abbrev pub own_of : Stream → Option OwnStream
+own_of (Offered host port) = None
+own_of Awaited = None
+own_of (Made own) = Some own
+own_of Gone = None
+
+-- the streams of the house, in the order in which they were made
+abbrev pub streams_of : List Link → List OwnStream
+streams_of links = filter_map (λ l. own_of l.stream) links
+
+-- no two have the same number
+abbrev pub are_distinct : List OwnStream → Bool
+are_distinct [] = true
+are_distinct (s ∷ ss) = not (is_one s.number ss) && are_distinct ss
+
+-- whether one of the streams has the number of this one
+abbrev pub is_taken : Stream → List OwnStream → Bool
+is_taken (Offered host port) streams = false
+is_taken Awaited streams = false
+is_taken (Made own) streams = is_one own.number streams
+is_taken Gone streams = false
+
+abbrev pub numbered : ℕ → Stream → Bool
+numbered t (Offered host port) = false
+numbered t Awaited = false
+numbered t (Made own) = own.number == t
+numbered t Gone = false
+
+-- whether this stream is finished
+abbrev pub finishes : ℕ → Stream → Bool
+finishes t (Offered host port) = false
+finishes t Awaited = false
+finishes t (Made own) = (own.number == t) && own.finished
+finishes t Gone = false
+
+-- whether it has this stream
+abbrev pub has_number : ℕ → Link → Bool
+has_number t l = numbered t l.stream
+
+-- the number of this stream
+abbrev pub number_in : Stream → Option ℕ
+number_in (Offered host port) = None
+number_in Awaited = None
+number_in (Made own) = Some own.number
+number_in Gone = None
+
+abbrev pub is_number : ℕ → Option ℕ → Bool
+is_number t None = false
+is_number t (Some s) = s == t
+
+-- whether this stream is that of its relay
+abbrev pub is_of : ℕ → Link → Bool
+is_of t l = has_number t l && is_number t (stream_of l.relay.socket)
+
+abbrev pub queue_in : Option Link → List ℕ
+queue_in None = []
+queue_in (Some l) = l.relay.queue.waiting
+
+-- what waits for a stream that is one of the house's and isn't finished
+abbrev pub queue_at : List Link → ℕ → List ℕ
+queue_at links t = if is_one t (streams_of links) && not (is_finished t (streams_of links))
+    then queue_in (find (is_of t) links) else []
+
+-- a socket is to be connected, or that is ordered
+abbrev pub offers : Stream → Bool
+offers (Offered host port) = true
+offers Awaited = false
+offers (Made own) = false
+offers Gone = false
+
+abbrev pub awaits : Stream → Bool
+awaits (Offered host port) = false
+awaits Awaited = true
+awaits (Made own) = false
+awaits Gone = false
+
+abbrev pub is_offered : Link → Bool
+is_offered l = offers l.stream
+
+abbrev pub is_awaited : Link → Bool
+is_awaited l = awaits l.stream
+
+abbrev pub is_without : Stream → Bool
+is_without (Offered host port) = false
+is_without Awaited = false
+is_without (Made own) = false
+is_without Gone = true
+
+-- whether nothing is left of it
+abbrev pub is_left : Link → Bool
+is_left l = is_without l.stream && is_gone l.relay
+
+-- whether it has a channel, or is to have one
+abbrev pub is_channel : Link → Bool
+is_channel l = counts l.relay.line
+
+abbrev pub channels : List Link → ℕ
+channels links = length (filter is_channel links)
+
+-- whether the house has all channels that it may have
+abbrev pub is_full : List Link → Bool
+is_full links = nat_le MOST_CHANNELS (channels links)
+
+-- whether a dialog is to say its end
+abbrev pub dials : Line → Bool
+dials (Dialing dialog) = true
+dials (Asked host port version) = false
+dials (Opened version) = false
+dials (OfServer remote window maximum) = false
+dials (Live live) = false
+dials Over = false
+
+abbrev pub is_dialog : Link → Bool
+is_dialog l = dials l.relay.line
+
+abbrev pub dialogs : List Link → ℕ
+dialogs links = length (filter is_dialog links)
+
+-- whether the house has all dialogs that it may have
+abbrev pub is_crowded : List Link → Bool
+is_crowded links = nat_le MOST_DIALOGS (dialogs links)
+
+-- whether the house's own number of a channel is this one
+abbrev pub is_number_of : ℕ → List Link → Bool
+is_number_of number links = list_any (λ l. l.relay.number == number) links
+
+-- ---- steps
+
+abbrev pub stream_after : Step → Stream → Stream
+stream_after step (Offered host port) = Offered host port
+stream_after step Awaited = Awaited
+stream_after (Pause b) (Made own) = Made (record own { paused = b })
+stream_after Finish (Made own) = Made (record own { finished = true })
+stream_after End (Made own) = Made (record own { ended = true })
+stream_after Close (Made own) = Gone
+stream_after Writable (Made own) = Made own
+stream_after Failed (Made own) = Made own
+stream_after step Gone = Gone
+
+abbrev pub relay_after : Step → Relay → Relay
+relay_after (Pause b) r = r
+relay_after Finish r = r
+relay_after End r = record r { ended = true }
+relay_after Close r = record r { socket = socket.Closed }
+relay_after Writable r = record r { socket = connected r.socket }
+relay_after Failed r = record r { socket = failing r.socket }
+
+-- the one that has this stream takes a step
+abbrev pub link_after : Step → ℕ → Link → Link
+link_after step t l = if has_number t l
+    then record l { relay = relay_after step l.relay; stream = stream_after step l.stream } else l
+
+-- a stream is made, or couldn't be
+abbrev pub made_stream : Option ℕ → Stream
+made_stream (Some t) = Made (new_stream t)
+made_stream None = Gone
+
+abbrev pub made_streams : Option ℕ → List OwnStream
+made_streams (Some t) = new_stream t ∷ []
+made_streams None = []
+
+-- ---- orders
+
+abbrev pub order_in : Stream → Relay → Option Order
+order_in (Offered host port) r = None
+order_in Awaited r = None
+order_in (Made own) r = if is_number own.number (stream_of r.socket) then orders_of r own else None
+order_in Gone r = None
+
+-- what its relay orders of its stream
+abbrev pub link_order : Link → Option Order
+link_order l = order_in l.stream l.relay
+
+abbrev pub has_order : Link → Bool
+has_order l = is_some (link_order l)
+
+abbrev pub OrdersIn : Order → Stream → Relay → Type 0
+OrdersIn o (Offered host port) r = ⊥
+OrdersIn o Awaited r = ⊥
+OrdersIn o (Made own) r = OrdersRight o r own
+OrdersIn o Gone r = ⊥
+
+-- an order that it may give of its stream
+abbrev pub IsOrderOf : Order → Link → Type 0
+IsOrderOf o l = OrdersIn o l.stream l.relay
+
+-- they take the step that is ordered
+abbrev pub obeyed : Order → List Link → List Link
+obeyed (Listen host port) links = links
+obeyed (Connect host port) links = links
+obeyed (Unlisten l) links = links
+obeyed (order.Pause t) links = map (link_after (Pause true) t) links
+obeyed (order.Resume t) links = map (link_after (Pause false) t) links
+obeyed (order.Finish t) links = map (link_after Finish t) links
+obeyed (order.Close t) links = map (link_after Close t) links
+
+-- ---- sayings
+
+-- whether its relay has something to say
+abbrev pub has_saying : Link → Bool
+has_saying l = is_some (says_of l.relay)
+
+abbrev pub after_saying : Option Saying → Relay → Relay
+after_saying None r = r
+after_saying (Some saying) r = said_of saying r
+
+-- ---- what the server opens
+
+abbrev pub ConnectsAt : List ℕ → ℕ → Stream → Type 0
+ConnectsAt host port (Offered texts at) = (texts.one ≡ host) × (at ≡ port)
+ConnectsAt host port Awaited = ⊥
+ConnectsAt host port (Made own) = ⊥
+ConnectsAt host port Gone = ⊥
+
+-- a Connect is to where the first socket that is to be connected is to go
+abbrev pub ConnectsFirst : Option Order → List Link → Type 0
+ConnectsFirst None links = Unit {0}
+ConnectsFirst (Some (Listen host port)) links = Unit {0}
+ConnectsFirst (Some (Connect host port)) links =
+    IfSome (find is_offered links) (λ l. ConnectsAt host port l.stream)
+ConnectsFirst (Some (Unlisten l)) links = Unit {0}
+ConnectsFirst (Some (order.Pause t)) links = Unit {0}
+ConnectsFirst (Some (order.Resume t)) links = Unit {0}
+ConnectsFirst (Some (order.Finish t)) links = Unit {0}
+ConnectsFirst (Some (order.Close t)) links = Unit {0}
+
+-- one relay more, for which a socket is to be connected where this forwarding connects
+pub record Offers (f : Forwarding) (remote window maximum : ℕ) (old new : List Link) : Type 0 where
+  pub number : ℕ
+  pub stream : Stream
+  pub connects : ConnectsAt f.connect_host f.connect_port stream
+  pub more : new ≡ old ++ record {
+    relay = fresh_relay number (OfServer remote window maximum) socket.Unmade;
+    stream = stream;
+  } ∷ []
+
+-- ---- what is joined at a listener
+
+-- one that is joined beyond what the house may have is closed
+abbrev pub IsSurplus : ℕ → Relay → Type 0
+IsSurplus t r = r ≡ fresh_relay r.number Over (socket.Surplus t)
+
+-- a dialog is to say the channel's end; where the house has all dialogs that it may have, the socket is
+-- closed
+abbrev pub IsDialed : Bool → ℕ → Relay → Type 0
+IsDialed true t r = IsSurplus t r
+IsDialed false t r = r ≡ fresh_relay r.number fresh_dialing (socket.Open t)
+
+-- the channel is to be to where the forwarding connects, or to where a dialog says
+abbrev pub IsJoinedAt : Kind → Bool → Forwarding → ℕ → Relay → Type 0
+IsJoinedAt Local crowded f t r =
+    r ≡ fresh_relay r.number (Asked f.connect_host f.connect_port None) (socket.Open t)
+IsJoinedAt Remote crowded f t r =
+    r ≡ fresh_relay r.number (Asked f.connect_host f.connect_port None) (socket.Open t)
+IsJoinedAt Dynamic crowded f t r = IsDialed crowded t r
+
+-- the relay of a socket that is joined: where the house has all channels that it may have, it is closed
+abbrev pub IsJoined : Bool → Bool → Option Forwarding → ℕ → Relay → Type 0
+IsJoined true crowded f t r = IsSurplus t r
+IsJoined false crowded None t r = IsSurplus t r
+IsJoined false crowded (Some f) t r = IsJoinedAt f.kind crowded f t r
+
+-- one relay more, for a socket that is joined
+pub record Joins (f : Option Forwarding) (t : ℕ) (old new : List Link) : Type 0 where
+  pub relay : Relay
+  pub joined : IsJoined (is_full old) (is_crowded old) f t relay
+  pub free : is_number_of relay.number old ≡ false
+  pub more : new ≡ old ++ record { relay = relay; stream = Made (new_stream t) } ∷ []

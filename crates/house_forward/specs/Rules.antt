@@ -1,0 +1,91 @@
+-- What is asked of the house, as it is compared, and why it is refused whatever stands already.
+use Rattle.std.specs.Prelude.{◌≡◌, ℕ, Bool, true, false, ◌&&◌, ◌||◌, if◌then◌else◌, ◌==◌, nat_lt, List, [], length, codes, Option, Some, None}
+use Rattle.std.specs.Str.{bytes_eq}
+use Rattle.mux_outside.specs.declared.start_ask.StartAsk.{StartAsk}
+use Rattle.house_forward.specs.declared.rules.Asked.{Asked}
+use Rattle.house_forward.specs.declared.rules.Ends.{Ends}
+use Rattle.house_forward.specs.declared.rules.Kind.{Kind}
+use Rattle.house_forward.specs.declared.rules.Kind.TheVariants.{Local, Remote, Dynamic}
+use Rattle.house_forward.specs.declared.rules.TheConstants.{LAST_PORT, LONGEST_HOST}
+
+-- the kinds that are served
+abbrev pub kind_of : ℕ → Option Kind
+kind_of kind = if kind == 1 then Some Local else (if kind == 2 then Some Remote
+    else (if kind == 3 then Some Dynamic else None))
+
+-- ---- listen hosts
+
+-- this machine alone, or all its addresses
+abbrev pub local_host : Bool → List ℕ → List ℕ
+local_host gateway host =
+    if bytes_eq host (codes "*") || ((length host == 0) && gateway) then codes "0.0.0.0"
+    else (if (length host == 0) || bytes_eq host (codes "localhost") then codes "127.0.0.1" else host)
+
+-- what the server is asked
+abbrev pub remote_host : List ℕ → List ℕ
+remote_host host =
+    if length host == 0 then codes "localhost" else (if bytes_eq host (codes "*") then [] else host)
+
+abbrev pub listen_host : Kind → Bool → List ℕ → List ℕ
+listen_host Local gateway host = local_host gateway host
+listen_host Remote gateway host = remote_host host
+listen_host Dynamic gateway host = local_host gateway host
+
+-- ---- refusals
+
+-- the house listens
+abbrev pub listens_here : Kind → Bool
+listens_here Local = true
+listens_here Remote = false
+listens_here Dynamic = true
+
+-- where it connects is said when it is asked for
+abbrev pub connects_there : Kind → Bool
+connects_there Local = true
+connects_there Remote = true
+connects_there Dynamic = false
+
+abbrev pub same_kind : Kind → Kind → Bool
+same_kind Local Local = true
+same_kind Local Remote = false
+same_kind Local Dynamic = false
+same_kind Remote Local = false
+same_kind Remote Remote = true
+same_kind Remote Dynamic = false
+same_kind Dynamic Local = false
+same_kind Dynamic Remote = false
+same_kind Dynamic Dynamic = true
+
+-- a port is past the last, or none where one is needed
+abbrev pub has_bad_port : Kind → ℕ → ℕ → Bool
+has_bad_port kind listen connect = nat_lt LAST_PORT listen || (nat_lt LAST_PORT connect
+    || ((connects_there kind && (connect == 0)) || (listens_here kind && (listen == 0))))
+
+abbrev pub is_refused_of : Option Kind → StartAsk → Bool
+is_refused_of None ask = true
+is_refused_of (Some kind) ask = ask.path || (has_bad_port kind ask.listen_port ask.connect_port
+    || (nat_lt LONGEST_HOST (length ask.listen_host) || nat_lt LONGEST_HOST (length ask.connect_host)))
+
+-- an ask is refused whatever stands already: its kind isn't served, it has a path, a port is past the
+-- last or none where one is needed, or a host is too long
+abbrev pub is_refused_alone : StartAsk → Bool
+is_refused_alone ask = is_refused_of (kind_of ask.kind) ask
+
+-- ---- what is asked
+
+-- an ask as it is handed on
+pub record IsAsk (asked : Asked) (ask : StartAsk) : Type 0 where
+  pub kind : asked.kind ≡ ask.kind
+  pub listens : asked.listen_host.now ≡ ask.listen_host
+  pub listen_port : asked.listen_port ≡ ask.listen_port
+  pub connects : asked.connect_host.now ≡ ask.connect_host
+  pub connect_port : asked.connect_port ≡ ask.connect_port
+  pub path : asked.path ≡ ask.path
+
+-- its two ends, the listen host as it is used
+pub record AreEnds (gateway : Bool) (ask : StartAsk) (ends : Ends) : Type 0 where
+  pub kind : kind_of ask.kind ≡ Some ends.kind
+  pub listens : ends.listen_host.now ≡ listen_host ends.kind gateway ask.listen_host
+  pub listen_port : ends.listen_port ≡ ask.listen_port
+  pub connects : ends.connect_host.now ≡ ask.connect_host
+  pub connect_port : ends.connect_port ≡ ask.connect_port

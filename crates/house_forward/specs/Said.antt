@@ -1,0 +1,107 @@
+-- What the house says as a client, byte for byte.
+use Rattle.std.specs.Prelude.{ℕ, ◌+◌, List, [], ◌∷◌, ◌++◌, length, take, codes, Option, Some, None}
+use Rattle.ssh_fields.specs.Fields.{u32, str}
+use Rattle.ssh_grammar.specs.Messages.{To, Confirmation as Confirmed, Adjust as Adjusts, Data as GivesData, Eof as GivesEof, Failure as Fails}
+use Rattle.ssh_grammar.specs.SpellMessage.{spell, close, open_failure}
+use Rattle.ssh_grammar.specs.declared.numbers.TheConstants.{CHANNEL_OPEN, GLOBAL_REQUEST, CONNECT_FAILED}
+use Rattle.house_forward.specs.declared.forwarding.Forwarding.{Forwarding}
+use Rattle.house_forward.specs.declared.forwarding.Stage.{Stage}
+use Rattle.house_forward.specs.declared.forwarding.Stage.TheVariants.{ToListen, Ordered, Listening, ToRequest, Requested, Live as ServedOn, Cancelling}
+use Rattle.house_relay.specs.Next.{says_of}
+use Rattle.house_relay.specs.declared.TheConstants.{MAXIMUM, WINDOW}
+use Rattle.house_relay.specs.declared.line.Line.{Line}
+use Rattle.house_relay.specs.declared.line.Line.TheVariants.{Dialing, Asked, Opened, Offered, Live, Over}
+use Rattle.house_relay.specs.declared.relay.Relay.{Relay}
+use Rattle.house_relay.specs.declared.relay.Saying.{Saying}
+use Rattle.house_relay.specs.declared.relay.Saying.TheVariants.{Open, Confirmation, OpenFailure, Close, Failure, Data, Eof, Adjust}
+
+-- a payload in the frame of a proxy client
+abbrev pub framed : List ℕ → List ℕ
+framed payload = u32 (length payload + 1) ++ (0 ∷ payload)
+
+-- the window of a channel, and the longest data of one message
+abbrev pub limits : List ℕ
+limits = u32 WINDOW ++ u32 MAXIMUM
+
+-- an OPEN of `direct-tcpip` to this end (RFC 4254, section 7.2)
+abbrev pub direct : ℕ → List ℕ → ℕ → List ℕ
+direct number host port = (((CHANNEL_OPEN ∷ (str (codes "direct-tcpip") ++ (u32 number ++ limits)))
+    ++ str host) ++ u32 port) ++ (str (codes "127.0.0.1") ++ u32 0)
+
+-- a CONFIRMATION of the server's OPEN
+abbrev pub confirmed : ℕ → ℕ → List ℕ
+confirmed remote number = spell (To remote (Confirmed number WINDOW MAXIMUM []))
+
+-- the refusal of the server's OPEN, where no socket could be connected
+abbrev pub not_connected : ℕ → List ℕ
+not_connected remote = open_failure remote CONNECT_FAILED (codes "connect failed")
+
+-- a request about a forwarding that wants a reply (RFC 4254, section 7.1)
+abbrev pub requested : List ℕ → List ℕ → ℕ → List ℕ
+requested name address port = GLOBAL_REQUEST ∷ (str name ++ (1 ∷ (str address ++ u32 port)))
+
+abbrev pub request_name : Stage → List ℕ
+request_name (ToListen host) = codes "tcpip-forward"
+request_name Ordered = codes "tcpip-forward"
+request_name (Listening l) = codes "tcpip-forward"
+request_name ToRequest = codes "tcpip-forward"
+request_name Requested = codes "tcpip-forward"
+request_name (ServedOn port) = codes "cancel-tcpip-forward"
+request_name (Cancelling port) = codes "tcpip-forward"
+
+-- a cancel names the port on which the server listens
+abbrev pub request_port : Stage → ℕ → ℕ
+request_port (ToListen host) asked = asked
+request_port Ordered asked = asked
+request_port (Listening l) asked = asked
+request_port ToRequest asked = asked
+request_port Requested asked = asked
+request_port (ServedOn port) asked = port
+request_port (Cancelling port) asked = asked
+
+-- the request that is to be said for a forwarding
+abbrev pub request_payload : Forwarding → List ℕ
+request_payload f =
+    requested (request_name f.stage) f.listen_host (request_port f.stage f.listen_port)
+
+-- in a channel that is confirmed: of the bytes that are held so many as are said
+abbrev pub in_live : Saying → ℕ → List ℕ → List ℕ
+in_live Open remote held = []
+in_live Confirmation remote held = []
+in_live OpenFailure remote held = not_connected remote
+in_live Close remote held = close remote
+in_live Failure remote held = spell (To remote Fails)
+in_live (Data n) remote held = spell (To remote (GivesData (take n held)))
+in_live Eof remote held = spell (To remote GivesEof)
+in_live (Adjust n) remote held = spell (To remote (Adjusts n))
+
+-- an answer to the server's OPEN
+abbrev pub in_offer : Saying → ℕ → ℕ → List ℕ
+in_offer Open remote number = not_connected remote
+in_offer Confirmation remote number = confirmed remote number
+in_offer OpenFailure remote number = not_connected remote
+in_offer Close remote number = not_connected remote
+in_offer Failure remote number = not_connected remote
+in_offer (Data n) remote number = not_connected remote
+in_offer Eof remote number = not_connected remote
+in_offer (Adjust n) remote number = not_connected remote
+
+abbrev pub payload_in : Line → Relay → Saying → List ℕ
+payload_in (Dialing dialog) r saying = []
+payload_in (Asked host port version) r saying = direct r.number host port
+payload_in (Opened version) r saying = []
+payload_in (Offered remote window maximum) r saying = in_offer saying remote r.number
+payload_in (Live live) r saying = in_live saying live.remote r.held.waiting
+payload_in Over r saying = []
+
+-- the payload of what a relay says
+abbrev pub payload_of : Relay → Saying → List ℕ
+payload_of r saying = payload_in r.line r saying
+
+abbrev pub payload_if : Relay → Option Saying → List ℕ
+payload_if r None = []
+payload_if r (Some saying) = payload_of r saying
+
+-- the payload of what it says next
+abbrev pub said_by : Relay → List ℕ
+said_by r = payload_if r (says_of r)

@@ -1,0 +1,243 @@
+//! The asks of clients that are to be answered later.
+ghost use Rattle.std.specs.Prelude.{◌≡◌, ◌≤◌, ◌<◌, ◌+◌, ◌++◌, ◌∷◌, [], length, OnOk, None};
+ghost use Rattle.std.specs.List.{position};
+ghost use Rattle.mux_outside.specs.House.{AnswerFits, gives_none, is_ask};
+ghost use Rattle.house_forward.specs.Asks.{has_open, turns_away, waiting_for, settle_one, settled, refused, counted, owes_opening, earlier, earliest, stamp_of, reply_of, answer_of, answers_in};
+ghost use Rattle.house_forward.specs.Known.{open_ask, open_asks, asks_after_answer};
+ghost use Rattle.house_forward.specs.Quiet.{answers_none};
+ghost use Rattle.house_forward.specs.declared.rules.TheConstants.{MOST_ASKS};
+
+use crate::rules::MOST_ASKS;
+use mux_outside::HouseReply;
+use ssh_fields::OutOfMemory;
+use std::alloc::Global;
+
+/// What an ask came to.
+#[derive(Clone, Copy, Debug, PartialEq, Eq)]
+pub enum Outcome {
+    Done,
+    Port(u32),
+    Refused,
+}
+
+/// What comes of an ask at once.
+#[derive(Clone, Copy, Debug)]
+pub enum Asked {
+    /// It came to this.
+    Now(Outcome),
+    /// It waits for the fate of this forwarding.
+    Later(u64),
+}
+
+/// An ask that has no answer yet.
+#[derive(Clone, Copy, Debug)]
+pub struct Waiting {
+    pub client: u64,
+    pub id: u32,
+    pub opening: bool,
+    /// The forwarding whose fate it waits for.
+    pub forwarding: u64,
+    /// What it came to, and the how many-th that was.
+    pub outcome: Option<(u64, Outcome)>,
+}
+
+/// The asks that have no answer yet, in order of asking.
+#[derive(Drop)]
+pub struct Asks {
+    waiting: Vec<Waiting>,
+    /// How many came to something.
+    done: u64,
+    ghost few: { length waiting.items ≤ MOST_ASKS },
+}
+
+impl Asks {
+    pub fn new(alloc: Global) -> Asks
+        ensures { result.waiting.items ≡ [] }
+    {
+        Asks {
+            waiting: Vec::new(alloc),
+            done: 0,
+        }
+    }
+
+    /// How many there are.
+    pub fn len(&self) -> usize
+        ensures { result ≡ length self.now.waiting.items }
+    {
+        self.waiting.len()
+    }
+
+    /// Whether a client has an ask with this id.
+    fn has(&self, client: u64, id: u32) -> bool
+        ensures { result ≡ has_open client id self.now.waiting.items }
+    {
+        self.waiting
+            .iter()
+            .any(|w| w.client == client && w.id == id)
+    }
+
+    /// Whether an ask is refused for those that wait: its client has one with its id, or they are as
+    /// many as may wait.
+    pub fn turns_away(&self, client: u64, id: u32) -> bool
+        ensures { result ≡ turns_away client id self.now.waiting.items }
+    {
+        self.has(client, id) || self.len() >= MOST_ASKS
+    }
+
+    /// One more, that waits for the fate of a forwarding.
+    pub fn push(
+        &mut self,
+        client: u64,
+        id: u32,
+        opening: bool,
+        forwarding: u64,
+    ) -> Result<(), OutOfMemory>
+        requires { length self.old.waiting.items < MOST_ASKS }
+        ensures waits { OnOk result (self.new.waiting.items ≡ self.old.waiting.items
+            ++ waiting_for client id opening forwarding ∷ []) }
+        ensures ok { OnOk result (open_asks self.new.waiting.items
+            ≡ open_asks self.old.waiting.items
+            ++ record { client = client; id = id; opening = opening } ∷ []) }
+        ensures count { length self.new.waiting.items ≤ length self.old.waiting.items + 1 }
+        ensures done { self.new.done ≡ self.old.done }
+    {
+        self.waiting.push(Waiting {
+            client,
+            id,
+            opening,
+            forwarding,
+            outcome: None,
+        })?;
+        Ok(())
+    }
+
+    /// The asks to open a forwarding, or those to close it, came to this.
+    pub fn settle(&mut self, forwarding: u64, opening: bool, outcome: Outcome)
+        ensures waiting { self.new.waiting.items
+            ≡ settled forwarding opening self.old.done outcome self.old.waiting.items }
+        ensures done { self.new.done ≡ counted self.old.done }
+        ensures open { open_asks self.new.waiting.items ≡ open_asks self.old.waiting.items }
+        ensures count { length self.new.waiting.items ≡ length self.old.waiting.items }
+    {
+        let at = self.done;
+        for w in self.waiting.iter_mut() {
+            *w = settled(*w, forwarding, opening, at, outcome);
+        }
+        self.done = at.saturating_add(1);
+    }
+
+    /// All asks about a forwarding are refused.
+    pub fn refuse(&mut self, forwarding: u64)
+        ensures waiting { self.new.waiting.items
+            ≡ refused forwarding self.old.done self.old.waiting.items }
+        ensures done { self.new.done ≡ counted (counted self.old.done) }
+        ensures open { open_asks self.new.waiting.items ≡ open_asks self.old.waiting.items }
+        ensures count { length self.new.waiting.items ≡ length self.old.waiting.items }
+    {
+        self.settle(forwarding, true, Outcome::Refused);
+        self.settle(forwarding, false, Outcome::Refused);
+    }
+
+    /// Whether the answer to an ask to open this forwarding is still to be given.
+    pub fn owes_opening(&self, forwarding: u64) -> bool
+        ensures { result ≡ owes_opening forwarding self.now.waiting.items }
+    {
+        self.waiting
+            .iter()
+            .any(|w| w.forwarding == forwarding && w.opening)
+    }
+
+    /// The next answer, in the order in which the asks came to something.
+    pub fn answer(&mut self) -> Option<(u64, u32, HouseReply)>
+        ensures exact { result ≡ answer_of self.old.waiting.items }
+        ensures fits { AnswerFits result (open_asks self.old.waiting.items) }
+        ensures silent { gives_none result ≡ answers_none self.old.waiting.items }
+        ensures same { result ≡ None → self.new ≡ self.old }
+        ensures open { open_asks self.new.waiting.items
+            ≡ asks_after_answer result (open_asks self.old.waiting.items) }
+        ensures count { length self.new.waiting.items + answers_in result
+            ≡ length self.old.waiting.items }
+        ensures done { self.new.done ≡ self.old.done }
+    {
+        let w = self.earliest()?;
+        let i = self.place_of(w.client, w.id)?;
+        self.waiting.remove(i);
+        Some((w.client, w.id, w.reply()))
+    }
+
+    /// The place of the first that has this client and id.
+    fn place_of(&self, client: u64, id: u32) -> Option<usize>
+        ensures { result
+            ≡ position (λ w. is_ask client id (open_ask w)) self.now.waiting.items }
+    {
+        self.waiting
+            .iter()
+            .position(|w| w.client == client && w.id == id)
+    }
+
+    /// The one that came to something first.
+    fn earliest(&self) -> Option<Waiting>
+        ensures { result ≡ earliest self.now.waiting.items }
+    {
+        self.waiting
+            .iter()
+            .fold(None, |first, w| earlier(first, *w))
+    }
+}
+
+impl Waiting {
+    /// How many came to something before it did.
+    fn stamp(&self) -> u64
+        ensures { result ≡ stamp_of self.now.outcome }
+    {
+        match self.outcome {
+            Some((at, _)) => at,
+            None => 0,
+        }
+    }
+
+    /// Its answer.
+    fn reply(&self) -> HouseReply
+        ensures { result ≡ reply_of self.now }
+    {
+        match self.outcome {
+            Some((_, Outcome::Done)) => HouseReply::Done,
+            Some((_, Outcome::Port(port))) => {
+                if self.opening {
+                    HouseReply::Port(port)
+                } else {
+                    HouseReply::Refused
+                }
+            }
+            Some((_, Outcome::Refused)) | None => HouseReply::Refused,
+        }
+    }
+}
+
+/// The one of both that came to something earlier.
+fn earlier(first: Option<Waiting>, w: Waiting) -> Option<Waiting>
+    ensures { result ≡ earlier first w }
+{
+    let Some((at, _)) = w.outcome else {
+        return first;
+    };
+    match first {
+        None => Some(w),
+        Some(f) => { if at < f.stamp() { Some(w) } else { Some(f) } }
+    }
+}
+
+/// An ask, which came to this where it is one of these and came to nothing yet.
+fn settled(w: Waiting, forwarding: u64, opening: bool, at: u64, outcome: Outcome) -> Waiting
+    ensures exact { result ≡ settle_one forwarding opening at outcome w }
+    ensures open { open_ask result ≡ open_ask w }
+{
+    if w.forwarding == forwarding && w.opening == opening && w.outcome.is_none() {
+        Waiting {
+            outcome: Some((at, outcome)),
+            ..w
+        }
+    } else {
+        w
+    }
+}

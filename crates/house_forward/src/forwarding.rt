@@ -1,0 +1,436 @@
+//! One forwarding of the house.
+ghost use Rattle.std.specs.Prelude.{◌≡◌, true, not, is_some, IfOk, IfSome, None, Some};
+ghost use Rattle.house_forward.specs.Forwardings.{counts, listens_at, connects_to, outcome_of, bound_of, listener_of, is_first, as_first, has_request, request_of, IsAt, IsAskedFor};
+ghost use Rattle.house_forward.specs.Said.{request_name, request_port};
+ghost use Rattle.house_forward.specs.Rules.{listens_here};
+ghost use Rattle.house_forward.specs.Forwardings.{to_listen, waits_at, has_listener, changed, stage_after, bound_to, granted, is_asked, is_cancelled, is_to_listen, is_pending, want_in, served_at};
+
+use crate::asks::{Asked, Asks, Outcome};
+use crate::forwardings::Want;
+use crate::rules::{Ends, Kind, same_kind};
+use crate::two_texts::TwoTexts;
+use ssh_fields::{OutOfMemory, Text};
+use std::alloc::Global;
+use std::mem;
+
+/// A request to the server that has no reply yet.
+#[derive(Clone, Copy, Debug)]
+pub enum Request {
+    /// To listen for this forwarding.
+    Listen(u64),
+    /// To listen for it no longer.
+    Cancel(u64),
+}
+
+/// How far a forwarding is.
+#[derive(Drop)]
+pub enum Stage {
+    /// A listener is to be ordered at this host.
+    ToListen(TwoTexts),
+    /// It is ordered, and its number is awaited.
+    Ordered,
+    /// This listener listens.
+    Listening(u64),
+    /// The request to the server is to be said.
+    ToRequest,
+    /// It is said and unanswered.
+    Requested,
+    /// The server listens on this port.
+    Live(u32),
+    /// The same, and the cancel is said and unanswered.
+    Cancelling(u32),
+}
+
+/// How a forwarding changes by what is asked, said and heard.
+#[derive(Clone, Copy, Debug)]
+pub enum Change {
+    /// It is asked to close.
+    Close,
+    /// The request to listen is said.
+    Request,
+    /// The cancel is said.
+    Cancel,
+    /// The server listens, on this port if it was to choose one.
+    Live(Option<u32>),
+    /// The server refused the cancel.
+    Stay,
+}
+
+/// A forwarding that is asked or live, or that is still to be closed.
+#[derive(Drop)]
+pub struct Forwarding {
+    /// A number of its own, never used again.
+    pub serial: u64,
+    pub kind: Kind,
+    /// The listen host as it is used, and the port as it was asked.
+    pub listen_host: Text,
+    pub listen_port: u32,
+    pub connect_host: Text,
+    pub connect_port: u32,
+    pub stage: Stage,
+    /// Whether it was asked to close.
+    pub closing: bool,
+    /// Which of the forwardings asked for at the start it is.
+    pub start: Option<usize>,
+}
+
+impl Forwarding {
+    /// A forwarding that is asked for.
+    pub fn asked(
+        alloc: Global,
+        serial: u64,
+        ends: Ends<'_>,
+        start: Option<usize>,
+    ) -> Result<Forwarding, OutOfMemory>
+        ensures { IfOk result (λ f. IsAskedFor ends.entry serial start f) }
+    {
+        let listen_host = Text::copy(alloc, ends.listen_host)?;
+        let connect_host = Text::copy(alloc, ends.connect_host)?;
+        let stage = first_stage(alloc, ends)?;
+        Ok(Forwarding {
+            serial,
+            kind: ends.kind,
+            listen_host,
+            listen_port: ends.listen_port,
+            connect_host,
+            connect_port: ends.connect_port,
+            stage,
+            closing: false,
+            start,
+        })
+    }
+
+    /// Whether it is to listen here, and has no listener yet.
+    pub fn to_listen(&self) -> bool
+        ensures { result ≡ to_listen self.now }
+    {
+        match self.stage {
+            Stage::ToListen(_) | Stage::Ordered => true,
+            Stage::Listening(_)
+            | Stage::ToRequest
+            | Stage::Requested
+            | Stage::Live(_)
+            | Stage::Cancelling(_) => false,
+        }
+    }
+
+    /// Whether it has this listener.
+    pub fn has_listener(&self, listener: u64) -> bool
+        ensures { result ≡ has_listener listener self.now }
+    {
+        self.listener() == Some(listener)
+    }
+
+    /// Whether it doesn't have this listener.
+    pub fn lacks_listener(&self, listener: u64) -> bool
+        ensures { result ≡ not (has_listener listener self.now) }
+    {
+        !self.has_listener(listener)
+    }
+
+    /// Whether this is its serial and its request to listen is unanswered.
+    pub fn is_asked(&self, serial: u64) -> bool
+        ensures { result ≡ is_asked serial self.now }
+    {
+        match self.stage {
+            Stage::Requested => self.serial == serial,
+            Stage::ToListen(_)
+            | Stage::Ordered
+            | Stage::Listening(_)
+            | Stage::ToRequest
+            | Stage::Live(_)
+            | Stage::Cancelling(_) => false,
+        }
+    }
+
+    /// Whether this is its serial and its cancel is unanswered.
+    pub fn is_cancelled(&self, serial: u64) -> bool
+        ensures { result ≡ is_cancelled serial self.now }
+    {
+        match self.stage {
+            Stage::Cancelling(_) => self.serial == serial,
+            Stage::ToListen(_)
+            | Stage::Ordered
+            | Stage::Listening(_)
+            | Stage::ToRequest
+            | Stage::Requested
+            | Stage::Live(_) => false,
+        }
+    }
+
+    /// Whether it is to be ordered, or to be closed.
+    pub fn is_pending(&self) -> bool
+        ensures { result ≡ is_pending self.now }
+    {
+        match self.stage {
+            Stage::ToListen(_) | Stage::Ordered => true,
+            Stage::Listening(_) => self.closing,
+            Stage::ToRequest | Stage::Requested | Stage::Live(_) | Stage::Cancelling(_) => false,
+        }
+    }
+
+    /// Which order it is to have. One that is closed waits for the answers of those that asked for
+    /// it.
+    pub fn wants(&self, asks: &Asks) -> Option<Want>
+        ensures { result ≡ want_in asks.now.waiting.items (Some self.now) }
+    {
+        match self.stage {
+            Stage::ToListen(_) => Some(Want::Listen),
+            Stage::Listening(listener) => {
+                if self.closing && !asks.owes_opening(self.serial) {
+                    Some(Want::Unlisten(self.serial, listener))
+                } else {
+                    None
+                }
+            }
+            Stage::Ordered
+            | Stage::ToRequest
+            | Stage::Requested
+            | Stage::Live(_)
+            | Stage::Cancelling(_) => None,
+        }
+    }
+
+    /// Its listener is ordered, if it is to be: the host and the port.
+    pub fn ordered(&mut self) -> Option<(TwoTexts, u32)>
+        ensures some { is_some result ≡ is_to_listen self.old.stage }
+        ensures ordered { is_to_listen self.old.stage ≡ true
+            → self.new ≡ record self.old { stage = Stage.Ordered } }
+        ensures none { result ≡ None → self.new ≡ self.old }
+        ensures port { IfSome result (λ r. r.1 ≡ self.old.listen_port) }
+        ensures host { IfSome result (λ r. IsAt self.old.stage self.old.listen_host
+            → r.0.one ≡ self.old.listen_host) }
+    {
+        match &self.stage {
+            Stage::ToListen(_) => {}
+            Stage::Ordered
+            | Stage::Listening(_)
+            | Stage::ToRequest
+            | Stage::Requested
+            | Stage::Live(_)
+            | Stage::Cancelling(_) => return None,
+        }
+        match mem::replace(&mut self.stage, Stage::Ordered) {
+            Stage::ToListen(host) => Some((host, self.listen_port)),
+            _ => None,
+        }
+    }
+
+    /// Whether the server listens for it at an address and a port.
+    pub fn serves(&self, address: &[u8], port: u32) -> bool
+        ensures { result ≡ served_at address.now port self.now }
+    {
+        same_kind(self.kind, Kind::Remote)
+            && self.bound() == Some(port)
+            && self.listen_host.as_bytes() == address
+    }
+
+    /// It changes, if this is its serial.
+    pub fn change(&mut self, serial: u64, change: Change)
+        ensures { self.new ≡ changed change serial self.old }
+    {
+        if self.serial != serial {
+            return;
+        }
+        self.go(change);
+        match change {
+            Change::Close => self.closing = true,
+            Change::Stay => self.closing = false,
+            Change::Request | Change::Cancel | Change::Live(_) => {}
+        }
+    }
+
+    /// Its stage changes.
+    fn go(&mut self, change: Change)
+        ensures { self.new ≡ record self.old {
+          stage = stage_after change self.old.listen_port self.old.stage;
+        } }
+    {
+        match (change, &self.stage) {
+            (Change::Request, Stage::ToRequest) => self.stage = Stage::Requested,
+            (Change::Cancel, Stage::Live(port)) => self.stage = Stage::Cancelling(*port),
+            (Change::Live(port), Stage::Requested) => self.stage = Stage::Live(self.bound_to(port)),
+            (Change::Stay, Stage::Cancelling(port)) => self.stage = Stage::Live(*port),
+            _ => {}
+        }
+    }
+
+    /// The port on which the server listens, if it chose this one where it was to choose.
+    fn bound_to(&self, port: Option<u32>) -> u32
+        ensures { result ≡ bound_to self.now.listen_port port }
+    {
+        if self.listen_port == 0 {
+            port.unwrap_or(0)
+        } else {
+            self.listen_port
+        }
+    }
+
+    /// What it comes to as the server listens.
+    pub fn granted(&self, port: Option<u32>) -> Outcome
+        ensures { result
+            ≡ granted self.now.listen_port (bound_to self.now.listen_port port) }
+    {
+        if self.listen_port == 0 {
+            Outcome::Port(self.bound_to(port))
+        } else {
+            Outcome::Done
+        }
+    }
+
+    /// Whether it counts as asked or live: one that listens here ends as it is asked to close.
+    pub fn counts(&self) -> bool
+        ensures { result ≡ counts self.now }
+    {
+        !(self.closing && self.kind.listens_here())
+    }
+
+    /// Whether it listens where this is to listen.
+    pub fn listens_at(&self, ends: Ends<'_>) -> bool
+        ensures { result ≡ listens_at ends.entry self.now }
+    {
+        same_kind(self.kind, ends.kind)
+            && self.listen_port == ends.listen_port
+            && self.listen_host.as_bytes() == ends.listen_host
+    }
+
+    /// Whether it connects where this is to connect: where a dialog says that, whatever was asked.
+    pub fn connects_to(&self, ends: Ends<'_>) -> bool
+        ensures { result ≡ connects_to ends.entry self.now }
+    {
+        !self.kind.connects_there()
+            || (self.connect_port == ends.connect_port
+                && self.connect_host.as_bytes() == ends.connect_host)
+    }
+
+    /// What those that ask for it come to, once that is known.
+    pub fn outcome(&self) -> Option<Outcome>
+        ensures { result ≡ outcome_of self.now }
+    {
+        match self.stage {
+            Stage::Listening(_) => Some(Outcome::Done),
+            Stage::Live(port) | Stage::Cancelling(port) => {
+                if self.listen_port == 0 {
+                    Some(Outcome::Port(port))
+                } else {
+                    Some(Outcome::Done)
+                }
+            }
+            Stage::ToListen(_) | Stage::Ordered | Stage::ToRequest | Stage::Requested => None,
+        }
+    }
+
+    /// What comes of the same ask again.
+    pub fn as_first(&self) -> Asked
+        ensures { result ≡ as_first self.now (outcome_of self.now) }
+    {
+        match self.outcome() {
+            None => Asked::Later(self.serial),
+            Some(outcome) => Asked::Now(outcome),
+        }
+    }
+
+    /// Whether a request is to be said for it: to listen, or to do so no longer.
+    pub fn has_request(&self) -> bool
+        ensures { result ≡ has_request self.now }
+    {
+        match self.stage {
+            Stage::ToRequest => true,
+            Stage::Live(_) => self.closing,
+            Stage::ToListen(_)
+            | Stage::Ordered
+            | Stage::Listening(_)
+            | Stage::Requested
+            | Stage::Cancelling(_) => false,
+        }
+    }
+
+    /// The request that is to be said for it, where there is one.
+    pub fn request(&self) -> Request
+        ensures { result ≡ request_of self.now }
+    {
+        match self.stage {
+            Stage::Live(_) => Request::Cancel(self.serial),
+            Stage::ToListen(_)
+            | Stage::Ordered
+            | Stage::Listening(_)
+            | Stage::ToRequest
+            | Stage::Requested
+            | Stage::Cancelling(_) => Request::Listen(self.serial),
+        }
+    }
+
+    /// The name of that request (RFC 4254, section 7.1).
+    pub fn request_name(&self) -> &[u8]
+        ensures { result.now ≡ request_name self.now.stage }
+    {
+        match self.stage {
+            Stage::Live(_) => b"cancel-tcpip-forward",
+            Stage::ToListen(_)
+            | Stage::Ordered
+            | Stage::Listening(_)
+            | Stage::ToRequest
+            | Stage::Requested
+            | Stage::Cancelling(_) => b"tcpip-forward",
+        }
+    }
+
+    /// The port that it names: the one on which the server listens, once it does.
+    pub fn request_port(&self) -> u32
+        ensures { result ≡ request_port self.now.stage self.now.listen_port }
+    {
+        match self.stage {
+            Stage::Live(port) => port,
+            Stage::ToListen(_)
+            | Stage::Ordered
+            | Stage::Listening(_)
+            | Stage::ToRequest
+            | Stage::Requested
+            | Stage::Cancelling(_) => self.listen_port,
+        }
+    }
+
+    /// The port that the server listens on, if it does.
+    pub fn bound(&self) -> Option<u32>
+        ensures { result ≡ bound_of self.now }
+    {
+        match self.stage {
+            Stage::Live(port) | Stage::Cancelling(port) => Some(port),
+            Stage::ToListen(_)
+            | Stage::Ordered
+            | Stage::Listening(_)
+            | Stage::ToRequest
+            | Stage::Requested => None,
+        }
+    }
+
+    /// The listener, if it listens here.
+    pub fn listener(&self) -> Option<u64>
+        ensures { result ≡ listener_of self.now }
+    {
+        match self.stage {
+            Stage::Listening(listener) => Some(listener),
+            Stage::ToListen(_)
+            | Stage::Ordered
+            | Stage::ToRequest
+            | Stage::Requested
+            | Stage::Live(_)
+            | Stage::Cancelling(_) => None,
+        }
+    }
+}
+
+/// What is to be done first.
+fn first_stage(alloc: Global, ends: Ends<'_>) -> Result<Stage, OutOfMemory>
+    ensures first { IfOk result (λ stage. is_first stage ≡ true) }
+    ensures here { IfOk result (λ stage. waits_at stage ≡ listens_here ends.entry.kind) }
+    ensures place { IfOk result (λ stage. IsAt stage ends.entry.listen_host.now) }
+{
+    match ends.kind {
+        Kind::Local | Kind::Dynamic => {
+            let host = TwoTexts::copy(alloc, ends.listen_host)?;
+            Ok(Stage::ToListen(host))
+        }
+        Kind::Remote => Ok(Stage::ToRequest),
+    }
+}

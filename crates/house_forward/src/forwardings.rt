@@ -1,0 +1,554 @@
+//! The forwardings of the house, in order of asking.
+ghost use Rattle.std.specs.Prelude.{◌≡◌, ◌≤◌, ◌<◌, ◌+◌, ◌++◌, ◌∷◌, [], None, true, false, not, drop, length, map, IfOk, IfSome, OnOk, Some, find, filter, is_some};
+ghost use Rattle.std.specs.List.{All, position, remove, sum_by};
+ghost use Rattle.std.specs.Option.{option_copied};
+ghost use Rattle.mux_outside.specs.House.{gives_none};
+ghost use Rattle.mux_outside.specs.Streams.{among, without};
+ghost use Rattle.house_forward.specs.Asks.{refused};
+ghost use Rattle.house_forward.specs.Due.{forwarding_due};
+ghost use Rattle.house_forward.specs.Known.{open_asks};
+ghost use Rattle.house_forward.specs.Forwardings.{standing, how_many, opens_of, closes_of, has_request, is_first};
+ghost use Rattle.house_forward.specs.Forwardings.{first_refused, FailsAt, IsAt, is_numbered, ListensFor};
+ghost use Rattle.house_forward.specs.Forwardings.{Begins, StartsIf, Leaves, OrderedAt, MadeAt, made_refused, order_asks, removed_at, replied_all, replied_refused, serials_after, start_of, what_stands};
+ghost use Rattle.house_forward.specs.Rules.{is_refused_alone};
+ghost use Rattle.house_forward.specs.Forwardings.{listeners_of, is_pending, to_listen, is_first_to_listen, IsListen, is_ordered_first, is_in_order, next_of, changed, after_close, is_new, Opens};
+ghost use Rattle.house_forward.specs.Forwardings.{is_asked, is_cancelled, live_in, replied_asks, after_saying, first_of, ordered_asks, served_at, serial_of, Orders, marks_in, listeners_made, has_listener};
+
+use crate::asks::{Asked, Asks, Outcome};
+use crate::forwarding::{Change, Forwarding, Request, Stage};
+use crate::rules::{Ends, Kind, MOST_FORWARDINGS, ends_of, of_start};
+use crate::two_texts::TwoTexts;
+use mux_outside::{StartAsk, Starts};
+use ssh_fields::OutOfMemory;
+use std::alloc::Global;
+use std::collections::VecDeque;
+use std::mem;
+
+/// Which order about a listener is next.
+#[derive(Clone, Copy, Debug)]
+pub enum Want {
+    /// To listen for the first forwarding that has no listener yet.
+    Listen,
+    /// To listen no longer: the serial of the forwarding, and its listener.
+    Unlisten(u64, u64),
+}
+
+/// An order about a listener.
+#[derive(Drop)]
+pub enum ListenerOrder {
+    /// To listen there.
+    Listen { host: TwoTexts, port: u32 },
+    /// To listen no longer.
+    Unlisten(u64),
+}
+
+/// The forwardings, and the requests to the server that have no reply yet.
+#[derive(Drop)]
+pub struct Forwardings {
+    alloc: Global,
+    all: Vec<Forwarding>,
+    requests: VecDeque<Request>,
+    /// How many there were so far.
+    serials: u64,
+    /// The first of those asked for at the start that was refused.
+    pub refused: Option<usize>,
+    ghost in_order: { is_in_order all.items ≡ true },
+    ghost placed: { All (λ f. IsAt f.stage f.listen_host) all.items },
+    ghost numbered: { is_numbered 0 all.items serials ≡ true },
+}
+
+impl Forwardings {
+    pub fn new(alloc: Global) -> Forwardings
+        ensures refused { result.refused ≡ None }
+        ensures none { result.all.items ≡ [] }
+    {
+        Forwardings {
+            alloc,
+            all: Vec::new(alloc),
+            requests: VecDeque::new(alloc),
+            serials: 0,
+            refused: None,
+        }
+    }
+
+    /// How many there are.
+    pub fn len(&self) -> usize
+        ensures { result ≡ length self.now.all.items }
+    {
+        self.all.len()
+    }
+
+    /// One of those asked for at the start is refused, if one is meant.
+    fn refuse_start(&mut self, start: Option<usize>)
+        ensures all { self.new.all ≡ self.old.all }
+        ensures serials { self.new.serials ≡ self.old.serials }
+        ensures requests { self.new.requests ≡ self.old.requests }
+        ensures refused { self.new.refused ≡ first_refused self.old.refused start }
+    {
+        if self.refused.is_none() {
+            self.refused = start;
+        }
+    }
+
+    /// The forwarding that listens there, asked or live.
+    fn standing(&self, ends: Ends<'_>) -> Option<&Forwarding>
+        ensures { option_copied result ≡ standing ends.entry self.now.all.items }
+    {
+        self.all.iter().find(|f| f.counts() && f.listens_at(ends))
+    }
+
+    /// How many are asked or live.
+    fn how_many(&self) -> usize
+        ensures { result ≡ how_many self.now.all.items }
+    {
+        self.all.iter().filter(|f| f.counts()).count()
+    }
+
+    /// What comes of an ask to open a forwarding.
+    fn may_open(&self, ends: Ends<'_>) -> Asked
+        ensures { result ≡ opens_of self.now.serials ends.entry self.now.all.items
+            (standing ends.entry self.now.all.items) }
+    {
+        match self.standing(ends) {
+            None => {
+                if self.how_many() < MOST_FORWARDINGS {
+                    Asked::Later(self.serials)
+                } else {
+                    Asked::Now(Outcome::Refused)
+                }
+            }
+            Some(f) => {
+                if f.connects_to(ends) {
+                    f.as_first()
+                } else {
+                    Asked::Now(Outcome::Refused)
+                }
+            }
+        }
+    }
+
+    /// An ask to open a forwarding.
+    #[tactic(auto, using(crate::proofs::InOrder::order_more, crate::proofs::InOrder::listeners_more, crate::proofs::InOrder::first_listens, crate::proofs::Placed::placed_more, crate::proofs::Numbered::numbered_more))]
+    pub fn open(&mut self, ends: Ends<'_>, start: Option<usize>) -> Result<Asked, OutOfMemory>
+        ensures exact { IfOk result (λ asked. asked ≡ opens_of self.old.serials ends.entry
+            self.old.all.items (standing ends.entry self.old.all.items)) }
+        ensures all { OnOk result (Opens (is_new ends.entry self.old.all.items
+            (standing ends.entry self.old.all.items)) ends.entry self.old.serials start
+            self.old.all.items self.new.all.items) }
+        ensures listeners { listeners_of self.new.all.items
+            ≡ listeners_of self.old.all.items }
+        ensures count { length self.new.all.items ≤ length self.old.all.items + 1 }
+        ensures serials { OnOk result (self.new.serials ≡ serials_after (is_new ends.entry
+            self.old.all.items (standing ends.entry self.old.all.items)) self.old.serials) }
+        ensures requests { self.new.requests.items ≡ self.old.requests.items }
+        ensures refused { self.new.refused ≡ self.old.refused }
+    {
+        let asked = self.may_open(ends);
+        if self.standing(ends).is_none() && self.how_many() < MOST_FORWARDINGS {
+            let serial = self.serials;
+            let next = serial.checked_add(1).ok_or(OutOfMemory)?;
+            let forwarding = Forwarding::asked(self.alloc, serial, ends, start)?;
+            self.requests.reserve(2)?;
+            self.all.push(forwarding)?;
+            self.serials = next;
+        }
+        Ok(asked)
+    }
+
+    /// All that is asked for at the start, one after another.
+    pub fn start_all(&mut self, starts: &Starts) -> Result<(), OutOfMemory>
+        ensures begins { OnOk result (Begins starts.now.gateway starts.now.asks
+            (length starts.now.asks) (what_stands self.old.all.items self.old.serials
+            self.old.refused) (what_stands self.new.all.items self.new.serials
+            self.new.refused)) }
+        ensures listeners { listeners_of self.new.all.items
+            ≡ listeners_of self.old.all.items }
+        ensures count { length self.new.all.items
+            ≤ length self.old.all.items + length starts.now.asks }
+        ensures requests { self.new.requests.items ≡ self.old.requests.items }
+    {
+        for i in 0..starts.asks.len() {
+            if let Some(ask) = starts.asks.get(i) {
+                self.start(ask, starts.gateway, i)?;
+            }
+        }
+        Ok(())
+    }
+
+    /// One that is asked for at the start, at this place.
+    fn start(&mut self, ask: &StartAsk, gateway: bool, i: usize) -> Result<(), OutOfMemory>
+        ensures starts { OnOk result (StartsIf (is_refused_alone ask.now) gateway ask.now i
+            (what_stands self.old.all.items self.old.serials self.old.refused)
+            (what_stands self.new.all.items self.new.serials self.new.refused)) }
+        ensures listeners { listeners_of self.new.all.items
+            ≡ listeners_of self.old.all.items }
+        ensures count { length self.new.all.items ≤ length self.old.all.items + 1 }
+        ensures requests { self.new.requests.items ≡ self.old.requests.items }
+    {
+        let Some(ends) = ends_of(of_start(ask), gateway) else {
+            self.refuse_start(Some(i));
+            return Ok(());
+        };
+        match self.open(ends, Some(i))? {
+            Asked::Now(Outcome::Refused) => self.refuse_start(Some(i)),
+            Asked::Now(Outcome::Done | Outcome::Port(_)) | Asked::Later(_) => {}
+        }
+        Ok(())
+    }
+
+    /// An ask to close a forwarding.
+    pub fn close(&mut self, ends: Ends<'_>) -> Asked
+        ensures exact { result ≡ closes_of (standing ends.entry self.old.all.items) }
+        ensures all { self.new.all.items ≡ after_close result self.old.all.items }
+        ensures listeners { listeners_of self.new.all.items
+            ≡ listeners_of self.old.all.items }
+        ensures count { length self.new.all.items ≡ length self.old.all.items }
+        ensures serials { self.new.serials ≡ self.old.serials }
+        ensures requests { self.new.requests ≡ self.old.requests }
+        ensures refused { self.new.refused ≡ self.old.refused }
+    {
+        let asked = self.may_close(ends);
+        if let Asked::Later(serial) = asked {
+            self.change(serial, Change::Close);
+        }
+        asked
+    }
+
+    /// The forwarding with this serial changes.
+    fn change(&mut self, serial: u64, change: Change)
+        ensures all { self.new.all.items ≡ map (changed change serial) self.old.all.items }
+        ensures listeners { listeners_of self.new.all.items
+            ≡ listeners_of self.old.all.items }
+        ensures count { length self.new.all.items ≡ length self.old.all.items }
+        ensures serials { self.new.serials ≡ self.old.serials }
+        ensures requests { self.new.requests ≡ self.old.requests }
+        ensures refused { self.new.refused ≡ self.old.refused }
+    {
+        change_all(&mut self.all, serial, change);
+    }
+
+    /// What comes of an ask to close a forwarding.
+    fn may_close(&self, ends: Ends<'_>) -> Asked
+        ensures { result ≡ closes_of (standing ends.entry self.now.all.items) }
+    {
+        match self.standing(ends) {
+            None => Asked::Now(Outcome::Refused),
+            Some(f) => {
+                if f.closing {
+                    Asked::Now(Outcome::Refused)
+                } else {
+                    Asked::Later(f.serial)
+                }
+            }
+        }
+    }
+
+    /// Which order about a listener is next. Listeners are ordered and closed in the order of asking,
+    /// so a place is free before it is listened on again. One that is closed waits for the answers
+    /// of those that asked for it.
+    #[tactic(auto, using(crate::proofs::InOrder::found_next))]
+    fn next(&self, asks: &Asks) -> Option<Want>
+        ensures { result ≡ next_of asks.now.waiting.items self.now.all.items }
+    {
+        self.pending()?.wants(asks)
+    }
+
+    /// The first that is to be ordered or closed.
+    fn pending(&self) -> Option<&Forwarding>
+        ensures { option_copied result ≡ find is_pending self.now.all.items }
+    {
+        self.all.iter().find(|f| f.is_pending())
+    }
+
+    /// The next order about a listener.
+    pub fn order(&mut self, asks: &mut Asks) -> Option<ListenerOrder>
+        ensures exact { gives_none result
+            ≡ not (is_some (next_of asks.old.waiting.items self.old.all.items)) }
+        ensures orders { IfSome result (λ o. Orders o asks.old.waiting.items self.old.all.items
+            self.new.all.items) }
+        ensures place { IfSome result
+            (λ o. ListensFor o (find to_listen self.old.all.items)) }
+        ensures due { sum_by forwarding_due self.new.all.items + marks_in result
+            ≤ sum_by forwarding_due self.old.all.items }
+        ensures open { open_asks asks.new.waiting.items ≡ open_asks asks.old.waiting.items }
+        ensures count { length asks.new.waiting.items ≡ length asks.old.waiting.items }
+        ensures silent { result ≡ None → (self.new ≡ self.old) × (asks.new ≡ asks.old) }
+        ensures leaves { IfSome result
+            (λ o. Leaves o self.old.all.items self.new.all.items) }
+        ensures asks { asks.new.waiting.items ≡ order_asks
+            (next_of asks.old.waiting.items self.old.all.items) asks.old.done
+            asks.old.waiting.items }
+        ensures serials { self.new.serials ≡ self.old.serials }
+        ensures requests { self.new.requests ≡ self.old.requests }
+        ensures refused { self.new.refused ≡ self.old.refused }
+    {
+        match self.next(asks)? {
+            Want::Listen => self.order_listen(),
+            Want::Unlisten(serial, listener) => {
+                self.unlisten(listener);
+                asks.settle(serial, false, Outcome::Done);
+                Some(ListenerOrder::Unlisten(listener))
+            }
+        }
+    }
+
+    /// The listener of the first forwarding that has none yet is ordered.
+    fn order_listen(&mut self) -> Option<ListenerOrder>
+        requires { is_first_to_listen (find to_listen self.old.all.items) ≡ true }
+        ensures some { gives_none result ≡ false }
+        ensures listen { IfSome result (λ o. IsListen o) }
+        ensures place { IfSome result
+            (λ o. ListensFor o (find to_listen self.old.all.items)) }
+        ensures listeners { listeners_of self.new.all.items
+            ≡ listeners_of self.old.all.items }
+        ensures first { is_ordered_first (find to_listen self.new.all.items) ≡ true }
+        ensures due { sum_by forwarding_due self.new.all.items
+            ≡ sum_by forwarding_due self.old.all.items }
+        ensures leaves { IfSome result
+            (λ o. Leaves o self.old.all.items self.new.all.items) }
+        ensures serials { self.new.serials ≡ self.old.serials }
+        ensures requests { self.new.requests ≡ self.old.requests }
+        ensures refused { self.new.refused ≡ self.old.refused }
+    {
+        let i = self.waits()?;
+        let texts = self.ordered_at(i);
+        let (host, port) = texts?;
+        Some(ListenerOrder::Listen { host, port })
+    }
+
+    /// That of the forwarding at this place is.
+    fn ordered_at(&mut self, i: usize) -> Option<(TwoTexts, u32)>
+        requires place { position to_listen self.old.all.items ≡ Some i }
+        requires first { is_first_to_listen (find to_listen self.old.all.items) ≡ true }
+        ensures some { is_some result ≡ true }
+        ensures place { IfSome result (λ r. ListensFor (ListenerOrder.Listen r.0 r.1)
+            (find to_listen self.old.all.items)) }
+        ensures listeners { listeners_of self.new.all.items
+            ≡ listeners_of self.old.all.items }
+        ensures first { is_ordered_first (find to_listen self.new.all.items) ≡ true }
+        ensures due { sum_by forwarding_due self.new.all.items
+            ≡ sum_by forwarding_due self.old.all.items }
+        ensures leaves { OrderedAt i self.old.all.items self.new.all.items }
+        ensures serials { self.new.serials ≡ self.old.serials }
+        ensures requests { self.new.requests ≡ self.old.requests }
+        ensures refused { self.new.refused ≡ self.old.refused }
+    {
+        self.all[i].ordered()
+    }
+
+    /// The forwarding of a listener is no more.
+    fn unlisten(&mut self, listener: u64)
+        ensures all { self.new.all.items
+            ≡ filter (λ f. not (has_listener listener f)) self.old.all.items }
+        ensures serials { self.new.serials ≡ self.old.serials }
+        ensures requests { self.new.requests ≡ self.old.requests }
+        ensures refused { self.new.refused ≡ self.old.refused }
+    {
+        self.all.retain(|f| f.lacks_listener(listener));
+    }
+
+    /// The number of the listener that was ordered for the first forwarding that has none yet, and
+    /// none where that failed.
+    pub fn ordered(&mut self, listener: Option<u64>, asks: &mut Asks)
+        requires { is_ordered_first (find to_listen self.old.all.items) ≡ true }
+        ensures listeners { listeners_of self.new.all.items
+            ≡ listeners_of self.old.all.items ++ listeners_made listener }
+        ensures due { sum_by forwarding_due self.new.all.items + 1
+            ≤ sum_by forwarding_due self.old.all.items }
+        ensures asks { asks.new.waiting.items ≡ ordered_asks listener
+            (serial_of (find to_listen self.old.all.items)) asks.old.done
+            asks.old.waiting.items }
+        ensures open { open_asks asks.new.waiting.items ≡ open_asks asks.old.waiting.items }
+        ensures count { length asks.new.waiting.items ≡ length asks.old.waiting.items }
+        ensures leaves { IfSome (position to_listen self.old.all.items)
+            (λ i. MadeAt listener i self.old.all.items self.new.all.items) }
+        ensures serials { self.new.serials ≡ self.old.serials }
+        ensures requests { self.new.requests ≡ self.old.requests }
+        ensures refused { self.new.refused ≡ made_refused listener
+            (find to_listen self.old.all.items) self.old.refused }
+    {
+        let Some(i) = self.waits() else {
+            return;
+        };
+        match listener {
+            Some(listener) => {
+                let f = &mut self.all[i];
+                f.stage = Stage::Listening(listener);
+                asks.settle(f.serial, true, Outcome::Done);
+            }
+            None => {
+                let serial = self.all[i].serial;
+                self.fail(i);
+                asks.refuse(serial);
+            }
+        }
+    }
+
+    /// A forwarding can't be had.
+    fn fail(&mut self, i: usize)
+        requires { i < length self.old.all.items }
+        ensures all { self.new.all.items ≡ remove self.old.all.items i }
+        ensures serials { self.new.serials ≡ self.old.serials }
+        ensures requests { self.new.requests ≡ self.old.requests }
+        ensures refused { FailsAt i self.old.all.items self.old.refused self.new.refused }
+    {
+        let f = self.all.remove(i);
+        self.refuse_start(f.start);
+    }
+
+    /// The forwarding whose request is to be said next, if any.
+    pub fn to_say(&self) -> Option<&Forwarding>
+        ensures { option_copied result ≡ find has_request self.now.all.items }
+    {
+        self.all.iter().find(|f| f.has_request())
+    }
+
+    /// A request is said now.
+    pub fn said(&mut self, request: Request) -> Result<(), OutOfMemory>
+        ensures all { OnOk result
+            (self.new.all.items ≡ after_saying request self.old.all.items) }
+        ensures requests { OnOk result
+            (self.new.requests.items ≡ self.old.requests.items ++ request ∷ []) }
+        ensures listeners { listeners_of self.new.all.items
+            ≡ listeners_of self.old.all.items }
+        ensures count { length self.new.all.items ≡ length self.old.all.items }
+        ensures serials { self.new.serials ≡ self.old.serials }
+        ensures refused { self.new.refused ≡ self.old.refused }
+    {
+        self.requests.push_back(request)?;
+        match request {
+            Request::Listen(serial) => self.change(serial, Change::Request),
+            Request::Cancel(serial) => self.change(serial, Change::Cancel),
+        }
+        Ok(())
+    }
+
+    /// The server's reply to the earliest request that has none. A success to a request of port 0
+    /// carries the port that it chose.
+    pub fn replied(&mut self, success: bool, port: Option<u32>, asks: &mut Asks)
+        ensures asks { asks.new.waiting.items ≡ replied_asks success port
+            (first_of self.old.requests.items) self.old.all.items asks.old.done
+            asks.old.waiting.items }
+        ensures open { open_asks asks.new.waiting.items ≡ open_asks asks.old.waiting.items }
+        ensures asked { length asks.new.waiting.items ≡ length asks.old.waiting.items }
+        ensures listeners { listeners_of self.new.all.items
+            ≡ listeners_of self.old.all.items }
+        ensures count { length self.new.all.items ≤ length self.old.all.items }
+        ensures all { self.new.all.items ≡ replied_all success port
+            (first_of self.old.requests.items) self.old.all.items }
+        ensures serials { self.new.serials ≡ self.old.serials }
+        ensures requests { self.new.requests.items ≡ drop 1 self.old.requests.items }
+        ensures refused { self.new.refused ≡ replied_refused success
+            (first_of self.old.requests.items) self.old.all.items self.old.refused }
+    {
+        match self.requests.pop_front() {
+            None => {}
+            Some(Request::Listen(serial)) => {
+                if success {
+                    let outcome = self.granted(serial, port);
+                    self.change(serial, Change::Live(port));
+                    if let Some(outcome) = outcome {
+                        asks.settle(serial, true, outcome);
+                    }
+                } else {
+                    self.refuse(serial);
+                    asks.refuse(serial);
+                }
+            }
+            Some(Request::Cancel(serial)) => {
+                if success {
+                    self.forget(serial);
+                    asks.settle(serial, false, Outcome::Done);
+                } else {
+                    self.change(serial, Change::Stay);
+                    asks.settle(serial, false, Outcome::Refused);
+                }
+            }
+        }
+    }
+
+    // ---- places
+
+    fn waits(&self) -> Option<usize>
+        ensures { result ≡ position to_listen self.now.all.items }
+    {
+        self.all.iter().position(|f| f.to_listen())
+    }
+
+    fn asked(&self, serial: u64) -> Option<usize>
+        ensures { result ≡ position (is_asked serial) self.now.all.items }
+    {
+        self.all.iter().position(|f| f.is_asked(serial))
+    }
+
+    fn cancelled(&self, serial: u64) -> Option<usize>
+        ensures { result ≡ position (is_cancelled serial) self.now.all.items }
+    {
+        self.all.iter().position(|f| f.is_cancelled(serial))
+    }
+
+    /// What a forwarding comes to as the server listens for it.
+    fn granted(&self, serial: u64, port: Option<u32>) -> Option<Outcome>
+        ensures { result ≡ live_in port (find (is_asked serial) self.now.all.items) }
+    {
+        let f = self.all.iter().find(|f| f.is_asked(serial))?;
+        Some(f.granted(port))
+    }
+
+    /// The server refused the request to listen for a forwarding.
+    fn refuse(&mut self, serial: u64)
+        ensures listeners { listeners_of self.new.all.items
+            ≡ listeners_of self.old.all.items }
+        ensures count { length self.new.all.items ≤ length self.old.all.items }
+        ensures all { self.new.all.items
+            ≡ removed_at (position (is_asked serial) self.old.all.items) self.old.all.items }
+        ensures serials { self.new.serials ≡ self.old.serials }
+        ensures requests { self.new.requests ≡ self.old.requests }
+        ensures refused { self.new.refused ≡ first_refused self.old.refused
+            (start_of (find (is_asked serial) self.old.all.items)) }
+    {
+        if let Some(i) = self.asked(serial) {
+            self.fail(i);
+        }
+    }
+
+    /// The server listens for a forwarding no longer.
+    fn forget(&mut self, serial: u64)
+        ensures listeners { listeners_of self.new.all.items
+            ≡ listeners_of self.old.all.items }
+        ensures count { length self.new.all.items ≤ length self.old.all.items }
+        ensures all { self.new.all.items ≡ removed_at
+            (position (is_cancelled serial) self.old.all.items) self.old.all.items }
+        ensures serials { self.new.serials ≡ self.old.serials }
+        ensures requests { self.new.requests ≡ self.old.requests }
+        ensures refused { self.new.refused ≡ self.old.refused }
+    {
+        if let Some(i) = self.cancelled(serial) {
+            self.all.remove(i);
+        }
+    }
+
+    /// The forwarding of a listener.
+    pub fn of_listener(&self, listener: u64) -> Option<&Forwarding>
+        ensures { option_copied result ≡ find (has_listener listener) self.now.all.items }
+    {
+        self.all.iter().find(|f| f.has_listener(listener))
+    }
+
+    /// The earliest forwarding that the server listens for at an address and a port.
+    pub fn of_server(&self, address: &[u8], port: u32) -> Option<&Forwarding>
+        ensures { option_copied result
+            ≡ find (served_at address.now port) self.now.all.items }
+    {
+        self.all.iter().find(|f| f.serves(address, port))
+    }
+}
+
+/// The forwarding with this serial changes.
+fn change_all(forwardings: &mut Vec<Forwarding>, serial: u64, change: Change)
+    ensures { forwardings.new.items ≡ map (changed change serial) forwardings.old.items }
+{
+    for f in forwardings.iter_mut() {
+        f.change(serial, change);
+    }
+}

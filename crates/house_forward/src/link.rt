@@ -1,0 +1,265 @@
+//! A relay of the house and its stream.
+ghost use Rattle.std.specs.Prelude.{◌≡◌, is_some, true, IfSome, OnOk, None};
+ghost use Rattle.house_relay.specs.Relay.{stream_of};
+ghost use Rattle.house_relay.specs.Steps.{made_as};
+ghost use Rattle.house_forward.specs.Heard.{heard_of};
+ghost use Rattle.house_forward.specs.Links.{has_number, is_of, is_offered, is_awaited, is_left, link_after, relay_after, made_stream, link_order, has_order, has_saying, finishes, number_in, is_channel, is_dialog, ConnectsAt, IsOrderOf};
+
+use crate::two_texts::TwoTexts;
+use conn_messages::Message;
+use house_relay::{Line, Relay};
+use mux_outside::{Order, OwnStream};
+use ssh_fields::OutOfMemory;
+use std::mem;
+
+/// How the stream of a relay stands.
+#[derive(Drop)]
+pub enum Stream {
+    /// A socket is to be connected to this end.
+    Offered { host: TwoTexts, port: u32 },
+    /// That is ordered, and the number is awaited.
+    Awaited,
+    /// It is made.
+    Made(OwnStream),
+    /// It is closed, or couldn't be made.
+    Gone,
+}
+
+/// What a stream is ordered, or what happens to it.
+#[derive(Clone, Copy, Debug)]
+pub enum Step {
+    /// It is paused from now on, or isn't.
+    Pause(bool),
+    Finish,
+    End,
+    Close,
+    Writable,
+    Failed,
+}
+
+/// A relay and its stream.
+#[derive(Drop)]
+pub struct Link {
+    pub relay: Relay,
+    pub stream: Stream,
+}
+
+impl Link {
+    /// The number of its stream.
+    pub fn number(&self) -> Option<u64>
+        ensures { result ≡ number_in self.now.stream }
+    {
+        match &self.stream {
+            Stream::Made(own) => Some(own.number),
+            Stream::Offered { .. } | Stream::Awaited | Stream::Gone => None,
+        }
+    }
+
+    /// Whether its stream has this number.
+    pub fn has_number(&self, stream: u64) -> bool
+        ensures { result ≡ has_number stream self.now }
+    {
+        match &self.stream {
+            Stream::Made(own) => own.number == stream,
+            Stream::Offered { .. } | Stream::Awaited | Stream::Gone => false,
+        }
+    }
+
+    /// Whether that is the stream of its relay too.
+    pub fn is_of(&self, stream: u64) -> bool
+        ensures { result ≡ is_of stream self.now }
+    {
+        self.has_number(stream) && self.relay.stream() == Some(stream)
+    }
+
+    /// Whether its stream has this number and takes no more bytes.
+    pub fn is_finished(&self, stream: u64) -> bool
+        ensures { result ≡ finishes stream self.now.stream }
+    {
+        match &self.stream {
+            Stream::Made(own) => own.number == stream && own.finished,
+            Stream::Offered { .. } | Stream::Awaited | Stream::Gone => false,
+        }
+    }
+
+    /// Whether a socket is to be connected for it.
+    pub fn is_offered(&self) -> bool
+        ensures { result ≡ is_offered self.now }
+    {
+        match &self.stream {
+            Stream::Offered { .. } => true,
+            Stream::Awaited | Stream::Made(_) | Stream::Gone => false,
+        }
+    }
+
+    /// Whether that is ordered.
+    pub fn is_awaited(&self) -> bool
+        ensures { result ≡ is_awaited self.now }
+    {
+        match &self.stream {
+            Stream::Awaited => true,
+            Stream::Offered { .. } | Stream::Made(_) | Stream::Gone => false,
+        }
+    }
+
+    /// Whether it has a channel, or is to have one.
+    pub fn is_channel(&self) -> bool
+        ensures { result ≡ is_channel self.now }
+    {
+        self.relay.line.counts()
+    }
+
+    /// Whether a dialog is to say the end of its channel.
+    pub fn is_dialog(&self) -> bool
+        ensures { result ≡ is_dialog self.now }
+    {
+        match &self.relay.line {
+            Line::Dialing(_) => true,
+            Line::Asked { .. }
+            | Line::Opened { .. }
+            | Line::Offered { .. }
+            | Line::Live(_)
+            | Line::Over => false,
+        }
+    }
+
+    /// Whether nothing is left of it.
+    pub fn is_left(&self) -> bool
+        ensures { result ≡ is_left self.now }
+    {
+        match &self.stream {
+            Stream::Gone => self.relay.is_gone(),
+            Stream::Offered { .. } | Stream::Awaited | Stream::Made(_) => false,
+        }
+    }
+
+    /// Whether its relay has something to say.
+    pub fn has_saying(&self) -> bool
+        ensures { result ≡ has_saying self.now }
+    {
+        self.relay.says().is_some()
+    }
+
+    /// Whether its relay has an order of its stream.
+    pub fn has_order(&self) -> bool
+        ensures { result ≡ has_order self.now }
+    {
+        self.order().is_some()
+    }
+
+    /// What its relay orders of its stream.
+    pub fn order(&self) -> Option<Order>
+        ensures exact { result ≡ link_order self.now }
+        ensures may { IfSome result (λ order. IsOrderOf order self.now) }
+    {
+        match &self.stream {
+            Stream::Made(own) => {
+                if self.relay.stream() == Some(own.number) {
+                    self.relay.orders(own)
+                } else {
+                    None
+                }
+            }
+            Stream::Offered { .. } | Stream::Awaited | Stream::Gone => None,
+        }
+    }
+
+    /// It takes a step, if its stream has this number.
+    pub fn take(&mut self, stream: u64, step: Step)
+        ensures { self.new ≡ link_after step stream self.old }
+    {
+        if !self.has_number(stream) {
+            return;
+        }
+        self.relay_takes(step);
+        let Stream::Made(own) = &mut self.stream else {
+            return;
+        };
+        match step {
+            Step::Pause(paused) => own.paused = paused,
+            Step::Finish => own.finished = true,
+            Step::End => own.ended = true,
+            Step::Close => self.stream = Stream::Gone,
+            Step::Writable | Step::Failed => {}
+        }
+    }
+
+    /// Its relay takes a step.
+    fn relay_takes(&mut self, step: Step)
+        ensures { self.new ≡ record self.old { relay = relay_after step self.old.relay } }
+    {
+        match step {
+            Step::Pause(_) | Step::Finish => {}
+            Step::End => self.relay.ends(),
+            Step::Close => self.relay.closed(),
+            Step::Writable => self.relay.writable(),
+            Step::Failed => self.relay.failed(),
+        }
+    }
+
+    /// Its socket is ordered, if one is to be connected: the host and the port.
+    pub fn ordered(&mut self) -> Option<(TwoTexts, u32)>
+        ensures some { is_some result ≡ is_offered self.old }
+        ensures gives { IfSome result (λ r. ConnectsAt r.0.one r.1 self.old.stream) }
+        ensures ordered { is_offered self.old ≡ true
+            → self.new ≡ record self.old { stream = Stream.Awaited } }
+        ensures none { result ≡ None → self.new ≡ self.old }
+    {
+        match &self.stream {
+            Stream::Offered { .. } => {}
+            Stream::Awaited | Stream::Made(_) | Stream::Gone => return None,
+        }
+        match mem::replace(&mut self.stream, Stream::Awaited) {
+            Stream::Offered { host, port } => Some((host, port)),
+            _ => None,
+        }
+    }
+
+    /// Its stream is made, or couldn't be.
+    pub fn made(&mut self, stream: Option<u64>)
+        ensures stream { self.new.stream ≡ made_stream stream }
+        ensures relay { self.new.relay
+            ≡ record self.old.relay { socket = made_as stream } }
+        ensures held { self.new.relay.held ≡ self.old.relay.held }
+    {
+        self.relay.made(stream);
+        self.stream = match stream {
+            Some(stream) => Stream::Made(OwnStream::new(stream)),
+            None => Stream::Gone,
+        };
+    }
+
+    /// Its relay hears a message in its channel.
+    pub fn hears(&mut self, message: &Message<'_>) -> Result<(), OutOfMemory>
+        ensures heard { OnOk result
+            (self.new.relay ≡ heard_of message.now self.old.relay) }
+        ensures stream { self.new.stream ≡ self.old.stream }
+        ensures held { self.new.relay.held ≡ self.old.relay.held }
+    {
+        match message {
+            Message::Confirmation {
+                sender,
+                window,
+                maximum,
+                ..
+            } => self.relay.confirmed(*sender, *window, *maximum)?,
+            Message::OpenFailure { reason, .. } => self.relay.refused(*reason)?,
+            Message::Adjust { add, .. } => self.relay.hears_room(*add),
+            Message::Data { bytes, .. } => {
+                self.relay.hears_data(bytes)?;
+            }
+            Message::Eof { .. } => self.relay.hears_eof(),
+            Message::Close { .. } => self.relay.hears_close(),
+            Message::Request { want, .. } => self.relay.hears_request(*want),
+            Message::Transport { .. }
+            | Message::GlobalRequest { .. }
+            | Message::RequestSuccess { .. }
+            | Message::RequestFailure
+            | Message::Open { .. }
+            | Message::Extended { .. }
+            | Message::Success { .. }
+            | Message::Failure { .. } => {}
+        }
+        Ok(())
+    }
+}

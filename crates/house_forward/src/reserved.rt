@@ -1,0 +1,46 @@
+//! Notes, and the room that is reserved in them.
+ghost use Rattle.std.specs.Prelude.{◌≡◌, ◌≤◌, ◌+◌, ◌++◌, ◌∷◌, [], OnOk};
+ghost use Rattle.std.specs.Option.{option_map};
+
+use mux_outside::{HouseMark, Notes};
+use ssh_fields::OutOfMemory;
+
+/// Notes, and for how many marks there is room in them at least.
+#[derive(Drop)]
+pub struct Reserved<N: Notes + Drop> {
+    pub notes: N,
+    marks: usize,
+    ghost reserved: { marks ≤ N.spare notes },
+}
+
+impl<N: Notes + Drop> Reserved<N> {
+    pub fn new(notes: N) -> Reserved<N>
+        ensures { result.notes ≡ notes }
+    {
+        Reserved { notes, marks: 0 }
+    }
+
+    /// Makes room for so many marks at least.
+    pub fn room(&mut self, marks: usize) -> Result<(), OutOfMemory>
+        ensures ok { OnOk result (marks ≤ self.new.marks) }
+        ensures more { self.old.marks ≤ self.new.marks }
+        ensures told { N.told self.new.notes ≡ N.told self.old.notes }
+    {
+        if self.marks < marks {
+            self.notes.room(marks)?;
+            self.marks = marks;
+        }
+        Ok(())
+    }
+
+    /// Takes a mark.
+    pub fn note(&mut self, mark: HouseMark)
+        requires { 1 ≤ self.old.marks }
+        ensures told { N.told self.new.notes
+            ≡ option_map (λ marks. marks ++ mark ∷ []) (N.told self.old.notes) }
+        ensures marks { self.new.marks + 1 ≡ self.old.marks }
+    {
+        self.notes.note(mark);
+        self.marks -= 1;
+    }
+}

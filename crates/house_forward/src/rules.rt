@@ -1,0 +1,211 @@
+//! What is asked of the house, as it is compared and as it is refused at once.
+ghost use Rattle.std.specs.Prelude.{◌≡◌, not, is_some, IfSome};
+ghost use Rattle.mux_outside.specs.House.{ask_of};
+ghost use Rattle.mux_outside.specs.declared.start_ask.StartAsk.{StartAsk};
+ghost use Rattle.house_forward.specs.Rules.{listens_here, connects_there, same_kind, kind_of, local_host, remote_host, listen_host, has_bad_port, is_refused_alone, AreEnds, IsAsk};
+
+use mux_outside::{FwdAsk, StartAsk as OneAsk};
+
+/// The most forwardings that are asked or live.
+pub const MOST_FORWARDINGS: usize = 64;
+
+/// The most asks that wait for their answer.
+pub const MOST_ASKS: usize = 1_024;
+
+/// The most channels of one client of the master.
+pub const MOST_CHANNELS: usize = 256;
+
+/// The most sockets whose dialog is under way.
+pub const MOST_DIALOGS: usize = 256;
+
+/// The longest host that is listened on or connected to.
+pub const LONGEST_HOST: usize = 255;
+
+/// The last port.
+pub const LAST_PORT: u32 = 65_535;
+
+const ANY: &[u8] = b"*";
+
+const THIS_HOST: &[u8] = b"localhost";
+
+/// How a forwarding works.
+#[derive(Clone, Copy, Debug, PartialEq, Eq)]
+pub enum Kind {
+    /// The house listens, and the server connects.
+    Local,
+    /// The server listens, and the house connects.
+    Remote,
+    /// The house listens, and the server connects to the end that a dialog of SOCKS says.
+    Dynamic,
+}
+
+impl Kind {
+    /// Whether the house listens.
+    pub fn listens_here(self) -> bool
+        ensures { result ≡ listens_here self }
+    {
+        match self {
+            Kind::Local | Kind::Dynamic => true,
+            Kind::Remote => false,
+        }
+    }
+
+    /// Whether where it connects is said when it is asked for; else a dialog says it.
+    pub fn connects_there(self) -> bool
+        ensures { result ≡ connects_there self }
+    {
+        match self {
+            Kind::Local | Kind::Remote => true,
+            Kind::Dynamic => false,
+        }
+    }
+}
+
+/// Whether both are the same.
+pub fn same_kind(a: Kind, b: Kind) -> bool
+    ensures { result ≡ same_kind a b }
+{
+    match (a, b) {
+        (Kind::Local, Kind::Local) => true,
+        (Kind::Remote, Kind::Remote) => true,
+        (Kind::Dynamic, Kind::Dynamic) => true,
+        (Kind::Local | Kind::Remote | Kind::Dynamic, _) => false,
+    }
+}
+
+/// Two ends that are asked for, the listen host as it is used.
+#[derive(Clone, Copy)]
+pub struct Ends<'a> {
+    pub kind: Kind,
+    pub listen_host: &'a [u8],
+    pub listen_port: u32,
+    pub connect_host: &'a [u8],
+    pub connect_port: u32,
+}
+
+/// What a client asks, or what is asked at the start.
+#[derive(Clone, Copy)]
+pub struct Asked<'a> {
+    pub kind: u32,
+    pub listen_host: &'a [u8],
+    pub listen_port: u32,
+    pub connect_host: &'a [u8],
+    pub connect_port: u32,
+    pub path: bool,
+}
+
+/// A client's ask: no path can stand in it.
+pub fn of_client<'a>(what: &FwdAsk<'a>) -> Asked<'a>
+    ensures { IsAsk result (ask_of what.now) }
+{
+    Asked {
+        kind: what.kind,
+        listen_host: what.listen_host,
+        listen_port: what.listen_port,
+        connect_host: what.connect_host,
+        connect_port: what.connect_port,
+        path: false,
+    }
+}
+
+/// An ask of the configuration.
+pub fn of_start(ask: &OneAsk) -> Asked<'_>
+    ensures { IsAsk result ask.now }
+{
+    Asked {
+        kind: ask.kind,
+        listen_host: ask.listen_host.as_bytes(),
+        listen_port: ask.listen_port,
+        connect_host: ask.connect_host.as_bytes(),
+        connect_port: ask.connect_port,
+        path: ask.path,
+    }
+}
+
+/// The kinds that are served.
+fn kind_of(kind: u32) -> Option<Kind>
+    ensures { result ≡ kind_of kind }
+{
+    match kind {
+        1 => Some(Kind::Local),
+        2 => Some(Kind::Remote),
+        3 => Some(Kind::Dynamic),
+        _ => None,
+    }
+}
+
+/// The host that is listened on for a host that was asked: `localhost` and nothing stand for this
+/// machine alone, and `*` for all its addresses, as nothing does where others may come in.
+fn local_host(host: &[u8], gateway: bool) -> &[u8]
+    ensures { result.now ≡ local_host gateway host.now }
+{
+    if host == ANY || (host.is_empty() && gateway) {
+        b"0.0.0.0"
+    } else if host.is_empty() || host == THIS_HOST {
+        b"127.0.0.1"
+    } else {
+        host
+    }
+}
+
+/// The address that the server is asked to listen on for a host that was asked.
+fn remote_host(host: &[u8]) -> &[u8]
+    ensures { result.now ≡ remote_host host.now }
+{
+    if host.is_empty() {
+        THIS_HOST
+    } else if host == ANY {
+        b""
+    } else {
+        host
+    }
+}
+
+/// The host as it is used.
+fn listen_host(kind: Kind, host: &[u8], gateway: bool) -> &[u8]
+    ensures { result.now ≡ listen_host kind gateway host.now }
+{
+    match kind {
+        Kind::Local | Kind::Dynamic => local_host(host, gateway),
+        Kind::Remote => remote_host(host),
+    }
+}
+
+/// Whether a port is past the last, or missing where one is needed. A dialog says where a dynamic
+/// forwarding connects.
+fn has_bad_port(kind: Kind, listen: u32, connect: u32) -> bool
+    ensures { result ≡ has_bad_port kind listen connect }
+{
+    listen > LAST_PORT
+        || connect > LAST_PORT
+        || (kind.connects_there() && connect == 0)
+        || (kind.listens_here() && listen == 0)
+}
+
+/// The two ends that are asked for; None where what is asked is refused whatever stands already:
+/// for its kind, a path, a port or a host.
+pub fn ends_of(asked: Asked<'_>, gateway: bool) -> Option<Ends<'_>>
+    ensures exact { (ask : StartAsk) → IsAsk asked.entry ask
+        → is_some result ≡ not (is_refused_alone ask) }
+    ensures ends { (ask : StartAsk) → IsAsk asked.entry ask
+        → IfSome result (λ ends. AreEnds gateway ask ends) }
+{
+    let kind = match kind_of(asked.kind) {
+        Some(kind) => kind,
+        None => return None,
+    };
+    if asked.path
+        || has_bad_port(kind, asked.listen_port, asked.connect_port)
+        || asked.listen_host.len() > LONGEST_HOST
+        || asked.connect_host.len() > LONGEST_HOST
+    {
+        return None;
+    }
+    Some(Ends {
+        kind,
+        listen_host: listen_host(kind, asked.listen_host, gateway),
+        listen_port: asked.listen_port,
+        connect_host: asked.connect_host,
+        connect_port: asked.connect_port,
+    })
+}

@@ -1,0 +1,207 @@
+//! What the house says as a client: whole frames, each in a piece of its own.
+ghost use Rattle.std.specs.Prelude.{◌≡◌, ◌<◌, ◌≤◌, ◌++◌, length, take, is_some, OnOk, IfOk, IfSome};
+ghost use Rattle.ssh_fields.specs.Fields.{str};
+ghost use Rattle.mux_outside.specs.House.{SaysFits};
+ghost use Rattle.house_relay.specs.Next.{says_of};
+ghost use Rattle.house_relay.specs.Relay.{IsSaying};
+ghost use Rattle.house_forward.specs.Links.{after_saying};
+ghost use Rattle.house_forward.specs.Said.{framed, payload_of, direct, confirmed, in_live, limits, requested};
+ghost use Rattle.mux_outside.specs.declared.piece.TheConstants.{LONGEST_PIECE};
+
+use conn_messages::{close, open_failure};
+use house_relay::{Line, MAXIMUM, Relay, Saying, WINDOW};
+use mux_outside::Piece;
+use ssh_fields::{OutOfMemory, put_string, put_u32};
+use ssh_grammar::numbers::{
+    CHANNEL_DATA, CHANNEL_EOF, CHANNEL_FAILURE, CHANNEL_OPEN, CHANNEL_OPEN_CONFIRMATION,
+    CHANNEL_WINDOW_ADJUST, CONNECT_FAILED, GLOBAL_REQUEST,
+};
+use std::alloc::Global;
+
+/// HELLO of version 4, and PROXY with the id 0.
+pub const GREETING: &[u8] = &[
+    0, 0, 0, 8, 0, 0, 0, 1, 0, 0, 0, 4, 0, 0, 0, 8, 0x10, 0, 0, 0x0f, 0, 0, 0, 0,
+];
+
+/// The text of an OPEN_FAILURE where a socket couldn't be connected.
+const NOT_CONNECTED: &[u8] = b"connect failed";
+
+/// Puts these bytes into the piece.
+pub fn put_whole(into: &mut Piece, bytes: &[u8]) -> Result<(), OutOfMemory>
+    ensures bytes { OnOk result (into.new ≡ bytes.now) }
+    ensures short { OnOk result (length into.new ≤ LONGEST_PIECE) }
+{
+    if bytes.len() > mux_outside::LONGEST_PIECE {
+        return Err(OutOfMemory);
+    }
+    into.set(bytes);
+    Ok(())
+}
+
+/// Puts the frame of a payload into the piece.
+pub fn put_frame(alloc: Global, into: &mut Piece, payload: &[u8]) -> Result<(), OutOfMemory>
+    ensures frame { OnOk result (into.new ≡ framed payload.now) }
+    ensures short { OnOk result (length into.new ≤ LONGEST_PIECE) }
+{
+    if payload.len() + 5 > mux_outside::LONGEST_PIECE {
+        return Err(OutOfMemory);
+    }
+    let mut frame = Vec::new(alloc);
+    put_u32(&mut frame, payload.len() as u32 + 1)?;
+    frame.push(0)?;
+    frame.extend_from_slice(payload)?;
+    put_whole(into, &frame)
+}
+
+/// Puts what a relay has to say into the piece, and whether there was something. It has said it then.
+pub fn say(alloc: Global, relay: &mut Relay, into: &mut Piece) -> Result<bool, OutOfMemory>
+    ensures exact { IfOk result (λ said. said ≡ is_some (says_of relay.old)) }
+    ensures fits { SaysFits result into.new }
+    ensures said { IfOk result (λ said. relay.new ≡ after_saying (says_of relay.old) relay.old) }
+    ensures spelled { IfOk result (λ said. IfSome (says_of relay.old)
+        (λ saying. into.new ≡ framed (payload_of relay.old saying))) }
+    ensures few { length relay.new.held.waiting ≤ length relay.old.held.waiting }
+{
+    let Some(saying) = relay.says() else {
+        return Ok(false);
+    };
+    let payload = payload_of(alloc, relay, saying)?;
+    put_frame(alloc, into, &payload)?;
+    relay.said(saying);
+    Ok(true)
+}
+
+/// Writes what a relay says.
+fn payload_of(alloc: Global, relay: &Relay, saying: Saying) -> Result<Vec<u8>, OutOfMemory>
+    requires { IsSaying saying relay.now }
+    ensures { IfOk result (λ payload. payload.items ≡ payload_of relay.now saying) }
+{
+    match &relay.line {
+        Line::Asked { host, port, .. } => open(alloc, relay.number, host.as_bytes(), *port),
+        Line::Offered { remote, .. } => match saying {
+            Saying::Confirmation => confirmation(alloc, *remote, relay.number),
+            _ => in_channel(alloc, Saying::OpenFailure, *remote, &[]),
+        },
+        Line::Live(live) => in_channel(alloc, saying, live.remote, relay.held.front()),
+        Line::Dialing(_) | Line::Opened { .. } | Line::Over => Err(OutOfMemory),
+    }
+}
+
+/// An OPEN of `direct-tcpip` (RFC 4254, section 7.2).
+fn open(alloc: Global, number: u32, host: &[u8], port: u32) -> Result<Vec<u8>, OutOfMemory>
+    ensures { IfOk result (λ payload. payload.items ≡ direct number host.now port) }
+{
+    let mut payload = Vec::new(alloc);
+    payload.push(CHANNEL_OPEN)?;
+    put_string(&mut payload, b"direct-tcpip")?;
+    put_u32(&mut payload, number)?;
+    put_limits(&mut payload)?;
+    put_text(&mut payload, host)?;
+    put_u32(&mut payload, port)?;
+    put_string(&mut payload, b"127.0.0.1")?;
+    put_u32(&mut payload, 0)?;
+    Ok(payload)
+}
+
+// A host, which is never longer than any message.
+fn put_text(out: &mut Vec<u8>, text: &[u8]) -> Result<(), OutOfMemory>
+    ensures { OnOk result (out.new.items ≡ out.old.items ++ str text.now) }
+{
+    if text.len() > 65_536 {
+        return Err(OutOfMemory);
+    }
+    put_string(out, text)
+}
+
+/// A CONFIRMATION (RFC 4254, section 5.1).
+fn confirmation(alloc: Global, remote: u32, number: u32) -> Result<Vec<u8>, OutOfMemory>
+    ensures { IfOk result (λ payload. payload.items ≡ confirmed remote number) }
+{
+    let mut payload = Vec::new(alloc);
+    payload.push(CHANNEL_OPEN_CONFIRMATION)?;
+    put_u32(&mut payload, remote)?;
+    put_u32(&mut payload, number)?;
+    put_limits(&mut payload)?;
+    Ok(payload)
+}
+
+/// The window of a channel, and the longest data of one message.
+fn put_limits(out: &mut Vec<u8>) -> Result<(), OutOfMemory>
+    ensures { OnOk result (out.new.items ≡ out.old.items ++ limits) }
+{
+    put_u32(out, WINDOW)?;
+    put_u32(out, MAXIMUM)?;
+    Ok(())
+}
+
+/// What a relay says in its confirmed channel.
+fn in_channel(
+    alloc: Global,
+    saying: Saying,
+    remote: u32,
+    held: &[u8],
+) -> Result<Vec<u8>, OutOfMemory>
+    ensures { IfOk result (λ payload. payload.items ≡ in_live saying remote held.now) }
+{
+    let mut payload = Vec::new(alloc);
+    match saying {
+        Saying::Close => payload.extend_from_slice(close(remote).as_bytes())?,
+        Saying::OpenFailure => {
+            payload.extend_from_slice(open_failure(
+                remote,
+                CONNECT_FAILED,
+                NOT_CONNECTED,
+            ).as_bytes())?;
+        }
+        Saying::Failure => {
+            payload.push(CHANNEL_FAILURE)?;
+            put_u32(&mut payload, remote)?;
+        }
+        Saying::Data(count) => {
+            payload.push(CHANNEL_DATA)?;
+            put_u32(&mut payload, remote)?;
+            put_text(&mut payload, first_of(held, count))?;
+        }
+        Saying::Eof => {
+            payload.push(CHANNEL_EOF)?;
+            put_u32(&mut payload, remote)?;
+        }
+        Saying::Adjust(owed) => {
+            payload.push(CHANNEL_WINDOW_ADJUST)?;
+            put_u32(&mut payload, remote)?;
+            put_u32(&mut payload, owed)?;
+        }
+        Saying::Open | Saying::Confirmation => {}
+    }
+    Ok(payload)
+}
+
+/// A request about a forwarding that wants a reply (RFC 4254, section 7.1).
+pub fn request(
+    alloc: Global,
+    name: &[u8],
+    address: &[u8],
+    port: u32,
+) -> Result<Vec<u8>, OutOfMemory>
+    ensures { IfOk result (λ payload. payload.items ≡ requested name.now address.now port) }
+{
+    let mut payload = Vec::new(alloc);
+    payload.push(GLOBAL_REQUEST)?;
+    put_text(&mut payload, name)?;
+    payload.push(1)?;
+    put_text(&mut payload, address)?;
+    put_u32(&mut payload, port)?;
+    Ok(payload)
+}
+
+/// So many of the bytes, or all if there are fewer.
+fn first_of(bytes: &[u8], count: u32) -> &[u8]
+    ensures { result.now ≡ take count bytes.now }
+{
+    let count = count as usize;
+    if count < bytes.len() {
+        &bytes[..count]
+    } else {
+        bytes
+    }
+}
