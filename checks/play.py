@@ -583,11 +583,12 @@ def hold_need(name: str) -> None:
 @dataclasses.dataclass(frozen=True)
 class Case:
     """A case: what it does in its room, what it needs, how its way is to be, and how many tries it
-    has where the report names no other number. One that is a row of a table has a title."""
+    has where the report names no other number. One that is a row of a table has a title. Where the
+    permissions are None, the case starts the program itself."""
 
     play: Callable[[Any], None]
     needs: Sequence[str] = ()
-    permissions: Sequence[str] = ()
+    permissions: Sequence[str] | None = ()
     sshd_settings: str = ""
     tries: int = 1
     title: str = ""
@@ -649,15 +650,22 @@ class Cases:
             return "FAILED", f"{type(why).__name__} at {at}: {why}"
 
     def report(
-        self, words: Sequence[str], room_for: RoomFor, tries: int | None = None
+        self, words: Sequence[str], room_for: RoomFor, tries: int | None = None,
+        seconds: float | None = None,
     ) -> bool:
         """Plays the cases that are named, and returns whether there were any and none failed.
 
-        One that failed is played again while it has tries left; each failure is told.
+        One that failed is played again while it has tries left; each failure is told. None is begun
+        once so many seconds are over; how many were left out is told.
         """
         began, counts = time.monotonic(), {"ok": 0, "skipped": 0, "FAILED": 0}
-        for case in self.named(words):
+        cases = self.named(words)
+        for number, case in enumerate(cases):
             start = time.monotonic()
+            if seconds is not None and start - began >= seconds:
+                counts["skipped"] += len(cases) - number
+                say_skipped(f"the last {len(cases) - number} cases", f"{seconds:g} s were over")
+                break
             said, why = self.outcome(case, room_for)
             for _ in range((tries or case.tries) - 1):
                 if said == "FAILED":
@@ -730,7 +738,7 @@ class Way(Room):
         self.start_sshd(case.sshd_settings)
         self.start_openssh_master()
         self.start_transport()
-        self.start_program(*case.permissions)
+        self.start_program(*(case.permissions or ()))
 
     def start(
         self, words: Sequence[str | bytes], grace: float = START_SECONDS, **how: Any

@@ -7,6 +7,9 @@ use mux_outside::{Opening, WireLog};
 use ssh_fields::{OutOfMemory, Text, Texts};
 use std::alloc::Global;
 
+/// The number of the first listener or stream of the master's own.
+const FIRST_OWN: u64 = 0x8000_0000_0000_0000;
+
 /// The lines of what came of a row: those of its summary; what each stream took, frame by frame;
 /// the streams that are open at the end; and the marks of the wire, where the row asks for them.
 pub fn lines_of(alloc: Global, played: &Played, log: &WireLog) -> Result<Texts, OutOfMemory> {
@@ -64,18 +67,31 @@ fn joining_line(alloc: Global, joining: &Text) -> Result<Text, OutOfMemory> {
     Ok(line)
 }
 
-// What each stream took, and the streams that are open.
-fn add_taken(lines: &mut Texts, alloc: Global, log: &WireLog) -> Result<(), OutOfMemory> {
-    if log.openings().is_empty() && log.joinings().is_empty() {
-        return Ok(());
-    }
-    for stream in 0..=log.last() {
+// What each stream of these took.
+fn add_takings(
+    lines: &mut Texts,
+    alloc: Global,
+    log: &WireLog,
+    first: u64,
+    last: u64,
+) -> Result<(), OutOfMemory> {
+    for stream in first..=last {
         let bytes = log.taken(stream)?;
         if !bytes.as_bytes().is_empty() {
             let number = format!(in alloc; "{stream}")?;
             lines.push(took_line(alloc, number.as_str(), bytes.as_bytes())?)?;
         }
     }
+    Ok(())
+}
+
+// What each stream took, the master's own behind the others, and the streams that are open.
+fn add_taken(lines: &mut Texts, alloc: Global, log: &WireLog) -> Result<(), OutOfMemory> {
+    if log.openings().is_empty() && log.joinings().is_empty() {
+        return Ok(());
+    }
+    add_takings(lines, alloc, log, 0, log.last())?;
+    add_takings(lines, alloc, log, FIRST_OWN, log.last_own())?;
     let mut line = Text::copy(alloc, b"left")?;
     for stream in log.streams().as_slice() {
         let number = format!(in alloc; " {stream}")?;

@@ -1,5 +1,6 @@
 //! The marks of a wire as lines.
-use mux_outside::{HouseMark, KeptStreams, Mark, Want};
+use crate::spelling::escape;
+use mux_outside::{HouseMark, KeptStreams, Mark, Order, Want};
 use ssh_fields::{OutOfMemory, Text, Texts};
 use std::alloc::Global;
 
@@ -26,7 +27,7 @@ fn mark_line(alloc: Global, mark: &Mark) -> Result<Text, OutOfMemory> {
         Mark::Holds(stream) => stream_line(alloc, b"holds", *stream),
         Mark::WriteFails(stream) => stream_line(alloc, b"loses", *stream),
         Mark::Joins(listener, stream) => join_line(alloc, *listener, *stream),
-        Mark::House(mark) => Text::copy(alloc, house_word(mark)),
+        Mark::House(mark) => house_line(alloc, mark),
     }
 }
 
@@ -72,15 +73,45 @@ fn join_line(alloc: Global, listener: u64, stream: u64) -> Result<Text, OutOfMem
 }
 
 // The line of a house's mark.
-fn house_word(mark: &HouseMark) -> &'static [u8] {
+fn house_line(alloc: Global, mark: &HouseMark) -> Result<Text, OutOfMemory> {
     match mark {
-        HouseMark::HouseIn => b"house in",
-        HouseMark::HouseSaid(_) => b"house said",
-        HouseMark::HouseTook(_) => b"house took",
-        HouseMark::HouseAsked { .. } => b"house asked",
-        HouseMark::HouseAnswer { .. } => b"house answer",
-        HouseMark::HouseOrder { .. } => b"house order",
+        HouseMark::HouseIn => Text::copy(alloc, b"house in"),
+        HouseMark::HouseSaid(_) => Text::copy(alloc, b"house said"),
+        HouseMark::HouseTook(_) => Text::copy(alloc, b"house took"),
+        HouseMark::HouseAsked { .. } => Text::copy(alloc, b"house asked"),
+        HouseMark::HouseAnswer { .. } => Text::copy(alloc, b"house answer"),
+        HouseMark::HouseOrder { order, number } => {
+            let mut line = order_line(alloc, order)?;
+            if let Some(made) = *number {
+                let made = format!(in alloc; " as {made}")?;
+                line.add(made.as_bytes())?;
+            }
+            Ok(line)
+        }
     }
+}
+
+// The line of an order of a house.
+fn order_line(alloc: Global, order: &Order) -> Result<Text, OutOfMemory> {
+    match order {
+        Order::Listen { host, port } => place_line(alloc, b"house listens", host, *port),
+        Order::Connect { host, port } => place_line(alloc, b"house connects", host, *port),
+        Order::Unlisten(listener) => stream_line(alloc, b"house unlistens", *listener),
+        Order::Pause(stream) => stream_line(alloc, b"house pauses", *stream),
+        Order::Resume(stream) => stream_line(alloc, b"house resumes", *stream),
+        Order::Finish(stream) => stream_line(alloc, b"house finishes", *stream),
+        Order::Close(stream) => stream_line(alloc, b"house closes", *stream),
+    }
+}
+
+// The line of a host and a port.
+fn place_line(alloc: Global, head: &[u8], host: &Text, port: u32) -> Result<Text, OutOfMemory> {
+    let mut line = Text::copy(alloc, head)?;
+    line.add(b" ")?;
+    escape(&mut line, host.as_bytes())?;
+    let number = format!(in alloc; " {port}")?;
+    line.add(number.as_bytes())?;
+    Ok(line)
 }
 
 // The line of what happened to a stream.

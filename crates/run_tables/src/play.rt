@@ -1,8 +1,11 @@
 //! Plays a row.
 use crate::answer::{lines_of, summary_of};
 use crate::row::Row;
+use house_forward::Forwarder;
 use mux_drill::DrillWire;
-use mux_outside::{Facts, ListSink, MapFiles, MapRunner, NoHouse, ScriptWire, Wire};
+use mux_outside::{
+    Facts, House, KeptNotes, ListSink, MapFiles, MapRunner, NoHouse, ScriptWire, Wire,
+};
 use ssh_fields::{OutOfMemory, Texts};
 use ssh_mux::{Status, run};
 use std::alloc::Global;
@@ -23,19 +26,30 @@ pub fn play(alloc: Global, mut row: Row) -> Result<Texts, OutOfMemory> {
     match row.script.take() {
         Some(script) => {
             let mut wire = ScriptWire::new(alloc, script.steps, script.writes, script.fails);
-            let played = play_over(alloc, row, &mut wire);
+            let played = play_scripted(alloc, row, &mut wire)?;
             lines_of(alloc, &played, wire.log())
         }
         None => {
             let mut wire = DrillWire::new(alloc);
-            let played = play_over(alloc, row, &mut wire);
+            let played = play_over(alloc, row, &mut wire, &mut NoHouse);
             summary_of(alloc, &played, wire.log())
         }
     }
 }
 
-// Plays a row over this wire.
-fn play_over<W: Wire>(alloc: Global, row: Row, wire: &mut W) -> Played {
+// Plays a row over this wire, with forwardings of the master's own where it asks for them.
+fn play_scripted(alloc: Global, row: Row, wire: &mut ScriptWire) -> Result<Played, OutOfMemory> {
+    if !row.house {
+        return Ok(play_over(alloc, row, wire, &mut NoHouse));
+    }
+    let mut house = Forwarder::new(alloc, KeptNotes::new(alloc))?;
+    Ok(play_over(alloc, row, wire, &mut house))
+}
+
+// Plays a row over this wire and this house.
+fn play_over<W: Wire, H: House>(alloc: Global, row: Row, wire: &mut W, house: &mut H) -> Played
+    requires { H.fresh house.old }
+{
     let fails = row.fails;
     let mut files = MapFiles::new(alloc, row.files, fails.file);
     let mut runner = MapRunner::new(alloc, row.commands, fails.command);
@@ -54,6 +68,7 @@ fn play_over<W: Wire>(alloc: Global, row: Row, wire: &mut W) -> Played {
         &mut runner,
         &mut out,
         &mut err,
+        house,
     );
     Played {
         status,
@@ -73,7 +88,7 @@ struct Given {
 }
 
 // The status of a run, by itself: nothing else is proved beside the clauses of `run`.
-fn status_over<W: Wire>(
+fn status_over<W: Wire, H: House>(
     alloc: Global,
     given: &Given,
     wire: &mut W,
@@ -81,7 +96,10 @@ fn status_over<W: Wire>(
     runner: &mut MapRunner,
     out: &mut ListSink,
     err: &mut ListSink,
-) -> Status {
+    house: &mut H,
+) -> Status
+    requires { H.fresh house.old }
+{
     run(
         alloc,
         &given.words,
@@ -91,7 +109,7 @@ fn status_over<W: Wire>(
         runner,
         out,
         err,
-        &mut NoHouse,
+        house,
         given.turns,
     )
 }

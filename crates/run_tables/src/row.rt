@@ -8,8 +8,8 @@ use mux_outside::{
 use ssh_fields::{OutOfMemory, Text, Texts};
 use std::alloc::Global;
 
-/// What a scripted wire does: its steps, how its writes are answered, and which calls of `open` and
-/// `join` fail.
+/// What a scripted wire does: its steps, how its writes are answered, and which calls of `open`,
+/// `join`, `listen` and `connect` fail.
 #[derive(Drop)]
 pub struct Script {
     pub steps: Steps,
@@ -40,6 +40,8 @@ pub struct Row {
     pub fails: Fails,
     pub turns: u64,
     pub marks: bool,
+    /// Whether the master has forwardings of its own.
+    pub house: bool,
     pub expected: Texts,
 }
 
@@ -66,6 +68,7 @@ impl Row {
             },
             turns: u64::MAX,
             marks: false,
+            house: false,
             expected: Texts::new(alloc),
         })
     }
@@ -77,6 +80,7 @@ impl Row {
             ">" => self.take_expected(rest, names),
             "turns" => Ok(self.take_turns(rest)),
             "marks" => Ok(self.take_marks(rest)),
+            "house" => Ok(self.take_house(rest)),
             "fails" => self.take_fails(rest),
             "fact" | "no" | "var" => self.take_known(head, rest),
             "drill" | "writes" => self.take_script(head, rest),
@@ -242,6 +246,12 @@ impl Row {
     // That the marks are told.
     fn take_marks(&mut self, rest: &str) -> bool {
         self.marks = true;
+        rest.is_empty()
+    }
+
+    // That the master has forwardings of its own.
+    fn take_house(&mut self, rest: &str) -> bool {
+        self.house = true;
         rest.is_empty()
     }
 

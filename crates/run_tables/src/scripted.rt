@@ -44,6 +44,7 @@ pub fn step_of(
         "end" => Some(Step::End(stream)),
         "fail" => Some(Step::Fail(stream)),
         "free" => Some(Step::Writable(stream)),
+        "join" => bytes.parse::<u64>().ok().map(|own| Step::Join(stream, own)),
         _ => None,
     })
 }

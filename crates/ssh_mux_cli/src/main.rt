@@ -6,9 +6,10 @@
 mod machine;
 mod standard;
 
+use house_forward::Forwarder;
 use machine::{facts_of, words_of};
 use mux_drill::DrillWire;
-use mux_outside::{NoHouse, Wire};
+use mux_outside::{House, NoHouse, NoNotes, Wire};
 use mux_sockets::{RealFiles, RealRunner, RealSink, RealWire};
 use ssh_fields::{OutOfMemory, Texts};
 use ssh_mux::{Ending, Status, report, run};
@@ -29,7 +30,7 @@ fn main(rt: HostRuntime) -> ExitCode {
 // What stands in for a standard stream that isn't open.
 const NOTHING: &str = "/dev/null";
 
-// Runs over the system.
+// Runs over the system: a master with forwardings of its own, and a drill without.
 fn start(rt: &HostRuntime, err: &mut RealSink<Standard>) -> Result<Status, OutOfMemory> {
     let alloc = rt.alloc();
     // A socket would else get the number of a standard stream that isn't open, and its output.
@@ -40,9 +41,11 @@ fn start(rt: &HostRuntime, err: &mut RealSink<Standard>) -> Result<Status, OutOf
     ];
     let words = words_of(rt, alloc)?;
     if is_drill(&words) {
-        return run_over(rt, &words, &mut DrillWire::new(alloc), err);
+        return run_over(rt, &words, &mut DrillWire::new(alloc), &mut NoHouse, err);
     }
-    run_over(rt, &words, &mut RealWire::new(rt.clone()?, alloc), err)
+    let mut wire = RealWire::new(rt.clone()?, alloc);
+    let mut house = Forwarder::new(alloc, NoNotes)?;
+    run_over(rt, &words, &mut wire, &mut house, err)
 }
 
 // Whether the words ask for a drill, whose wire is in memory.
@@ -52,14 +55,17 @@ fn is_drill(words: &Texts) -> bool {
         .is_some_and(|word| word.as_bytes() == b"--drill".as_slice())
 }
 
-// Runs over this wire, and over the files, commands and outputs of the system, with as many turns
-// as there are.
-fn run_over<W: Wire>(
+// Runs over this wire and this house, and over the files, commands and outputs of the system, with
+// as many turns as there are.
+fn run_over<W: Wire, H: House>(
     rt: &HostRuntime,
     words: &Texts,
     wire: &mut W,
+    house: &mut H,
     err: &mut RealSink<Standard>,
-) -> Result<Status, OutOfMemory> {
+) -> Result<Status, OutOfMemory>
+    requires { H.fresh house.old }
+{
     let alloc = rt.alloc();
     let mut files = RealFiles::new(rt.clone()?, alloc);
     let facts = facts_of(rt, alloc, &mut files)?;
@@ -72,7 +78,7 @@ fn run_over<W: Wire>(
         &mut RealRunner::new(rt.clone()?, alloc),
         &mut RealSink::new(Standard::Output(rt.stdout())),
         err,
-        &mut NoHouse,
+        house,
         u64::MAX,
     ))
 }
