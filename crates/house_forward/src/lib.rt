@@ -33,4 +33,3 @@ mod saying;
 mod two_texts;
 
 pub use forwarder::Forwarder;
-
