@@ -45,7 +45,7 @@ pub now-asked : {May : HouseReply → Type 0} {Rest : Resting} {before : Option 
 now-asked {May} {Rest} {before} {now} {policy} {pid} {start} {seen} {held} {failed} {given} {todo} {s} v picks later = ap asked_of (sym (log-is s policy pid (v.picked ++ picks) (v.replies ++ later) v.journal v.policy_is v.pid_is)) ∙ (v.stands.at picks later).rows.asked_is
 
 -- nothing more was asked: where the wire told no mark, and where it told one
-on-here : {May : HouseReply → Type 0} {Rest : Resting} {before : Option (List HouseMark)} {now : Side} {policy : Policy} {pid : ℕ} {start : Option (List Mark)} {seen : Seen} {held failed : List ℕ} {given : ℕ} {todo : List ℕ} {s : State} (v : Serving May Rest before now policy pid start seen held failed given todo s) → AsksOn May policy pid v.picked v.replies v.journal v.stands.asks []
+pub on-here : {May : HouseReply → Type 0} {Rest : Resting} {before : Option (List HouseMark)} {now : Side} {policy : Policy} {pid : ℕ} {start : Option (List Mark)} {seen : Seen} {held failed : List ℕ} {given : ℕ} {todo : List ℕ} {s : State} (v : Serving May Rest before now policy pid start seen held failed given todo s) → AsksOn May policy pid v.picked v.replies v.journal v.stands.asks []
 on-here v = record { more_picks = []; more_replies = []; may = tt; begins = record { rest = []; all_is = now-asked v [] [] ∙ sym (append-nil v.stands.asks) } }
 
 pub on-next : {May : HouseReply → Type 0} {Rest : Resting} {before : Option (List HouseMark)} {now : Side} {policy : Policy} {pid : ℕ} {start : Option (List Mark)} {seen : Seen} {held failed : List ℕ} {given : ℕ} {todo : List ℕ} {s : State} (v : Serving May Rest before now policy pid start seen held failed given todo s) (mark : Mark) → AsksOn May policy pid v.picked v.replies (mark ∷ v.journal) v.stands.asks []

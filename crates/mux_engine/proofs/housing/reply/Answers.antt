@@ -1,4 +1,4 @@
-use Rattle.std.proofs.Common.{◌<◌, ◌+◌, List, [], ◌∷◌, ◌++◌, sym, ap, subst, length, arith}
+use Rattle.std.proofs.Common.{◌<◌, ◌+◌, List, [], ◌∷◌, ◌++◌, refl, sym, ap, subst, length, arith}
 use Rattle.mux_outside.specs.House.{Known}
 use Rattle.mux_outside.specs.HouseCalls.{HouseCall, calls_of}
 use Rattle.mux_outside.specs.Seen.{Seen}
