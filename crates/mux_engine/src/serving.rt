@@ -65,19 +65,21 @@ fn turn<W: Wire, H: House>(
     piece: &mut Piece,
 ) -> Result<Went, OutOfMemory>
     requires served { ServedWith H.stands house.old H.may
-        (RestsOf H.told H.quiet H.stands (H.known house.old).present)
+        (RestsOf H.told H.quiet H.must H.refused H.stands (H.known house.old).present)
         (noted (H.told house.old) (H.known house.old)) (W.seen wire.old) lists.old.held
         lists.old.failed [] engine.old }
     requires housed { Housed (H.known house.old) (W.seen wire.old) lists.old.own }
     requires alone { IsAlone (H.known house.old) }
     requires ready { IsReady (H.known house.old) (H.quiet house.old) (H.queue house.old)
         lists.old.held lists.old.failed lists.old.own engine.old }
+    requires permitted { refused_if (H.known house.old).present (H.must house.old)
+        (H.refused house.old) ≡ None }
     requires closed { engine.old.leaving ≡ [] }
     requires refused { engine.old.refused ≡ [] }
     requires on { engine.old.ended ≡ None }
     requires hears { (W.seen wire.old).listens ≡ engine.old.listening }
     ensures serving { RunsOn result H.stands house.old house.new H.may
-        (RestsOf H.told H.quiet H.stands (H.known house.old).present)
+        (RestsOf H.told H.quiet H.must H.refused H.stands (H.known house.old).present)
         (noted (H.told house.old) (H.known house.old))
         (noted (H.told house.new) (H.known house.new)) (W.seen wire.old) (W.seen wire.new)
         lists.old.held lists.new.held lists.old.failed lists.new.failed 1 (λ went. 1) []
@@ -135,6 +137,8 @@ fn is_over<H: House>(engine: &Engine, house: &H) -> bool
     ensures on { result ≡ false → engine.now.ended ≡ None }
     ensures over { result ≡ true → engine.now.ended ≡ None
         → refused_if (H.known house.now).present (H.must house.now) (H.refused house.now) ≢ None }
+    ensures permitted { result ≡ false
+        → refused_if (H.known house.now).present (H.must house.now) (H.refused house.now) ≡ None }
 {
     if engine.ended().is_some() {
         return true;
@@ -153,7 +157,7 @@ fn one_turn<W: Wire, H: House>(
     piece: &mut Piece,
 ) -> Result<bool, OutOfMemory>
     requires served { ServedWith H.stands house.old H.may
-        (RestsOf H.told H.quiet H.stands (H.known house.old).present)
+        (RestsOf H.told H.quiet H.must H.refused H.stands (H.known house.old).present)
         (noted (H.told house.old) (H.known house.old)) (W.seen wire.old) lists.old.held
         lists.old.failed (0 ∷ here engine.old) engine.old }
     requires housed { Housed (H.known house.old) (W.seen wire.old) lists.old.own }
@@ -162,16 +166,16 @@ fn one_turn<W: Wire, H: House>(
     ensures serving { (first : H) (calls : List TheCall) (before : Option (List TheHouseMark))
         (policy : ThePolicy) (pid : ℕ) (start : Option (List TheMark)) (given : ℕ) →
         HandsOn (H.stands first) (H.stands house.old) calls →
-        Serving H.may (RestsOf H.told H.quiet H.stands (H.known house.old).present first) before
+        Serving H.may (RestsOf H.told H.quiet H.must H.refused H.stands (H.known house.old).present first) before
         (noted (H.told house.old) (H.known house.old) calls) policy pid start (W.seen wire.old)
         lists.old.held lists.old.failed given (0 ∷ here engine.old) engine.old →
         MatchResult result
         (λ on. Handed (H.stands first) (H.stands house.new) (λ all. EndsTurn on given H.may
-        (RestsOf H.told H.quiet H.stands (H.known house.old).present first) before
+        (RestsOf H.told H.quiet H.must H.refused H.stands (H.known house.old).present first) before
         (noted (H.told house.new) (H.known house.new) all) policy pid start (W.seen wire.new)
         lists.new.held lists.new.failed (to_offer lists.new.settled engine.new) engine.new))
         (λ e. Promised H.may
-        (RestsOf H.told H.quiet H.stands (H.known house.old).present first) before
+        (RestsOf H.told H.quiet H.must H.refused H.stands (H.known house.old).present first) before
         (H.told house.new) policy pid start (W.seen wire.new).told (given + 1)) }
     ensures housed { OnOk result (Housed (H.known house.new) (W.seen wire.new) lists.new.own) }
     ensures alone { OnOk result (IsAlone (H.known house.new)) }
@@ -220,7 +224,7 @@ fn turns_of<W: Wire, H: House>(
     turns: u64,
 ) -> Result<bool, OutOfMemory>
     requires served { ServedWith H.stands house.old H.may
-        (RestsOf H.told H.quiet H.stands (H.known house.old).present)
+        (RestsOf H.told H.quiet H.must H.refused H.stands (H.known house.old).present)
         (noted (H.told house.old) (H.known house.old)) (W.seen wire.old) lists.old.held
         lists.old.failed (0 ∷ here engine.old) engine.old }
     requires housed { Housed (H.known house.old) (W.seen wire.old) lists.old.own }
@@ -231,17 +235,17 @@ fn turns_of<W: Wire, H: House>(
     ensures serving { (first : H) (calls : List TheCall) (before : Option (List TheHouseMark))
         (policy : ThePolicy) (pid : ℕ) (start : Option (List TheMark)) →
         HandsOn (H.stands first) (H.stands house.old) calls →
-        Serving H.may (RestsOf H.told H.quiet H.stands (H.known house.old).present first) before
+        Serving H.may (RestsOf H.told H.quiet H.must H.refused H.stands (H.known house.old).present first) before
         (noted (H.told house.old) (H.known house.old) calls) policy pid start (W.seen wire.old)
         lists.old.held lists.old.failed 0 (0 ∷ here engine.old) engine.old →
         MatchResult result
         (λ all. Handed (H.stands first) (H.stands house.new) (λ handed. Spends all turns H.may
-        (RestsOf H.told H.quiet H.stands (H.known house.old).present first) before
+        (RestsOf H.told H.quiet H.must H.refused H.stands (H.known house.old).present first) before
         (noted (H.told house.new) (H.known house.new) handed) policy pid start
         (W.seen wire.new) lists.new.held lists.new.failed (to_offer lists.new.settled engine.new)
         engine.new))
         (λ e. Promised H.may
-        (RestsOf H.told H.quiet H.stands (H.known house.old).present first) before
+        (RestsOf H.told H.quiet H.must H.refused H.stands (H.known house.old).present first) before
         (H.told house.new) policy pid start (W.seen wire.new).told turns) }
     ensures housed { OnOk result (Housed (H.known house.new) (W.seen wire.new) lists.new.own) }
     ensures held_is { OnOk result (lists.new.held ≡ (W.seen wire.new).blocked) }
@@ -299,16 +303,16 @@ fn enter<W: Wire, H: House>(
     ensures serving { (first : H) (calls : List TheCall) (before : Option (List TheHouseMark))
         (policy : ThePolicy) (pid : ℕ) (start : Option (List TheMark)) (held failed : List ℕ)
         (given : ℕ) → (v : Serving H.may
-        (RestsOf H.told H.quiet H.stands (H.known house.now).present first) before
+        (RestsOf H.told H.quiet H.must H.refused H.stands (H.known house.now).present first) before
         (outside (H.told house.now) (H.known house.now) calls) policy pid start (W.seen wire.old)
         held failed given (0 ∷ here engine.old) engine.old) → v.journal ≡ [] →
         MatchResult result
         (λ done. Serving H.may
-        (RestsOf H.told H.quiet H.stands (H.known house.now).present first) before
+        (RestsOf H.told H.quiet H.must H.refused H.stands (H.known house.now).present first) before
         (noted (H.told house.now) (H.known house.now) calls) policy pid start (W.seen wire.new) held
         failed given (0 ∷ here engine.new) engine.new × (engine.new.ended ≡ None))
         (λ e. Promised H.may
-        (RestsOf H.told H.quiet H.stands (H.known house.now).present first) before
+        (RestsOf H.told H.quiet H.must H.refused H.stands (H.known house.now).present first) before
         (H.told house.now) policy pid start (W.seen wire.new).told given) }
     ensures places { SamePlaces (W.seen wire.old) (W.seen wire.new) }
     ensures alone { (H.known house.now).present ≡ false → (engine.new ≡ engine.old)
@@ -333,14 +337,14 @@ fn last_replies<W: Wire, H: House>(
     all: bool,
 ) -> Result<(), OutOfMemory>
     requires served { ServedWith H.stands house.old H.may
-        (RestsOf H.told H.quiet H.stands (H.known house.old).present)
+        (RestsOf H.told H.quiet H.must H.refused H.stands (H.known house.old).present)
         (noted (H.told house.old) (H.known house.old)) (W.seen wire.old) lists.old.held
         lists.old.failed (0 ∷ here engine.old) engine.old }
     requires housed { Housed (H.known house.old) (W.seen wire.old) lists.old.own }
     requires held_is { lists.old.held ≡ (W.seen wire.old).blocked }
     requires on { all ≡ true → engine.old.ended ≡ None }
     ensures serving { RunsOn result H.stands house.old house.new H.may
-        (RestsOf H.told H.quiet H.stands (H.known house.old).present)
+        (RestsOf H.told H.quiet H.must H.refused H.stands (H.known house.old).present)
         (noted (H.told house.old) (H.known house.old))
         (noted (H.told house.new) (H.known house.new)) (W.seen wire.old) (W.seen wire.new)
         lists.old.held lists.new.held lists.old.failed lists.new.failed 0 (λ done. 0)
@@ -375,14 +379,14 @@ fn finish<W: Wire, H: House>(
     all: bool,
 ) -> Result<(), OutOfMemory>
     requires served { ServedWith H.stands house.old H.may
-        (RestsOf H.told H.quiet H.stands (H.known house.old).present)
+        (RestsOf H.told H.quiet H.must H.refused H.stands (H.known house.old).present)
         (noted (H.told house.old) (H.known house.old)) (W.seen wire.old) lists.old.held
         lists.old.failed (to_offer lists.old.settled engine.old) engine.old }
     requires housed { Housed (H.known house.old) (W.seen wire.old) lists.old.own }
     requires held_is { lists.old.held ≡ (W.seen wire.old).blocked }
     requires on { all ≡ true → engine.old.ended ≡ None }
     ensures serving { RunsOn result H.stands house.old house.new H.may
-        (RestsOf H.told H.quiet H.stands (H.known house.old).present)
+        (RestsOf H.told H.quiet H.must H.refused H.stands (H.known house.old).present)
         (noted (H.told house.old) (H.known house.old))
         (noted (H.told house.new) (H.known house.new)) (W.seen wire.old) (W.seen wire.new)
         lists.old.held lists.new.held lists.old.failed lists.new.failed 0 (λ done. 0)
@@ -422,7 +426,7 @@ fn run<W: Wire, H: House>(
     turns: u64,
 ) -> Result<Ended, OutOfMemory>
     requires running { (v : ServedWith H.stands house.old H.may
-        (RestsOf H.told H.quiet H.stands (H.known house.old).present)
+        (RestsOf H.told H.quiet H.must H.refused H.stands (H.known house.old).present)
         (outside (H.told house.old) (H.known house.old)) (W.seen wire.old) [] []
         (0 ∷ here engine.old) engine.old) × (v.serving.journal ≡ []) }
     requires housed { Housed (H.known house.old) (W.seen wire.old) [] }
@@ -433,11 +437,11 @@ fn run<W: Wire, H: House>(
     ensures ran { (before : Option (List TheHouseMark)) (policy : ThePolicy) (pid : ℕ)
         (start : Option (List TheMark)) →
         (v : Serving H.may
-        (RestsOf H.told H.quiet H.stands (H.known house.old).present house.old) before
+        (RestsOf H.told H.quiet H.must H.refused H.stands (H.known house.old).present house.old) before
         (outside (H.told house.old) (H.known house.old) []) policy pid start (W.seen wire.old) [] []
         0 (0 ∷ here engine.old) engine.old) → v.journal ≡ [] →
         IsRun H.may
-        (RestsOf H.told H.quiet H.stands (H.known house.old).present house.old).rests
+        (RestsOf H.told H.quiet H.must H.refused H.stands (H.known house.old).present house.old).rests
         (H.stands house.old) (H.stands house.new) (H.known house.old).present policy pid turns
         before (H.told house.new) start (W.seen wire.new).told
         (refused_if (H.known house.old).present (H.must house.new) (H.refused house.new))
@@ -494,7 +498,7 @@ pub fn serve<W: Wire, H: House>(
     requires listeners { (W.seen wire.old).listeners ≡ [] }
     requires blank { H.known house.old ≡ nothing_known (H.known house.old).present }
     ensures kept { IsRun H.may
-        (RestsOf H.told H.quiet H.stands (H.known house.old).present house.old).rests
+        (RestsOf H.told H.quiet H.must H.refused H.stands (H.known house.old).present house.old).rests
         (H.stands house.old) (H.stands house.new) (H.known house.old).present policy pid turns
         (H.told house.old) (H.told house.new) (W.seen wire.old).told (W.seen wire.new).told
         (refused_if (H.known house.old).present (H.must house.new) (H.refused house.new)) result }

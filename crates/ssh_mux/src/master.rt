@@ -57,7 +57,7 @@ pub fn share<W: Wire, F: Files, R: Runner, H: House>(
         (of_command (machine (F.told files.old) (R.told runner.old) facts.now)
         (commands.Master asked.now transport.now opens.now listens.now)) (so_far result))
         (Shares H.may
-        (RestsOf H.told H.quiet H.stands (H.known house.old).present house.old)
+        (RestsOf H.told H.quiet H.must H.refused H.stands (H.known house.old).present house.old)
         (H.stands house.old) (H.stands house.new) (the_policy_of opens.now listens.now)
         (pid_of facts.now.pid) turns (H.told house.old) (H.told house.new)
         (W.seen wire.old).told (W.seen wire.new).told
@@ -183,7 +183,7 @@ pub fn open_and_serve<W: Wire, H: House>(
         (W.openings wire.old) (W.openings wire.new) }
     ensures joinings { W.joinings wire.new ≡ W.joinings wire.old }
     ensures served { Shares H.may
-        (RestsOf H.told H.quiet H.stands (H.known house.old).present house.old)
+        (RestsOf H.told H.quiet H.must H.refused H.stands (H.known house.old).present house.old)
         (H.stands house.old) (H.stands house.new) policy pid turns (H.told house.old)
         (H.told house.new) (W.seen wire.old).told (W.seen wire.new).told
         (refused_if (H.known house.old).present (H.must house.new) (H.refused house.new)) result }

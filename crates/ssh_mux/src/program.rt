@@ -78,7 +78,7 @@ pub fn run<W: Wire, F: Files, R: Runner, S: Sink, H: House>(
         (known_of (F.told files.old) (R.told runner.old) facts.now words.now)
         result (W.joinings wire.old) (W.joinings wire.new) }
     ensures shared { ServesFor H.may
-        (RestsOf H.told H.quiet H.stands (H.known house.old).present house.old)
+        (RestsOf H.told H.quiet H.must H.refused H.stands (H.known house.old).present house.old)
         (H.stands house.old) (H.stands house.new)
         (known_of (F.told files.old) (R.told runner.old) facts.now words.now)
         (pid_of facts.now.pid) turns (H.told house.old) (H.told house.new)
@@ -171,7 +171,7 @@ fn obey<W: Wire, F: Files, R: Runner, S: Sink, H: House>(
         (known_of (F.told files.old) (R.told runner.old) facts.now words.now)
         (so_far result) (W.joinings wire.old) (W.joinings wire.new) }
     ensures shared { SharesFor H.may
-        (RestsOf H.told H.quiet H.stands (H.known house.old).present house.old)
+        (RestsOf H.told H.quiet H.must H.refused H.stands (H.known house.old).present house.old)
         (H.stands house.old) (H.stands house.new)
         (known_of (F.told files.old) (R.told runner.old) facts.now words.now)
         (pid_of facts.now.pid) turns (H.told house.old) (H.told house.new)
