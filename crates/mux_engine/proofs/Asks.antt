@@ -25,6 +25,7 @@ use Rattle.mux_history.specs.Rows.{Item, Row, Says, Gone, ServerFailed}
 use Rattle.mux_history.proofs.LawfulItems.{treat-item}
 use Rattle.mux_bounds.proofs.Entries.{EachItem, by-more, each-unless, lists, next, setting, with-reply}
 use Rattle.mux_clients.specs.Asked.{asked_by, asked_of, item_asks, known_after, reading_asks, saying_asks}
+use Rattle.mux_clients.specs.Starved.{BeginsWith}
 use Rattle.mux_machine.specs.State.{State}
 use Rattle.mux_machine.specs.Stands.{GoesBy, Stands, log}
 use Rattle.mux_engine.specs.Sides.{asks_in}
@@ -62,6 +63,10 @@ all-asks P (HouseOrder order number ∷ marks) each = absurd each.0
 each-append : (P : ℕ → Type 0) (a b : List HouseMark) → EachAsked P a → EachAsked P b → EachAsked P (a ++ b)
 each-append P [] b x y = y
 each-append P (mark ∷ a) b x y = (x.0, each-append P a b x.1 y)
+
+each-front : (P : ℕ → Type 0) (a b : List HouseMark) → EachAsked P (a ++ b) → EachAsked P a
+each-front P [] b x = tt
+each-front P (mark ∷ a) b x = (x.0, each-front P a b x.1)
 
 -- ---- the asks of rows
 
@@ -166,6 +171,12 @@ module _ (P : ℕ → Type 0) where
       let rs : List HouseReply = (replies ++ g.replies) ++ [] in
       let grown : Grows (log s ps rs marks) (log s ps rs (mark ∷ marks)) = grows-all s.core.policy s.pid ps rs (log s ps rs marks) (items_in marks mark) (mark-speaks marks mark p) in
       subst (EachAsked P) (append_cancel_left (asked_of (log s ps rs marks)) grown.more g.asks (sym grown.is ∙ (ap asked_of (sym (log-same s s' ps rs (mark ∷ marks) same_policy same_pid)) ∙ g.asked [] []))) grown.each
+
+-- the first of what the rows of a mark ask are asks
+pub begins-asked : (P : ℕ → Type 0) (s : State) (ps : List ℕ) (rs : List HouseReply) (mark : Mark) (marks : List Mark) (asks : List HouseMark) → SaidBy P mark → BeginsWith (asked_of (log s ps rs marks)) asks (asked_of (log s ps rs (mark ∷ marks))) → EachAsked P asks
+begins-asked P s ps rs mark marks asks p b =
+    let grown : Grows P (log s ps rs marks) (log s ps rs (mark ∷ marks)) = grows-all P s.core.policy s.pid ps rs (log s ps rs marks) (items_in marks mark) (mark-speaks P marks mark p) in
+    each-front P asks b.rest (subst (EachAsked P) (append_cancel_left (asked_of (log s ps rs marks)) grown.more (asks ++ b.rest) (sym grown.is ∙ b.all_is)) grown.each)
 
 -- whoever replies may, where nothing was asked
 pub goes-unasked : {May May' : HouseReply → Type 0} {told told' : Option (List HouseMark)} {picked : List ℕ} {replies : List HouseReply} {s s' : State} {mark : Mark} {marks : List Mark} {closed : List ℕ} (st : Stands picked replies s marks closed) (g : GoesBy May' told told' picked replies s s' mark marks closed)

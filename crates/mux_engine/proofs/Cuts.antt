@@ -12,17 +12,19 @@ use Rattle.mux_history.specs.Policy.{Policy}
 use Rattle.mux_history.specs.Rows.{Row}
 use Rattle.mux_history.specs.Log.{Setting}
 use Rattle.mux_history.specs.Settings.{by_lists}
-use Rattle.mux_history.specs.Journal.{is_accepted, log_of_journal}
+use Rattle.mux_history.specs.Journal.{is_accepted, items_in, log_of_journal}
 use Rattle.mux_history.specs.Promises.{is_asked, turns_in}
 use Rattle.mux_history.specs.Wires.{OfWire}
 use Rattle.mux_bounds.specs.Bounds.{IsLog}
-use Rattle.mux_clients.specs.Asked.{TellsAsks}
+use Rattle.mux_clients.specs.Asked.{TellsAsks, asked_of}
+use Rattle.mux_clients.specs.Starved.{BeginsWith}
+use Rattle.mux_clients.proofs.Starved.{all-begin}
 use Rattle.mux_machine.specs.State.{State}
 use Rattle.mux_machine.specs.Stands.{RowsFit}
 use Rattle.mux_outside.specs.HouseCalls.{HouseCall, calls_of}
 use Rattle.mux_outside.proofs.HouseCalls.{calls-append}
 use Rattle.mux_engine.specs.Called.{calls_in}
-use Rattle.mux_engine.specs.Run.{IsOfWire, RestedAt, is_by_house}
+use Rattle.mux_engine.specs.Run.{AsksOn, IsOfWire, RestedAt, is_by_house}
 use Rattle.mux_engine.specs.Serving.{IsLeft, Kept, Promised, Serving}
 use Rattle.mux_engine.specs.Sides.{Resting, Side, asks_in, house_mark, house_marks}
 use Rattle.mux_engine.proofs.Marks.{PromiseAt, kept-more, log-is, noted-more}
@@ -38,11 +40,29 @@ rows-left setting journal taken drawn s closed rows k l fit = record { kept = k;
 pub asks-left : (old more : List HouseMark) (asks : List HouseMark) → asks_in old ≡ asks → asks_in (old ++ more) ≡ asks ++ asks_in more
 asks-left old more asks e = filter-append is_asked old more ∙ ap (λ l. l ++ asks_in more) e
 
+-- what the rows so far ask
+pub now-asked : {May : HouseReply → Type 0} {Rest : Resting} {before : Option (List HouseMark)} {now : Side} {policy : Policy} {pid : ℕ} {start : Option (List Mark)} {seen : Seen} {held failed : List ℕ} {given : ℕ} {todo : List ℕ} {s : State} (v : Serving May Rest before now policy pid start seen held failed given todo s) (picks : List ℕ) (later : List HouseReply) → asked_of (log_of_journal (by_lists policy pid (v.picked ++ picks) (v.replies ++ later)) v.journal) ≡ v.stands.asks
+now-asked {May} {Rest} {before} {now} {policy} {pid} {start} {seen} {held} {failed} {given} {todo} {s} v picks later = ap asked_of (sym (log-is s policy pid (v.picked ++ picks) (v.replies ++ later) v.journal v.policy_is v.pid_is)) ∙ (v.stands.at picks later).rows.asked_is
+
+-- nothing more was asked: where the wire told no mark, and where it told one
+on-here : {May : HouseReply → Type 0} {Rest : Resting} {before : Option (List HouseMark)} {now : Side} {policy : Policy} {pid : ℕ} {start : Option (List Mark)} {seen : Seen} {held failed : List ℕ} {given : ℕ} {todo : List ℕ} {s : State} (v : Serving May Rest before now policy pid start seen held failed given todo s) → AsksOn May policy pid v.picked v.replies v.journal v.stands.asks []
+on-here v = record { more_picks = []; more_replies = []; may = tt; begins = record { rest = []; all_is = now-asked v [] [] ∙ sym (append-nil v.stands.asks) } }
+
+pub on-next : {May : HouseReply → Type 0} {Rest : Resting} {before : Option (List HouseMark)} {now : Side} {policy : Policy} {pid : ℕ} {start : Option (List Mark)} {seen : Seen} {held failed : List ℕ} {given : ℕ} {todo : List ℕ} {s : State} (v : Serving May Rest before now policy pid start seen held failed given todo s) (mark : Mark) → AsksOn May policy pid v.picked v.replies (mark ∷ v.journal) v.stands.asks []
+on-next {May} {Rest} {before} {now} {policy} {pid} {start} {seen} {held} {failed} {given} {todo} {s} v mark =
+    let set : Setting = by_lists policy pid (v.picked ++ []) (v.replies ++ []) in
+    record {
+      more_picks = [];
+      more_replies = [];
+      may = tt;
+      begins = subst (λ (l : List HouseMark). BeginsWith l [] (asked_of (log_of_journal set (mark ∷ v.journal)))) (now-asked v [] []) (all-begin set (log_of_journal set v.journal) (items_in v.journal mark));
+    }
+
 -- the rows before the mark are left, whatever the house told at the mark
 unfoldable pub cut-next : {May : HouseReply → Type 0} {Rest : Resting} {before : Option (List HouseMark)} {now : Side} {policy : Policy} {pid : ℕ} {start : Option (List Mark)} {seen : Seen} {held failed : List ℕ} {given : ℕ} {todo : List ℕ} {s : State} (v : Serving May Rest before now policy pid start seen held failed given todo s) (now' : Option (List HouseMark)) (told' : Option (List Mark)) (given' : ℕ) (mark : Mark) (more left : List HouseMark)
-    → told' ≡ option_map (λ m. m ++ mark ∷ []) seen.told → TellsAsks now.told now' more → house_mark mark ++ left ≡ now.unnoted ++ more → IsOfWire (mark ∷ v.journal) → turns_in (mark ∷ v.journal) ≤ given' → ((set : Setting) → RestedAt Rest.rests set before v.journal mark) → (Rest.present ≡ false → is_by_house mark ≡ false)
+    → told' ≡ option_map (λ m. m ++ mark ∷ []) seen.told → TellsAsks now.told now' more → house_mark mark ++ left ≡ now.unnoted ++ more → IsOfWire (mark ∷ v.journal) → turns_in (mark ∷ v.journal) ≤ given' → ((set : Setting) → RestedAt Rest.rests set before v.journal mark) → (Rest.present ≡ false → is_by_house mark ≡ false) → AsksOn May policy pid v.picked v.replies (mark ∷ v.journal) v.stands.asks (asks_in more)
     → ((set : Setting) → IsLog set (mark ∷ v.journal) (log_of_journal set v.journal)) → ((picks : List ℕ) (later : List HouseReply) → PromiseAt (by_lists policy pid (v.picked ++ picks) (v.replies ++ later)) v.journal mark) → Promised May Rest before now' policy pid start told' given'
-cut-next {May} {Rest} {before} {now} {policy} {pid} {start} {seen} {held} {failed} {given} {todo} {s} v now' told' given' mark more left e h is of le rested absent cut promise =
+cut-next {May} {Rest} {before} {now} {policy} {pid} {start} {seen} {held} {failed} {given} {todo} {s} v now' told' given' mark more left e h is of le rested absent on cut promise =
     let same : (house_marks v.journal ++ now.unnoted) ++ more ≡ (house_marks v.journal ++ house_mark mark) ++ left = noted-more (house_marks v.journal) (house_mark mark) left now.unnoted more is in
     record {
       journal = mark ∷ v.journal;
@@ -55,6 +75,7 @@ cut-next {May} {Rest} {before} {now} {policy} {pid} {start} {seen} {held} {faile
       each = v.stands.each;
       house = subst (TellsAsks before now') same (tells-then before now.told now' (house_marks v.journal ++ now.unnoted) more v.house h);
       asked = ap asks_in (sym same) ∙ asks-left (house_marks v.journal ++ now.unnoted) more v.stands.asks v.asked;
+      asks_on = on;
       rested = λ picks later. (rested (by_lists policy pid (v.picked ++ picks) (v.replies ++ later)), v.rested picks later);
       absent = λ e. All-cons (λ (m : Mark). is_by_house m ≡ false) mark v.journal (absent e) (v.absent e);
       tells = tells-more start seen.told told' v.journal (mark ∷ []) v.tells e;
@@ -69,18 +90,19 @@ cut-next {May} {Rest} {before} {now} {policy} {pid} {start} {seen} {held} {faile
 
 -- all rows are left where the wire told no mark
 unfoldable pub cut-here : {May : HouseReply → Type 0} {Rest : Resting} {before : Option (List HouseMark)} {now : Side} {policy : Policy} {pid : ℕ} {start : Option (List Mark)} {seen : Seen} {held failed : List ℕ} {given : ℕ} {todo : List ℕ} {s : State} (v : Serving May Rest before now policy pid start seen held failed given todo s) (now' : Option (List HouseMark)) (told' : Option (List Mark)) (given' : ℕ) (more : List HouseMark)
-    → told' ≡ seen.told → TellsAsks now.told now' more → given ≤ given' → Promised May Rest before now' policy pid start told' given'
-cut-here {May} {Rest} {before} {now} {policy} {pid} {start} {seen} {held} {failed} {given} {todo} {s} v now' told' given' more e h le = record {
+    → told' ≡ seen.told → TellsAsks now.told now' more → asks_in more ≡ [] → given ≤ given' → Promised May Rest before now' policy pid start told' given'
+cut-here {May} {Rest} {before} {now} {policy} {pid} {start} {seen} {held} {failed} {given} {todo} {s} v now' told' given' more e h none le = record {
   journal = v.journal;
   picked = v.picked;
   replies = v.replies;
   asks = v.stands.asks;
   more = now.unnoted ++ more;
-  more_asks = asks_in more;
+  more_asks = [];
   may = v.may;
   each = v.stands.each;
   house = subst (TellsAsks before now') (append_assoc (house_marks v.journal) now.unnoted more) (tells-then before now.told now' (house_marks v.journal ++ now.unnoted) more v.house h);
-  asked = ap asks_in (sym (append_assoc (house_marks v.journal) now.unnoted more)) ∙ asks-left (house_marks v.journal ++ now.unnoted) more v.stands.asks v.asked;
+  asked = ap asks_in (sym (append_assoc (house_marks v.journal) now.unnoted more)) ∙ (asks-left (house_marks v.journal ++ now.unnoted) more v.stands.asks v.asked ∙ ap (λ l. v.stands.asks ++ l) none);
+  asks_on = on-here v;
   rested = v.rested;
   absent = v.absent;
   tells = e ∙ v.tells;
@@ -95,7 +117,7 @@ cut-here {May} {Rest} {before} {now} {policy} {pid} {start} {seen} {held} {faile
 
 -- where the house told nothing meanwhile
 pub cut-still : {May : HouseReply → Type 0} {Rest : Resting} {before : Option (List HouseMark)} {now : Side} {policy : Policy} {pid : ℕ} {start : Option (List Mark)} {seen : Seen} {held failed : List ℕ} {given : ℕ} {todo : List ℕ} {s : State} (v : Serving May Rest before now policy pid start seen held failed given todo s) (told' : Option (List Mark)) → told' ≡ seen.told → Promised May Rest before now.told policy pid start told' given
-cut-still {now = now} {given = given} v told' e = cut-here v now.told told' given [] e (tells-none now.told) (omega arith)
+cut-still {now = now} {given = given} v told' e = cut-here v now.told told' given [] e (tells-none now.told) refl (omega arith)
 
 -- what the house tells is not noted yet
 pub serve-told : {May : HouseReply → Type 0} {Rest : Resting} {before : Option (List HouseMark)} {now : Side} {policy : Policy} {pid : ℕ} {start : Option (List Mark)} {seen : Seen} {held failed : List ℕ} {given : ℕ} {todo : List ℕ} {s : State} (v : Serving May Rest before now policy pid start seen held failed given todo s) (now' : Side) (more : List HouseMark) → TellsAsks now.told now'.told more → now'.unnoted ≡ now.unnoted ++ more → asks_in more ≡ [] → now'.asks ≡ now.asks → now'.let_in ≡ now.let_in → now'.calls ≡ now.calls ++ calls_of more → Serving May Rest before now' policy pid start seen held failed given todo s

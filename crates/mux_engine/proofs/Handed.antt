@@ -28,6 +28,7 @@ use Rattle.mux_outside.specs.declared.turn.Want.{Want}
 use Rattle.mux_history.specs.Policy.{Policy}
 use Rattle.mux_clients.specs.Asked.{TellsAsks, known_after}
 use Rattle.mux_machine.specs.State.{State}
+use Rattle.mux_machine.specs.Stands.{CutsShort}
 use Rattle.mux_machine.specs.Events.{MayEnd, here}
 use Rattle.mux_machine.specs.declared.event.Event.{Event}
 use Rattle.mux_engine.specs.Asking.{Heeded, HeedsSo}
@@ -132,7 +133,7 @@ module _ {May : HouseReply → Type 0} {Rest : Resting} {before : Option (List H
       (subst (λ (l : List HouseMark). Serving May Rest before (record { told = told'; asks = known'.asks; unnoted = l; let_in = now.let_in; calls = now.calls ++ calls_of asks }) policy pid start seen'' held failed given' (0 ∷ here s') s') (drop-all asks) goes)
   event-heeds (Err x) s' asks told told' known known' seen0 seen'' is same_told same_asks same_present (inl u) =
       subst (λ (y : Seen). Promised May Rest before told' policy pid start y.told given') (sym (u.seen_is ∙ is))
-      (event-cut v live e seen' given' at told' u.more (subst (λ (o : Option (List HouseMark)). TellsAsks o told' u.more) (sym same_told) u.told_is))
+      (event-cut v live e seen' given' at told' (λ mark t. subst (λ (o : Option (List HouseMark)). CutsShort May o told' s mark) (sym same_told) (u.cut mark t)))
   event-heeds (Err x) s' asks told told' known known' seen0 seen'' is same_told same_asks same_present (inr p) =
       let h' : HeedsSo May e s s' asks told told' known known' seen' seen'' p.0 = subst (λ (y : Seen). HeedsSo May e s s' asks told told' known known' y seen'' p.0) is p.1 in
       cut-still (event-goes v live e seen' given' at s' asks told told' known known' seen'' p.0 same_told same_asks h') seen''.told refl
@@ -215,7 +216,7 @@ module _ {May : HouseReply → Type 0} {Rest : Resting} {before : Option (List H
     -- there was no memory
     pub turn-starved : t ≡ turn.NoMemory → Promised May Rest before now.told policy pid start seen'.told (given + 1)
     turn-starved is = cut-here v now.told seen'.told (given + 1) []
-        (ap (λ (x : Seen). x.told) w.seen_is ∙ (ap (λ (x : Turn). (seen-then x bytes).told) is ∙ told-none seen.told)) (tells-none now.told) (omega arith)
+        (ap (λ (x : Seen). x.told) w.seen_is ∙ (ap (λ (x : Turn). (seen-then x bytes).told) is ∙ told-none seen.told)) (tells-none now.told) refl (omega arith)
 
 -- ---- the house's streams and listeners
 

@@ -29,7 +29,7 @@ use Rattle.mux_engine.specs.Serving.{IsSound, Promised, Serving}
 use Rattle.mux_engine.specs.Sides.{Resting, Side}
 use Rattle.mux_engine.proofs.Asks.{goes-asked, goes-unasked, none-asked, unasked-none}
 use Rattle.mux_engine.proofs.Called.{calls-none, calls-told}
-use Rattle.mux_engine.proofs.Cuts.{cut-next, of-streams}
+use Rattle.mux_engine.proofs.Cuts.{cut-next, of-streams, on-next}
 use Rattle.mux_engine.proofs.Happened.{placed-house-in, serve-event}
 use Rattle.mux_engine.proofs.Lists.{or-true, test-other, true-false}
 use Rattle.mux_engine.proofs.Marks.{Notes}
@@ -134,7 +134,7 @@ module _ {May : HouseReply → Type 0} {Rest : Resting} {before : Option (List H
   pub cut-let-in : v.journal ≡ [] → Rest.present ≡ true → Promised May Rest before now.told policy pid start (seen-with (HouseIn ∷ []) seen).told given
   cut-let-in first there = cut-next v now.told (seen-with (HouseIn ∷ []) seen).told given (House HouseIn) [] now.unnoted refl (tells-none now.told) (sym (append-nil now.unnoted))
       (of-streams seen.streams seen.blocked seen.last (House HouseIn ∷ v.journal) ((wire-keeps seen.streams seen.blocked seen.last seen.listeners seen.own seen.last_own v.journal).note HouseIn first refl v.of_wire))
-      (let w : turns_in v.journal ≡ given = v.turns in omega arith) (λ set. tt) (λ e. true-false (sym there ∙ e)) (λ set. inr (0, refl)) (λ picks later. record { takes = tt; waits = tt; speaks = tt; open_streams = tt })
+      (let w : turns_in v.journal ≡ given = v.turns in omega arith) (λ set. tt) (λ e. true-false (sym there ∙ e)) (on-next v (House HouseIn)) (λ set. inr (0, refl)) (λ picks later. record { takes = tt; waits = tt; speaks = tt; open_streams = tt })
 
   -- ---- it answers
 
@@ -156,4 +156,4 @@ module _ {May : HouseReply → Type 0} {Rest : Resting} {before : Option (List H
   cut-answers client id reply rest e within asked = let m : HouseMark = HouseAnswer client id reply in
       cut-next v now.told (seen-with (m ∷ []) seen).told given (House m) [] rest refl (tells-none now.told) (sym e ∙ sym (append-nil now.unnoted))
       (of-streams seen.streams seen.blocked seen.last (House m ∷ v.journal) ((wire-keeps seen.streams seen.blocked seen.last seen.listeners seen.own seen.last_own v.journal).note m asked refl v.of_wire))
-      (let w : turns_in v.journal ≡ given = v.turns in omega arith) (λ set. tt) (λ e. true-false (sym (v.house_there within) ∙ e)) (λ set. inr (0, refl)) (λ picks later. record { takes = tt; waits = tt; speaks = tt; open_streams = tt })
+      (let w : turns_in v.journal ≡ given = v.turns in omega arith) (λ set. tt) (λ e. true-false (sym (v.house_there within) ∙ e)) (on-next v (House m)) (λ set. inr (0, refl)) (λ picks later. record { takes = tt; waits = tt; speaks = tt; open_streams = tt })

@@ -34,7 +34,7 @@ use Rattle.mux_engine.specs.Run.{IsOfWire}
 use Rattle.mux_engine.specs.Serving.{IsSound, Promised, Serving, is_open}
 use Rattle.mux_engine.specs.Sides.{Resting, Side}
 use Rattle.mux_engine.proofs.Called.{calls-none, calls-other}
-use Rattle.mux_engine.proofs.Cuts.{cut-next, cut-still, of-streams}
+use Rattle.mux_engine.proofs.Cuts.{cut-next, cut-still, of-streams, on-next}
 use Rattle.mux_engine.proofs.Lists.{among-last, among-other-last, apart-or-left, not-own-stream, or-last, test-other, true-false, without-other}
 use Rattle.mux_engine.proofs.Logs.{blocked-other, failed-other, failed-pending, fails-failed, has-failed-other, holds-blocked, holds-failed, log-out, lost-out, settled-as, takes-failed, took-pending}
 use Rattle.mux_engine.proofs.Marks.{Next, log-is, sound-at, stood-at}
@@ -204,14 +204,14 @@ wrote-of-wire {seen = seen} v answer k bytes there are some fits =
 pub cut-holds : {May : HouseReply → Type 0} {Rest : Resting} {before : Option (List HouseMark)} {now : Side} {policy : Policy} {pid : ℕ} {start : Option (List Mark)} {seen : Seen} {held failed : List ℕ} {given : ℕ} {todo : List ℕ} {s : State} (v : Serving May Rest before now policy pid start seen held failed given todo s) (seen' : Seen) (k : ℕ) (bytes : List ℕ)
     → among k seen.streams ≡ true → AreBytes bytes → 0 < length bytes → seen' ≡ seen_after_write wrote.Later k bytes seen → Promised May Rest before now.told policy pid start seen'.told given
 cut-holds {now = now} {given = given} v seen' k bytes there are some e =
-    cut-next v now.told seen'.told given (Holds k) [] now.unnoted (ap (λ (x : Seen). x.told) e) (tells-none now.told) (sym (append-nil now.unnoted)) (wrote-of-wire v wrote.Later k bytes there are some tt) (let w : turns_in v.journal ≡ given = v.turns in omega arith) (λ set. tt) (λ e. refl)
+    cut-next v now.told seen'.told given (Holds k) [] now.unnoted (ap (λ (x : Seen). x.told) e) (tells-none now.told) (sym (append-nil now.unnoted)) (wrote-of-wire v wrote.Later k bytes there are some tt) (let w : turns_in v.journal ≡ given = v.turns in omega arith) (λ set. tt) (λ e. refl) (on-next v (Holds k))
     (λ set. inr (0, refl)) (λ picks later. record { takes = tt; waits = tt; speaks = tt; open_streams = tt })
 
 -- none for the event of a stream that failed
 pub cut-fails : {May : HouseReply → Type 0} {Rest : Resting} {before : Option (List HouseMark)} {now : Side} {policy : Policy} {pid : ℕ} {start : Option (List Mark)} {seen : Seen} {held failed : List ℕ} {given : ℕ} {todo : List ℕ} {s : State} (v : Serving May Rest before now policy pid start seen held failed given todo s) (seen' : Seen) (k : ℕ) (bytes : List ℕ)
     → among k seen.streams ≡ true → AreBytes bytes → 0 < length bytes → seen' ≡ seen_after_write wrote.Failed k bytes seen → Promised May Rest before now.told policy pid start seen'.told given
 cut-fails {now = now} {given = given} v seen' k bytes there are some e =
-    cut-next v now.told seen'.told given (WriteFails k) [] now.unnoted (ap (λ (x : Seen). x.told) e) (tells-none now.told) (sym (append-nil now.unnoted)) (wrote-of-wire v wrote.Failed k bytes there are some tt) (let w : turns_in v.journal ≡ given = v.turns in omega arith) (λ set. tt) (λ e. refl)
+    cut-next v now.told seen'.told given (WriteFails k) [] now.unnoted (ap (λ (x : Seen). x.told) e) (tells-none now.told) (sym (append-nil now.unnoted)) (wrote-of-wire v wrote.Failed k bytes there are some tt) (let w : turns_in v.journal ≡ given = v.turns in omega arith) (λ set. tt) (λ e. refl) (on-next v (WriteFails k))
     (λ set. inr (0, refl)) (λ picks later. record { takes = tt; waits = tt; speaks = tt; open_streams = tt })
 
 -- none for the write

@@ -196,6 +196,16 @@ module _ {May : HouseReply → Type 0} {Rest : Resting} {before : Option (List H
   order-done inside (Finish k) (Some n) told' made own noted e = absurd (let z : Some n ≡ None = made in cc)
   order-done inside (Close k) (Some n) told' made own noted e = absurd (let z : Some n ≡ None = made in cc)
 
+  -- an order is no ask
+  no-asks : (order : Order) (number : Option ℕ) → asks_in (more_told order number) ≡ []
+  no-asks (Listen host port) number = refl
+  no-asks (Connect host port) number = refl
+  no-asks (Unlisten l) number = refl
+  no-asks (Pause t) number = refl
+  no-asks (Resume t) number = refl
+  no-asks (Finish t) number = refl
+  no-asks (Close t) number = refl
+
   -- whether or not there is memory to note it
   pub order-noted : {E : Type 0} (r : Result (Unit {0}) E) (order : Order) (number : Option ℕ) (side : Side) (seen0 seen' : Seen) (held' failed' : List ℕ) → now.let_in ≡ true → MadeBy order number seen → OwnedBy order → now.unnoted ≡ order_marks (Some order)
       → side.told ≡ option_map (λ l. l ++ more_told order number) now.told → side.asks ≡ now.asks → side.unnoted ≡ [] → side.let_in ≡ now.let_in → side.calls ≡ now.calls ++ calls_of (more_told order number) → seen0 ≡ seen_carried order number seen → seen0.told ≡ seen.told → seen' ≡ seen_after_note r (HouseOrder order number) seen0 → held' ≡ held_carried order number held → failed' ≡ failed_carried order failed
@@ -211,7 +221,7 @@ module _ {May : HouseReply → Type 0} {Rest : Resting} {before : Option (List H
       (subst (λ (l : List ℕ). Serving May Rest before side policy pid start seen' (held_carried order number held) l (given + 1) todo s) (sym failed_is)
       (subst (λ (x : Seen). Serving May Rest before side policy pid start x (held_carried order number held) (failed_carried order failed) (given + 1) todo s) (sym (after ∙ ap (λ (x : Seen). seen-noted (HouseOrder order number) x) carried)) at))
   order-noted (Err e) order number side seen0 seen' held' failed' inside made own noted told asks unnoted within called carried same after held_is failed_is =
-      cut-here v side.told seen'.told (given + 1) (more_told order number) (ap (λ (x : Seen). x.told) after ∙ same) told (omega arith)
+      cut-here v side.told seen'.told (given + 1) (more_told order number) (ap (λ (x : Seen). x.told) after ∙ same) told (no-asks order number) (omega arith)
 
 -- ---- what is known of the house then
 

@@ -31,9 +31,10 @@ use Rattle.mux_machine.specs.State.{State, numbers}
 use Rattle.mux_machine.specs.Events.{here}
 use Rattle.mux_machine.specs.Stands.{Stands, StandsFor, log}
 use Rattle.mux_engine.specs.Called.{calls_in}
-use Rattle.mux_engine.specs.Run.{EndsRight, IsOfWire, IsRun, Rested, is_by_house}
+use Rattle.mux_engine.specs.Run.{AsksOn, EndsRight, IsOfWire, IsRun, Rested, is_by_house}
 use Rattle.mux_engine.specs.Serving.{IsFree, IsSound, Kept, Promised, Serving}
 use Rattle.mux_engine.specs.Sides.{Resting, Side, asks_in, house_marks}
+use Rattle.mux_engine.proofs.Cuts.{on-here}
 use Rattle.mux_engine.proofs.Keeps.{keeps-rows, rests-short}
 use Rattle.mux_engine.proofs.Lists.{not-own-stream, test-other, true-false}
 use Rattle.mux_engine.proofs.Marks.{log-is}
@@ -51,6 +52,13 @@ nothing-pending t = by_server (t == 0)
 
 -- ---- the end
 
+-- the same asks of choices and rows that are the same
+on-again : {May : HouseReply → Type 0} {policy : Policy} {pid : ℕ} {picks picks' : List ℕ} {replies replies' : List HouseReply} {journal : List Mark} {asks asks' more : List HouseMark} → picks ≡ picks' → replies ≡ replies' → asks ≡ asks' → AsksOn May policy pid picks replies journal asks more → AsksOn May policy pid picks' replies' journal asks' more
+on-again {May} {policy} {pid} {picks} {picks'} {replies} {replies'} {journal} {asks} {asks'} {more} e f g h =
+    subst (λ (l : List ℕ). AsksOn May policy pid l replies' journal asks' more) e
+    (subst (λ (l : List HouseReply). AsksOn May policy pid picks l journal asks' more) f
+    (subst (λ (l : List HouseMark). AsksOn May policy pid picks replies journal l more) g h))
+
 -- all of a run whose rows are known
 run-of : (May : HouseReply → Type 0) (Rest : Want → Option (List HouseMark) → List HouseCall → Type 0) (stands stands' : List HouseCall → Type 0) (present : Bool) (before now : Option (List HouseMark)) (policy : Policy) (pid turns : ℕ) (start told : Option (List Mark)) (refused : Option ℕ) (journal : List Mark) (picks : List ℕ) (replies : List HouseReply) (answer : Ended)
     → IsOfWire journal → MayGive May replies → Tells start told journal → turns_in journal ≤ turns
@@ -58,14 +66,14 @@ run-of : (May : HouseReply → Type 0) (Rest : Want → Option (List HouseMark) 
     → Kept (by_lists policy pid picks replies) journal
     → IsLog (by_lists policy pid picks replies) journal rows
     → AreFresh rows → numbers_taken rows ≡ length picks → replies_given rows ≡ length replies
-    → (more more_asks : List HouseMark) → TellsAsks before now (house_marks journal ++ more) → asks_in (house_marks journal ++ more) ≡ asked_of rows ++ more_asks → Rested Rest (by_lists policy pid picks replies) before journal → (present ≡ false → All (λ (mark : Mark). is_by_house mark ≡ false) journal)
+    → (more more_asks : List HouseMark) → TellsAsks before now (house_marks journal ++ more) → asks_in (house_marks journal ++ more) ≡ asked_of rows ++ more_asks → AsksOn May policy pid picks replies journal (asked_of rows) more_asks → Rested Rest (by_lists policy pid picks replies) before journal → (present ≡ false → All (λ (mark : Mark). is_by_house mark ≡ false) journal)
     → (answer ≢ ended.OutOfMemory → rows ≡ log_of_journal (by_lists policy pid picks replies) journal)
     → (answer ≢ ended.OutOfMemory → TellsAsks before now (house_marks journal))
     → (answer ≢ ended.OutOfMemory → asks_in (house_marks journal) ≡ asked_of rows)
     → (answer ≢ ended.OutOfMemory → HandsOn stands stands' (calls_in (by_lists policy pid picks replies) journal))
     → (answer ≢ ended.OutOfMemory → EndsRight (by_lists policy pid picks replies) turns journal refused answer)
     → IsRun May Rest stands stands' present policy pid turns before now start told refused answer
-run-of May Rest stands stands' present before now policy pid turns start told refused journal picks replies answer wire may tells given rows kept is fresh numbers answers more more_asks house asked rested absent whole house_whole asks_whole handed ends = record {
+run-of May Rest stands stands' present before now policy pid turns start told refused journal picks replies answer wire may tells given rows kept is fresh numbers answers more more_asks house asked asks_on rested absent whole house_whole asks_whole handed ends = record {
   journal = journal;
   picks = picks;
   replies = replies;
@@ -88,6 +96,7 @@ run-of May Rest stands stands' present before now policy pid turns start told re
   more_asks = more_asks;
   house = house;
   asked = asked;
+  asks_on = asks_on;
   house_whole = house_whole;
   asks_whole = asks_whole;
   handed = handed;
@@ -119,7 +128,7 @@ module _ (May : HouseReply → Type 0) (Rest : Resting) (stands stands' : List H
       (subst AreFresh same fits.fresh)
       (ap numbers_taken (sym same) ∙ (fits.taken_is ∙ ap length (sym (append-nil v.picked))))
       (ap replies_given (sym same) ∙ (fits.drawn_is ∙ (v.stands.each ∙ ap length (sym (append-nil v.replies)))))
-      now.unnoted [] v.house (v.asked ∙ (sym asked ∙ sym (append-nil (asked_of rows)))) (v.rested [] []) v.absent
+      now.unnoted [] v.house (v.asked ∙ (sym asked ∙ sym (append-nil (asked_of rows)))) (on-again (sym (append-nil v.picked)) (sym (append-nil v.replies)) (sym asked) (on-here v)) (v.rested [] []) v.absent
       (λ ne. refl)
       (λ ne. subst (TellsAsks before now.told) all v.house)
       (λ ne. ap asks_in (sym all) ∙ (v.asked ∙ sym asked))
@@ -139,7 +148,7 @@ module _ (May : HouseReply → Type 0) (Rest : Resting) (stands stands' : List H
       p.tells p.turns left.rows left.kept left.is_log left.fresh
       (left.taken_is ∙ ap length (sym (append-nil p.picked)))
       (left.given_is ∙ (p.each ∙ ap length (sym (append-nil p.replies))))
-      p.more p.more_asks p.house (p.asked ∙ ap (λ l. l ++ p.more_asks) (sym left.asked_is)) (p.rested [] []) p.absent
+      p.more p.more_asks p.house (p.asked ∙ ap (λ l. l ++ p.more_asks) (sym left.asked_is)) (on-again (sym (append-nil p.picked)) (sym (append-nil p.replies)) (sym left.asked_is) p.asks_on) (p.rested [] []) p.absent
       (λ ne. absurd (ne refl))
       (λ ne. absurd (ne refl))
       (λ ne. absurd (ne refl))
@@ -159,6 +168,7 @@ promised-more given more le p = record {
   each = p.each;
   house = p.house;
   asked = p.asked;
+  asks_on = p.asks_on;
   rested = p.rested;
   absent = p.absent;
   tells = p.tells;
@@ -185,6 +195,7 @@ starts-starved May Rest house policy pid told given = record {
   each = refl;
   house = tells-none house;
   asked = refl;
+  asks_on = record { more_picks = []; more_replies = []; may = tt; begins = record { rest = []; all_is = refl } };
   rested = λ picks later. tt;
   absent = λ e. All-nil (λ (mark : Mark). is_by_house mark ≡ false);
   tells = sym (told-none told);

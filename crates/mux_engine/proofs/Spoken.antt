@@ -94,7 +94,7 @@ module _ {May : HouseReply → Type 0} {Rest : Resting} {before : Option (List H
 
   -- there was no memory to note it
   pub cut-said : (now : Option (List Mark)) → now ≡ seen.told → Promised May Rest before told' policy pid start now (given + 1)
-  cut-said now e = cut-here v told' now (given + 1) (HouseSaid bytes ∷ []) e tells (omega arith)
+  cut-said now e = cut-here v told' now (given + 1) (HouseSaid bytes ∷ []) e tells refl (omega arith)
 
   module _ (e : Event) (is : Tells e (Gets HOUSE bytes)) (some : 0 < length bytes) (few : length bytes ≤ 65536) (are : AreBytes bytes) where
     said-at : EventAt saying live e (seen-with (HouseSaid bytes ∷ []) seen) (given + 1)

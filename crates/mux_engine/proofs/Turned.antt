@@ -12,6 +12,7 @@ use Rattle.mux_outside.specs.declared.mark.Mark.{Mark}
 use Rattle.mux_outside.specs.declared.mark.Mark.TheVariants.{Accepts}
 use Rattle.mux_history.specs.declared.limits.TheConstants.{HOUSE}
 use Rattle.mux_history.specs.Log.{Setting}
+use Rattle.mux_history.specs.Rows.{Row}
 use Rattle.mux_history.specs.Settings.{by_lists}
 use Rattle.mux_history.specs.Policy.{Policy}
 use Rattle.mux_history.specs.Journal.{is_accepted, log_of_journal}
@@ -19,25 +20,26 @@ use Rattle.mux_history.specs.Promises.{SpeaksInTime, turns_in}
 use Rattle.mux_history.specs.Wires.{OfWire}
 use Rattle.mux_bounds.specs.Bounds.{IsLog}
 use Rattle.mux_clients.specs.Asked.{TellsAsks, asked_of, known_after}
+use Rattle.mux_clients.specs.Starved.{BeginsWith}
 use Rattle.mux_machine.specs.State.{State, numbers}
 use Rattle.mux_machine.specs.declared.event.Event.{Event}
 use Rattle.mux_machine.specs.declared.event.Event.TheVariants.{Accepted, FromClient, ClientEnd, ClientFailed, HouseSays, FromServer, ServerEnd, ServerFailed}
 use Rattle.mux_machine.specs.Events.{Arrives, EndsBy, MayEnd, SameStreams, Tells, here}
-use Rattle.mux_machine.specs.Stands.{GoesBy, IsAllowed}
+use Rattle.mux_machine.specs.Stands.{AsksFirst, CutsShort, GoesBy, IsAllowed, log}
 use Rattle.mux_machine.specs.Twins.{AreAlike}
 use Rattle.mux_machine.proofs.Twins.{stands-alike}
 use Rattle.mux_engine.specs.Asking.{HeedsSo}
 use Rattle.mux_engine.specs.Called.{calls_at}
-use Rattle.mux_engine.specs.Run.{RestedAt, is_by_house}
+use Rattle.mux_engine.specs.Run.{AsksOn, RestedAt, is_by_house}
 use Rattle.mux_engine.specs.Serving.{IsUnseen, Promised, Serving}
-use Rattle.mux_engine.specs.Sides.{Resting, Side, house_mark}
+use Rattle.mux_engine.specs.Sides.{Resting, Side, asks_in, house_mark}
 use Rattle.mux_engine.specs.Turns.{IsEventOf, want_of}
-use Rattle.mux_engine.proofs.Asks.{EachAsked, SaidBy, all-asks, asked-accepted, goes-asked}
+use Rattle.mux_engine.proofs.Asks.{EachAsked, SaidBy, all-asks, asked-accepted, begins-asked, goes-asked}
 use Rattle.mux_engine.proofs.Called.{CallsOn, calls-told}
-use Rattle.mux_engine.proofs.Cuts.{cut-next, of-streams}
+use Rattle.mux_engine.proofs.Cuts.{cut-next, now-asked, of-streams}
 use Rattle.mux_engine.proofs.Happened.{serve-event}
 use Rattle.mux_engine.proofs.Logs.{accepted-more}
-use Rattle.mux_engine.proofs.Marks.{Placed}
+use Rattle.mux_engine.proofs.Marks.{Placed, log-is}
 use Rattle.mux_engine.proofs.Noted.{note-some, seen-with}
 use Rattle.mux_engine.proofs.Outs.{Spares}
 use Rattle.mux_engine.proofs.Turns.{IsTold, told-promise}
@@ -148,7 +150,29 @@ module _ {May : HouseReply → Type 0} {Rest : Resting} {before : Option (List H
   event-ends e seen' given' at s' ends = ends at.twin at.tells v.picked v.replies v.journal v.closed v.stands at.allowed live
 
   -- there was no memory for it
-  pub event-cut : (e : Event) (seen' : Seen) (given' : ℕ) (at : EventAt e seen' given') (told' : Option (List HouseMark)) (more : List HouseMark) → TellsAsks now.told told' more → Promised May Rest before told' policy pid start seen'.told given'
-  event-cut e seen' given' at told' more told =
-      cut-next v told' seen'.told given' at.mark more more at.marks told (ap (λ l. l ++ more) at.plain) (of-streams seen'.streams seen'.blocked seen'.last (at.mark ∷ v.journal) at.of_wire)
-      (let w : turns_in (at.mark ∷ v.journal) ≡ given' = at.turns in omega arith) at.rested at.absent at.cut (λ picks later. told-promise _ at.mark v.journal at.is (at.speaks picks later))
+  -- what it was asked by then comes first of what the mark asks
+  cut-asks : (e : Event) (seen' : Seen) (given' : ℕ) (at : EventAt e seen' given') (told' : Option (List HouseMark)) (a : AsksFirst May now.told told' v.picked v.replies s at.twin v.journal) → AsksOn May policy pid v.picked v.replies (at.mark ∷ v.journal) v.stands.asks (asks_in a.asks)
+  cut-asks e seen' given' at told' a =
+      let ps : List ℕ = v.picked ++ a.picks in
+      let rs : List HouseReply = v.replies ++ a.replies in
+      let set : Setting = by_lists policy pid ps rs in
+      let first : BeginsWith (asked_of (log s ps rs v.journal)) a.asks (asked_of (log s ps rs (at.twin ∷ v.journal))) =
+      subst (λ (p : List ℕ). BeginsWith (asked_of (log s p rs v.journal)) a.asks (asked_of (log s p rs (at.twin ∷ v.journal)))) (append-nil ps)
+      (subst (λ (r : List HouseReply). BeginsWith (asked_of (log s (ps ++ []) r v.journal)) a.asks (asked_of (log s (ps ++ []) r (at.twin ∷ v.journal)))) (append-nil rs) (a.begins [] [])) in
+      let same : asked_of (log s ps rs (at.twin ∷ v.journal)) ≡ asked_of (log s ps rs (at.mark ∷ v.journal)) = ap asked_of (at.alike.log (by_lists s.core.policy s.pid ps rs)) in
+      let here : BeginsWith (asked_of (log s ps rs v.journal)) a.asks (asked_of (log s ps rs (at.mark ∷ v.journal))) = subst (BeginsWith (asked_of (log s ps rs v.journal)) a.asks) same first in
+      let all : asks_in a.asks ≡ a.asks = all-asks (λ k. is_accepted k (at.mark ∷ v.journal) ≡ true) a.asks (begins-asked (λ k. is_accepted k (at.mark ∷ v.journal) ≡ true) s ps rs at.mark v.journal a.asks at.said here) in
+      record {
+        more_picks = a.picks;
+        more_replies = a.replies;
+        may = a.may;
+        begins = subst (λ (l : List HouseMark). BeginsWith v.stands.asks l (asked_of (log_of_journal set (at.mark ∷ v.journal)))) (sym all)
+            (subst (λ (l : List Row). BeginsWith v.stands.asks a.asks (asked_of l)) (log-is s policy pid ps rs (at.mark ∷ v.journal) v.policy_is v.pid_is)
+            (subst (λ (l : List HouseMark). BeginsWith l a.asks (asked_of (log s ps rs (at.mark ∷ v.journal)))) (ap asked_of (log-is s policy pid ps rs v.journal v.policy_is v.pid_is) ∙ now-asked v a.picks a.replies) here));
+      }
+
+  pub event-cut : (e : Event) (seen' : Seen) (given' : ℕ) (at : EventAt e seen' given') (told' : Option (List HouseMark)) → ((mark : Mark) → Tells e mark → CutsShort May now.told told' s mark) → Promised May Rest before told' policy pid start seen'.told given'
+  event-cut e seen' given' at told' cut =
+      let a : AsksFirst May now.told told' v.picked v.replies s at.twin v.journal = cut at.twin at.tells v.picked v.replies v.journal v.closed v.stands at.allowed in
+      cut-next v told' seen'.told given' at.mark a.asks a.asks at.marks a.told (ap (λ l. l ++ a.asks) at.plain) (of-streams seen'.streams seen'.blocked seen'.last (at.mark ∷ v.journal) at.of_wire)
+      (let w : turns_in (at.mark ∷ v.journal) ≡ given' = at.turns in omega arith) at.rested at.absent (cut-asks e seen' given' at told' a) at.cut (λ picks later. told-promise _ at.mark v.journal at.is (at.speaks picks later))

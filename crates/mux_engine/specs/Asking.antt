@@ -10,7 +10,7 @@ use Rattle.mux_outside.specs.declared.mark.Mark.TheVariants.{House}
 use Rattle.mux_clients.specs.Asked.{known_after, TellsAsks}
 use Rattle.mux_machine.specs.declared.event.Event.{Event}
 use Rattle.mux_machine.specs.Events.{EndsBy, Keeps, Tells}
-use Rattle.mux_machine.specs.Stands.{GoesOn}
+use Rattle.mux_machine.specs.Stands.{CutsShort, GoesOn}
 use Rattle.mux_machine.specs.State.{State}
 
 -- the engine took in the event, the house was asked this, and so many asks were noted
@@ -26,10 +26,10 @@ pub record HeedsSo (May : HouseReply → Type 0) (e : Event) (s s' : State) (ask
     told = option_map (λ (m : List Mark). m ++ map (λ (a : HouseMark). House a) (take n asks)) seen.told;
   }
 
--- there was no memory for the event, and the house told perhaps some asks
-pub record Unheeded (told told' : Option (List HouseMark)) (seen seen' : Seen) : Type 0 where
-  pub more : List HouseMark
-  pub told_is : TellsAsks told told' more
+-- there was no memory for the event, and the house told perhaps the first of its asks
+pub record Unheeded (May : HouseReply → Type 0) (e : Event) (s : State)
+    (told told' : Option (List HouseMark)) (seen seen' : Seen) : Type 0 where
+  pub cut : (mark : Mark) → Tells e mark → CutsShort May told told' s mark
   pub seen_is : seen' ≡ seen
 
 -- all asks were noted; or there was no memory for the event, or to note all of them
@@ -39,5 +39,5 @@ abbrev pub Heeded : {A E : Type 0} → Result A E → (HouseReply → Type 0) �
 Heeded (Ok x) May e s s' asks told told' known known' seen seen' =
     HeedsSo May e s s' asks told told' known known' seen seen' (length asks)
 Heeded (Err x) May e s s' asks told told' known known' seen seen' =
-    Unheeded told told' seen seen'
+    Unheeded May e s told told' seen seen'
     ⊎ ((n : ℕ) × HeedsSo May e s s' asks told told' known known' seen seen' n)

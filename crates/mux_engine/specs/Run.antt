@@ -27,6 +27,7 @@ use Rattle.mux_isolation.specs.Laws.{WaitsBounded}
 use Rattle.mux_bounds.specs.Bounds.{IsLog, RestsShort, StaysBelow}
 use Rattle.mux_bounds.specs.Few.{ChannelsBounded, ForwardingsBounded, LeavesNothing, MattersBounded, RequestsBounded, UnansweredBounded}
 use Rattle.mux_clients.specs.Asked.{asked_of, TellsAsks}
+use Rattle.mux_clients.specs.Starved.{BeginsWith}
 use Rattle.mux_engine.specs.Called.{calls_in}
 use Rattle.mux_engine.specs.Sides.{asks_in, house_marks}
 
@@ -86,16 +87,27 @@ pub record KeepsRows (setting : Setting) (rows : List Row) : Type 0 where
   pub client_queues : AtEach WaitsBounded rows
   pub server_queue : AtEach StaysBelow rows
 
+-- these are the first of what the journal asks behind those, by choices that go on with some more
+-- numbers and some more replies, which the house may give
+pub record AsksOn (May : HouseReply → Type 0) (policy : Policy) (pid : ℕ) (picks : List ℕ)
+    (replies : List HouseReply) (journal : List Mark) (asked more : List HouseMark) : Type 0 where
+  pub more_picks : List ℕ
+  pub more_replies : List HouseReply
+  pub may : MayGive May more_replies
+  pub begins : BeginsWith asked more
+      (asked_of (log_of_journal
+      (by_lists policy pid (picks ++ more_picks) (replies ++ more_replies)) journal))
+
 -- The journal is what the wire told in this run, where it tells, with the house's marks: one that a
 -- wire can give. There are numbers that were picked, and replies that the house may give at once, for
 -- which all is written and kept open as it must be. The rows are those of the whole journal; want of
 -- memory may have cut those of its last event. Each number is fresh at its row, and there is one for
 -- each row that takes one, and one reply for each row that asks; the house, which told `before` and
 -- tells `now`, told what the journal has of it, where its asks are those of these rows, and where
--- memory was wanting perhaps some more; where none is present, the journal has nothing of a house but
--- the asks of clients. These rows, and all others that want of memory may have left, keep what is
--- promised of rows; and but for want of memory the run ends right, where `refused` is the forwarding
--- of the start that was refused, if none may be.
+-- memory was wanting perhaps the first of those that the whole journal has behind them; where none
+-- is present, the journal has nothing of a house but the asks of clients. These rows, and all others
+-- that want of memory may have left, keep what is promised of rows; and but for want of memory the
+-- run ends right, where `refused` is the forwarding of the start that was refused, if none may be.
 -- But for want of memory the house was handed on all that the journal has for it, once and in the
 -- order of the journal.
 pub record IsRun (May : HouseReply → Type 0)
@@ -127,6 +139,7 @@ pub record IsRun (May : HouseReply → Type 0)
   pub more_asks : List HouseMark
   pub house : TellsAsks before now (house_marks journal ++ more)
   pub asked : asks_in (house_marks journal ++ more) ≡ asked_of rows ++ more_asks
+  pub asks_on : AsksOn May policy pid picks replies journal (asked_of rows) more_asks
   pub house_whole : answer ≢ OutOfMemory → TellsAsks before now (house_marks journal)
   pub asks_whole : answer ≢ OutOfMemory → asks_in (house_marks journal) ≡ asked_of rows
   pub handed : answer ≢ OutOfMemory

@@ -28,7 +28,7 @@ use Rattle.mux_machine.specs.State.{State, is_here}
 use Rattle.mux_machine.specs.Events.{here}
 use Rattle.mux_machine.specs.Stands.{Stands}
 use Rattle.mux_engine.specs.Called.{Handed, calls_in}
-use Rattle.mux_engine.specs.Run.{IsOfWire, Rested, is_by_house}
+use Rattle.mux_engine.specs.Run.{AsksOn, IsOfWire, Rested, is_by_house}
 use Rattle.mux_engine.specs.Sides.{Resting, Side, asks_in, house_marks}
 
 -- a stream that is open: the server's, and that of a client that is here
@@ -161,7 +161,7 @@ pub record IsLeft (setting : Setting) (journal : List Mark) (taken : ℕ) (asks 
   pub given_is : replies_given rows ≡ length asks
   pub asked_is : asked_of rows ≡ asks
 
--- what is left of it for want of memory: the house may have told some more
+-- what is left of it for want of memory: the house may have told the first of the asks that follow
 pub record Promised (May : HouseReply → Type 0) (Rest : Resting)
     (before now : Option (List HouseMark)) (policy : Policy) (pid : ℕ)
     (start told : Option (List Mark)) (given : ℕ) : Type 0 where
@@ -175,6 +175,7 @@ pub record Promised (May : HouseReply → Type 0) (Rest : Resting)
   pub each : length asks ≡ length replies
   pub house : TellsAsks before now (house_marks journal ++ more)
   pub asked : asks_in (house_marks journal ++ more) ≡ asks ++ more_asks
+  pub asks_on : AsksOn May policy pid picked replies journal asks more_asks
   pub rested : (picks : List ℕ) (given_later : List HouseReply)
       → Rested Rest.rests (by_lists policy pid (picked ++ picks) (replies ++ given_later)) before
       journal

@@ -20,11 +20,11 @@ returns-then-is_empty-clause-serving g c held failed first calls before policy p
 
 pub returns-in_err-takes-clause-serving : goal.returns-in_err-takes-clause-serving
 returns-in_err-takes-clause-serving g c held failed first calls before policy pid start given hands v = on-err c.from_residual.result _ _ c.from_residual.ensures.0
-    (cut-here v _ _ _ [] refl c.in_err-takes.ensures.told (omega arith))
+    (cut-here v _ _ _ [] refl c.in_err-takes.ensures.told refl (omega arith))
 
 pub returns-in_err-note-clause-serving : goal.returns-in_err-note-clause-serving
 returns-in_err-note-clause-serving g c held failed first calls before policy pid start given hands v = on-err c.from_residual-in_err-note.result _ _ c.from_residual-in_err-note.ensures.0
-    (cut-here v _ _ _ (HouseTook (length c.queue_of-bytes.result.now) ∷ []) (ap (λ (x : Seen). x.told) c.in_err-note.ensures.seen) c.in_ok-takes.ensures.told (omega arith))
+    (cut-here v _ _ _ (HouseTook (length c.queue_of-bytes.result.now) ∷ []) (ap (λ (x : Seen). x.told) c.in_err-note.ensures.seen) c.in_ok-takes.ensures.told refl (omega arith))
 
 pub took-requires : goal.took-requires
 took-requires g c = subst (λ (b : List ℕ). length c.queue_of-bytes.result.now ≤ length b) c.queue_of-bytes.ensures.exact (le_refl _)

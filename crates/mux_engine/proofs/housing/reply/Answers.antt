@@ -15,7 +15,7 @@ use Rattle.mux_engine.proofs.housing.reply.Goals as goal
 
 pub returns-in_err-note-clause-serving : goal.returns-in_err-note-clause-serving
 returns-in_err-note-clause-serving g c held failed first calls before policy pid start given hands v = on-err c.from_residual.result _ _ c.from_residual.ensures.0
-    (cut-here v _ _ _ (HouseAnswer c.in-Some.client c.in-Some.id c.in-Some.given ∷ []) (ap (λ (x : Seen). x.told) c.in_err-note.ensures.seen) c.in-Some.ensures.told (omega arith))
+    (cut-here v _ _ _ (HouseAnswer c.in-Some.client c.in-Some.id c.in-Some.given ∷ []) (ap (λ (x : Seen). x.told) c.in_err-note.ensures.seen) c.in-Some.ensures.told refl (omega arith))
 
 pub returns-in_err-event-clause-serving : goal.returns-in_err-event-clause-serving
 returns-in_err-event-clause-serving g c held failed first calls before policy pid start given hands v =

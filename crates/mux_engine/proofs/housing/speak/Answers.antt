@@ -23,7 +23,7 @@ use Rattle.mux_engine.proofs.housing.speak.Goals as goal
 
 pub returns-in_err-says-clause-serving : goal.returns-in_err-says-clause-serving
 returns-in_err-says-clause-serving g c held failed first calls before policy pid start given hands v = on-err c.from_residual.result _ _ c.from_residual.ensures.0
-    (cut-here v (g.H.House.told c.says.new.self) _ (given + 1) [] refl c.in_err-says.ensures.told (omega arith))
+    (cut-here v (g.H.House.told c.says.new.self) _ (given + 1) [] refl c.in_err-says.ensures.told refl (omega arith))
 
 pub returns-in_err-bytes-clause-serving : goal.returns-in_err-bytes-clause-serving
 returns-in_err-bytes-clause-serving g c held failed first calls before policy pid start given hands v =

@@ -13,7 +13,7 @@ use Rattle.mux_engine.proofs.orders.obey.Goals as goal
 
 pub returns-in_err-number-clause-serving : goal.returns-in_err-number-clause-serving
 returns-in_err-number-clause-serving g c todo s first calls before policy pid start given hands v = on-err c.from_residual.result _ _ c.from_residual.ensures.0
-    (cut-here v _ _ _ [] c.in_err-number.ensures.kept (c.in_err-number.ensures.untold ∙ tells-none _) (omega arith))
+    (cut-here v _ _ _ [] c.in_err-number.ensures.kept (c.in_err-number.ensures.untold ∙ tells-none _) refl (omega arith))
 
 pub returns-clause-serving : goal.returns-clause-serving
 returns-clause-serving g c todo s first calls before policy pid start given hands v =

@@ -171,7 +171,7 @@ returns-in_err-hear-in-Own-clause-serving g c first calls before policy pid star
     has-waited seen (W.seen c.wait-told.new.self) lists.own lists.failed (H.queue house) c.args.engine.now c.wait-told.result c.wait-told.new.into c.as_bytes.result.now c.list_waiting.new.todo c.waiting.result.now c.wanted.result c.wait-told.ensures.seen c.in_ok-list_waiting.ensures c.waiting.ensures.exact c.wanted.ensures c.next_of.ensures.bytes c.as_bytes.ensures.bytes c.wait-told.ensures.turn c.wait-told.ensures.own_turn in
     let next : IsOwnOf c.in-Own.told c.wait-told.result c.wait-told.new.into = subst (λ (b : List ℕ). IsOwnOf c.in-Own.told c.wait-told.result b) c.as_bytes.ensures.bytes c.in-Own.ensures.next in
     on-err c.from_residual-in_err-hear-in-Own.result _ _ c.from_residual-in_err-hear-in-Own.ensures.0
-    (cut-here (turn-owns v a w c.in-Own.told next) _ _ _ [] refl (c.hear.ensures.told ∙ tells-none _) (omega arith))
+    (cut-here (turn-owns v a w c.in-Own.told next) _ _ _ [] refl (c.hear.ensures.told ∙ tells-none _) refl (omega arith))
 
 pub returns-in_ok-hear-in-Own-clause-serving : goal.returns-in_ok-hear-in-Own-clause-serving
 returns-in_ok-hear-in-Own-clause-serving g c first calls before policy pid start given hands v =
