@@ -1,6 +1,6 @@
 //! One client among all of a master.
 
-ghost use Rattle.std.specs.Prelude.{◌≡◌, ◌++◌, ◌∷◌, ℕ, IfOk, OnOk, Ok, Some, None, true, false};
+ghost use Rattle.std.specs.Prelude.{◌≡◌, ◌++◌, ◌∷◌, ℕ, IfOk, OnOk, OnErr, Ok, Some, None, true, false};
 ghost use Rattle.ssh_grammar.specs.declared.framing.Framing.TheVariants.{Proxy};
 ghost use Rattle.ssh_grammar.specs.IsFrame.{IsContent};
 ghost use Rattle.ssh_grammar.specs.Frames.{frame_payload};
@@ -8,6 +8,7 @@ ghost use Rattle.mux_clients.specs.State.{refusals_of};
 ghost use Rattle.mux_clients.specs.Asked.{HandsAsks, Heeds};
 ghost use Rattle.mux_clients.specs.Among.{ChangesOne, HearsAt, IsUntouched, client_index, is_present, numbers};
 ghost use Rattle.mux_clients.specs.Pieces.{HearsIn, unheard};
+ghost use Rattle.mux_clients.specs.Starved.{HearsSome, OneIs};
 ghost use Rattle.mux_clients.specs.Losing.{LosesIn, loss_between};
 ghost use Rattle.mux_clients.specs.Room.{HasRoom};
 ghost use Rattle.mux_clients.specs.Answering.{AnswersAt};
@@ -142,6 +143,8 @@ pub fn got_at<H: House>(
     ensures handed { OnOk result (HandsAsks asks.old asks.new (H.stands house.old)
         (H.stands house.new)) }
     ensures untold { is_present clients.old number ≡ false → asks.new ≡ asks.old }
+    ensures cut { OnErr result (OneIs number (HearsSome H.may (H.told house.old)
+        (H.told house.new) pid bytes.now core.old up.old) clients.old) }
     ensures present { OnOk result ((j : ℕ) → is_present clients.new j ≡ is_present clients.old j) }
     ensures numbers { OnOk result (numbers clients.new ≡ numbers clients.old) }
     ensures room { OnOk result (HasRoom clients.old up.old → HasRoom clients.new up.new) }

@@ -1,4 +1,4 @@
-ghost use Rattle.std.specs.Prelude.{◌≡◌, ◌≤◌, ◌+◌, [], ◌∷◌, ◌++◌, length, IfOk, OnOk, Some, None, true, false, if◌then◌else◌};
+ghost use Rattle.std.specs.Prelude.{◌≡◌, ◌≤◌, ◌+◌, [], ◌∷◌, ◌++◌, length, IfOk, OnOk, OnErr, Some, None, true, false, if◌then◌else◌};
 ghost use Rattle.ssh_grammar.specs.declared.framing.Framing.TheVariants.{Proxy};
 ghost use Rattle.ssh_grammar.specs.IsFrame.{IsContent};
 ghost use Rattle.ssh_grammar.specs.Frames.{frame_payload};
@@ -10,6 +10,7 @@ ghost use Rattle.mux_clients.specs.Stands.{is_lost, is_read, mode_of};
 ghost use Rattle.mux_clients.specs.Room.{LeavesRoom};
 ghost use Rattle.mux_clients.specs.Nexts.{SaysNext};
 ghost use Rattle.mux_clients.specs.Pieces.{HearsIn, HearsPiece};
+ghost use Rattle.mux_clients.specs.Starved.{AsksNext, HearsSome};
 ghost use Rattle.mux_clients.specs.Losing.{LosesIn};
 ghost use Rattle.mux_clients.specs.Answering.{AnswersIn};
 ghost use Rattle.mux_clients.specs.Entering.{Enters, new_client};
@@ -126,6 +127,8 @@ impl Client {
             (H.known house.old) (H.known house.new) }
         ensures handed { OnOk result (HandsAsks asks.old asks.new (H.stands house.old)
             (H.stands house.new)) }
+        ensures cut { OnErr result (HearsSome H.may (H.told house.old) (H.told house.new) pid
+            bytes.now core.old up.old self.old) }
         ensures policy { OnOk result (core.new.policy ≡ core.old.policy) }
     {
         if self.seat.is_read() {
@@ -246,6 +249,9 @@ impl Client {
             SaysNext H.may (Some asks.old) (Some asks.new) pid more
             (first_in (mode_of self.old.seat.standing) self.old.rest) core.old core.new up.old
             up.new self.old heard.old self.new heard.new) }
+        ensures cut { OnErr result (AsksNext H.may (H.told house.old) (H.told house.new)
+            self.old.seat.number self.old.seat.standing
+            (first_in (mode_of self.old.seat.standing) self.old.rest)) }
         ensures policy { core.new.policy ≡ core.old.policy }
         ensures number { OnOk result (self.new.seat.number ≡ self.old.seat.number) }
         ensures spare { OnOk result (KeepsRoom up.old up.new self.new.seat.standing) }
@@ -299,6 +305,8 @@ impl Client {
         ensures hears { IfOk result (λ heard.
             HearsPiece H.may (Some asks.old) (Some asks.new) pid bytes.now core.old up.old
             self.old core.new up.new self.new heard) }
+        ensures cut { OnErr result (HearsSome H.may (H.told house.old) (H.told house.new) pid
+            bytes.now core.old up.old self.old) }
         ensures policy { OnOk result (core.new.policy ≡ core.old.policy) }
         ensures number { OnOk result (self.new.seat.number ≡ self.old.seat.number) }
         ensures spare { OnOk result (KeepsRoom up.old up.new self.new.seat.standing) }

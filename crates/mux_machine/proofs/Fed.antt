@@ -51,7 +51,7 @@ stands-fed picked given s b marks closed st = record {
   at = λ picks replies. let v = st.at picks replies in record { rows = rows-fed _ st.asks s b closed _ v.rows; bytes = bytes-fed s b marks closed _ v.bytes };
 }
 
-allowed-fed : (s : State) (b : Bool) (marks : List Mark) (mark : Mark) → IsAllowed s marks mark → IsAllowed (fed b s) marks mark
+pub allowed-fed : (s : State) (b : Bool) (marks : List Mark) (mark : Mark) → IsAllowed s marks mark → IsAllowed (fed b s) marks mark
 allowed-fed s b marks (Accepts k) al = al
 allowed-fed s b marks (Gets k bytes) al = al
 allowed-fed s b marks (Ends k) al = al

@@ -37,7 +37,7 @@ use Rattle.mux_machine.proofs.Sayings.{SaysOn, says-on}
 
 -- ---- what comes next of choices
 
-drop-front : {A : Type 0} (xs ys : List A) → drop (length xs) (xs ++ ys) ≡ ys
+pub drop-front : {A : Type 0} (xs ys : List A) → drop (length xs) (xs ++ ys) ≡ ys
 drop-front [] ys = refl
 drop-front (x ∷ xs) ys = drop-front xs ys
 
@@ -65,7 +65,7 @@ then-none : (e : Option Ended) → ended_then e None ≡ e
 then-none (Some cause) = refl
 then-none None = refl
 
-read-in : (s : _) → is_read s ≡ true → is_lost s ≡ false
+pub read-in : (s : _) → is_read s ≡ true → is_lost s ≡ false
 read-in Rattle.mux_clients.specs.declared.standing.Standing.TheVariants.Awaited e = refl
 read-in Rattle.mux_clients.specs.declared.standing.Standing.TheVariants.Greeted e = refl
 read-in Rattle.mux_clients.specs.declared.standing.Standing.TheVariants.Proxied e = refl

@@ -23,6 +23,7 @@ mod Rests
 mod Sayings
 mod Sound
 mod Started
+mod Starved
 mod Stepped
 mod Still
 mod Taken

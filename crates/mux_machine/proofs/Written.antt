@@ -148,7 +148,7 @@ changes-found none v look k R (c ∷ cs) cs' n e h = by_head (c.seat.number == k
         let found : in_client none look cs' k ≡ in_client none look w.0 k = ap (λ l. in_client none look l k) w.1.1 ∙ ap (λ b. cond b (look c) (in_client none look w.0 k)) t in
         (w.0, (ih w.0 rest (sym found ∙ e) w.1.0, w.1.1))
 
-hears-of : (May : HouseReply → Type 0) (before told : Option (List Asked)) (pid : ℕ) (bytes : List ℕ) (core core' : CoreState) (up up' : QueueState) (heard : Heard) (x y : ClientState) → is_read x.seat.standing ≡ true → HearsIn May before told pid bytes core core' up up' heard x y → HearsPiece May before told pid bytes core up x core' up' y heard
+pub hears-of : (May : HouseReply → Type 0) (before told : Option (List Asked)) (pid : ℕ) (bytes : List ℕ) (core core' : CoreState) (up up' : QueueState) (heard : Heard) (x y : ClientState) → is_read x.seat.standing ≡ true → HearsIn May before told pid bytes core core' up up' heard x y → HearsPiece May before told pid bytes core up x core' up' y heard
 hears-of May before told pid bytes core core' up up' heard x y e h = by_read (is_read x.seat.standing) e h
   where
     by_read : (b : Bool) → b ≡ true → MatchBool b (HearsPiece May before told pid bytes core up x core' up' y heard) (Rattle.mux_clients.specs.Pieces.HearsNothing before told core up x core' up' y heard) → HearsPiece May before told pid bytes core up x core' up' y heard

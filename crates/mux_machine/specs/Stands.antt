@@ -25,6 +25,7 @@ use Rattle.mux_clients.specs.State.{ClientState}
 use Rattle.mux_clients.specs.Stands.{is_lost, is_read, mode_of}
 use Rattle.mux_clients.specs.Among.{AllFit, is_present}
 use Rattle.mux_clients.specs.Asked.{asked_of, TellsAsks}
+use Rattle.mux_clients.specs.Starved.{BeginsWith}
 use Rattle.mux_clients.specs.Server.{ServerState}
 use Rattle.mux_machine.specs.State.{State, is_here, served_in, waiting_in}
 
@@ -178,7 +179,30 @@ GoesOn May before now old new mark =
     → Stands picked given old marks closed → IsAllowed old marks mark
     → GoesBy May before now picked given old new mark marks closed
 
--- the same where nothing is picked and the house isn't asked
+-- where memory was wanting for the mark: some numbers more were picked and some replies given, each
+-- of which the house may give; the house, which told `before` and tells `now`, was told these asks,
+-- which are the first of those that the rows of the mark have
+pub record AsksFirst (May : HouseReply → Type 0) (before now : Option (List Asked))
+    (picked : List ℕ) (given : List HouseReply) (s : State) (mark : Mark) (marks : List Mark) :
+    Type 0 where
+  pub picks : List ℕ
+  pub replies : List HouseReply
+  pub asks : List Asked
+  pub may : MayGive May replies
+  pub told : TellsAsks before now asks
+  pub begins : (p : List ℕ) (r : List HouseReply)
+      → BeginsWith (asked_of (log s ((picked ++ picks) ++ p) ((given ++ replies) ++ r) marks)) asks
+      (asked_of (log s ((picked ++ picks) ++ p) ((given ++ replies) ++ r) (mark ∷ marks)))
+
+-- from every journal that the engine stood for
+abbrev pub CutsShort : (HouseReply → Type 0) → Option (List Asked) → Option (List Asked) → State
+    → Mark → Type 0
+CutsShort May before now s mark =
+    (picked : List ℕ) (given : List HouseReply) (marks : List Mark) (closed : List ℕ)
+    → Stands picked given s marks closed → IsAllowed s marks mark
+    → AsksFirst May before now picked given s mark marks
+
+-- an engine goes on where nothing is picked and the house isn't asked
 abbrev pub GoesAlone : State → State → Mark → Type 0
 GoesAlone old new mark =
     (picked : List ℕ) (given : List HouseReply) (marks : List Mark) (closed : List ℕ)

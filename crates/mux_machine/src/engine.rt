@@ -3,10 +3,11 @@ ghost use Rattle.mux_outside.specs.declared.mark.Mark.{Mark as TheMark};
 ghost use Rattle.client_teardown.specs.declared.farewell.TheConstants.{FAREWELL_ROOM as TheRoom};
 ghost use Rattle.mux_history.specs.declared.limits.TheConstants.{MAX_CLIENTS as TheMost};
 ghost use Rattle.mux_clients.specs.Asked.{HandsAsks, Heeds};
+ghost use Rattle.mux_clients.specs.Starved.{HearsSome, OneIs};
 ghost use Rattle.mux_machine.specs.Events.{EndsBy, Keeps, Tells, went_of};
 ghost use Rattle.mux_machine.specs.Moves.{AnsweredAt, GainsAt, HeardAt, LosesAt};
 ghost use Rattle.mux_machine.specs.Ready.{IsReady};
-ghost use Rattle.mux_machine.specs.Stands.{GoesOn, Stands};
+ghost use Rattle.mux_machine.specs.Stands.{CutsShort, GoesOn, Stands};
 ghost use Rattle.mux_machine.specs.State.{numbers, over};
 ghost use Rattle.mux_machine.specs.Steps.{EntersAt, is_heard, is_served};
 
@@ -120,6 +121,8 @@ impl Engine {
             (H.known house.old) (H.known house.new) }
         ensures handed { OnOk result (HandsAsks asks.old asks.new (H.stands house.old)
             (H.stands house.new)) }
+        ensures cut { OnErr result ((mark : TheMark) → Tells e.entry mark
+            → CutsShort H.may (H.told house.old) (H.told house.new) self.old mark) }
         ensures keeps { OnOk result (Keeps e.entry self.old self.new) }
         ensures ends { OnOk result ((mark : TheMark) → Tells e.entry mark
             → EndsBy e.entry self.old self.new mark) }
@@ -159,6 +162,8 @@ impl Engine {
             (H.known house.old) (H.known house.new) }
         ensures handed { OnOk result (HandsAsks asks.old asks.new (H.stands house.old)
             (H.stands house.new)) }
+        ensures cut { OnErr result ((mark : TheMark) → Tells e.entry mark
+            → CutsShort H.may (H.told house.old) (H.told house.new) self.old mark) }
         ensures keeps { OnOk result (Keeps e.entry self.old self.new) }
         ensures ends { OnOk result ((mark : TheMark) → Tells e.entry mark
             → EndsBy e.entry self.old self.new mark) }
@@ -227,6 +232,8 @@ impl Engine {
             (H.known house.old) (H.known house.new) }
         ensures handed { OnOk result (HandsAsks asks.old asks.new (H.stands house.old)
             (H.stands house.new)) }
+        ensures cut { OnErr result (OneIs client (HearsSome H.may (H.told house.old)
+            (H.told house.new) self.old.pid bytes.now self.old.core self.old.up) self.old.clients) }
         ensures policy { OnOk result (self.new.core.policy ≡ self.old.core.policy) }
         ensures numbers { OnOk result (numbers self.new.clients ≡ numbers self.old.clients) }
         ensures ready { OnOk result (IsReady self.new) }

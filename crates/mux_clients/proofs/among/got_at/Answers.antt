@@ -2,9 +2,11 @@ use Rattle.std.proofs.Common.{◌≡◌, Some, sym, ◌∙◌, arith, true, fals
 use Rattle.mux_clients.specs.declared.heard.Heard.{Heard}
 use Rattle.mux_clients.specs.Among.{is_present}
 use Rattle.mux_clients.specs.Pieces.{HearsIn}
+use Rattle.mux_clients.specs.Starved.{HearsSome}
 use Rattle.mux_clients.proofs.Placed.{if-ok, numbers-set, on-ok, placed-absent, placed-here, present-set, set-changes}
 use Rattle.mux_clients.proofs.Rooms.{room-at, room-set}
 use Rattle.mux_clients.proofs.Runs.{read-here}
+use Rattle.mux_clients.proofs.Starved.{err-then, one-is}
 use Rattle.mux_clients.proofs.among.got_at.Goals as goal
 
 pub returns-then-i-clients-clause-hears : goal.returns-then-i-clients-clause-hears
@@ -36,3 +38,8 @@ returns-then-i-clients-clause-numbers g c = on-ok c.hear.result (numbers-set c.i
 
 pub returns-then-i-clients-clause-room : goal.returns-then-i-clients-clause-room
 returns-then-i-clients-clause-room g c = on-ok c.hear.result (room-set c.index_of-i.result c.index-clients-i.result c.hear.new.self c.args.clients.now c.args.up.now c.hear.new.up c.if-i-clients.true) c.hear.ensures.room
+
+pub returns-then-i-clients-clause-cut : goal.returns-then-i-clients-clause-cut
+returns-then-i-clients-clause-cut g c = err-then c.hear.result
+    (one-is c.args.number c.index_of-i.result (HearsSome g.H.House.may (g.H.House.told c.args.house.now) (g.H.House.told c.hear.new.house) c.args.pid c.args.bytes.now c.args.core.now c.args.up.now) c.index-clients-i.result c.args.clients.now c.index_of-i.ensures c.if-i-clients.true)
+    c.hear.ensures.cut

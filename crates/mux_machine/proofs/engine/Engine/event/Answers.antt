@@ -4,6 +4,8 @@ use Rattle.mux_machine.specs.State.{State}
 use Rattle.mux_machine.proofs.Fed.{ends-shown, goes-shown}
 use Rattle.mux_machine.proofs.Stepped.{over-stays}
 use Rattle.mux_clients.proofs.Heeding.{asked_none_some}
+use Rattle.mux_clients.proofs.Starved.{on-err}
+use Rattle.mux_machine.proofs.Starved.{cut-alone, cut-shown}
 use Rattle.mux_machine.proofs.engine.Engine.event.Goals as goal
 
 pub returns-in-Some-clause-stands : goal.returns-in-Some-clause-stands
@@ -23,3 +25,9 @@ returns-clause-ends g c =
 
 pub returns-then-self-clause-heeds : goal.returns-then-self-clause-heeds
 returns-then-self-clause-heeds g c = asked_none_some c.args.asks.now (g.H.House.told c.args.house.now)
+
+pub returns-then-self-clause-cut : goal.returns-then-self-clause-cut
+returns-then-self-clause-cut g c = λ mark t. cut-alone g.H.House.may (g.H.House.told c.args.house.now) c.args.self.now mark
+
+pub returns-in_err-step-clause-cut : goal.returns-in_err-step-clause-cut
+returns-in_err-step-clause-cut g c = on-err c.from_residual.result (λ mark t. cut-shown g.H.House.may (g.H.House.told c.args.house.now) (g.H.House.told c.step.new.house) (state_of c.self.inside) c.args.self.now mark c.self.view_is (c.in_err-step.ensures.cut mark t))

@@ -1,10 +1,13 @@
-use Rattle.std.proofs.Common.{Some, ◌&&◌, not, refl, ap, ◌∙◌}
+use Rattle.std.proofs.Common.{Some, ◌&&◌, not, refl, sym, ap, ◌∙◌, List}
 use Rattle.std.proofs.lemmas.Result.{on_ok_weaker}
 use Rattle.mux_machine.specs.Shown.{state_of}
 use Rattle.mux_machine.specs.State.{State}
+use Rattle.mux_clients.specs.State.{ClientState}
 use Rattle.mux_machine.specs.Steps.{is_heard}
 use Rattle.mux_machine.proofs.Written.{gain-written, gain_new}
 use Rattle.mux_machine.proofs.Heeded.{handed, heeded}
+use Rattle.mux_clients.proofs.Starved.{on-err}
+use Rattle.mux_machine.proofs.Starved.{some-heard, some-shown}
 use Rattle.mux_machine.proofs.engine.Engine.got.Goals as goal
 
 pub returns-clause-gains : goal.returns-clause-gains
@@ -35,3 +38,21 @@ returns-clause-heeds g c = heeded c.list_waiting.result c.args.asks.now c.got_at
 
 pub returns-clause-handed : goal.returns-clause-handed
 returns-clause-handed g c = handed c.list_waiting.result c.args.asks.now c.got_at.new.asks (g.H.House.stands c.args.house.now) (g.H.House.stands c.got_at.new.house) c.in_ok-heard.ensures.handed
+
+-- ---- what was asked where memory was wanting
+
+pub returns-in_err-heard-clause-cut : goal.returns-in_err-heard-clause-cut
+returns-in_err-heard-clause-cut g c = on-err c.from_residual.result
+    (some-shown g.H.House.may (g.H.House.told c.args.house.now) (g.H.House.told c.got_at.new.house) c.args.client c.args.bytes.now (state_of c.self.inside) c.args.self.now c.deref_mut.result.now c.self.view_is c.deref_mut.ensures.value c.in_err-heard.ensures.cut)
+
+pub returns-in_err-note_loss-clause-cut : goal.returns-in_err-note_loss-clause-cut
+returns-in_err-note_loss-clause-cut g c = on-err c.from_residual-in_err-note_loss.result
+    (some-shown g.H.House.may (g.H.House.told c.args.house.now) (g.H.House.told c.got_at.new.house) c.args.client c.args.bytes.now (state_of c.self.inside) c.args.self.now c.deref_mut.result.now c.self.view_is c.deref_mut.ensures.value
+    (some-heard g.H.House.may c.args.asks.now c.got_at.new.asks (g.H.House.told c.args.house.now) (g.H.House.told c.got_at.new.house) (g.H.House.known c.args.house.now) (g.H.House.known c.got_at.new.house) c.self.inside.pid c.args.bytes.now c.self.inside.core c.got_at.new.core c.self.inside.up c.got_at.new.up c.in_ok-heard.heard c.args.client c.deref_mut.result.now c.got_at.new.clients
+    (ap (λ (l : List ClientState). is_heard l c.args.client) (c.deref_mut.ensures.value ∙ sym c.deref.ensures.value) ∙ (sym c.is_heard.ensures ∙ c.if-not-is_heard.false)) c.in_ok-heard.ensures.hears c.in_ok-heard.ensures.heeds))
+
+pub returns-clause-cut : goal.returns-clause-cut
+returns-clause-cut g c = on-err c.list_waiting.result
+    (some-shown g.H.House.may (g.H.House.told c.args.house.now) (g.H.House.told c.got_at.new.house) c.args.client c.args.bytes.now (state_of c.self.inside) c.args.self.now c.deref_mut.result.now c.self.view_is c.deref_mut.ensures.value
+    (some-heard g.H.House.may c.args.asks.now c.got_at.new.asks (g.H.House.told c.args.house.now) (g.H.House.told c.got_at.new.house) (g.H.House.known c.args.house.now) (g.H.House.known c.got_at.new.house) c.self.inside.pid c.args.bytes.now c.self.inside.core c.got_at.new.core c.self.inside.up c.got_at.new.up c.in_ok-heard.heard c.args.client c.deref_mut.result.now c.got_at.new.clients
+    (ap (λ (l : List ClientState). is_heard l c.args.client) (c.deref_mut.ensures.value ∙ sym c.deref.ensures.value) ∙ (sym c.is_heard.ensures ∙ c.if-not-is_heard.false)) c.in_ok-heard.ensures.hears c.in_ok-heard.ensures.heeds))

@@ -8,6 +8,8 @@ use Rattle.mux_machine.proofs.Heeded.{handed, heeded}
 use Rattle.mux_machine.proofs.Endings.{alone-ends, asking-ends}
 use Rattle.mux_machine.proofs.Kept.{asking-keeps, did-keeps}
 use Rattle.mux_machine.proofs.Stepped.{DidAlone, DidAsking, asking-goes, cause-as, did-goes, gained-on, lost-on, replied-on}
+use Rattle.mux_clients.proofs.Starved.{err-then, on-err}
+use Rattle.mux_machine.proofs.Starved.{CutsOne, cut-alone, cut-asking}
 use Rattle.mux_machine.proofs.engine.Engine.step.Goals as goal
 
 pub returns-in-Accepted-clause-stands : goal.returns-in-Accepted-clause-stands
@@ -87,3 +89,23 @@ returns-in-HouseSays-clause-handed g c = handed c.answer.result c.args.asks.now 
 
 pub returns-in-FromServer-clause-handed : goal.returns-in-FromServer-clause-handed
 returns-in-FromServer-clause-handed g c = handed c.hear.result c.args.asks.now c.args.asks.now (g.H.House.stands c.args.house.now) (g.H.House.stands c.args.house.now) (handed_none c.args.asks.now (g.H.House.stands c.args.house.now))
+
+-- ---- what was asked where memory was wanting
+
+pub returns-in-Accepted-clause-cut : goal.returns-in-Accepted-clause-cut
+returns-in-Accepted-clause-cut g c = on-err c.enter.result (λ mark t. cut-alone g.H.House.may (g.H.House.told c.args.house.now) c.args.self.now mark)
+
+pub returns-in-ClientEnd-clause-cut : goal.returns-in-ClientEnd-clause-cut
+returns-in-ClientEnd-clause-cut g c = on-err c.lose.result (λ mark t. cut-alone g.H.House.may (g.H.House.told c.args.house.now) c.args.self.now mark)
+
+pub returns-in-ClientFailed-clause-cut : goal.returns-in-ClientFailed-clause-cut
+returns-in-ClientFailed-clause-cut g c = on-err c.lose-in-ClientFailed.result (λ mark t. cut-alone g.H.House.may (g.H.House.told c.args.house.now) c.args.self.now mark)
+
+pub returns-in-HouseSays-clause-cut : goal.returns-in-HouseSays-clause-cut
+returns-in-HouseSays-clause-cut g c = on-err c.answer.result (λ mark t. cut-alone g.H.House.may (g.H.House.told c.args.house.now) c.args.self.now mark)
+
+pub returns-in-FromServer-clause-cut : goal.returns-in-FromServer-clause-cut
+returns-in-FromServer-clause-cut g c = on-err c.hear.result (λ mark t. cut-alone g.H.House.may (g.H.House.told c.args.house.now) c.args.self.now mark)
+
+pub returns-in-FromClient-clause-cut : goal.returns-in-FromClient-clause-cut
+returns-in-FromClient-clause-cut g c = err-then c.got.result (λ one mark t. cut-asking g.H.House.may (g.H.House.told c.args.house.now) (g.H.House.told c.got.new.house) c.args.self.now c.args.e c.requires.goes (subst (CutsOne g.H.House.may (g.H.House.told c.args.house.now) (g.H.House.told c.got.new.house) c.args.self.now) (sym c.in-FromClient.is) one) mark t) c.got.ensures.cut

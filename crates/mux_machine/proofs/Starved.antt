@@ -1,0 +1,157 @@
+-- What the house was asked by an event for which there was no memory.
+use Rattle.std.proofs.Common.{◌≡◌, ◌≢◌, ℕ, Bool, true, false, List, [], ◌∷◌, ◌++◌, length, drop, map, Option, Some, None, refl, sym, ap, ◌∙◌, subst, append_assoc}
+use Rattle.std.specs.Prelude.{◌==◌, MatchBool, is_some}
+use Rattle.ssh_grammar.specs.Said.{parse}
+use Rattle.proxy_frames.specs.State.{QueueState}
+use Rattle.mux_outside.specs.House.{Known}
+use Rattle.mux_outside.specs.declared.house_mark.HouseMark.{HouseMark as Asked}
+use Rattle.mux_outside.specs.declared.house.HouseReply.{HouseReply}
+use Rattle.mux_outside.specs.declared.mark.Mark.{Mark}
+use Rattle.mux_outside.specs.declared.mark.Mark.TheVariants.{Gets}
+use Rattle.mux_history.specs.Rows.{Row, is_ended}
+use Rattle.mux_history.specs.Journal.{bytes_of, items_in, said_item}
+use Rattle.mux_history.specs.Log.{more_all}
+use Rattle.mux_core.specs.State.{CoreState}
+use Rattle.mux_clients.specs.declared.heard.Heard.{Heard}
+use Rattle.mux_clients.specs.State.{ClientState}
+use Rattle.mux_clients.specs.Stands.{is_read, mode_of}
+use Rattle.mux_clients.specs.Among.{ChangesOne, EachFits, InFits, is_present}
+use Rattle.mux_clients.specs.Asked.{IsAsked, TellsAsks, asked_of}
+use Rattle.mux_clients.specs.Laws.{rows_given}
+use Rattle.mux_clients.specs.Pieces.{HearsIn, ReplyNext, rows_said}
+use Rattle.mux_clients.specs.Says.{ComeNext}
+use Rattle.mux_clients.specs.Starved.{BeginsWith, HearsSome, OneIs}
+use Rattle.mux_clients.proofs.Heeding.{tells_none}
+use Rattle.mux_clients.proofs.Journaled.{says-new}
+use Rattle.mux_clients.proofs.Starved.{all-begin, hears-all}
+use Rattle.mux_machine.specs.declared.event.Event.{Event}
+use Rattle.mux_machine.specs.declared.event.Event.TheVariants as event
+use Rattle.mux_machine.specs.Events.{Tells}
+use Rattle.mux_machine.specs.State.{State}
+use Rattle.mux_machine.specs.Stands.{AsksFirst, ClientReads, CutsShort, EachReads, IsAllowed, Stands, StandsFor, log, setting}
+use Rattle.mux_machine.specs.Steps.{is_heard}
+use Rattle.mux_machine.proofs.Fed.{allowed-fed, fed, stands-fed}
+use Rattle.mux_machine.proofs.Gains.{drop-front, gets-log, read-in}
+use Rattle.mux_machine.proofs.Lists.{either, true_false}
+use Rattle.mux_machine.proofs.Looked.{changes-so, so-here}
+use Rattle.mux_machine.proofs.Over.{some-end}
+use Rattle.mux_machine.proofs.Pairs.{Pair, pair}
+use Rattle.mux_machine.proofs.Written.{hears-of}
+
+-- ---- the client of a number
+
+-- of the one that goes on
+changes-one : (k : ℕ) (S : ClientState → ClientState → Type 0) (P : ClientState → Type 0) (cs cs' : List ClientState) → ((x y : ClientState) → S x y → P x) → is_present cs k ≡ true → ChangesOne k S cs cs' → OneIs k P cs
+changes-one k S P [] cs' f here h = true_false (sym here)
+changes-one k S P (c ∷ cs) cs' f here h = by_head (c.seat.number == k) here h (λ ds q w. changes-one k S P cs ds f q w)
+  where
+    by_head : (b : Bool) → either b (is_present cs k) ≡ true → MatchBool b ((c' : ClientState) × (S c c' × (cs' ≡ c' ∷ cs))) ((ds : List ClientState) × (ChangesOne k S cs ds × (cs' ≡ c ∷ ds))) → ((ds : List ClientState) → is_present cs k ≡ true → ChangesOne k S cs ds → OneIs k P cs) → MatchBool b (P c) (OneIs k P cs)
+    by_head true q w ih = f c w.0 w.1.0
+    by_head false q w ih = ih w.0 q w.1.0
+
+one-stays : (k : ℕ) (P : ClientState → Type 0) (cs : List ClientState) → OneIs k P cs → ChangesOne k (λ x y. P x) cs cs
+one-stays k P [] h = absurd h
+one-stays k P (c ∷ cs) h = by_head (c.seat.number == k) h (one-stays k P cs)
+  where
+    by_head : (b : Bool) → MatchBool b (P c) (OneIs k P cs) → (OneIs k P cs → ChangesOne k (λ x y. P x) cs cs) → MatchBool b ((c' : ClientState) × (P c × (c ∷ cs ≡ c' ∷ cs))) ((ds : List ClientState) × (ChangesOne k (λ x y. P x) cs ds × (c ∷ cs ≡ c ∷ ds)))
+    by_head true p ih = (c, (p, refl))
+    by_head false p ih = (cs, (ih p, refl))
+
+one-here : (k : ℕ) (P : ClientState → Type 0) (cs : List ClientState) → OneIs k P cs → is_present cs k ≡ true
+one-here k P [] h = absurd h
+one-here k P (c ∷ cs) h = by_head (c.seat.number == k) h (one-here k P cs)
+  where
+    by_head : (b : Bool) → MatchBool b (P c) (OneIs k P cs) → (OneIs k P cs → is_present cs k ≡ true) → either b (is_present cs k) ≡ true
+    by_head true p ih = refl
+    by_head false p ih = ih p
+
+-- ---- as the code shows it
+
+pub some-shown : (May : HouseReply → Type 0) (told told' : Option (List Asked)) (k : ℕ) (bytes : List ℕ) (parts s : State) (lent : List ClientState) → parts ≡ s → lent ≡ parts.clients → OneIs k (HearsSome May told told' parts.pid bytes parts.core parts.up) lent → OneIs k (HearsSome May told told' s.pid bytes s.core s.up) s.clients
+some-shown May told told' k bytes parts s lent view lends h =
+    subst (λ (x : State). OneIs k (HearsSome May told told' x.pid bytes x.core x.up) x.clients) view
+    (subst (λ (l : List ClientState). OneIs k (HearsSome May told told' parts.pid bytes parts.core parts.up) l) lends h)
+
+-- all was taken in, and then there was no memory
+pub some-heard : (May : HouseReply → Type 0) (asks asks' : List Asked) (told told' : Option (List Asked)) (known known' : Known) (pid : ℕ) (bytes : List ℕ) (core core' : CoreState) (up up' : QueueState) (heard : Heard) (k : ℕ) (lent cs : List ClientState) → is_heard lent k ≡ true
+    → (is_present lent k ≡ true → ChangesOne k (HearsIn May (Some asks) (Some asks') pid bytes core core' up up' heard) lent cs) → IsAsked asks asks' told told' known known' → OneIs k (HearsSome May told told' pid bytes core up) lent
+some-heard May asks asks' told told' known known' pid bytes core core' up up' heard k lent cs read hears a =
+    let here : is_present lent k ≡ true = so-here is_read k lent read in
+    let R : ClientState → ClientState → Type 0 = HearsIn May (Some asks) (Some asks') pid bytes core core' up up' heard in
+    changes-one k (λ x y. (is_read x.seat.standing ≡ true) × R x y) (HearsSome May told told' pid bytes core up) lent cs
+    (λ x y r. hears-all May asks asks' told told' known known' pid bytes core core' up up' x y heard r.0 (hears-of May (Some asks) (Some asks') pid bytes core core' up up' heard x y r.0 r.1) a)
+    here (changes-so is_read k R lent cs read (hears here))
+
+-- ---- an event
+
+-- nothing was asked
+pub cut-alone : (May : HouseReply → Type 0) (told : Option (List Asked)) (s : State) (mark : Mark) → CutsShort May told told s mark
+cut-alone May told s mark picked given marks closed st al = record {
+  picks = [];
+  replies = [];
+  asks = [];
+  may = tt;
+  told = tells_none told;
+  begins = λ p r. let ps : List ℕ = (picked ++ []) ++ p in let rs : List HouseReply = (given ++ []) ++ r in all-begin (setting s ps rs) (log s ps rs marks) (items_in marks mark);
+}
+
+-- a piece of a client that is read
+cut-piece : (May : HouseReply → Type 0) (before told : Option (List Asked)) (s : State) (bytes : List ℕ) (x : ClientState) → s.ended ≡ None → x.seat.number ≢ 0 → ((rows : List Row) → EachFits rows s.clients → InFits rows x) → ((marks : List Mark) → EachReads marks s.clients → ClientReads (bytes_of x.seat.number marks) x)
+    → HearsSome May before told s.pid bytes s.core s.up x → CutsShort May before told s (Gets x.seat.number bytes)
+cut-piece May before told s bytes x none nz fits reads h picked given marks closed st al = record {
+  picks = h.picked;
+  replies = h.used;
+  asks = h.asks;
+  may = h.may;
+  told = h.tells;
+  begins = λ picks replies.
+      subst (λ p. Begins p ((given ++ h.used) ++ replies)) (sym (append_assoc picked h.picked picks))
+      (subst (λ r. Begins (picked ++ (h.picked ++ picks)) r) (sym (append_assoc given h.used replies)) (for-all picks replies));
+}
+  where
+    k : ℕ
+    k = x.seat.number
+
+    Begins : List ℕ → List HouseReply → Type 0
+    Begins p r = BeginsWith (asked_of (log s p r marks)) h.asks (asked_of (log s p r (Gets k bytes ∷ marks)))
+
+    for-all : (picks : List ℕ) (replies : List HouseReply) → Begins (picked ++ (h.picked ++ picks)) (given ++ (h.used ++ replies))
+    for-all picks replies =
+        let p : List ℕ = picked ++ (h.picked ++ picks) in
+        let r : List HouseReply = given ++ (h.used ++ replies) in
+        let v : StandsFor p r (length picked) st.asks s marks closed = st.at (h.picked ++ picks) (h.used ++ replies) in
+        let rows : List Row = log s p r marks in
+        let live : is_ended rows ≡ false = sym (some-end rows) ∙ ap is_some (sym v.rows.ended_is ∙ none) in
+        let fx : InFits rows x = fits rows v.rows.fit.each in
+        let come : ComeNext h.picked rows p = (picks, ap (λ n. drop n p) v.rows.taken_is ∙ drop-front picked (h.picked ++ picks)) in
+        let next : ReplyNext h.used rows r = (replies, ap (λ n. drop n r) (v.rows.drawn_is ∙ st.each) ∙ drop-front given (h.used ++ replies)) in
+        let cut : ClientReads (bytes_of k marks) x = reads marks (v.bytes.clients live) in
+        let is : log s p r (Gets k bytes ∷ marks) ≡ rows_said s.core.policy s.pid p r k rows (parse (mode_of x.seat.standing) (x.rest ++ bytes)).says =
+        gets-log s p r k bytes marks nz al.2 ∙ ap (λ xs. more_all (setting s p r) rows (map (said_item k) xs)) (says-new (bytes_of k marks) bytes (mode_of x.seat.standing) x.rest (cut.mode_is (read-in x.seat.standing h.read)) (cut.rest_is h.read)) in
+        subst (λ (l : List Row). BeginsWith (asked_of rows) h.asks (asked_of l)) (sym is)
+        (h.begins p r rows (record { core = v.rows.fit.core; seat = fx.seat; up = v.rows.fit.up }) live come next)
+
+cut-gained : (May : HouseReply → Type 0) (before told : Option (List Asked)) (s : State) (k : ℕ) (bytes : List ℕ) → s.ended ≡ None → k ≢ 0 → OneIs k (HearsSome May before told s.pid bytes s.core s.up) s.clients → CutsShort May before told s (Gets k bytes)
+cut-gained May before told s k bytes none nz one =
+    let P : ClientState → Type 0 = HearsSome May before told s.pid bytes s.core s.up in
+    let p : Pair k (λ x y. P x) s.clients s.clients = pair k (λ x y. P x) s.clients s.clients (one-here k P s.clients one) (one-stays k P s.clients one) in
+    subst (λ j. CutsShort May before told s (Gets j bytes)) p.number
+    (cut-piece May before told s bytes p.first none (λ z. nz (sym p.number ∙ z)) p.fits p.reads p.is)
+
+-- the event at which the house may be asked
+abbrev pub CutsOne : (HouseReply → Type 0) → Option (List Asked) → Option (List Asked) → State → Event → Type 0
+CutsOne May before told s (event.FromClient k bytes) = OneIs k (HearsSome May before told s.pid bytes.now s.core s.up) s.clients
+CutsOne May before told s e = ⊥
+
+pub cut-asking : (May : HouseReply → Type 0) (before told : Option (List Asked)) (s : State) (e : Event) → s.ended ≡ None → CutsOne May before told s e → (mark : Mark) → Tells e mark → CutsShort May before told s mark
+cut-asking May before told s (event.FromClient k bytes) live one mark t = subst (λ (m : Mark). CutsShort May before told s m) (sym t.1) (cut-gained May before told s k bytes.now live t.0 one)
+cut-asking May before told s e live one mark t = absurd one
+
+-- whether there was memory before or not
+pub cut-shown : (May : HouseReply → Type 0) (before told : Option (List Asked)) (parts s : State) (mark : Mark) → parts ≡ s → CutsShort May before told (fed true parts) mark → CutsShort May before told s mark
+cut-shown May before told parts s mark view h = subst (λ (x : State). CutsShort May before told x mark) view at
+  where
+    at : CutsShort May before told parts mark
+    at picked given marks closed st al =
+        let a = h picked given marks closed (stands-fed picked given parts true marks closed st) (allowed-fed parts true marks mark al) in
+        record { picks = a.picks; replies = a.replies; asks = a.asks; may = a.may; told = a.told; begins = a.begins }
