@@ -149,8 +149,7 @@ module _ {May : HouseReply → Type 0} {Rest : Resting} {before : Option (List H
   pub event-ends : (e : Event) (seen' : Seen) (given' : ℕ) (at : EventAt e seen' given') (s' : State) → ((mark : Mark) → Tells e mark → EndsBy e s s' mark) → MayEnd e s'.ended
   event-ends e seen' given' at s' ends = ends at.twin at.tells v.picked v.replies v.journal v.closed v.stands at.allowed live
 
-  -- there was no memory for it
-  -- what it was asked by then comes first of what the mark asks
+  -- there was no memory for it: what it was asked by then comes first of what the mark asks
   cut-asks : (e : Event) (seen' : Seen) (given' : ℕ) (at : EventAt e seen' given') (told' : Option (List HouseMark)) (a : AsksFirst May now.told told' v.picked v.replies s at.twin v.journal) → AsksOn May policy pid v.picked v.replies (at.mark ∷ v.journal) v.stands.asks (asks_in a.asks)
   cut-asks e seen' given' at told' a =
       let ps : List ℕ = v.picked ++ a.picks in
