@@ -475,14 +475,15 @@ fn run<W: Wire, H: House>(
 /// this run is written and kept open as it must be, and ends as it must. A turn is a call of
 /// `wait`, an order of the house that is carried out, or a piece that the house said; without a
 /// house it waits once for each turn, and writes nothing before. The house is told each ask of
-/// its clients; where it is present it is let in as a client, and is at rest at each wait at
-/// which more is read: what is so of each house at rest by what it told is so there. But for want
-/// of memory it is handed all that happens at the streams and listeners of its own, each write
-/// there that fails, how many bytes each takes, and what waits for it as a client, once and in
-/// that order. Behind a call that wanted memory none is made. But for want of memory the wire's
-/// own listeners and streams are at the end those that the house knows, as it ordered them;
-/// without a house none was opened. The forwarding of the start that an answer names was refused,
-/// where none may be.
+/// its clients; where it is present it is let in as a client, and at each wait it has nothing to
+/// order and to answer, is at rest where more is read, and has no refusal that ends the run: what
+/// is so of each such house by what it told and by its calls is so there. But for want of memory
+/// it is handed all that happens at the streams and listeners of its own, each write there that
+/// fails, how many bytes each takes, and what waits for it as a client, once and in that order.
+/// Behind a call that wanted memory none is made. But for want of memory the wire's own listeners
+/// and streams are at the end those that the house knows, as it ordered them; without a house
+/// none was opened. The forwarding of the start that an answer names was refused, where none may
+/// be.
 pub fn serve<W: Wire, H: House>(
     alloc: Global,
     policy: Policy,
