@@ -40,20 +40,20 @@ pub fn let_in<W: Wire, H: House>(
     ensures serving { (present : Bool) (first : H) (before : Option (List TheHouseMark))
         (now : TheSide) (policy : ThePolicy) (pid : ℕ) (start : Option (List TheMark))
         (held failed : List ℕ) (given : ℕ) →
-        (v : Serving H.may (RestsOf H.told H.quiet H.must H.refused H.stands present first) before now policy pid
-        start (W.seen wire.old) held failed given (0 ∷ here engine.old) engine.old) →
+        (v : Serving H.may (RestsOf H.told H.quiet H.must H.refused H.stands present first) before
+        now policy pid start (W.seen wire.old) held failed given (0 ∷ here engine.old) engine.old) →
         v.journal ≡ [] → present ≡ true → MatchResult result
         (λ x. Serving H.may (RestsOf H.told H.quiet H.must H.refused H.stands present first) before
         (record now { let_in = true }) policy pid start (W.seen wire.new) held failed given
         (0 ∷ here engine.new) engine.new)
-        (λ e. Promised H.may (RestsOf H.told H.quiet H.must H.refused H.stands present first) before now.told policy
-        pid start (W.seen wire.new).told given) }
+        (λ e. Promised H.may (RestsOf H.told H.quiet H.must H.refused H.stands present first) before
+        now.told policy pid start (W.seen wire.new).told given) }
     ensures places { SamePlaces (W.seen wire.old) (W.seen wire.new) }
     ensures on { (present : Bool) (first : H) (before : Option (List TheHouseMark))
         (now : TheSide) (policy : ThePolicy) (pid : ℕ) (start : Option (List TheMark))
         (held failed : List ℕ) (given : ℕ) →
-        (v : Serving H.may (RestsOf H.told H.quiet H.must H.refused H.stands present first) before now policy pid
-        start (W.seen wire.old) held failed given (0 ∷ here engine.old) engine.old) →
+        (v : Serving H.may (RestsOf H.told H.quiet H.must H.refused H.stands present first) before
+        now policy pid start (W.seen wire.old) held failed given (0 ∷ here engine.old) engine.old) →
         v.journal ≡ [] →
         OnOk result (engine.new.ended ≡ None) }
     ensures calls { W.calls wire.new ≡ W.calls wire.old }

@@ -166,7 +166,8 @@ fn one_turn<W: Wire, H: House>(
     ensures serving { (first : H) (calls : List TheCall) (before : Option (List TheHouseMark))
         (policy : ThePolicy) (pid : ℕ) (start : Option (List TheMark)) (given : ℕ) →
         HandsOn (H.stands first) (H.stands house.old) calls →
-        Serving H.may (RestsOf H.told H.quiet H.must H.refused H.stands (H.known house.old).present first) before
+        Serving H.may
+        (RestsOf H.told H.quiet H.must H.refused H.stands (H.known house.old).present first) before
         (noted (H.told house.old) (H.known house.old) calls) policy pid start (W.seen wire.old)
         lists.old.held lists.old.failed given (0 ∷ here engine.old) engine.old →
         MatchResult result
@@ -235,7 +236,8 @@ fn turns_of<W: Wire, H: House>(
     ensures serving { (first : H) (calls : List TheCall) (before : Option (List TheHouseMark))
         (policy : ThePolicy) (pid : ℕ) (start : Option (List TheMark)) →
         HandsOn (H.stands first) (H.stands house.old) calls →
-        Serving H.may (RestsOf H.told H.quiet H.must H.refused H.stands (H.known house.old).present first) before
+        Serving H.may
+        (RestsOf H.told H.quiet H.must H.refused H.stands (H.known house.old).present first) before
         (noted (H.told house.old) (H.known house.old) calls) policy pid start (W.seen wire.old)
         lists.old.held lists.old.failed 0 (0 ∷ here engine.old) engine.old →
         MatchResult result
@@ -437,11 +439,13 @@ fn run<W: Wire, H: House>(
     ensures ran { (before : Option (List TheHouseMark)) (policy : ThePolicy) (pid : ℕ)
         (start : Option (List TheMark)) →
         (v : Serving H.may
-        (RestsOf H.told H.quiet H.must H.refused H.stands (H.known house.old).present house.old) before
+        (RestsOf H.told H.quiet H.must H.refused H.stands (H.known house.old).present house.old)
+        before
         (outside (H.told house.old) (H.known house.old) []) policy pid start (W.seen wire.old) [] []
         0 (0 ∷ here engine.old) engine.old) → v.journal ≡ [] →
         IsRun H.may
-        (RestsOf H.told H.quiet H.must H.refused H.stands (H.known house.old).present house.old).rests
+        (RestsOf H.told H.quiet H.must H.refused H.stands (H.known house.old).present
+        house.old).rests
         (H.stands house.old) (H.stands house.new) (H.known house.old).present policy pid turns
         before (H.told house.new) start (W.seen wire.new).told
         (refused_if (H.known house.old).present (H.must house.new) (H.refused house.new))
@@ -499,7 +503,8 @@ pub fn serve<W: Wire, H: House>(
     requires listeners { (W.seen wire.old).listeners ≡ [] }
     requires blank { H.known house.old ≡ nothing_known (H.known house.old).present }
     ensures kept { IsRun H.may
-        (RestsOf H.told H.quiet H.must H.refused H.stands (H.known house.old).present house.old).rests
+        (RestsOf H.told H.quiet H.must H.refused H.stands (H.known house.old).present
+        house.old).rests
         (H.stands house.old) (H.stands house.new) (H.known house.old).present policy pid turns
         (H.told house.old) (H.told house.new) (W.seen wire.old).told (W.seen wire.new).told
         (refused_if (H.known house.old).present (H.must house.new) (H.refused house.new)) result }
