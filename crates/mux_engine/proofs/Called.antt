@@ -48,12 +48,12 @@ calls-heard now size bytes took all was =
 
 -- ---- from house to house
 
-abbrev pub handed-none : {stands stands' : List HouseCall → Type 0} {calls : List HouseCall} {So : List HouseCall → Type 0} → HandsOn stands stands' calls → So calls → Handed stands stands' So
-handed-none {calls = calls} hands so = record { all = calls; hands = hands; so = so }
+pub handed-none : {stands stands' : List HouseCall → Type 0} {So : List HouseCall → Type 0} (calls : List HouseCall) → HandsOn stands stands' calls → So calls → Handed stands stands' So
+handed-none calls hands so = record { all = calls; hands = hands; so = so }
 
 -- the house came by some more
-abbrev pub handed-more : {stands mid stands' : List HouseCall → Type 0} {calls : List HouseCall} {So : List HouseCall → Type 0} (more : List HouseCall) → HandsOn stands mid calls → HandsOn mid stands' more → So (calls ++ more) → Handed stands stands' So
-handed-more {stands} {mid} {stands'} {calls} more hands step so = record { all = calls ++ more; hands = hands-then stands mid stands' calls more hands step; so = so }
+pub handed-more : {stands mid stands' : List HouseCall → Type 0} {So : List HouseCall → Type 0} (calls more : List HouseCall) → HandsOn stands mid calls → HandsOn mid stands' more → So (calls ++ more) → Handed stands stands' So
+handed-more {stands} {mid} {stands'} calls more hands step so = record { all = calls ++ more; hands = hands-then stands mid stands' calls more hands step; so = so }
 
-abbrev pub handed-so : {stands stands' : List HouseCall → Type 0} {Was So : List HouseCall → Type 0} (h : Handed stands stands' Was) → So h.all → Handed stands stands' So
+pub handed-so : {stands stands' : List HouseCall → Type 0} {Was So : List HouseCall → Type 0} (h : Handed stands stands' Was) → So h.all → Handed stands stands' So
 handed-so h so = record { all = h.all; hands = h.hands; so = so }

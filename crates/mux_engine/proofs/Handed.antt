@@ -80,7 +80,7 @@ at-wait told quiet must refused stands first house known seen own held failed qu
     answers = ready.no_more.answers present;
     rests = ready.rests present;
     permitted = none-refused known.present (must house) (refused house) present permitted;
-  }, (refl, hands)));
+  }, refl, hands));
 }
 
 -- the wire gave this turn

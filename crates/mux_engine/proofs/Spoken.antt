@@ -73,11 +73,11 @@ told-nothing r bytes told told' is e = e ∙ ap (λ (x : Result Bool _). option_
 pub told-said : {E : Type 0} (r : Result Bool E) (bytes : List ℕ) (told told' : Option (List HouseMark)) → r ≡ Ok true → told' ≡ option_map (λ marks. marks ++ says_marks r bytes) told → TellsAsks told told' (HouseSaid bytes ∷ [])
 told-said r bytes told told' is e = e ∙ ap (λ (x : Result Bool _). option_map (λ marks. marks ++ says_marks x bytes) told) is
 
-pub hands-said : {E : Type 0} (stands stands' : List HouseCall → Type 0) (r : Result Bool E) (bytes : List ℕ) → r ≡ Ok true → HandsOn stands stands' (calls_of (says_marks r bytes)) → HandsOn stands stands' (calls_of (HouseSaid bytes ∷ []))
-hands-said stands stands' r bytes is h = subst (λ (x : Result Bool _). HandsOn stands stands' (calls_of (says_marks x bytes))) is h
+pub hands-said : {E : Type 0} (stands stands' : List HouseCall → Type 0) (r : Result Bool E) (bytes : List ℕ) → r ≡ Ok true → OnOk r (HandsOn stands stands' (calls_of (says_marks r bytes))) → HandsOn stands stands' (calls_of (HouseSaid bytes ∷ []))
+hands-said {E} stands stands' r bytes is h = subst (λ (x : Result Bool E). OnOk x (HandsOn stands stands' (calls_of (says_marks x bytes)))) is h
 
-pub hands-nothing : {E : Type 0} (stands stands' : List HouseCall → Type 0) (r : Result Bool E) (bytes : List ℕ) → r ≡ Ok false → HandsOn stands stands' (calls_of (says_marks r bytes)) → HandsOn stands stands' []
-hands-nothing stands stands' r bytes is h = subst (λ (x : Result Bool _). HandsOn stands stands' (calls_of (says_marks x bytes))) is h
+pub hands-nothing : {E : Type 0} (stands stands' : List HouseCall → Type 0) (r : Result Bool E) (bytes : List ℕ) → r ≡ Ok false → OnOk r (HandsOn stands stands' (calls_of (says_marks r bytes))) → HandsOn stands stands' []
+hands-nothing {E} stands stands' r bytes is h = subst (λ (x : Result Bool E). OnOk x (HandsOn stands stands' (calls_of (says_marks x bytes)))) is h
 
 pub some-said : {E : Type 0} (r : Result Bool E) (bytes : List ℕ) → r ≡ Ok true → SaysFits r bytes → 0 < length bytes
 some-said {E} r bytes is fits = let f : SaysFits {E = E} (Ok true) bytes = subst (λ (x : Result Bool E). SaysFits {E = E} x bytes) is fits in f.0

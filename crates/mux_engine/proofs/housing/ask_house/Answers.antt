@@ -19,7 +19,7 @@ use Rattle.mux_engine.proofs.housing.ask_house.Goals as goal
 -- ---- no house
 
 pub returns-then-not-present-clause-serving : goal.returns-then-not-present-clause-serving
-returns-then-not-present-clause-serving g c first calls before policy pid start given hands v = handed-none hands (none-handed v (sym c.present.ensures.present ∙ c.if-not-present.true))
+returns-then-not-present-clause-serving g c first calls before policy pid start given hands v = handed-none _ hands (none-handed v (sym c.present.ensures.present ∙ c.if-not-present.true))
 
 pub returns-then-not-present-clause-ready : goal.returns-then-not-present-clause-ready
 returns-then-not-present-clause-ready g c = λ e. none-more _ _ _ (g.W.Wire.seen c.args.wire.now) _ _ _ (sym c.present.ensures.present ∙ c.if-not-present.true) c.requires.alone c.requires.housed

@@ -16,7 +16,7 @@ use Rattle.mux_engine.proofs.housing.hand_over.Goals as goal
 
 pub returns-then-is_empty-clause-serving : goal.returns-then-is_empty-clause-serving
 returns-then-is_empty-clause-serving g c held failed first calls before policy pid start given hands v =
-    handed-none hands (no-turns (house-idle v c.queue_of-bytes.result.now (c.queue_of-bytes.ensures.waits v.picked v.replies v.journal v.closed v.stands) (empty-is c.queue_of-bytes.result.now (sym c.if-is_empty.ensures))))
+    handed-none _ hands (no-turns (house-idle v c.queue_of-bytes.result.now (c.queue_of-bytes.ensures.waits v.picked v.replies v.journal v.closed v.stands) (empty-is c.queue_of-bytes.result.now (sym c.if-is_empty.ensures))))
 
 pub returns-in_err-takes-clause-serving : goal.returns-in_err-takes-clause-serving
 returns-in_err-takes-clause-serving g c held failed first calls before policy pid start given hands v = on-err c.from_residual.result _ _ c.from_residual.ensures.0
@@ -33,6 +33,6 @@ pub returns-clause-serving : goal.returns-clause-serving
 returns-clause-serving g c held failed first calls before policy pid start given hands v =
     let H = g.H.House in
     let bytes : List ℕ = c.queue_of-bytes.result.now in
-    handed-more (Hears bytes ∷ []) hands c.in_ok-takes.ensures.stands
+    handed-more _ (Hears bytes ∷ []) hands c.in_ok-takes.ensures.stands
     (subst (λ (x : Seen). Serving H.may (RestsOf H.told H.quiet H.must H.refused H.stands (H.known c.args.house.now).present first) before (noted (H.told c.takes.new.self) (H.known c.takes.new.self) (calls ++ Hears bytes ∷ [])) policy pid start x held failed (given + 0) (0 ∷ without HOUSE (here c.took.new.self)) c.took.new.self) (sym c.in_ok-note.ensures.seen)
     (no-turns (handed (H.known c.takes.new.self) v c.took.new.self bytes c.in_ok-takes.ensures.told c.in_ok-takes.ensures.known c.queue_of-bytes.ensures.exact (some-bytes bytes (sym c.if-is_empty.ensures)) c.queue_of-bytes.ensures.waits c.took.ensures.exact (c.took.ensures.stands bytes refl))))

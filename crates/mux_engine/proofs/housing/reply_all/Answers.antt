@@ -16,7 +16,7 @@ use Rattle.mux_engine.proofs.housing.reply_all.Goals as goal
 
 pub loop-wire-init : goal.loop-wire-init
 loop-wire-init g c = record {
-  serving = λ first calls before policy pid start given hands v. handed-none hands v;
+  serving = λ first calls before policy pid start given hands v. handed-none _ hands v;
   known = same-house _ _ refl;
   places = places-same _ _ refl;
   held_is = c.requires.held_is;

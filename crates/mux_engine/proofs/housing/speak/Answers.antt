@@ -86,9 +86,9 @@ returns-clause-serving g c held failed first calls before policy pid start given
     let few : length bytes ≤ 65536 = subst (λ (l : List ℕ). length l ≤ 65536) e c.as_bytes-2.ensures.room in
     let are : AreBytes c.as_bytes-2.result.now = c.event_of_bytes-said.ensures.bytes in
     let after : W.seen c.note.new.self ≡ seen-with (HouseSaid bytes ∷ []) (W.seen c.args.wire.now) = c.in_ok-note.ensures.seen ∙ ap (λ (l : List ℕ). seen-with (HouseSaid l ∷ []) (W.seen c.args.wire.now)) (c.in_ok-bytes.ensures ∙ c.as_bytes.ensures.bytes) in
-    let said = hands-said (H.stands c.args.house.now) (H.stands c.says.new.self) _ bytes (ap (λ (b : Bool). Ok b) c.if-not-branch.false) c.in_ok-says.ensures.stands in
+    let said = hands-said (H.stands c.args.house.now) (H.stands c.says.new.self) c.says.result bytes is c.says.ensures.stands in
     let served = ok-serves c.heed.result _ _ c.in_ok-heed.was (said-heeds told known v c.requires.on c.requires.present c.requires.room (H.told c.says.new.self) (H.known c.says.new.self) bytes tells same event there (some-said c.says.result bytes is c.says.ensures.fits) few (subst AreBytes e are) c.heed.result c.heed.new.engine c.heed.new.asks (H.told c.heed.new.house) (H.known c.heed.new.house) (W.seen c.note.new.self) (W.seen c.heed.new.wire) after c.heed.ensures.heeded) in
-    handed-more (calls_of c.heed.new.asks) (hands-then (H.stands first) (H.stands c.args.house.now) (H.stands c.says.new.self) calls (calls_of (HouseSaid bytes ∷ [])) hands said) c.in_ok-heed.ensures.handed served
+    handed-more _ (calls_of c.heed.new.asks) (hands-then (H.stands first) (H.stands c.args.house.now) (H.stands c.says.new.self) calls (calls_of (HouseSaid bytes ∷ [])) hands said) c.in_ok-heed.ensures.handed served
 
 pub returns-clause-known : goal.returns-clause-known
 returns-clause-known g c =
@@ -121,5 +121,5 @@ pub returns-then-not-branch-clause-serving : goal.returns-then-not-branch-clause
 returns-then-not-branch-clause-serving g c held failed first calls before policy pid start given hands v =
     let H = g.H.House in
     let none : c.says.result ≡ Ok false = c.in_ok-says.was ∙ ap (λ (b : Bool). Ok b) c.if-not-branch.true in
-    still-handed (H.known c.says.new.self) hands (hands-nothing (H.stands c.args.house.now) (H.stands c.says.new.self) _ c.says.new.into (ap (λ (b : Bool). Ok b) c.if-not-branch.true) c.in_ok-says.ensures.stands)
+    still-handed (H.known c.says.new.self) hands (hands-nothing (H.stands c.args.house.now) (H.stands c.says.new.self) c.says.result c.says.new.into none c.says.ensures.stands)
     (told-nothing c.says.result c.says.new.into (H.told c.args.house.now) (H.told c.says.new.self) none c.says.ensures.told) c.in_ok-says.ensures.known v

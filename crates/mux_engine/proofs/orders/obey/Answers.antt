@@ -21,7 +21,7 @@ returns-clause-serving g c todo s first calls before policy pid start given hand
     let o = c.in_ok-number.ensures in
     let side = side-carried c.args.order c.in_ok-number.number _ _ _ _ c.requires.ordered o.known in
     let more : List HouseCall = calls_of (more_told c.args.order c.in_ok-number.number) in
-    match-more c.note.result _ (λ served. handed-more more hands o.stands served)
+    match-more c.note.result _ (λ served. handed-more _ more hands o.stands served)
     (order-noted v c.note.result c.args.order c.in_ok-number.number (noted (H.told c.carry_out.new.house) (H.known c.carry_out.new.house) (calls ++ more)) _ _ _ _ c.requires.present o.made (closes-own c.args.order _ _ _ c.requires.ordered) refl o.told side.asks refl side.present refl o.seen (ap (λ x. x.told) o.seen ∙ carried-told c.args.order c.in_ok-number.number _) c.note.ensures.seen o.held o.failed)
 
 pub returns-clause-housed : goal.returns-clause-housed

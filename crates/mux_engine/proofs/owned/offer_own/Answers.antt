@@ -7,7 +7,7 @@ use Rattle.mux_engine.proofs.owned.offer_own.Goals as goal
 
 pub loop-init : goal.loop-init
 loop-init g c = record {
-  serving = λ present first before now policy pid start given todo s none hands v. handed-none hands v;
+  serving = λ present first before now policy pid start given todo s none hands v. handed-none _ hands v;
   known = refl;
   told = refl;
   must = refl;

@@ -10,12 +10,12 @@ use Rattle.mux_engine.proofs.owned.own_once.Goals as goal
 
 pub returns-in-Took-clause-serving : goal.returns-in-Took-clause-serving
 returns-in-Took-clause-serving g c present first before now policy pid start given todo s none hands v =
-    handed-more (call.Takes c.args.stream c.in-Took.n ∷ []) hands c.took.ensures.stands
+    handed-more _ (call.Takes c.args.stream c.in-Took.n ∷ []) hands c.took.ensures.stands
     (own-takes v c.args.stream c.requires.own c.requires.stream_open c.in-Took.n c.queue_of-bytes.result.now _ none c.in-Took.ensures.bytes (some-bytes c.queue_of-bytes.result.now (sym c.if-is_empty.ensures)) c.in-Took.ensures.wrote c.in-Took.ensures.seen)
 
 pub returns-in_ok-push-in-Later-clause-serving : goal.returns-in_ok-push-in-Later-clause-serving
 returns-in_ok-push-in-Later-clause-serving g c present first before now policy pid start given todo s none hands v =
-    handed-none hands (own-holds v c.args.stream c.requires.own c.requires.stream_open c.queue_of-bytes.result.now _ _ c.in-Later.ensures.bytes (some-bytes c.queue_of-bytes.result.now (sym c.if-is_empty.ensures)) c.in-Later.ensures.seen c.in_ok-push-in-Later.ensures.ok)
+    handed-none _ hands (own-holds v c.args.stream c.requires.own c.requires.stream_open c.queue_of-bytes.result.now _ _ c.in-Later.ensures.bytes (some-bytes c.queue_of-bytes.result.now (sym c.if-is_empty.ensures)) c.in-Later.ensures.seen c.in_ok-push-in-Later.ensures.ok)
 
 pub returns-in_err-push-in-Later-clause-serving : goal.returns-in_err-push-in-Later-clause-serving
 returns-in_err-push-in-Later-clause-serving g c present first before now policy pid start given todo s none hands v = on-err c.from_residual.result _ _ c.from_residual.ensures.0
@@ -23,7 +23,7 @@ returns-in_err-push-in-Later-clause-serving g c present first before now policy 
 
 pub returns-in_ok-turn-in-Failed-clause-serving : goal.returns-in_ok-turn-in-Failed-clause-serving
 returns-in_ok-turn-in-Failed-clause-serving g c present first before now policy pid start given todo s none hands v =
-    handed-more (Turns (Failed c.args.stream) ∷ []) hands c.in_ok-turn-in-Failed.ensures.stands
+    handed-more _ (Turns (Failed c.args.stream) ∷ []) hands c.in_ok-turn-in-Failed.ensures.stands
     (own-fails v c.args.stream c.requires.own c.requires.stream_open c.queue_of-bytes.result.now _ _ none c.in-Failed.ensures.bytes (some-bytes c.queue_of-bytes.result.now (sym c.if-is_empty.ensures)) c.in-Failed.ensures.seen c.in_ok-push-in-Failed.ensures.ok)
 
 pub returns-in_err-push-in-Failed-clause-serving : goal.returns-in_err-push-in-Failed-clause-serving

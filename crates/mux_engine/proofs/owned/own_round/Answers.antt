@@ -21,7 +21,7 @@ offer_own-requires-clause-own g c = c.requires.each_own c.in-Some.stream (c.loop
 
 pub loop-stream-init : goal.loop-stream-init
 loop-stream-init g c = record {
-  serving = λ present first before now policy pid start given todo s none hands v. handed-none hands v;
+  serving = λ present first before now policy pid start given todo s none hands v. handed-none _ hands v;
   known = refl;
   told = refl;
   must = refl;

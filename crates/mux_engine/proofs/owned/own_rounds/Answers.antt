@@ -11,7 +11,7 @@ use Rattle.mux_engine.proofs.owned.own_rounds.Goals as goal
 
 pub loop-wire-init : goal.loop-wire-init
 loop-wire-init g c = record {
-  serving = λ present first before now policy pid start given todo s none hands v. handed-none hands v;
+  serving = λ present first before now policy pid start given todo s none hands v. handed-none _ hands v;
   known = refl;
   told = refl;
   must = refl;
@@ -61,3 +61,8 @@ own_round-requires-clause-each_open g c = λ t a. ap (among t) c.loop-wire.invar
 
 pub loop-wire-smaller : goal.loop-wire-smaller
 loop-wire-smaller g c = omega (arith, c.in_ok-own_round.ensures.fewer c.args.own.now (λ t a. sym (ap (among t) (c.in_ok-refill.ensures.ok ∙ c.as_slice.ensures)) ∙ a))
+
+pub returns-then-len-before-clause-serving : goal.returns-then-len-before-clause-serving
+returns-then-len-before-clause-serving g c present first before now policy pid start given todo s none hands v =
+    let h = c.loop-wire.invariant.serving present first before now policy pid start given todo s none hands v in
+    c.in_ok-own_round.ensures.serving present first before (record now { calls = h.all }) policy pid start given todo s none h.hands h.so

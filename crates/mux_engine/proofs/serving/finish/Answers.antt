@@ -5,12 +5,15 @@ use Rattle.mux_machine.specs.Events.{here}
 use Rattle.mux_machine.specs.State.{State}
 use Rattle.mux_engine.specs.Sides.{noted}
 use Rattle.mux_engine.proofs.Arms.{counts-then, on-err, on-ok, stays, then-stays-or-fails}
-use Rattle.mux_engine.proofs.Called.{handed-so}
+use Rattle.mux_engine.proofs.Called.{handed-none, handed-so}
 use Rattle.mux_engine.proofs.Counting.{faults-then, same-faults}
 use Rattle.mux_engine.proofs.Loops.{counts-err}
 use Rattle.mux_engine.proofs.Places.{places-then}
-use Rattle.mux_engine.proofs.Running.{match-more, none-settled, to-house}
+use Rattle.mux_engine.proofs.Running.{all-settled, match-more, none-settled, to-house}
 use Rattle.mux_engine.proofs.serving.finish.Goals as goal
+
+pub returns-then-lists-clause-serving : goal.returns-then-lists-clause-serving
+returns-then-lists-clause-serving g c first calls before policy pid start given hands v = handed-none _ hands (all-settled _ c.if-lists.true v)
 
 pub last_replies-requires : goal.last_replies-requires
 last_replies-requires g c = let w = c.requires.served in record { served = record { first = w.first; calls = w.calls; hands = w.hands; before = w.before; policy = w.policy; pid = w.pid; start = w.start; given = w.given; serving = none-settled _ c.if-lists.false w.serving }; housed = c.requires.housed; held_is = c.requires.held_is; on = c.requires.on }

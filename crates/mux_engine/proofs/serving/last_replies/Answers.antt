@@ -11,7 +11,7 @@ use Rattle.mux_engine.proofs.serving.last_replies.Goals as goal
 
 pub returns-then-not-all : goal.returns-then-not-all
 returns-then-not-all g c = record {
-  serving = λ first calls before policy pid start given hands v. handed-none hands (given-is given (given + 0) (omega arith) v);
+  serving = λ first calls before policy pid start given hands v. handed-none _ hands (given-is given (given + 0) (omega arith) v);
   known = same-house _ _ refl;
   places = places-same _ _ refl;
   unasked = λ e. refl;
@@ -25,7 +25,7 @@ returns-then-not-all g c = record {
 
 pub returns-then-not-present : goal.returns-then-not-present
 returns-then-not-present g c = record {
-  serving = λ first calls before policy pid start given hands v. handed-none hands (given-is given (given + 0) (omega arith) v);
+  serving = λ first calls before policy pid start given hands v. handed-none _ hands (given-is given (given + 0) (omega arith) v);
   known = same-house _ _ refl;
   places = places-same _ _ refl;
   unasked = λ e. refl;

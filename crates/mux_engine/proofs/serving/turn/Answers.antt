@@ -82,7 +82,7 @@ returns-in-Event-clause-serving g c first calls before policy pid start given ha
     let w : HasWaited seen (W.seen c.wait-told.new.self) lists.own lists.failed (H.queue house) c.args.engine.now c.wait-told.result c.wait-told.new.into =
     has-waited seen (W.seen c.wait-told.new.self) lists.own lists.failed (H.queue house) c.args.engine.now c.wait-told.result c.wait-told.new.into c.as_bytes.result.now c.list_waiting.new.todo c.waiting.result.now c.wanted.result c.wait-told.ensures.seen c.in_ok-list_waiting.ensures c.waiting.ensures.exact c.wanted.ensures c.next_of.ensures.bytes c.as_bytes.ensures.bytes c.wait-told.ensures.turn c.wait-told.ensures.own_turn in
     let next : IsEventOf c.in-Event.e c.wait-told.result c.wait-told.new.into = subst (λ (b : List ℕ). IsEventOf c.in-Event.e c.wait-told.result b) c.as_bytes.ensures.bytes c.in-Event.ensures.next in
-    both-ok c.heed.result _ (λ served step. handed-more (calls_of c.heed.new.asks) hands step served)
+    both-ok c.heed.result _ (λ served step. handed-more _ (calls_of c.heed.new.asks) hands step served)
     (turn-heeds v a w c.heed.result c.in-Event.e next c.heed.new.engine c.heed.new.asks (H.told house) (H.told c.heed.new.house) (H.known house) (H.known c.heed.new.house) (W.seen c.heed.new.wire) refl refl refl c.heed.ensures.heeded) c.heed.ensures.handed
 
 pub returns-in-Event-clause-housed : goal.returns-in-Event-clause-housed
@@ -185,7 +185,7 @@ returns-in_ok-hear-in-Own-clause-serving g c first calls before policy pid start
     let w : HasWaited seen (W.seen c.wait-told.new.self) lists.own lists.failed (H.queue house) c.args.engine.now c.wait-told.result c.wait-told.new.into =
     has-waited seen (W.seen c.wait-told.new.self) lists.own lists.failed (H.queue house) c.args.engine.now c.wait-told.result c.wait-told.new.into c.as_bytes.result.now c.list_waiting.new.todo c.waiting.result.now c.wanted.result c.wait-told.ensures.seen c.in_ok-list_waiting.ensures c.waiting.ensures.exact c.wanted.ensures c.next_of.ensures.bytes c.as_bytes.ensures.bytes c.wait-told.ensures.turn c.wait-told.ensures.own_turn in
     let next : IsOwnOf c.in-Own.told c.wait-told.result c.wait-told.new.into = subst (λ (b : List ℕ). IsOwnOf c.in-Own.told c.wait-told.result b) c.as_bytes.ensures.bytes c.in-Own.ensures.next in
-    handed-more (Turns (happening_of c.in-Own.told) ∷ []) hands c.in_ok-hear-in-Own.ensures.stands
+    handed-more _ (Turns (happening_of c.in-Own.told) ∷ []) hands c.in_ok-hear-in-Own.ensures.stands
     (own-noted c.in-Own.told _ _ _ _ _ _ _ _ c.hear.ensures.told c.in_ok-hear-in-Own.ensures.known c.in_ok-hear-in-Own.ensures.held c.in_ok-hear-in-Own.ensures.failed (turn-owns v a w c.in-Own.told next))
 
 pub returns-in_ok-hear-in-Own-clause-housed : goal.returns-in_ok-hear-in-Own-clause-housed
@@ -243,7 +243,7 @@ returns-in-Freed-clause-serving g c first calls before policy pid start given ha
     at-wait H.told H.quiet H.must H.refused H.stands first house (H.known house) seen lists.own lists.held lists.failed (H.queue house) c.args.engine.now c.requires.housed c.requires.ready c.requires.permitted c.requires.closed c.requires.refused c.requires.on c.requires.hears hands in
     let w : HasWaited seen (W.seen c.wait-told.new.self) lists.own lists.failed (H.queue house) c.args.engine.now c.wait-told.result c.wait-told.new.into =
     has-waited seen (W.seen c.wait-told.new.self) lists.own lists.failed (H.queue house) c.args.engine.now c.wait-told.result c.wait-told.new.into c.as_bytes.result.now c.list_waiting.new.todo c.waiting.result.now c.wanted.result c.wait-told.ensures.seen c.in_ok-list_waiting.ensures c.waiting.ensures.exact c.wanted.ensures c.next_of.ensures.bytes c.as_bytes.ensures.bytes c.wait-told.ensures.turn c.wait-told.ensures.own_turn in
-    handed-none hands (subst (λ (l : List ℕ). Serving H.may (RestsOf H.told H.quiet H.must H.refused H.stands (H.known house).present first) before (noted (H.told house) (H.known house) calls) policy pid start (W.seen c.wait-told.new.self) l lists.failed (given + 1) (0 ∷ here c.args.engine.now) c.args.engine.now) (sym c.remove.ensures)
+    handed-none _ hands (subst (λ (l : List ℕ). Serving H.may (RestsOf H.told H.quiet H.must H.refused H.stands (H.known house).present first) before (noted (H.told house) (H.known house) calls) policy pid start (W.seen c.wait-told.new.self) l lists.failed (given + 1) (0 ∷ here c.args.engine.now) c.args.engine.now) (sym c.remove.ensures)
     (turn-frees v a w c.in-Freed.stream c.in-Freed.ensures.next.0 c.in-Freed.ensures.next.1))
 
 -- ---- no memory

@@ -15,7 +15,7 @@ use Rattle.mux_engine.proofs.serving.turns_of.Goals as goal
 
 pub loop-init : goal.loop-init
 loop-init g c = record {
-  serving = λ first calls before policy pid start given hands v. handed-none hands (given-is given (given + 0) (omega arith) v);
+  serving = λ first calls before policy pid start given hands v. handed-none _ hands (given-is given (given + 0) (omega arith) v);
   housed = c.requires.housed;
   alone = c.requires.alone;
   held_is = c.requires.served.serving.held_is;
