@@ -7,7 +7,7 @@ use Rattle.mux_outside.specs.declared.house_mark.HouseMark.{HouseMark as Asked}
 use Rattle.mux_outside.specs.declared.house.HouseReply.{HouseReply}
 use Rattle.ssh_grammar.specs.Control.{ForwardAsk, OpenForward, CloseForward}
 use Rattle.ssh_grammar.specs.ReadControl.{Reading, read_control}
-use Rattle.ssh_grammar.specs.Frames.{Front, Frame}
+use Rattle.ssh_grammar.specs.Frames.{Frame}
 use Rattle.ssh_grammar.specs.Said.{Mode, Parsed, Saying, Body, first_in, mode_after, parse, saying_in}
 use Rattle.ssh_grammar.proofs.Parses.{parse-at}
 use Rattle.proxy_frames.specs.declared.next.Next.TheVariants as next

@@ -16,8 +16,7 @@ use Rattle.mux_clients.specs.declared.heard.Heard.{Heard}
 use Rattle.mux_clients.specs.State.{ClientState}
 use Rattle.mux_clients.specs.Stands.{is_read, mode_of}
 use Rattle.mux_clients.specs.Among.{ChangesOne, EachFits, InFits, is_present}
-use Rattle.mux_clients.specs.Asked.{IsAsked, TellsAsks, asked_of}
-use Rattle.mux_clients.specs.Laws.{rows_given}
+use Rattle.mux_clients.specs.Asked.{IsAsked, asked_of}
 use Rattle.mux_clients.specs.Pieces.{HearsIn, ReplyNext, rows_said}
 use Rattle.mux_clients.specs.Says.{ComeNext}
 use Rattle.mux_clients.specs.Starved.{BeginsWith, HearsSome, OneIs}
@@ -28,7 +27,7 @@ use Rattle.mux_machine.specs.declared.event.Event.{Event}
 use Rattle.mux_machine.specs.declared.event.Event.TheVariants as event
 use Rattle.mux_machine.specs.Events.{Tells}
 use Rattle.mux_machine.specs.State.{State}
-use Rattle.mux_machine.specs.Stands.{AsksFirst, ClientReads, CutsShort, EachReads, IsAllowed, Stands, StandsFor, log, setting}
+use Rattle.mux_machine.specs.Stands.{ClientReads, CutsShort, EachReads, StandsFor, log, setting}
 use Rattle.mux_machine.specs.Steps.{is_heard}
 use Rattle.mux_machine.proofs.Fed.{allowed-fed, fed, stands-fed}
 use Rattle.mux_machine.proofs.Gains.{drop-front, gets-log, read-in}

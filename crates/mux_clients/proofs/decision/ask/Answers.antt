@@ -1,7 +1,5 @@
-use Rattle.std.proofs.Common.{◌≡◌, [], ◌∷◌, ◌++◌, ◌∙◌, refl, sym, ap, subst, inl, inr, List, Option, Some}
-use Rattle.mux_outside.specs.House.{ask_of}
+use Rattle.std.proofs.Common.{[], ◌∙◌, refl, sym, subst, inl, inr, List}
 use Rattle.mux_outside.specs.declared.house_mark.HouseMark.{HouseMark}
-use Rattle.mux_outside.specs.declared.house_mark.HouseMark.TheVariants.{HouseAsked}
 use Rattle.mux_clients.specs.Asked.{IsAskedSome}
 use Rattle.mux_clients.proofs.Heeding.{asked_not, asked_none_some, heeds_err, tells_none}
 use Rattle.mux_clients.proofs.Starved.{on-err}
