@@ -142,6 +142,7 @@ pub fn got_at<H: House>(
         (H.known house.old) (H.known house.new) }
     ensures handed { OnOk result (HandsAsks asks.old asks.new (H.stands house.old)
         (H.stands house.new)) }
+    ensures must { H.must house.new ≡ H.must house.old }
     ensures untold { is_present clients.old number ≡ false → asks.new ≡ asks.old }
     ensures cut { OnErr result (OneIs number (HearsSome H.may (H.told house.old)
         (H.told house.new) pid bytes.now core.old up.old) clients.old) }

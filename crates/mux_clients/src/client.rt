@@ -127,6 +127,7 @@ impl Client {
             (H.known house.old) (H.known house.new) }
         ensures handed { OnOk result (HandsAsks asks.old asks.new (H.stands house.old)
             (H.stands house.new)) }
+        ensures must { H.must house.new ≡ H.must house.old }
         ensures cut { OnErr result (HearsSome H.may (H.told house.old) (H.told house.new) pid
             bytes.now core.old up.old self.old) }
         ensures policy { OnOk result (core.new.policy ≡ core.old.policy) }
@@ -245,6 +246,7 @@ impl Client {
             (H.known house.old) (H.known house.new) }
         ensures handed { OnOk result (HandsAsks asks.old asks.new (H.stands house.old)
             (H.stands house.new)) }
+        ensures must { H.must house.new ≡ H.must house.old }
         ensures next { IfOk result (λ more.
             SaysNext H.may (Some asks.old) (Some asks.new) pid more
             (first_in (mode_of self.old.seat.standing) self.old.rest) core.old core.new up.old
@@ -302,6 +304,7 @@ impl Client {
             (H.known house.old) (H.known house.new) }
         ensures handed { OnOk result (HandsAsks asks.old asks.new (H.stands house.old)
             (H.stands house.new)) }
+        ensures must { H.must house.new ≡ H.must house.old }
         ensures hears { IfOk result (λ heard.
             HearsPiece H.may (Some asks.old) (Some asks.new) pid bytes.now core.old up.old
             self.old core.new up.new self.new heard) }

@@ -121,6 +121,7 @@ impl Engine {
             (H.known house.old) (H.known house.new) }
         ensures handed { OnOk result (HandsAsks asks.old asks.new (H.stands house.old)
             (H.stands house.new)) }
+        ensures must { H.must house.new ≡ H.must house.old }
         ensures cut { OnErr result ((mark : TheMark) → Tells e.entry mark
             → CutsShort H.may (H.told house.old) (H.told house.new) self.old mark) }
         ensures keeps { OnOk result (Keeps e.entry self.old self.new) }
@@ -162,6 +163,7 @@ impl Engine {
             (H.known house.old) (H.known house.new) }
         ensures handed { OnOk result (HandsAsks asks.old asks.new (H.stands house.old)
             (H.stands house.new)) }
+        ensures must { H.must house.new ≡ H.must house.old }
         ensures cut { OnErr result ((mark : TheMark) → Tells e.entry mark
             → CutsShort H.may (H.told house.old) (H.told house.new) self.old mark) }
         ensures keeps { OnOk result (Keeps e.entry self.old self.new) }
@@ -232,6 +234,7 @@ impl Engine {
             (H.known house.old) (H.known house.new) }
         ensures handed { OnOk result (HandsAsks asks.old asks.new (H.stands house.old)
             (H.stands house.new)) }
+        ensures must { H.must house.new ≡ H.must house.old }
         ensures cut { OnErr result (OneIs client (HearsSome H.may (H.told house.old)
             (H.told house.new) self.old.pid bytes.now self.old.core self.old.up) self.old.clients) }
         ensures policy { OnOk result (self.new.core.policy ≡ self.old.core.policy) }
