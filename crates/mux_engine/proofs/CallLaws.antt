@@ -1,5 +1,5 @@
 -- What the calls that a journal has say of the streams of the house.
-use Rattle.std.proofs.Common.{◌≡◌, ◌≢◌, ◌+◌, ℕ, Bool, true, false, not, ◌&&◌, List, [], ◌∷◌, ◌++◌, length, refl, sym, ap, ◌∙◌, subst, cond, append_assoc, append-nil, arith}
+use Rattle.std.proofs.Common.{◌≡◌, ◌≢◌, ◌+◌, ℕ, Bool, true, false, not, ◌&&◌, List, [], ◌∷◌, ◌++◌, length, refl, sym, ap, ◌∙◌, subst, cond, inl, inr, append_assoc, append-nil, arith}
 use Rattle.std.specs.Prelude.{◌==◌}
 use Rattle.std.proofs.lemmas.List.{length-append}
 use Rattle.std.proofs.lemmas.Bool.Decides.{eqb_tells}
@@ -12,7 +12,8 @@ use Rattle.mux_outside.specs.declared.mark.Mark.{Mark}
 use Rattle.mux_outside.specs.declared.mark.Mark.TheVariants.{Waits, Accepts, Gets, Ends, Frees, Fails, Takes, Holds, WriteFails, Joins, House}
 use Rattle.mux_history.specs.declared.limits.TheConstants.{HOUSE}
 use Rattle.mux_history.specs.Log.{Setting}
-use Rattle.mux_history.specs.Journal.{bytes_in, bytes_of, house_said, is_own_stream, taken_by, taken_in}
+use Rattle.mux_history.specs.Journal.{bytes_in, bytes_of, house_said, is_own_stream, log_of_journal, taken_by, taken_in}
+use Rattle.mux_history.specs.Pending.{pending}
 use Rattle.mux_engine.specs.CallLaws.{IsGivenAll, IsToldAll, bytes_got, got_by, size_by, sizes_taken}
 use Rattle.mux_engine.specs.Called.{calls_at, calls_in, house_calls, if_own}
 use Rattle.mux_engine.proofs.Lists.{test-other, true-false}
@@ -73,7 +74,7 @@ got-at setting before (Frees k) t own = got-none t (Turns (Writable k)) refl (is
 got-at setting before (Fails k) t own = got-none t (Turns (Failed k)) refl (is_own k)
 got-at setting before (WriteFails k) t own = got-none t (Turns (Failed k)) refl (is_own k)
 got-at setting before (Takes k bytes) t own = got-none t (call.Takes k (length bytes)) refl (is_own k)
-got-at setting before (House mark) t own = got-house t _ mark ∙ sym (ap (λ (b : Bool). elim b as (λ _. List ℕ) [ true ↦ house_said mark | false ↦ [] ]) (no-house t own))
+got-at setting before (House mark) t own = got-house t (pending HOUSE (log_of_journal setting before)) mark ∙ sym (ap (λ (b : Bool). elim b as (λ _. List ℕ) [ true ↦ house_said mark | false ↦ [] ]) (no-house t own))
 got-at setting before (Waits waiting want streams listens) t own = refl
 got-at setting before (Accepts k) t own = refl
 got-at setting before (Holds k) t own = refl
@@ -120,7 +121,7 @@ size-at setting before (Ends k) t own = size-none t (Turns (End k)) refl (is_own
 size-at setting before (Frees k) t own = size-none t (Turns (Writable k)) refl (is_own k)
 size-at setting before (Fails k) t own = size-none t (Turns (Failed k)) refl (is_own k)
 size-at setting before (WriteFails k) t own = size-none t (Turns (Failed k)) refl (is_own k)
-size-at setting before (House mark) t own = size-house t _ mark
+size-at setting before (House mark) t own = size-house t (pending HOUSE (log_of_journal setting before)) mark
 size-at setting before (Waits waiting want streams listens) t own = refl
 size-at setting before (Accepts k) t own = refl
 size-at setting before (Holds k) t own = refl

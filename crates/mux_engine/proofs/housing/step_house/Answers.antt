@@ -24,6 +24,10 @@ returns-then-branch-clause-serving g c first calls before policy pid start given
     let h = ok-serves c.ask_house.result _ _ is (c.ask_house.ensures.serving first calls before policy pid start given hands v) in
     handed-so h (handed-again h.so)
 
+pub returns-in_err-ask_house-clause-serving : goal.returns-in_err-ask_house-clause-serving
+returns-in_err-ask_house-clause-serving g c first calls before policy pid start given hands v = on-err c.from_residual.result _ _ c.from_residual.ensures.0
+    (err-serves c.ask_house.result _ _ c.in_err-ask_house.was (c.ask_house.ensures.serving first calls before policy pid start given hands v))
+
 -- ---- what waits is offered
 
 pub flush-requires-clause-served : goal.flush-requires-clause-served

@@ -15,6 +15,10 @@ returns-then-branch-clause-serving g c first calls before policy pid start given
     let h = c.in_ok-step_house.ensures.serving first calls before policy pid start given hands v in
     handed-so h (inl (step-took given (0 ∷ here c.step_house.new.engine) c.in_ok-step_house.field-0 c.if-branch.true h.so))
 
+pub returns-in_err-step_house-clause-serving : goal.returns-in_err-step_house-clause-serving
+returns-in_err-step_house-clause-serving g c first calls before policy pid start given hands v = on-err c.from_residual.result _ _ c.from_residual.ensures.0
+    (c.in_err-step_house.ensures.serving first calls before policy pid start given hands v)
+
 -- ---- before a wait
 
 pub close_lost-requires : goal.close_lost-requires
