@@ -21,8 +21,7 @@ use Rattle.mux_engine.specs.Rests.{IsAlone, IsByRow, ended_as, refused_if}
 use Rattle.mux_engine.specs.Run.{IsRun}
 use Rattle.mux_engine.specs.Serving.{Promised, Serving, StaysOrFails}
 use Rattle.mux_engine.specs.Sides.{Housed, Resting, Side}
-use Rattle.mux_engine.proofs.Arms.{le-of}
-use Rattle.mux_engine.proofs.Counting.{later-on, none-more, rose-behind, stays-by-row}
+use Rattle.mux_engine.proofs.Counting.{none-more, stays-by-row}
 use Rattle.mux_engine.proofs.Ending.{ends-so, ends-spent, ends-unspent, fails-on, refused-none, refused-same}
 use Rattle.mux_engine.proofs.Lists.{test-other, true-false}
 use Rattle.mux_engine.proofs.Runs.{ends-run, ends-starved, promised-more}

@@ -1,5 +1,5 @@
 -- What the calls that a journal has say of the streams of the house.
-use Rattle.std.proofs.Common.{◌≡◌, ◌≢◌, ◌+◌, ℕ, Bool, true, false, not, ◌&&◌, List, [], ◌∷◌, ◌++◌, length, refl, sym, ap, ◌∙◌, subst, cond, inl, inr, append_assoc, append-nil, arith}
+use Rattle.std.proofs.Common.{◌≡◌, ◌+◌, ℕ, Bool, true, false, not, ◌&&◌, List, [], ◌∷◌, ◌++◌, length, refl, sym, ap, ◌∙◌, subst, cond, inl, inr, append_assoc, append-nil, arith}
 use Rattle.std.specs.Prelude.{◌==◌}
 use Rattle.std.proofs.lemmas.List.{length-append}
 use Rattle.std.proofs.lemmas.Bool.Decides.{eqb_tells}
@@ -15,7 +15,7 @@ use Rattle.mux_history.specs.Log.{Setting}
 use Rattle.mux_history.specs.Journal.{bytes_in, bytes_of, house_said, is_own_stream, log_of_journal, taken_by, taken_in}
 use Rattle.mux_history.specs.Pending.{pending}
 use Rattle.mux_engine.specs.CallLaws.{IsGivenAll, IsToldAll, bytes_got, got_by, size_by, sizes_taken}
-use Rattle.mux_engine.specs.Called.{calls_at, calls_in, house_calls, if_own}
+use Rattle.mux_engine.specs.Called.{calls_at, calls_in, house_calls}
 use Rattle.mux_engine.proofs.Lists.{test-other, true-false}
 
 -- ---- a stream of the house's own

@@ -1,5 +1,5 @@
 -- What a mark adds to the calls of the house.
-use Rattle.std.proofs.Common.{◌≡◌, ℕ, Bool, true, false, List, [], ◌∷◌, ◌++◌, refl, sym, ap, ◌∙◌, subst, append_assoc, append-nil, cond}
+use Rattle.std.proofs.Common.{◌≡◌, ℕ, Bool, true, false, List, [], ◌∷◌, ◌++◌, sym, ap, ◌∙◌, subst, append_assoc, append-nil, cond}
 use Rattle.mux_outside.specs.HouseCalls.{HandsOn, Hears, HouseCall, calls_of}
 use Rattle.mux_outside.specs.OwnStreams.{is_own}
 use Rattle.mux_outside.specs.declared.house_mark.HouseMark.{HouseMark}

@@ -25,7 +25,7 @@ use Rattle.mux_machine.specs.State.{State, closed_by, first_of, is_here}
 use Rattle.mux_machine.specs.Events.{here}
 use Rattle.mux_machine.specs.Stands.{Closes, IsFirst, Stands, StandsFor, log, not_closed}
 use Rattle.mux_engine.specs.Serving.{IsSound, IsUnseen, IsUnused, Serving}
-use Rattle.mux_engine.specs.Sides.{Housed, OwnPlaces, Resting, Side}
+use Rattle.mux_engine.specs.Sides.{Housed, Resting, Side}
 use Rattle.mux_engine.proofs.Lists.{among-here, among-less, none-without, or-true, own-or-house, test-other, true-false, without-other}
 use Rattle.mux_engine.proofs.Logs.{out-more}
 use Rattle.mux_engine.proofs.Places.{house-shut}

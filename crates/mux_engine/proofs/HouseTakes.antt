@@ -3,7 +3,7 @@ use Rattle.std.proofs.Common.{◌≡◌, ◌≢◌, ◌≤◌, ◌<◌, ◌+◌,
 use Rattle.std.specs.Prelude.{◌==◌}
 use Rattle.std.proofs.lemmas.Bool.Decides.{eqb_tells}
 use Rattle.ssh_fields.specs.Fields.{AreBytes}
-use Rattle.mux_outside.specs.HouseCalls.{Hears, HouseCall}
+use Rattle.mux_outside.specs.HouseCalls.{Hears}
 use Rattle.mux_outside.specs.Seen.{Seen}
 use Rattle.mux_outside.specs.Streams.{among, without}
 use Rattle.mux_outside.specs.declared.house.HouseReply.{HouseReply}
@@ -30,8 +30,8 @@ use Rattle.mux_machine.proofs.Twins.{house-client, stands-alike}
 use Rattle.mux_engine.specs.Serving.{IsSound, Serving, is_open}
 use Rattle.mux_engine.specs.Sides.{Resting, Side}
 use Rattle.mux_engine.proofs.Called.{CallsOn, calls-heard}
-use Rattle.mux_engine.proofs.Lists.{among-open, none-without, open-here, test-other, true-false, without-other}
-use Rattle.mux_engine.proofs.Logs.{log-out, settled-as, took-log, took-pending}
+use Rattle.mux_engine.proofs.Lists.{among-open, test-other, true-false, without-other}
+use Rattle.mux_engine.proofs.Logs.{log-out, settled-as, took-log}
 use Rattle.mux_engine.proofs.Marks.{log-is, serve-alone}
 use Rattle.mux_engine.proofs.Noted.{seen-with}
 use Rattle.mux_engine.proofs.Offers.{SameRun, Waiting}

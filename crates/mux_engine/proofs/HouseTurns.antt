@@ -18,14 +18,12 @@ use Rattle.mux_history.specs.Policy.{Policy}
 use Rattle.mux_history.specs.Journal.{IsLawful, is_accepted}
 use Rattle.mux_history.specs.Promises.{turns_in}
 use Rattle.mux_history.proofs.Wires.{wire-keeps}
-use Rattle.mux_clients.specs.Asked.{TellsAsks, asked_of}
-use Rattle.mux_machine.specs.State.{State, queue_in, taken}
-use Rattle.mux_machine.specs.Events.{Keeps, Tells, here}
-use Rattle.mux_machine.specs.declared.event.Event.{Event}
-use Rattle.mux_machine.specs.declared.event.Event.TheVariants.{Accepted, FromClient, HouseSays}
-use Rattle.mux_machine.specs.Stands.{GoesBy, GoesOn, GoesAlone, Stands}
-use Rattle.mux_machine.proofs.Twins.{house-client, stands-alike}
-use Rattle.mux_engine.specs.Serving.{IsSound, Promised, Serving}
+use Rattle.mux_machine.specs.State.{State}
+use Rattle.mux_machine.specs.Events.{Keeps, here}
+use Rattle.mux_machine.specs.declared.event.Event.TheVariants.{Accepted, HouseSays}
+use Rattle.mux_machine.specs.Stands.{GoesOn}
+use Rattle.mux_machine.proofs.Twins.{house-client}
+use Rattle.mux_engine.specs.Serving.{Promised, Serving}
 use Rattle.mux_engine.specs.Sides.{Resting, Side}
 use Rattle.mux_engine.proofs.Asks.{goes-asked, goes-unasked, none-asked, unasked-none}
 use Rattle.mux_engine.proofs.Called.{calls-none, calls-told}

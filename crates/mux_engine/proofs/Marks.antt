@@ -25,7 +25,7 @@ use Rattle.mux_clients.specs.Asked.{asked_of, TellsAsks}
 use Rattle.mux_machine.specs.State.{State}
 use Rattle.mux_machine.specs.Events.{here}
 use Rattle.mux_machine.specs.Stands.{GoesBy, Stands, StandsFor, log}
-use Rattle.mux_outside.specs.HouseCalls.{HouseCall, calls_of}
+use Rattle.mux_outside.specs.HouseCalls.{calls_of}
 use Rattle.mux_engine.specs.Called.{calls_at, calls_in}
 use Rattle.mux_engine.specs.Run.{Rested, RestedAt, is_by_house}
 use Rattle.mux_engine.specs.Serving.{IsFree, IsSound, IsUnseen, IsUnused, Kept, Serving}

@@ -25,7 +25,7 @@ use Rattle.mux_history.proofs.Wires.{wire-keeps}
 use Rattle.mux_machine.specs.State.{State}
 use Rattle.mux_machine.proofs.Twins.{own-silent, stands-alike}
 use Rattle.mux_engine.specs.Called.{if_own}
-use Rattle.mux_engine.specs.Serving.{Promised, Serving}
+use Rattle.mux_engine.specs.Serving.{Serving}
 use Rattle.mux_engine.specs.Sides.{Resting, Side}
 use Rattle.mux_engine.proofs.Called.{CallsOn, calling, calls-none, calls-own}
 use Rattle.mux_engine.proofs.Lists.{among-last, among-other-last, or-last, own-stream, true-false}

@@ -21,7 +21,7 @@ use Rattle.mux_machine.specs.Events.{here}
 use Rattle.mux_machine.specs.Stands.{Stands, StandsFor, log}
 use Rattle.mux_engine.specs.Serving.{IsFree, IsUnseen, IsUnused, Serving, is_open}
 use Rattle.mux_engine.specs.Sides.{Resting, SamePlaces, Side}
-use Rattle.mux_engine.proofs.Lists.{among-not-own, among-open, and-second, among-filter, not-own-stream, open-here, own-or-house, test-other, true-false}
+use Rattle.mux_engine.proofs.Lists.{among-not-own, among-open, not-own-stream, open-here, own-or-house, test-other, true-false}
 use Rattle.mux_engine.proofs.Marks.{Placed}
 
 -- ---- a stream that is open

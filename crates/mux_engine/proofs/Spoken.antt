@@ -25,7 +25,7 @@ use Rattle.mux_machine.specs.declared.event.Event.TheVariants.{Accepted, FromCli
 use Rattle.mux_engine.specs.Asking.{Heeded}
 use Rattle.mux_engine.specs.Rests.{EndsByAsk, IsByRow}
 use Rattle.mux_engine.specs.Serving.{Promised, Serving}
-use Rattle.mux_engine.specs.Sides.{Resting, SameHouse, Side, noted}
+use Rattle.mux_engine.specs.Sides.{Resting, Side, noted}
 use Rattle.mux_engine.specs.Turns.{want_of}
 use Rattle.mux_engine.proofs.Cuts.{cut-here, serve-told}
 use Rattle.mux_engine.proofs.Handed.{event-heeds}

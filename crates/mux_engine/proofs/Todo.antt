@@ -15,7 +15,7 @@ use Rattle.mux_history.specs.Promises.{IsSettled}
 use Rattle.mux_machine.specs.State.{State}
 use Rattle.mux_engine.specs.Serving.{IsSound, IsUnused, Serving, is_open}
 use Rattle.mux_engine.specs.Sides.{Resting, Side}
-use Rattle.mux_engine.proofs.Lists.{apart-or-left, none-without, true-false, without-other}
+use Rattle.mux_engine.proofs.Lists.{apart-or-left, none-without, without-other}
 use Rattle.mux_engine.proofs.Marks.{log-is}
 use Rattle.mux_engine.proofs.Offers.{Waiting}
 use Rattle.mux_engine.proofs.Places.{stream-open}

@@ -31,9 +31,8 @@ use Rattle.mux_machine.proofs.Twins.{stands-alike}
 use Rattle.mux_engine.specs.Asking.{HeedsSo}
 use Rattle.mux_engine.specs.Called.{calls_at}
 use Rattle.mux_engine.specs.Run.{AsksOn, RestedAt, is_by_house}
-use Rattle.mux_engine.specs.Serving.{IsUnseen, Promised, Serving}
+use Rattle.mux_engine.specs.Serving.{Promised, Serving}
 use Rattle.mux_engine.specs.Sides.{Resting, Side, asks_in, house_mark}
-use Rattle.mux_engine.specs.Turns.{IsEventOf, want_of}
 use Rattle.mux_engine.proofs.Asks.{EachAsked, SaidBy, all-asks, asked-accepted, begins-asked, goes-asked}
 use Rattle.mux_engine.proofs.Called.{CallsOn, calls-told}
 use Rattle.mux_engine.proofs.Cuts.{cut-next, now-asked, of-streams}

@@ -31,7 +31,7 @@ use Rattle.mux_machine.proofs.Twins.{stands-alike}
 use Rattle.mux_engine.specs.Called.{calls_in}
 use Rattle.mux_engine.specs.Owned.{IsOffered, waits_for}
 use Rattle.mux_engine.specs.Serving.{IsSound, Serving, is_open}
-use Rattle.mux_engine.specs.Sides.{Housed, Resting, Side, house_marks}
+use Rattle.mux_engine.specs.Sides.{Resting, Side, house_marks}
 use Rattle.mux_engine.specs.Turns.{want_of}
 use Rattle.mux_engine.proofs.Called.{calls-none}
 use Rattle.mux_engine.proofs.Closed.{both-tests}

@@ -4,7 +4,7 @@ use Rattle.std.specs.Prelude.{reverse}
 use Rattle.std.specs.Option.{option_map}
 use Rattle.std.proofs.lemmas.Bool.Decides.{nat_tests}
 use Rattle.ssh_fields.specs.Fields.{AreBytes}
-use Rattle.mux_outside.specs.HouseCalls.{End, Failed, Got, HouseCall, Turns}
+use Rattle.mux_outside.specs.HouseCalls.{End, Failed, Got, Turns}
 use Rattle.mux_outside.specs.OwnStreams.{is_own}
 use Rattle.mux_outside.specs.Seen.{Seen, seen_after_turn}
 use Rattle.mux_outside.specs.Streams.{among}
