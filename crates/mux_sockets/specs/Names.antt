@@ -12,10 +12,14 @@ use Rattle.std.specs.declared.net.ip_addr.IpAddr.{IpAddr}
 abbrev pub is_name_byte : ℕ → Bool
 is_name_byte b = is_ascii_alphanumeric b || (b == 46 || (b == 45 || (b == 95 || b == 58)))
 
+-- there is a first byte, and it is no dash
+abbrev pub begins_name : List ℕ → Bool
+begins_name [] = false
+begins_name (b ∷ bs) = not (b == 45)
+
 -- 1 to 255 of these, and no dash first
 abbrev pub is_name : List ℕ → Bool
-is_name [] = false
-is_name (b ∷ bs) = not (b == 45) && (nat_le (length (b ∷ bs)) 255 && list_all is_name_byte (b ∷ bs))
+is_name bytes = begins_name bytes && (nat_le (length bytes) 255 && list_all is_name_byte bytes)
 
 -- ---- rows
 

@@ -1,8 +1,8 @@
 //! Names of hosts, and the rows that `getent ahosts` writes of one.
 ghost use Rattle.std.specs.Prelude.{◌≡◌, ◌==◌, ◌≤◌, ◌-◌, not, length, drop, [], MatchOption, IfOk, OnOk};
-ghost use Rattle.std.specs.List.{prefix_len};
+ghost use Rattle.std.specs.List.{list_all, prefix_len};
 ghost use Rattle.std.specs.declared.net.ip_addr.IpAddr.{IpAddr};
-ghost use Rattle.mux_sockets.specs.Names.{AddsRow, AddsRows, IsStreamRow, is_name, is_name_byte, lines_of};
+ghost use Rattle.mux_sockets.specs.Names.{AddsRow, AddsRows, IsStreamRow, begins_name, is_name, is_name_byte, lines_of};
 
 use std::alloc::{AllocError, Global};
 use std::net::IpAddr;
@@ -18,10 +18,24 @@ const STREAM: &[u8] = b"STREAM";
 pub fn is_name(host: &[u8]) -> bool
     ensures { result ≡ is_name host.now }
 {
+    begins_name(host) && (host.len() <= LONGEST_NAME && is_of_name_bytes(host))
+}
+
+// Whether there is a first byte, and it is no dash.
+fn begins_name(host: &[u8]) -> bool
+    ensures { result ≡ begins_name host.now }
+{
     match host {
-        [] | [b'-', ..] => false,
-        _ => host.len() <= LONGEST_NAME && host.iter().all(|byte| is_name_byte(*byte)),
+        [] => false,
+        [first, ..] => !(*first == b'-'),
     }
+}
+
+// Whether a name may have each of these bytes.
+fn is_of_name_bytes(host: &[u8]) -> bool
+    ensures { result ≡ list_all is_name_byte host.now }
+{
+    host.iter().all(|byte| is_name_byte(*byte))
 }
 
 // Whether a name may have this byte.
