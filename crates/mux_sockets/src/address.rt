@@ -5,10 +5,9 @@ ghost use Rattle.std.specs.Net.Socket.{socket_port};
 use std::net::{IpAddr, Ipv6Addr, SocketAddr};
 
 /// The address of a numeric host, which may stand in brackets where it is one of IPv6, and a port.
-pub fn address_of(host: &[u8], port: u32) -> Option<SocketAddr>
+pub fn address_of(host: &[u8], port: u16) -> Option<SocketAddr>
     ensures { IfSome result (λ address. socket_port address ≡ port) }
 {
-    let port = u16::try_from(port).ok()?;
     Some(SocketAddr::new(ip_of(host)?, port))
 }
 

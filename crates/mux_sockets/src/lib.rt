@@ -7,6 +7,7 @@ mod control;
 mod exchange;
 mod faults;
 mod files;
+mod names;
 mod numbers;
 mod runner;
 mod sink;

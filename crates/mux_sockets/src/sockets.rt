@@ -6,11 +6,14 @@ ghost use Rattle.mux_sockets.specs.Entries.{HasEntry, IsBlocked, OthersStay, Sta
 ghost use Rattle.mux_sockets.specs.declared.numbers.Numbers.{Numbers};
 ghost use Rattle.indexmap.specs.IndexMap.{get};
 
+mod lookup;
 mod own;
 mod ready;
+mod resolver;
 mod served;
 
 use self::ready::{Door, Entry, Queue};
+use self::resolver::Resolver;
 use crate::control::{Control, Unnamed, listen_beside};
 use crate::numbers::Numbers;
 use crate::stream::Stream;
@@ -24,7 +27,8 @@ use std::alloc::{AllocError, Global};
 use std::fs::Files;
 use std::io::ErrorKind;
 use std::net::Net;
-use std::time::Duration;
+use std::process::Processes;
+use std::time::{Clock, Duration};
 use std::{io, str};
 
 /// Why the sockets did not open.
@@ -59,7 +63,7 @@ struct Listening<R: Files + Drop> {
 /// What becomes ready goes behind what was ready before, and the system is asked again when all
 /// that was ready then was served at most twice. So no stream is passed over for longer than that.
 #[derive(Drop)]
-pub struct Sockets<R: Files + Drop> {
+pub struct Sockets<R: Files + Processes + Drop> {
     // `None`: no client comes, as after `stop_listening` and after `join`. It stands first, so that
     // the name goes first.
     listening: Option<Listening<R>>,
@@ -68,6 +72,8 @@ pub struct Sockets<R: Files + Drop> {
     entries: IndexMap<u64, Entry>,
     // the listeners of the master's own
     doors: IndexMap<u64, Door>,
+    // the look-ups of names
+    resolver: Resolver<R>,
     // an accept failed for want of descriptors or memory, and is tried again
     pauses: bool,
     // the same at a listener of the master's own
@@ -85,7 +91,7 @@ const EVENTS: usize = 64;
 
 const PAUSE_MILLIS: u64 = 100;
 
-impl<R: Files + Net + Clone + Drop> Sockets<R> {
+impl<R: Files + Net + Processes + Clock + Clone + Drop> Sockets<R> {
     /// Listens and connects. The control socket gets its name last, when all else has succeeded.
     pub fn open(
         rt: &R,
@@ -160,6 +166,7 @@ impl<R: Files + Net + Clone + Drop> Sockets<R> {
             events: Events::with_capacity(alloc, EVENTS)?,
             entries: IndexMap::new(alloc),
             doors: IndexMap::new(alloc),
+            resolver: Resolver::new(alloc),
             pauses: false,
             joins_pause: false,
             ready: Queue::new(alloc),
@@ -215,6 +222,7 @@ impl<R: Files + Net + Clone + Drop> Sockets<R> {
             return;
         };
         self.ready.drop_stream(number, &entry);
+        self.resolver.forget(number);
         if self.pauses {
             self.accept_again();
         }
@@ -245,7 +253,14 @@ impl<R: Files + Net + Clone + Drop> Sockets<R> {
     /// What happens next. A turn is given for the writes of the waiting streams alone, or for all
     /// that can be read too; and for what was written, whatever is waited for. A client and a stream
     /// that is joined get the given number; without one none is accepted.
-    pub fn next(&mut self, waiting: &[u64], want: Want, numbers: Numbers, into: &mut Piece) -> Turn
+    pub fn next(
+        &mut self,
+        rt: &R,
+        waiting: &[u64],
+        want: Want,
+        numbers: Numbers,
+        into: &mut Piece,
+    ) -> Turn
         ensures fits { FoundFits result numbers into.old into.new }
         ensures stands { Stands result self.new.entries }
         ensures listening { self.new.listening ≡ self.old.listening }
@@ -256,7 +271,7 @@ impl<R: Files + Net + Clone + Drop> Sockets<R> {
                 .ready
                 .first(waiting, want, numbers.client.is_some(), joins);
             if at.is_none() || self.ready.is_round_over() {
-                if let Err(e) = self.look(at.is_some()) {
+                if let Err(e) = self.look(rt, at.is_some()) {
                     return failure_of(&e);
                 }
                 continue;
@@ -264,7 +279,7 @@ impl<R: Files + Net + Clone + Drop> Sockets<R> {
             let Some(ready) = self.ready.take(at) else {
                 continue;
             };
-            if let Some(turn) = self.go_on(ready, numbers, into) {
+            if let Some(turn) = self.go_on(rt, ready, numbers, into) {
                 return turn;
             }
         }
@@ -272,17 +287,24 @@ impl<R: Files + Net + Clone + Drop> Sockets<R> {
     }
 
     // Notes what became ready, and waits for it where nothing is. A round begins.
-    fn look(&mut self, some: bool) -> io::Result<()>
+    fn look(&mut self, rt: &R, some: bool) -> io::Result<()>
         ensures { self.new.listening ≡ self.old.listening }
     {
         let timeout = if some {
             Some(Duration::from_millis(0))
         } else {
-            (self.pauses || self.joins_pause).then_some(Duration::from_millis(PAUSE_MILLIS))
+            (self.pauses || self.joins_pause || self.resolver.is_busy()).then_some(
+                Duration::from_millis(PAUSE_MILLIS),
+            )
         };
         self.poll.poll(&mut self.events, timeout)?;
         for event in self.events.iter() {
-            note_event(event, &mut self.entries, &mut self.doors, &mut self.ready)?;
+            if !self.resolver.note(event.token().0 as u64) {
+                note_event(event, &mut self.entries, &mut self.doors, &mut self.ready)?;
+            }
+        }
+        if self.resolver.go_on(rt)? {
+            note_begun(&mut self.entries, &mut self.ready);
         }
         if self.pauses {
             self.accept_again();
@@ -290,6 +312,15 @@ impl<R: Files + Net + Clone + Drop> Sockets<R> {
         self.joins_pause = false;
         self.ready.begin_round();
         Ok(())
+    }
+}
+
+// Notes the streams that wait for look-ups, of which one is over.
+fn note_begun(entries: &mut IndexMap<u64, Entry>, ready: &mut Queue) {
+    for (number, entry) in entries.iter_mut() {
+        if entry.stream.is_begun() && !entry.ended {
+            let _ = ready.note_connect(*number, entry);
+        }
     }
 }
 

@@ -16,6 +16,7 @@ ghost use Rattle.mux_sockets.specs.Untold.{untold};
 
 use crate::address::address_of;
 use crate::faults::{count_failed, file_error};
+use crate::names::is_name;
 use crate::numbers::Numbers;
 use crate::sockets::{Fault, Sockets};
 use mux_outside::{
@@ -26,13 +27,16 @@ use ssh_fields::OutOfMemory;
 use std::alloc::Global;
 use std::fs::Files;
 use std::net::Net;
+use std::process::Processes;
+use std::time::Clock;
 
 /// A wire over the system's sockets: a Unix socket for the clients, and a Unix socket or TCP for
 /// the server. A client that fails, resets or takes its bytes slowly is that client's matter alone;
 /// while the system has no descriptors left, clients wait. The master's own listeners and streams
-/// are over TCP, at numeric addresses.
+/// are over TCP. They listen at numeric addresses, and connect to these or to names, which
+/// `getent ahosts` looks up.
 #[derive(Drop)]
-pub struct RealWire<R: Files + Net + Clone + Drop> {
+pub struct RealWire<R: Files + Net + Processes + Clock + Clone + Drop> {
     rt: R,
     alloc: Global,
     sockets: Option<Sockets<R>>,
@@ -50,7 +54,7 @@ pub struct RealWire<R: Files + Net + Clone + Drop> {
     last_own: u64,
 }
 
-impl<R: Files + Net + Clone + Drop> RealWire<R> {
+impl<R: Files + Net + Processes + Clock + Clone + Drop> RealWire<R> {
     /// A wire that isn't open.
     pub fn new(rt: R, alloc: Global) -> RealWire<R>
         ensures streams { result.streams ≡ [] }
@@ -120,7 +124,7 @@ impl<R: Files + Net + Clone + Drop> RealWire<R> {
     }
 }
 
-impl<R: Files + Net + Clone + Drop> RealWire<R> {
+impl<R: Files + Net + Processes + Clock + Clone + Drop> RealWire<R> {
     // The turn of what the sockets found. What they may not find is a fault of the server's stream.
     fn turn_of(&mut self, found: Turn, want: Want, numbers: Numbers) -> Turn
         requires next { IfSome numbers.client (λ k. (want ≡ WantsAll) × (self.old.listening ≡ true)
@@ -338,7 +342,7 @@ impl<R: Files + Net + Clone + Drop> RealWire<R> {
     }
 }
 
-impl<R: Files + Net + Clone + Drop> Wire for RealWire<R> {
+impl<R: Files + Net + Processes + Clock + Clone + Drop> Wire for RealWire<R> {
     ghost openings = { λ _. None };
 
     ghost joinings = { λ _. None };
@@ -429,7 +433,7 @@ impl<R: Files + Net + Clone + Drop> Wire for RealWire<R> {
 
     fn wait(&mut self, waiting: &Streams, want: Want, into: &mut Piece) -> Turn {
         let numbers = self.numbers(want);
-        let found = found_next(&mut self.sockets, waiting, want, numbers, into);
+        let found = found_next(&mut self.sockets, &self.rt, waiting, want, numbers, into);
         let turn = self.turn_of(found, want, numbers);
         self.calls.waited(turn);
         turn
@@ -557,8 +561,9 @@ impl<R: Files + Net + Clone + Drop> Wire for RealWire<R> {
 }
 
 // What the sockets find next.
-fn found_next<R: Files + Net + Clone + Drop>(
+fn found_next<R: Files + Net + Processes + Clock + Clone + Drop>(
     sockets: &mut Option<Sockets<R>>,
+    rt: &R,
     waiting: &Streams,
     want: Want,
     numbers: Numbers,
@@ -570,13 +575,16 @@ fn found_next<R: Files + Net + Clone + Drop>(
         ≡ option_map (λ s. s.listening) sockets.old }
 {
     match sockets {
-        Some(sockets) => sockets.next(waiting.as_slice(), want, numbers, into),
+        Some(sockets) => sockets.next(rt, waiting.as_slice(), want, numbers, into),
         None => Turn::Failed(0),
     }
 }
 
 // Lets go of a stream's socket.
-fn drop_socket<R: Files + Net + Clone + Drop>(sockets: &mut Option<Sockets<R>>, stream: u64)
+fn drop_socket<R: Files + Net + Processes + Clock + Clone + Drop>(
+    sockets: &mut Option<Sockets<R>>,
+    stream: u64,
+)
     ensures gone { IfSome sockets.new (λ s. get nat_eq s.entries stream ≡ None) }
     ensures listening { option_map (λ s. s.listening) sockets.new
         ≡ option_map (λ s. s.listening) sockets.old }
@@ -587,7 +595,7 @@ fn drop_socket<R: Files + Net + Clone + Drop>(sockets: &mut Option<Sockets<R>>, 
 }
 
 // Listens at an address with this number.
-fn listen<R: Files + Net + Clone + Drop>(
+fn listen<R: Files + Net + Processes + Clock + Clone + Drop>(
     sockets: &mut Option<Sockets<R>>,
     rt: &R,
     number: u64,
@@ -599,6 +607,7 @@ fn listen<R: Files + Net + Clone + Drop>(
     ensures listening { option_map (λ s. s.listening) sockets.new
         ≡ option_map (λ s. s.listening) sockets.old }
 {
+    let port = u16::try_from(port).map_err(|_| FileError::Failed)?;
     let address = address_of(host, port).ok_or(FileError::Failed)?;
     match sockets {
         Some(sockets) => sockets
@@ -608,8 +617,8 @@ fn listen<R: Files + Net + Clone + Drop>(
     }
 }
 
-// Begins to connect to an address with this number.
-fn connect<R: Files + Net + Clone + Drop>(
+// Begins to connect to an address, or to look up a name, with this number.
+fn connect<R: Files + Net + Processes + Clock + Clone + Drop>(
     sockets: &mut Option<Sockets<R>>,
     rt: &R,
     number: u64,
@@ -620,11 +629,12 @@ fn connect<R: Files + Net + Clone + Drop>(
     ensures listening { option_map (λ s. s.listening) sockets.new
         ≡ option_map (λ s. s.listening) sockets.old }
 {
-    let address = address_of(host, port).ok_or(FileError::Failed)?;
-    match sockets {
-        Some(sockets) => sockets
-            .connect(rt, number, address)
-            .map_err(|e| file_error(&e)),
-        None => Err(FileError::Failed),
-    }
+    let sockets = sockets.as_mut().ok_or(FileError::Failed)?;
+    let port = u16::try_from(port).map_err(|_| FileError::Failed)?;
+    let begun = match address_of(host, port) {
+        Some(address) => sockets.connect(rt, number, address),
+        None if is_name(host) => sockets.connect_by_name(rt, number, host, port),
+        None => return Err(FileError::Failed),
+    };
+    begun.map_err(|e| file_error(&e))
 }

@@ -2,6 +2,7 @@
 ghost use Rattle.std.specs.Prelude.{◌≡◌, ◌⊎◌, false, true, IfSome, IsSome, None, OnOk, OnSome, Some, nat_eq};
 ghost use Rattle.indexmap.specs.IndexMap.{get};
 ghost use Rattle.mux_sockets.specs.Entries.{HasEntry, IsAwaited, IsBlocked, IsConnected, IsFinished, IsKeptBack, IsNoted, IsPaused, OthersStay};
+ghost use Rattle.mux_sockets.specs.Names.{is_name};
 ghost use Rattle.mux_sockets.specs.Ready.{IsFull};
 
 use super::Sockets;
@@ -15,8 +16,10 @@ use std::fs::Files;
 use std::io;
 use std::io::ErrorKind;
 use std::net::{Net, SocketAddr};
+use std::process::Processes;
+use std::time::Clock;
 
-impl<R: Files + Net + Clone + Drop> Sockets<R> {
+impl<R: Files + Net + Processes + Clock + Clone + Drop> Sockets<R> {
     /// Listens at an address, with a listener of this number.
     pub fn listen(&mut self, rt: &R, number: u64, address: SocketAddr) -> io::Result<()>
         ensures there { OnOk result (IsSome (get nat_eq self.new.doors number)) }
@@ -54,13 +57,48 @@ impl<R: Files + Net + Clone + Drop> Sockets<R> {
         ensures others { OthersStay number self.old.entries self.new.entries }
         ensures listening { self.new.listening ≡ self.old.listening }
     {
-        let stream = TcpStream::connect(rt, address)?;
-        stream.set_nodelay(true)?;
-        self.add(number, Stream::Tcp(stream), true)
+        let stream = Stream::connect(rt, address)?;
+        self.add(number, stream, true)
     }
 
-    // Looks whether a connection is made. What may be read of it is noted then.
-    pub(super) fn meet(&mut self, number: u64) -> Option<Turn>
+    /// Begins to look up a name, to connect to it with a stream of this number.
+    pub fn connect_by_name(&mut self, rt: &R, number: u64, name: &[u8], port: u16) -> io::Result<()>
+        requires { is_name name.now ≡ true }
+        ensures there { OnOk result (HasEntry number self.new.entries) }
+        ensures waits { OnOk result (IsBlocked number self.new.entries) }
+        ensures others { OthersStay number self.old.entries self.new.entries }
+        ensures listening { self.new.listening ≡ self.old.listening }
+    {
+        self.add(number, Stream::Begun, true)?;
+        let registry = self.poll.registry();
+        match self.resolver.begin(rt, registry, number, name, port) {
+            Ok(is_known) => {
+                if is_known {
+                    self.meet_soon(number);
+                }
+                Ok(())
+            }
+            Err(e) => {
+                self.remove(number);
+                Err(e)
+            }
+        }
+    }
+
+    // Notes that the addresses of a stream are known.
+    fn meet_soon(&mut self, number: u64)
+        ensures waits { IsBlocked number self.old.entries → IsBlocked number self.new.entries }
+        ensures others { OthersStay number self.old.entries self.new.entries }
+        ensures listening { self.new.listening ≡ self.old.listening }
+    {
+        if let Some(entry) = self.entries.get_mut(&number) {
+            let _ = self.ready.note_connect(number, entry);
+        }
+    }
+
+    // Looks whether a connection is made. What may be read of it is noted then. Where it isn't made,
+    // the next of its addresses is tried, if the host is a name.
+    pub(super) fn meet(&mut self, rt: &R, number: u64) -> Option<Turn>
         ensures turn { IfSome result (λ turn.
             (turn ≡ Turn.Writable number) ⊎ (turn ≡ Turn.Failed number)) }
         ensures connected { result ≡ Some (Turn.Writable number)
@@ -72,7 +110,13 @@ impl<R: Files + Net + Clone + Drop> Sockets<R> {
     {
         let entry = self.entries.get_mut(&number)?;
         entry.writes = false;
-        let made = entry.stream.is_made();
+        let mut made = entry.stream.is_made();
+        if made.is_err() || entry.stream.is_begun() {
+            made = self
+                .resolver
+                .connect(rt, self.poll.registry(), number, &mut entry.stream)
+                .map(|()| false);
+        }
         let turn = entry.meet(number, &made);
         let _ = self.ready.note_held(number, entry);
         turn

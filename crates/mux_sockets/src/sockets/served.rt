@@ -16,10 +16,18 @@ use std::fs::Files;
 use std::io;
 use std::io::ErrorKind;
 use std::net::Net;
+use std::process::Processes;
+use std::time::Clock;
 
-impl<R: Files + Net + Clone + Drop> Sockets<R> {
+impl<R: Files + Net + Processes + Clock + Clone + Drop> Sockets<R> {
     /// Goes on with what was ready. `None`: it was not, or not any more.
-    pub(super) fn go_on(&mut self, ready: Ready, numbers: Numbers, into: &mut Piece) -> Option<Turn>
+    pub(super) fn go_on(
+        &mut self,
+        rt: &R,
+        ready: Ready,
+        numbers: Numbers,
+        into: &mut Piece,
+    ) -> Option<Turn>
         ensures serves { IfSome result (Serves ready numbers) }
         ensures fits { IfSome result (λ turn. FoundFits turn numbers into.old into.new) }
         ensures kept { IfNone result (into.new ≡ into.old) }
@@ -31,7 +39,7 @@ impl<R: Files + Net + Clone + Drop> Sockets<R> {
             Ready::Join(listener) => self.join_at(listener, numbers.own?),
             Ready::Read(number) => self.read(number, into),
             Ready::Write(number) => self.free(number),
-            Ready::Connect(number) => self.meet(number),
+            Ready::Connect(number) => self.meet(rt, number),
         }
     }
 
