@@ -1,12 +1,17 @@
 -- How the relays go on.
-use Rattle.std.proofs.Common.{◌≡◌, refl, ap, ℕ, true, List, get_or, set, Option, Some, None}
-use Rattle.std.specs.Prelude.{Result, Ok, Err, OnOk, IfSome, is_some}
+use Rattle.std.proofs.Common.{◌≡◌, ◌∙◌, refl, ap, ℕ, true, List, [], ◌∷◌, ◌++◌, get_or, set, Option, Some, None}
+use Rattle.std.specs.Prelude.{Result, Ok, Err, OnOk, IfSome, is_some, find}
+use Rattle.std.specs.List.{remove}
+use Rattle.mux_outside.specs.declared.order.Order.{Order}
+use Rattle.house_relay.specs.Steps.{made_as}
 use Rattle.house_relay.specs.declared.relay.Relay.{Relay}
 use Rattle.house_relay.specs.declared.relay.Saying.{Saying}
-use Rattle.house_forward.specs.Going.{GoesAt, LeavesAt, swept}
+use Rattle.house_forward.specs.Going.{GoesAt, LeavesAt, AwaitsAt, MakesAt, Obeys, swept}
+use Rattle.house_forward.specs.Links.{has_order, IsOrderOf, made_stream, obeyed}
 use Rattle.house_forward.specs.Said.{framed, payload_of, payload_if}
 use Rattle.house_forward.specs.declared.link.Link.{Link}
 use Rattle.house_forward.specs.declared.link.Stream.{Stream}
+use Rattle.house_forward.specs.declared.link.Stream.TheVariants.{Awaited}
 
 pub goes-at : (o : Option ℕ) (i : ℕ) (so : Relay → Relay → Type 0) (ls : List Link) (x : Link) (r : Relay) → o ≡ Some i
     → x ≡ get_or ls i x → so x.relay r → GoesAt o so ls (set ls i (record x { relay = r }))
@@ -35,3 +40,23 @@ on-ok (Err e) f a = tt
 pub on-both : {X E : Type 0} (A B : Type 0) (o : Result X E) → OnOk o A → OnOk o B → OnOk o (A × B)
 on-both A B (Ok x) a b = (a, b)
 on-both A B (Err e) a b = tt
+
+-- ---- what is ordered
+
+-- the one that is found first obeys an order that it may give
+pub obeys-first : (o : Order) (old now new : List Link) (x : Link) → find has_order old ≡ Some x → IsOrderOf o x
+    → now ≡ obeyed o old → new ≡ swept now → Obeys (Some o) old new
+obeys-first o old now new x found may is same = (rw found may, same ∙ ap swept is)
+
+pub awaits-at : (o : Option ℕ) (i : ℕ) (ls : List Link) (x y : Link) → o ≡ Some i → x ≡ get_or ls i x
+    → y ≡ record x { stream = Awaited } → AwaitsAt o ls (set ls i y)
+awaits-at o i ls x y e at is = rw e (x, at, ap (λ (z : Link). set ls i z) is)
+
+link-of : (y : Link) (r : Relay) (s : Stream) → y.relay ≡ r → y.stream ≡ s → y ≡ record { relay = r; stream = s }
+link-of y r s e f = ap (λ (z : Relay). record y { relay = z }) e ∙ ap (λ (z : Stream). record y { relay = r; stream = z }) f
+
+pub makes-at : (o : Option ℕ) (i : ℕ) (number : Option ℕ) (ls : List Link) (x y : Link) → o ≡ Some i → x ≡ get_or ls i x
+    → y.stream ≡ made_stream number → y.relay ≡ record x.relay { socket = made_as number }
+    → MakesAt o number ls (remove ls i ++ y ∷ [])
+makes-at o i number ls x y e at stream relay =
+    rw e (x, at, ap (λ (z : Link). remove ls i ++ z ∷ []) (link-of y (record x.relay { socket = made_as number }) (made_stream number) relay stream))

@@ -39,11 +39,11 @@ its-number : (o : Option ℕ) (t : ℕ) → is_number t o ≡ true → o ≡ Som
 its-number None t e = cc
 its-number (Some s) t e = ap (λ k. Some k) (eqb-true s t e)
 
-none-of : {X : Type 0} (o : Option X) → is_some o ≡ false → o ≡ None
+pub none-of : {X : Type 0} (o : Option X) → is_some o ≡ false → o ≡ None
 none-of None e = refl
 none-of (Some x) e = cc
 
-no-order : {X : Type 0} (b : Bool) (o : Option X) → b ≡ true → is_some (if b then o else None) ≡ false → o ≡ None
+pub no-order : {X : Type 0} (b : Bool) (o : Option X) → b ≡ true → is_some (if b then o else None) ≡ false → o ≡ None
 no-order true o e f = none-of o f
 no-order false o e f = cc
 

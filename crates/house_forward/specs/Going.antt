@@ -1,16 +1,19 @@
 -- How the relays go on: a call changes one of them, and it is known which and how.
-use Rattle.std.specs.Prelude.{◌≡◌, ◌+◌, ◌<◌, ◌^◌, ℕ, Bool, List, get_or, set, Option, Some, None}
+use Rattle.std.specs.Prelude.{◌≡◌, ◌+◌, ◌<◌, ◌^◌, ℕ, Bool, List, [], ◌∷◌, ◌++◌, get_or, set, find, Option, Some, None}
 use Rattle.std.specs.List.{position, remove}
 use Rattle.conn_messages.specs.declared.message.Message.{Message}
-use Rattle.house_relay.specs.Acts.{Reads, Takes}
+use Rattle.house_relay.specs.Acts.{Act, Reads, Takes, Other}
 use Rattle.house_relay.specs.Line.{owed_in}
 use Rattle.house_relay.specs.Next.{says_of}
-use Rattle.house_relay.specs.Relay.{GoesOn, MayRead}
-use Rattle.house_relay.specs.Steps.{Dials, taken_of}
+use Rattle.house_relay.specs.Relay.{GoesOn, MayRead, said_act}
+use Rattle.house_relay.specs.Steps.{Dials, taken_of, made_as}
 use Rattle.house_relay.specs.declared.relay.Relay.{Relay}
-use Rattle.house_forward.specs.Heard.{heard_of}
-use Rattle.house_forward.specs.Links.{is_left, after_saying}
+use Rattle.house_relay.specs.declared.relay.Saying.{Saying}
+use Rattle.mux_outside.specs.declared.order.Order.{Order}
+use Rattle.house_forward.specs.Heard.{heard_of, act_heard}
+use Rattle.house_forward.specs.Links.{is_left, after_saying, has_order, IsOrderOf, obeyed, made_stream}
 use Rattle.house_forward.specs.declared.link.Link.{Link}
+use Rattle.house_forward.specs.declared.link.Stream.TheVariants.{Awaited}
 
 -- the relay at a place goes on so, and all else stays
 abbrev pub GoesAt : Option ℕ → (Relay → Relay → Type 0) → List Link → List Link → Type 0
@@ -45,6 +48,46 @@ TakesOf n old new =
 abbrev pub Says : Relay → Relay → Type 0
 Says old new = new ≡ after_saying (says_of old) old
 
+-- what happens as that is said
+abbrev pub act_of_saying : Option Saying → Relay → Act
+act_of_saying None r = Other
+act_of_saying (Some saying) r = said_act saying r
+
+-- it stands for that too
+abbrev pub SaysOn : Relay → Relay → Type 0
+SaysOn old new = Says old new × GoesOn old new (act_of_saying (says_of old) old)
+
 -- it heard a message in its channel
 abbrev pub Hears : Message → Relay → Relay → Type 0
 Hears message old new = new ≡ heard_of message old
+
+-- it stands for that too
+abbrev pub HearsOn : Message → Relay → Relay → Type 0
+HearsOn message old new = Hears message old new × GoesOn old new (act_heard message old)
+
+-- ---- orders
+
+-- an order is one that the first relay with an order may give of its stream
+abbrev pub MayBeFirst : Order → Option Link → Type 0
+MayBeFirst o None = ⊥
+MayBeFirst o (Some l) = IsOrderOf o l
+
+-- it is obeyed
+abbrev pub Obeys : Option Order → List Link → List Link → Type 0
+Obeys None old new = new ≡ old
+Obeys (Some o) old new = MayBeFirst o (find has_order old) × (new ≡ swept (obeyed o old))
+
+-- the first socket that is to be connected is ordered
+abbrev pub AwaitsAt : Option ℕ → List Link → List Link → Type 0
+AwaitsAt None old new = new ≡ old
+AwaitsAt (Some i) old new = (l : Link) × (l ≡ get_or old i l)
+    × (new ≡ set old i (record l { stream = Awaited }))
+
+-- the socket that is awaited is made, or couldn't be: it is the last from now on
+abbrev pub MakesAt : Option ℕ → Option ℕ → List Link → List Link → Type 0
+MakesAt None number old new = ⊥
+MakesAt (Some i) number old new = (l : Link) × (l ≡ get_or old i l)
+    × (new ≡ remove old i ++ record {
+      relay = record l.relay { socket = made_as number };
+      stream = made_stream number;
+    } ∷ [])

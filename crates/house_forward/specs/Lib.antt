@@ -4,6 +4,8 @@ pub mod Forwardings
 pub mod Going
 pub mod Heard
 pub mod Known
+pub mod Laws
+pub mod Lives
 pub mod Links
 pub mod Quiet
 pub mod Rules

@@ -257,6 +257,7 @@ ConnectsFirst (Some (order.Close t)) links = Unit {0}
 pub record Offers (f : Forwarding) (remote window maximum : ℕ) (old new : List Link) : Type 0 where
   pub number : ℕ
   pub stream : Stream
+  pub free : is_number_of number old ≡ false
   pub connects : ConnectsAt f.connect_host f.connect_port stream
   pub more : new ≡ old ++ record {
     relay = fresh_relay number (OfServer remote window maximum) socket.Unmade;

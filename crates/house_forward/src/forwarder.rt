@@ -1,10 +1,11 @@
 //! The house.
-ghost use Rattle.std.specs.Prelude.{ℕ, ◌≡◌, ◌≤◌, ◌+◌, length, OnOk, IfOk, Some, None};
+ghost use Rattle.std.specs.Prelude.{ℕ, ◌≡◌, ◌≤◌, ◌+◌, [], length, OnOk, IfOk, Some, None};
 ghost use Rattle.std.specs.Option.{option_to_list};
 ghost use Rattle.mux_outside.specs.House.{IsBlank, NoMark, order_marks};
 ghost use Rattle.house_forward.specs.Due.{due, most_due};
 ghost use Rattle.house_forward.specs.Known.{known_of};
 ghost use Rattle.house_forward.specs.Links.{queue_at};
+ghost use Rattle.house_forward.specs.Lives.{held, StandsFor};
 ghost use Rattle.house_forward.specs.Quiet.{quiet_of};
 
 use crate::holdings::Holdings;
@@ -34,6 +35,8 @@ impl<N: Notes + Drop> Forwarder<N> {
             f.has.relays.all.items f.has.asks.waiting.items f.has.ordering)
             (N.told f.notes.notes)) }
         ensures unrefused { IfOk result (λ f. f.has.forwardings.refused ≡ None) }
+        ensures stands { IfOk result (λ f. StandsFor []
+            (held f.has.relays.all.items f.has.framer f.has.stage)) }
     {
         Ok(Forwarder {
             alloc,
@@ -105,11 +108,13 @@ impl<N: Notes + Drop> House for Forwarder<N> {
 
     ghost refused = { λ f. f.has.forwardings.refused };
 
-    ghost stands = { λ _ _. Unit {0} };
+    ghost stands = { λ f calls. StandsFor calls
+        (held f.has.relays.all.items f.has.framer f.has.stage) };
 
     ghost fresh = { λ f. IsBlank (known_of f.has.forwardings.all.items f.has.relays.all.items
         f.has.asks.waiting.items f.has.ordering) (N.told f.notes.notes)
-        × (f.has.forwardings.refused ≡ None) };
+        × (f.has.forwardings.refused ≡ None)
+        × StandsFor [] (held f.has.relays.all.items f.has.framer f.has.stage) };
 
     ghost begun = { λ f. IsBlank (known_of f.has.forwardings.all.items f.has.relays.all.items
         f.has.asks.waiting.items f.has.ordering) (N.told f.notes.notes) };

@@ -13,6 +13,10 @@ ghost use Rattle.house_forward.specs.Known.{known_of, ordering_of, is_there};
 ghost use Rattle.house_forward.specs.Links.{streams_of, queue_at, is_full, is_crowded, ConnectsFirst, IsJoined, IsJoinedAt, IsDialed, Joins};
 ghost use Rattle.house_forward.specs.Quiet.{quiet_of, says_none, orders_none};
 ghost use Rattle.house_forward.specs.Said.{framed, request_payload};
+ghost use Rattle.house_forward.specs.Lives.{HasLived, held, is_grant, GoesFurther, TakesFurther, SaysIn, HearsNext, HearsFrame, GivesOrder, OrdersIn, Follows};
+ghost use Rattle.mux_outside.specs.HouseCalls.{Turns, happening_of};
+ghost use Rattle.proxy_frames.specs.Steps.{pushed};
+ghost use Rattle.ssh_fields.specs.Fields.{take_u32};
 
 use crate::asks::{Asked, Asks, Outcome};
 use crate::forwarding::{Forwarding, Request};
@@ -64,6 +68,7 @@ impl Holdings {
         ensures refused { result.forwardings.refused ≡ None }
         ensures due { due result.forwardings.all.items result.relays.all.items
             result.asks.waiting.items ≡ 0 }
+        ensures lived { HasLived [] (held result.relays.all.items result.framer result.stage) }
     {
         Holdings {
             alloc,
@@ -111,6 +116,8 @@ impl Holdings {
             ≤ length self.old.forwardings.all.items + length starts.now.asks }
         ensures relays { self.new.relays ≡ self.old.relays }
         ensures asks { self.new.asks ≡ self.old.asks }
+        ensures held { held self.new.relays.all.items self.new.framer self.new.stage
+            ≡ held self.old.relays.all.items self.old.framer self.old.stage }
     {
         self.gateway = starts.gateway;
         self.must = starts.must;
@@ -144,6 +151,8 @@ impl Holdings {
         ensures relays { self.new.relays ≡ self.old.relays }
         ensures asks { length self.new.asks.waiting.items
             ≤ length self.old.asks.waiting.items + 1 }
+        ensures held { held self.new.relays.all.items self.new.framer self.new.stage
+            ≡ held self.old.relays.all.items self.old.framer self.old.stage }
     {
         match self.asked(client, id, opening, what)? {
             Asked::Now(Outcome::Done) => Ok(HouseReply::Done),
@@ -178,6 +187,8 @@ impl Holdings {
             ≤ length self.old.forwardings.all.items + 1 }
         ensures relays { self.new.relays ≡ self.old.relays }
         ensures asks { self.new.asks ≡ self.old.asks }
+        ensures held { held self.new.relays.all.items self.new.framer self.new.stage
+            ≡ held self.old.relays.all.items self.old.framer self.old.stage }
         ensures ordering { self.new.ordering ≡ self.old.ordering }
         ensures must { self.new.must ≡ self.old.must }
     {
@@ -213,6 +224,9 @@ impl Holdings {
         ensures relays { length self.new.relays.all.items
             ≤ length self.old.relays.all.items }
         ensures asks { self.new.asks ≡ self.old.asks }
+        ensures says { IfOk result (λ said. said ≡ true → GoesFurther (SaysIn into.new)
+            (held self.old.relays.all.items self.old.framer self.old.stage)
+            (held self.new.relays.all.items self.new.framer self.new.stage)) }
     {
         if !self.greeted {
             saying::put_whole(into, saying::GREETING)?;
@@ -256,7 +270,8 @@ impl Holdings {
 
     /// Takes bytes that are written to the house.
     pub fn take(&mut self, bytes: &[u8]) -> Result<(), OutOfMemory>
-        ensures { self.new ≡ record self.old { framer = self.new.framer } }
+        ensures others { self.new ≡ record self.old { framer = self.new.framer } }
+        ensures heard { OnOk result (self.new.framer ≡ pushed bytes.now self.old.framer) }
     {
         self.framer.push(bytes)
     }
@@ -280,6 +295,9 @@ impl Holdings {
             ≡ length self.old.asks.waiting.items }
         ensures none { result ≡ Ok false → self.new
             ≡ record self.old { framer = self.new.framer } }
+        ensures hears { IfOk result (λ heard. GoesFurther (HearsNext heard)
+            (held self.old.relays.all.items self.old.framer self.old.stage)
+            (held self.new.relays.all.items self.new.framer self.new.stage)) }
     {
         match self.framer.next() {
             Next::Frame => {
@@ -307,11 +325,14 @@ impl Holdings {
             ≤ length self.old.relays.all.items + 1 }
         ensures asks { length self.new.asks.waiting.items
             ≡ length self.old.asks.waiting.items }
+        ensures hears { OnOk result (IfSome self.old.framer.current
+            (λ content. GoesFurther (HearsFrame self.old.stage content)
+            (held self.old.relays.all.items self.old.framer self.old.stage)
+            (held self.new.relays.all.items self.new.framer self.new.stage))) }
     {
         match self.stage {
             Stage::Control => {
-                let granted = Cursor::new(self.framer.content()).take_u32() == Some(S_PROXY);
-                if granted {
+                if grants(self.framer.content()) {
                     self.stage = Stage::Proxy;
                     self.framer.switch(Framing::Proxy);
                 }
@@ -348,6 +369,9 @@ impl Holdings {
             ≤ due self.old.forwardings.all.items self.old.relays.all.items
             self.old.asks.waiting.items }
         ensures must { self.new.must ≡ self.old.must }
+        ensures gives { GoesFurther (GivesOrder result)
+            (held self.old.relays.all.items self.old.framer self.old.stage)
+            (held self.new.relays.all.items self.new.framer self.new.stage) }
     {
         if let Some(order) = self.relays.order() {
             return Some(order);
@@ -383,6 +407,10 @@ impl Holdings {
             self.old.asks.waiting.items }
         ensures none { self.old.ordering ≡ None → self.new ≡ self.old }
         ensures must { self.new.must ≡ self.old.must }
+        ensures makes { IfSome (ordering_of self.old.ordering)
+            (λ order. GoesFurther (OrdersIn order number)
+            (held self.old.relays.all.items self.old.framer self.old.stage)
+            (held self.new.relays.all.items self.new.framer self.new.stage)) }
     {
         match &self.ordering {
             None => return None,
@@ -410,6 +438,9 @@ impl Holdings {
         ensures relays { length self.new.relays.all.items
             ≤ length self.old.relays.all.items + 1 }
         ensures asks { self.new.asks ≡ self.old.asks }
+        ensures follows { OnOk result (GoesFurther (Follows (Turns (happening_of t.entry)))
+            (held self.old.relays.all.items self.old.framer self.old.stage)
+            (held self.new.relays.all.items self.new.framer self.new.stage)) }
     {
         match t {
             OwnTurn::Joined { listener, stream } => self.joined(listener, stream),
@@ -441,6 +472,8 @@ impl Holdings {
             ≡ streams_of self.old.relays.all.items ++ new_stream stream ∷ []) }
         ensures relays { length self.new.relays.all.items
             ≤ length self.old.relays.all.items + 1 }
+        ensures framer { self.new.framer ≡ self.old.framer }
+        ensures stage { self.new.stage ≡ self.old.stage }
         ensures forwardings { self.new.forwardings ≡ self.old.forwardings }
         ensures asks { self.new.asks ≡ self.old.asks }
         ensures ordering { self.new.ordering ≡ self.old.ordering }
@@ -502,8 +535,21 @@ impl Holdings {
             self.new.asks.waiting.items ≡ due self.old.forwardings.all.items
             self.old.relays.all.items self.old.asks.waiting.items }
         ensures must { self.new.must ≡ self.old.must }
+        ensures takes { TakesFurther stream n
+            (held self.old.relays.all.items self.old.framer self.old.stage)
+            (held self.new.relays.all.items self.new.framer self.new.stage) }
     {
         self.relays.took(stream, n);
+    }
+}
+
+/// Whether a control message grants the proxy.
+fn grants(message: &[u8]) -> bool
+    ensures { result ≡ is_grant (take_u32 message.now) }
+{
+    match Cursor::new(message).take_u32() {
+        Some(number) => number == S_PROXY,
+        None => false,
     }
 }
 

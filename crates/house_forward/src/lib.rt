@@ -15,6 +15,9 @@
 //!   socket takes them.
 //! - The end of a side goes on to the other behind all bytes. When both have ended and nothing
 //!   waits, or a side fails, the channel is closed, and the socket behind it.
+//!
+//! What the calls of the house tell of its relays, call by call, is defined in specs/Lives.antt; the
+//! house stands for that. What holds of each relay, whatever the calls were, are the laws.
 #![tactic(auto)]
 
 mod asks;
@@ -23,6 +26,7 @@ mod forwarding;
 mod forwardings;
 mod hearing;
 mod holdings;
+pub mod laws;
 mod link;
 mod ordering;
 mod places;

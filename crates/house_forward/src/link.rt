@@ -1,8 +1,8 @@
 //! A relay of the house and its stream.
 ghost use Rattle.std.specs.Prelude.{◌≡◌, is_some, true, IfSome, OnOk, None};
-ghost use Rattle.house_relay.specs.Relay.{stream_of};
+ghost use Rattle.house_relay.specs.Relay.{stream_of, GoesOn};
 ghost use Rattle.house_relay.specs.Steps.{made_as};
-ghost use Rattle.house_forward.specs.Heard.{heard_of};
+ghost use Rattle.house_forward.specs.Heard.{heard_of, act_heard};
 ghost use Rattle.house_forward.specs.Links.{has_number, is_of, is_offered, is_awaited, is_left, link_after, relay_after, made_stream, link_order, has_order, has_saying, finishes, number_in, is_channel, is_dialog, ConnectsAt, IsOrderOf};
 
 use crate::two_texts::TwoTexts;
@@ -233,6 +233,8 @@ impl Link {
     pub fn hears(&mut self, message: &Message<'_>) -> Result<(), OutOfMemory>
         ensures heard { OnOk result
             (self.new.relay ≡ heard_of message.now self.old.relay) }
+        ensures goes { OnOk result (GoesOn self.old.relay self.new.relay
+            (act_heard message.now self.old.relay)) }
         ensures stream { self.new.stream ≡ self.old.stream }
         ensures held { self.new.relay.held ≡ self.old.relay.held }
     {

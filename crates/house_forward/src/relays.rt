@@ -6,7 +6,7 @@ ghost use Rattle.mux_outside.specs.House.{SaysFits, says_nothing, gives_none, or
 ghost use Rattle.mux_outside.specs.OwnStreams.{is_one, is_finished};
 ghost use Rattle.mux_outside.specs.declared.piece.TheConstants.{LONGEST_PIECE};
 ghost use Rattle.house_forward.specs.Due.{link_due};
-ghost use Rattle.house_forward.specs.Going.{GoesAt, LeavesAt, Gets, TakesOf, Says, Hears, swept};
+ghost use Rattle.house_forward.specs.Going.{GoesAt, LeavesAt, Gets, TakesOf, SaysOn, HearsOn, Obeys, AwaitsAt, MakesAt, swept};
 ghost use Rattle.house_forward.specs.Said.{framed, said_by};
 ghost use Rattle.house_forward.specs.Links.{streams_of, has_number, are_distinct, is_taken, is_of, queue_in, link_after, is_offered, is_awaited, is_left, is_full, channels, dialogs, is_crowded, is_number_of, has_order, has_saying, made_streams, obeyed, ConnectsAt};
 
@@ -257,6 +257,7 @@ impl Relays {
         ensures due { sum_by link_due self.new.all.items + length (order_marks result)
             ≤ sum_by link_due self.old.all.items }
         ensures makes_none { IfSome result (λ order. length (order_marks result) ≡ 1) }
+        ensures obeys { Obeys result self.old.all.items self.new.all.items }
         ensures silent { result ≡ None → self.new ≡ self.old }
     {
         let i = self.ordering()?;
@@ -298,6 +299,8 @@ impl Relays {
         ensures streams { streams_of self.new.all.items ≡ streams_of self.old.all.items }
         ensures due { sum_by link_due self.new.all.items ≡ sum_by link_due self.old.all.items }
         ensures awaited { OnSome result (list_any is_awaited self.new.all.items ≡ true) }
+        ensures awaits { AwaitsAt (position is_offered self.old.all.items)
+            self.old.all.items self.new.all.items }
         ensures gives { IfSome result (λ r. IfSome (find is_offered self.old.all.items)
             (λ l. ConnectsAt r.0.one r.1 l.stream)) }
         ensures silent { result ≡ None → self.new ≡ self.old }
@@ -314,6 +317,8 @@ impl Relays {
             ≡ streams_of self.old.all.items ++ made_streams stream }
         ensures due { sum_by link_due self.new.all.items + 1
             ≤ sum_by link_due self.old.all.items }
+        ensures makes { MakesAt (position is_awaited self.old.all.items) stream
+            self.old.all.items self.new.all.items }
     {
         let Some(i) = self.awaited() else {
             return;
@@ -333,7 +338,7 @@ impl Relays {
             (says_nothing result ≡ not (list_any has_saying self.old.all.items)) }
         ensures streams { streams_of self.new.all.items ≡ streams_of self.old.all.items }
         ensures count { length self.new.all.items ≤ length self.old.all.items }
-        ensures says { OnOk result (LeavesAt (position has_saying self.old.all.items) Says
+        ensures says { OnOk result (LeavesAt (position has_saying self.old.all.items) SaysOn
             self.old.all.items self.new.all.items) }
         ensures spelled { OnOk result (IfSome (find has_saying self.old.all.items)
             (λ l. into.new ≡ framed (said_by l.relay))) }
@@ -352,7 +357,7 @@ impl Relays {
         requires { position has_saying self.old.all.items ≡ Some i }
         ensures fits { SaysFits result into.new }
         ensures exact { IfOk result (λ said. said ≡ true) }
-        ensures says { OnOk result (GoesAt (Some i) Says
+        ensures says { OnOk result (GoesAt (Some i) SaysOn
             self.old.all.items self.new.all.items) }
         ensures spelled { OnOk result (IfSome (find has_saying self.old.all.items)
             (λ l. into.new ≡ framed (said_by l.relay))) }
@@ -367,7 +372,7 @@ impl Relays {
     pub fn hear(&mut self, number: u32, message: &Message<'_>) -> Result<(), OutOfMemory>
         ensures hears { OnOk result (LeavesAt
             (position (λ l. l.relay.number == number) self.old.all.items)
-            (Hears message.now) self.old.all.items self.new.all.items) }
+            (HearsOn message.now) self.old.all.items self.new.all.items) }
         ensures streams { streams_of self.new.all.items ≡ streams_of self.old.all.items }
         ensures count { length self.new.all.items ≤ length self.old.all.items }
     {
@@ -382,7 +387,7 @@ impl Relays {
     /// The first whose channel has this number hears a message.
     fn hear_at(&mut self, i: usize, number: u32, message: &Message<'_>) -> Result<(), OutOfMemory>
         requires { position (λ l. l.relay.number == number) self.old.all.items ≡ Some i }
-        ensures hears { OnOk result (GoesAt (Some i) (Hears message.now)
+        ensures hears { OnOk result (GoesAt (Some i) (HearsOn message.now)
             self.old.all.items self.new.all.items) }
         ensures streams { streams_of self.new.all.items ≡ streams_of self.old.all.items }
         ensures count { length self.new.all.items ≡ length self.old.all.items }

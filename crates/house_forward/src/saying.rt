@@ -3,7 +3,8 @@ ghost use Rattle.std.specs.Prelude.{◌≡◌, ◌<◌, ◌≤◌, ◌++◌, len
 ghost use Rattle.ssh_fields.specs.Fields.{str};
 ghost use Rattle.mux_outside.specs.House.{SaysFits};
 ghost use Rattle.house_relay.specs.Next.{says_of};
-ghost use Rattle.house_relay.specs.Relay.{IsSaying};
+ghost use Rattle.house_relay.specs.Relay.{IsSaying, GoesOn};
+ghost use Rattle.house_forward.specs.Going.{act_of_saying};
 ghost use Rattle.house_forward.specs.Links.{after_saying};
 ghost use Rattle.house_forward.specs.Said.{framed, payload_of, direct, confirmed, in_live, limits, requested};
 ghost use Rattle.mux_outside.specs.declared.piece.TheConstants.{LONGEST_PIECE};
@@ -60,6 +61,8 @@ pub fn say(alloc: Global, relay: &mut Relay, into: &mut Piece) -> Result<bool, O
     ensures said { IfOk result (λ said. relay.new ≡ after_saying (says_of relay.old) relay.old) }
     ensures spelled { IfOk result (λ said. IfSome (says_of relay.old)
         (λ saying. into.new ≡ framed (payload_of relay.old saying))) }
+    ensures goes { OnOk result (GoesOn relay.old relay.new
+        (act_of_saying (says_of relay.old) relay.old)) }
     ensures few { length relay.new.held.waiting ≤ length relay.old.held.waiting }
 {
     let Some(saying) = relay.says() else {

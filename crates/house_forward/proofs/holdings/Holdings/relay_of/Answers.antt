@@ -2,7 +2,7 @@ use Rattle.std.proofs.Common.{◌∙◌, sym}
 use Rattle.std.specs.Prelude.{find}
 use Rattle.house_forward.specs.Forwardings.{has_listener}
 use Rattle.house_forward.specs.Links.{is_full, is_crowded}
-use Rattle.house_forward.proofs.Joining.{joined-full, joined-none, joined-one}
+use Rattle.house_forward.proofs.Joining.{joined-full, joined-none}
 use Rattle.house_forward.proofs.holdings.Holdings.relay_of.Goals as goal
 
 pub returns-then-is_full-clause-joined : goal.returns-then-is_full-clause-joined

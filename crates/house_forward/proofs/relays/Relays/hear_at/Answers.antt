@@ -1,9 +1,8 @@
-use Rattle.std.proofs.Common.{◌≡◌, ap}
 use Rattle.std.specs.Prelude.{◌==◌}
 use Rattle.house_forward.specs.declared.link.Link.{Link}
 use Rattle.house_forward.proofs.Changes.{fits-at, changes-at}
-use Rattle.house_forward.specs.Going.{Hears}
-use Rattle.house_forward.proofs.Going.{went-at, on-ok}
+use Rattle.house_forward.specs.Going.{HearsOn}
+use Rattle.house_forward.proofs.Going.{went-at, on-ok, on-both}
 use Rattle.house_forward.proofs.relays.Relays.hear_at.Goals as goal
 
 pub invariant_of-self : goal.invariant_of-self
@@ -24,4 +23,5 @@ returns-clause-streams c =
 
 pub returns-clause-hears : goal.returns-clause-hears
 returns-clause-hears c =
-    on-ok c.hears.result (λ heard. went-at c.args.i (Hears c.args.message.now) c.args.self.now.all.items c.index_mut-link.result.now c.hears.new.self c.index_mut-link.ensures.value c.hears.ensures.stream heard) c.hears.ensures.heard
+    let both = on-both _ _ c.hears.result c.hears.ensures.heard c.hears.ensures.goes in
+    on-ok c.hears.result (λ heard. went-at c.args.i (HearsOn c.args.message.now) c.args.self.now.all.items c.index_mut-link.result.now c.hears.new.self c.index_mut-link.ensures.value c.hears.ensures.stream heard) both

@@ -1,7 +1,8 @@
 use Rattle.std.proofs.Common.{sym, refl, ◌∙◌}
-use Rattle.std.specs.List.{list_any}
+use Rattle.std.specs.List.{list_any, position}
 use Rattle.house_forward.specs.Links.{is_offered}
 use Rattle.house_forward.proofs.Changes.{ordered, passes-at, one-at, gives-one, if-some, first-is}
+use Rattle.house_forward.proofs.Going.{awaits-at}
 use Rattle.house_forward.proofs.Lists.{none-passes}
 use Rattle.house_forward.proofs.relays.Relays.offer.Goals as goal
 
@@ -36,3 +37,13 @@ pub returns-clause-gives : goal.returns-clause-gives
 returns-clause-gives c =
     let found = first-is is_offered c.args.self.now.all.items c.in_ok-i.i c.index_mut.result.now (sym c.in_ok-i.ensures) c.index_mut.ensures.value in
     rw found c.ordered.ensures.gives
+
+pub returns-in_err-i-clause-awaits : goal.returns-in_err-i-clause-awaits
+returns-in_err-i-clause-awaits c = rw (sym c.in_err-i.ensures) refl
+
+pub returns-clause-awaits : goal.returns-clause-awaits
+returns-clause-awaits c =
+    let ls = c.args.self.now.all.items in
+    let x = c.index_mut.result.now in
+    let is = passes-at is_offered ls c.in_ok-i.i x (sym c.in_ok-i.ensures) c.index_mut.ensures.value in
+    awaits-at (position is_offered ls) c.in_ok-i.i ls x c.ordered.new.self (sym c.in_ok-i.ensures) c.index_mut.ensures.value (c.ordered.ensures.ordered is)

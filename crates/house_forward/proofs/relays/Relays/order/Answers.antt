@@ -1,10 +1,10 @@
-use Rattle.std.proofs.Common.{sym, refl, ◌≡◌, ◌∙◌, ap, true, Some}
+use Rattle.std.proofs.Common.{sym, refl, ◌∙◌, ap}
 use Rattle.std.specs.Prelude.{is_some}
-use Rattle.std.specs.List.{list_any, Any}
 use Rattle.std.proofs.lemmas.Bool.{false≢true}
 use Rattle.std.proofs.lemmas.List.Quantifiers.{position-Some}
-use Rattle.house_forward.specs.Links.{has_order, IsOrderOf}
-use Rattle.house_forward.proofs.Changes.{passes-at}
+use Rattle.house_forward.specs.Links.{has_order}
+use Rattle.house_forward.proofs.Changes.{passes-at, first-is}
+use Rattle.house_forward.proofs.Going.{obeys-first}
 use Rattle.house_forward.proofs.Lists.{none-passes}
 use Rattle.house_forward.proofs.Obeying.{obeys}
 use Rattle.house_forward.proofs.relays.Relays.order.Goals as goal
@@ -41,3 +41,9 @@ returns-clause-makes_none c =
     let first = position-Some has_order c.args.self.now.all.items c.in_ok-i.i c.index.result.now (sym c.in_ok-i.ensures) in
     let o = obeys c.in_ok-order.order c.args.self.now.all.items c.args.self.now.distinct (c.in_ok-i.i, c.index.result.now, first.0, sym c.index.ensures, c.in_ok-order.ensures.may) in
     o.marks
+
+pub returns-clause-obeys : goal.returns-clause-obeys
+returns-clause-obeys c =
+    let ls = c.args.self.now.all.items in
+    let found = first-is has_order ls c.in_ok-i.i c.index.result.now (sym c.in_ok-i.ensures) c.index.ensures in
+    obeys-first c.in_ok-order.order ls _ _ c.index.result.now found c.in_ok-order.ensures.may c.obey.ensures c.sweep.ensures.all

@@ -1,12 +1,12 @@
-use Rattle.std.proofs.Common.{◌≡◌, refl, ap, arith, ◌≤◌, length}
+use Rattle.std.proofs.Common.{refl, arith, ◌≤◌, length}
 use Rattle.mux_outside.specs.declared.piece.TheConstants.{LONGEST_PIECE}
 use Rattle.house_forward.specs.Links.{has_saying}
 use Rattle.house_forward.specs.declared.link.Link.{Link}
 use Rattle.house_forward.proofs.Changes.{fits-at, changes-at, passes-at}
 use Rattle.house_relay.specs.Next.{says_of}
-use Rattle.house_forward.specs.Going.{Says}
+use Rattle.house_forward.specs.Going.{SaysOn}
 use Rattle.house_forward.proofs.Changes.{first-is}
-use Rattle.house_forward.proofs.Going.{goes-at, on-ok, said-one}
+use Rattle.house_forward.proofs.Going.{goes-at, on-ok, on-both, said-one}
 use Rattle.house_forward.proofs.relays.Relays.say_at.Goals as goal
 
 pub invariant_of-self : goal.invariant_of-self
@@ -34,7 +34,8 @@ returns-clause-exact c =
 
 pub returns-clause-says : goal.returns-clause-says
 returns-clause-says c =
-    on-ok c.say.result (λ said. goes-at _ c.args.i Says c.args.self.now.all.items c.index_mut-link.result.now c.say.new.relay refl c.index_mut-link.ensures.value said) c.say.ensures.said
+    let both = on-both _ _ c.say.result c.say.ensures.said c.say.ensures.goes in
+    on-ok c.say.result (λ said. goes-at _ c.args.i SaysOn c.args.self.now.all.items c.index_mut-link.result.now c.say.new.relay refl c.index_mut-link.ensures.value said) both
 
 pub returns-clause-spelled : goal.returns-clause-spelled
 returns-clause-spelled c =

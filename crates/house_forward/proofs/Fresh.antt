@@ -1,0 +1,105 @@
+-- A relay stands for nothing as it begins.
+use Rattle.std.proofs.Common.{◌≡◌, refl, sym, subst, arith, ℕ, Bool, true, false, List, [], Option, Some, None}
+use Rattle.std.proofs.lemmas.Bool.{false≢true}
+use Rattle.house_relay.specs.Acts.{outcome_in, before_in, behind_in, replies_in}
+use Rattle.house_relay.specs.Line.{owed_in}
+use Rattle.house_relay.specs.Relay.{Stands, LineStands, NothingYet, stream_of}
+use Rattle.house_relay.specs.Steps.{fresh_relay, fresh_dialing}
+use Rattle.house_relay.specs.declared.line.Line.{Line}
+use Rattle.house_relay.specs.declared.line.Line.TheVariants.{Asked, Offered, Over}
+use Rattle.house_relay.specs.declared.relay.Relay.{Relay}
+use Rattle.house_relay.specs.declared.relay.Socket.{Socket}
+use Rattle.house_relay.specs.declared.relay.Socket.TheVariants as socket
+use Rattle.house_forward.specs.Links.{IsJoined, IsJoinedAt, IsDialed, IsSurplus, dials}
+use Rattle.house_forward.specs.declared.forwarding.Forwarding.{Forwarding}
+use Rattle.house_forward.specs.declared.rules.Kind.{Kind}
+use Rattle.house_forward.specs.declared.rules.Kind.TheVariants.{Local, Remote, Dynamic}
+
+nothing-plain : NothingYet false []
+nothing-plain = record {
+  no_answer = refl;
+  no_data = refl;
+  no_take = omega arith;
+  no_room = refl;
+  no_eof = refl;
+  no_close = refl;
+  none_heard = refl;
+  none_closed = refl;
+}
+
+nothing-dialed : NothingYet true []
+nothing-dialed = record {
+  no_answer = refl;
+  no_data = refl;
+  no_take = omega arith;
+  no_room = refl;
+  no_eof = refl;
+  no_close = refl;
+  none_heard = refl;
+  none_closed = refl;
+}
+
+plain : (number : ℕ) (line : Line) (s : Socket) → LineStands line false [] → Stands false [] (fresh_relay number line s)
+plain number line s h = record {
+  sends = refl;
+  delivers = ([], refl, refl);
+  ends = refl;
+  last = λ said. absurd (false≢true said);
+  few = omega arith;
+  line = h;
+}
+
+-- that of an OPEN of the server
+pub offered : (number remote window maximum : ℕ) (s : Socket)
+    → Stands false [] (fresh_relay number (Offered remote window maximum) s)
+offered number remote window maximum s =
+    plain number (Offered remote window maximum) s (record { plain = refl; nothing = nothing-plain })
+
+asked : (number : ℕ) (host : List ℕ) (port : ℕ) (s : Socket) → Stands false [] (fresh_relay number (Asked host port None) s)
+asked number host port s = plain number (Asked host port None) s (record { waits = refl; nothing = nothing-plain })
+
+over : (number : ℕ) (s : Socket) → Stands false [] (fresh_relay number Over s)
+over number s = plain number Over s (record { most = omega arith; settled = tt })
+
+dialed : (number : ℕ) (s : Socket) → Stands true [] (fresh_relay number fresh_dialing s)
+unfolding outcome_in before_in behind_in replies_in
+dialed number s = record {
+  sends = refl;
+  delivers = ([], refl, refl);
+  ends = refl;
+  last = λ said. absurd (false≢true said);
+  few = omega arith;
+  line = record { socks = refl; bytes = refl; given = refl; wants = refl; nothing = nothing-dialed };
+}
+
+-- one with this stream, in which nothing happened yet
+pub record Begins (t : ℕ) (r : Relay) : Type 0 where
+  pub stands : Stands (dials r.line) [] r
+  pub stream : stream_of r.socket ≡ Some t
+  pub going : r.ended ≡ false
+  pub none : owed_in r.line ≡ 0
+
+surplus : (t : ℕ) (r : Relay) → IsSurplus t r → Begins t r
+surplus t r e = subst (Begins t) (sym e)
+    (record { stands = over r.number (socket.Surplus t); stream = refl; going = refl; none = refl })
+
+asking : (t : ℕ) (r : Relay) (host : List ℕ) (port : ℕ)
+    → r ≡ fresh_relay r.number (Asked host port None) (socket.Open t) → Begins t r
+asking t r host port e = subst (Begins t) (sym e)
+    (record { stands = asked r.number host port (socket.Open t); stream = refl; going = refl; none = refl })
+
+dialing : (crowded : Bool) (t : ℕ) (r : Relay) → IsDialed crowded t r → Begins t r
+dialing true t r e = surplus t r e
+dialing false t r e = subst (Begins t) (sym e)
+    (record { stands = dialed r.number (socket.Open t); stream = refl; going = refl; none = refl })
+
+joined-at : (kind : Kind) (crowded : Bool) (f : Forwarding) (t : ℕ) (r : Relay) → IsJoinedAt kind crowded f t r → Begins t r
+joined-at Local crowded f t r e = asking t r f.connect_host f.connect_port e
+joined-at Remote crowded f t r e = asking t r f.connect_host f.connect_port e
+joined-at Dynamic crowded f t r e = dialing crowded t r e
+
+-- that of a socket that is joined
+pub joined : (full crowded : Bool) (f : Option Forwarding) (t : ℕ) (r : Relay) → IsJoined full crowded f t r → Begins t r
+joined true crowded f t r e = surplus t r e
+joined false crowded None t r e = surplus t r e
+joined false crowded (Some f) t r e = joined-at f.kind crowded f t r e

@@ -1,0 +1,325 @@
+-- A link is that of a life, as both go on.
+use Rattle.std.proofs.Common.{◌≡◌, ◌∙◌, refl, sym, ap, subst, arith, ℕ, ◌+◌, ◌<◌, ◌≤◌, ◌^◌, Bool, true, false, List, [], ◌∷◌, length, Option, Some, None}
+use Rattle.std.specs.Prelude.{◌&&◌, ◌||◌, ◌==◌, not, if◌then◌else◌}
+use Rattle.std.proofs.lemmas.Bool.{and_left, and_parts, false≢true}
+use Rattle.conn_messages.specs.declared.message.Message.{Message}
+use Rattle.mux_outside.specs.declared.own_streams.OwnStream.{OwnStream}
+use Rattle.mux_outside.specs.declared.piece.TheConstants.{LONGEST_PIECE}
+use Rattle.house_relay.specs.Acts.{Act, Reads, Takes, taken}
+use Rattle.house_relay.specs.Line.{owed_in, counts}
+use Rattle.house_relay.specs.Next.{says_of}
+use Rattle.house_relay.specs.Relay.{GoesOn, stream_of}
+use Rattle.house_relay.specs.Steps.{is_closed, is_gone, made_as, taken_of}
+use Rattle.house_relay.specs.declared.relay.Relay.{Relay}
+use Rattle.house_relay.specs.declared.relay.Socket.{Socket}
+use Rattle.house_relay.specs.declared.relay.Socket.TheVariants as socket
+use Rattle.house_forward.specs.Going.{Gets, TakesOf, Says, SaysOn, Hears, HearsOn, act_of_saying}
+use Rattle.house_forward.specs.Heard.{act_heard}
+use Rattle.house_forward.specs.Links.{own_of, numbered, is_number, has_number, is_of, is_without, is_left, awaits, offers, made_stream, relay_after, stream_after, link_after}
+use Rattle.house_forward.specs.Lives.{Life, GoesBy, IsLife, IsSocketOf, is_stream, has_stream, own_after, own_made, act_of, stepped, made_life}
+use Rattle.house_forward.specs.declared.link.Link.{Link}
+use Rattle.house_forward.specs.declared.link.Step.{Step}
+use Rattle.house_forward.specs.declared.link.Step.TheVariants.{Pause, Finish, End, Close, Writable, Failed as Fail}
+use Rattle.house_forward.specs.declared.link.Stream.{Stream}
+use Rattle.house_forward.specs.declared.link.Stream.TheVariants.{Offered, Awaited, Made, Gone}
+use Rattle.house_forward.proofs.Keeping.{Stays, stays-heard, none-heard, stays-after, none-after, keeps-stream, owed-takes, connected-stream, failing-stream}
+use Rattle.house_forward.proofs.Standing.{goes-other, goes-after}
+
+-- ---- what is known of a life by its link
+
+pub stream-in : (t : ℕ) (s : Stream) → is_stream t (own_of s) ≡ numbered t s
+stream-in t (Offered host port) = refl
+stream-in t Awaited = refl
+stream-in t (Made own) = refl
+stream-in t Gone = refl
+
+pub has-number : (t most : ℕ) (life : Life) (link : Link) → IsLife most life link → has_stream t life ≡ has_number t link
+has-number t most life link is = ap (is_stream t) is.own_is ∙ stream-in t link.stream
+
+and-same : (b : Bool) → b ≡ (b && b)
+and-same true = refl
+and-same false = refl
+
+of-in : (t : ℕ) (s : Stream) (r : Relay) → IsSocketOf s r → numbered t s ≡ (numbered t s && is_number t (stream_of r.socket))
+of-in t (Offered host port) r h = refl
+of-in t Awaited r h = refl
+of-in t (Made own) r h = and-same (own.number == t) ∙ ap (λ o. (own.number == t) && is_number t o) (sym h.0)
+of-in t Gone r h = refl
+
+pub is-of : (t most : ℕ) (life : Life) (link : Link) → IsLife most life link → has_stream t life ≡ is_of t link
+is-of t most life link is = has-number t most life link is ∙ of-in t link.stream link.relay is.socket
+
+pub has-channel : (n most : ℕ) (life : Life) (link : Link) → IsLife most life link
+    → (life.relay.number == n) ≡ (link.relay.number == n)
+has-channel n most life link is = ap (λ (r : Relay). r.number == n) is.relay_is
+
+not-closed : (s : Socket) (t : ℕ) → stream_of s ≡ Some t → is_closed s ≡ false
+not-closed (socket.Connecting stream) t e = refl
+not-closed (socket.Open stream) t e = refl
+not-closed socket.Unmade t e = refl
+not-closed (socket.Failed stream) t e = refl
+not-closed (socket.Surplus stream) t e = refl
+not-closed socket.Closed t e = cc
+
+left-in : (s : Stream) (r : Relay) → IsSocketOf s r → is_gone r ≡ (is_without s && is_gone r)
+left-in (Offered host port) r h = and_left (is_closed r.socket) (not (counts r.line)) (ap is_closed h.0)
+left-in Awaited r h = and_left (is_closed r.socket) (not (counts r.line)) (ap is_closed h.0)
+left-in (Made own) r h = and_left (is_closed r.socket) (not (counts r.line)) (not-closed r.socket own.number h.0)
+left-in Gone r h = refl
+
+-- nothing is left of both
+pub is-gone : (most : ℕ) (life : Life) (link : Link) → IsLife most life link → is_gone life.relay ≡ is_left link
+is-gone most life link is = ap is_gone is.relay_is ∙ left-in link.stream link.relay is.socket
+
+-- ---- it goes on
+
+socket-same : (s : Stream) (old new : Relay) → new.socket ≡ old.socket → new.ended ≡ old.ended → IsSocketOf s old
+    → IsSocketOf s new
+socket-same (Offered host port) old new e f h = (e ∙ h.0, f ∙ h.1)
+socket-same Awaited old new e f h = (e ∙ h.0, f ∙ h.1)
+socket-same (Made own) old new e f h = (ap stream_of e ∙ h.0, f ∙ h.1)
+socket-same Gone old new e f h = e ∙ h
+
+-- a life goes on as its link does
+pub record Onward (so : Relay → Relay → Type 0) (act : Relay → Act) (most : ℕ) (life : Life) (link : Link) : Type 0 where
+  pub next : Life
+  pub goes : GoesBy so (act life.relay) life next
+  pub is : IsLife most next link
+
+onward : (so : Relay → Relay → Type 0) (act : Relay → Act) (least most : ℕ) (life : Life) (link : Link) (r : Relay)
+    → IsLife least life link → so link.relay r → GoesOn link.relay r (act link.relay) → IsSocketOf link.stream r
+    → owed_in r.line ≤ taken (act link.relay ∷ life.acts) → taken (act link.relay ∷ life.acts) ≤ most
+    → Onward so act most life (record link { relay = r })
+onward so act least most life link r is goes on socket owed few = record {
+  next = record life { relay = r; acts = act link.relay ∷ life.acts };
+  goes = record {
+    relay = subst (λ (z : Relay). so z r) (sym is.relay_is) goes;
+    own = refl;
+    dials = refl;
+    acts = ap (λ (z : Relay). act z ∷ life.acts) (sym is.relay_is);
+  };
+  is = record {
+    relay_is = refl;
+    own_is = is.own_is;
+    socket = socket;
+    stands = on life.dials life.acts is.stands;
+    owed = owed;
+    few = few;
+  };
+}
+
+-- where its socket stays and nothing is taken
+onward-same : (so : Relay → Relay → Type 0) (act : Relay → Act) (most : ℕ) (life : Life) (link : Link) (r : Relay)
+    → IsLife most life link → so link.relay r → GoesOn link.relay r (act link.relay) → Stays link.relay r
+    → taken (act link.relay ∷ life.acts) ≡ taken life.acts → Onward so act most life (record link { relay = r })
+onward-same so act most life link r is goes on stays none =
+    let owed = is.owed in
+    let few = is.few in
+    let less = stays.owes in
+    onward so act most most life link r is goes on
+    (socket-same link.stream link.relay r stays.socket_is stays.ended_is is.socket)
+    (omega (arith, owed, less, none)) (omega (arith, few, none))
+
+pub hears : (m : Message) (most : ℕ) (life : Life) (link : Link) (r : Relay) → IsLife most life link → HearsOn m link.relay r
+    → Onward (Hears m) (act_heard m) most life (record link { relay = r })
+hears m most life link r is h =
+    onward-same (Hears m) (act_heard m) most life link r is h.0 h.1
+    (subst (λ (z : Relay). Stays link.relay z) (sym h.0) (stays-heard m link.relay)) (none-heard m link.relay life.acts)
+
+pub says : (most : ℕ) (life : Life) (link : Link) (r : Relay) → IsLife most life link → SaysOn link.relay r
+    → Onward Says (λ (z : Relay). act_of_saying (says_of z) z) most life (record link { relay = r })
+says most life link r is h =
+    onward-same Says (λ (z : Relay). act_of_saying (says_of z) z) most life link r is h.0 h.1
+    (subst (λ (z : Relay). Stays link.relay z) (sym h.0) (stays-after (says_of link.relay) link.relay))
+    (none-after (says_of link.relay) link.relay life.acts)
+
+-- ---- what its socket gives
+
+-- a stream that isn't silent hasn't ended
+pub loud : (own : OwnStream) (t : ℕ) → (own.number == t) ≡ true → ((own.number == t) && (own.paused || own.ended)) ≡ false
+    → own.ended ≡ false
+loud own t is e = second own.paused own.ended (rest (own.number == t) (own.paused || own.ended) is e)
+  where
+    rest : (a b : Bool) → a ≡ true → (a && b) ≡ false → b ≡ false
+    rest true b e f = f
+    rest false b e f = cc
+
+    second : (a b : Bool) → (a || b) ≡ false → b ≡ false
+    second true b e = cc
+    second false b e = e
+
+socket-kept : (t : ℕ) (s : Stream) (old new : Relay) → numbered t s ≡ true → stream_of new.socket ≡ stream_of old.socket
+    → new.ended ≡ old.ended → IsSocketOf s old → IsSocketOf s new
+socket-kept t (Offered host port) old new n e f h = cc
+socket-kept t Awaited old new n e f h = cc
+socket-kept t (Made own) old new n e f h = (e ∙ h.0, f ∙ h.1)
+socket-kept t Gone old new n e f h = cc
+
+unended : (t : ℕ) (s : Stream) (r : Relay) → numbered t s ≡ true → IsSocketOf s r
+    → ((own : OwnStream) → own_of s ≡ Some own → own.ended ≡ false) → r.ended ≡ false
+unended t (Offered host port) r n h f = h.1
+unended t Awaited r n h f = h.1
+unended t (Made own) r n h f = h.1 ∙ f own refl
+unended t Gone r n h f = cc
+
+pub gets : (free : Bool) (bytes : List ℕ) (t most : ℕ) (life : Life) (link : Link) (r : Relay) → IsLife most life link
+    → is_of t link ≡ true → ((own : OwnStream) → own_of link.stream ≡ Some own → own.ended ≡ false)
+    → link.relay.held.waiting ≡ [] → length bytes ≤ LONGEST_PIECE → Gets free bytes link.relay r
+    → Onward (Gets free bytes) (λ (z : Relay). Reads bytes) most life (record link { relay = r })
+gets free bytes t most life link r is of going rests short h =
+    let n = (and_parts (has_number t link) (is_number t (stream_of link.relay.socket)) of).0 in
+    let none = ap length rests in
+    let on : GoesOn link.relay r (Reads bytes) = h.1 (record {
+      unended = unended t link.stream link.relay n is.socket going;
+      room = omega (arith, none, short);
+    }) in
+    let keeps = keeps-stream life.dials free life.acts bytes link.relay r is.stands h.0 in
+    let ended : r.ended ≡ link.relay.ended = (on life.dials life.acts is.stands).ends ∙ sym is.stands.ends in
+    let owed = is.owed in
+    let less = keeps.owes in
+    onward (Gets free bytes) (λ (z : Relay). Reads bytes) most most life link r is h on
+    (socket-kept t link.stream link.relay r n keeps.stream_is ended is.socket)
+    (omega (arith, owed, less)) is.few
+
+-- ---- what its socket takes
+
+pub takes : (n least : ℕ) (life : Life) (link : Link) (r : Relay) → n + least < 2 ^ 64 → IsLife least life link
+    → TakesOf n link.relay r → Onward (TakesOf n) (λ (z : Relay). Takes n) (n + least) life (record link { relay = r })
+takes n least life link r small is h =
+    let owed = is.owed in
+    let few = is.few in
+    let both = h (omega (arith, owed, few, small)) in
+    let more = owed-takes n link.relay.line in
+    let line : owed_in r.line ≡ owed_in (taken_of n link.relay).line = ap (λ (z : Relay). owed_in z.line) both.0 in
+    onward (TakesOf n) (λ (z : Relay). Takes n) least (n + least) life link r is h both.1
+    (socket-same link.stream link.relay r (ap (λ (z : Relay). z.socket) both.0) (ap (λ (z : Relay). z.ended) both.0) is.socket)
+    (omega (arith, owed, more, line)) (omega (arith, few))
+
+-- ---- steps
+
+own-after : (step : Step) (s : Stream) → own_after step (own_of s) ≡ own_of (stream_after step s)
+own-after step (Offered host port) = refl
+own-after step Awaited = refl
+own-after (Pause b) (Made own) = refl
+own-after Finish (Made own) = refl
+own-after End (Made own) = refl
+own-after Close (Made own) = refl
+own-after Writable (Made own) = refl
+own-after Fail (Made own) = refl
+own-after step Gone = refl
+
+socket-made : (step : Step) (own : OwnStream) (r : Relay) → IsSocketOf (Made own) r
+    → IsSocketOf (stream_after step (Made own)) (relay_after step r)
+socket-made (Pause b) own r h = h
+socket-made Finish own r h = h
+socket-made End own r h = (h.0, refl)
+socket-made Close own r h = refl
+socket-made Writable own r h = (connected-stream r.socket ∙ h.0, h.1)
+socket-made Fail own r h = (failing-stream r.socket ∙ h.0, h.1)
+
+socket-after : (t : ℕ) (step : Step) (s : Stream) (r : Relay) → numbered t s ≡ true → IsSocketOf s r
+    → IsSocketOf (stream_after step s) (relay_after step r)
+socket-after t step (Offered host port) r n h = cc
+socket-after t step Awaited r n h = cc
+socket-after t step (Made own) r n h = socket-made step own r h
+socket-after t step Gone r n h = cc
+
+owed-after : (step : Step) (r : Relay) → owed_in (relay_after step r).line ≡ owed_in r.line
+owed-after (Pause b) r = refl
+owed-after Finish r = refl
+owed-after End r = refl
+owed-after Close r = refl
+owed-after Writable r = refl
+owed-after Fail r = refl
+
+none-after-step : (step : Step) (acts : List Act) → taken (act_of step ∷ acts) ≡ taken acts
+none-after-step (Pause b) acts = refl
+none-after-step Finish acts = refl
+none-after-step End acts = refl
+none-after-step Close acts = refl
+none-after-step Writable acts = refl
+none-after-step Fail acts = refl
+
+steps-if : (b : Bool) (step : Step) (t most : ℕ) (life : Life) (link : Link) → has_number t link ≡ b → IsLife most life link
+    → IsLife most
+    (if b then record life { relay = relay_after step life.relay; own = own_after step life.own; acts = act_of step ∷ life.acts } else life)
+    (if b then record link { relay = relay_after step link.relay; stream = stream_after step link.stream } else link)
+steps-if true step t most life link n is =
+    let owed = is.owed in
+    let few = is.few in
+    let same = owed-after step link.relay in
+    let none = none-after-step step life.acts in
+    record {
+      relay_is = ap (relay_after step) is.relay_is;
+      own_is = ap (own_after step) is.own_is ∙ own-after step link.stream;
+      socket = socket-after t step link.stream link.relay n is.socket;
+      stands = goes-after step link.relay life.dials life.acts is.stands;
+      owed = omega (arith, owed, same, none);
+      few = omega (arith, few, none);
+    }
+steps-if false step t most life link n is = is
+
+pub steps : (step : Step) (t most : ℕ) (life : Life) (link : Link) → IsLife most life link
+    → IsLife most (stepped step t life) (link_after step t link)
+steps step t most life link is =
+    subst (λ (b : Bool). IsLife most
+    (if b then record life { relay = relay_after step life.relay; own = own_after step life.own; acts = act_of step ∷ life.acts } else life)
+    (link_after step t link))
+    (sym (has-number t most life link is)) (steps-if (has_number t link) step t most life link refl is)
+
+-- ---- its socket is ordered, and made
+
+awaits-own : (s : Stream) → offers s ≡ true → own_of s ≡ None
+awaits-own (Offered host port) e = refl
+awaits-own Awaited e = cc
+awaits-own (Made own) e = cc
+awaits-own Gone e = cc
+
+awaits-socket : (s : Stream) (r : Relay) → offers s ≡ true → IsSocketOf s r → IsSocketOf Awaited r
+awaits-socket (Offered host port) r e h = h
+awaits-socket Awaited r e h = cc
+awaits-socket (Made own) r e h = cc
+awaits-socket Gone r e h = cc
+
+pub is-awaited : (most : ℕ) (life : Life) (link : Link) → offers link.stream ≡ true → IsLife most life link
+    → IsLife most life (record link { stream = Awaited })
+is-awaited most life link offered is = record {
+  relay_is = is.relay_is;
+  own_is = is.own_is ∙ awaits-own link.stream offered;
+  socket = awaits-socket link.stream link.relay offered is.socket;
+  stands = is.stands;
+  owed = is.owed;
+  few = is.few;
+}
+
+unmade-in : (s : Stream) (r : Relay) → awaits s ≡ true → IsSocketOf s r → (r.socket ≡ socket.Unmade) × (r.ended ≡ false)
+unmade-in (Offered host port) r e h = h
+unmade-in Awaited r e h = h
+unmade-in (Made own) r e h = absurd (false≢true e)
+unmade-in Gone r e h = absurd (false≢true e)
+
+pub unmade : (most : ℕ) (life : Life) (link : Link) → awaits link.stream ≡ true → IsLife most life link
+    → life.relay.socket ≡ socket.Unmade
+unmade most life link awaited is =
+    ap (λ (r : Relay). r.socket) is.relay_is ∙ (unmade-in link.stream link.relay awaited is.socket).0
+
+own-made : (number : Option ℕ) → own_made number ≡ own_of (made_stream number)
+own-made None = refl
+own-made (Some t) = refl
+
+socket-new : (number : Option ℕ) (r : Relay) → r.ended ≡ false
+    → IsSocketOf (made_stream number) (record r { socket = made_as number })
+socket-new None r e = refl
+socket-new (Some t) r e = (refl, e)
+
+pub makes : (number : Option ℕ) (most : ℕ) (life : Life) (link : Link) → awaits link.stream ≡ true → IsLife most life link
+    → IsLife most (made_life number life)
+    (record { relay = record link.relay { socket = made_as number }; stream = made_stream number })
+makes number most life link awaited is = record {
+  relay_is = ap (λ (r : Relay). record r { socket = made_as number }) is.relay_is;
+  own_is = own-made number;
+  socket = socket-new number link.relay (unmade-in link.stream link.relay awaited is.socket).1;
+  stands = goes-other link.relay (made_as number) life.dials life.acts is.stands;
+  owed = is.owed;
+  few = is.few;
+}

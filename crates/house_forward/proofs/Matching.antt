@@ -1,0 +1,238 @@
+-- Lives and links, one by one.
+use Rattle.std.proofs.Common.{◌≡◌, ◌∙◌, refl, sym, ap, subst, arith, ℕ, zero, suc, ◌<◌, ◌≤◌, Bool, true, false, List, [], ◌∷◌, ◌++◌, length, get_or, set, take, drop, map, Option, Some, None}
+use Rattle.std.specs.List.{All, list_any, position, remove}
+use Rattle.std.proofs.lemmas.Bool.{or_parts, or_from}
+use Rattle.std.proofs.lemmas.List.{get_or_default}
+use Rattle.std.proofs.lemmas.List.Elements.{All-nil, All-push}
+use Rattle.std.proofs.lemmas.List.Quantifiers.{position-Some}
+use Rattle.house_relay.specs.Relay.{Stands}
+use Rattle.house_relay.specs.Steps.{is_gone}
+use Rattle.house_relay.specs.declared.relay.Relay.{Relay}
+use Rattle.house_forward.specs.Going.{swept, without_at}
+use Rattle.house_forward.specs.Links.{is_left, link_after}
+use Rattle.house_forward.specs.Lives.{Life, One, IsLife, AreLives, kept_in, left_in, stepped}
+use Rattle.house_forward.specs.declared.link.Link.{Link}
+use Rattle.house_forward.specs.declared.link.Step.{Step}
+use Rattle.house_forward.proofs.Lists.{none-passes}
+use Rattle.house_forward.proofs.Living.{is-gone, steps}
+
+-- ---- a place in a list
+
+-- one is at the first place that passes a test
+pub record At (p : Link → Bool) (ls : List Link) (i : ℕ) (x : Link) : Type 0 where
+  pub none : list_any p (take i ls) ≡ false
+  pub is : p x ≡ true
+  pub were : ls ≡ take i ls ++ x ∷ drop (suc i) ls
+  pub are : (y : Link) → set ls i y ≡ take i ls ++ y ∷ drop (suc i) ls
+
+place : (p : Link → Bool) (ls : List Link) (i : ℕ) (x : Link) → i < length ls → x ≡ get_or ls i x
+    → p (get_or ls i x) ≡ true → ((k : ℕ) → k < i → p (get_or ls k x) ≡ false) → At p ls i x
+place p [] i x l at is before = absurd (omega arith)
+place p (y ∷ ls) zero x l at is before = record {
+  none = refl;
+  is = subst (λ (z : Link). p z ≡ true) (sym at) is;
+  were = ap (λ (z : Link). z ∷ ls) (sym at);
+  are = λ z. refl;
+}
+place p (y ∷ ls) (suc i) x l at is before =
+    let rest = place p ls i x (omega arith) at is (λ k lt. before (suc k) (omega arith)) in
+    record {
+      none = or_from (p y) (list_any p (take i ls)) (before 0 (omega arith)) rest.none;
+      is = rest.is;
+      were = ap (λ zs. y ∷ zs) rest.were;
+      are = λ z. ap (λ zs. y ∷ zs) (rest.are z);
+    }
+
+pub at-first : (p : Link → Bool) (ls : List Link) (i : ℕ) (x : Link) → position p ls ≡ Some i → x ≡ get_or ls i x → At p ls i x
+at-first p ls i x e at =
+    let first = position-Some p ls i x e in
+    place p ls i x first.0 at first.1 first.2
+
+-- some link is there
+pub there : (p : Link → Bool) (ls : List Link) (i : ℕ) → position p ls ≡ Some i → (x : Link) × At p ls i x
+there p [] i e = cc
+there p (l ∷ ls) i e =
+    let first = position-Some p (l ∷ ls) i l e in
+    let x : Link = get_or (l ∷ ls) i l in
+    (x, at-first p (l ∷ ls) i x e (get_or_default (l ∷ ls) i l x first.0))
+
+-- ---- both lists
+
+pub record Split (most : ℕ) (lives : List Life) (before : List Link) (link : Link) (behind : List Link) : Type 0 where
+  pub first : List Life
+  pub life : Life
+  pub last : List Life
+  pub were : lives ≡ first ++ life ∷ last
+  pub front : AreLives most first before
+  pub is : IsLife most life link
+  pub back : AreLives most last behind
+
+pub splits : (most : ℕ) (lives : List Life) (before : List Link) (link : Link) (behind : List Link)
+    → AreLives most lives (before ++ link ∷ behind) → Split most lives before link behind
+splits most [] [] link behind are = absurd are
+splits most [] (x ∷ before) link behind are = absurd are
+splits most (l ∷ lives) [] link behind are =
+    record { first = []; life = l; last = lives; were = refl; front = tt; is = are.0; back = are.1 }
+splits most (l ∷ lives) (x ∷ before) link behind are =
+    let rest = splits most lives before link behind are.1 in
+    record {
+      first = l ∷ rest.first;
+      life = rest.life;
+      last = rest.last;
+      were = ap (λ ls. l ∷ ls) rest.were;
+      front = (are.0, rest.front);
+      is = rest.is;
+      back = rest.back;
+    }
+
+pub both-append : (most : ℕ) (a b : List Life) (x y : List Link) → AreLives most a x → AreLives most b y
+    → AreLives most (a ++ b) (x ++ y)
+both-append most [] b [] y h k = k
+both-append most [] b (m ∷ x) y h k = absurd h
+both-append most (l ∷ a) b [] y h k = absurd h
+both-append most (l ∷ a) b (m ∷ x) y h k = (h.0, both-append most a b x y h.1 k)
+
+-- a test of a life is one of its link
+abbrev pub Tests : ℕ → (Life → Bool) → (Link → Bool) → Type 0
+Tests most which p = (life : Life) (link : Link) → IsLife most life link → which life ≡ p link
+
+pub none-lives : (most : ℕ) (which : Life → Bool) (p : Link → Bool) → Tests most which p → (lives : List Life) (links : List Link)
+    → AreLives most lives links → list_any p links ≡ false → list_any which lives ≡ false
+none-lives most which p tests [] [] are e = refl
+none-lives most which p tests [] (x ∷ links) are e = absurd are
+none-lives most which p tests (l ∷ lives) [] are e = absurd are
+none-lives most which p tests (l ∷ lives) (x ∷ links) are e =
+    let both = or_parts (p x) (list_any p links) e in
+    or_from (which l) (list_any which lives) (tests l x are.0 ∙ both.0)
+    (none-lives most which p tests lives links are.1 both.1)
+
+-- ---- more is taken
+
+more-taken : (least most : ℕ) (life : Life) (link : Link) → least ≤ most → IsLife least life link → IsLife most life link
+more-taken least most life link less is =
+    let few = is.few in
+    record {
+      relay_is = is.relay_is;
+      own_is = is.own_is;
+      socket = is.socket;
+      stands = is.stands;
+      owed = is.owed;
+      few = omega (arith, few, less);
+    }
+
+pub all-more : (least most : ℕ) (lives : List Life) (links : List Link) → least ≤ most → AreLives least lives links
+    → AreLives most lives links
+all-more least most [] [] less are = tt
+all-more least most [] (x ∷ links) less are = absurd are
+all-more least most (l ∷ lives) [] less are = absurd are
+all-more least most (l ∷ lives) (x ∷ links) less are =
+    (more-taken least most l x less are.0, all-more least most lives links less are.1)
+
+-- ---- one goes on
+
+pub record Went (which : Life → Bool) (to : Life → Life → Type 0) (most : ℕ) (old : List Life) (new : List Link) : Type 0 where
+  pub lives : List Life
+  pub one : One which to old lives
+  pub are : AreLives most lives new
+
+pub record Next (to : Life → Life → Type 0) (most : ℕ) (life : Life) (link : Link) : Type 0 where
+  pub next : Life
+  pub goes : to life next
+  pub is : IsLife most next link
+
+pub goes-one : (which : Life → Bool) (p : Link → Bool) (to : Life → Life → Type 0) (least most : ℕ) (lives : List Life)
+    (links : List Link) (i : ℕ) (x y : Link) → least ≤ most → Tests least which p → position p links ≡ Some i
+    → x ≡ get_or links i x → AreLives least lives links → ((life : Life) → IsLife least life x → Next to most life y)
+    → Went which to most lives (set links i y)
+goes-one which p to least most lives links i x y less tests e same are goes =
+    let at = at-first p links i x e same in
+    let s = splits least lives (take i links) x (drop (suc i) links) (subst (AreLives least lives) at.were are) in
+    let went = goes s.life s.is in
+    record {
+      lives = s.first ++ went.next ∷ s.last;
+      one = record {
+        before = s.first;
+        life = s.life;
+        next = went.next;
+        behind = s.last;
+        others = none-lives least which p tests s.first (take i links) s.front at.none;
+        is = tests s.life x s.is ∙ at.is;
+        goes = went.goes;
+        were = s.were;
+        are = refl;
+      };
+      are = subst (AreLives most (s.first ++ went.next ∷ s.last)) (sym (at.are y))
+          (both-append most s.first (went.next ∷ s.last) (take i links) (y ∷ drop (suc i) links)
+          (all-more least most s.first (take i links) less s.front)
+          (went.is, all-more least most s.last (drop (suc i) links) less s.back));
+    }
+
+-- ---- one is forgotten
+
+kept-none : (lives : List Life) → list_any (λ (l : Life). is_gone l.relay) lives ≡ false → kept_in lives ≡ lives
+kept-none [] e = refl
+kept-none (l ∷ lives) e =
+    let both = or_parts (is_gone l.relay) (list_any (λ (m : Life). is_gone m.relay) lives) e in
+    rw both.0 (ap (λ ls. l ∷ ls) (kept-none lives both.1))
+
+left-none : (lives : List Life) → list_any (λ (l : Life). is_gone l.relay) lives ≡ false → left_in lives ≡ []
+left-none [] e = refl
+left-none (l ∷ lives) e =
+    let both = or_parts (is_gone l.relay) (list_any (λ (m : Life). is_gone m.relay) lives) e in
+    rw both.0 (left-none lives both.1)
+
+kept-one : (before : List Life) (life : Life) (behind : List Life) → list_any (λ (l : Life). is_gone l.relay) before ≡ false
+    → is_gone life.relay ≡ true → kept_in (before ++ life ∷ behind) ≡ before ++ behind
+kept-one [] life behind e is = rw is refl
+kept-one (l ∷ before) life behind e is =
+    let both = or_parts (is_gone l.relay) (list_any (λ (m : Life). is_gone m.relay) before) e in
+    rw both.0 (ap (λ ls. l ∷ ls) (kept-one before life behind both.1 is))
+
+left-one : (before : List Life) (life : Life) (behind : List Life) → list_any (λ (l : Life). is_gone l.relay) before ≡ false
+    → is_gone life.relay ≡ true → left_in (before ++ life ∷ behind) ≡ life ∷ []
+left-one [] life behind e is = rw is refl
+left-one (l ∷ before) life behind e is =
+    let both = or_parts (is_gone l.relay) (list_any (λ (m : Life). is_gone m.relay) before) e in
+    rw both.0 (left-one before life behind both.1 is)
+
+-- what is left, and what is forgotten
+pub record Sweeps (most : ℕ) (lives : List Life) (new : List Link) : Type 0 where
+  pub are : AreLives most (kept_in lives) new
+  pub past : All (λ l. Stands l.dials l.acts l.relay) (left_in lives)
+
+sweeps-at : (most : ℕ) (lives : List Life) (links : List Link) (o : Option ℕ) → position is_left links ≡ o
+    → AreLives most lives links → Sweeps most lives (without_at o links)
+sweeps-at most lives links None e are =
+    let none = none-lives most (λ (l : Life). is_gone l.relay) is_left (is-gone most) lives links are (none-passes is_left links e) in
+    record {
+      are = subst (λ (ls : List Life). AreLives most ls links) (sym (kept-none lives none)) are;
+      past = subst (λ (ls : List Life). All (λ (l : Life). Stands l.dials l.acts l.relay) ls) (sym (left-none lives none))
+          (All-nil (λ (l : Life). Stands l.dials l.acts l.relay));
+    }
+sweeps-at most lives links (Some i) e are =
+    let x = (there is_left links i e).0 in
+    let at = (there is_left links i e).1 in
+    let s = splits most lives (take i links) x (drop (suc i) links) (subst (AreLives most lives) at.were are) in
+    let none = none-lives most (λ (l : Life). is_gone l.relay) is_left (is-gone most) s.first (take i links) s.front at.none in
+    let gone : is_gone s.life.relay ≡ true = is-gone most s.life x s.is ∙ at.is in
+    record {
+      are = subst (λ (ls : List Life). AreLives most ls (remove links i))
+          (sym (ap kept_in s.were ∙ kept-one s.first s.life s.last none gone))
+          (both-append most s.first s.last (take i links) (drop (suc i) links) s.front s.back);
+      past = subst (λ (ls : List Life). All (λ (l : Life). Stands l.dials l.acts l.relay) ls)
+          (sym (ap left_in s.were ∙ left-one s.first s.life s.last none gone))
+          (All-push (λ (l : Life). Stands l.dials l.acts l.relay) [] s.life (All-nil (λ (l : Life). Stands l.dials l.acts l.relay))
+          (subst (λ (r : Relay). Stands s.life.dials s.life.acts r) (sym s.is.relay_is) s.is.stands));
+    }
+
+pub sweeps : (most : ℕ) (lives : List Life) (links : List Link) → AreLives most lives links → Sweeps most lives (swept links)
+sweeps most lives links are = sweeps-at most lives links (position is_left links) refl are
+
+-- ---- all take a step
+
+pub all-step : (step : Step) (t most : ℕ) (lives : List Life) (links : List Link) → AreLives most lives links
+    → AreLives most (map (stepped step t) lives) (map (link_after step t) links)
+all-step step t most [] [] are = tt
+all-step step t most [] (x ∷ links) are = absurd are
+all-step step t most (l ∷ lives) [] are = absurd are
+all-step step t most (l ∷ lives) (x ∷ links) are = (steps step t most l x are.0, all-step step t most lives links are.1)

@@ -1,0 +1,183 @@
+-- A relay stands for one thing more, where that is nothing that is counted of its channel.
+use Rattle.std.proofs.Common.{◌≡◌, ◌∙◌, refl, sym, ap, subst, arith, ℕ, ◌+◌, ◌-◌, ◌≤◌, Bool, true, List, ◌∷◌, ◌++◌, length, slice_index, Option, Some, None}
+use Rattle.std.specs.Prelude.{IsTrue}
+use Rattle.socks_dialog.specs.declared.outcome.Outcome.{Outcome}
+use Rattle.socks_dialog.specs.declared.outcome.Outcome.TheVariants.{Connects}
+use Rattle.house_relay.specs.Acts.{Act, Ends, Fails, Other, read, sent, delivered, taken, adjusted, has_ended, heard_eof, heard_close, said_eof, said_close, answer, outcome_in, before_in, replies, replies_if, to_take, behind_if, taken_data}
+use Rattle.house_relay.specs.Relay.{Stands, GoesOn, LineStands, IsLive, NothingYet, WaitsFor, IsSettled, HasAsked}
+use Rattle.house_relay.specs.declared.line.Live.{Live as LiveState}
+use Rattle.house_relay.specs.declared.line.Line.{Line}
+use Rattle.house_relay.specs.declared.line.Line.TheVariants.{Dialing, Asked, Opened, Offered, Live, Over}
+use Rattle.house_relay.specs.declared.relay.Relay.{Relay}
+use Rattle.house_relay.specs.declared.relay.Socket.{Socket}
+use Rattle.house_relay.specs.declared.relay.Socket.TheVariants as socket
+use Rattle.house_relay.specs.Steps.{connected, failing}
+use Rattle.house_forward.specs.Links.{relay_after}
+use Rattle.house_forward.specs.Lives.{act_of}
+use Rattle.house_forward.specs.declared.link.Step.{Step}
+use Rattle.house_forward.specs.declared.link.Step.TheVariants.{Pause, Finish, End, Close, Writable, Failed as Fail}
+
+-- what is counted of a channel is the same
+record SameIn (old new : List Act) : Type 0 where
+  bytes : read new ≡ read old
+  data_said : sent new ≡ sent old
+  data_heard : delivered new ≡ delivered old
+  takes : taken new ≡ taken old
+  grants : adjusted new ≡ adjusted old
+  eof_heard : heard_eof new ≡ heard_eof old
+  close_heard : heard_close new ≡ heard_close old
+  eof_said : said_eof new ≡ said_eof old
+  close_said : said_close new ≡ said_close old
+  answers : answer new ≡ answer old
+
+replies-same : (dials : Bool) (old new : List Act) → SameIn old new → replies dials new ≡ replies dials old
+replies-same dials old new same =
+    ap (λ b. replies_if dials b (answer new)) same.bytes ∙ ap (λ a. replies_if dials (read old) a) same.answers
+
+nothing-same : (dials : Bool) (old new : List Act) → SameIn old new → NothingYet dials old → NothingYet dials new
+nothing-same dials old new same s =
+    let sizes = ap length (replies-same dials old new same) in
+    let most : taken old ≤ length (replies dials old) = s.no_take in
+    let took = same.takes in
+    record {
+      no_answer = same.answers ∙ s.no_answer;
+      no_data = same.data_heard ∙ s.no_data;
+      no_take = omega (arith, sizes, most, took);
+      no_room = same.grants ∙ s.no_room;
+      no_eof = same.eof_said ∙ s.no_eof;
+      no_close = same.close_said ∙ s.no_close;
+      none_heard = same.eof_heard ∙ s.none_heard;
+      none_closed = same.close_heard ∙ s.none_closed;
+    }
+
+waits-same : (version : Option ℕ) (outcome : Outcome) (dials : Bool) (old new : List Act) → SameIn old new
+    → WaitsFor version outcome dials old → WaitsFor version outcome dials new
+waits-same None outcome dials old new same s = s
+waits-same (Some version) outcome dials old new same s =
+    (s.0, s.1 ∙ ap (λ b. slice_index b 0) (sym same.bytes), ap outcome_in same.bytes ∙ s.2)
+
+data-same : (dials : Bool) (old new : List Act) → SameIn old new → taken_data dials new ≡ taken_data dials old
+data-same dials old new same =
+    ap (λ n. n - length (replies dials new)) same.takes ∙ ap (λ r. taken old - length r) (replies-same dials old new same)
+
+live-same : (live : LiveState) (dials : Bool) (old new : List Act) → SameIn old new → IsLive live dials old
+    → IsLive live dials new
+live-same live dials old new same s = record {
+  eof_said = s.eof_said ∙ sym same.eof_said;
+  eof_heard = s.eof_heard ∙ sym same.eof_heard;
+  close_said = s.close_said ∙ sym same.close_said;
+  close_heard = s.close_heard ∙ sym same.close_heard;
+  replies = λ f. s.replies f ∙ ap (λ r. length r - taken old) (sym (replies-same dials old new same))
+      ∙ ap (λ n. length (replies dials new) - n) (sym same.takes);
+  owed = λ f. ap (λ n. n + live.owed) same.grants ∙ s.owed f ∙ sym (data-same dials old new same);
+  most = subst (λ n. n ≤ taken_data dials new) (sym same.grants)
+      (subst (λ n. adjusted old ≤ n) (sym (data-same dials old new same)) s.most);
+  settled = subst (IsSettled dials) (sym same.bytes) s.settled;
+  asked = subst (HasAsked dials) (sym same.bytes) s.asked;
+}
+
+line-same : (line : Line) (dials : Bool) (old new : List Act) → SameIn old new → LineStands line dials old
+    → LineStands line dials new
+line-same (Dialing dialog) dials old new same s = record {
+  socks = s.socks;
+  bytes = s.bytes ∙ sym same.bytes;
+  given = s.given ∙ ap (λ b. length (before_in b)) (sym same.bytes);
+  wants = ap outcome_in same.bytes ∙ s.wants;
+  nothing = nothing-same dials old new same s.nothing;
+}
+line-same (Asked host port version) dials old new same s = record {
+  waits = waits-same version (Connects host port) dials old new same s.waits;
+  nothing = nothing-same dials old new same s.nothing;
+}
+line-same (Opened version) dials old new same s = record {
+  host = s.host;
+  port = s.port;
+  waits = waits-same version (Connects s.host s.port) dials old new same s.waits;
+  nothing = nothing-same dials old new same s.nothing;
+}
+line-same (Offered remote window maximum) dials old new same s = record {
+  plain = s.plain;
+  nothing = nothing-same dials old new same s.nothing;
+}
+line-same (Live live) dials old new same s = live-same live dials old new same s
+line-same Over dials old new same s = record {
+  most = subst (λ n. n ≤ taken_data dials new) (sym same.grants)
+      (subst (λ n. adjusted old ≤ n) (sym (data-same dials old new same)) s.most);
+  settled = subst (IsSettled dials) (sym same.bytes) s.settled;
+}
+
+take-same : (dials : Bool) (old new : List Act) → SameIn old new → to_take dials new ≡ to_take dials old
+take-same dials old new same =
+    ap (λ r. r ++ delivered new) (replies-same dials old new same) ∙ ap (λ b. replies dials old ++ b) same.data_heard
+
+-- another socket, and its end
+stands-same : (dials : Bool) (old new : List Act) (r : Relay) (s : Socket) (ended : Bool) → SameIn old new
+    → ended ≡ has_ended new → (IsTrue (has_ended old) → IsTrue (has_ended new)) → Stands dials old r
+    → Stands dials new (record r { socket = s; ended = ended })
+stands-same dials old new r s ended same is more h = record {
+  sends = ap (λ b. b ++ r.held.waiting) same.data_said ∙ h.sends ∙ ap (behind_if dials) (sym same.bytes);
+  delivers = (
+    h.delivers.0,
+    h.delivers.1 ∙ sym (take-same dials old new same),
+    h.delivers.2 ∙ sym same.takes,
+  );
+  ends = is;
+  last = λ said. let both = h.last (sym same.eof_said ∙ said) in (more both.0, both.1);
+  few = h.few;
+  line = line-same r.line dials old new same h.line;
+}
+
+same-other : (acts : List Act) → SameIn acts (Other ∷ acts)
+same-other acts = record {
+  bytes = refl;
+  data_said = refl;
+  data_heard = refl;
+  takes = refl;
+  grants = refl;
+  eof_heard = refl;
+  close_heard = refl;
+  eof_said = refl;
+  close_said = refl;
+  answers = refl;
+}
+
+same-ends : (acts : List Act) → SameIn acts (Ends ∷ acts)
+same-ends acts = record {
+  bytes = refl;
+  data_said = refl;
+  data_heard = refl;
+  takes = refl;
+  grants = refl;
+  eof_heard = refl;
+  close_heard = refl;
+  eof_said = refl;
+  close_said = refl;
+  answers = refl;
+}
+
+same-fails : (acts : List Act) → SameIn acts (Fails ∷ acts)
+same-fails acts = record {
+  bytes = refl;
+  data_said = refl;
+  data_heard = refl;
+  takes = refl;
+  grants = refl;
+  eof_heard = refl;
+  close_heard = refl;
+  eof_said = refl;
+  close_said = refl;
+  answers = refl;
+}
+
+-- its socket is another
+pub goes-other : (r : Relay) (s : Socket) → GoesOn r (record r { socket = s }) Other
+goes-other r s = λ dials acts h. stands-same dials acts (Other ∷ acts) r s r.ended (same-other acts) h.ends (λ e. e) h
+
+-- a step of its stream
+pub goes-after : (step : Step) (r : Relay) → GoesOn r (relay_after step r) (act_of step)
+goes-after (Pause b) r = goes-other r r.socket
+goes-after Finish r = goes-other r r.socket
+goes-after End r = λ dials acts h. stands-same dials acts (Ends ∷ acts) r r.socket true (same-ends acts) refl (λ e. refl) h
+goes-after Close r = goes-other r socket.Closed
+goes-after Writable r = goes-other r (connected r.socket)
+goes-after Fail r = λ dials acts h. stands-same dials acts (Fails ∷ acts) r (failing r.socket) r.ended (same-fails acts) h.ends (λ e. e) h

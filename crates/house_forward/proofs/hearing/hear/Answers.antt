@@ -1,0 +1,36 @@
+use Rattle.std.proofs.Common.{◌≡◌, ◌∙◌, sym, ap, ℕ, Some}
+use Rattle.std.specs.Option.{option_copied}
+use Rattle.ssh_grammar.specs.ReadMessage.{read_message as reading}
+use Rattle.house_forward.proofs.Going.{on-ok}
+use Rattle.house_forward.proofs.Leading.{channel_of, its-channel, a-forwarded, a-channel-message}
+use Rattle.house_forward.proofs.hearing.hear.Goals as goal
+use Rattle.house_forward.proofs.hearing.hear.Goals.{in-Confirmation, in-Confirmation-2, in-Confirmation-3, in-Confirmation-4, in-Confirmation-5, in-Confirmation-6, in-Confirmation-7, in-Confirmation-8, in-Confirmation-9, in-Confirmation-10}
+
+pub returns-in-Open-default-default-default-default-default-Forwarded-clause-goes :
+    goal.returns-in-Open-default-default-default-default-default-Forwarded-clause-goes
+returns-in-Open-default-default-default-default-default-Forwarded-clause-goes c =
+    let o = c.in-Open-default-default-default-default-default-Forwarded in
+    let what = rw o.is at o.what-is in
+    on-ok c.take_open.result (λ offered. a-forwarded (reading c.args.payload.now) c.in-Ok.message o.kind o.rest o.address o.sender o.window o.maximum o.port o.what
+    (option_copied c.of_server.result) c.args.relays.now.all.items c.take_open.new.relays.all.items c.in-Ok.ensures.exact o.is what
+    c.take_open.ensures.others offered) c.take_open.ensures.offered
+
+pub returns-in-Confirmation-clause-goes : goal.returns-in-Confirmation-clause-goes
+returns-in-Confirmation-clause-goes c =
+    let n = c.in-Confirmation-1.recipient in
+    let its = λ (r : ℕ) (e : n ≡ r). ap (λ (k : ℕ). Some k) (sym e) in
+    let channel : channel_of c.in-Ok.message ≡ Some n =
+    elim c.in-Confirmation-1.branch [
+      | in-Confirmation w ↦ its-channel c.in-Ok.message w.in-Confirmation.recipient w.in-Confirmation.is ∙ its w.in-Confirmation.recipient w.recipient-is
+      | in-Confirmation-2 w ↦ its-channel c.in-Ok.message w.in-Confirmation.recipient w.in-Confirmation.is ∙ its w.in-Confirmation.recipient w.recipient-is
+      | in-Confirmation-3 w ↦ its-channel c.in-Ok.message w.in-Confirmation.recipient w.in-Confirmation.is ∙ its w.in-Confirmation.recipient w.recipient-is
+      | in-Confirmation-4 w ↦ its-channel c.in-Ok.message w.in-Confirmation.recipient w.in-Confirmation.is ∙ its w.in-Confirmation.recipient w.recipient-is
+      | in-Confirmation-5 w ↦ its-channel c.in-Ok.message w.in-Confirmation.recipient w.in-Confirmation.is ∙ its w.in-Confirmation.recipient w.recipient-is
+      | in-Confirmation-6 w ↦ its-channel c.in-Ok.message w.in-Confirmation.recipient w.in-Confirmation.is ∙ its w.in-Confirmation.recipient w.recipient-is
+      | in-Confirmation-7 w ↦ its-channel c.in-Ok.message w.in-Confirmation.recipient w.in-Confirmation.is ∙ its w.in-Confirmation.recipient w.recipient-is
+      | in-Confirmation-8 w ↦ its-channel c.in-Ok.message w.in-Confirmation.recipient w.in-Confirmation.is ∙ its w.in-Confirmation.recipient w.recipient-is
+      | in-Confirmation-9 w ↦ its-channel c.in-Ok.message w.in-Confirmation.recipient w.in-Confirmation.is ∙ its w.in-Confirmation.recipient w.recipient-is
+      | in-Confirmation-10 w ↦ its-channel c.in-Ok.message w.in-Confirmation.recipient w.in-Confirmation.is ∙ its w.in-Confirmation.recipient w.recipient-is
+    ] in
+    on-ok c.hear.result (λ heard. a-channel-message (reading c.args.payload.now) c.in-Ok.message n c.args.relays.now.all.items c.hear.new.self.all.items
+    c.in-Ok.ensures.exact channel heard) c.hear.ensures.hears

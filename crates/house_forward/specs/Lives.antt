@@ -1,0 +1,457 @@
+-- What the calls of the house tell of its relays: of each how it stands, and what happened in it.
+use Rattle.std.specs.Prelude.{◌≡◌, ◌≢◌, ◌⊎◌, ◌≤◌, ◌<◌, ◌+◌, ◌^◌, ◌==◌, ℕ, Bool, true, false, if◌then◌else◌, List, [], ◌∷◌, ◌++◌, map, is_some, Result, Ok, Err, Option, Some, None}
+use Rattle.std.specs.List.{All, list_any}
+use Rattle.ssh_fields.specs.Fields.{take_u32}
+use Rattle.ssh_grammar.specs.Frames.{Front, Frame}
+use Rattle.ssh_grammar.specs.Messages.{Message as Said}
+use Rattle.ssh_grammar.specs.ReadMessage.{read_message as reading}
+use Rattle.ssh_grammar.specs.declared.fault.Bad.{Bad}
+use Rattle.ssh_grammar.specs.declared.framing.Framing.TheVariants as framing
+use Rattle.ssh_grammar.specs.declared.numbers.TheConstants.{S_PROXY}
+use Rattle.conn_messages.specs.Message.{message_of}
+use Rattle.conn_messages.specs.declared.message.Message.{Message}
+use Rattle.conn_messages.specs.declared.message.Message.TheVariants as message
+use Rattle.conn_messages.specs.declared.message.Opens.{Opens}
+use Rattle.conn_messages.specs.declared.message.Opens.TheVariants as opens
+use Rattle.proxy_frames.specs.State.{FramerState}
+use Rattle.proxy_frames.specs.Steps.{new_framer, pushed, switched, front_of, answer_to, after_front}
+use Rattle.proxy_frames.specs.declared.next.Next.TheVariants as next
+use Rattle.mux_outside.specs.HouseCalls.{HouseCall, Happening}
+use Rattle.mux_outside.specs.HouseCalls.{Begins, Marks, Hears as HearsBytes, Turns, Takes as TakesBytes}
+use Rattle.mux_outside.specs.HouseCalls.{Joined, Got, End, Writable, Failed}
+use Rattle.mux_outside.specs.OwnStreams.{new_stream}
+use Rattle.mux_outside.specs.declared.house_mark.HouseMark.{HouseMark}
+use Rattle.mux_outside.specs.declared.house_mark.HouseMark.TheVariants.{HouseIn, HouseSaid, HouseTook, HouseAsked, HouseAnswer, HouseOrder}
+use Rattle.mux_outside.specs.declared.order.Order.{Order}
+use Rattle.mux_outside.specs.declared.order.Order.TheVariants as order
+use Rattle.mux_outside.specs.declared.own_streams.OwnStream.{OwnStream}
+use Rattle.house_relay.specs.Acts.{Act, Reads, Ends, Takes, Fails, Other, taken}
+use Rattle.house_relay.specs.Line.{owed_in}
+use Rattle.house_relay.specs.Next.{says_of}
+use Rattle.house_relay.specs.Relay.{Stands, OrdersRight, stream_of}
+use Rattle.house_relay.specs.Steps.{fresh_relay, is_gone, made_as}
+use Rattle.house_relay.specs.declared.line.Line.TheVariants.{Offered as OfServer}
+use Rattle.house_relay.specs.declared.relay.Relay.{Relay}
+use Rattle.house_relay.specs.declared.relay.Socket.TheVariants as socket
+use Rattle.house_forward.specs.Going.{Gets, TakesOf, Says, Hears, act_of_saying}
+use Rattle.house_forward.specs.Heard.{act_heard}
+use Rattle.house_forward.specs.Links.{IsJoined, dials, relay_after, own_of}
+use Rattle.house_forward.specs.Said.{framed, said_by, request_payload}
+use Rattle.house_forward.specs.declared.forwarding.Forwarding.{Forwarding}
+use Rattle.house_forward.specs.declared.holdings.Stage.{Stage}
+use Rattle.house_forward.specs.declared.holdings.Stage.TheVariants.{Control, Proxy}
+use Rattle.house_forward.specs.declared.link.Link.{Link}
+use Rattle.house_forward.specs.declared.link.Step.{Step}
+use Rattle.house_forward.specs.declared.link.Step.TheVariants as step
+use Rattle.house_forward.specs.declared.link.Stream.{Stream}
+use Rattle.house_forward.specs.declared.link.Stream.TheVariants.{Offered, Awaited, Made, Gone}
+use Rattle.house_forward.specs.declared.saying.TheConstants.{GREETING}
+
+-- a relay; its stream, while it is open; whether it began with a dialog; and what happened in it, the
+-- newest first
+pub record Life : Type 0 where
+  pub relay : Relay
+  pub own : Option OwnStream
+  pub dials : Bool
+  pub acts : List Act
+
+-- the relays that there are, and those of which nothing is left; what was heard and isn't read yet; and
+-- how it is read
+pub record Course : Type 0 where
+  pub lives : List Life
+  pub past : List Life
+  pub framer : FramerState
+  pub stage : Stage
+
+-- nothing happened yet
+abbrev pub first_course : Course
+first_course = record {
+  lives = [];
+  past = [];
+  framer = new_framer framing.Control;
+  stage = Control;
+}
+
+-- ---- one relay
+
+abbrev pub is_stream : ℕ → Option OwnStream → Bool
+is_stream t None = false
+is_stream t (Some own) = own.number == t
+
+-- whether this is its stream
+abbrev pub has_stream : ℕ → Life → Bool
+has_stream t l = is_stream t l.own
+
+-- whether its channel has this number
+abbrev pub has_channel : ℕ → Life → Bool
+has_channel n l = l.relay.number == n
+
+-- whether it has something to say
+abbrev pub has_words : Life → Bool
+has_words l = is_some (says_of l.relay)
+
+-- its relay goes on so, and this happens in it
+pub record GoesBy (so : Relay → Relay → Type 0) (act : Act) (old new : Life) : Type 0 where
+  pub relay : so old.relay new.relay
+  pub own : new.own ≡ old.own
+  pub dials : new.dials ≡ old.dials
+  pub acts : new.acts ≡ act ∷ old.acts
+
+-- the first of which this is so goes on so, and the others stay
+pub record One (which : Life → Bool) (so : Life → Life → Type 0) (old new : List Life) : Type 0 where
+  pub before : List Life
+  pub life : Life
+  pub next : Life
+  pub behind : List Life
+  pub others : list_any which before ≡ false
+  pub is : which life ≡ true
+  pub goes : so life next
+  pub were : old ≡ before ++ life ∷ behind
+  pub are : new ≡ before ++ next ∷ behind
+
+-- or there is none of which this is so
+abbrev pub OneAtMost : (Life → Bool) → (Life → Life → Type 0) → List Life → List Life → Type 0
+OneAtMost which so old new = One which so old new ⊎ ((list_any which old ≡ false) × (new ≡ old))
+
+-- ---- those of which nothing is left
+
+-- the first, if there is one
+abbrev pub left_in : List Life → List Life
+left_in [] = []
+left_in (l ∷ ls) = if is_gone l.relay then l ∷ [] else left_in ls
+
+-- the others
+abbrev pub kept_in : List Life → List Life
+kept_in [] = []
+kept_in (l ∷ ls) = if is_gone l.relay then ls else l ∷ kept_in ls
+
+-- the relays are these from now on, but for one of which nothing is left
+abbrev pub with_lives : List Life → Course → Course
+with_lives lives course = record course { lives = kept_in lives; past = course.past ++ left_in lives }
+
+-- ---- what happens to sockets
+
+abbrev pub own_after : Step → Option OwnStream → Option OwnStream
+own_after step None = None
+own_after (step.Pause b) (Some own) = Some (record own { paused = b })
+own_after step.Finish (Some own) = Some (record own { finished = true })
+own_after step.End (Some own) = Some (record own { ended = true })
+own_after step.Close (Some own) = None
+own_after step.Writable (Some own) = Some own
+own_after step.Failed (Some own) = Some own
+
+abbrev pub act_of : Step → Act
+act_of (step.Pause b) = Other
+act_of step.Finish = Other
+act_of step.End = Ends
+act_of step.Close = Other
+act_of step.Writable = Other
+act_of step.Failed = Fails
+
+-- the one with this stream takes a step
+abbrev pub stepped : Step → ℕ → Life → Life
+stepped step t l = if has_stream t l then record l {
+  relay = relay_after step l.relay;
+  own = own_after step l.own;
+  acts = act_of step ∷ l.acts;
+} else l
+
+-- one relay more, for a socket that is joined: for an end that its forwarding names or a dialog will, or
+-- for none
+pub record JoinsOne (t : ℕ) (old new : List Life) : Type 0 where
+  pub relay : Relay
+  pub full : Bool
+  pub crowded : Bool
+  pub forwarding : Option Forwarding
+  pub joined : IsJoined full crowded forwarding t relay
+  pub free : list_any (has_channel relay.number) old ≡ false
+  pub more : new ≡ old ++ record {
+    relay = relay;
+    own = Some (new_stream t);
+    dials = dials relay.line;
+    acts = [];
+  } ∷ []
+
+-- what happened to a listener or a stream
+abbrev pub TurnsTo : Happening → List Life → List Life → Type 0
+TurnsTo (Joined l t) old new = JoinsOne t old new
+TurnsTo (Got t bytes) old new = (free : Bool)
+    × OneAtMost (has_stream t) (GoesBy (Gets free bytes) (Reads bytes)) old new
+TurnsTo (End t) old new = new ≡ map (stepped step.End t) old
+TurnsTo (Writable t) old new = new ≡ map (stepped step.Writable t) old
+TurnsTo (Failed t) old new = new ≡ map (stepped step.Failed t) old
+
+-- ---- what is said
+
+-- it says this
+abbrev pub Speaks : List ℕ → Life → Life → Type 0
+Speaks bytes old new = (bytes ≡ framed (said_by old.relay))
+    × GoesBy Says (act_of_saying (says_of old.relay) old.relay) old new
+
+-- the house greets, or asks the server for a forwarding or to end one, or the first relay that has
+-- something to say says it
+abbrev pub SaysIn : List ℕ → Course → Course → Type 0
+SaysIn bytes old new = ((bytes ≡ GREETING.now) × (new ≡ old))
+    ⊎ (((f : Forwarding) × (bytes ≡ framed (request_payload f)) × (new ≡ old))
+    ⊎ ((lives : List Life) × One has_words (Speaks bytes) old.lives lives
+    × (new ≡ with_lives lives old)))
+
+-- ---- what is heard
+
+-- it hears this
+abbrev pub Listens : Message → Life → Life → Type 0
+Listens m old new = GoesBy (Hears m) (act_heard m old.relay) old new
+
+-- the one whose channel has this number hears a message, if there is one
+abbrev pub HearsAt : ℕ → Message → Course → Course → Type 0
+HearsAt n m old new = ((lives : List Life) × One (has_channel n) (Listens m) old.lives lives
+    × (new ≡ with_lives lives old))
+    ⊎ ((list_any (has_channel n) old.lives ≡ false) × (new ≡ old))
+
+-- one relay more, for an OPEN of the server
+pub record OffersOne (remote window maximum : ℕ) (old new : Course) : Type 0 where
+  pub number : ℕ
+  pub free : list_any (has_channel number) old.lives ≡ false
+  pub more : new ≡ record old {
+    lives = old.lives ++ record {
+      relay = fresh_relay number (OfServer remote window maximum) socket.Unmade;
+      own = None;
+      dials = false;
+      acts = [];
+    } ∷ [];
+  }
+
+-- an OPEN of the server for a forwarding is taken, or it is for none of the house's
+abbrev pub HearsOpen : Opens → ℕ → ℕ → ℕ → Course → Course → Type 0
+HearsOpen (opens.Forwarded address port) remote window maximum old new =
+    (new ≡ old) ⊎ OffersOne remote window maximum old new
+HearsOpen opens.Session remote window maximum old new = new ≡ old
+HearsOpen (opens.Direct host port) remote window maximum old new = new ≡ old
+HearsOpen (opens.DirectPath path) remote window maximum old new = new ≡ old
+HearsOpen (opens.ForwardedPath path) remote window maximum old new = new ≡ old
+HearsOpen opens.Other remote window maximum old new = new ≡ old
+
+abbrev pub HearsMessage : Message → Course → Course → Type 0
+HearsMessage (message.Transport number rest) old new = new ≡ old
+HearsMessage (message.GlobalRequest name want rest what) old new = new ≡ old
+HearsMessage (message.RequestSuccess rest) old new = new ≡ old
+HearsMessage message.RequestFailure old new = new ≡ old
+HearsMessage (message.Open kind sender window maximum rest what) old new =
+    HearsOpen what sender window maximum old new
+HearsMessage (message.Confirmation recipient sender window maximum rest) old new =
+    HearsAt recipient (message.Confirmation recipient sender window maximum rest) old new
+HearsMessage (message.OpenFailure recipient reason text language) old new =
+    HearsAt recipient (message.OpenFailure recipient reason text language) old new
+HearsMessage (message.Adjust recipient add) old new =
+    HearsAt recipient (message.Adjust recipient add) old new
+HearsMessage (message.Data recipient bytes) old new =
+    HearsAt recipient (message.Data recipient bytes) old new
+HearsMessage (message.Extended recipient code bytes) old new =
+    HearsAt recipient (message.Extended recipient code bytes) old new
+HearsMessage (message.Eof recipient) old new = HearsAt recipient (message.Eof recipient) old new
+HearsMessage (message.Close recipient) old new = HearsAt recipient (message.Close recipient) old new
+HearsMessage (message.Request recipient kind want rest) old new =
+    HearsAt recipient (message.Request recipient kind want rest) old new
+HearsMessage (message.Success recipient) old new =
+    HearsAt recipient (message.Success recipient) old new
+HearsMessage (message.Failure recipient) old new =
+    HearsAt recipient (message.Failure recipient) old new
+
+-- what is no message changes nothing
+abbrev pub HearsReading : Result Said Bad → Course → Course → Type 0
+HearsReading (Err bad) old new = new ≡ old
+HearsReading (Ok said) old new = (m : Message) × (message_of m ≡ said) × HearsMessage m old new
+
+-- whether a control message grants the proxy (PROTOCOL.mux)
+abbrev pub is_grant : Option (ℕ × List ℕ) → Bool
+is_grant None = false
+is_grant (Some p) = p.0 == S_PROXY
+
+-- control messages come first; behind the one that grants the proxy each frame is a message of the
+-- connection protocol
+abbrev pub HearsFrame : Stage → List ℕ → Course → Course → Type 0
+HearsFrame Control content old new = new ≡ (if is_grant (take_u32 content)
+    then record old { stage = Proxy; framer = switched framing.Proxy old.framer } else old)
+HearsFrame Proxy content old new = HearsReading (reading content) old new
+
+-- the front of what was heard is cut off
+abbrev pub cut_off : Front → Course → Course
+cut_off front course = record course { framer = after_front front course.framer }
+
+-- frame by frame, until none is whole
+abbrev pub HearsFrames : List (List ℕ) → Course → Course → Type 0
+HearsFrames [] old new = (answer_to (front_of old.framer) ≢ next.Frame)
+    × (new ≡ cut_off (front_of old.framer) old)
+HearsFrames (content ∷ more) old new =
+    (rest : List ℕ) × (front_of old.framer ≡ Frame content rest)
+    × ((middle : Course) × HearsFrame old.stage content (cut_off (Frame content rest) old) middle
+    × HearsFrames more middle new)
+
+abbrev pub with_heard : List ℕ → Course → Course
+with_heard bytes course = record course { framer = pushed bytes course.framer }
+
+-- ---- what is ordered
+
+-- one may be ordered so
+pub record IsAllowed (o : Order) (lives : List Life) : Type 0 where
+  pub before : List Life
+  pub life : Life
+  pub behind : List Life
+  pub own : OwnStream
+  pub is : life.own ≡ Some own
+  pub right : OrdersRight o life.relay own
+  pub were : lives ≡ before ++ life ∷ behind
+
+-- it takes its step
+abbrev pub StepsBy : Order → Step → ℕ → Course → Course → Type 0
+StepsBy o s t old new = IsAllowed o old.lives × (new ≡ with_lives (map (stepped s t) old.lives) old)
+
+abbrev pub own_made : Option ℕ → Option OwnStream
+own_made None = None
+own_made (Some t) = Some (new_stream t)
+
+-- its socket is made, or couldn't be
+abbrev pub made_life : Option ℕ → Life → Life
+made_life number l = record l {
+  relay = record l.relay { socket = made_as number };
+  own = own_made number;
+  acts = Other ∷ l.acts;
+}
+
+-- the socket of one is made, or couldn't be: it is the last from now on
+pub record MakesOne (number : Option ℕ) (old new : Course) : Type 0 where
+  pub before : List Life
+  pub life : Life
+  pub behind : List Life
+  pub unmade : life.relay.socket ≡ socket.Unmade
+  pub were : old.lives ≡ before ++ life ∷ behind
+  pub are : new ≡ record old { lives = (before ++ behind) ++ made_life number life ∷ [] }
+
+abbrev pub OrdersIn : Order → Option ℕ → Course → Course → Type 0
+OrdersIn (order.Listen host port) number old new = new ≡ old
+OrdersIn (order.Connect host port) number old new = MakesOne number old new
+OrdersIn (order.Unlisten l) number old new = new ≡ old
+OrdersIn (order.Pause t) number old new = StepsBy (order.Pause t) (step.Pause true) t old new
+OrdersIn (order.Resume t) number old new = StepsBy (order.Resume t) (step.Pause false) t old new
+OrdersIn (order.Finish t) number old new = StepsBy (order.Finish t) step.Finish t old new
+OrdersIn (order.Close t) number old new = StepsBy (order.Close t) step.Close t old new
+
+-- ---- by its calls
+
+abbrev pub MarksIn : HouseMark → Course → Course → Type 0
+MarksIn HouseIn old new = new ≡ old
+MarksIn (HouseSaid bytes) old new = SaysIn bytes old new
+MarksIn (HouseTook size) old new = new ≡ old
+MarksIn (HouseAsked client id opening ask reply) old new = new ≡ old
+MarksIn (HouseAnswer client id reply) old new = new ≡ old
+MarksIn (HouseOrder o number) old new = OrdersIn o number old new
+
+-- what a call leaves of the course
+abbrev pub Follows : HouseCall → Course → Course → Type 0
+Follows (Begins starts) old new = new ≡ old
+Follows (Marks mark) old new = MarksIn mark old new
+Follows (HearsBytes bytes) old new =
+    (contents : List (List ℕ)) × HearsFrames contents (with_heard bytes old) new
+Follows (Turns happening) old new = (lives : List Life) × TurnsTo happening old.lives lives
+    × (new ≡ record old { lives = lives })
+Follows (TakesBytes t n) old new = (lives : List Life)
+    × OneAtMost (has_stream t) (GoesBy (TakesOf n) (Takes n)) old.lives lives
+    × (new ≡ record old { lives = lives })
+
+-- what the calls leave of it, one behind the other
+abbrev pub Reaches : Course → List HouseCall → Course → Type 0
+Reaches old [] new = new ≡ old
+Reaches old (call ∷ calls) new =
+    (middle : Course) × Follows call old middle × Reaches middle calls new
+
+-- how many bytes the streams took in all
+abbrev pub taken_in : List HouseCall → ℕ
+taken_in [] = 0
+taken_in (TakesBytes t n ∷ calls) = n + taken_in calls
+taken_in (Begins starts ∷ calls) = taken_in calls
+taken_in (Marks mark ∷ calls) = taken_in calls
+taken_in (HearsBytes bytes ∷ calls) = taken_in calls
+taken_in (Turns happening ∷ calls) = taken_in calls
+
+-- ---- what the house has then
+
+-- a link's stream and its relay's socket are the same
+abbrev pub IsSocketOf : Stream → Relay → Type 0
+IsSocketOf (Offered host port) r = (r.socket ≡ socket.Unmade) × (r.ended ≡ false)
+IsSocketOf Awaited r = (r.socket ≡ socket.Unmade) × (r.ended ≡ false)
+IsSocketOf (Made own) r = (stream_of r.socket ≡ Some own.number) × (r.ended ≡ own.ended)
+IsSocketOf Gone r = r.socket ≡ socket.Closed
+
+-- a link is that of a life; its relay stands for what happened in it, in which no more than so many bytes
+-- were taken
+pub record IsLife (most : ℕ) (life : Life) (link : Link) : Type 0 where
+  pub relay_is : life.relay ≡ link.relay
+  pub own_is : life.own ≡ own_of link.stream
+  pub socket : IsSocketOf link.stream link.relay
+  pub stands : Stands life.dials life.acts link.relay
+  pub owed : owed_in link.relay.line ≤ taken life.acts
+  pub few : taken life.acts ≤ most
+
+abbrev pub AreLives : ℕ → List Life → List Link → Type 0
+AreLives most [] [] = Unit {0}
+AreLives most [] (link ∷ links) = ⊥
+AreLives most (life ∷ lives) [] = ⊥
+AreLives most (life ∷ lives) (link ∷ links) = IsLife most life link × AreLives most lives links
+
+-- the links of the house, what was heard and isn't read yet, and how it is read
+pub record Held : Type 0 where
+  pub links : List Link
+  pub framer : FramerState
+  pub stage : Stage
+
+abbrev pub held : List Link → FramerState → Stage → Held
+held links framer stage = record { links = links; framer = framer; stage = stage }
+
+-- the house has what a course leaves, in which no stream took more bytes than so many
+pub record IsCourse (most : ℕ) (course : Course) (h : Held) : Type 0 where
+  pub lives : AreLives most course.lives h.links
+  pub past : All (λ l. Stands l.dials l.acts l.relay) course.past
+  pub framer_is : course.framer ≡ h.framer
+  pub stage_is : course.stage ≡ h.stage
+
+-- whatever the course was, it goes on so
+abbrev pub GoesFurther : (Course → Course → Type 0) → Held → Held → Type 0
+GoesFurther so old new = (most : ℕ) (course : Course) → IsCourse most course old
+    → (next : Course) × so course next × IsCourse most next new
+
+-- of the links alone
+abbrev pub LinksGo : (Course → Course → Type 0) → List Link → List Link → Type 0
+LinksGo so old new = (framer : FramerState) (stage : Stage)
+    → GoesFurther so (held old framer stage) (held new framer stage)
+
+-- whether a frame is heard, and what that leaves
+abbrev pub HearsNext : Bool → Course → Course → Type 0
+HearsNext false old new = HearsFrames [] old new
+HearsNext true old new = (content rest : List ℕ) × (front_of old.framer ≡ Frame content rest)
+    × HearsFrame old.stage content (cut_off (Frame content rest) old) new
+
+-- what an order leaves as it is given: a Listen and a Connect wait for their number
+abbrev pub GivesOrder : Option Order → Course → Course → Type 0
+GivesOrder None old new = new ≡ old
+GivesOrder (Some (order.Listen host port)) old new = new ≡ old
+GivesOrder (Some (order.Connect host port)) old new = new ≡ old
+GivesOrder (Some (order.Unlisten l)) old new = OrdersIn (order.Unlisten l) None old new
+GivesOrder (Some (order.Pause t)) old new = OrdersIn (order.Pause t) None old new
+GivesOrder (Some (order.Resume t)) old new = OrdersIn (order.Resume t) None old new
+GivesOrder (Some (order.Finish t)) old new = OrdersIn (order.Finish t) None old new
+GivesOrder (Some (order.Close t)) old new = OrdersIn (order.Close t) None old new
+
+-- what is taken is counted
+abbrev pub TakesFurther : ℕ → ℕ → Held → Held → Type 0
+TakesFurther t n old new = (most : ℕ) (course : Course) → n + most < 2 ^ 64 → IsCourse most course old
+    → (next : Course) × Follows (TakesBytes t n) course next × IsCourse (n + most) next new
+
+-- the calls were made, and this is what they leave
+pub record HasLived (calls : List HouseCall) (h : Held) : Type 0 where
+  pub course : Course
+  pub reached : Reaches first_course calls course
+  pub is : IsCourse (taken_in calls) course h
+
+-- the house stands for its calls, unless 2^64 bytes or more were taken in all
+abbrev pub StandsFor : List HouseCall → Held → Type 0
+StandsFor calls h = taken_in calls < 2 ^ 64 → HasLived calls h

@@ -1,0 +1,18 @@
+//! What holds of the relays of the house, whatever calls were made: each function's contract is the
+//! law.
+
+ghost use Rattle.house_forward.specs.Laws.{EachRelays, EachKeeps, EachRests};
+
+/// Of each relay that the house has, or had: what is sent in its channel was read from its socket
+/// before, behind the dialog, in order; what its socket takes are the replies to the dialog, and then
+/// what was delivered in the channel before, in order; no more room is given back than data was taken;
+/// and EOF goes on behind everything alone. What it holds and what waits are exactly the rest.
+pub fn every_relay_relays()
+    ensures relays { EachRelays }
+    ensures keeps { EachKeeps }
+{}
+
+/// Where the house has nothing to say and nothing to order, each of its relays is at rest.
+pub fn relays_of_a_quiet_house_rest()
+    ensures { EachRests }
+{}
