@@ -245,11 +245,20 @@ def text_of(path: str) -> str:
     return ""
 
 
+def lowest_lent_port() -> int:
+    """The lowest of the ports that the system gives to sockets which ask for none."""
+    lent = text_of("/proc/sys/net/ipv4/ip_local_port_range").split()
+    return int(lent[0]) if lent else 32768
+
+
 def free_port() -> int:
-    with socket.socket() as taken:
-        taken.bind(("127.0.0.1", 0))
-        port: int = taken.getsockname()[1]
-        return port
+    """A port of the loopback on which nobody listens. It is none that the system gives to sockets
+    which ask for none: such a one may be another's by the time somebody listens there."""
+    ports = range(min(10_000, lowest_lent_port() - 1), lowest_lent_port())
+    while True:
+        with socket.socket() as tried, contextlib.suppress(OSError):
+            tried.bind(("127.0.0.1", port := random.SystemRandom().choice(ports)))
+            return port
 
 
 def answers(port: int) -> bool:
