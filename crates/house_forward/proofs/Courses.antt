@@ -3,7 +3,6 @@ use Rattle.std.proofs.Common.{◌≡◌, ◌∙◌, refl, sym, ap, subst, arith,
 use Rattle.std.specs.Prelude.{◌==◌, ◌&&◌, ◌||◌, ◌≤◌, not, length, find, is_some, IfSome}
 use Rattle.std.specs.List.{list_any, position, remove, cons_option}
 use Rattle.std.proofs.lemmas.Bool.{both_ways, or_parts, and_parts}
-use Rattle.std.proofs.lemmas.List.{append-nil}
 use Rattle.std.proofs.lemmas.List.Elements.{All-append}
 use Rattle.conn_messages.specs.declared.message.Message.{Message}
 use Rattle.mux_outside.specs.HouseCalls.{HouseCall, Begins, Marks, Hears as HearsBytes, Turns, Joined, Got, End, Writable, Failed}
@@ -68,7 +67,7 @@ with-swept most course old now framer stage desk is lives are =
       desk_is = is.desk_is;
     }
 
-of-same : (most : ℕ) (course : Course) (framer : FramerState) (stage : Stage) (desk : Desk) (old new : List Link) → new ≡ old
+pub of-same : (most : ℕ) (course : Course) (framer : FramerState) (stage : Stage) (desk : Desk) (old new : List Link) → new ≡ old
     → IsCourse most course (held old framer stage desk) → IsCourse most course (held new framer stage desk)
 of-same most course framer stage desk old new e is =
     subst (λ (ls : List Link). IsCourse most course (held ls framer stage desk)) (sym e) is
@@ -618,15 +617,3 @@ stands-taken calls t n old new goes h = λ few.
       reached = reaches-more calls (TakesBytes t n) first_course lived.course went.0 lived.reached went.1;
       is = subst (λ k. IsCourse k went.0 new) (sym more) went.2;
     }
-
--- what leaves the course as it is
-pub stands-still : (calls : List HouseCall) (old new : Held) → GoesFurther (λ (a : Course) (b : Course). b ≡ a) old new
-    → StandsFor calls old → StandsFor (calls ++ []) new
-stands-still calls old new goes h = subst (λ cs. StandsFor cs new) (sym (append-nil calls)) (λ few.
-    let lived = h few in
-    let went = goes (taken_in calls) lived.course lived.is in
-    record {
-      course = went.0;
-      reached = subst (λ (c : Course). Reaches first_course calls c) (sym went.1) lived.reached;
-      is = went.2;
-    })

@@ -12,8 +12,8 @@ returns-in-Open-default-default-default-default-default-Forwarded-clause-goes c 
     let o = c.in-Open-default-default-default-default-default-Forwarded in
     let what = rw o.is at o.what-is in
     on-ok c.take_open.result (λ offered. a-forwarded (reading c.args.payload.now) c.in-Ok.message o.kind o.rest o.address o.sender o.window o.maximum o.port o.what
-    (option_copied c.of_server.result) c.args.relays.now.all.items c.take_open.new.relays.all.items c.in-Ok.ensures.exact o.is what
-    c.take_open.ensures.others offered) c.take_open.ensures.offered
+    (option_copied c.of_server.result) c.args.relays.now c.take_open.new.relays c.args.forwardings.now c.args.asks.now c.in-Ok.ensures.exact o.is what
+    c.of_server.ensures c.take_open.ensures.others offered) c.take_open.ensures.offered
 
 pub returns-in-Confirmation-clause-goes : goal.returns-in-Confirmation-clause-goes
 returns-in-Confirmation-clause-goes c =
@@ -32,5 +32,5 @@ returns-in-Confirmation-clause-goes c =
       | in-Confirmation-9 w ↦ its-channel c.in-Ok.message w.in-Confirmation.recipient w.in-Confirmation.is ∙ its w.in-Confirmation.recipient w.recipient-is
       | in-Confirmation-10 w ↦ its-channel c.in-Ok.message w.in-Confirmation.recipient w.in-Confirmation.is ∙ its w.in-Confirmation.recipient w.recipient-is
     ] in
-    on-ok c.hear.result (λ heard. a-channel-message (reading c.args.payload.now) c.in-Ok.message n c.args.relays.now.all.items c.hear.new.self.all.items
+    on-ok c.hear.result (λ heard. a-channel-message (reading c.args.payload.now) c.in-Ok.message n c.args.relays.now c.hear.new.self c.args.forwardings.now c.args.asks.now
     c.in-Ok.ensures.exact channel heard) c.hear.ensures.hears
