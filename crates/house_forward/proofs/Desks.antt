@@ -3,13 +3,14 @@ use Rattle.std.proofs.Common.{◌≡◌, ◌∙◌, refl, sym, ap, subst, arith,
 use Rattle.std.specs.Prelude.{not, filter, find, IfSome}
 use Rattle.std.specs.List.{list_any, position}
 use Rattle.std.proofs.lemmas.Bool.{false≢true}
+use Rattle.std.proofs.lemmas.List.{length-append}
 use Rattle.proxy_frames.specs.State.{FramerState}
 use Rattle.mux_outside.specs.declared.house.HouseReply.{HouseReply}
 use Rattle.mux_outside.specs.declared.start_ask.StartAsk.{StartAsk}
 use Rattle.mux_outside.specs.declared.starts.Starts.{Starts}
 use Rattle.house_forward.specs.Asks.{turns_away, answer_of, after_answer, settled, counted}
 use Rattle.house_forward.specs.Desk.{Desk, desk_of, standing_at, BeginsWith, IsAsked, Answers, OrdersListener, MakesListener, EndsListener}
-use Rattle.house_forward.specs.Forwardings.{Begins, what_stands, ComesUnless, reply_to, asks_after, is_first_to_listen, is_ordered_first, ListensFor, Orders, Leaves}
+use Rattle.house_forward.specs.Forwardings.{Begins, what_stands, ComesUnless, reply_to, asks_after, is_first_to_listen, is_ordered_first, ListensFor, Orders, Leaves, Opens, serials_after}
 use Rattle.house_forward.specs.Forwardings.{next_of, to_listen, OrderedAt, MadeAt, has_listener, made_refused, order_asks, order_done, ordered_asks, ordered_done, serial_of}
 use Rattle.house_forward.specs.Lives.{Held, DeskGoes, held_of}
 use Rattle.house_forward.specs.declared.asks.Asked.{Asked}
@@ -23,6 +24,7 @@ use Rattle.house_forward.specs.declared.forwardings.Want.{Want}
 use Rattle.house_forward.specs.declared.forwardings.Want.TheVariants as want
 use Rattle.house_forward.specs.declared.holdings.Stage.{Stage}
 use Rattle.house_forward.specs.declared.relays.Relays.{Relays}
+use Rattle.house_forward.specs.declared.rules.Ends.{Ends}
 use Rattle.house_forward.specs.declared.two_texts.TwoTexts.{TwoTexts}
 use Rattle.house_forward.proofs.InOrder.{none-waits, listens-first}
 use Rattle.house_forward.proofs.Lists.{none-passes, none-found}
@@ -175,3 +177,59 @@ gives-answer client id reply o relays framer stage gateway greeted fs asks asks'
             refl refl refl refl refl refl (waiting ∙ ap (λ (a : Option (ℕ × ℕ × HouseReply)). after_answer a asks.waiting.items) e) done;
       },
     )
+
+-- one is asked for, or to be closed
+pub asks-for : (client id : ℕ) (opening : Bool) (ask : StartAsk) (came : Asked) (reply : HouseReply) (relays relays' : Relays) (framer framer' : FramerState)
+    (stage stage' : Stage) (gateway gateway' greeted greeted' : Bool) (fs fs' : Forwardings) (asks asks' : Asks)
+    → ComesUnless (turns_away client id asks.waiting.items) gateway opening ask fs.serials fs.all.items fs'.all.items came
+    → reply ≡ reply_to came → relays' ≡ relays → framer' ≡ framer → stage' ≡ stage → gateway' ≡ gateway → greeted' ≡ greeted
+    → fs'.serials ≡ fs.serials + (length fs'.all.items - length fs.all.items) → fs'.refused ≡ fs.refused
+    → fs'.requests.items ≡ fs.requests.items → asks'.waiting.items ≡ asks_after came client id opening asks.waiting.items → asks'.done ≡ asks.done
+    → DeskGoes (IsAsked client id opening ask reply) (held_of relays framer stage gateway greeted fs asks)
+    (held_of relays' framer' stage' gateway' greeted' fs' asks')
+asks-for client id opening ask came reply relays relays' framer framer' stage stage' gateway gateway' greeted greeted' fs fs' asks asks' comes replies
+    same-relays same-framer same-stage same-gateway same-greeted serials refused requests waiting done =
+    let old = desk_of gateway greeted fs asks in (
+      rw (same-relays, same-framer, same-stage) refl,
+      record {
+        came_to = came;
+        comes = comes;
+        replies = replies;
+        others = same-desks (desk_of gateway' greeted' fs' asks') (record old {
+          all = fs'.all.items;
+          serials = fs.serials + (length fs'.all.items - length fs.all.items);
+          waiting = asks_after came client id opening asks.waiting.items;
+        }) same-gateway same-greeted refl serials refused requests waiting done;
+      },
+    )
+
+-- what is asked for at the start is asked for
+pub begins-with : (starts : Starts) (relays : Relays) (framer : FramerState) (stage : Stage) (gateway greeted : Bool) (fs fs' : Forwardings) (asks : Asks)
+    → Begins starts.gateway starts.asks (length starts.asks) (what_stands fs.all.items fs.serials fs.refused)
+    (what_stands fs'.all.items fs'.serials fs'.refused) → fs'.requests.items ≡ fs.requests.items
+    → DeskGoes (BeginsWith starts) (held_of relays framer stage gateway greeted fs asks)
+    (held_of relays framer stage starts.gateway greeted fs' asks)
+begins-with starts relays framer stage gateway greeted fs fs' asks begins requests =
+    let old = desk_of gateway greeted fs asks in (
+      refl,
+      record {
+        begins = begins;
+        others = same-desks (desk_of starts.gateway greeted fs' asks)
+            (record old { gateway = starts.gateway; all = fs'.all.items; serials = fs'.serials; refused = fs'.refused })
+            refl refl refl refl refl requests refl refl;
+      },
+    )
+
+-- a new one takes the next serial
+pub serials-opened : (b : Bool) (ends : Ends) (serial serials : ℕ) (start : Option ℕ) (old new : List Forwarding)
+    → Opens b ends serial start old new → serials ≡ serials_after b serial → serials ≡ serial + (length new - length old)
+serials-opened false ends serial serials start old new h e =
+    let same : length new ≡ length old = ap length h in
+    omega (arith, same, e)
+serials-opened true ends serial serials start old new h e =
+    let more : length new ≡ length (old ++ h.0 ∷ []) = ap length h.2 in
+    let sum : length (old ++ h.0 ∷ []) ≡ length old + 1 = length-append old (h.0 ∷ []) in
+    omega (arith, more, sum, e)
+
+pub serials-stay : (serial serials old new : ℕ) → new ≡ old → serials ≡ serial → serials ≡ serial + (new - old)
+serials-stay serial serials old new same e = omega (arith, same, e)
