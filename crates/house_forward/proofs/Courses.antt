@@ -334,8 +334,7 @@ ends-there host port (Made own) to h end = absurd h
 ends-there host port Gone to h end = absurd h
 
 -- the one that is awaited is made
-made-link : Option ℕ → Link → Link
-unfolding made-link
+abbrev made-link : Option ℕ → Link → Link
 made-link number l = record { relay = record l.relay { socket = made_as number }; stream = made_stream number }
 
 made-at : (number : Option ℕ) (before : List Link) (x : Link) (behind links new : List Link) (o : Option ℕ)
