@@ -22,8 +22,9 @@ use Rattle.proxy_frames.specs.declared.next.Next.TheVariants as next
 use Rattle.mux_outside.specs.House.{says_nothing}
 use Rattle.mux_outside.specs.HouseCalls.{Hears as HearsBytes}
 use Rattle.house_forward.specs.Desk.{Desk, desk_of, reply_heard, OrdersListener, MakesListener, GetsListener}
-use Rattle.house_forward.specs.Forwardings.{has_request, served_at, first_of, replied_all, replied_refused, replied_asks, replied_done}
+use Rattle.house_forward.specs.Forwardings.{has_request, to_listen, is_ordered_first, served_at, first_of, replied_all, replied_refused, replied_asks, replied_done}
 use Rattle.house_forward.specs.Going.{LeavesAt, HearsOn, SaysOn, MakesAt}
+use Rattle.house_forward.specs.Known.{is_there}
 use Rattle.house_forward.specs.Links.{Offers, has_saying, is_awaited}
 use Rattle.house_forward.specs.Lives.{Course, Held, IsCourse, GoesFurther, LinksGo, HouseGoes, DeskGoes, GetsNumber, held, held_of, Follows, with_heard, cut_off, SaysIn}
 use Rattle.house_forward.specs.Said.{framed, said_by}
@@ -419,12 +420,26 @@ listens None = false
 listens (Some (ordering.Listen host port)) = true
 listens (Some (ordering.Connect host port)) = false
 
+connect-of : (o : Option Ordering) → connects o ≡ true → (host : List ℕ) × (port : ℕ) × (o ≡ Some (ordering.Connect host port))
+connect-of None is = cc
+connect-of (Some (ordering.Listen host port)) is = cc
+connect-of (Some (ordering.Connect host port)) is = (host, port, refl)
+
+listen-of : (o : Option Ordering) → listens o ≡ true → (host : List ℕ) × (port : ℕ) × (o ≡ Some (ordering.Listen host port))
+listen-of None is = cc
+listen-of (Some (ordering.Listen host port)) is = (host, port, refl)
+listen-of (Some (ordering.Connect host port)) is = cc
+
+made-number : (host : List ℕ) (port : ℕ) (number : Option ℕ) (old new : Held) → new ≡ record old { links = new.links }
+    → MakesAt (position is_awaited old.links) number old.links new.links
+    → GetsNumber (Some (ordering.Connect host port)) number old new
+made-number host port number old new others goes = λ before awaits. makes host port number before old new awaits others goes
+
 pub made-so : (o : Option Ordering) (number : Option ℕ) (old new : Held) → connects o ≡ true → new ≡ record old { links = new.links }
     → MakesAt (position is_awaited old.links) number old.links new.links → GetsNumber o number old new
-made-so None number old new is others goes = cc
-made-so (Some (ordering.Listen host port)) number old new is others goes = cc
-made-so (Some (ordering.Connect host port)) number old new is others goes =
-    λ before awaits. makes host port number before old new awaits others goes
+made-so o number old new is others goes =
+    let c = connect-of o is in
+    subst (λ (x : Option Ordering). GetsNumber x number old new) (sym c.2) (made-number c.0 c.1 number old new others goes)
 
 -- what was ordered of the desk, and what came of it
 both-desks : (host : List ℕ) (port : ℕ) (number : Option ℕ) (before old new : Held) → DeskGoes (OrdersListener host port) before old
@@ -434,9 +449,20 @@ both-desks host port number before old new a b = (
   record { between = old.desk; orders = a.1; makes = b.1 },
 )
 
+listened-number : (host : List ℕ) (port : ℕ) (number : Option ℕ) (old new : Held) → DeskGoes (MakesListener number) old new
+    → GetsNumber (Some (ordering.Listen host port)) number old new
+listened-number host port number old new goes = λ before awaits.
+    desk-goes (GetsListener host port number) before new (both-desks host port number before old new awaits goes)
+
 pub listened-so : (o : Option Ordering) (number : Option ℕ) (old new : Held) → listens o ≡ true
     → DeskGoes (MakesListener number) old new → GetsNumber o number old new
-listened-so None number old new is goes = cc
-listened-so (Some (ordering.Listen host port)) number old new is goes = λ before awaits.
-    desk-goes (GetsListener host port number) before new (both-desks host port number before old new awaits goes)
-listened-so (Some (ordering.Connect host port)) number old new is goes = cc
+listened-so o number old new is goes =
+    let l = listen-of o is in
+    subst (λ (x : Option Ordering). GetsNumber x number old new) (sym l.2) (listened-number l.0 l.1 number old new goes)
+
+-- that is there
+pub listened-first : (o : Option Ordering) (fs : List Forwarding) (links : List Link) → listens o ≡ true → is_there o fs links ≡ true
+    → is_ordered_first (find to_listen fs) ≡ true
+listened-first None fs links is there = cc
+listened-first (Some (ordering.Listen host port)) fs links is there = there
+listened-first (Some (ordering.Connect host port)) fs links is there = cc
