@@ -1,6 +1,6 @@
 -- How what the house has besides its relays goes on.
 use Rattle.std.proofs.Common.{◌≡◌, ◌∙◌, refl, sym, ap, subst, arith, ℕ, ◌+◌, ◌-◌, Bool, true, false, List, [], ◌∷◌, ◌++◌, length, Option, Some, None}
-use Rattle.std.specs.Prelude.{not, filter, find, IfSome}
+use Rattle.std.specs.Prelude.{not, filter, find, is_some, IfSome}
 use Rattle.std.specs.List.{list_any, position}
 use Rattle.std.proofs.lemmas.Bool.{false≢true}
 use Rattle.std.proofs.lemmas.List.{length-append}
@@ -9,15 +9,17 @@ use Rattle.mux_outside.specs.declared.house.HouseReply.{HouseReply}
 use Rattle.mux_outside.specs.declared.start_ask.StartAsk.{StartAsk}
 use Rattle.mux_outside.specs.declared.starts.Starts.{Starts}
 use Rattle.house_forward.specs.Asks.{turns_away, answer_of, after_answer, settled, counted}
-use Rattle.house_forward.specs.Desk.{Desk, desk_of, standing_at, BeginsWith, IsAsked, Answers, OrdersListener, MakesListener, EndsListener}
-use Rattle.house_forward.specs.Forwardings.{Begins, what_stands, ComesUnless, reply_to, asks_after, is_first_to_listen, is_ordered_first, ListensFor, Orders, Leaves, Opens, serials_after}
+use Rattle.house_forward.specs.Desk.{Desk, desk_of, BeginsWith, IsAsked, Answers, greeting_said, request_said, OrdersListener, MakesListener, EndsListener}
+use Rattle.house_forward.specs.Forwardings.{Begins, what_stands, ComesUnless, reply_to, asks_after, is_first_to_listen, is_ordered_first, ListensFor, Orders, Leaves, Opens, serials_after, has_request, request_of, after_saying}
 use Rattle.house_forward.specs.Forwardings.{next_of, to_listen, OrderedAt, MadeAt, has_listener, made_refused, order_asks, order_done, ordered_asks, ordered_done, serial_of}
-use Rattle.house_forward.specs.Lives.{Held, DeskGoes, held_of}
+use Rattle.house_forward.specs.Lives.{Held, DeskGoes, GoesFurther, SaysIn, held, held_of}
+use Rattle.house_forward.specs.Said.{framed, request_payload}
 use Rattle.house_forward.specs.declared.asks.Asked.{Asked}
 use Rattle.house_forward.specs.declared.asks.Asks.{Asks}
 use Rattle.house_forward.specs.declared.asks.Outcome.TheVariants.{Done}
 use Rattle.house_forward.specs.declared.asks.Waiting.{Waiting}
 use Rattle.house_forward.specs.declared.forwarding.Forwarding.{Forwarding}
+use Rattle.house_forward.specs.declared.forwarding.Request.{Request}
 use Rattle.house_forward.specs.declared.forwardings.Forwardings.{Forwardings}
 use Rattle.house_forward.specs.declared.forwardings.ListenerOrder.TheVariants.{Listen as ListensAt, Unlisten as Unlistens}
 use Rattle.house_forward.specs.declared.forwardings.Want.{Want}
@@ -25,7 +27,9 @@ use Rattle.house_forward.specs.declared.forwardings.Want.TheVariants as want
 use Rattle.house_forward.specs.declared.holdings.Stage.{Stage}
 use Rattle.house_forward.specs.declared.relays.Relays.{Relays}
 use Rattle.house_forward.specs.declared.rules.Ends.{Ends}
+use Rattle.house_forward.specs.declared.saying.TheConstants.{GREETING}
 use Rattle.house_forward.specs.declared.two_texts.TwoTexts.{TwoTexts}
+use Rattle.house_forward.proofs.Courses.{greets, requests}
 use Rattle.house_forward.proofs.InOrder.{none-waits, listens-first}
 use Rattle.house_forward.proofs.Lists.{none-passes, none-found}
 
@@ -233,3 +237,44 @@ serials-opened true ends serial serials start old new h e =
 
 pub serials-stay : (serial serials old new : ℕ) → new ≡ old → serials ≡ serial → serials ≡ serial + (new - old)
 serials-stay serial serials old new same e = omega (arith, same, e)
+
+-- ---- what is said
+
+requests-by : (o : Option Forwarding) (said : Option Request) (r : Request) (bytes : List ℕ) (relays : Relays) (framer : FramerState) (stage : Stage)
+    (gateway greeted : Bool) (fs fs' : Forwardings) (asks : Asks) → find has_request fs.all.items ≡ o → greeted ≡ true → said ≡ Some r
+    → is_some said ≡ is_some o → IfSome o (λ f. said ≡ Some (request_of f)) → IfSome o (λ f. bytes ≡ framed (request_payload f))
+    → fs'.all.items ≡ after_saying r fs.all.items → fs'.requests.items ≡ fs.requests.items ++ r ∷ []
+    → fs'.serials ≡ fs.serials → fs'.refused ≡ fs.refused
+    → GoesFurther (SaysIn bytes) (held_of relays framer stage gateway greeted fs asks) (held_of relays framer stage gateway greeted fs' asks)
+requests-by None said r bytes relays framer stage gateway greeted fs fs' asks e yes is exact which spelled all more serials refused = cc
+requests-by (Some f) said r bytes relays framer stage gateway greeted fs fs' asks e yes is exact which spelled all more serials refused =
+    let old = held_of relays framer stage gateway greeted fs asks in
+    let same : r ≡ request_of f = cc in
+    let desk = same-desks (desk_of gateway greeted fs' asks) (request_said f (desk_of gateway greeted fs asks)) refl refl
+    (all ∙ ap (λ (q : Request). after_saying q fs.all.items) same) serials refused
+    (more ∙ ap (λ (q : Request). fs.requests.items ++ q ∷ []) same) refl refl in
+    subst (λ (d : Desk). GoesFurther (SaysIn bytes) old (held relays.all.items framer stage d)) (sym desk)
+    (subst (λ (b : List ℕ). GoesFurther (SaysIn b) old (record old { desk = request_said f old.desk })) (sym spelled) (requests f old yes e))
+
+-- the first request is said
+pub requests-one : (said : Option Request) (r : Request) (bytes : List ℕ) (relays : Relays) (framer : FramerState) (stage : Stage)
+    (gateway greeted : Bool) (fs fs' : Forwardings) (asks : Asks) → greeted ≡ true → said ≡ Some r
+    → is_some said ≡ is_some (find has_request fs.all.items) → IfSome (find has_request fs.all.items) (λ f. said ≡ Some (request_of f))
+    → IfSome (find has_request fs.all.items) (λ f. bytes ≡ framed (request_payload f))
+    → fs'.all.items ≡ after_saying r fs.all.items → fs'.requests.items ≡ fs.requests.items ++ r ∷ []
+    → fs'.serials ≡ fs.serials → fs'.refused ≡ fs.refused
+    → GoesFurther (SaysIn bytes) (held_of relays framer stage gateway greeted fs asks) (held_of relays framer stage gateway greeted fs' asks)
+requests-one said r bytes relays framer stage gateway greeted fs fs' asks yes is exact which spelled all more serials refused =
+    requests-by (find has_request fs.all.items) said r bytes relays framer stage gateway greeted fs fs' asks refl yes is exact which spelled all more
+    serials refused
+
+-- there is none
+pub no-request : (o : Option Forwarding) (said : Option Request) → said ≡ None → is_some said ≡ is_some o → o ≡ None
+no-request None said is e = refl
+no-request (Some f) said is e = cc
+
+-- it greets
+pub greets-first : (bytes : List ℕ) (h : Held) → bytes ≡ GREETING.now → h.desk.greeted ≡ false
+    → GoesFurther (SaysIn bytes) h (record h { desk = greeting_said h.desk })
+greets-first bytes h e none =
+    subst (λ (b : List ℕ). GoesFurther (SaysIn b) h (record h { desk = greeting_said h.desk })) (sym e) (greets h none)
