@@ -246,15 +246,15 @@ requests-by : (o : Option Forwarding) (said : Option Request) (r : Request) (byt
     → fs'.all.items ≡ after_saying r fs.all.items → fs'.requests.items ≡ fs.requests.items ++ r ∷ []
     → fs'.serials ≡ fs.serials → fs'.refused ≡ fs.refused
     → GoesFurther (SaysIn bytes) (held_of relays framer stage gateway greeted fs asks) (held_of relays framer stage gateway greeted fs' asks)
-requests-by None said r bytes relays framer stage gateway greeted fs fs' asks e yes is exact which spelled all more serials refused = cc
-requests-by (Some f) said r bytes relays framer stage gateway greeted fs fs' asks e yes is exact which spelled all more serials refused =
+requests-by None said r bytes relays framer stage gateway greeted fs fs' asks e first is exact which spelled all more serials refused = cc
+requests-by (Some f) said r bytes relays framer stage gateway greeted fs fs' asks e first is exact which spelled all more serials refused =
     let old = held_of relays framer stage gateway greeted fs asks in
     let same : r ≡ request_of f = cc in
     let desk = same-desks (desk_of gateway greeted fs' asks) (request_said f (desk_of gateway greeted fs asks)) refl refl
     (all ∙ ap (λ (q : Request). after_saying q fs.all.items) same) serials refused
     (more ∙ ap (λ (q : Request). fs.requests.items ++ q ∷ []) same) refl refl in
     subst (λ (d : Desk). GoesFurther (SaysIn bytes) old (held relays.all.items framer stage d)) (sym desk)
-    (subst (λ (b : List ℕ). GoesFurther (SaysIn b) old (record old { desk = request_said f old.desk })) (sym spelled) (requests f old yes e))
+    (subst (λ (b : List ℕ). GoesFurther (SaysIn b) old (record old { desk = request_said f old.desk })) (sym spelled) (requests f old first e))
 
 -- the first request is said
 pub requests-one : (said : Option Request) (r : Request) (bytes : List ℕ) (relays : Relays) (framer : FramerState) (stage : Stage)
@@ -264,8 +264,8 @@ pub requests-one : (said : Option Request) (r : Request) (bytes : List ℕ) (rel
     → fs'.all.items ≡ after_saying r fs.all.items → fs'.requests.items ≡ fs.requests.items ++ r ∷ []
     → fs'.serials ≡ fs.serials → fs'.refused ≡ fs.refused
     → GoesFurther (SaysIn bytes) (held_of relays framer stage gateway greeted fs asks) (held_of relays framer stage gateway greeted fs' asks)
-requests-one said r bytes relays framer stage gateway greeted fs fs' asks yes is exact which spelled all more serials refused =
-    requests-by (find has_request fs.all.items) said r bytes relays framer stage gateway greeted fs fs' asks refl yes is exact which spelled all more
+requests-one said r bytes relays framer stage gateway greeted fs fs' asks first is exact which spelled all more serials refused =
+    requests-by (find has_request fs.all.items) said r bytes relays framer stage gateway greeted fs fs' asks refl first is exact which spelled all more
     serials refused
 
 -- there is none

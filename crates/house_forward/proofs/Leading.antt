@@ -377,7 +377,7 @@ leads-last bytes links framer stage desk now new leads goes most course is =
 
 -- ---- what is said
 
-one-is : (b : Bool) → false ≡ not b → b ≡ true
+pub one-is : (b : Bool) → false ≡ not b → b ≡ true
 one-is true e = refl
 one-is false e = cc
 
