@@ -1,7 +1,7 @@
 -- How what the calls do of their own leads a course on: what is read of the wire, what is given, and what
 -- is heard frame by frame.
 use Rattle.std.proofs.Common.{◌≡◌, ◌∙◌, refl, sym, ap, subst, inl, inr, ◌⊎◌, Bor, ℕ, Bool, true, false, List, [], ◌∷◌, drop, Option, Some, None}
-use Rattle.std.specs.Prelude.{◌≢◌, ◌==◌, not, find, IfSome, OnOk, IfOk, Result, Ok, Err}
+use Rattle.std.specs.Prelude.{◌≢◌, ◌==◌, not, find, IfSome, IfNone, OnOk, IfOk, Result, Ok, Err}
 use Rattle.std.specs.List.{list_any, position}
 use Rattle.std.proofs.lemmas.Bool.{false≢true}
 use Rattle.ssh_fields.specs.Fields.{take_u32}
@@ -139,6 +139,12 @@ replies success port relays fs asks fs' asks' r framer stage gateway greeted =
     desk-becomes (reply_heard success port) (held_of relays framer stage gateway greeted fs asks)
     (held_of relays framer stage gateway greeted fs' asks')
     (rw (r.all, r.serials, r.refused, r.requests, r.waiting, r.done) refl)
+
+-- the port that a success carries
+pub port-read : (o : Option ℕ) (bytes rest : List ℕ) → IfSome o (λ n. take_u32 bytes ≡ Some (n, rest))
+    → IfNone o (take_u32 bytes ≡ None) → o ≡ port_in (take_u32 bytes)
+port-read None bytes rest some none = sym (ap port_in none)
+port-read (Some n) bytes rest some none = sym (ap port_in some)
 
 pub a-success : (reading : Result Said Bad) (m : Message) (rest : Bor (List ℕ)) (port : Option ℕ) (relays : Relays) (fs : Forwardings) (asks : Asks)
     (fs' : Forwardings) (asks' : Asks) → reading ≡ Ok (message_of m) → m ≡ message.RequestSuccess rest → port ≡ port_in (take_u32 rest.now)

@@ -2,7 +2,7 @@ use Rattle.std.proofs.Common.{◌≡◌, ◌∙◌, sym, ap, ℕ, Some}
 use Rattle.std.specs.Option.{option_copied}
 use Rattle.ssh_grammar.specs.ReadMessage.{read_message as reading}
 use Rattle.house_forward.proofs.Going.{on-ok}
-use Rattle.house_forward.proofs.Leading.{channel_of, its-channel, a-forwarded, a-channel-message}
+use Rattle.house_forward.proofs.Leading.{channel_of, its-channel, a-forwarded, a-channel-message, a-success, a-failure, port-read}
 use Rattle.house_forward.proofs.hearing.hear.Goals as goal
 use Rattle.house_forward.proofs.hearing.hear.Goals.{in-Confirmation, in-Confirmation-2, in-Confirmation-3, in-Confirmation-4, in-Confirmation-5, in-Confirmation-6, in-Confirmation-7, in-Confirmation-8, in-Confirmation-9, in-Confirmation-10}
 
@@ -34,3 +34,22 @@ returns-in-Confirmation-clause-goes c =
     ] in
     on-ok c.hear.result (λ heard. a-channel-message (reading c.args.payload.now) c.in-Ok.message n c.args.relays.now c.hear.new.self c.args.forwardings.now c.args.asks.now
     c.in-Ok.ensures.exact channel heard) c.hear.ensures.hears
+
+pub returns-in-RequestSuccess-clause-goes : goal.returns-in-RequestSuccess-clause-goes
+returns-in-RequestSuccess-clause-goes c =
+    let m = c.in-RequestSuccess in
+    let fs = c.args.forwardings.now in
+    let asks = c.args.asks.now in
+    let r = c.replied.ensures in
+    a-success (reading c.args.payload.now) c.in-Ok.message m.rest c.take_u32.result c.args.relays.now fs asks c.replied.new.self c.replied.new.asks
+    c.in-Ok.ensures.exact m.is (port-read c.take_u32.result m.rest.now c.take_u32.new.self c.take_u32.ensures.ok c.take_u32.ensures.short)
+    (record { all = r.all; serials = r.serials; refused = r.refused; requests = r.requests; waiting = r.asks; done = r.done })
+
+pub returns-in-RequestFailure-clause-goes : goal.returns-in-RequestFailure-clause-goes
+returns-in-RequestFailure-clause-goes c =
+    let fs = c.args.forwardings.now in
+    let asks = c.args.asks.now in
+    let r = c.replied-in-RequestFailure.ensures in
+    a-failure (reading c.args.payload.now) c.in-Ok.message c.args.relays.now fs asks c.replied-in-RequestFailure.new.self c.replied-in-RequestFailure.new.asks
+    c.in-Ok.ensures.exact c.in-RequestFailure.is
+    (record { all = r.all; serials = r.serials; refused = r.refused; requests = r.requests; waiting = r.asks; done = r.done })
