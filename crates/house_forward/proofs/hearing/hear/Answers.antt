@@ -1,6 +1,8 @@
-use Rattle.std.proofs.Common.{◌≡◌, ◌∙◌, sym, ap, ℕ, Some}
+use Rattle.std.proofs.Common.{◌≡◌, ◌∙◌, sym, ap, ℕ, List, Some}
 use Rattle.std.specs.Option.{option_copied}
 use Rattle.ssh_grammar.specs.ReadMessage.{read_message as reading}
+use Rattle.ssh_fields.specs.Fields.{take_u32}
+use Rattle.house_forward.specs.Lives.{port_in}
 use Rattle.house_forward.proofs.Going.{on-ok}
 use Rattle.house_forward.proofs.Leading.{channel_of, its-channel, a-forwarded, a-channel-message, a-success, a-failure, port-read}
 use Rattle.house_forward.proofs.hearing.hear.Goals as goal
@@ -41,8 +43,10 @@ returns-in-RequestSuccess-clause-goes c =
     let fs = c.args.forwardings.now in
     let asks = c.args.asks.now in
     let r = c.replied.ensures in
-    a-success (reading c.args.payload.now) c.in-Ok.message m.rest c.take_u32.result c.args.relays.now fs asks c.replied.new.self c.replied.new.asks
-    c.in-Ok.ensures.exact m.is (port-read c.take_u32.result m.rest.now c.take_u32.new.self c.take_u32.ensures.ok c.take_u32.ensures.short)
+    let read = c.take_u32-port in
+    a-success (reading c.args.payload.now) c.in-Ok.message m.rest read.result c.args.relays.now fs asks c.replied.new.self c.replied.new.asks
+    c.in-Ok.ensures.exact m.is
+    (port-read read.result c.new.result read.new.self read.ensures.ok read.ensures.short ∙ ap (λ (b : List ℕ). port_in (take_u32 b)) c.new.ensures)
     (record { all = r.all; serials = r.serials; refused = r.refused; requests = r.requests; waiting = r.asks; done = r.done })
 
 pub returns-in-RequestFailure-clause-goes : goal.returns-in-RequestFailure-clause-goes
