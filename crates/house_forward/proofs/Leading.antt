@@ -84,13 +84,6 @@ a-message reading m relays fs asks relays' fs' asks' e goes framer stage gateway
     subst (λ (r : Result Said Bad). GoesFurther (HearsReading r) old new) (sym e)
     (further (HearsMessage m) (HearsReading (Ok (message_of m))) old new (λ a b h. (m, refl, h)) (goes framer stage gateway greeted))
 
--- one that changes nothing
-pub a-still-message : (reading : Result Said Bad) (m : Message) (relays : Relays) (fs : Forwardings) (asks : Asks)
-    → reading ≡ Ok (message_of m) → ((a : Course) → HearsMessage m a a) → HouseGoes (HearsReading reading) relays fs asks relays fs asks
-a-still-message reading m relays fs asks e same =
-    a-message reading m relays fs asks relays fs asks e
-    (links-house (HearsMessage m) relays relays fs asks (links-stay (HearsMessage m) relays.all.items same))
-
 -- an OPEN for a forwarding
 an-open : (address : List ℕ) (port remote window maximum : ℕ) (o : Option Forwarding) (old new : List Link) (framer : FramerState)
     (stage : Stage) (desk : Desk) → o ≡ find (served_at address port) desk.all → (o ≡ None → new ≡ old)

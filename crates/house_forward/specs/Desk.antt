@@ -1,5 +1,5 @@
--- What the house has besides its relays, as its calls go on: the forwardings, the requests to the server
--- and the asks.
+-- What the house has besides its relays, as its calls go on: the forwardings, the requests to the
+-- server and the asks.
 use Rattle.std.specs.Prelude.{◌≡◌, ◌+◌, ◌-◌, ℕ, Bool, true, false, not, List, [], ◌∷◌, ◌++◌, drop, length, filter, find, IfSome, Option, Some, None}
 use Rattle.std.specs.List.{position}
 use Rattle.mux_outside.specs.declared.house.HouseReply.{HouseReply}
@@ -18,10 +18,10 @@ use Rattle.house_forward.specs.declared.forwarding.Request.{Request}
 use Rattle.house_forward.specs.declared.forwardings.Forwardings.{Forwardings}
 use Rattle.house_forward.specs.declared.forwardings.Want.TheVariants as want
 
--- whether a listen host of none means all addresses, and whether the house greeted; the forwardings, in
--- order of asking, how many there were so far, and the first of those asked for at the start that was
--- refused; the requests that were said and have no reply yet; the asks that have no answer yet, and how
--- many came to something
+-- whether a listen host of none means all addresses, and whether the house greeted; the forwardings,
+-- in order of asking, how many there were so far, and the first of those asked for at the start that
+-- was refused; the requests that were said and have no reply yet; the asks that have no answer yet,
+-- and how many came to something
 pub record Desk : Type 0 where
   pub gateway : Bool
   pub greeted : Bool
@@ -66,7 +66,8 @@ standing_at d = what_stands d.all d.serials d.refused
 
 -- all that is asked for at the start was asked for, one after another
 pub record BeginsWith (starts : Starts) (old new : Desk) : Type 0 where
-  pub begins : Begins starts.gateway starts.asks (length starts.asks) (standing_at old) (standing_at new)
+  pub begins : Begins starts.gateway starts.asks (length starts.asks)
+      (standing_at old) (standing_at new)
   pub others : new ≡ record old {
     gateway = starts.gateway;
     all = new.all;
@@ -74,12 +75,14 @@ pub record BeginsWith (starts : Starts) (old new : Desk) : Type 0 where
     refused = new.refused;
   }
 
--- a client asks to open or close a forwarding, and this is the reply: what comes of it is known by what
--- stands and by those that wait; it waits where it has no reply yet; and a new forwarding takes the next
--- serial
-pub record IsAsked (client id : ℕ) (opening : Bool) (ask : StartAsk) (reply : HouseReply) (old new : Desk) : Type 0 where
+-- a client asks to open or close a forwarding, and this is the reply: what comes of it is known by
+-- what stands and by those that wait; it waits where it has no reply yet; and a new forwarding takes
+-- the next serial
+pub record IsAsked (client id : ℕ) (opening : Bool) (ask : StartAsk) (reply : HouseReply)
+    (old new : Desk) : Type 0 where
   pub came_to : Asked
-  pub comes : ComesUnless (turns_away client id old.waiting) old.gateway opening ask old.serials old.all new.all came_to
+  pub comes : ComesUnless (turns_away client id old.waiting) old.gateway opening ask old.serials
+      old.all new.all came_to
   pub replies : reply ≡ reply_to came_to
   pub others : new ≡ record old {
     all = new.all;
@@ -105,7 +108,8 @@ request_said f d = record d {
   requests = d.requests ++ request_of f ∷ [];
 }
 
--- the server's reply to the earliest request that has none: a success, maybe with a port, or a failure
+-- the server's reply to the earliest request that has none: a success, maybe with a port, or a
+-- failure
 abbrev pub reply_heard : Bool → Option ℕ → Desk → Desk
 reply_heard success port d = record d {
   all = replied_all success port (first_of d.requests) d.all;
@@ -117,8 +121,8 @@ reply_heard success port d = record d {
 
 -- ---- listeners
 
--- the listener of the first forwarding that has none yet is ordered where that is to listen, and it is
--- the next order about a listener
+-- the listener of the first forwarding that has none yet is ordered where that is to listen, and it
+-- is the next order about a listener
 pub record OrdersListener (host : List ℕ) (port : ℕ) (old new : Desk) : Type 0 where
   pub place : ℕ
   pub first : position to_listen old.all ≡ Some place
@@ -140,13 +144,14 @@ pub record MakesListener (number : Option ℕ) (old new : Desk) : Type 0 where
   }
 
 -- both, one behind the other
-pub record GetsListener (host : List ℕ) (port : ℕ) (number : Option ℕ) (old new : Desk) : Type 0 where
+pub record GetsListener (host : List ℕ) (port : ℕ) (number : Option ℕ)
+    (old new : Desk) : Type 0 where
   pub between : Desk
   pub orders : OrdersListener host port old between
   pub makes : MakesListener number between new
 
--- a listener that is next to be closed is closed: its forwarding is gone, and those that asked to close
--- it come to that
+-- a listener that is next to be closed is closed: its forwarding is gone, and those that asked to
+-- close it come to that
 pub record EndsListener (l : ℕ) (old new : Desk) : Type 0 where
   pub serial : ℕ
   pub next : next_of old.waiting old.all ≡ Some (want.Unlisten serial l)

@@ -1,5 +1,5 @@
--- What the calls of the house tell: of each relay how it stands, and what happened in it; and what the
--- house has besides.
+-- What the calls of the house tell: of each relay how it stands, and what happened in it; and what
+-- the house has besides.
 use Rattle.std.specs.Prelude.{◌≡◌, ◌≢◌, ◌⊎◌, ◌≤◌, ◌<◌, ◌+◌, ◌^◌, ◌==◌, ℕ, Bool, true, false, not, nat_le, if◌then◌else◌, List, [], ◌∷◌, ◌++◌, length, map, filter, find, is_some, IfSome, Result, Ok, Err, Option, Some, None}
 use Rattle.std.specs.List.{All, list_any, position}
 use Rattle.ssh_fields.specs.Fields.{take_u32}
@@ -67,8 +67,8 @@ pub record Life : Type 0 where
   pub to : Option (List ℕ × ℕ)
   pub acts : List Act
 
--- the relays that there are, and those of which nothing is left; what was heard and isn't read yet; how
--- it is read; and what the house has besides
+-- the relays that there are, and those of which nothing is left; what was heard and isn't read yet;
+-- how it is read; and what the house has besides
 pub record Course : Type 0 where
   pub lives : List Life
   pub past : List Life
@@ -236,8 +236,8 @@ abbrev pub Speaks : List ℕ → Life → Life → Type 0
 Speaks bytes old new = (bytes ≡ framed (said_by old.relay))
     × GoesBy Says (act_of_saying (says_of old.relay) old.relay) old new
 
--- where the house has not greeted it does; else the first forwarding that has a request says it; else
--- the first relay that has something to say says that
+-- where the house has not greeted it does; else the first forwarding that has a request says it;
+-- else the first relay that has something to say says that
 abbrev pub SaysBy : Bool → Option Forwarding → List ℕ → Course → Course → Type 0
 SaysBy false first bytes old new =
     (bytes ≡ GREETING.now) × (new ≡ with_desk (greeting_said old.desk) old)
@@ -262,7 +262,8 @@ HearsAt n m old new = ((lives : List Life) × One (has_channel n) (Listens m) ol
     × (new ≡ with_lives lives old))
     ⊎ ((list_any (has_channel n) old.lives ≡ false) × (new ≡ old))
 
--- one relay more, for an OPEN of the server: its socket is to be connected where this forwarding connects
+-- one relay more, for an OPEN of the server: its socket is to be connected where this forwarding
+-- connects
 pub record OffersOne (f : Forwarding) (remote window maximum : ℕ) (old new : Course) : Type 0 where
   pub number : ℕ
   pub free : list_any (has_channel number) old.lives ≡ false
@@ -388,8 +389,8 @@ made_life number l = record l {
   acts = Other ∷ l.acts;
 }
 
--- the first socket that is to be made, which is to be connected there, is made, or couldn't be: it is
--- the last from now on
+-- the first socket that is to be made, which is to be connected there, is made, or couldn't be: it
+-- is the last from now on
 pub record MakesOne (host : List ℕ) (port : ℕ) (number : Option ℕ) (old new : Course) : Type 0 where
   pub before : List Life
   pub life : Life
@@ -480,7 +481,8 @@ AreLives most [] (link ∷ links) = ⊥
 AreLives most (life ∷ lives) [] = ⊥
 AreLives most (life ∷ lives) (link ∷ links) = IsLife most life link × AreLives most lives links
 
--- the links of the house, what was heard and isn't read yet, how it is read, and what there is besides
+-- the links of the house, what was heard and isn't read yet, how it is read, and what there is
+-- besides
 pub record Held : Type 0 where
   pub links : List Link
   pub framer : FramerState
@@ -515,7 +517,8 @@ LinksGo so old new = (framer : FramerState) (stage : Stage) (desk : Desk)
     → GoesFurther so (held old framer stage desk) (held new framer stage desk)
 
 -- of all but what was heard
-abbrev pub HouseGoes : (Course → Course → Type 0) → Relays → Forwardings → Asks → Relays → Forwardings → Asks → Type 0
+abbrev pub HouseGoes : (Course → Course → Type 0) → Relays → Forwardings → Asks → Relays
+    → Forwardings → Asks → Type 0
 HouseGoes so relays forwardings asks relays' forwardings' asks' =
     (framer : FramerState) (stage : Stage) (gateway greeted : Bool) → GoesFurther so
     (held_of relays framer stage gateway greeted forwardings asks)
@@ -584,4 +587,5 @@ StandsFor calls h = taken_in calls < 2 ^ 64 → HasLived calls h
 
 -- so it does, or did before it ordered what has no number yet
 abbrev pub StandsSince : Option Ordering → List HouseCall → Held → Type 0
-StandsSince ordering calls h = (before : Held) × StandsFor calls before × AwaitsNumber ordering before h
+StandsSince ordering calls h =
+    (before : Held) × StandsFor calls before × AwaitsNumber ordering before h
