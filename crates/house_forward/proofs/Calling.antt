@@ -7,7 +7,7 @@ use Rattle.ssh_grammar.specs.declared.framing.Framing.TheVariants as framing
 use Rattle.proxy_frames.specs.State.{FramerState}
 use Rattle.proxy_frames.specs.Steps.{new_framer, pushed}
 use Rattle.house_relay.specs.Relay.{Stands}
-use Rattle.mux_outside.specs.House.{Known, order_marks, ordered_marks, answer_marks, known_after_order}
+use Rattle.mux_outside.specs.House.{Known, order_marks, ordered_marks, known_after_order}
 use Rattle.mux_outside.specs.HouseCalls.{HouseCall, Marks, calls_of}
 use Rattle.mux_outside.specs.HouseCalls.{Hears as HearsBytes}
 use Rattle.mux_outside.specs.declared.house_mark.HouseMark.TheVariants.{HouseOrder}

@@ -1,7 +1,7 @@
 -- How the links' steps are those of a course.
 use Rattle.std.proofs.Common.{◌≡◌, ◌∙◌, refl, sym, ap, subst, arith, ℕ, suc, ◌+◌, ◌<◌, ◌^◌, Bool, true, false, cond, List, [], ◌∷◌, ◌++◌, set, take, drop, map, Option, Some, None, inl, inr}
 use Rattle.std.specs.Prelude.{◌==◌, ◌&&◌, ◌||◌, ◌≤◌, not, length, find, is_some, IfSome}
-use Rattle.std.specs.List.{list_any, position, remove, cons_option}
+use Rattle.std.specs.List.{list_any, position, cons_option}
 use Rattle.std.proofs.lemmas.Bool.{both_ways, or_parts, and_parts}
 use Rattle.std.proofs.lemmas.List.Elements.{All-append}
 use Rattle.conn_messages.specs.declared.message.Message.{Message}

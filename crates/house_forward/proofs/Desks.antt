@@ -1,23 +1,18 @@
 -- How what the house has besides its relays goes on.
-use Rattle.std.proofs.Common.{◌≡◌, ◌∙◌, refl, sym, ap, subst, arith, ℕ, ◌+◌, ◌-◌, Bool, true, false, List, [], ◌∷◌, ◌++◌, length, Option, Some, None}
+use Rattle.std.proofs.Common.{◌≡◌, ◌∙◌, refl, sym, ap, subst, ℕ, Bool, true, false, List, [], ◌∷◌, ◌++◌, Option, Some, None}
 use Rattle.std.specs.Prelude.{not, filter, find, is_some, IfSome}
-use Rattle.std.specs.List.{list_any, position}
+use Rattle.std.specs.List.{position}
 use Rattle.std.proofs.lemmas.Bool.{false≢true}
-use Rattle.std.proofs.lemmas.List.{length-append}
 use Rattle.proxy_frames.specs.State.{FramerState}
 use Rattle.mux_outside.specs.declared.house.HouseReply.{HouseReply}
-use Rattle.mux_outside.specs.declared.start_ask.StartAsk.{StartAsk}
-use Rattle.mux_outside.specs.declared.starts.Starts.{Starts}
-use Rattle.house_forward.specs.Asks.{turns_away, answer_of, after_answer, settled, counted}
-use Rattle.house_forward.specs.Desk.{Desk, desk_of, BeginsWith, IsAsked, Answers, greeting_said, request_said, OrdersListener, MakesListener, EndsListener}
-use Rattle.house_forward.specs.Forwardings.{Begins, what_stands, ComesUnless, reply_to, asks_after, is_first_to_listen, is_ordered_first, ListensFor, Orders, Leaves, Opens, serials_after, has_request, request_of, after_saying}
+use Rattle.house_forward.specs.Asks.{answer_of, after_answer, settled, counted}
+use Rattle.house_forward.specs.Desk.{Desk, desk_of, Answers, greeting_said, request_said, OrdersListener, MakesListener, EndsListener}
+use Rattle.house_forward.specs.Forwardings.{is_first_to_listen, is_ordered_first, ListensFor, Orders, Leaves, has_request, request_of, after_saying}
 use Rattle.house_forward.specs.Forwardings.{next_of, to_listen, OrderedAt, MadeAt, has_listener, made_refused, order_asks, order_done, ordered_asks, ordered_done, serial_of}
 use Rattle.house_forward.specs.Lives.{Held, DeskGoes, GoesFurther, SaysIn, held, held_of}
 use Rattle.house_forward.specs.Said.{framed, request_payload}
-use Rattle.house_forward.specs.declared.asks.Asked.{Asked}
 use Rattle.house_forward.specs.declared.asks.Asks.{Asks}
 use Rattle.house_forward.specs.declared.asks.Outcome.TheVariants.{Done}
-use Rattle.house_forward.specs.declared.asks.Waiting.{Waiting}
 use Rattle.house_forward.specs.declared.forwarding.Forwarding.{Forwarding}
 use Rattle.house_forward.specs.declared.forwarding.Request.{Request}
 use Rattle.house_forward.specs.declared.forwardings.Forwardings.{Forwardings}
@@ -26,7 +21,6 @@ use Rattle.house_forward.specs.declared.forwardings.Want.{Want}
 use Rattle.house_forward.specs.declared.forwardings.Want.TheVariants as want
 use Rattle.house_forward.specs.declared.holdings.Stage.{Stage}
 use Rattle.house_forward.specs.declared.relays.Relays.{Relays}
-use Rattle.house_forward.specs.declared.rules.Ends.{Ends}
 use Rattle.house_forward.specs.declared.saying.TheConstants.{GREETING}
 use Rattle.house_forward.specs.declared.two_texts.TwoTexts.{TwoTexts}
 use Rattle.house_forward.proofs.Courses.{greets, requests}

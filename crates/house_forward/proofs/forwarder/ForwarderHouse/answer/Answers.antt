@@ -1,4 +1,4 @@
-use Rattle.std.proofs.Common.{refl, sym, Some}
+use Rattle.std.proofs.Common.{refl, Some}
 use Rattle.mux_outside.specs.HouseCalls.{Marks}
 use Rattle.mux_outside.specs.declared.house_mark.HouseMark.TheVariants.{HouseAnswer}
 use Rattle.house_forward.specs.Desk.{Answers}
