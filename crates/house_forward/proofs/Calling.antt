@@ -1,88 +1,130 @@
 -- How the house goes on standing for its calls.
 use Rattle.std.proofs.Common.{◌≡◌, ◌∙◌, refl, sym, ap, subst, ℕ, Bool, true, false, List, [], ◌∷◌, ◌++◌, Option, Some, None}
 use Rattle.std.specs.Prelude.{IfSome, IsSome}
+use Rattle.std.proofs.lemmas.List.{append-nil}
 use Rattle.std.proofs.lemmas.List.Elements.{All-nil}
 use Rattle.ssh_grammar.specs.declared.framing.Framing.TheVariants as framing
 use Rattle.proxy_frames.specs.State.{FramerState}
 use Rattle.proxy_frames.specs.Steps.{new_framer, pushed}
 use Rattle.house_relay.specs.Relay.{Stands}
-use Rattle.mux_outside.specs.House.{order_marks, ordered_marks, answer_marks}
+use Rattle.mux_outside.specs.House.{Known, order_marks, ordered_marks, known_after_order}
 use Rattle.mux_outside.specs.HouseCalls.{HouseCall, Marks, calls_of}
 use Rattle.mux_outside.specs.HouseCalls.{Hears as HearsBytes}
-use Rattle.mux_outside.specs.declared.house.HouseReply.{HouseReply}
-use Rattle.mux_outside.specs.declared.house_mark.HouseMark.TheVariants.{HouseAnswer, HouseOrder}
+use Rattle.mux_outside.specs.declared.house_mark.HouseMark.TheVariants.{HouseOrder}
 use Rattle.mux_outside.specs.declared.order.Order.{Order}
 use Rattle.mux_outside.specs.declared.order.Order.TheVariants as order
-use Rattle.house_forward.specs.Lives.{Life, first_course, HasLived, Course, Held, GoesFurther, StandsFor, held, Follows, GivesOrder, OrdersIn, HearsNext, taken_in}
+use Rattle.house_forward.specs.Desk.{empty_desk, desk_of}
+use Rattle.house_forward.specs.Known.{ordering_of}
+use Rattle.house_forward.specs.Lives.{Life, first_course, HasLived, Course, Held, GoesFurther, StandsFor, StandsSince, AwaitsNumber, GetsNumber, held, held_of, Follows, GivesOrder, OrdersIn, HearsNext, taken_in}
 use Rattle.house_forward.specs.declared.holdings.Holdings.{Holdings}
 use Rattle.house_forward.specs.declared.holdings.Stage.TheVariants.{Control}
-use Rattle.house_forward.specs.declared.link.Link.{Link}
-use Rattle.house_forward.proofs.Courses.{stands-on, stands-still}
-use Rattle.house_forward.proofs.Leading.{stays, LeadsOn, leads-next, leads-last}
+use Rattle.house_forward.specs.declared.ordering.Ordering.{Ordering}
+use Rattle.house_forward.specs.declared.ordering.Ordering.TheVariants as ordering
+use Rattle.house_forward.proofs.Courses.{stands-on}
+use Rattle.house_forward.proofs.Leading.{LeadsOn, leads-next, leads-last}
 
 -- what the house has that a course tells of
-abbrev pub held_of : Holdings → Held
-held_of h = held h.relays.all.items h.framer h.stage
-
--- what leaves that as it is
-pub held-still : (P : Course → Course → Type 0) (old new : Held) → new ≡ old → ((a : Course) → P a a)
-    → GoesFurther P old new
-held-still P old new e same = subst (λ (h : Held). GoesFurther P old h) (sym e) (stays P old same)
+abbrev pub of_house : Holdings → Held
+of_house h = held_of h.relays h.framer h.stage h.gateway h.greeted h.forwardings h.asks
 
 -- the house goes on from what is the same
 pub from-same : (P : Course → Course → Type 0) (old middle : Holdings) (new : Held) → middle ≡ old
-    → GoesFurther P (held_of middle) new → GoesFurther P (held_of old) new
-from-same P old middle new e goes = subst (λ (h : Holdings). GoesFurther P (held_of h) new) e goes
+    → GoesFurther P (of_house middle) new → GoesFurther P (of_house old) new
+from-same P old middle new e goes = subst (λ (h : Holdings). GoesFurther P (of_house h) new) e goes
 
--- a call that changes nothing of the course
-pub stands-same : (calls : List HouseCall) (call : HouseCall) (old new : Held) → taken_in (call ∷ []) ≡ 0
-    → ((a : Course) → Follows call a a) → new ≡ old → StandsFor calls old → StandsFor (calls ++ call ∷ []) new
-stands-same calls call old new none same e h =
-    stands-on calls call old new none (held-still (Follows call) old new e same) h
+-- ---- where no number is awaited
+
+pub since-none : (at : Option Ordering) (calls : List HouseCall) (h : Held) → at ≡ None → StandsSince at calls h
+    → StandsFor calls h
+since-none None calls h e s = subst (λ (x : Held). StandsFor calls x) (sym s.2) s.1
+since-none (Some o) calls h e s = cc
+
+pub none-since : (at : Option Ordering) (calls : List HouseCall) (h : Held) → at ≡ None → StandsFor calls h
+    → StandsSince at calls h
+none-since None calls h e s = (h, s, refl)
+none-since (Some o) calls h e s = cc
+
+pub no-ordering : (at : Option Ordering) → ordering_of at ≡ None → at ≡ None
+no-ordering None e = refl
+no-ordering (Some (ordering.Listen host port)) e = cc
+no-ordering (Some (ordering.Connect host port)) e = cc
+
+-- a call behind which none is awaited
+pub since-on : (at at' : Option Ordering) (calls : List HouseCall) (call : HouseCall) (old new : Held) → at ≡ None → at' ≡ None
+    → taken_in (call ∷ []) ≡ 0 → GoesFurther (Follows call) old new → StandsSince at calls old
+    → StandsSince at' (calls ++ call ∷ []) new
+since-on at at' calls call old new e f none goes h =
+    none-since at' (calls ++ call ∷ []) new f (stands-on calls call old new none goes (since-none at calls old e h))
+
+-- one in which bytes are taken
+pub since-taken : (at at' : Option Ordering) (calls : List HouseCall) (call : HouseCall) (old new : Held) → at ≡ None → at' ≡ None
+    → (StandsFor calls old → StandsFor (calls ++ call ∷ []) new) → StandsSince at calls old
+    → StandsSince at' (calls ++ call ∷ []) new
+since-taken at at' calls call old new e f goes h =
+    none-since at' (calls ++ call ∷ []) new f (goes (since-none at calls old e h))
 
 -- none
-pub stands-none : (calls : List HouseCall) (old new : Held) → new ≡ old → StandsFor calls old → StandsFor (calls ++ []) new
-stands-none calls old new e h =
-    stands-still calls old new (held-still (λ (a : Course) (b : Course). b ≡ a) old new e (λ a. refl)) h
+pub since-same : (at at' : Option Ordering) (calls : List HouseCall) (old new : Held) → at ≡ None → at' ≡ None → new ≡ old
+    → StandsSince at calls old → StandsSince at' (calls ++ []) new
+since-same at at' calls old new e f same h =
+    none-since at' (calls ++ []) new f
+    (subst (λ (cs : List HouseCall). StandsFor cs new) (sym (append-nil calls))
+    (subst (λ (x : Held). StandsFor calls x) (sym same) (since-none at calls old e h)))
 
--- an answer
-pub stands-answered : (a : Option (ℕ × ℕ × HouseReply)) (calls : List HouseCall) (old new : Held) → new ≡ old
-    → StandsFor calls old → StandsFor (calls ++ calls_of (answer_marks a)) new
-stands-answered None calls old new e h = stands-none calls old new e h
-stands-answered (Some a) calls old new e h =
-    stands-same calls (Marks (HouseAnswer a.0 a.1 a.2)) old new refl (λ b. refl) e h
+-- ---- orders
+
+-- what is ordered is what is awaited
+awaited : (at : Option Ordering) (calls : List HouseCall) (old new : Held) → StandsFor calls old → AwaitsNumber at old new
+    → StandsSince at (calls ++ []) new
+awaited at calls old new h awaits =
+    (old, subst (λ (cs : List HouseCall). StandsFor cs old) (sym (append-nil calls)) h, awaits)
 
 -- an order
-pub stands-given : (o : Option Order) (calls : List HouseCall) (old new : Held) → GoesFurther (GivesOrder o) old new
-    → StandsFor calls old → StandsFor (calls ++ calls_of (order_marks o)) new
-stands-given None calls old new goes h = stands-still calls old new goes h
-stands-given (Some (order.Listen host port)) calls old new goes h = stands-still calls old new goes h
-stands-given (Some (order.Connect host port)) calls old new goes h = stands-still calls old new goes h
-stands-given (Some (order.Unlisten l)) calls old new goes h =
-    stands-on calls (Marks (HouseOrder (order.Unlisten l) None)) old new refl goes h
-stands-given (Some (order.Pause t)) calls old new goes h =
-    stands-on calls (Marks (HouseOrder (order.Pause t) None)) old new refl goes h
-stands-given (Some (order.Resume t)) calls old new goes h =
-    stands-on calls (Marks (HouseOrder (order.Resume t) None)) old new refl goes h
-stands-given (Some (order.Finish t)) calls old new goes h =
-    stands-on calls (Marks (HouseOrder (order.Finish t) None)) old new refl goes h
-stands-given (Some (order.Close t)) calls old new goes h =
-    stands-on calls (Marks (HouseOrder (order.Close t) None)) old new refl goes h
+pub stands-given : (o : Option Order) (known : Known) (at at' : Option Ordering) (calls : List HouseCall) (old new : Held) → at ≡ None
+    → known.ordering ≡ None → ordering_of at' ≡ (known_after_order o known).ordering → GivesOrder o at' old new
+    → StandsSince at calls old → StandsSince at' (calls ++ calls_of (order_marks o)) new
+stands-given None known at at' calls old new e none is goes h =
+    since-same at at' calls old new e (no-ordering at' (is ∙ none)) goes h
+stands-given (Some (order.Listen host port)) known at at' calls old new e none is goes h =
+    awaited at' calls old new (since-none at calls old e h) goes
+stands-given (Some (order.Connect host port)) known at at' calls old new e none is goes h =
+    awaited at' calls old new (since-none at calls old e h) goes
+stands-given (Some (order.Unlisten l)) known at at' calls old new e none is goes h =
+    since-on at at' calls (Marks (HouseOrder (order.Unlisten l) None)) old new e (no-ordering at' (is ∙ none)) refl goes h
+stands-given (Some (order.Pause t)) known at at' calls old new e none is goes h =
+    since-on at at' calls (Marks (HouseOrder (order.Pause t) None)) old new e (no-ordering at' (is ∙ none)) refl goes h
+stands-given (Some (order.Resume t)) known at at' calls old new e none is goes h =
+    since-on at at' calls (Marks (HouseOrder (order.Resume t) None)) old new e (no-ordering at' (is ∙ none)) refl goes h
+stands-given (Some (order.Finish t)) known at at' calls old new e none is goes h =
+    since-on at at' calls (Marks (HouseOrder (order.Finish t) None)) old new e (no-ordering at' (is ∙ none)) refl goes h
+stands-given (Some (order.Close t)) known at at' calls old new e none is goes h =
+    since-on at at' calls (Marks (HouseOrder (order.Close t) None)) old new e (no-ordering at' (is ∙ none)) refl goes h
+
+numbered-by : (o : Option Order) (number : Option ℕ) (calls : List HouseCall) (before new : Held) → IsSome o
+    → IfSome o (λ given. GoesFurther (OrdersIn given number) before new) → StandsFor calls before
+    → StandsFor (calls ++ calls_of (ordered_marks o number)) new
+numbered-by None number calls before new is goes h = cc
+numbered-by (Some given) number calls before new is goes h =
+    stands-on calls (Marks (HouseOrder given number)) before new refl goes h
+
+goes-from : (o : Option Order) (at : Option Ordering) (number : Option ℕ) (before old new : Held)
+    → IfSome o (λ given. (b : Held) → AwaitsNumber at b old → GoesFurther (OrdersIn given number) b new)
+    → AwaitsNumber at before old → IfSome o (λ given. GoesFurther (OrdersIn given number) before new)
+goes-from None at number before old new goes awaits = tt
+goes-from (Some given) at number before old new goes awaits = goes before awaits
 
 -- the number of what was ordered
-pub stands-made : (o : Option Order) (number : Option ℕ) (calls : List HouseCall) (old new : Held) → IsSome o
-    → IfSome o (λ given. GoesFurther (OrdersIn given number) old new)
-    → StandsFor calls old → StandsFor (calls ++ calls_of (ordered_marks o number)) new
-stands-made None number calls old new is goes h = cc
-stands-made (Some given) number calls old new is goes h =
-    stands-on calls (Marks (HouseOrder given number)) old new refl goes h
+pub stands-made : (at at' : Option Ordering) (number : Option ℕ) (calls : List HouseCall) (old new : Held) → IsSome (ordering_of at)
+    → at' ≡ None → GetsNumber at number old new → StandsSince at calls old
+    → StandsSince at' (calls ++ calls_of (ordered_marks (ordering_of at) number)) new
+stands-made at at' number calls old new is none goes h =
+    none-since at' (calls ++ calls_of (ordered_marks (ordering_of at) number)) new none
+    (numbered-by (ordering_of at) number calls h.0 new is (goes-from (ordering_of at) at number h.0 old new goes h.2) h.1)
 
 -- no call
-pub lived-first : (links : List Link) (framer : FramerState) → links ≡ [] → framer ≡ new_framer framing.Control
-    → HasLived [] (held links framer Control)
-lived-first links framer none new =
-    subst (λ (ls : List Link). HasLived [] (held ls framer Control)) (sym none)
-    (subst (λ (f : FramerState). HasLived [] (held [] f Control)) (sym new) (record {
+pub lived-first : (h : Held) → h ≡ held [] (new_framer framing.Control) Control empty_desk → HasLived [] h
+lived-first h e =
+    subst (λ (x : Held). HasLived [] x) (sym e) (record {
       course = first_course;
       reached = refl;
       is = record {
@@ -90,27 +132,29 @@ lived-first links framer none new =
         past = All-nil (λ (l : Life). Stands l.dials l.acts l.relay);
         framer_is = refl;
         stage_is = refl;
+        desk_is = refl;
       };
-    }))
+    })
 
 -- ---- what is heard
 
 -- one frame more
 pub leads-on : (one : Bool) (old : Held) (now middle : Holdings) (new : Held) → one ≡ true → middle ≡ now
-    → LeadsOn old (held_of now) → GoesFurther (HearsNext one) (held_of middle) new → LeadsOn old new
+    → LeadsOn old (of_house now) → GoesFurther (HearsNext one) (of_house middle) new → LeadsOn old new
 leads-on one old now middle new is same leads goes =
-    leads-next old (held_of now) new leads
-    (subst (λ (b : Bool). GoesFurther (HearsNext b) (held_of now) new) is (from-same (HearsNext one) now middle new same goes))
+    leads-next old (of_house now) new leads
+    (subst (λ (b : Bool). GoesFurther (HearsNext b) (of_house now) new) is (from-same (HearsNext one) now middle new same goes))
 
 -- none more
 pub takes-in : (bytes : List ℕ) (old taken now middle : Holdings) (one : Bool) (new : Held)
-    → taken ≡ record old { framer = taken.framer } → taken.framer ≡ pushed bytes old.framer → LeadsOn (held_of taken) (held_of now)
-    → middle ≡ now → one ≡ false → GoesFurther (HearsNext one) (held_of middle) new
-    → GoesFurther (Follows (HearsBytes bytes)) (held_of old) new
+    → taken ≡ record old { framer = taken.framer } → taken.framer ≡ pushed bytes old.framer → LeadsOn (of_house taken) (of_house now)
+    → middle ≡ now → one ≡ false → GoesFurther (HearsNext one) (of_house middle) new
+    → GoesFurther (Follows (HearsBytes bytes)) (of_house old) new
 takes-in bytes old taken now middle one new others framer leads same none goes =
-    let first : held_of taken ≡ held old.relays.all.items (pushed bytes old.framer) old.stage =
-    ap (λ (x : Holdings). held x.relays.all.items taken.framer x.stage) others
-    ∙ ap (λ (f : FramerState). held old.relays.all.items f old.stage) framer in
-    leads-last bytes old.relays.all.items old.framer old.stage (held_of now) new
-    (subst (λ (h : Held). LeadsOn h (held_of now)) first leads)
-    (subst (λ (b : Bool). GoesFurther (HearsNext b) (held_of now) new) none (from-same (HearsNext one) now middle new same goes))
+    let desk = desk_of old.gateway old.greeted old.forwardings old.asks in
+    let first : of_house taken ≡ held old.relays.all.items (pushed bytes old.framer) old.stage desk =
+    ap (λ (x : Holdings). held_of x.relays taken.framer x.stage x.gateway x.greeted x.forwardings x.asks) others
+    ∙ ap (λ (f : FramerState). held old.relays.all.items f old.stage desk) framer in
+    leads-last bytes old.relays.all.items old.framer old.stage desk (of_house now) new
+    (subst (λ (h : Held). LeadsOn h (of_house now)) first leads)
+    (subst (λ (b : Bool). GoesFurther (HearsNext b) (of_house now) new) none (from-same (HearsNext one) now middle new same goes))

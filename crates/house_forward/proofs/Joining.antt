@@ -1,13 +1,11 @@
 -- The relay of a socket that is joined.
 use Rattle.std.proofs.Common.{◌≡◌, refl, sym, ℕ, Bool, true, false, Option, Some, None}
 use Rattle.house_relay.specs.Steps.{fresh_relay, fresh_dialing}
-use Rattle.house_relay.specs.declared.line.Line.TheVariants.{Asked, Over}
+use Rattle.house_relay.specs.declared.line.Line.TheVariants.{Over}
 use Rattle.house_relay.specs.declared.relay.Relay.{Relay}
 use Rattle.house_relay.specs.declared.relay.Socket.TheVariants as socket
 use Rattle.house_forward.specs.Links.{IsJoined, IsJoinedAt, IsDialed, IsSurplus}
 use Rattle.house_forward.specs.declared.forwarding.Forwarding.{Forwarding}
-use Rattle.house_forward.specs.declared.rules.Kind.{Kind}
-use Rattle.house_forward.specs.declared.rules.Kind.TheVariants.{Local, Remote, Dynamic}
 
 is-surplus : (n t : ℕ) (r : Relay) → r ≡ fresh_relay n Over (socket.Surplus t) → IsSurplus t r
 is-surplus n t r e = rw e refl

@@ -1,7 +1,7 @@
 -- How what the calls do of their own leads a course on: what is read of the wire, what is given, and what
 -- is heard frame by frame.
-use Rattle.std.proofs.Common.{◌≡◌, ◌∙◌, refl, sym, ap, subst, inl, inr, ◌⊎◌, Bor, ℕ, Bool, true, false, List, [], ◌∷◌, Option, Some, None}
-use Rattle.std.specs.Prelude.{◌≢◌, ◌==◌, not, find, IfSome, OnOk, IfOk, Result, Ok, Err}
+use Rattle.std.proofs.Common.{◌≡◌, ◌∙◌, refl, sym, ap, subst, inl, inr, ◌⊎◌, Bor, ℕ, Bool, true, false, List, [], ◌∷◌, drop, Option, Some, None}
+use Rattle.std.specs.Prelude.{◌≢◌, ◌==◌, not, find, IfSome, IfNone, OnOk, IfOk, Result, Ok, Err}
 use Rattle.std.specs.List.{list_any, position}
 use Rattle.std.proofs.lemmas.Bool.{false≢true}
 use Rattle.ssh_fields.specs.Fields.{take_u32}
@@ -21,20 +21,24 @@ use Rattle.proxy_frames.specs.declared.next.Next.{Next}
 use Rattle.proxy_frames.specs.declared.next.Next.TheVariants as next
 use Rattle.mux_outside.specs.House.{says_nothing}
 use Rattle.mux_outside.specs.HouseCalls.{Hears as HearsBytes}
-use Rattle.mux_outside.specs.declared.order.Order.TheVariants as order
+use Rattle.house_forward.specs.Desk.{Desk, desk_of, reply_heard, OrdersListener, MakesListener, GetsListener}
+use Rattle.house_forward.specs.Forwardings.{has_request, to_listen, is_ordered_first, served_at, first_of, replied_all, replied_refused, replied_asks, replied_done}
 use Rattle.house_forward.specs.Going.{LeavesAt, HearsOn, SaysOn, MakesAt}
-use Rattle.house_forward.specs.Known.{ordering_of}
+use Rattle.house_forward.specs.Known.{is_there}
 use Rattle.house_forward.specs.Links.{Offers, has_saying, is_awaited}
-use Rattle.house_forward.specs.Lives.{Course, Held, IsCourse, GoesFurther, LinksGo, held, Follows, with_heard, cut_off, SaysIn, OrdersIn}
+use Rattle.house_forward.specs.Lives.{Course, Held, IsCourse, GoesFurther, LinksGo, HouseGoes, DeskGoes, GetsNumber, held, held_of, Follows, with_heard, cut_off, SaysIn}
 use Rattle.house_forward.specs.Said.{framed, said_by}
-use Rattle.house_forward.specs.Lives.{HearsAt, OffersOne, HearsMessage, HearsReading, HearsFrame, HearsFrames, HearsNext, is_grant}
+use Rattle.house_forward.specs.Lives.{HearsAt, OpensFor, HearsReply, HearsMessage, HearsReading, HearsFrame, HearsFrames, HearsNext, is_grant, port_in}
+use Rattle.house_forward.specs.declared.asks.Asks.{Asks}
 use Rattle.house_forward.specs.declared.forwarding.Forwarding.{Forwarding}
+use Rattle.house_forward.specs.declared.forwardings.Forwardings.{Forwardings}
 use Rattle.house_forward.specs.declared.holdings.Stage.{Stage}
 use Rattle.house_forward.specs.declared.holdings.Stage.TheVariants.{Control, Proxy}
 use Rattle.house_forward.specs.declared.link.Link.{Link}
 use Rattle.house_forward.specs.declared.ordering.Ordering.{Ordering}
 use Rattle.house_forward.specs.declared.ordering.Ordering.TheVariants as ordering
-use Rattle.house_forward.proofs.Courses.{hears, offers, says, makes}
+use Rattle.house_forward.specs.declared.relays.Relays.{Relays}
+use Rattle.house_forward.proofs.Courses.{of-same, hears, offers, says, makes, desk-goes, desk-becomes}
 
 -- what goes on in one way does so in another that it gives
 pub further : (P Q : Course → Course → Type 0) (old new : Held) → ((a b : Course) → P a b → Q a b)
@@ -45,52 +49,111 @@ further P Q old new f goes most course is =
 
 pub links-further : (P Q : Course → Course → Type 0) (old new : List Link) → ((a b : Course) → P a b → Q a b)
     → LinksGo P old new → LinksGo Q old new
-links-further P Q old new f goes framer stage =
-    further P Q (held old framer stage) (held new framer stage) f (goes framer stage)
+links-further P Q old new f goes framer stage desk =
+    further P Q (held old framer stage desk) (held new framer stage desk) f (goes framer stage desk)
 
 -- what changes nothing
 pub stays : (P : Course → Course → Type 0) (h : Held) → ((a : Course) → P a a) → GoesFurther P h h
 stays P h same most course is = (course, same course, is)
 
 pub links-stay : (P : Course → Course → Type 0) (links : List Link) → ((a : Course) → P a a) → LinksGo P links links
-links-stay P links same framer stage = stays P (held links framer stage) same
+links-stay P links same framer stage desk = stays P (held links framer stage desk) same
+
+-- where the links alone go on
+pub links-house : (P : Course → Course → Type 0) (relays relays' : Relays) (fs : Forwardings) (asks : Asks)
+    → LinksGo P relays.all.items relays'.all.items → HouseGoes P relays fs asks relays' fs asks
+links-house P relays relays' fs asks goes framer stage gateway greeted = goes framer stage (desk_of gateway greeted fs asks)
 
 -- ---- a payload
 
 -- what is no message
-pub no-message : (reading : Result Said Bad) (bad : Bad) (links : List Link) → reading ≡ Err bad
-    → LinksGo (HearsReading reading) links links
-no-message reading bad links e =
-    subst (λ (r : Result Said Bad). LinksGo (HearsReading r) links links) (sym e)
-    (links-stay (HearsReading (Err bad)) links (λ a. refl))
+pub no-message : (reading : Result Said Bad) (bad : Bad) (relays : Relays) (fs : Forwardings) (asks : Asks) → reading ≡ Err bad
+    → HouseGoes (HearsReading reading) relays fs asks relays fs asks
+no-message reading bad relays fs asks e =
+    links-house (HearsReading reading) relays relays fs asks
+    (subst (λ (r : Result Said Bad). LinksGo (HearsReading r) relays.all.items relays.all.items) (sym e)
+    (links-stay (HearsReading (Err bad)) relays.all.items (λ a. refl)))
 
 -- a message
-pub a-message : (reading : Result Said Bad) (m : Message) (old new : List Link) → reading ≡ Ok (message_of m)
-    → LinksGo (HearsMessage m) old new → LinksGo (HearsReading reading) old new
-a-message reading m old new e goes =
-    subst (λ (r : Result Said Bad). LinksGo (HearsReading r) old new) (sym e)
-    (links-further (HearsMessage m) (HearsReading (Ok (message_of m))) old new (λ a b h. (m, refl, h)) goes)
+pub a-message : (reading : Result Said Bad) (m : Message) (relays : Relays) (fs : Forwardings) (asks : Asks)
+    (relays' : Relays) (fs' : Forwardings) (asks' : Asks) → reading ≡ Ok (message_of m)
+    → HouseGoes (HearsMessage m) relays fs asks relays' fs' asks' → HouseGoes (HearsReading reading) relays fs asks relays' fs' asks'
+a-message reading m relays fs asks relays' fs' asks' e goes framer stage gateway greeted =
+    let old = held_of relays framer stage gateway greeted fs asks in
+    let new = held_of relays' framer stage gateway greeted fs' asks' in
+    subst (λ (r : Result Said Bad). GoesFurther (HearsReading r) old new) (sym e)
+    (further (HearsMessage m) (HearsReading (Ok (message_of m))) old new (λ a b h. (m, refl, h)) (goes framer stage gateway greeted))
 
 -- an OPEN for a forwarding
-an-open : (o : Option Forwarding) (remote window maximum : ℕ) (old new : List Link) → (o ≡ None → new ≡ old)
+an-open : (address : List ℕ) (port remote window maximum : ℕ) (o : Option Forwarding) (old new : List Link) (framer : FramerState)
+    (stage : Stage) (desk : Desk) → o ≡ find (served_at address port) desk.all → (o ≡ None → new ≡ old)
     → IfSome o (λ f. Offers f remote window maximum old new)
-    → LinksGo (λ (a : Course) (b : Course). (b ≡ a) ⊎ OffersOne remote window maximum a b) old new
-an-open None remote window maximum old new none some =
-    subst (λ (ls : List Link). LinksGo (λ (a : Course) (b : Course). (b ≡ a) ⊎ OffersOne remote window maximum a b) old ls) (sym (none refl))
-    (links-stay (λ (a : Course) (b : Course). (b ≡ a) ⊎ OffersOne remote window maximum a b) old (λ a. inl refl))
-an-open (Some f) remote window maximum old new none some =
-    links-further (OffersOne remote window maximum) (λ (a : Course) (b : Course). (b ≡ a) ⊎ OffersOne remote window maximum a b) old new
-    (λ a b h. inr h) (offers f remote window maximum old new some)
+    → GoesFurther (λ (a : Course) (b : Course). OpensFor (find (served_at address port) a.desk.all) remote window maximum a b)
+    (held old framer stage desk) (held new framer stage desk)
+an-open address port remote window maximum None old new framer stage desk is none some = λ most course its.
+    let same = ap (λ (d : Desk). find (served_at address port) d.all) its.desk_is ∙ sym is in (
+      course,
+      subst (λ (x : Option Forwarding). OpensFor x remote window maximum course course) (sym same) refl,
+      of-same most course framer stage desk old new (none refl) its,
+    )
+an-open address port remote window maximum (Some f) old new framer stage desk is none some = λ most course its.
+    let same = ap (λ (d : Desk). find (served_at address port) d.all) its.desk_is ∙ sym is in
+    let n = offers f remote window maximum old new some framer stage desk most course its in (
+      n.0,
+      subst (λ (x : Option Forwarding). OpensFor x remote window maximum course n.0) (sym same) n.1,
+      n.2,
+    )
 
 pub a-forwarded : (reading : Result Said Bad) (m : Message) (kind rest address : Bor (List ℕ)) (remote window maximum port : ℕ) (what : Opens)
-    (o : Option Forwarding) (old new : List Link) → reading ≡ Ok (message_of m) → m ≡ message.Open kind remote window maximum rest what
-    → what ≡ opens.Forwarded address port → (o ≡ None → new ≡ old) → IfSome o (λ f. Offers f remote window maximum old new)
-    → LinksGo (HearsReading reading) old new
-a-forwarded reading m kind rest address remote window maximum port what o old new e is forwarded none some =
-    a-message reading m old new e
-    (subst (λ (x : Message). LinksGo (HearsMessage x) old new) (sym is)
-    (subst (λ (w : Opens). LinksGo (HearsMessage (message.Open kind remote window maximum rest w)) old new) (sym forwarded)
-    (an-open o remote window maximum old new none some)))
+    (o : Option Forwarding) (relays relays' : Relays) (fs : Forwardings) (asks : Asks) → reading ≡ Ok (message_of m)
+    → m ≡ message.Open kind remote window maximum rest what → what ≡ opens.Forwarded address port
+    → o ≡ find (served_at address.now port) fs.all.items → (o ≡ None → relays'.all.items ≡ relays.all.items)
+    → IfSome o (λ f. Offers f remote window maximum relays.all.items relays'.all.items)
+    → HouseGoes (HearsReading reading) relays fs asks relays' fs asks
+a-forwarded reading m kind rest address remote window maximum port what o relays relays' fs asks e is forwarded found none some =
+    a-message reading m relays fs asks relays' fs asks e
+    (subst (λ (x : Message). HouseGoes (HearsMessage x) relays fs asks relays' fs asks) (sym is)
+    (subst (λ (w : Opens). HouseGoes (HearsMessage (message.Open kind remote window maximum rest w)) relays fs asks relays' fs asks) (sym forwarded)
+    (λ framer stage gateway greeted.
+    an-open address.now port remote window maximum o relays.all.items relays'.all.items framer stage (desk_of gateway greeted fs asks) found none some)))
+
+-- what a reply of the server leaves
+pub record Replied (success : Bool) (port : Option ℕ) (fs : Forwardings) (asks : Asks) (fs' : Forwardings) (asks' : Asks) : Type 0 where
+  pub all : fs'.all.items ≡ replied_all success port (first_of fs.requests.items) fs.all.items
+  pub serials : fs'.serials ≡ fs.serials
+  pub refused : fs'.refused ≡ replied_refused success (first_of fs.requests.items) fs.all.items fs.refused
+  pub requests : fs'.requests.items ≡ drop 1 fs.requests.items
+  pub waiting : asks'.waiting.items ≡ replied_asks success port (first_of fs.requests.items) fs.all.items asks.done asks.waiting.items
+  pub done : asks'.done ≡ replied_done success port (first_of fs.requests.items) fs.all.items asks.done
+
+replies : (success : Bool) (port : Option ℕ) (relays : Relays) (fs : Forwardings) (asks : Asks) (fs' : Forwardings) (asks' : Asks)
+    → Replied success port fs asks fs' asks' → HouseGoes (HearsReply success port) relays fs asks relays fs' asks'
+replies success port relays fs asks fs' asks' r framer stage gateway greeted =
+    desk-becomes (reply_heard success port) (held_of relays framer stage gateway greeted fs asks)
+    (held_of relays framer stage gateway greeted fs' asks')
+    (rw (r.all, r.serials, r.refused, r.requests, r.waiting, r.done) refl)
+
+-- the port that a success carries
+pub port-read : (o : Option ℕ) (bytes rest : List ℕ) → IfSome o (λ n. take_u32 bytes ≡ Some (n, rest))
+    → IfNone o (take_u32 bytes ≡ None) → o ≡ port_in (take_u32 bytes)
+port-read None bytes rest some none = sym (ap port_in none)
+port-read (Some n) bytes rest some none = sym (ap port_in some)
+
+pub a-success : (reading : Result Said Bad) (m : Message) (rest : Bor (List ℕ)) (port : Option ℕ) (relays : Relays) (fs : Forwardings) (asks : Asks)
+    (fs' : Forwardings) (asks' : Asks) → reading ≡ Ok (message_of m) → m ≡ message.RequestSuccess rest → port ≡ port_in (take_u32 rest.now)
+    → Replied true port fs asks fs' asks' → HouseGoes (HearsReading reading) relays fs asks relays fs' asks'
+a-success reading m rest port relays fs asks fs' asks' e is its r =
+    a-message reading m relays fs asks relays fs' asks' e
+    (subst (λ (x : Message). HouseGoes (HearsMessage x) relays fs asks relays fs' asks') (sym is)
+    (subst (λ (o : Option ℕ). HouseGoes (HearsReply true o) relays fs asks relays fs' asks') its (replies true port relays fs asks fs' asks' r)))
+
+pub a-failure : (reading : Result Said Bad) (m : Message) (relays : Relays) (fs : Forwardings) (asks : Asks)
+    (fs' : Forwardings) (asks' : Asks) → reading ≡ Ok (message_of m) → m ≡ message.RequestFailure
+    → Replied false None fs asks fs' asks' → HouseGoes (HearsReading reading) relays fs asks relays fs' asks'
+a-failure reading m relays fs asks fs' asks' e is r =
+    a-message reading m relays fs asks relays fs' asks' e
+    (subst (λ (x : Message). HouseGoes (HearsMessage x) relays fs asks relays fs' asks') (sym is)
+    (replies false None relays fs asks fs' asks' r))
 
 -- the channel of a message, if it is in one
 abbrev pub channel_of : Message → Option ℕ
@@ -167,18 +230,21 @@ in-channel (message.Failure recipient) n e a b h =
     subst (λ (k : ℕ). HearsAt k (message.Failure recipient) a b) (its n recipient e) h
 
 -- a message in a channel
-pub a-channel-message : (reading : Result Said Bad) (m : Message) (n : ℕ) (old new : List Link) → reading ≡ Ok (message_of m)
-    → channel_of m ≡ Some n → LeavesAt (position (λ l. l.relay.number == n) old) (HearsOn m) old new
-    → LinksGo (HearsReading reading) old new
-a-channel-message reading m n old new e in-it goes =
-    a-message reading m old new e
-    (links-further (HearsAt n m) (HearsMessage m) old new (in-channel m n in-it) (hears n m old new goes))
+pub a-channel-message : (reading : Result Said Bad) (m : Message) (n : ℕ) (relays relays' : Relays) (fs : Forwardings) (asks : Asks)
+    → reading ≡ Ok (message_of m) → channel_of m ≡ Some n
+    → LeavesAt (position (λ l. l.relay.number == n) relays.all.items) (HearsOn m) relays.all.items relays'.all.items
+    → HouseGoes (HearsReading reading) relays fs asks relays' fs asks
+a-channel-message reading m n relays relays' fs asks e in-it goes =
+    a-message reading m relays fs asks relays' fs asks e
+    (links-house (HearsMessage m) relays relays' fs asks
+    (links-further (HearsAt n m) (HearsMessage m) relays.all.items relays'.all.items (in-channel m n in-it)
+    (hears n m relays.all.items relays'.all.items goes)))
 
 -- ---- a frame
 
-pub grants : (content : List ℕ) (links : List Link) (framer : FramerState) → is_grant (take_u32 content) ≡ true
-    → GoesFurther (HearsFrame Control content) (held links framer Control) (held links (switched framing.Proxy framer) Proxy)
-grants content links framer e most course is = (
+pub grants : (content : List ℕ) (links : List Link) (framer : FramerState) (desk : Desk) → is_grant (take_u32 content) ≡ true
+    → GoesFurther (HearsFrame Control content) (held links framer Control desk) (held links (switched framing.Proxy framer) Proxy desk)
+grants content links framer desk e most course is = (
   record course { stage = Proxy; framer = switched framing.Proxy course.framer },
   rw e refl,
   record {
@@ -186,17 +252,18 @@ grants content links framer e most course is = (
     past = is.past;
     framer_is = ap (switched framing.Proxy) is.framer_is;
     stage_is = refl;
+    desk_is = is.desk_is;
   },
 )
 
-pub grants-none : (content : List ℕ) (links : List Link) (framer : FramerState) → is_grant (take_u32 content) ≡ false
-    → GoesFurther (HearsFrame Control content) (held links framer Control) (held links framer Control)
-grants-none content links framer e most course is = (course, rw e refl, is)
+pub grants-none : (content : List ℕ) (links : List Link) (framer : FramerState) (desk : Desk) → is_grant (take_u32 content) ≡ false
+    → GoesFurther (HearsFrame Control content) (held links framer Control desk) (held links framer Control desk)
+grants-none content links framer desk e most course is = (course, rw e refl, is)
 
 -- where the next is no frame
-pub hears-none : (links : List Link) (framer : FramerState) (stage : Stage) → answer_to (front_of framer) ≢ next.Frame
-    → GoesFurther (HearsNext false) (held links framer stage) (held links (after_front (front_of framer) framer) stage)
-hears-none links framer stage none most course is = (
+pub hears-none : (links : List Link) (framer : FramerState) (stage : Stage) (desk : Desk) → answer_to (front_of framer) ≢ next.Frame
+    → GoesFurther (HearsNext false) (held links framer stage desk) (held links (after_front (front_of framer) framer) stage desk)
+hears-none links framer stage desk none most course is = (
   cut_off (front_of course.framer) course,
   (subst (λ (f : FramerState). answer_to (front_of f) ≢ next.Frame) (sym is.framer_is) none, refl),
   record {
@@ -204,20 +271,22 @@ hears-none links framer stage none most course is = (
     past = is.past;
     framer_is = ap (λ (f : FramerState). after_front (front_of f) f) is.framer_is;
     stage_is = is.stage_is;
+    desk_is = is.desk_is;
   },
 )
 
 -- where it is one
-hears-it : (content rest : List ℕ) (old new : List Link) (framer after : FramerState) (stage later : Stage)
+hears-it : (content rest : List ℕ) (links : List Link) (framer : FramerState) (stage : Stage) (desk : Desk) (new : Held)
     → front_of framer ≡ Frame content rest
-    → GoesFurther (HearsFrame stage content) (held old (after_front (Frame content rest) framer) stage) (held new after later)
-    → GoesFurther (HearsNext true) (held old framer stage) (held new after later)
-hears-it content rest old new framer after stage later front goes most course is =
+    → GoesFurther (HearsFrame stage content) (held links (after_front (Frame content rest) framer) stage desk) new
+    → GoesFurther (HearsNext true) (held links framer stage desk) new
+hears-it content rest links framer stage desk new front goes most course is =
     let n = goes most (cut_off (Frame content rest) course) (record {
       lives = is.lives;
       past = is.past;
       framer_is = ap (after_front (Frame content rest)) is.framer_is;
       stage_is = is.stage_is;
+      desk_is = is.desk_is;
     }) in (
       n.0,
       (
@@ -229,44 +298,48 @@ hears-it content rest old new framer after stage later front goes most course is
       n.2,
     )
 
-pub hears-front : (front : Front) (old new : List Link) (framer after : FramerState) (stage later : Stage)
+pub hears-front : (front : Front) (links : List Link) (framer : FramerState) (stage : Stage) (desk : Desk) (new : Held)
     → front_of framer ≡ front → answer_to front ≡ next.Frame
     → IfSome (after_front front framer).current (λ content. GoesFurther (HearsFrame stage content)
-    (held old (after_front front framer) stage) (held new after later))
-    → GoesFurther (HearsNext true) (held old framer stage) (held new after later)
-hears-front (Frame content rest) old new framer after stage later front is goes =
-    hears-it content rest old new framer after stage later front goes
-hears-front More old new framer after stage later front is goes = cc
-hears-front (Faulty fault) old new framer after stage later front is goes = cc
+    (held links (after_front front framer) stage desk) new)
+    → GoesFurther (HearsNext true) (held links framer stage desk) new
+hears-front (Frame content rest) links framer stage desk new front is goes =
+    hears-it content rest links framer stage desk new front goes
+hears-front More links framer stage desk new front is goes = cc
+hears-front (Faulty fault) links framer stage desk new front is goes = cc
 
 -- ---- as the frame is current
 
 -- one that grants the proxy
-pub grants-frame : (current : Option (List ℕ)) (content : List ℕ) (links : List Link) (framer after : FramerState) (stage : Stage)
+pub grants-frame : (current : Option (List ℕ)) (content : List ℕ) (links : List Link) (framer after : FramerState) (stage : Stage) (desk : Desk)
     → stage ≡ Control → current ≡ Some content → is_grant (take_u32 content) ≡ true → after ≡ switched framing.Proxy framer
-    → IfSome current (λ x. GoesFurther (HearsFrame stage x) (held links framer stage) (held links after Proxy))
-grants-frame current content links framer after stage control is grant same =
-    subst (λ (o : Option (List ℕ)). IfSome o (λ x. GoesFurther (HearsFrame stage x) (held links framer stage) (held links after Proxy))) (sym is)
-    (subst (λ (s : Stage). GoesFurther (HearsFrame s content) (held links framer s) (held links after Proxy)) (sym control)
-    (subst (λ (f : FramerState). GoesFurther (HearsFrame Control content) (held links framer Control) (held links f Proxy)) (sym same)
-    (grants content links framer grant)))
+    → IfSome current (λ x. GoesFurther (HearsFrame stage x) (held links framer stage desk) (held links after Proxy desk))
+grants-frame current content links framer after stage desk control is grant same =
+    subst (λ (o : Option (List ℕ)). IfSome o (λ x. GoesFurther (HearsFrame stage x) (held links framer stage desk) (held links after Proxy desk))) (sym is)
+    (subst (λ (s : Stage). GoesFurther (HearsFrame s content) (held links framer s desk) (held links after Proxy desk)) (sym control)
+    (subst (λ (f : FramerState). GoesFurther (HearsFrame Control content) (held links framer Control desk) (held links f Proxy desk)) (sym same)
+    (grants content links framer desk grant)))
 
 -- a payload
-pub proxy-frame : (current : Option (List ℕ)) (content : List ℕ) (old new : List Link) (framer : FramerState) (stage : Stage)
-    → stage ≡ Proxy → current ≡ Some content → LinksGo (HearsReading (reading content)) old new
-    → IfSome current (λ x. GoesFurther (HearsFrame stage x) (held old framer stage) (held new framer stage))
-proxy-frame current content old new framer stage proxy is goes =
-    subst (λ (o : Option (List ℕ)). IfSome o (λ x. GoesFurther (HearsFrame stage x) (held old framer stage) (held new framer stage))) (sym is)
-    (subst (λ (s : Stage). GoesFurther (HearsFrame s content) (held old framer s) (held new framer s)) (sym proxy) (goes framer Proxy))
+pub proxy-frame : (current : Option (List ℕ)) (content : List ℕ) (relays : Relays) (fs : Forwardings) (asks : Asks)
+    (relays' : Relays) (fs' : Forwardings) (asks' : Asks) (framer : FramerState) (stage : Stage) (gateway greeted : Bool)
+    → stage ≡ Proxy → current ≡ Some content → HouseGoes (HearsReading (reading content)) relays fs asks relays' fs' asks'
+    → IfSome current (λ x. GoesFurther (HearsFrame stage x) (held_of relays framer stage gateway greeted fs asks)
+    (held_of relays' framer stage gateway greeted fs' asks'))
+proxy-frame current content relays fs asks relays' fs' asks' framer stage gateway greeted proxy is goes =
+    subst (λ (o : Option (List ℕ)). IfSome o (λ x. GoesFurther (HearsFrame stage x) (held_of relays framer stage gateway greeted fs asks)
+    (held_of relays' framer stage gateway greeted fs' asks'))) (sym is)
+    (subst (λ (s : Stage). GoesFurther (HearsFrame s content) (held_of relays framer s gateway greeted fs asks)
+    (held_of relays' framer s gateway greeted fs' asks')) (sym proxy) (goes framer Proxy gateway greeted))
 
 -- as it is cut
-pub next-hears : (answer : Next) (old new : List Link) (framer cut after : FramerState) (stage later : Stage)
+pub next-hears : (answer : Next) (links : List Link) (framer cut : FramerState) (stage : Stage) (desk : Desk) (new : Held)
     → answer ≡ answer_to (front_of framer) → answer ≡ next.Frame → cut ≡ after_front (front_of framer) framer
-    → IfSome cut.current (λ content. GoesFurther (HearsFrame stage content) (held old cut stage) (held new after later))
-    → GoesFurther (HearsNext true) (held old framer stage) (held new after later)
-next-hears answer old new framer cut after stage later is one same goes =
-    hears-front (front_of framer) old new framer after stage later refl (sym is ∙ one)
-    (subst (λ (f : FramerState). IfSome f.current (λ content. GoesFurther (HearsFrame stage content) (held old f stage) (held new after later)))
+    → IfSome cut.current (λ content. GoesFurther (HearsFrame stage content) (held links cut stage desk) new)
+    → GoesFurther (HearsNext true) (held links framer stage desk) new
+next-hears answer links framer cut stage desk new is one same goes =
+    hears-front (front_of framer) links framer stage desk new refl (sym is ∙ one)
+    (subst (λ (f : FramerState). IfSome f.current (λ content. GoesFurther (HearsFrame stage content) (held links f stage desk) new))
     same goes)
 
 -- ---- frame by frame
@@ -287,44 +360,51 @@ leads-next old now new leads goes most course is =
     let n = goes most m.0 m.1 in
     (n.0, n.2, λ contents last more. m.2 (n.1.0 ∷ contents) last (n.1.1, n.1.2, (n.0, n.1.3, more)))
 
-pub leads-last : (bytes : List ℕ) (links : List Link) (framer : FramerState) (stage : Stage) (now new : Held)
-    → LeadsOn (held links (pushed bytes framer) stage) now → GoesFurther (HearsNext false) now new
-    → GoesFurther (Follows (HearsBytes bytes)) (held links framer stage) new
-leads-last bytes links framer stage now new leads goes most course is =
+pub leads-last : (bytes : List ℕ) (links : List Link) (framer : FramerState) (stage : Stage) (desk : Desk) (now new : Held)
+    → LeadsOn (held links (pushed bytes framer) stage desk) now → GoesFurther (HearsNext false) now new
+    → GoesFurther (Follows (HearsBytes bytes)) (held links framer stage desk) new
+leads-last bytes links framer stage desk now new leads goes most course is =
     let m = leads most (with_heard bytes course) (record {
       lives = is.lives;
       past = is.past;
       framer_is = ap (pushed bytes) is.framer_is;
       stage_is = is.stage_is;
+      desk_is = is.desk_is;
     }) in
     let n = goes most m.0 m.1 in
     (n.0, m.2 [] n.0 n.1, n.2)
 
 -- ---- what is said
 
-one-is : (b : Bool) → false ≡ not b → b ≡ true
+pub one-is : (b : Bool) → false ≡ not b → b ≡ true
 one-is true e = refl
 one-is false e = cc
 
--- a relay, where one has something to say
-pub says-one : {E : Type 0} (o : Result Bool E) (bytes : List ℕ) (old new : List Link) (framer : FramerState) (stage : Stage)
+-- a relay, where the house greeted and has no request, and one has something to say
+pub says-one : {E : Type 0} (o : Result Bool E) (bytes : List ℕ) (old new : List Link) (framer : FramerState) (stage : Stage) (desk : Desk)
+    → desk.greeted ≡ true → find has_request desk.all ≡ None
     → OnOk o (says_nothing o ≡ not (list_any has_saying old))
     → OnOk o (IfSome (find has_saying old) (λ l. bytes ≡ framed (said_by l.relay)))
     → OnOk o (LeavesAt (position has_saying old) SaysOn old new)
-    → IfOk o (λ said. said ≡ true → GoesFurther (SaysIn bytes) (held old framer stage) (held new framer stage))
-says-one (Ok true) bytes old new framer stage is spelled goes =
-    λ yes. says bytes old new (one-is (list_any has_saying old) is) spelled goes framer stage
-says-one (Ok false) bytes old new framer stage is spelled goes = λ yes. absurd (false≢true yes)
-says-one (Err e) bytes old new framer stage is spelled goes = tt
+    → IfOk o (λ said. said ≡ true → GoesFurther (SaysIn bytes) (held old framer stage desk) (held new framer stage desk))
+says-one (Ok true) bytes old new framer stage desk greeted none is spelled goes =
+    λ yes. says bytes old new framer stage desk greeted none (one-is (list_any has_saying old) is) spelled goes
+says-one (Ok false) bytes old new framer stage desk greeted none is spelled goes = λ yes. absurd (false≢true yes)
+says-one (Err e) bytes old new framer stage desk greeted none is spelled goes = tt
 
 -- ---- what a call leaves
 
 -- where it changes the relays alone
-pub relays-alone : (P : Course → Course → Type 0) (old : Held) (links : List Link) (f g : FramerState) (s t : Stage) → g ≡ f → t ≡ s
-    → GoesFurther P old (held links f s) → GoesFurther P old (held links g t)
-relays-alone P old links f g s t e d goes =
-    subst (λ (x : FramerState). GoesFurther P old (held links x t)) (sym e)
-    (subst (λ (x : Stage). GoesFurther P old (held links f x)) (sym d) goes)
+pub relays-alone : (P : Course → Course → Type 0) (old : Held) (links : List Link) (f g : FramerState) (s t : Stage) (d e : Desk)
+    → g ≡ f → t ≡ s → e ≡ d → GoesFurther P old (held links f s d) → GoesFurther P old (held links g t e)
+relays-alone P old links f g s t d e framer stage desk goes =
+    subst (λ (x : FramerState). GoesFurther P old (held links x t e)) (sym framer)
+    (subst (λ (x : Stage). GoesFurther P old (held links f x e)) (sym stage)
+    (subst (λ (x : Desk). GoesFurther P old (held links f s x)) (sym desk) goes))
+
+pub same-desk : (gateway gateway' greeted greeted' : Bool) (fs fs' : Forwardings) (asks asks' : Asks) → gateway' ≡ gateway → greeted' ≡ greeted
+    → fs' ≡ fs → asks' ≡ asks → desk_of gateway' greeted' fs' asks' ≡ desk_of gateway greeted fs asks
+same-desk gateway gateway' greeted greeted' fs fs' asks asks' e f g h = rw (e, f, g, h) refl
 
 -- ---- what is made
 
@@ -339,16 +419,49 @@ listens None = false
 listens (Some (ordering.Listen host port)) = true
 listens (Some (ordering.Connect host port)) = false
 
-pub made-so : (o : Option Ordering) (number : Option ℕ) (old new : List Link) (framer : FramerState) (stage : Stage)
-    → connects o ≡ true → MakesAt (position is_awaited old) number old new
-    → IfSome (ordering_of o) (λ given. GoesFurther (OrdersIn given number) (held old framer stage) (held new framer stage))
-made-so None number old new framer stage is goes = cc
-made-so (Some (ordering.Listen host port)) number old new framer stage is goes = cc
-made-so (Some (ordering.Connect host port)) number old new framer stage is goes = makes number old new goes framer stage
+connect-of : (o : Option Ordering) → connects o ≡ true → (host : List ℕ) × (port : ℕ) × (o ≡ Some (ordering.Connect host port))
+connect-of None is = cc
+connect-of (Some (ordering.Listen host port)) is = cc
+connect-of (Some (ordering.Connect host port)) is = (host, port, refl)
 
-pub listened-so : (o : Option Ordering) (number : Option ℕ) (h : Held) → listens o ≡ true
-    → IfSome (ordering_of o) (λ given. GoesFurther (OrdersIn given number) h h)
-listened-so None number h is = cc
-listened-so (Some (ordering.Listen host port)) number h is =
-    stays (OrdersIn (order.Listen host port) number) h (λ a. refl)
-listened-so (Some (ordering.Connect host port)) number h is = cc
+listen-of : (o : Option Ordering) → listens o ≡ true → (host : List ℕ) × (port : ℕ) × (o ≡ Some (ordering.Listen host port))
+listen-of None is = cc
+listen-of (Some (ordering.Listen host port)) is = (host, port, refl)
+listen-of (Some (ordering.Connect host port)) is = cc
+
+made-number : (host : List ℕ) (port : ℕ) (number : Option ℕ) (old new : Held) → new ≡ record old { links = new.links }
+    → MakesAt (position is_awaited old.links) number old.links new.links
+    → GetsNumber (Some (ordering.Connect host port)) number old new
+made-number host port number old new others goes = λ before awaits. makes host port number before old new awaits others goes
+
+pub made-so : (o : Option Ordering) (number : Option ℕ) (old new : Held) → connects o ≡ true → new ≡ record old { links = new.links }
+    → MakesAt (position is_awaited old.links) number old.links new.links → GetsNumber o number old new
+made-so o number old new is others goes =
+    let c = connect-of o is in
+    subst (λ (x : Option Ordering). GetsNumber x number old new) (sym c.2) (made-number c.0 c.1 number old new others goes)
+
+-- what was ordered of the desk, and what came of it
+both-desks : (host : List ℕ) (port : ℕ) (number : Option ℕ) (before old new : Held) → DeskGoes (OrdersListener host port) before old
+    → DeskGoes (MakesListener number) old new → DeskGoes (GetsListener host port number) before new
+both-desks host port number before old new a b = (
+  b.0 ∙ ap (λ (h : Held). record h { desk = new.desk }) a.0,
+  record { between = old.desk; orders = a.1; makes = b.1 },
+)
+
+listened-number : (host : List ℕ) (port : ℕ) (number : Option ℕ) (old new : Held) → DeskGoes (MakesListener number) old new
+    → GetsNumber (Some (ordering.Listen host port)) number old new
+listened-number host port number old new goes = λ before awaits.
+    desk-goes (GetsListener host port number) before new (both-desks host port number before old new awaits goes)
+
+pub listened-so : (o : Option Ordering) (number : Option ℕ) (old new : Held) → listens o ≡ true
+    → DeskGoes (MakesListener number) old new → GetsNumber o number old new
+listened-so o number old new is goes =
+    let l = listen-of o is in
+    subst (λ (x : Option Ordering). GetsNumber x number old new) (sym l.2) (listened-number l.0 l.1 number old new goes)
+
+-- that is there
+pub listened-first : (o : Option Ordering) (fs : List Forwarding) (links : List Link) → listens o ≡ true → is_there o fs links ≡ true
+    → is_ordered_first (find to_listen fs) ≡ true
+listened-first None fs links is there = cc
+listened-first (Some (ordering.Listen host port)) fs links is there = there
+listened-first (Some (ordering.Connect host port)) fs links is there = cc

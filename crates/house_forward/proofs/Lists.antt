@@ -1,11 +1,10 @@
 -- Lists that change at one place, and the first place that passes a test.
-use Rattle.std.proofs.Common.{◌≡◌, ◌∙◌, refl, sym, ap, ℕ, zero, suc, ◌+◌, ◌<◌, ◌≤◌, Bool, true, false, cond, List, [], ◌∷◌, ◌++◌, length, get_or, set, take, drop, map, Option, Some, None, arith, inl, inr, ◌⊎◌}
-use Rattle.std.specs.Prelude.{◌||◌, nat_lt, is_some, IfSome}
-use Rattle.std.specs.List.{list_any, filter_map, cons_option, position, position_or_len, remove, Any, find}
-use Rattle.std.proofs.lemmas.Bool.{ltb-false, or_left, or_right, both_ways, false≢true, cases_Bool}
+use Rattle.std.proofs.Common.{◌≡◌, refl, ap, ℕ, zero, suc, ◌<◌, ◌≤◌, Bool, true, false, cond, List, [], ◌∷◌, length, get_or, set, map, Option, Some, None, arith, inl, inr}
+use Rattle.std.specs.Prelude.{◌||◌}
+use Rattle.std.specs.List.{list_any, filter_map, cons_option, position, position_or_len, remove, find}
+use Rattle.std.proofs.lemmas.Bool.{ltb-false, or_left, or_right, both_ways, cases_Bool}
 use Rattle.std.proofs.lemmas.List.Folds.{Any-from_list_any}
 use Rattle.std.proofs.lemmas.List.Sums.{fails_before_first}
-use Rattle.std.proofs.lemmas.List.Quantifiers.{position-Some}
 
 -- a test of what a list is mapped to
 pub any-map : {X Y : Type 0} (p : Y → Bool) (f : X → Y) (xs : List X)

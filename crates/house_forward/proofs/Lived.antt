@@ -80,8 +80,8 @@ rest-in most (life ∷ lives) (link ∷ links) are saying order =
     (rest-in most lives links are.1 says.1 orders.1)
 
 pub each-rests : EachRests
-each-rests calls h lived greeted forwardings waiting saying order =
-    let says = and_parts _ (not (list_any has_saying h.links)) (and_parts greeted _ saying).1 in
+each-rests calls h lived saying order =
+    let says = and_parts _ (not (list_any has_saying h.links)) (and_parts h.desk.greeted _ saying).1 in
     let orders = and_parts (not (list_any has_order h.links)) _ order in
     rest-in _ lived.course.lives h.links lived.is.lives (not-true (list_any has_saying h.links) says.1)
     (not-true (list_any has_order h.links) orders.0)

@@ -15,8 +15,8 @@ use Rattle.house_relay.specs.declared.relay.Socket.{Socket}
 use Rattle.house_relay.specs.declared.relay.Socket.TheVariants as socket
 use Rattle.house_forward.specs.Going.{Gets, TakesOf, Says, SaysOn, Hears, HearsOn, act_of_saying}
 use Rattle.house_forward.specs.Heard.{act_heard}
-use Rattle.house_forward.specs.Links.{own_of, numbered, is_number, has_number, is_of, is_without, is_left, awaits, offers, made_stream, relay_after, stream_after, link_after}
-use Rattle.house_forward.specs.Lives.{Life, GoesBy, IsLife, IsSocketOf, is_stream, has_stream, own_after, own_made, act_of, stepped, made_life}
+use Rattle.house_forward.specs.Links.{own_of, numbered, is_number, has_number, is_of, is_without, is_left, is_offered, is_awaited, awaits, offers, made_stream, relay_after, stream_after, link_after}
+use Rattle.house_forward.specs.Lives.{Life, GoesBy, IsLife, IsSocketOf, IsEndOf, is_stream, has_stream, own_after, own_made, act_of, stepped, made_life, is_unmade, unmade}
 use Rattle.house_forward.specs.declared.link.Link.{Link}
 use Rattle.house_forward.specs.declared.link.Step.{Step}
 use Rattle.house_forward.specs.declared.link.Step.TheVariants.{Pause, Finish, End, Close, Writable, Failed as Fail}
@@ -96,12 +96,14 @@ onward so act least most life link r is goes on socket owed few = record {
     relay = subst (λ (z : Relay). so z r) (sym is.relay_is) goes;
     own = refl;
     dials = refl;
+    to = refl;
     acts = ap (λ (z : Relay). act z ∷ life.acts) (sym is.relay_is);
   };
   is = record {
     relay_is = refl;
     own_is = is.own_is;
     socket = socket;
+    end = is.end;
     stands = on life.dials life.acts is.stands;
     owed = owed;
     few = few;
@@ -224,6 +226,21 @@ socket-after t step Awaited r n h = cc
 socket-after t step (Made own) r n h = socket-made step own r h
 socket-after t step Gone r n h = cc
 
+end-made : (step : Step) (own : OwnStream) (to : Option (List ℕ × ℕ)) → IsEndOf (stream_after step (Made own)) to
+end-made (Pause b) own to = tt
+end-made Finish own to = tt
+end-made End own to = tt
+end-made Close own to = tt
+end-made Writable own to = tt
+end-made Fail own to = tt
+
+end-after : (t : ℕ) (step : Step) (s : Stream) (to : Option (List ℕ × ℕ)) → numbered t s ≡ true
+    → IsEndOf (stream_after step s) to
+end-after t step (Offered host port) to n = cc
+end-after t step Awaited to n = cc
+end-after t step (Made own) to n = end-made step own to
+end-after t step Gone to n = cc
+
 owed-after : (step : Step) (r : Relay) → owed_in (relay_after step r).line ≡ owed_in r.line
 owed-after (Pause b) r = refl
 owed-after Finish r = refl
@@ -253,6 +270,7 @@ steps-if true step t most life link n is =
       relay_is = ap (relay_after step) is.relay_is;
       own_is = ap (own_after step) is.own_is ∙ own-after step link.stream;
       socket = socket-after t step link.stream link.relay n is.socket;
+      end = end-after t step link.stream life.to n;
       stands = goes-after step link.relay life.dials life.acts is.stands;
       owed = omega (arith, owed, same, none);
       few = omega (arith, few, none);
@@ -267,58 +285,65 @@ steps step t most life link is =
     (link_after step t link))
     (sym (has-number t most life link is)) (steps-if (has_number t link) step t most life link refl is)
 
--- ---- its socket is ordered, and made
+-- ---- its socket is made
 
-awaits-own : (s : Stream) → offers s ≡ true → own_of s ≡ None
-awaits-own (Offered host port) e = refl
-awaits-own Awaited e = cc
-awaits-own (Made own) e = cc
-awaits-own Gone e = cc
+not-unmade : (s : Socket) (t : ℕ) → stream_of s ≡ Some t → unmade s ≡ false
+not-unmade (socket.Connecting stream) t e = refl
+not-unmade (socket.Open stream) t e = refl
+not-unmade socket.Unmade t e = cc
+not-unmade (socket.Failed stream) t e = refl
+not-unmade (socket.Surplus stream) t e = refl
+not-unmade socket.Closed t e = refl
 
-awaits-socket : (s : Stream) (r : Relay) → offers s ≡ true → IsSocketOf s r → IsSocketOf Awaited r
-awaits-socket (Offered host port) r e h = h
-awaits-socket Awaited r e h = cc
-awaits-socket (Made own) r e h = cc
-awaits-socket Gone r e h = cc
+unmade-in : (s : Stream) (r : Relay) (to : Option (List ℕ × ℕ)) → IsSocketOf s r → IsEndOf s to
+    → unmade r.socket ≡ offers s
+unmade-in (Offered host port) r to h end = ap unmade h.0
+unmade-in Awaited r to h end = absurd end
+unmade-in (Made own) r to h end = not-unmade r.socket own.number h.0
+unmade-in Gone r to h end = ap unmade h
 
-pub is-awaited : (most : ℕ) (life : Life) (link : Link) → offers link.stream ≡ true → IsLife most life link
-    → IsLife most life (record link { stream = Awaited })
-is-awaited most life link offered is = record {
-  relay_is = is.relay_is;
-  own_is = is.own_is ∙ awaits-own link.stream offered;
-  socket = awaits-socket link.stream link.relay offered is.socket;
-  stands = is.stands;
-  owed = is.owed;
-  few = is.few;
-}
+-- its socket is to be made where it is to be connected
+pub is-unmade : (most : ℕ) (life : Life) (link : Link) → IsLife most life link → is_unmade life ≡ is_offered link
+is-unmade most life link is =
+    ap (λ (r : Relay). unmade r.socket) is.relay_is ∙ unmade-in link.stream link.relay life.to is.socket is.end
 
-unmade-in : (s : Stream) (r : Relay) → awaits s ≡ true → IsSocketOf s r → (r.socket ≡ socket.Unmade) × (r.ended ≡ false)
-unmade-in (Offered host port) r e h = h
-unmade-in Awaited r e h = h
-unmade-in (Made own) r e h = absurd (false≢true e)
-unmade-in Gone r e h = absurd (false≢true e)
+none-awaits : (s : Stream) (to : Option (List ℕ × ℕ)) → IsEndOf s to → awaits s ≡ false
+none-awaits (Offered host port) to end = refl
+none-awaits Awaited to end = absurd end
+none-awaits (Made own) to end = refl
+none-awaits Gone to end = refl
 
-pub unmade : (most : ℕ) (life : Life) (link : Link) → awaits link.stream ≡ true → IsLife most life link
-    → life.relay.socket ≡ socket.Unmade
-unmade most life link awaited is =
-    ap (λ (r : Relay). r.socket) is.relay_is ∙ (unmade-in link.stream link.relay awaited is.socket).0
+-- none is awaited
+pub not-awaited : (most : ℕ) (life : Life) (link : Link) → IsLife most life link → is_awaited link ≡ false
+not-awaited most life link is = none-awaits link.stream life.to is.end
 
 own-made : (number : Option ℕ) → own_made number ≡ own_of (made_stream number)
 own-made None = refl
 own-made (Some t) = refl
+
+unended-in : (s : Stream) (r : Relay) → offers s ≡ true → IsSocketOf s r → r.ended ≡ false
+unended-in (Offered host port) r e h = h.1
+unended-in Awaited r e h = absurd (false≢true e)
+unended-in (Made own) r e h = absurd (false≢true e)
+unended-in Gone r e h = absurd (false≢true e)
 
 socket-new : (number : Option ℕ) (r : Relay) → r.ended ≡ false
     → IsSocketOf (made_stream number) (record r { socket = made_as number })
 socket-new None r e = refl
 socket-new (Some t) r e = (refl, e)
 
-pub makes : (number : Option ℕ) (most : ℕ) (life : Life) (link : Link) → awaits link.stream ≡ true → IsLife most life link
+end-new : (number : Option ℕ) (to : Option (List ℕ × ℕ)) → IsEndOf (made_stream number) to
+end-new None to = tt
+end-new (Some t) to = tt
+
+pub makes : (number : Option ℕ) (most : ℕ) (life : Life) (link : Link) → offers link.stream ≡ true → IsLife most life link
     → IsLife most (made_life number life)
     (record { relay = record link.relay { socket = made_as number }; stream = made_stream number })
-makes number most life link awaited is = record {
+makes number most life link offered is = record {
   relay_is = ap (λ (r : Relay). record r { socket = made_as number }) is.relay_is;
   own_is = own-made number;
-  socket = socket-new number link.relay (unmade-in link.stream link.relay awaited is.socket).1;
+  socket = socket-new number link.relay (unended-in link.stream link.relay offered is.socket);
+  end = end-new number life.to;
   stands = goes-other link.relay (made_as number) life.dials life.acts is.stands;
   owed = is.owed;
   few = is.few;

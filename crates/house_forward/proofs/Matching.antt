@@ -1,20 +1,23 @@
 -- Lives and links, one by one.
-use Rattle.std.proofs.Common.{◌≡◌, ◌∙◌, refl, sym, ap, subst, arith, ℕ, zero, suc, ◌<◌, ◌≤◌, Bool, true, false, List, [], ◌∷◌, ◌++◌, length, get_or, set, take, drop, map, Option, Some, None}
+use Rattle.std.proofs.Common.{◌≡◌, ◌∙◌, refl, sym, ap, subst, arith, ℕ, zero, suc, ◌<◌, ◌≤◌, Bool, true, false, cond, List, [], ◌∷◌, ◌++◌, length, get_or, set, take, drop, map, Option, Some, None}
+use Rattle.std.specs.Prelude.{filter, nat_le}
 use Rattle.std.specs.List.{All, list_any, position, remove}
-use Rattle.std.proofs.lemmas.Bool.{or_parts, or_from}
+use Rattle.std.proofs.lemmas.Bool.{or_parts, or_from, both_ways}
 use Rattle.std.proofs.lemmas.List.{get_or_default}
 use Rattle.std.proofs.lemmas.List.Elements.{All-nil, All-push}
 use Rattle.std.proofs.lemmas.List.Quantifiers.{position-Some}
+use Rattle.house_relay.specs.Line.{counts}
 use Rattle.house_relay.specs.Relay.{Stands}
 use Rattle.house_relay.specs.Steps.{is_gone}
 use Rattle.house_relay.specs.declared.relay.Relay.{Relay}
 use Rattle.house_forward.specs.Going.{swept, without_at}
-use Rattle.house_forward.specs.Links.{is_left, link_after}
-use Rattle.house_forward.specs.Lives.{Life, One, IsLife, AreLives, kept_in, left_in, stepped}
+use Rattle.house_forward.specs.Links.{is_left, link_after, is_full, is_crowded, is_channel, is_dialog, is_awaited, dials}
+use Rattle.house_forward.specs.Lives.{Life, One, IsLife, AreLives, kept_in, left_in, stepped, are_full, are_crowded}
 use Rattle.house_forward.specs.declared.link.Link.{Link}
 use Rattle.house_forward.specs.declared.link.Step.{Step}
 use Rattle.house_forward.proofs.Lists.{none-passes}
-use Rattle.house_forward.proofs.Living.{is-gone, steps}
+use Rattle.house_forward.specs.declared.rules.TheConstants.{MOST_CHANNELS, MOST_DIALOGS}
+use Rattle.house_forward.proofs.Living.{is-gone, steps, not-awaited}
 
 -- ---- a place in a list
 
@@ -106,6 +109,64 @@ none-lives most which p tests (l ∷ lives) (x ∷ links) are e =
     or_from (which l) (list_any which lives) (tests l x are.0 ∙ both.0)
     (none-lives most which p tests lives links are.1 both.1)
 
+-- as many of both pass a test
+one-more : (a b : Bool) (l : Life) (x : Link) (lives : List Life) (links : List Link) → a ≡ b → length lives ≡ length links
+    → length (cond a (l ∷ lives) lives) ≡ length (cond b (x ∷ links) links)
+one-more true true l x lives links e h = ap suc h
+one-more true false l x lives links e h = cc
+one-more false true l x lives links e h = cc
+one-more false false l x lives links e h = h
+
+pub same-count : (most : ℕ) (which : Life → Bool) (p : Link → Bool) → Tests most which p → (lives : List Life) (links : List Link)
+    → AreLives most lives links → length (filter which lives) ≡ length (filter p links)
+same-count most which p tests [] [] are = refl
+same-count most which p tests [] (x ∷ links) are = absurd are
+same-count most which p tests (l ∷ lives) [] are = absurd are
+same-count most which p tests (l ∷ lives) (x ∷ links) are =
+    one-more (which l) (p x) l x (filter which lives) (filter p links) (tests l x are.0)
+    (same-count most which p tests lives links are.1)
+
+-- they are as many as may be
+pub full-same : (most : ℕ) (lives : List Life) (links : List Link) → AreLives most lives links → are_full lives ≡ is_full links
+full-same most lives links are = ap (λ n. nat_le MOST_CHANNELS n)
+    (same-count most (λ l. counts l.relay.line) is_channel (λ l x is. ap (λ (r : Relay). counts r.line) is.relay_is) lives links are)
+
+pub crowded-same : (most : ℕ) (lives : List Life) (links : List Link) → AreLives most lives links
+    → are_crowded lives ≡ is_crowded links
+crowded-same most lives links are = ap (λ n. nat_le MOST_DIALOGS n)
+    (same-count most (λ l. dials l.relay.line) is_dialog (λ l x is. ap (λ (r : Relay). dials r.line) is.relay_is) lives links are)
+
+-- none is awaited
+pub none-awaited : (most : ℕ) (lives : List Life) (links : List Link) → AreLives most lives links
+    → list_any is_awaited links ≡ false
+none-awaited most [] [] are = refl
+none-awaited most [] (x ∷ links) are = absurd are
+none-awaited most (l ∷ lives) [] are = absurd are
+none-awaited most (l ∷ lives) (x ∷ links) are =
+    or_from (is_awaited x) (list_any is_awaited links) (not-awaited most l x are.0) (none-awaited most lives links are.1)
+
+-- only one place is the first that passes a test
+pub record SamePlace (a : List Link) (x : Link) (b c : List Link) (y : Link) (d : List Link) : Type 0 where
+  pub front : a ≡ c
+  pub one : x ≡ y
+  pub back : b ≡ d
+
+pub one-place : (p : Link → Bool) (a : List Link) (x : Link) (b c : List Link) (y : Link) (d : List Link)
+    → a ++ x ∷ b ≡ c ++ y ∷ d → list_any p a ≡ false → list_any p c ≡ false → p x ≡ true → p y ≡ true
+    → SamePlace a x b c y d
+one-place p [] x b [] y d e f g h k = record { front = refl; one = cc; back = cc }
+one-place p [] x b (z ∷ c) y d e f g h k =
+    let same : x ≡ z = cc in
+    absurd (both_ways (p z) (or_parts (p z) (list_any p c) g).0 (subst (λ (w : Link). p w ≡ true) same h))
+one-place p (z ∷ a) x b [] y d e f g h k =
+    let same : y ≡ z = cc in
+    absurd (both_ways (p z) (or_parts (p z) (list_any p a) f).0 (subst (λ (w : Link). p w ≡ true) same k))
+one-place p (z ∷ a) x b (w ∷ c) y d e f g h k =
+    let same : z ≡ w = cc in
+    let later : a ++ x ∷ b ≡ c ++ y ∷ d = cc in
+    let rest = one-place p a x b c y d later (or_parts (p z) (list_any p a) f).1 (or_parts (p w) (list_any p c) g).1 h k in
+    record { front = ap (λ (ls : List Link). z ∷ ls) rest.front ∙ ap (λ (v : Link). v ∷ c) same; one = rest.one; back = rest.back }
+
 -- ---- more is taken
 
 more-taken : (least most : ℕ) (life : Life) (link : Link) → least ≤ most → IsLife least life link → IsLife most life link
@@ -115,6 +176,7 @@ more-taken least most life link less is =
       relay_is = is.relay_is;
       own_is = is.own_is;
       socket = is.socket;
+      end = is.end;
       stands = is.stands;
       owed = is.owed;
       few = omega (arith, few, less);

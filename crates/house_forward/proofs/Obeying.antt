@@ -1,6 +1,6 @@
 -- An order is of a stream of the house, and takes one mark's room.
-use Rattle.std.proofs.Common.{◌≡◌, ◌∙◌, refl, sym, ap, subst, ℕ, zero, suc, ◌+◌, ◌<◌, ◌≤◌, Bool, true, false, cond, List, [], ◌∷◌, ◌++◌, length, get_or, map, Option, Some, None, arith}
-use Rattle.std.specs.Prelude.{◌||◌, ◌&&◌, ◌==◌, not, if◌then◌else◌, IsTrue}
+use Rattle.std.proofs.Common.{◌≡◌, ◌∙◌, refl, sym, ap, subst, ℕ, zero, suc, ◌+◌, ◌<◌, ◌≤◌, Bool, true, false, List, [], ◌∷◌, length, get_or, map, Some, arith}
+use Rattle.std.specs.Prelude.{◌&&◌, ◌==◌, not, if◌then◌else◌, IsTrue}
 use Rattle.std.specs.List.{sum_by, Any}
 use Rattle.std.proofs.lemmas.Bool.{eq-eqb, ne_eqb}
 use Rattle.std.proofs.lemmas.List.Sums.{sum_by-cons}
@@ -9,11 +9,11 @@ use Rattle.mux_outside.specs.OwnStreams.{is_one, with_pause, with_finish, withou
 use Rattle.mux_outside.specs.declared.order.Order.{Order}
 use Rattle.mux_outside.specs.declared.order.Order.TheVariants as order
 use Rattle.mux_outside.specs.declared.own_streams.OwnStream.{OwnStream}
-use Rattle.house_relay.specs.Relay.{stuck_in, is_stuck, OrdersRight}
+use Rattle.house_relay.specs.Relay.{stuck_in, is_stuck}
 use Rattle.house_relay.specs.declared.line.Line.{Line}
 use Rattle.house_relay.specs.declared.relay.Relay.{Relay}
-use Rattle.house_forward.specs.Due.{stream_due, link_due, turns, one_if}
-use Rattle.house_forward.specs.Links.{own_of, streams_of, are_distinct, numbered, has_number, link_after, stream_after, relay_after, obeyed, OrdersIn, IsOrderOf}
+use Rattle.house_forward.specs.Due.{stream_due, link_due, turns}
+use Rattle.house_forward.specs.Links.{streams_of, are_distinct, numbered, has_number, link_after, stream_after, relay_after, obeyed, OrdersIn, IsOrderOf}
 use Rattle.house_forward.specs.declared.link.Link.{Link}
 use Rattle.house_forward.specs.declared.link.Step.{Step}
 use Rattle.house_forward.specs.declared.link.Step.TheVariants.{Pause, Finish, Close}

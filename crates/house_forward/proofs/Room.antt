@@ -1,7 +1,6 @@
 -- How much room marks need at most.
-use Rattle.std.proofs.Common.{◌≡◌, ℕ, ◌+◌, ◌*◌, ◌≤◌, Bool, true, false, List, [], ◌∷◌, length, get_or, arith}
+use Rattle.std.proofs.Common.{◌≤◌, Bool, true, false, List, length, get_or, arith}
 use Rattle.std.specs.Prelude.{not}
-use Rattle.std.specs.List.{sum_by, All}
 use Rattle.std.proofs.lemmas.List.Sums.{sum_by-le}
 use Rattle.house_relay.specs.declared.relay.Relay.{Relay}
 use Rattle.house_forward.specs.Due.{stream_due, link_due, stage_due, forwarding_due, due, most_due, one_if, turns}

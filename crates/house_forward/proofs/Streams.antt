@@ -1,11 +1,11 @@
 -- The streams of the relays, as these take steps.
-use Rattle.std.proofs.Common.{◌≡◌, ◌∙◌, refl, sym, ap, subst, ℕ, zero, suc, ◌+◌, ◌<◌, ◌≤◌, Bool, true, false, cond, List, [], ◌∷◌, ◌++◌, length, get_or, map, filter, Option, Some, None, arith}
+use Rattle.std.proofs.Common.{◌≡◌, ◌∙◌, refl, sym, ap, subst, ℕ, zero, suc, ◌<◌, Bool, true, false, cond, List, [], ◌∷◌, ◌++◌, length, get_or, map, filter, Option, Some, None, arith}
 use Rattle.std.specs.Prelude.{◌||◌, ◌&&◌, ◌==◌, not, if◌then◌else◌}
-use Rattle.std.specs.List.{list_any, filter_map, cons_option}
+use Rattle.std.specs.List.{list_any, cons_option}
 use Rattle.std.proofs.lemmas.Bool.{or_left, or_right, or_parts, or_from, and_parts, and_from, both_ways, eqb-true, not-true, not_from_false, ne_eqb, eqb-false}
-use Rattle.mux_outside.specs.OwnStreams.{is_one, is_finished, is_silent, with_pause, with_finish, with_end, without_stream, pause_one, finish_one, end_one, new_stream}
+use Rattle.mux_outside.specs.OwnStreams.{is_one, is_finished, with_pause, with_finish, with_end, without_stream, pause_one, finish_one, end_one}
 use Rattle.mux_outside.specs.declared.own_streams.OwnStream.{OwnStream}
-use Rattle.house_forward.specs.Links.{own_of, streams_of, are_distinct, numbered, has_number, link_after, stream_after, relay_after, finishes, is_taken}
+use Rattle.house_forward.specs.Links.{own_of, streams_of, are_distinct, numbered, has_number, link_after, stream_after, finishes}
 use Rattle.house_forward.specs.declared.link.Link.{Link}
 use Rattle.house_forward.specs.declared.link.Step.{Step}
 use Rattle.house_forward.specs.declared.link.Step.TheVariants.{Pause, Finish, End, Close, Writable, Failed}

@@ -1,6 +1,6 @@
 -- The asks that have no answer yet, and the answers.
 use Rattle.std.specs.Prelude.{◌+◌, ◌-◌, ◌^◌, ℕ, Bool, true, false, ◌&&◌, ◌||◌, ◌==◌, nat_lt, nat_le, min, if◌then◌else◌, List, length, map, Option, Some, None}
-use Rattle.std.specs.List.{list_any, fold}
+use Rattle.std.specs.List.{list_any, fold, position, remove}
 use Rattle.mux_outside.specs.declared.house.HouseReply.{HouseReply}
 use Rattle.mux_outside.specs.declared.house.HouseReply.TheVariants as reply
 use Rattle.house_forward.specs.declared.asks.Outcome.{Outcome}
@@ -106,6 +106,19 @@ answer_in (Some w) = Some (w.client, w.id, reply_of w)
 -- the next answer
 abbrev pub answer_of : List Waiting → Option (ℕ × ℕ × HouseReply)
 answer_of waiting = answer_in (earliest waiting)
+
+-- whether an ask is of this client with this id
+abbrev pub is_waiting : ℕ → ℕ → Waiting → Bool
+is_waiting client id w = (w.client == client) && (w.id == id)
+
+abbrev pub taken_at : Option ℕ → List Waiting → List Waiting
+taken_at None waiting = waiting
+taken_at (Some i) waiting = remove waiting i
+
+-- those that wait after this answer: the first of its client with its id waits no longer
+abbrev pub after_answer : Option (ℕ × ℕ × HouseReply) → List Waiting → List Waiting
+after_answer None waiting = waiting
+after_answer (Some a) waiting = taken_at (position (is_waiting a.0 a.1) waiting) waiting
 
 -- how many answers are given
 abbrev pub answers_in : {X : Type 0} → Option X → ℕ

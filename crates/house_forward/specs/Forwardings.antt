@@ -3,7 +3,7 @@ use Rattle.std.specs.Prelude.{◌≡◌, ◌+◌, ℕ, zero, suc, Bool, true, fa
 use Rattle.std.specs.List.{list_any, filter_map, position, remove}
 use Rattle.std.specs.Str.{bytes_eq}
 use Rattle.mux_outside.specs.Streams.{among, without}
-use Rattle.house_forward.specs.Asks.{owes_opening, settled, refused, waiting_for}
+use Rattle.house_forward.specs.Asks.{owes_opening, settled, refused, waiting_for, counted}
 use Rattle.mux_outside.specs.declared.order.Order.{Order}
 use Rattle.mux_outside.specs.declared.order.Order.TheVariants as order
 use Rattle.mux_outside.specs.declared.house.HouseReply.{HouseReply}
@@ -510,6 +510,12 @@ order_asks None at waiting = waiting
 order_asks (Some want.Listen) at waiting = waiting
 order_asks (Some (want.Unlisten serial l)) at waiting = settled serial false at Done waiting
 
+-- how many asks came to something then
+abbrev pub order_done : Option Want → ℕ → ℕ
+order_done None at = at
+order_done (Some want.Listen) at = at
+order_done (Some (want.Unlisten serial l)) at = counted at
+
 -- the one at a place has this listener, or is gone where none could be made
 abbrev pub MadeAt : Option ℕ → ℕ → List Forwarding → List Forwarding → Type 0
 MadeAt None i old new = new ≡ remove old i
@@ -564,6 +570,18 @@ replied_asks false port (Some (Listen serial)) fs at waiting = refused serial at
 replied_asks true port (Some (Cancel serial)) fs at waiting = settled serial false at Done waiting
 replied_asks false port (Some (Cancel serial)) fs at waiting = settled serial false at Refused waiting
 
+abbrev pub opened_done : Option Outcome → ℕ → ℕ
+opened_done None at = at
+opened_done (Some outcome) at = counted at
+
+-- how many asks came to something after a reply
+abbrev pub replied_done : Bool → Option ℕ → Option Request → List Forwarding → ℕ → ℕ
+replied_done success port None fs at = at
+replied_done true port (Some (Listen serial)) fs at =
+    opened_done (live_in port (find (is_asked serial) fs)) at
+replied_done false port (Some (Listen serial)) fs at = counted (counted at)
+replied_done success port (Some (Cancel serial)) fs at = counted at
+
 abbrev pub removed_at : Option ℕ → List Forwarding → List Forwarding
 removed_at None fs = fs
 removed_at (Some i) fs = remove fs i
@@ -591,6 +609,11 @@ first_of (r ∷ rs) = Some r
 abbrev pub ordered_asks : Option ℕ → ℕ → ℕ → List Waiting → List Waiting
 ordered_asks None serial at waiting = refused serial at waiting
 ordered_asks (Some listener) serial at waiting = settled serial true at Done waiting
+
+-- how many asks came to something then
+abbrev pub ordered_done : Option ℕ → ℕ → ℕ
+ordered_done None at = counted (counted at)
+ordered_done (Some listener) at = counted at
 
 abbrev is_remote : Kind → Bool
 is_remote Local = false

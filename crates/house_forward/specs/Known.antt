@@ -1,5 +1,5 @@
 -- What is known of the house by its own lists.
-use Rattle.std.specs.Prelude.{ℕ, Bool, true, false, List, map, is_some, find, Option, Some, None}
+use Rattle.std.specs.Prelude.{ℕ, Bool, true, List, map, find, Option, Some, None}
 use Rattle.std.specs.List.{list_any}
 use Rattle.mux_outside.specs.House.{OpenAsk, Known, without_ask}
 use Rattle.mux_outside.specs.declared.house.HouseReply.{HouseReply}

@@ -1,13 +1,11 @@
 -- What holds of the relays of the house, whatever calls were made.
-use Rattle.std.specs.Prelude.{◌≡◌, Bool, true, List, ◌++◌, IfSome}
+use Rattle.std.specs.Prelude.{◌≡◌, true, List, ◌++◌, IfSome}
 use Rattle.std.specs.List.{All}
 use Rattle.mux_outside.specs.HouseCalls.{HouseCall}
 use Rattle.house_relay.specs.Acts.{Relays}
 use Rattle.house_relay.specs.Relay.{Keeps, SilentIn, IsResting}
 use Rattle.house_forward.specs.Lives.{Life, Held, HasLived}
 use Rattle.house_forward.specs.Quiet.{says_none, orders_none}
-use Rattle.house_forward.specs.declared.asks.Waiting.{Waiting}
-use Rattle.house_forward.specs.declared.forwarding.Forwarding.{Forwarding}
 
 -- each that the calls leave relays, and so did each of which nothing is left
 abbrev pub EachRelays : Type 0
@@ -27,6 +25,5 @@ pub record Rests (l : Life) : Type 0 where
 -- where the house has nothing to say and nothing to order, each is at rest
 abbrev pub EachRests : Type 0
 EachRests = (calls : List HouseCall) (h : Held) (lived : HasLived calls h)
-    → (greeted : Bool) (forwardings : List Forwarding) (waiting : List Waiting)
-    → says_none greeted forwardings h.links ≡ true
-    → orders_none forwardings h.links waiting ≡ true → All Rests lived.course.lives
+    → says_none h.desk.greeted h.desk.all h.links ≡ true
+    → orders_none h.desk.all h.links h.desk.waiting ≡ true → All Rests lived.course.lives

@@ -1,4 +1,5 @@
 pub mod Asks
+pub mod Desk
 pub mod Due
 pub mod Forwardings
 pub mod Going

@@ -8,7 +8,7 @@ use Rattle.mux_outside.specs.declared.own_streams.OwnStream.{OwnStream}
 use Rattle.std.specs.List.{list_any, filter_map}
 use Rattle.house_relay.specs.Line.{counts}
 use Rattle.house_relay.specs.Next.{says_of, orders_of}
-use Rattle.house_relay.specs.Relay.{stream_of, stuck_in, OrdersRight}
+use Rattle.house_relay.specs.Relay.{stream_of, OrdersRight}
 use Rattle.house_relay.specs.Steps.{is_gone, connected, failing, said_of, fresh_relay, fresh_dialing}
 use Rattle.house_relay.specs.declared.line.Line.{Line}
 use Rattle.house_relay.specs.declared.line.Line.TheVariants.{Dialing, Asked, Opened, Live, Over, Offered as OfServer}

@@ -1,6 +1,7 @@
--- What the calls of the house tell of its relays: of each how it stands, and what happened in it.
-use Rattle.std.specs.Prelude.{◌≡◌, ◌≢◌, ◌⊎◌, ◌≤◌, ◌<◌, ◌+◌, ◌^◌, ◌==◌, ℕ, Bool, true, false, if◌then◌else◌, List, [], ◌∷◌, ◌++◌, map, is_some, Result, Ok, Err, Option, Some, None}
-use Rattle.std.specs.List.{All, list_any}
+-- What the calls of the house tell: of each relay how it stands, and what happened in it; and what
+-- the house has besides.
+use Rattle.std.specs.Prelude.{◌≡◌, ◌≢◌, ◌⊎◌, ◌≤◌, ◌<◌, ◌+◌, ◌^◌, ◌==◌, ℕ, Bool, true, false, not, nat_le, if◌then◌else◌, List, [], ◌∷◌, ◌++◌, length, map, filter, find, is_some, IfSome, Result, Ok, Err, Option, Some, None}
+use Rattle.std.specs.List.{All, list_any, position}
 use Rattle.ssh_fields.specs.Fields.{take_u32}
 use Rattle.ssh_grammar.specs.Frames.{Front, Frame}
 use Rattle.ssh_grammar.specs.Messages.{Message as Said}
@@ -26,18 +27,24 @@ use Rattle.mux_outside.specs.declared.order.Order.{Order}
 use Rattle.mux_outside.specs.declared.order.Order.TheVariants as order
 use Rattle.mux_outside.specs.declared.own_streams.OwnStream.{OwnStream}
 use Rattle.house_relay.specs.Acts.{Act, Reads, Ends, Takes, Fails, Other, taken}
-use Rattle.house_relay.specs.Line.{owed_in}
+use Rattle.house_relay.specs.Line.{owed_in, counts}
 use Rattle.house_relay.specs.Next.{says_of}
 use Rattle.house_relay.specs.Relay.{Stands, OrdersRight, stream_of}
 use Rattle.house_relay.specs.Steps.{fresh_relay, is_gone, made_as}
 use Rattle.house_relay.specs.declared.line.Line.TheVariants.{Offered as OfServer}
 use Rattle.house_relay.specs.declared.relay.Relay.{Relay}
+use Rattle.house_relay.specs.declared.relay.Socket.{Socket}
 use Rattle.house_relay.specs.declared.relay.Socket.TheVariants as socket
-use Rattle.house_forward.specs.Going.{Gets, TakesOf, Says, Hears, act_of_saying}
+use Rattle.house_forward.specs.Desk.{Desk, empty_desk, desk_of, BeginsWith, IsAsked, Answers, greeting_said, request_said, reply_heard, OrdersListener, GetsListener, EndsListener}
+use Rattle.house_forward.specs.Forwardings.{has_request, has_listener, served_at}
+use Rattle.house_forward.specs.Going.{Gets, TakesOf, Says, Hears, act_of_saying, AwaitsAt}
 use Rattle.house_forward.specs.Heard.{act_heard}
-use Rattle.house_forward.specs.Links.{IsJoined, dials, relay_after, own_of}
+use Rattle.house_forward.specs.Known.{ordering_of}
+use Rattle.house_forward.specs.Links.{IsJoined, dials, relay_after, own_of, is_offered, ConnectsAt}
 use Rattle.house_forward.specs.Said.{framed, said_by, request_payload}
+use Rattle.house_forward.specs.declared.asks.Asks.{Asks}
 use Rattle.house_forward.specs.declared.forwarding.Forwarding.{Forwarding}
+use Rattle.house_forward.specs.declared.forwardings.Forwardings.{Forwardings}
 use Rattle.house_forward.specs.declared.holdings.Stage.{Stage}
 use Rattle.house_forward.specs.declared.holdings.Stage.TheVariants.{Control, Proxy}
 use Rattle.house_forward.specs.declared.link.Link.{Link}
@@ -45,23 +52,29 @@ use Rattle.house_forward.specs.declared.link.Step.{Step}
 use Rattle.house_forward.specs.declared.link.Step.TheVariants as step
 use Rattle.house_forward.specs.declared.link.Stream.{Stream}
 use Rattle.house_forward.specs.declared.link.Stream.TheVariants.{Offered, Awaited, Made, Gone}
+use Rattle.house_forward.specs.declared.ordering.Ordering.{Ordering}
+use Rattle.house_forward.specs.declared.ordering.Ordering.TheVariants as ordering
+use Rattle.house_forward.specs.declared.relays.Relays.{Relays}
+use Rattle.house_forward.specs.declared.rules.TheConstants.{MOST_CHANNELS, MOST_DIALOGS}
 use Rattle.house_forward.specs.declared.saying.TheConstants.{GREETING}
 
--- a relay; its stream, while it is open; whether it began with a dialog; and what happened in it, the
--- newest first
+-- a relay; its stream, while it is open; whether it began with a dialog; where its socket is to be
+-- connected, if the server opened it; and what happened in it, the newest first
 pub record Life : Type 0 where
   pub relay : Relay
   pub own : Option OwnStream
   pub dials : Bool
+  pub to : Option (List ℕ × ℕ)
   pub acts : List Act
 
--- the relays that there are, and those of which nothing is left; what was heard and isn't read yet; and
--- how it is read
+-- the relays that there are, and those of which nothing is left; what was heard and isn't read yet;
+-- how it is read; and what the house has besides
 pub record Course : Type 0 where
   pub lives : List Life
   pub past : List Life
   pub framer : FramerState
   pub stage : Stage
+  pub desk : Desk
 
 -- nothing happened yet
 abbrev pub first_course : Course
@@ -70,7 +83,15 @@ first_course = record {
   past = [];
   framer = new_framer framing.Control;
   stage = Control;
+  desk = empty_desk;
 }
+
+-- what there is besides the relays goes on so, and all else stays
+abbrev pub OnDesk : (Desk → Desk → Type 0) → Course → Course → Type 0
+OnDesk so old new = (desk : Desk) × so old.desk desk × (new ≡ record old { desk = desk })
+
+abbrev pub with_desk : Desk → Course → Course
+with_desk desk course = record course { desk = desk }
 
 -- ---- one relay
 
@@ -90,11 +111,40 @@ has_channel n l = l.relay.number == n
 abbrev pub has_words : Life → Bool
 has_words l = is_some (says_of l.relay)
 
+abbrev pub unmade : Socket → Bool
+unmade (socket.Connecting stream) = false
+unmade (socket.Open stream) = false
+unmade socket.Unmade = true
+unmade (socket.Failed stream) = false
+unmade (socket.Surplus stream) = false
+unmade socket.Closed = false
+
+-- whether its socket is to be made
+abbrev pub is_unmade : Life → Bool
+is_unmade l = unmade l.relay.socket
+
+-- how many have a channel, or are to have one
+abbrev pub channels_in : List Life → ℕ
+channels_in lives = length (filter (λ l. counts l.relay.line) lives)
+
+-- whether they are as many as may be
+abbrev pub are_full : List Life → Bool
+are_full lives = nat_le MOST_CHANNELS (channels_in lives)
+
+-- of how many a dialog is to say the end
+abbrev pub dialogs_in : List Life → ℕ
+dialogs_in lives = length (filter (λ l. dials l.relay.line) lives)
+
+-- whether they are as many as may be
+abbrev pub are_crowded : List Life → Bool
+are_crowded lives = nat_le MOST_DIALOGS (dialogs_in lives)
+
 -- its relay goes on so, and this happens in it
 pub record GoesBy (so : Relay → Relay → Type 0) (act : Act) (old new : Life) : Type 0 where
   pub relay : so old.relay new.relay
   pub own : new.own ≡ old.own
   pub dials : new.dials ≡ old.dials
+  pub to : new.to ≡ old.to
   pub acts : new.acts ≡ act ∷ old.acts
 
 -- the first of which this is so goes on so, and the others stay
@@ -156,30 +206,28 @@ stepped step t l = if has_stream t l then record l {
   acts = act_of step ∷ l.acts;
 } else l
 
--- one relay more, for a socket that is joined: for an end that its forwarding names or a dialog will, or
--- for none
-pub record JoinsOne (t : ℕ) (old new : List Life) : Type 0 where
+-- one relay more, for a socket that is joined at the listener of a forwarding: for an end that this
+-- names or a dialog will, or for none
+pub record JoinsOne (f : Option Forwarding) (t : ℕ) (old new : List Life) : Type 0 where
   pub relay : Relay
-  pub full : Bool
-  pub crowded : Bool
-  pub forwarding : Option Forwarding
-  pub joined : IsJoined full crowded forwarding t relay
+  pub joined : IsJoined (are_full old) (are_crowded old) f t relay
   pub free : list_any (has_channel relay.number) old ≡ false
   pub more : new ≡ old ++ record {
     relay = relay;
     own = Some (new_stream t);
     dials = dials relay.line;
+    to = None;
     acts = [];
   } ∷ []
 
 -- what happened to a listener or a stream
-abbrev pub TurnsTo : Happening → List Life → List Life → Type 0
-TurnsTo (Joined l t) old new = JoinsOne t old new
-TurnsTo (Got t bytes) old new = (free : Bool)
-    × OneAtMost (has_stream t) (GoesBy (Gets free bytes) (Reads bytes)) old new
-TurnsTo (End t) old new = new ≡ map (stepped step.End t) old
-TurnsTo (Writable t) old new = new ≡ map (stepped step.Writable t) old
-TurnsTo (Failed t) old new = new ≡ map (stepped step.Failed t) old
+abbrev pub TurnsTo : Happening → List Forwarding → List Life → List Life → Type 0
+TurnsTo (Joined l t) all old new = JoinsOne (find (has_listener l) all) t old new
+TurnsTo (Got t bytes) all old new =
+    OneAtMost (has_stream t) (GoesBy (Gets (not (are_full old)) bytes) (Reads bytes)) old new
+TurnsTo (End t) all old new = new ≡ map (stepped step.End t) old
+TurnsTo (Writable t) all old new = new ≡ map (stepped step.Writable t) old
+TurnsTo (Failed t) all old new = new ≡ map (stepped step.Failed t) old
 
 -- ---- what is said
 
@@ -188,13 +236,19 @@ abbrev pub Speaks : List ℕ → Life → Life → Type 0
 Speaks bytes old new = (bytes ≡ framed (said_by old.relay))
     × GoesBy Says (act_of_saying (says_of old.relay) old.relay) old new
 
--- the house greets, or asks the server for a forwarding or to end one, or the first relay that has
--- something to say says it
+-- where the house has not greeted it does; else the first forwarding that has a request says it;
+-- else the first relay that has something to say says that
+abbrev pub SaysBy : Bool → Option Forwarding → List ℕ → Course → Course → Type 0
+SaysBy false first bytes old new =
+    (bytes ≡ GREETING.now) × (new ≡ with_desk (greeting_said old.desk) old)
+SaysBy true (Some f) bytes old new =
+    (bytes ≡ framed (request_payload f)) × (new ≡ with_desk (request_said f old.desk) old)
+SaysBy true None bytes old new = (lives : List Life)
+    × One has_words (Speaks bytes) old.lives lives × (new ≡ with_lives lives old)
+
+-- what is said is the first of these
 abbrev pub SaysIn : List ℕ → Course → Course → Type 0
-SaysIn bytes old new = ((bytes ≡ GREETING.now) × (new ≡ old))
-    ⊎ (((f : Forwarding) × (bytes ≡ framed (request_payload f)) × (new ≡ old))
-    ⊎ ((lives : List Life) × One has_words (Speaks bytes) old.lives lives
-    × (new ≡ with_lives lives old)))
+SaysIn bytes old new = SaysBy old.desk.greeted (find has_request old.desk.all) bytes old new
 
 -- ---- what is heard
 
@@ -208,8 +262,9 @@ HearsAt n m old new = ((lives : List Life) × One (has_channel n) (Listens m) ol
     × (new ≡ with_lives lives old))
     ⊎ ((list_any (has_channel n) old.lives ≡ false) × (new ≡ old))
 
--- one relay more, for an OPEN of the server
-pub record OffersOne (remote window maximum : ℕ) (old new : Course) : Type 0 where
+-- one relay more, for an OPEN of the server: its socket is to be connected where this forwarding
+-- connects
+pub record OffersOne (f : Forwarding) (remote window maximum : ℕ) (old new : Course) : Type 0 where
   pub number : ℕ
   pub free : list_any (has_channel number) old.lives ≡ false
   pub more : new ≡ record old {
@@ -217,25 +272,41 @@ pub record OffersOne (remote window maximum : ℕ) (old new : Course) : Type 0 w
       relay = fresh_relay number (OfServer remote window maximum) socket.Unmade;
       own = None;
       dials = false;
+      to = Some (f.connect_host, f.connect_port);
       acts = [];
     } ∷ [];
   }
 
--- an OPEN of the server for a forwarding is taken, or it is for none of the house's
+-- where there is such a forwarding
+abbrev pub OpensFor : Option Forwarding → ℕ → ℕ → ℕ → Course → Course → Type 0
+OpensFor None remote window maximum old new = new ≡ old
+OpensFor (Some f) remote window maximum old new = OffersOne f remote window maximum old new
+
+-- an OPEN of the server is taken where it listens for a forwarding at this address and port
 abbrev pub HearsOpen : Opens → ℕ → ℕ → ℕ → Course → Course → Type 0
 HearsOpen (opens.Forwarded address port) remote window maximum old new =
-    (new ≡ old) ⊎ OffersOne remote window maximum old new
+    OpensFor (find (served_at address.now port) old.desk.all) remote window maximum old new
 HearsOpen opens.Session remote window maximum old new = new ≡ old
 HearsOpen (opens.Direct host port) remote window maximum old new = new ≡ old
 HearsOpen (opens.DirectPath path) remote window maximum old new = new ≡ old
 HearsOpen (opens.ForwardedPath path) remote window maximum old new = new ≡ old
 HearsOpen opens.Other remote window maximum old new = new ≡ old
 
+-- the port that a success carries, if it does
+abbrev pub port_in : Option (ℕ × List ℕ) → Option ℕ
+port_in None = None
+port_in (Some p) = Some p.0
+
+-- a reply of the server is to the earliest request
+abbrev pub HearsReply : Bool → Option ℕ → Course → Course → Type 0
+HearsReply success port old new = new ≡ with_desk (reply_heard success port old.desk) old
+
 abbrev pub HearsMessage : Message → Course → Course → Type 0
 HearsMessage (message.Transport number rest) old new = new ≡ old
 HearsMessage (message.GlobalRequest name want rest what) old new = new ≡ old
-HearsMessage (message.RequestSuccess rest) old new = new ≡ old
-HearsMessage message.RequestFailure old new = new ≡ old
+HearsMessage (message.RequestSuccess rest) old new =
+    HearsReply true (port_in (take_u32 rest.now)) old new
+HearsMessage message.RequestFailure old new = HearsReply false None old new
 HearsMessage (message.Open kind sender window maximum rest what) old new =
     HearsOpen what sender window maximum old new
 HearsMessage (message.Confirmation recipient sender window maximum rest) old new =
@@ -318,19 +389,22 @@ made_life number l = record l {
   acts = Other ∷ l.acts;
 }
 
--- the socket of one is made, or couldn't be: it is the last from now on
-pub record MakesOne (number : Option ℕ) (old new : Course) : Type 0 where
+-- the first socket that is to be made, which is to be connected there, is made, or couldn't be: it
+-- is the last from now on
+pub record MakesOne (host : List ℕ) (port : ℕ) (number : Option ℕ) (old new : Course) : Type 0 where
   pub before : List Life
   pub life : Life
   pub behind : List Life
-  pub unmade : life.relay.socket ≡ socket.Unmade
+  pub others : list_any is_unmade before ≡ false
+  pub is : is_unmade life ≡ true
+  pub there : life.to ≡ Some (host, port)
   pub were : old.lives ≡ before ++ life ∷ behind
   pub are : new ≡ record old { lives = (before ++ behind) ++ made_life number life ∷ [] }
 
 abbrev pub OrdersIn : Order → Option ℕ → Course → Course → Type 0
-OrdersIn (order.Listen host port) number old new = new ≡ old
-OrdersIn (order.Connect host port) number old new = MakesOne number old new
-OrdersIn (order.Unlisten l) number old new = new ≡ old
+OrdersIn (order.Listen host port) number old new = OnDesk (GetsListener host port number) old new
+OrdersIn (order.Connect host port) number old new = MakesOne host port number old new
+OrdersIn (order.Unlisten l) number old new = OnDesk (EndsListener l) old new
 OrdersIn (order.Pause t) number old new = StepsBy (order.Pause t) (step.Pause true) t old new
 OrdersIn (order.Resume t) number old new = StepsBy (order.Resume t) (step.Pause false) t old new
 OrdersIn (order.Finish t) number old new = StepsBy (order.Finish t) step.Finish t old new
@@ -342,18 +416,19 @@ abbrev pub MarksIn : HouseMark → Course → Course → Type 0
 MarksIn HouseIn old new = new ≡ old
 MarksIn (HouseSaid bytes) old new = SaysIn bytes old new
 MarksIn (HouseTook size) old new = new ≡ old
-MarksIn (HouseAsked client id opening ask reply) old new = new ≡ old
-MarksIn (HouseAnswer client id reply) old new = new ≡ old
+MarksIn (HouseAsked client id opening ask reply) old new =
+    OnDesk (IsAsked client id opening ask reply) old new
+MarksIn (HouseAnswer client id reply) old new = OnDesk (Answers client id reply) old new
 MarksIn (HouseOrder o number) old new = OrdersIn o number old new
 
 -- what a call leaves of the course
 abbrev pub Follows : HouseCall → Course → Course → Type 0
-Follows (Begins starts) old new = new ≡ old
+Follows (Begins starts) old new = OnDesk (BeginsWith starts) old new
 Follows (Marks mark) old new = MarksIn mark old new
 Follows (HearsBytes bytes) old new =
     (contents : List (List ℕ)) × HearsFrames contents (with_heard bytes old) new
-Follows (Turns happening) old new = (lives : List Life) × TurnsTo happening old.lives lives
-    × (new ≡ record old { lives = lives })
+Follows (Turns happening) old new = (lives : List Life)
+    × TurnsTo happening old.desk.all old.lives lives × (new ≡ record old { lives = lives })
 Follows (TakesBytes t n) old new = (lives : List Life)
     × OneAtMost (has_stream t) (GoesBy (TakesOf n) (Takes n)) old.lives lives
     × (new ≡ record old { lives = lives })
@@ -382,12 +457,20 @@ IsSocketOf Awaited r = (r.socket ≡ socket.Unmade) × (r.ended ≡ false)
 IsSocketOf (Made own) r = (stream_of r.socket ≡ Some own.number) × (r.ended ≡ own.ended)
 IsSocketOf Gone r = r.socket ≡ socket.Closed
 
+-- where a socket is to be connected; none is ordered, and has no number yet
+abbrev pub IsEndOf : Stream → Option (List ℕ × ℕ) → Type 0
+IsEndOf (Offered host port) to = to ≡ Some (host.one, port)
+IsEndOf Awaited to = ⊥
+IsEndOf (Made own) to = Unit {0}
+IsEndOf Gone to = Unit {0}
+
 -- a link is that of a life; its relay stands for what happened in it, in which no more than so many bytes
 -- were taken
 pub record IsLife (most : ℕ) (life : Life) (link : Link) : Type 0 where
   pub relay_is : life.relay ≡ link.relay
   pub own_is : life.own ≡ own_of link.stream
   pub socket : IsSocketOf link.stream link.relay
+  pub end : IsEndOf link.stream life.to
   pub stands : Stands life.dials life.acts link.relay
   pub owed : owed_in link.relay.line ≤ taken life.acts
   pub few : taken life.acts ≤ most
@@ -398,14 +481,22 @@ AreLives most [] (link ∷ links) = ⊥
 AreLives most (life ∷ lives) [] = ⊥
 AreLives most (life ∷ lives) (link ∷ links) = IsLife most life link × AreLives most lives links
 
--- the links of the house, what was heard and isn't read yet, and how it is read
+-- the links of the house, what was heard and isn't read yet, how it is read, and what there is
+-- besides
 pub record Held : Type 0 where
   pub links : List Link
   pub framer : FramerState
   pub stage : Stage
+  pub desk : Desk
 
-abbrev pub held : List Link → FramerState → Stage → Held
-held links framer stage = record { links = links; framer = framer; stage = stage }
+abbrev pub held : List Link → FramerState → Stage → Desk → Held
+held links framer stage desk =
+    record { links = links; framer = framer; stage = stage; desk = desk }
+
+-- by what the house has
+abbrev pub held_of : Relays → FramerState → Stage → Bool → Bool → Forwardings → Asks → Held
+held_of relays framer stage gateway greeted forwardings asks =
+    held relays.all.items framer stage (desk_of gateway greeted forwardings asks)
 
 -- the house has what a course leaves, in which no stream took more bytes than so many
 pub record IsCourse (most : ℕ) (course : Course) (h : Held) : Type 0 where
@@ -413,6 +504,7 @@ pub record IsCourse (most : ℕ) (course : Course) (h : Held) : Type 0 where
   pub past : All (λ l. Stands l.dials l.acts l.relay) course.past
   pub framer_is : course.framer ≡ h.framer
   pub stage_is : course.stage ≡ h.stage
+  pub desk_is : course.desk ≡ h.desk
 
 -- whatever the course was, it goes on so
 abbrev pub GoesFurther : (Course → Course → Type 0) → Held → Held → Type 0
@@ -421,8 +513,20 @@ GoesFurther so old new = (most : ℕ) (course : Course) → IsCourse most course
 
 -- of the links alone
 abbrev pub LinksGo : (Course → Course → Type 0) → List Link → List Link → Type 0
-LinksGo so old new = (framer : FramerState) (stage : Stage)
-    → GoesFurther so (held old framer stage) (held new framer stage)
+LinksGo so old new = (framer : FramerState) (stage : Stage) (desk : Desk)
+    → GoesFurther so (held old framer stage desk) (held new framer stage desk)
+
+-- of all but what was heard
+abbrev pub HouseGoes : (Course → Course → Type 0) → Relays → Forwardings → Asks → Relays
+    → Forwardings → Asks → Type 0
+HouseGoes so relays forwardings asks relays' forwardings' asks' =
+    (framer : FramerState) (stage : Stage) (gateway greeted : Bool) → GoesFurther so
+    (held_of relays framer stage gateway greeted forwardings asks)
+    (held_of relays' framer stage gateway greeted forwardings' asks')
+
+-- of what there is besides the links alone
+abbrev pub DeskGoes : (Desk → Desk → Type 0) → Held → Held → Type 0
+DeskGoes so old new = (new ≡ record old { desk = new.desk }) × so old.desk new.desk
 
 -- whether a frame is heard, and what that leaves
 abbrev pub HearsNext : Bool → Course → Course → Type 0
@@ -430,16 +534,41 @@ HearsNext false old new = HearsFrames [] old new
 HearsNext true old new = (content rest : List ℕ) × (front_of old.framer ≡ Frame content rest)
     × HearsFrame old.stage content (cut_off (Frame content rest) old) new
 
+-- the first socket that is to be connected is ordered: it is to be connected there
+pub record OrdersSocket (host : List ℕ) (port : ℕ) (old new : Held) : Type 0 where
+  pub place : ℕ
+  pub first : position is_offered old.links ≡ Some place
+  pub there : IfSome (find is_offered old.links) (λ l. ConnectsAt host port l.stream)
+  pub ordered : AwaitsAt (Some place) old.links new.links
+  pub others : new ≡ record old { links = new.links }
+
+-- what the house has while it awaits the number of what it ordered, by what it had before
+abbrev pub AwaitsNumber : Option Ordering → Held → Held → Type 0
+AwaitsNumber None old new = new ≡ old
+AwaitsNumber (Some (ordering.Listen host port)) old new =
+    DeskGoes (OrdersListener host port) old new
+AwaitsNumber (Some (ordering.Connect host port)) old new = OrdersSocket host port old new
+
 -- what an order leaves as it is given: a Listen and a Connect wait for their number
-abbrev pub GivesOrder : Option Order → Course → Course → Type 0
-GivesOrder None old new = new ≡ old
-GivesOrder (Some (order.Listen host port)) old new = new ≡ old
-GivesOrder (Some (order.Connect host port)) old new = new ≡ old
-GivesOrder (Some (order.Unlisten l)) old new = OrdersIn (order.Unlisten l) None old new
-GivesOrder (Some (order.Pause t)) old new = OrdersIn (order.Pause t) None old new
-GivesOrder (Some (order.Resume t)) old new = OrdersIn (order.Resume t) None old new
-GivesOrder (Some (order.Finish t)) old new = OrdersIn (order.Finish t) None old new
-GivesOrder (Some (order.Close t)) old new = OrdersIn (order.Close t) None old new
+abbrev pub GivesOrder : Option Order → Option Ordering → Held → Held → Type 0
+GivesOrder None ordering old new = new ≡ old
+GivesOrder (Some (order.Listen host port)) ordering old new = AwaitsNumber ordering old new
+GivesOrder (Some (order.Connect host port)) ordering old new = AwaitsNumber ordering old new
+GivesOrder (Some (order.Unlisten l)) ordering old new =
+    GoesFurther (OrdersIn (order.Unlisten l) None) old new
+GivesOrder (Some (order.Pause t)) ordering old new =
+    GoesFurther (OrdersIn (order.Pause t) None) old new
+GivesOrder (Some (order.Resume t)) ordering old new =
+    GoesFurther (OrdersIn (order.Resume t) None) old new
+GivesOrder (Some (order.Finish t)) ordering old new =
+    GoesFurther (OrdersIn (order.Finish t) None) old new
+GivesOrder (Some (order.Close t)) ordering old new =
+    GoesFurther (OrdersIn (order.Close t) None) old new
+
+-- what was ordered gets its number, or none
+abbrev pub GetsNumber : Option Ordering → Option ℕ → Held → Held → Type 0
+GetsNumber ordering number old new = IfSome (ordering_of ordering) (λ order. (before : Held)
+    → AwaitsNumber ordering before old → GoesFurther (OrdersIn order number) before new)
 
 -- what is taken is counted
 abbrev pub TakesFurther : ℕ → ℕ → Held → Held → Type 0
@@ -455,3 +584,8 @@ pub record HasLived (calls : List HouseCall) (h : Held) : Type 0 where
 -- the house stands for its calls, unless 2^64 bytes or more were taken in all
 abbrev pub StandsFor : List HouseCall → Held → Type 0
 StandsFor calls h = taken_in calls < 2 ^ 64 → HasLived calls h
+
+-- so it does, or did before it ordered what has no number yet
+abbrev pub StandsSince : Option Ordering → List HouseCall → Held → Type 0
+StandsSince ordering calls h =
+    (before : Held) × StandsFor calls before × AwaitsNumber ordering before h

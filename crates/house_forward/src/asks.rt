@@ -1,9 +1,9 @@
 //! The asks of clients that are to be answered later.
 ghost use Rattle.std.specs.Prelude.{◌≡◌, ◌≤◌, ◌<◌, ◌+◌, ◌++◌, ◌∷◌, [], length, OnOk, None};
 ghost use Rattle.std.specs.List.{position};
-ghost use Rattle.mux_outside.specs.House.{AnswerFits, gives_none, is_ask};
-ghost use Rattle.house_forward.specs.Asks.{has_open, turns_away, waiting_for, settle_one, settled, refused, counted, owes_opening, earlier, earliest, stamp_of, reply_of, answer_of, answers_in};
-ghost use Rattle.house_forward.specs.Known.{open_ask, open_asks, asks_after_answer};
+ghost use Rattle.mux_outside.specs.House.{AnswerFits, gives_none};
+ghost use Rattle.house_forward.specs.Asks.{has_open, turns_away, waiting_for, settle_one, settled, refused, counted, owes_opening, earlier, earliest, stamp_of, reply_of, answer_of, answers_in, after_answer, is_waiting};
+ghost use Rattle.house_forward.specs.Known.{open_asks, open_ask, asks_after_answer};
 ghost use Rattle.house_forward.specs.Quiet.{answers_none};
 ghost use Rattle.house_forward.specs.declared.rules.TheConstants.{MOST_ASKS};
 
@@ -52,7 +52,8 @@ pub struct Asks {
 
 impl Asks {
     pub fn new(alloc: Global) -> Asks
-        ensures { result.waiting.items ≡ [] }
+        ensures none { result.waiting.items ≡ [] }
+        ensures done { result.done ≡ 0 }
     {
         Asks {
             waiting: Vec::new(alloc),
@@ -150,6 +151,7 @@ impl Asks {
     /// The next answer, in the order in which the asks came to something.
     pub fn answer(&mut self) -> Option<(u64, u32, HouseReply)>
         ensures exact { result ≡ answer_of self.old.waiting.items }
+        ensures taken { self.new.waiting.items ≡ after_answer result self.old.waiting.items }
         ensures fits { AnswerFits result (open_asks self.old.waiting.items) }
         ensures silent { gives_none result ≡ answers_none self.old.waiting.items }
         ensures same { result ≡ None → self.new ≡ self.old }
@@ -167,8 +169,7 @@ impl Asks {
 
     /// The place of the first that has this client and id.
     fn place_of(&self, client: u64, id: u32) -> Option<usize>
-        ensures { result
-            ≡ position (λ w. is_ask client id (open_ask w)) self.now.waiting.items }
+        ensures { result ≡ position (is_waiting client id) self.now.waiting.items }
     {
         self.waiting
             .iter()

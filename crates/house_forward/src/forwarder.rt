@@ -5,7 +5,7 @@ ghost use Rattle.mux_outside.specs.House.{IsBlank, NoMark, order_marks};
 ghost use Rattle.house_forward.specs.Due.{due, most_due};
 ghost use Rattle.house_forward.specs.Known.{known_of};
 ghost use Rattle.house_forward.specs.Links.{queue_at};
-ghost use Rattle.house_forward.specs.Lives.{held, StandsFor};
+ghost use Rattle.house_forward.specs.Lives.{held_of, StandsSince};
 ghost use Rattle.house_forward.specs.Quiet.{quiet_of};
 
 use crate::holdings::Holdings;
@@ -35,8 +35,9 @@ impl<N: Notes + Drop> Forwarder<N> {
             f.has.relays.all.items f.has.asks.waiting.items f.has.ordering)
             (N.told f.notes.notes)) }
         ensures unrefused { IfOk result (λ f. f.has.forwardings.refused ≡ None) }
-        ensures stands { IfOk result (λ f. StandsFor []
-            (held f.has.relays.all.items f.has.framer f.has.stage)) }
+        ensures stands { IfOk result (λ f. StandsSince f.has.ordering []
+            (held_of f.has.relays f.has.framer f.has.stage f.has.gateway
+            f.has.greeted f.has.forwardings f.has.asks)) }
     {
         Ok(Forwarder {
             alloc,
@@ -108,13 +109,16 @@ impl<N: Notes + Drop> House for Forwarder<N> {
 
     ghost refused = { λ f. f.has.forwardings.refused };
 
-    ghost stands = { λ f calls. StandsFor calls
-        (held f.has.relays.all.items f.has.framer f.has.stage) };
+    ghost stands = { λ f calls. StandsSince f.has.ordering calls
+        (held_of f.has.relays f.has.framer f.has.stage f.has.gateway
+        f.has.greeted f.has.forwardings f.has.asks) };
 
     ghost fresh = { λ f. IsBlank (known_of f.has.forwardings.all.items f.has.relays.all.items
         f.has.asks.waiting.items f.has.ordering) (N.told f.notes.notes)
         × (f.has.forwardings.refused ≡ None)
-        × StandsFor [] (held f.has.relays.all.items f.has.framer f.has.stage) };
+        × StandsSince f.has.ordering []
+        (held_of f.has.relays f.has.framer f.has.stage f.has.gateway
+        f.has.greeted f.has.forwardings f.has.asks) };
 
     ghost begun = { λ f. IsBlank (known_of f.has.forwardings.all.items f.has.relays.all.items
         f.has.asks.waiting.items f.has.ordering) (N.told f.notes.notes) };

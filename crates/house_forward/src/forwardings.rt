@@ -12,7 +12,7 @@ ghost use Rattle.house_forward.specs.Forwardings.{first_refused, FailsAt, IsAt, 
 ghost use Rattle.house_forward.specs.Forwardings.{Begins, StartsIf, Leaves, OrderedAt, MadeAt, made_refused, order_asks, removed_at, replied_all, replied_refused, serials_after, start_of, what_stands};
 ghost use Rattle.house_forward.specs.Rules.{is_refused_alone};
 ghost use Rattle.house_forward.specs.Forwardings.{listeners_of, is_pending, to_listen, is_first_to_listen, IsListen, is_ordered_first, is_in_order, next_of, changed, after_close, is_new, Opens};
-ghost use Rattle.house_forward.specs.Forwardings.{is_asked, is_cancelled, live_in, replied_asks, after_saying, first_of, ordered_asks, served_at, serial_of, Orders, marks_in, listeners_made, has_listener};
+ghost use Rattle.house_forward.specs.Forwardings.{is_asked, is_cancelled, live_in, replied_asks, replied_done, after_saying, first_of, ordered_asks, order_done, ordered_done, served_at, serial_of, Orders, marks_in, listeners_made, has_listener};
 
 use crate::asks::{Asked, Asks, Outcome};
 use crate::forwarding::{Change, Forwarding, Request, Stage};
@@ -61,6 +61,8 @@ impl Forwardings {
     pub fn new(alloc: Global) -> Forwardings
         ensures refused { result.refused ≡ None }
         ensures none { result.all.items ≡ [] }
+        ensures serials { result.serials ≡ 0 }
+        ensures requests { result.requests.items ≡ [] }
     {
         Forwardings {
             alloc,
@@ -278,6 +280,10 @@ impl Forwardings {
         ensures asks { asks.new.waiting.items ≡ order_asks
             (next_of asks.old.waiting.items self.old.all.items) asks.old.done
             asks.old.waiting.items }
+        ensures listens { IfSome result (λ o. IsListen o
+            → next_of asks.old.waiting.items self.old.all.items ≡ Some Want.Listen) }
+        ensures done { asks.new.done ≡ order_done
+            (next_of asks.old.waiting.items self.old.all.items) asks.old.done }
         ensures serials { self.new.serials ≡ self.old.serials }
         ensures requests { self.new.requests ≡ self.old.requests }
         ensures refused { self.new.refused ≡ self.old.refused }
@@ -358,6 +364,7 @@ impl Forwardings {
         ensures asks { asks.new.waiting.items ≡ ordered_asks listener
             (serial_of (find to_listen self.old.all.items)) asks.old.done
             asks.old.waiting.items }
+        ensures done { asks.new.done ≡ ordered_done listener asks.old.done }
         ensures open { open_asks asks.new.waiting.items ≡ open_asks asks.old.waiting.items }
         ensures count { length asks.new.waiting.items ≡ length asks.old.waiting.items }
         ensures leaves { IfSome (position to_listen self.old.all.items)
@@ -429,6 +436,8 @@ impl Forwardings {
         ensures asks { asks.new.waiting.items ≡ replied_asks success port
             (first_of self.old.requests.items) self.old.all.items asks.old.done
             asks.old.waiting.items }
+        ensures done { asks.new.done ≡ replied_done success port
+            (first_of self.old.requests.items) self.old.all.items asks.old.done }
         ensures open { open_asks asks.new.waiting.items ≡ open_asks asks.old.waiting.items }
         ensures asked { length asks.new.waiting.items ≡ length asks.old.waiting.items }
         ensures listeners { listeners_of self.new.all.items

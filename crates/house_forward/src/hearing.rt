@@ -4,7 +4,7 @@ ghost use Rattle.std.specs.Option.{option_copied};
 ghost use Rattle.house_forward.specs.Forwardings.{listeners_of};
 ghost use Rattle.house_forward.specs.Known.{open_asks};
 ghost use Rattle.house_forward.specs.Links.{streams_of, Offers};
-ghost use Rattle.house_forward.specs.Lives.{LinksGo, HearsReading};
+ghost use Rattle.house_forward.specs.Lives.{HouseGoes, HearsReading};
 ghost use Rattle.ssh_grammar.specs.ReadMessage.{read_message as reading};
 
 use crate::asks::Asks;
@@ -33,8 +33,8 @@ pub fn hear(
     ensures fewer { length forwardings.new.all.items ≤ length forwardings.old.all.items }
     ensures streams { streams_of relays.new.all.items ≡ streams_of relays.old.all.items }
     ensures count { length relays.new.all.items ≤ length relays.old.all.items + 1 }
-    ensures goes { OnOk result (LinksGo (HearsReading (reading payload.now))
-        relays.old.all.items relays.new.all.items) }
+    ensures goes { OnOk result (HouseGoes (HearsReading (reading payload.now))
+        relays.old forwardings.old asks.old relays.new forwardings.new asks.new) }
 {
     let Ok(message) = read_message(payload) else {
         return Ok(());

@@ -1,5 +1,5 @@
 //! All that the house has but its notes.
-ghost use Rattle.std.specs.Prelude.{ℕ, ◌≡◌, ◌≤◌, ◌<◌, ◌+◌, ◌++◌, ◌∷◌, [], true, false, length, find, is_some, OnOk, IfOk, IfSome, IsSome, None, Some, Ok};
+ghost use Rattle.std.specs.Prelude.{ℕ, ◌≡◌, ◌≤◌, ◌<◌, ◌+◌, ◌-◌, ◌++◌, ◌∷◌, [], true, false, length, find, is_some, OnOk, IfOk, IfSome, IsSome, None, Some, Ok};
 ghost use Rattle.mux_outside.specs.House.{SaysFits, says_nothing, gives_none, order_marks, OrderFits, NumberFits, OwnTurnFits, nothing_known, ask_of};
 ghost use Rattle.mux_outside.specs.House.{known_after_ask, known_after_order, known_after_ordered, known_after_own_turn, queue_after_took};
 ghost use Rattle.mux_outside.specs.OwnStreams.{is_one, new_stream};
@@ -13,7 +13,8 @@ ghost use Rattle.house_forward.specs.Known.{known_of, ordering_of, is_there};
 ghost use Rattle.house_forward.specs.Links.{streams_of, queue_at, is_full, is_crowded, ConnectsFirst, IsJoined, IsJoinedAt, IsDialed, Joins};
 ghost use Rattle.house_forward.specs.Quiet.{quiet_of, says_none, orders_none};
 ghost use Rattle.house_forward.specs.Said.{framed, request_payload};
-ghost use Rattle.house_forward.specs.Lives.{HasLived, held, is_grant, GoesFurther, TakesFurther, SaysIn, HearsNext, HearsFrame, GivesOrder, OrdersIn, Follows};
+ghost use Rattle.house_forward.specs.Desk.{BeginsWith, IsAsked};
+ghost use Rattle.house_forward.specs.Lives.{HasLived, held_of, is_grant, GoesFurther, DeskGoes, TakesFurther, SaysIn, HearsNext, HearsFrame, GivesOrder, GetsNumber, Follows};
 ghost use Rattle.mux_outside.specs.HouseCalls.{Turns, happening_of};
 ghost use Rattle.proxy_frames.specs.Steps.{pushed};
 ghost use Rattle.ssh_fields.specs.Fields.{take_u32};
@@ -68,7 +69,9 @@ impl Holdings {
         ensures refused { result.forwardings.refused ≡ None }
         ensures due { due result.forwardings.all.items result.relays.all.items
             result.asks.waiting.items ≡ 0 }
-        ensures lived { HasLived [] (held result.relays.all.items result.framer result.stage) }
+        ensures lived { HasLived [] (held_of result.relays result.framer result.stage
+            result.gateway result.greeted result.forwardings result.asks) }
+        ensures ordering { result.ordering ≡ None }
     {
         Holdings {
             alloc,
@@ -116,8 +119,12 @@ impl Holdings {
             ≤ length self.old.forwardings.all.items + length starts.now.asks }
         ensures relays { self.new.relays ≡ self.old.relays }
         ensures asks { self.new.asks ≡ self.old.asks }
-        ensures held { held self.new.relays.all.items self.new.framer self.new.stage
-            ≡ held self.old.relays.all.items self.old.framer self.old.stage }
+        ensures ordering { self.new.ordering ≡ self.old.ordering }
+        ensures begins { OnOk result (DeskGoes (BeginsWith starts.now)
+            (held_of self.old.relays self.old.framer self.old.stage self.old.gateway
+            self.old.greeted self.old.forwardings self.old.asks)
+            (held_of self.new.relays self.new.framer self.new.stage self.new.gateway
+            self.new.greeted self.new.forwardings self.new.asks)) }
     {
         self.gateway = starts.gateway;
         self.must = starts.must;
@@ -151,8 +158,13 @@ impl Holdings {
         ensures relays { self.new.relays ≡ self.old.relays }
         ensures asks { length self.new.asks.waiting.items
             ≤ length self.old.asks.waiting.items + 1 }
-        ensures held { held self.new.relays.all.items self.new.framer self.new.stage
-            ≡ held self.old.relays.all.items self.old.framer self.old.stage }
+        ensures ordering { self.new.ordering ≡ self.old.ordering }
+        ensures goes { IfOk result (λ reply. DeskGoes
+            (IsAsked client id opening (ask_of what.now) reply)
+            (held_of self.old.relays self.old.framer self.old.stage self.old.gateway
+            self.old.greeted self.old.forwardings self.old.asks)
+            (held_of self.new.relays self.new.framer self.new.stage self.new.gateway
+            self.new.greeted self.new.forwardings self.new.asks)) }
     {
         match self.asked(client, id, opening, what)? {
             Asked::Now(Outcome::Done) => Ok(HouseReply::Done),
@@ -187,8 +199,15 @@ impl Holdings {
             ≤ length self.old.forwardings.all.items + 1 }
         ensures relays { self.new.relays ≡ self.old.relays }
         ensures asks { self.new.asks ≡ self.old.asks }
-        ensures held { held self.new.relays.all.items self.new.framer self.new.stage
-            ≡ held self.old.relays.all.items self.old.framer self.old.stage }
+        ensures framer { self.new.framer ≡ self.old.framer }
+        ensures stage { self.new.stage ≡ self.old.stage }
+        ensures gateway { self.new.gateway ≡ self.old.gateway }
+        ensures greeted { self.new.greeted ≡ self.old.greeted }
+        ensures serials { OnOk result (self.new.forwardings.serials
+            ≡ self.old.forwardings.serials + (length self.new.forwardings.all.items
+            - length self.old.forwardings.all.items)) }
+        ensures requests { self.new.forwardings.requests.items
+            ≡ self.old.forwardings.requests.items }
         ensures ordering { self.new.ordering ≡ self.old.ordering }
         ensures must { self.new.must ≡ self.old.must }
     {
@@ -224,9 +243,12 @@ impl Holdings {
         ensures relays { length self.new.relays.all.items
             ≤ length self.old.relays.all.items }
         ensures asks { self.new.asks ≡ self.old.asks }
+        ensures ordering { self.new.ordering ≡ self.old.ordering }
         ensures says { IfOk result (λ said. said ≡ true → GoesFurther (SaysIn into.new)
-            (held self.old.relays.all.items self.old.framer self.old.stage)
-            (held self.new.relays.all.items self.new.framer self.new.stage)) }
+            (held_of self.old.relays self.old.framer self.old.stage self.old.gateway
+            self.old.greeted self.old.forwardings self.old.asks)
+            (held_of self.new.relays self.new.framer self.new.stage self.new.gateway
+            self.new.greeted self.new.forwardings self.new.asks)) }
     {
         if !self.greeted {
             saying::put_whole(into, saying::GREETING)?;
@@ -296,8 +318,10 @@ impl Holdings {
         ensures none { result ≡ Ok false → self.new
             ≡ record self.old { framer = self.new.framer } }
         ensures hears { IfOk result (λ heard. GoesFurther (HearsNext heard)
-            (held self.old.relays.all.items self.old.framer self.old.stage)
-            (held self.new.relays.all.items self.new.framer self.new.stage)) }
+            (held_of self.old.relays self.old.framer self.old.stage self.old.gateway
+            self.old.greeted self.old.forwardings self.old.asks)
+            (held_of self.new.relays self.new.framer self.new.stage self.new.gateway
+            self.new.greeted self.new.forwardings self.new.asks)) }
     {
         match self.framer.next() {
             Next::Frame => {
@@ -327,8 +351,10 @@ impl Holdings {
             ≡ length self.old.asks.waiting.items }
         ensures hears { OnOk result (IfSome self.old.framer.current
             (λ content. GoesFurther (HearsFrame self.old.stage content)
-            (held self.old.relays.all.items self.old.framer self.old.stage)
-            (held self.new.relays.all.items self.new.framer self.new.stage))) }
+            (held_of self.old.relays self.old.framer self.old.stage self.old.gateway
+            self.old.greeted self.old.forwardings self.old.asks)
+            (held_of self.new.relays self.new.framer self.new.stage self.new.gateway
+            self.new.greeted self.new.forwardings self.new.asks))) }
     {
         match self.stage {
             Stage::Control => {
@@ -369,9 +395,11 @@ impl Holdings {
             ≤ due self.old.forwardings.all.items self.old.relays.all.items
             self.old.asks.waiting.items }
         ensures must { self.new.must ≡ self.old.must }
-        ensures gives { GoesFurther (GivesOrder result)
-            (held self.old.relays.all.items self.old.framer self.old.stage)
-            (held self.new.relays.all.items self.new.framer self.new.stage) }
+        ensures gives { GivesOrder result self.new.ordering
+            (held_of self.old.relays self.old.framer self.old.stage self.old.gateway
+            self.old.greeted self.old.forwardings self.old.asks)
+            (held_of self.new.relays self.new.framer self.new.stage self.new.gateway
+            self.new.greeted self.new.forwardings self.new.asks) }
     {
         if let Some(order) = self.relays.order() {
             return Some(order);
@@ -407,10 +435,12 @@ impl Holdings {
             self.old.asks.waiting.items }
         ensures none { self.old.ordering ≡ None → self.new ≡ self.old }
         ensures must { self.new.must ≡ self.old.must }
-        ensures makes { IfSome (ordering_of self.old.ordering)
-            (λ order. GoesFurther (OrdersIn order number)
-            (held self.old.relays.all.items self.old.framer self.old.stage)
-            (held self.new.relays.all.items self.new.framer self.new.stage)) }
+        ensures ordering { self.new.ordering ≡ None }
+        ensures makes { GetsNumber self.old.ordering number
+            (held_of self.old.relays self.old.framer self.old.stage self.old.gateway
+            self.old.greeted self.old.forwardings self.old.asks)
+            (held_of self.new.relays self.new.framer self.new.stage self.new.gateway
+            self.new.greeted self.new.forwardings self.new.asks) }
     {
         match &self.ordering {
             None => return None,
@@ -438,9 +468,12 @@ impl Holdings {
         ensures relays { length self.new.relays.all.items
             ≤ length self.old.relays.all.items + 1 }
         ensures asks { self.new.asks ≡ self.old.asks }
+        ensures ordering { self.new.ordering ≡ self.old.ordering }
         ensures follows { OnOk result (GoesFurther (Follows (Turns (happening_of t.entry)))
-            (held self.old.relays.all.items self.old.framer self.old.stage)
-            (held self.new.relays.all.items self.new.framer self.new.stage)) }
+            (held_of self.old.relays self.old.framer self.old.stage self.old.gateway
+            self.old.greeted self.old.forwardings self.old.asks)
+            (held_of self.new.relays self.new.framer self.new.stage self.new.gateway
+            self.new.greeted self.new.forwardings self.new.asks)) }
     {
         match t {
             OwnTurn::Joined { listener, stream } => self.joined(listener, stream),
@@ -474,6 +507,8 @@ impl Holdings {
             ≤ length self.old.relays.all.items + 1 }
         ensures framer { self.new.framer ≡ self.old.framer }
         ensures stage { self.new.stage ≡ self.old.stage }
+        ensures gateway { self.new.gateway ≡ self.old.gateway }
+        ensures greeted { self.new.greeted ≡ self.old.greeted }
         ensures forwardings { self.new.forwardings ≡ self.old.forwardings }
         ensures asks { self.new.asks ≡ self.old.asks }
         ensures ordering { self.new.ordering ≡ self.old.ordering }
@@ -535,9 +570,12 @@ impl Holdings {
             self.new.asks.waiting.items ≡ due self.old.forwardings.all.items
             self.old.relays.all.items self.old.asks.waiting.items }
         ensures must { self.new.must ≡ self.old.must }
+        ensures ordering { self.new.ordering ≡ self.old.ordering }
         ensures takes { TakesFurther stream n
-            (held self.old.relays.all.items self.old.framer self.old.stage)
-            (held self.new.relays.all.items self.new.framer self.new.stage) }
+            (held_of self.old.relays self.old.framer self.old.stage self.old.gateway
+            self.old.greeted self.old.forwardings self.old.asks)
+            (held_of self.new.relays self.new.framer self.new.stage self.new.gateway
+            self.new.greeted self.new.forwardings self.new.asks) }
     {
         self.relays.took(stream, n);
     }

@@ -16,8 +16,9 @@
 //! - The end of a side goes on to the other behind all bytes. When both have ended and nothing
 //!   waits, or a side fails, the channel is closed, and the socket behind it.
 //!
-//! What the calls of the house tell of its relays, call by call, is defined in specs/Lives.antt; the
-//! house stands for that. What holds of each relay, whatever the calls were, are the laws.
+//! What the calls of the house tell, call by call, is defined in specs/Lives.antt, of its relays, and
+//! in specs/Desk.antt, of all else that it has; the house stands for that. What holds of each relay,
+//! whatever the calls were, are the laws.
 #![tactic(auto)]
 
 mod asks;

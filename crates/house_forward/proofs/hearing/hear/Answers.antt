@@ -1,8 +1,10 @@
-use Rattle.std.proofs.Common.{◌≡◌, ◌∙◌, sym, ap, ℕ, Some}
+use Rattle.std.proofs.Common.{◌≡◌, ◌∙◌, sym, ap, ℕ, List, Some}
 use Rattle.std.specs.Option.{option_copied}
 use Rattle.ssh_grammar.specs.ReadMessage.{read_message as reading}
+use Rattle.ssh_fields.specs.Fields.{take_u32}
+use Rattle.house_forward.specs.Lives.{port_in}
 use Rattle.house_forward.proofs.Going.{on-ok}
-use Rattle.house_forward.proofs.Leading.{channel_of, its-channel, a-forwarded, a-channel-message}
+use Rattle.house_forward.proofs.Leading.{channel_of, its-channel, a-forwarded, a-channel-message, a-success, a-failure, port-read}
 use Rattle.house_forward.proofs.hearing.hear.Goals as goal
 use Rattle.house_forward.proofs.hearing.hear.Goals.{in-Confirmation, in-Confirmation-2, in-Confirmation-3, in-Confirmation-4, in-Confirmation-5, in-Confirmation-6, in-Confirmation-7, in-Confirmation-8, in-Confirmation-9, in-Confirmation-10}
 
@@ -12,8 +14,8 @@ returns-in-Open-default-default-default-default-default-Forwarded-clause-goes c 
     let o = c.in-Open-default-default-default-default-default-Forwarded in
     let what = rw o.is at o.what-is in
     on-ok c.take_open.result (λ offered. a-forwarded (reading c.args.payload.now) c.in-Ok.message o.kind o.rest o.address o.sender o.window o.maximum o.port o.what
-    (option_copied c.of_server.result) c.args.relays.now.all.items c.take_open.new.relays.all.items c.in-Ok.ensures.exact o.is what
-    c.take_open.ensures.others offered) c.take_open.ensures.offered
+    (option_copied c.of_server.result) c.args.relays.now c.take_open.new.relays c.args.forwardings.now c.args.asks.now c.in-Ok.ensures.exact o.is what
+    c.of_server.ensures c.take_open.ensures.others offered) c.take_open.ensures.offered
 
 pub returns-in-Confirmation-clause-goes : goal.returns-in-Confirmation-clause-goes
 returns-in-Confirmation-clause-goes c =
@@ -32,5 +34,26 @@ returns-in-Confirmation-clause-goes c =
       | in-Confirmation-9 w ↦ its-channel c.in-Ok.message w.in-Confirmation.recipient w.in-Confirmation.is ∙ its w.in-Confirmation.recipient w.recipient-is
       | in-Confirmation-10 w ↦ its-channel c.in-Ok.message w.in-Confirmation.recipient w.in-Confirmation.is ∙ its w.in-Confirmation.recipient w.recipient-is
     ] in
-    on-ok c.hear.result (λ heard. a-channel-message (reading c.args.payload.now) c.in-Ok.message n c.args.relays.now.all.items c.hear.new.self.all.items
+    on-ok c.hear.result (λ heard. a-channel-message (reading c.args.payload.now) c.in-Ok.message n c.args.relays.now c.hear.new.self c.args.forwardings.now c.args.asks.now
     c.in-Ok.ensures.exact channel heard) c.hear.ensures.hears
+
+pub returns-in-RequestSuccess-clause-goes : goal.returns-in-RequestSuccess-clause-goes
+returns-in-RequestSuccess-clause-goes c =
+    let m = c.in-RequestSuccess in
+    let fs = c.args.forwardings.now in
+    let asks = c.args.asks.now in
+    let r = c.replied.ensures in
+    let read = c.take_u32-port in
+    a-success (reading c.args.payload.now) c.in-Ok.message m.rest read.result c.args.relays.now fs asks c.replied.new.self c.replied.new.asks
+    c.in-Ok.ensures.exact m.is
+    (port-read read.result c.new.result read.new.self read.ensures.ok read.ensures.short ∙ ap (λ (b : List ℕ). port_in (take_u32 b)) c.new.ensures)
+    (record { all = r.all; serials = r.serials; refused = r.refused; requests = r.requests; waiting = r.asks; done = r.done })
+
+pub returns-in-RequestFailure-clause-goes : goal.returns-in-RequestFailure-clause-goes
+returns-in-RequestFailure-clause-goes c =
+    let fs = c.args.forwardings.now in
+    let asks = c.args.asks.now in
+    let r = c.replied-in-RequestFailure.ensures in
+    a-failure (reading c.args.payload.now) c.in-Ok.message c.args.relays.now fs asks c.replied-in-RequestFailure.new.self c.replied-in-RequestFailure.new.asks
+    c.in-Ok.ensures.exact c.in-RequestFailure.is
+    (record { all = r.all; serials = r.serials; refused = r.refused; requests = r.requests; waiting = r.asks; done = r.done })

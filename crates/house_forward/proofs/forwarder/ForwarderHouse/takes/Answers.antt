@@ -1,7 +1,7 @@
-use Rattle.std.proofs.Common.{rules, ◌≡◌, refl, false, arith}
+use Rattle.std.proofs.Common.{rules, ◌≡◌, ◌∙◌, refl, ap, false, arith}
 use Rattle.mux_outside.specs.HouseCalls.{Hears}
-use Rattle.house_forward.proofs.Calling.{held_of, leads-on, takes-in}
-use Rattle.house_forward.proofs.Courses.{stands-on}
+use Rattle.house_forward.specs.declared.holdings.Holdings.{Holdings}
+use Rattle.house_forward.proofs.Calling.{of_house, leads-on, takes-in, no-ordering, since-on}
 use Rattle.house_forward.proofs.Leading.{leads-first}
 use Rattle.house_forward.proofs.forwarder.ForwarderHouse.takes.Goals as goal
 
@@ -20,7 +20,7 @@ loop-self-preserved g c = record {
   known = first_of (search rules, grind arith);
   must = first_of (search rules, grind arith);
   ordering = first_of (search rules, grind arith);
-  leads = leads-on c.in_ok-hear.field-0 _ c.loop-self.self.has c.reserve.new.self.has (held_of c.hear.new.self) (first_of (search rules, grind arith)) c.reserve.ensures.has
+  leads = leads-on c.in_ok-hear.field-0 _ c.loop-self.self.has c.reserve.new.self.has (of_house c.hear.new.self) (first_of (search rules, grind arith)) c.reserve.ensures.has
       c.loop-self.invariant.leads c.in_ok-hear.ensures.hears;
 }
 
@@ -28,9 +28,10 @@ pub returns-clause-stands : goal.returns-clause-stands
 returns-clause-stands g c =
     let has = c.args.self.now.has in
     let taken = c.take.new.self in
-    let new = held_of c.hear.new.self in
+    let new = c.hear.new.self in
     let none : c.in_ok-hear.field-0 ≡ false = first_of (search rules, grind arith) in
-    λ calls h. stands-on calls (Hears c.args.bytes.now) (held_of has) new refl
-    (takes-in c.args.bytes.now has taken c.loop-self.self.has c.reserve.new.self.has c.in_ok-hear.field-0 new
+    λ calls h. since-on has.ordering new.ordering calls (Hears c.args.bytes.now) (of_house has) (of_house new) (no-ordering has.ordering c.requires)
+    (c.hear.ensures.ordering ∙ ap (λ (x : Holdings). x.ordering) c.reserve.ensures.has ∙ c.loop-self.invariant.ordering) refl
+    (takes-in c.args.bytes.now has taken c.loop-self.self.has c.reserve.new.self.has c.in_ok-hear.field-0 (of_house new)
     c.take.ensures.others c.in_ok-take.ensures.heard
     c.loop-self.invariant.leads c.reserve.ensures.has none c.in_ok-hear.ensures.hears) h

@@ -1,6 +1,6 @@
 use Rattle.std.proofs.Common.{◌≡◌, length, None}
 use Rattle.house_forward.specs.Known.{known_of}
-use Rattle.house_forward.specs.Lives.{held}
+use Rattle.house_forward.proofs.Calling.{of_house}
 use Rattle.house_forward.proofs.Leading.{LeadsOn}
 use Rattle.house_forward.proofs.forwarder.ForwarderHouse.takes.Given as goal
 
@@ -11,8 +11,7 @@ invariant-loop-self g l = record {
       ≡ known_of l.initial.self.has.forwardings.all.items l.initial.self.has.relays.all.items l.initial.self.has.asks.waiting.items l.initial.self.has.ordering;
   must : l.self.has.must ≡ l.initial.self.has.must;
   ordering : l.self.has.ordering ≡ None;
-  leads : LeadsOn (held l.initial.self.has.relays.all.items l.initial.self.has.framer l.initial.self.has.stage)
-      (held l.self.has.relays.all.items l.self.has.framer l.self.has.stage);
+  leads : LeadsOn (of_house l.initial.self.has) (of_house l.self.has);
 }
 
 abbrev pub decreases-loop-self : goal.decreases-loop-self

@@ -70,3 +70,6 @@ returns-in-None-clause-leaves c = rw (c.in-None.is, sym c.in-Some.ensures) c.fai
 pub returns-in-None-clause-refused : goal.returns-in-None-clause-refused
 returns-in-None-clause-refused c =
     rw c.in-None.is (first-refused to_listen c.args.self.now.all.items c.in-Some.i c.args.self.now.refused c.fail.new.self.refused (sym c.in-Some.ensures) c.fail.ensures.refused)
+
+pub returns-in_default-clause-done : goal.returns-in_default-clause-done
+returns-in_default-clause-done c = absurd (none-waits c.args.self.now.all.items (sym c.in_default.ensures) c.requires)

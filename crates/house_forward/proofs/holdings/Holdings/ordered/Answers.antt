@@ -1,15 +1,24 @@
-use Rattle.std.proofs.Common.{rules, ◌≡◌, true, arith}
-use Rattle.house_forward.specs.Lives.{held}
-use Rattle.house_forward.proofs.Leading.{connects, listens, made-so, listened-so}
+use Rattle.std.proofs.Common.{rules, ◌≡◌, refl, true, arith}
+use Rattle.house_forward.specs.Lives.{held_of}
+use Rattle.house_forward.proofs.Calling.{of_house}
+use Rattle.house_forward.proofs.Desks.{makes-listener}
+use Rattle.house_forward.proofs.Leading.{connects, listens, made-so, listened-so, listened-first}
 use Rattle.house_forward.proofs.holdings.Holdings.ordered.Goals as goal
 use Rattle.house_forward.proofs.holdings.Holdings.ordered.Goals.{in-Some-Listen, in-Some-Connect}
 
 pub returns-clause-makes : goal.returns-clause-makes
 returns-clause-makes c =
     let now = c.args.self.now in
+    let number = c.args.number in
     elim c.match-self-2.branch [
       | in-Some-Listen w ↦ (let is : listens now.ordering ≡ true = first_of (search rules, grind arith) in
-          rw w.self-is (listened-so now.ordering c.args.number (held now.relays.all.items now.framer now.stage) is))
+          let fs = w.ordered.new.self in
+          let asks = w.ordered.new.asks in
+          rw w.self-is (listened-so now.ordering number (of_house now) (held_of now.relays now.framer now.stage now.gateway now.greeted fs asks) is
+          (makes-listener number now.relays now.framer now.stage now.gateway now.greeted now.forwardings now.asks fs asks
+          (listened-first now.ordering now.forwardings.all.items now.relays.all.items is now.there)
+          w.ordered.ensures.leaves w.ordered.ensures.asks w.ordered.ensures.done w.ordered.ensures.serials w.ordered.ensures.requests w.ordered.ensures.refused)))
       | in-Some-Connect w ↦ (let is : connects now.ordering ≡ true = first_of (search rules, grind arith) in
-          rw w.self-is (made-so now.ordering c.args.number now.relays.all.items w.made.new.self.all.items now.framer now.stage is w.made.ensures.makes))
+          rw w.self-is (made-so now.ordering number (of_house now)
+          (held_of w.made.new.self now.framer now.stage now.gateway now.greeted now.forwardings now.asks) is refl w.made.ensures.makes))
     ]

@@ -1,13 +1,12 @@
 use Rattle.std.proofs.Common.{refl, ap}
-use Rattle.std.specs.Prelude.{not, find}
 use Rattle.mux_outside.specs.House.{Quiet}
 use Rattle.mux_outside.specs.HouseCalls.{Turns, Joined}
-use Rattle.house_forward.specs.Forwardings.{has_listener}
-use Rattle.house_forward.specs.Links.{is_full}
-use Rattle.house_forward.specs.Lives.{Follows, held}
+use Rattle.house_forward.specs.Desk.{desk_of}
+use Rattle.house_forward.specs.Lives.{Follows}
+use Rattle.house_forward.proofs.Calling.{of_house}
 use Rattle.house_forward.proofs.Courses.{joins, gets, ends, is-writable, fails}
 use Rattle.house_forward.proofs.Going.{on-ok}
-use Rattle.house_forward.proofs.Leading.{relays-alone}
+use Rattle.house_forward.proofs.Leading.{relays-alone, same-desk}
 use Rattle.house_forward.proofs.Resting.{held-at-rest}
 use Rattle.house_forward.proofs.Streams.{ended-streams, writable-streams, failed-streams}
 use Rattle.house_forward.proofs.holdings.Holdings.turn.Goals as goal
@@ -37,8 +36,12 @@ returns-in-Joined-clause-follows c =
     let new = c.joined.new.self in
     let l = c.in-Joined.listener in
     let t = c.in-Joined.stream in
-    rw c.in-Joined.is (on-ok c.joined.result (λ j. relays-alone (Follows (Turns (Joined l t))) (held now.relays.all.items now.framer now.stage) new.relays.all.items now.framer new.framer now.stage new.stage c.joined.ensures.framer c.joined.ensures.stage
-    (joins l t (find (has_listener l) now.forwardings.all.items) now.relays.all.items new.relays.all.items j now.framer now.stage))
+    let desk = desk_of now.gateway now.greeted now.forwardings now.asks in
+    rw c.in-Joined.is (on-ok c.joined.result (λ j. relays-alone (Follows (Turns (Joined l t))) (of_house now) new.relays.all.items now.framer new.framer now.stage new.stage
+    desk (desk_of new.gateway new.greeted new.forwardings new.asks) c.joined.ensures.framer c.joined.ensures.stage
+    (same-desk now.gateway new.gateway now.greeted new.greeted now.forwardings new.forwardings now.asks new.asks c.joined.ensures.gateway c.joined.ensures.greeted
+    c.joined.ensures.forwardings c.joined.ensures.asks)
+    (joins l t now.relays.all.items new.relays.all.items now.framer now.stage desk j))
     c.joined.ensures.joins)
 
 pub returns-in-Got-clause-follows : goal.returns-in-Got-clause-follows
@@ -47,20 +50,22 @@ returns-in-Got-clause-follows c =
     let now = c.args.self.now in
     let rests = held-at-rest now.greeted now.forwardings.all.items now.relays.all.items now.asks.waiting.items c.in-Got.stream
     (ap (λ (q : Quiet). q.says) fits.1) (ap (λ (q : Quiet). q.orders) fits.1) fits.0.loud in
-    rw c.in-Got.is (on-ok c.got.result (λ reads. gets c.in-Got.stream c.in-Got.bytes.now (not (is_full now.relays.all.items)) now.relays.all.items c.got.new.self.all.items
-    rests fits.3 fits.0.loud reads now.framer now.stage) c.got.ensures.reads)
+    rw c.in-Got.is (on-ok c.got.result (λ reads. gets c.in-Got.stream c.in-Got.bytes.now now.relays.all.items c.got.new.self.all.items
+    rests fits.3 fits.0.loud reads now.framer now.stage (desk_of now.gateway now.greeted now.forwardings now.asks)) c.got.ensures.reads)
 
 pub returns-in-End-clause-follows : goal.returns-in-End-clause-follows
 returns-in-End-clause-follows c =
     let now = c.args.self.now in
-    rw (c.in-End.is, c.step.ensures) (ends c.in-End.stream now.relays.all.items now.framer now.stage)
+    rw (c.in-End.is, c.step.ensures) (ends c.in-End.stream now.relays.all.items now.framer now.stage (desk_of now.gateway now.greeted now.forwardings now.asks))
 
 pub returns-in-Writable-clause-follows : goal.returns-in-Writable-clause-follows
 returns-in-Writable-clause-follows c =
     let now = c.args.self.now in
-    rw (c.in-Writable.is, c.step-in-Writable.ensures) (is-writable c.in-Writable.stream now.relays.all.items now.framer now.stage)
+    rw (c.in-Writable.is, c.step-in-Writable.ensures)
+    (is-writable c.in-Writable.stream now.relays.all.items now.framer now.stage (desk_of now.gateway now.greeted now.forwardings now.asks))
 
 pub returns-in-Failed-clause-follows : goal.returns-in-Failed-clause-follows
 returns-in-Failed-clause-follows c =
     let now = c.args.self.now in
-    rw (c.in-Failed.is, c.step-in-Failed.ensures) (fails c.in-Failed.stream now.relays.all.items now.framer now.stage)
+    rw (c.in-Failed.is, c.step-in-Failed.ensures)
+    (fails c.in-Failed.stream now.relays.all.items now.framer now.stage (desk_of now.gateway now.greeted now.forwardings now.asks))

@@ -1,4 +1,4 @@
-use Rattle.std.proofs.Common.{◌≡◌, refl, sym, ap, ◌≤◌, ◌+◌, length, [], arith}
+use Rattle.std.proofs.Common.{refl, sym, ap, ◌≤◌, length, arith}
 use Rattle.mux_outside.specs.declared.piece.TheConstants.{LONGEST_PIECE}
 use Rattle.house_forward.specs.Links.{is_of}
 use Rattle.house_forward.specs.declared.link.Link.{Link}

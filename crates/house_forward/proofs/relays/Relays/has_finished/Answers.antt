@@ -1,4 +1,4 @@
-use Rattle.std.proofs.Common.{◌≡◌, ◌∙◌, sym}
+use Rattle.std.proofs.Common.{◌∙◌, sym}
 use Rattle.house_forward.proofs.Finding.{finished-there, finished-nowhere}
 use Rattle.house_forward.proofs.relays.Relays.has_finished.Goals as goal
 

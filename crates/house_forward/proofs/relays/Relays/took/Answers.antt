@@ -1,4 +1,4 @@
-use Rattle.std.proofs.Common.{◌≡◌, refl, sym, ap, ◌≤◌, length}
+use Rattle.std.proofs.Common.{refl, sym, ap}
 use Rattle.house_relay.specs.declared.relay.Relay.{Relay}
 use Rattle.house_forward.specs.Links.{is_of}
 use Rattle.house_forward.specs.declared.link.Link.{Link}

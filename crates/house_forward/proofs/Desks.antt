@@ -1,0 +1,218 @@
+-- How what the house has besides its relays goes on.
+use Rattle.std.proofs.Common.{◌≡◌, ◌∙◌, refl, sym, ap, subst, ℕ, Bool, true, false, List, [], ◌∷◌, ◌++◌, Option, Some, None}
+use Rattle.std.specs.Prelude.{not, filter, find, is_some, IfSome}
+use Rattle.std.specs.List.{position}
+use Rattle.std.proofs.lemmas.Bool.{false≢true}
+use Rattle.proxy_frames.specs.State.{FramerState}
+use Rattle.mux_outside.specs.declared.house.HouseReply.{HouseReply}
+use Rattle.house_forward.specs.Asks.{answer_of, after_answer, settled, counted}
+use Rattle.house_forward.specs.Desk.{Desk, desk_of, Answers, greeting_said, request_said, OrdersListener, MakesListener, EndsListener}
+use Rattle.house_forward.specs.Forwardings.{is_first_to_listen, is_ordered_first, ListensFor, Orders, Leaves, has_request, request_of, after_saying}
+use Rattle.house_forward.specs.Forwardings.{next_of, to_listen, OrderedAt, MadeAt, has_listener, made_refused, order_asks, order_done, ordered_asks, ordered_done, serial_of}
+use Rattle.house_forward.specs.Lives.{Held, DeskGoes, GoesFurther, SaysIn, held, held_of}
+use Rattle.house_forward.specs.Said.{framed, request_payload}
+use Rattle.house_forward.specs.declared.asks.Asks.{Asks}
+use Rattle.house_forward.specs.declared.asks.Outcome.TheVariants.{Done}
+use Rattle.house_forward.specs.declared.forwarding.Forwarding.{Forwarding}
+use Rattle.house_forward.specs.declared.forwarding.Request.{Request}
+use Rattle.house_forward.specs.declared.forwardings.Forwardings.{Forwardings}
+use Rattle.house_forward.specs.declared.forwardings.ListenerOrder.TheVariants.{Listen as ListensAt, Unlisten as Unlistens}
+use Rattle.house_forward.specs.declared.forwardings.Want.{Want}
+use Rattle.house_forward.specs.declared.forwardings.Want.TheVariants as want
+use Rattle.house_forward.specs.declared.holdings.Stage.{Stage}
+use Rattle.house_forward.specs.declared.relays.Relays.{Relays}
+use Rattle.house_forward.specs.declared.saying.TheConstants.{GREETING}
+use Rattle.house_forward.specs.declared.two_texts.TwoTexts.{TwoTexts}
+use Rattle.house_forward.proofs.Courses.{greets, requests}
+use Rattle.house_forward.proofs.InOrder.{none-waits, listens-first}
+use Rattle.house_forward.proofs.Lists.{none-passes, none-found}
+
+-- two are the same whose parts are
+pub same-desks : (a b : Desk) → a.gateway ≡ b.gateway → a.greeted ≡ b.greeted → a.all ≡ b.all → a.serials ≡ b.serials
+    → a.refused ≡ b.refused → a.requests ≡ b.requests → a.waiting ≡ b.waiting → a.done ≡ b.done → a ≡ b
+same-desks a b gateway greeted all serials refused requests waiting done =
+    let x : Desk = record {
+      gateway = a.gateway;
+      greeted = a.greeted;
+      all = a.all;
+      serials = a.serials;
+      refused = a.refused;
+      requests = a.requests;
+      waiting = a.waiting;
+      done = a.done;
+    } in
+    ap (λ g. record x { gateway = g }) gateway
+    ∙ ap (λ g. record x { gateway = b.gateway; greeted = g }) greeted
+    ∙ ap (λ fs. record x { gateway = b.gateway; greeted = b.greeted; all = fs }) all
+    ∙ ap (λ n. record x { gateway = b.gateway; greeted = b.greeted; all = b.all; serials = n }) serials
+    ∙ ap (λ o. record x { gateway = b.gateway; greeted = b.greeted; all = b.all; serials = b.serials; refused = o }) refused
+    ∙ ap (λ rs. record b { requests = rs; waiting = a.waiting; done = a.done }) requests
+    ∙ ap (λ ws. record b { waiting = ws; done = a.done }) waiting
+    ∙ ap (λ n. record b { done = n }) done
+
+-- ---- listeners
+
+-- one that is next to be closed is closed
+pub ends-listener : (l : ℕ) (relays : Relays) (framer : FramerState) (stage : Stage) (gateway greeted : Bool) (fs : Forwardings) (asks : Asks)
+    (fs' : Forwardings) (asks' : Asks) → Orders (Unlistens l) asks.waiting.items fs.all.items fs'.all.items
+    → Leaves (Unlistens l) fs.all.items fs'.all.items
+    → asks'.waiting.items ≡ order_asks (next_of asks.waiting.items fs.all.items) asks.done asks.waiting.items
+    → asks'.done ≡ order_done (next_of asks.waiting.items fs.all.items) asks.done
+    → fs'.serials ≡ fs.serials → fs'.requests ≡ fs.requests → fs'.refused ≡ fs.refused
+    → DeskGoes (EndsListener l) (held_of relays framer stage gateway greeted fs asks) (held_of relays framer stage gateway greeted fs' asks')
+ends-listener l relays framer stage gateway greeted fs asks fs' asks' orders leaves waiting done serials requests refused =
+    let next = orders.2.1 in
+    let old = desk_of gateway greeted fs asks in (
+      refl,
+      record {
+        serial = orders.2.0;
+        next = next;
+        others = same-desks (desk_of gateway greeted fs' asks') (record old {
+          all = filter (λ f. not (has_listener l f)) old.all;
+          waiting = settled orders.2.0 false old.done Done old.waiting;
+          done = counted old.done;
+        }) refl refl leaves serials refused (ap (λ q. q.items) requests)
+            (waiting ∙ ap (λ (o : Option Want). order_asks o asks.done asks.waiting.items) next)
+            (done ∙ ap (λ (o : Option Want). order_done o asks.done) next);
+      },
+    )
+
+listens-by : (texts : TwoTexts) (port : ℕ) (o : Option Forwarding) → ListensFor (ListensAt texts port) o
+    → IfSome o (λ f. (texts.other ≡ f.listen_host) × (port ≡ f.listen_port))
+listens-by texts port None h = tt
+listens-by texts port (Some f) h = (sym texts.same ∙ h.0, h.1)
+
+orders-by : (o : Option ℕ) (texts : TwoTexts) (port : ℕ) (relays : Relays) (framer : FramerState) (stage : Stage) (gateway greeted : Bool)
+    (fs : Forwardings) (asks : Asks) (fs' : Forwardings) (asks' : Asks) → position to_listen fs.all.items ≡ o
+    → next_of asks.waiting.items fs.all.items ≡ Some want.Listen → ListensFor (ListensAt texts port) (find to_listen fs.all.items)
+    → IfSome o (λ i. OrderedAt i fs.all.items fs'.all.items)
+    → asks'.waiting.items ≡ order_asks (next_of asks.waiting.items fs.all.items) asks.done asks.waiting.items
+    → asks'.done ≡ order_done (next_of asks.waiting.items fs.all.items) asks.done
+    → fs'.serials ≡ fs.serials → fs'.requests ≡ fs.requests → fs'.refused ≡ fs.refused
+    → DeskGoes (OrdersListener texts.other port) (held_of relays framer stage gateway greeted fs asks)
+    (held_of relays framer stage gateway greeted fs' asks')
+orders-by None texts port relays framer stage gateway greeted fs asks fs' asks' e next place leaves waiting done serials requests refused =
+    let none = none-found to_listen fs.all.items (none-passes to_listen fs.all.items e) in
+    absurd (false≢true (ap is_first_to_listen (sym none) ∙ listens-first asks.waiting.items fs.all.items next))
+orders-by (Some i) texts port relays framer stage gateway greeted fs asks fs' asks' e next place leaves waiting done serials requests refused =
+    let old = desk_of gateway greeted fs asks in (
+      refl,
+      record {
+        place = i;
+        first = e;
+        next = next;
+        there = listens-by texts port (find to_listen fs.all.items) place;
+        ordered = leaves;
+        others = same-desks (desk_of gateway greeted fs' asks') (record old { all = fs'.all.items }) refl refl refl serials refused
+            (ap (λ q. q.items) requests) (waiting ∙ ap (λ (o : Option Want). order_asks o asks.done asks.waiting.items) next)
+            (done ∙ ap (λ (o : Option Want). order_done o asks.done) next);
+      },
+    )
+
+-- the first that has none yet is ordered
+pub orders-listener : (texts : TwoTexts) (port : ℕ) (relays : Relays) (framer : FramerState) (stage : Stage) (gateway greeted : Bool)
+    (fs : Forwardings) (asks : Asks) (fs' : Forwardings) (asks' : Asks)
+    → next_of asks.waiting.items fs.all.items ≡ Some want.Listen → ListensFor (ListensAt texts port) (find to_listen fs.all.items)
+    → Leaves (ListensAt texts port) fs.all.items fs'.all.items
+    → asks'.waiting.items ≡ order_asks (next_of asks.waiting.items fs.all.items) asks.done asks.waiting.items
+    → asks'.done ≡ order_done (next_of asks.waiting.items fs.all.items) asks.done
+    → fs'.serials ≡ fs.serials → fs'.requests ≡ fs.requests → fs'.refused ≡ fs.refused
+    → DeskGoes (OrdersListener texts.other port) (held_of relays framer stage gateway greeted fs asks)
+    (held_of relays framer stage gateway greeted fs' asks')
+orders-listener texts port relays framer stage gateway greeted fs asks fs' asks' next place leaves waiting done serials requests refused =
+    orders-by (position to_listen fs.all.items) texts port relays framer stage gateway greeted fs asks fs' asks' refl next place leaves waiting done
+    serials requests refused
+
+makes-by : (o : Option ℕ) (number : Option ℕ) (relays : Relays) (framer : FramerState) (stage : Stage) (gateway greeted : Bool) (fs : Forwardings) (asks : Asks)
+    (fs' : Forwardings) (asks' : Asks) → position to_listen fs.all.items ≡ o → is_ordered_first (find to_listen fs.all.items) ≡ true
+    → IfSome o (λ i. MadeAt number i fs.all.items fs'.all.items)
+    → asks'.waiting.items ≡ ordered_asks number (serial_of (find to_listen fs.all.items)) asks.done asks.waiting.items
+    → asks'.done ≡ ordered_done number asks.done → fs'.serials ≡ fs.serials → fs'.requests ≡ fs.requests
+    → fs'.refused ≡ made_refused number (find to_listen fs.all.items) fs.refused
+    → DeskGoes (MakesListener number) (held_of relays framer stage gateway greeted fs asks) (held_of relays framer stage gateway greeted fs' asks')
+makes-by None number relays framer stage gateway greeted fs asks fs' asks' e is leaves waiting done serials requests refused =
+    absurd (none-waits fs.all.items e is)
+makes-by (Some i) number relays framer stage gateway greeted fs asks fs' asks' e is leaves waiting done serials requests refused =
+    let old = desk_of gateway greeted fs asks in (
+      refl,
+      record {
+        place = i;
+        first = e;
+        made = leaves;
+        others = same-desks (desk_of gateway greeted fs' asks') (record old {
+          all = fs'.all.items;
+          refused = made_refused number (find to_listen old.all) old.refused;
+          waiting = ordered_asks number (serial_of (find to_listen old.all)) old.done old.waiting;
+          done = ordered_done number old.done;
+        }) refl refl refl serials refused (ap (λ q. q.items) requests) waiting done;
+      },
+    )
+
+-- it is made, or couldn't be
+pub makes-listener : (number : Option ℕ) (relays : Relays) (framer : FramerState) (stage : Stage) (gateway greeted : Bool) (fs : Forwardings) (asks : Asks)
+    (fs' : Forwardings) (asks' : Asks) → is_ordered_first (find to_listen fs.all.items) ≡ true
+    → IfSome (position to_listen fs.all.items) (λ i. MadeAt number i fs.all.items fs'.all.items)
+    → asks'.waiting.items ≡ ordered_asks number (serial_of (find to_listen fs.all.items)) asks.done asks.waiting.items
+    → asks'.done ≡ ordered_done number asks.done → fs'.serials ≡ fs.serials → fs'.requests ≡ fs.requests
+    → fs'.refused ≡ made_refused number (find to_listen fs.all.items) fs.refused
+    → DeskGoes (MakesListener number) (held_of relays framer stage gateway greeted fs asks) (held_of relays framer stage gateway greeted fs' asks')
+makes-listener number relays framer stage gateway greeted fs asks fs' asks' is leaves waiting done serials requests refused =
+    makes-by (position to_listen fs.all.items) number relays framer stage gateway greeted fs asks fs' asks' refl is leaves waiting done serials requests refused
+
+-- ---- asks
+
+-- an ask gets its answer
+pub gives-answer : (client id : ℕ) (reply : HouseReply) (o : Option (ℕ × ℕ × HouseReply)) (relays : Relays) (framer : FramerState) (stage : Stage)
+    (gateway greeted : Bool) (fs : Forwardings) (asks asks' : Asks) → o ≡ Some (client, id, reply) → o ≡ answer_of asks.waiting.items
+    → asks'.waiting.items ≡ after_answer o asks.waiting.items → asks'.done ≡ asks.done
+    → DeskGoes (Answers client id reply) (held_of relays framer stage gateway greeted fs asks) (held_of relays framer stage gateway greeted fs asks')
+gives-answer client id reply o relays framer stage gateway greeted fs asks asks' e is waiting done =
+    let old = desk_of gateway greeted fs asks in (
+      refl,
+      record {
+        answer = sym is ∙ e;
+        others = same-desks (desk_of gateway greeted fs asks') (record old { waiting = after_answer (Some (client, id, reply)) old.waiting })
+            refl refl refl refl refl refl (waiting ∙ ap (λ (a : Option (ℕ × ℕ × HouseReply)). after_answer a asks.waiting.items) e) done;
+      },
+    )
+
+-- ---- what is said
+
+requests-by : (o : Option Forwarding) (said : Option Request) (r : Request) (bytes : List ℕ) (relays : Relays) (framer : FramerState) (stage : Stage)
+    (gateway greeted : Bool) (fs fs' : Forwardings) (asks : Asks) → find has_request fs.all.items ≡ o → greeted ≡ true → said ≡ Some r
+    → is_some said ≡ is_some o → IfSome o (λ f. said ≡ Some (request_of f)) → IfSome o (λ f. bytes ≡ framed (request_payload f))
+    → fs'.all.items ≡ after_saying r fs.all.items → fs'.requests.items ≡ fs.requests.items ++ r ∷ []
+    → fs'.serials ≡ fs.serials → fs'.refused ≡ fs.refused
+    → GoesFurther (SaysIn bytes) (held_of relays framer stage gateway greeted fs asks) (held_of relays framer stage gateway greeted fs' asks)
+requests-by None said r bytes relays framer stage gateway greeted fs fs' asks e first is exact which spelled all more serials refused = cc
+requests-by (Some f) said r bytes relays framer stage gateway greeted fs fs' asks e first is exact which spelled all more serials refused =
+    let old = held_of relays framer stage gateway greeted fs asks in
+    let same : r ≡ request_of f = cc in
+    let desk = same-desks (desk_of gateway greeted fs' asks) (request_said f (desk_of gateway greeted fs asks)) refl refl
+    (all ∙ ap (λ (q : Request). after_saying q fs.all.items) same) serials refused
+    (more ∙ ap (λ (q : Request). fs.requests.items ++ q ∷ []) same) refl refl in
+    subst (λ (d : Desk). GoesFurther (SaysIn bytes) old (held relays.all.items framer stage d)) (sym desk)
+    (subst (λ (b : List ℕ). GoesFurther (SaysIn b) old (record old { desk = request_said f old.desk })) (sym spelled) (requests f old first e))
+
+-- the first request is said
+pub requests-one : (said : Option Request) (r : Request) (bytes : List ℕ) (relays : Relays) (framer : FramerState) (stage : Stage)
+    (gateway greeted : Bool) (fs fs' : Forwardings) (asks : Asks) → greeted ≡ true → said ≡ Some r
+    → is_some said ≡ is_some (find has_request fs.all.items) → IfSome (find has_request fs.all.items) (λ f. said ≡ Some (request_of f))
+    → IfSome (find has_request fs.all.items) (λ f. bytes ≡ framed (request_payload f))
+    → fs'.all.items ≡ after_saying r fs.all.items → fs'.requests.items ≡ fs.requests.items ++ r ∷ []
+    → fs'.serials ≡ fs.serials → fs'.refused ≡ fs.refused
+    → GoesFurther (SaysIn bytes) (held_of relays framer stage gateway greeted fs asks) (held_of relays framer stage gateway greeted fs' asks)
+requests-one said r bytes relays framer stage gateway greeted fs fs' asks first is exact which spelled all more serials refused =
+    requests-by (find has_request fs.all.items) said r bytes relays framer stage gateway greeted fs fs' asks refl first is exact which spelled all more
+    serials refused
+
+-- there is none
+pub no-request : (o : Option Forwarding) (said : Option Request) → said ≡ None → is_some said ≡ is_some o → o ≡ None
+no-request None said is e = refl
+no-request (Some f) said is e = cc
+
+-- it greets
+pub greets-first : (bytes : List ℕ) (h : Held) → bytes ≡ GREETING.now → h.desk.greeted ≡ false
+    → GoesFurther (SaysIn bytes) h (record h { desk = greeting_said h.desk })
+greets-first bytes h e none =
+    subst (λ (b : List ℕ). GoesFurther (SaysIn b) h (record h { desk = greeting_said h.desk })) (sym e) (greets h none)
