@@ -25,7 +25,6 @@ use Rattle.mux_outside.specs.declared.piece.TheConstants.{LONGEST_PIECE}
 use Rattle.mux_outside.specs.declared.turn.Turn.{Turn}
 use Rattle.mux_outside.specs.declared.turn.Turn.TheVariants as turn
 use Rattle.mux_outside.specs.declared.turn.Want.{Want}
-use Rattle.mux_outside.specs.declared.turn.Want.TheVariants.{Read}
 use Rattle.mux_history.specs.Policy.{Policy}
 use Rattle.mux_clients.specs.Asked.{TellsAsks, known_after}
 use Rattle.mux_machine.specs.State.{State}
@@ -34,7 +33,7 @@ use Rattle.mux_machine.specs.Events.{MayEnd, here}
 use Rattle.mux_machine.specs.declared.event.Event.{Event}
 use Rattle.mux_engine.specs.Asking.{Heeded, HeedsSo}
 use Rattle.mux_engine.specs.Owned.{waits_for}
-use Rattle.mux_engine.specs.Rests.{IsAlone, IsReady}
+use Rattle.mux_engine.specs.Rests.{IsAlone, IsReady, refused_if}
 use Rattle.mux_engine.specs.Serving.{Promised, Serving}
 use Rattle.mux_engine.specs.Sides.{Housed, Resting, RestsOf, SameHouse, Side, noted}
 use Rattle.mux_engine.specs.Turns.{IsEventOf, IsOwnOf, failed_heard, held_heard, own_heard, want_of}
@@ -59,18 +58,36 @@ pub record AtWait (Rest : Resting) (now : Side) (seen : Seen) (own held failed :
   pub offered : Offered seen own held failed queue
   pub hears : seen.listens ≡ s.listening
   pub all_noted : now.unnoted ≡ []
-  pub rests : want_of s ≡ Read → Rest.rests now.told now.calls
+  pub rests : Rest.rests (want_of s) now.told now.calls
 
-pub at-wait : {T : Type 0} {calls : List HouseCall} (told : T → Option (List HouseMark)) (quiet : T → Quiet) (stands : T → List HouseCall → Type 0) (first house : T) (known : Known) (seen : Seen) (own held failed : List ℕ) (queue : ℕ → List ℕ) (s : State) → Housed known seen own → IsReady known (quiet house) queue held failed own s
-    → s.leaving ≡ [] → s.refused ≡ [] → s.ended ≡ None → seen.listens ≡ s.listening → HandsOn (stands first) (stands house) calls → AtWait (RestsOf told quiet stands known.present first) (noted (told house) known calls) seen own held failed queue s
-at-wait told quiet stands first house known seen own held failed queue s housed ready none admitted live hears hands = record {
+-- where there is a house and no refusal may be, none came
+none-refused : (present must : Bool) (refused : Option ℕ) → IsTrue present → refused_if present must refused ≡ None → IsTrue must → refused ≡ None
+none-refused true true refused p e m = e
+none-refused true false refused p e m = true-false (sym m)
+none-refused false must refused p e m = true-false (sym p)
+
+pub at-wait : {T : Type 0} {calls : List HouseCall} (told : T → Option (List HouseMark)) (quiet : T → Quiet) (must : T → Bool) (refused : T → Option ℕ) (stands : T → List HouseCall → Type 0) (first house : T) (known : Known) (seen : Seen) (own held failed : List ℕ) (queue : ℕ → List ℕ) (s : State) → Housed known seen own → IsReady known (quiet house) queue held failed own s
+    → refused_if known.present (must house) (refused house) ≡ None → s.leaving ≡ [] → s.refused ≡ [] → s.ended ≡ None → seen.listens ≡ s.listening → HandsOn (stands first) (stands house) calls → AtWait (RestsOf told quiet must refused stands known.present first) (noted (told house) known calls) seen own held failed queue s
+at-wait told quiet must refused stands first house known seen own held failed queue s housed ready permitted none admitted live hears hands = record {
   none = none;
   admitted = admitted;
   live = live;
   offered = record { own_is = housed.own_is; opened = housed.places.opened; numbered = housed.places.numbered; offered = ready.no_more.offered };
   hears = hears;
   all_noted = refl;
-  rests = λ read present. (house, (ready.rests present read, refl, hands));
+  rests = λ present. (
+    house,
+    (
+      record {
+        orders = ready.no_more.orders present;
+        answers = ready.no_more.answers present;
+        rests = ready.rests present;
+        permitted = none-refused known.present (must house) (refused house) present permitted;
+      },
+      refl,
+      hands,
+    ),
+  );
 }
 
 -- the wire gave this turn

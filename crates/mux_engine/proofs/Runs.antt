@@ -7,6 +7,7 @@ use Rattle.mux_outside.specs.HouseCalls.{HandsOn, HouseCall, calls_of}
 use Rattle.mux_outside.specs.OwnStreams.{is_own}
 use Rattle.mux_outside.specs.Seen.{Seen}
 use Rattle.mux_outside.specs.Streams.{among}
+use Rattle.mux_outside.specs.declared.turn.Want.{Want}
 use Rattle.mux_outside.specs.declared.mark.Mark.{Mark}
 use Rattle.mux_outside.specs.declared.house.HouseReply.{HouseReply}
 use Rattle.mux_outside.specs.declared.house_mark.HouseMark.{HouseMark}
@@ -59,7 +60,7 @@ on-again {May} {policy} {pid} {picks} {picks'} {replies} {replies'} {journal} {a
     (subst (λ (l : List HouseMark). AsksOn May policy pid picks replies journal l more) g h))
 
 -- all of a run whose rows are known
-run-of : (May : HouseReply → Type 0) (Rest : Option (List HouseMark) → List HouseCall → Type 0) (stands stands' : List HouseCall → Type 0) (present : Bool) (before now : Option (List HouseMark)) (policy : Policy) (pid turns : ℕ) (start told : Option (List Mark)) (refused : Option ℕ) (journal : List Mark) (picks : List ℕ) (replies : List HouseReply) (answer : Ended)
+run-of : (May : HouseReply → Type 0) (Rest : Want → Option (List HouseMark) → List HouseCall → Type 0) (stands stands' : List HouseCall → Type 0) (present : Bool) (before now : Option (List HouseMark)) (policy : Policy) (pid turns : ℕ) (start told : Option (List Mark)) (refused : Option ℕ) (journal : List Mark) (picks : List ℕ) (replies : List HouseReply) (answer : Ended)
     → IsOfWire journal → MayGive May replies → Tells start told journal → turns_in journal ≤ turns
     → (rows : List Row)
     → Kept (by_lists policy pid picks replies) journal

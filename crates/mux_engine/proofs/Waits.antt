@@ -14,7 +14,6 @@ use Rattle.mux_outside.specs.declared.house.HouseReply.{HouseReply}
 use Rattle.mux_outside.specs.declared.house_mark.HouseMark.{HouseMark}
 use Rattle.mux_outside.specs.declared.mark.Mark.{Mark}
 use Rattle.mux_outside.specs.declared.mark.Mark.TheVariants.{Waits, Accepts, Gets, Ends, Frees, Fails, Takes, Holds, WriteFails, Joins, House}
-use Rattle.mux_outside.specs.declared.turn.Want.{Want}
 use Rattle.mux_outside.specs.declared.turn.Want.TheVariants.{Read, WriteOnly}
 use Rattle.mux_history.specs.declared.limits.TheConstants.{HOUSE, READING_STOPS_AT}
 use Rattle.mux_history.specs.Policy.{Policy}
@@ -31,7 +30,6 @@ use Rattle.mux_machine.specs.Stands.{RowsFit}
 use Rattle.mux_machine.proofs.Twins.{stands-alike}
 use Rattle.mux_engine.specs.Called.{calls_in}
 use Rattle.mux_engine.specs.Owned.{IsOffered, waits_for}
-use Rattle.mux_engine.specs.Run.{RestedAt}
 use Rattle.mux_engine.specs.Serving.{IsSound, Serving, is_open}
 use Rattle.mux_engine.specs.Sides.{Resting, Side, house_marks}
 use Rattle.mux_engine.specs.Turns.{want_of}
@@ -90,10 +88,6 @@ none-left (x ∷ xs) h = ap (λ b. cond (not b) (x ∷ not_own xs) (not_own xs))
     later : {c : Bool} (b : Bool) → c ≡ true → (b || c) ≡ true
     later true e = refl
     later false e = e
-
-pub rest-at : (Rest : Option (List HouseMark) → List HouseCall → Type 0) (setting : Setting) (before : Option (List HouseMark)) (journal : List Mark) (waiting streams : List ℕ) (listens : Bool) (want : Want) → (want ≡ Read → Rest (option_map (λ told. told ++ house_marks journal) before) (calls_in setting journal)) → RestedAt Rest setting before journal (Waits waiting want streams listens)
-rest-at Rest setting before journal waiting streams listens Read h = h refl
-rest-at Rest setting before journal waiting streams listens WriteOnly h = tt
 
 -- ---- where all streams were offered what waits for them, while a run goes on and nobody leaves
 
@@ -281,7 +275,7 @@ module _ {May : HouseReply → Type 0} {Rest : Resting} {before : Option (List H
   seen-waiting = record seen { told = option_map (λ m. m ++ wait-mark ∷ []) seen.told }
 
   -- the call was told
-  unfoldable pub waited : seen.listens ≡ s.listening → now.unnoted ≡ [] → (want_of s ≡ Read → Rest.rests now.told now.calls) → Serving May Rest before now policy pid start seen-waiting held failed (given + 1) [] s
+  unfoldable pub waited : seen.listens ≡ s.listening → now.unnoted ≡ [] → Rest.rests (want_of s) now.told now.calls → Serving May Rest before now policy pid start seen-waiting held failed (given + 1) [] s
   waited hears noted rests =
       let alike = waits-alike all-waiting seen.streams (want_of s) seen.listens v.journal in
       let told : now.told ≡ option_map (λ l. l ++ house_marks v.journal) before = v.house ∙ ap (λ (ms : List HouseMark). option_map (λ (l : List HouseMark). l ++ ms) before) (ap (λ l. house_marks v.journal ++ l) noted ∙ append-nil (house_marks v.journal)) in
@@ -298,8 +292,7 @@ module _ {May : HouseReply → Type 0} {Rest : Resting} {before : Option (List H
         rested = λ picks later.
             let set : Setting = by_lists policy pid (v.picked ++ picks) (v.replies ++ later) in
             let called : calls_in set v.journal ≡ now.calls = sym (ap (λ l. calls_in set v.journal ++ calls_of l) noted ∙ append-nil (calls_in set v.journal)) ∙ v.called picks later in
-            rest-at Rest.rests set before v.journal all-waiting seen.streams seen.listens (want_of s)
-            (λ e. subst (λ (l : List HouseCall). Rest.rests (option_map (λ told. told ++ house_marks v.journal) before) l) (sym called) (subst (λ (o : Option (List HouseMark)). Rest.rests o now.calls) told (rests e)));
+            subst (λ (l : List HouseCall). Rest.rests (want_of s) (option_map (λ told. told ++ house_marks v.journal) before) l) (sym called) (subst (λ (o : Option (List HouseMark)). Rest.rests (want_of s) o now.calls) told rests);
         absent = λ e. refl;
         turns = ap (λ n. n + 1) v.turns;
         placed = placed-still v wait-mark seen-waiting s record {

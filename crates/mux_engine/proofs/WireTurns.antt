@@ -16,7 +16,6 @@ use Rattle.mux_outside.specs.declared.mark.Mark.TheVariants.{Accepts, Gets, Ends
 use Rattle.mux_outside.specs.declared.own_streams.TheConstants.{LAST_CLIENT}
 use Rattle.mux_outside.specs.declared.turn.Turn.{Turn}
 use Rattle.mux_outside.specs.declared.turn.Turn.TheVariants as turn
-use Rattle.mux_outside.specs.declared.turn.Want.TheVariants.{Read}
 use Rattle.mux_history.specs.declared.limits.TheConstants.{HOUSE}
 use Rattle.mux_history.specs.Policy.{Policy}
 use Rattle.mux_history.specs.Journal.{is_accepted}
@@ -54,7 +53,7 @@ same-marks marks = record { log = λ set. refl; bytes = λ t. refl; accepted = �
 
 module _ {May : HouseReply → Type 0} {Rest : Resting} {before : Option (List HouseMark)} {now : Side} {policy : Policy} {pid : ℕ} {start : Option (List Mark)} {seen : Seen} {held failed : List ℕ} {given : ℕ} {s : State}
     (v : Serving May Rest before now policy pid start seen held failed given [] s) (none : s.leaving ≡ []) (admitted : s.refused ≡ []) (live : s.ended ≡ None) {own : List ℕ} {queue : ℕ → List ℕ} (o : Offered seen own held failed queue)
-    (hears : seen.listens ≡ s.listening) (noted : now.unnoted ≡ []) (rests : want_of s ≡ Read → Rest.rests now.told now.calls) where
+    (hears : seen.listens ≡ s.listening) (noted : now.unnoted ≡ []) (rests : Rest.rests (want_of s) now.told now.calls) where
   -- what holds with the call of wait
   abbrev pub now-waiting : Serving May Rest before now policy pid start (seen-waiting v none admitted live o) held failed (given + 1) [] s
   now-waiting = waited v none admitted live o hears noted rests

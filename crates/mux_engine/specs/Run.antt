@@ -7,7 +7,7 @@ use Rattle.mux_outside.specs.declared.house.HouseReply.{HouseReply}
 use Rattle.mux_outside.specs.declared.mark.Mark.{Mark}
 use Rattle.mux_outside.specs.declared.mark.Mark.TheVariants.{Waits, House}
 use Rattle.mux_outside.specs.OwnStreams.{is_own}
-use Rattle.mux_outside.specs.declared.turn.Want.TheVariants.{Read}
+use Rattle.mux_outside.specs.declared.turn.Want.{Want}
 use Rattle.mux_history.specs.declared.ended.Ended.{Ended}
 use Rattle.mux_history.specs.declared.ended.Ended.TheVariants.{OutOfMemory}
 use Rattle.mux_history.specs.Policy.{Policy}
@@ -37,15 +37,15 @@ pub record IsOfWire (journal : List Mark) : Type 0 where
   pub lawful : IsLawful journal
   pub asked : Throughout ReadsWhenAsked journal
 
--- what is so of each house at rest by what it told and by its calls is so at each wait at which more
--- is read
-abbrev pub RestedAt : (Option (List HouseMark) → List HouseCall → Type 0) → Setting
+-- what is so of a house right before a wait, by what is wanted there, by what it told and by its
+-- calls, is so at each wait by what the journal has up to there
+abbrev pub RestedAt : (Want → Option (List HouseMark) → List HouseCall → Type 0) → Setting
     → Option (List HouseMark) → List Mark → Mark → Type 0
-RestedAt Rest setting before journal (Waits waiting Read streams listens) =
-    Rest (option_map (λ told. told ++ house_marks journal) before) (calls_in setting journal)
+RestedAt Rest setting before journal (Waits waiting want streams listens) =
+    Rest want (option_map (λ told. told ++ house_marks journal) before) (calls_in setting journal)
 RestedAt Rest setting before journal mark = Unit {0}
 
-abbrev pub Rested : (Option (List HouseMark) → List HouseCall → Type 0) → Setting
+abbrev pub Rested : (Want → Option (List HouseMark) → List HouseCall → Type 0) → Setting
     → Option (List HouseMark) → List Mark → Type 0
 Rested Rest setting before journal = Throughout (RestedAt Rest setting before) journal
 
@@ -111,7 +111,7 @@ pub record AsksOn (May : HouseReply → Type 0) (policy : Policy) (pid : ℕ) (p
 -- But for want of memory the house was handed on all that the journal has for it, once and in the
 -- order of the journal.
 pub record IsRun (May : HouseReply → Type 0)
-    (Rest : Option (List HouseMark) → List HouseCall → Type 0)
+    (Rest : Want → Option (List HouseMark) → List HouseCall → Type 0)
     (stands stands' : List HouseCall → Type 0) (present : Bool) (policy : Policy) (pid turns : ℕ)
     (before now : Option (List HouseMark)) (start told : Option (List Mark)) (refused : Option ℕ)
     (answer : Ended) : Type 0 where

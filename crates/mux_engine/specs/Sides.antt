@@ -1,11 +1,13 @@
 -- What is kept of a house, and what its marks and the wire's streams are to each other.
-use Rattle.std.specs.Prelude.{◌≡◌, ◌≤◌, ℕ, Bool, false, List, [], ◌∷◌, ◌++◌, filter, Option, Some, None, IsTrue}
+use Rattle.std.specs.Prelude.{◌≡◌, ◌≤◌, ℕ, Bool, true, false, List, [], ◌∷◌, ◌++◌, filter, Option, Some, None, IsTrue}
 use Rattle.mux_outside.specs.House.{IsAtRest, Known, OpenAsk, Quiet}
 use Rattle.mux_outside.specs.HouseCalls.{HandsOn, HouseCall}
 use Rattle.mux_outside.specs.OwnStreams.{is_one, is_own, numbers_of}
 use Rattle.mux_outside.specs.Seen.{Seen}
 use Rattle.mux_outside.specs.Streams.{among}
 use Rattle.mux_outside.specs.declared.house_mark.HouseMark.{HouseMark}
+use Rattle.mux_outside.specs.declared.turn.Want.{Want}
+use Rattle.mux_outside.specs.declared.turn.Want.TheVariants.{Read}
 use Rattle.mux_outside.specs.declared.house_mark.HouseMark.TheVariants.{HouseIn}
 use Rattle.mux_outside.specs.declared.mark.Mark.{Mark}
 use Rattle.mux_outside.specs.declared.mark.Mark.TheVariants.{House}
@@ -59,20 +61,30 @@ noted told known calls = noting [] told known calls
 abbrev pub outside : Option (List HouseMark) → Known → List HouseCall → Side
 outside told known calls = record (noted told known calls) { let_in = false }
 
--- whether a house is present, and what is so of it at rest by what it told and by its calls since the
--- run began
+-- how a house is right before a wait: it has nothing to order and nothing to answer, and it is at
+-- rest where more is read; and no forwarding of the start was refused where none may be
+pub record HouseWaits (want : Want) (quiet : Quiet) (must : Bool) (refused : Option ℕ) :
+    Type 0 where
+  pub orders : quiet.orders ≡ true
+  pub answers : quiet.answers ≡ true
+  pub rests : want ≡ Read → IsAtRest quiet
+  pub permitted : IsTrue must → refused ≡ None
+
+-- whether a house is present, and what is so of it right before a wait for this, by what it told
+-- and by its calls since the run began
 pub record Resting : Type 1 where
   pub present : Bool
-  pub rests : Option (List HouseMark) → List HouseCall → Type 0
+  pub rests : Want → Option (List HouseMark) → List HouseCall → Type 0
 
--- there is a house at rest that has told this, and to which the first one came by these calls, unless
--- none is present
+-- there is a house that has told this and is as it is right before a wait, and to which the first
+-- one came by these calls, unless none is present
 abbrev pub RestsOf : {T : Type 0} → (T → Option (List HouseMark)) → (T → Quiet)
-    → (T → List HouseCall → Type 0) → Bool → T → Resting
-RestsOf {T} told quiet stands present first = record {
+    → (T → Bool) → (T → Option ℕ) → (T → List HouseCall → Type 0) → Bool → T → Resting
+RestsOf {T} told quiet must refused stands present first = record {
   present = present;
-  rests = λ now calls. IsTrue present
-      → (house : T) × (IsAtRest (quiet house) × (told house ≡ now)
+  rests = λ want now calls. IsTrue present
+      → (house : T)
+      × (HouseWaits want (quiet house) (must house) (refused house) × (told house ≡ now)
       × HandsOn (stands first) (stands house) calls);
 }
 

@@ -29,7 +29,7 @@ use Rattle.mux_outside.specs.declared.mark.Mark.TheVariants.{Waits}
 use Rattle.mux_outside.specs.declared.pairs.Pair.{Pair}
 use Rattle.mux_outside.specs.declared.starts.Starts.{Starts}
 use Rattle.mux_outside.specs.declared.statuses.CommandStatus.{CommandStatus}
-use Rattle.mux_outside.specs.declared.turn.Want.TheVariants.{Read}
+use Rattle.mux_outside.specs.declared.turn.Want.{Want}
 use Rattle.ssh_mux.specs.declared.ending.Ending.{Ending}
 use Rattle.ssh_mux.specs.declared.ending.Ending.TheVariants as endings
 use Rattle.ssh_mux.specs.declared.status.Status.{Status}
@@ -81,15 +81,15 @@ starts-told (Some told) settings s = same-starts (all_rows told) settings s
 
 -- ---- a run with a house that has begun
 
-rested-at : (R R' : Option (List HouseMark) → List HouseCall → Type 0) → ((now : Option (List HouseMark)) (calls : List HouseCall) → R now calls → R' now calls) → (setting : Setting) (before : Option (List HouseMark)) (journal : List Mark) (mark : Mark) → RestedAt R setting before journal mark → RestedAt R' setting before journal mark
-rested-at R R' f setting before journal (Waits waiting Read streams listens) h = f _ _ h
+rested-at : (R R' : Want → Option (List HouseMark) → List HouseCall → Type 0) → ((want : Want) (now : Option (List HouseMark)) (calls : List HouseCall) → R want now calls → R' want now calls) → (setting : Setting) (before : Option (List HouseMark)) (journal : List Mark) (mark : Mark) → RestedAt R setting before journal mark → RestedAt R' setting before journal mark
+rested-at R R' f setting before journal (Waits waiting want streams listens) h = f _ _ _ h
 rested-at R R' f setting before journal mark h = tt
 
-rested : (R R' : Option (List HouseMark) → List HouseCall → Type 0) → ((now : Option (List HouseMark)) (calls : List HouseCall) → R now calls → R' now calls) → (setting : Setting) (before : Option (List HouseMark)) (journal : List Mark) → Rested R setting before journal → Rested R' setting before journal
+rested : (R R' : Want → Option (List HouseMark) → List HouseCall → Type 0) → ((want : Want) (now : Option (List HouseMark)) (calls : List HouseCall) → R want now calls → R' want now calls) → (setting : Setting) (before : Option (List HouseMark)) (journal : List Mark) → Rested R setting before journal → Rested R' setting before journal
 rested R R' f setting before [] h = tt
 rested R R' f setting before (mark ∷ journal) h = (rested-at R R' f setting before journal mark h.0, rested R R' f setting before journal h.1)
 
-module _ (May : HouseReply → Type 0) (R R' : Option (List HouseMark) → List HouseCall → Type 0) (stands begun stands' : List HouseCall → Type 0) (present : Bool) (policy : Policy) (pid turns : ℕ) (before now : Option (List HouseMark)) (start told : Option (List Mark)) (refused : Option ℕ) (rests : (now : Option (List HouseMark)) (calls : List HouseCall) → R now calls → R' now calls) (stood : (calls : List HouseCall) → begun calls → stands calls) where
+module _ (May : HouseReply → Type 0) (R R' : Want → Option (List HouseMark) → List HouseCall → Type 0) (stands begun stands' : List HouseCall → Type 0) (present : Bool) (policy : Policy) (pid turns : ℕ) (before now : Option (List HouseMark)) (start told : Option (List Mark)) (refused : Option ℕ) (rests : (want : Want) (now : Option (List HouseMark)) (calls : List HouseCall) → R want now calls → R' want now calls) (stood : (calls : List HouseCall) → begun calls → stands calls) where
   run-of : (answer : Ended) → IsRun May R stands stands' present policy pid turns before now start told refused answer → IsRun May R' begun stands' present policy pid turns before now start told refused answer
   run-of answer h = record {
     journal = h.journal;
@@ -123,15 +123,15 @@ module _ (May : HouseReply → Type 0) (R R' : Option (List HouseMark) → List 
     ends = h.ends;
   }
 
-module _ {T : Type 0} (told_by : T → Option (List HouseMark)) (quiet : T → Quiet) (stands : T → List HouseCall → Type 0) (present : Bool) (first : T) (starts : Starts) (begun : stands first (Begins starts ∷ [])) (May : HouseReply → Type 0) (stands' : List HouseCall → Type 0) (policy : Policy) (pid turns : ℕ) (before now : Option (List HouseMark)) (start told : Option (List Mark)) (refused : Option ℕ) where
+module _ {T : Type 0} (told_by : T → Option (List HouseMark)) (quiet : T → Quiet) (must_be : T → Bool) (refused_by : T → Option ℕ) (stands : T → List HouseCall → Type 0) (present : Bool) (first : T) (starts : Starts) (begun : stands first (Begins starts ∷ [])) (May : HouseReply → Type 0) (stands' : List HouseCall → Type 0) (policy : Policy) (pid turns : ℕ) (before now : Option (List HouseMark)) (start told : Option (List Mark)) (refused : Option ℕ) where
   abbrev First : Resting
-  First = RestsOf told_by quiet stands present first
+  First = RestsOf told_by quiet must_be refused_by stands present first
 
   abbrev Second : Resting
-  Second = BegunRests told_by quiet stands present starts
+  Second = BegunRests told_by quiet must_be refused_by stands present starts
 
-  at-rest : (now : Option (List HouseMark)) (calls : List HouseCall) → First.rests now calls → Second.rests now calls
-  at-rest now calls h = λ p. let r = h p in let x = r.1 in (r.0, (x.0, x.1, x.2 (Begins starts ∷ []) begun))
+  at-rest : (want : Want) (now : Option (List HouseMark)) (calls : List HouseCall) → First.rests want now calls → Second.rests want now calls
+  at-rest want now calls h = λ p. let r = h p in let x = r.1 in (r.0, (x.0, x.1, x.2 (Begins starts ∷ []) begun))
 
   stood-for : (calls : List HouseCall) → BeganWith starts calls → stands first calls
   stood-for calls e = subst (stands first) (sym e) begun

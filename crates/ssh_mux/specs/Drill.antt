@@ -54,11 +54,11 @@ drill_text tally =
 abbrev pub RefusesAll : HouseReply → Type 0
 RefusesAll reply = reply ≡ Refused
 
--- it has no house, so none is at rest
+-- it has no house, so none waits
 abbrev pub NoneRests : Resting
 NoneRests = RestsOf {T = NoHouse} (λ house. None)
-    (λ house. record { says = true; orders = true; answers = true }) (λ house calls. Unit {0})
-    false (record {})
+    (λ house. record { says = true; orders = true; answers = true }) (λ house. false)
+    (λ house. None) (λ house calls. Unit {0}) false (record {})
 
 -- it stands for any calls
 abbrev pub AnyCalls : List HouseCall → Type 0

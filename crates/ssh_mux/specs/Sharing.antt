@@ -101,9 +101,9 @@ pub record IsUnserved (before now : Option (List HouseMark)) (start told : Optio
   pub same_house : now ≡ before
 
 -- a run that keeps its promises, and its very end; `Rest` is whether a house is present, and what
--- is so of it at rest; `stands` and `stands'` are the calls that it stands for before and behind
--- the run; `before` and `now` are what the house tells, `start` and `told` what the wire does;
--- `refused` is the forwarding of the start that was refused, if none may be
+-- is so of it right before a wait; `stands` and `stands'` are the calls that it stands for before
+-- and behind the run; `before` and `now` are what the house tells, `start` and `told` what the wire
+-- does; `refused` is the forwarding of the start that was refused, if none may be
 pub record IsShared (May : HouseReply → Type 0) (Rest : Resting)
     (stands stands' : List HouseCall → Type 0) (policy : Policy) (pid turns : ℕ)
     (before now : Option (List HouseMark)) (start told : Option (List Mark))

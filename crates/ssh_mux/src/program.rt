@@ -84,7 +84,8 @@ pub fn run<W: Wire, F: Files, R: Runner, S: Sink, H: House>(
         (known_of (F.told files.old) (R.told runner.old) facts.now words.now)
         result (W.joinings wire.old) (W.joinings wire.new) }
     ensures shared { ServesFor H.may
-        (BegunRests H.told H.quiet H.stands (H.known house.old).present) (H.stands house.new)
+        (BegunRests H.told H.quiet H.must H.refused H.stands (H.known house.old).present)
+        (H.stands house.new)
         (known_of (F.told files.old) (R.told runner.old) facts.now words.now)
         (told_for (machine (F.told files.old) (R.told runner.old) facts.now) words.now)
         (pid_of facts.now.pid) turns (H.told house.old) (H.told house.new)
@@ -185,7 +186,8 @@ fn obey<W: Wire, F: Files, R: Runner, S: Sink, H: House>(
         (known_of (F.told files.old) (R.told runner.old) facts.now words.now)
         (so_far result) (W.joinings wire.old) (W.joinings wire.new) }
     ensures shared { SharesFor H.may
-        (BegunRests H.told H.quiet H.stands (H.known house.old).present) (H.stands house.new)
+        (BegunRests H.told H.quiet H.must H.refused H.stands (H.known house.old).present)
+        (H.stands house.new)
         (known_of (F.told files.old) (R.told runner.old) facts.now words.now)
         (told_for (machine (F.told files.old) (R.told runner.old) facts.now) words.now)
         (pid_of facts.now.pid) turns (H.told house.old) (H.told house.new)
