@@ -111,6 +111,7 @@ answer_of waiting = answer_in (earliest waiting)
 abbrev pub is_waiting : ℕ → ℕ → Waiting → Bool
 is_waiting client id w = (w.client == client) && (w.id == id)
 
+-- the one at a place waits no longer
 abbrev pub taken_at : Option ℕ → List Waiting → List Waiting
 taken_at None waiting = waiting
 taken_at (Some i) waiting = remove waiting i

@@ -45,7 +45,7 @@ empty_desk = record {
   done = 0;
 }
 
--- that of the house
+-- that of the house, by what it has
 abbrev pub desk_of : Bool → Bool → Forwardings → Asks → Desk
 desk_of gateway greeted forwardings asks = record {
   gateway = gateway;

@@ -90,6 +90,7 @@ first_course = record {
 abbrev pub OnDesk : (Desk → Desk → Type 0) → Course → Course → Type 0
 OnDesk so old new = (desk : Desk) × so old.desk desk × (new ≡ record old { desk = desk })
 
+-- what there is besides the relays is this from now on
 abbrev pub with_desk : Desk → Course → Course
 with_desk desk course = record course { desk = desk }
 
@@ -457,7 +458,7 @@ IsSocketOf Awaited r = (r.socket ≡ socket.Unmade) × (r.ended ≡ false)
 IsSocketOf (Made own) r = (stream_of r.socket ≡ Some own.number) × (r.ended ≡ own.ended)
 IsSocketOf Gone r = r.socket ≡ socket.Closed
 
--- where a socket is to be connected; none is ordered, and has no number yet
+-- where a socket that is to be connected is to go; none is one that is ordered and has no number yet
 abbrev pub IsEndOf : Stream → Option (List ℕ × ℕ) → Type 0
 IsEndOf (Offered host port) to = to ≡ Some (host.one, port)
 IsEndOf Awaited to = ⊥
@@ -585,7 +586,7 @@ pub record HasLived (calls : List HouseCall) (h : Held) : Type 0 where
 abbrev pub StandsFor : List HouseCall → Held → Type 0
 StandsFor calls h = taken_in calls < 2 ^ 64 → HasLived calls h
 
--- so it does, or did before it ordered what has no number yet
+-- the house stands for its calls, or did before it gave the order whose number it awaits
 abbrev pub StandsSince : Option Ordering → List HouseCall → Held → Type 0
 StandsSince ordering calls h =
     (before : Held) × StandsFor calls before × AwaitsNumber ordering before h
