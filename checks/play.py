@@ -252,13 +252,16 @@ def lowest_lent_port() -> int:
 
 
 def free_port() -> int:
-    """A port of the loopback on which nobody listens. It is none that the system gives to sockets
-    which ask for none: such a one may be another's by the time somebody listens there."""
-    ports = range(min(10_000, lowest_lent_port() - 1), lowest_lent_port())
+    """A port of the loopback on which nobody listens. Where enough lie below those that the system
+    gives to sockets which ask for none, it is one of them: another may be taken by the time that
+    somebody listens there."""
+    lowest = lowest_lent_port()
     while True:
+        port = random.SystemRandom().randrange(10_000, lowest) if lowest > 11_000 else 0
         with socket.socket() as tried, contextlib.suppress(OSError):
-            tried.bind(("127.0.0.1", port := random.SystemRandom().choice(ports)))
-            return port
+            tried.bind(("127.0.0.1", port))
+            found: int = tried.getsockname()[1]
+            return found
 
 
 def answers(port: int) -> bool:
