@@ -176,8 +176,7 @@ impl<N: Notes + Drop> House for Forwarder<N> {
         if !self.has.say(into)? {
             return Ok(false);
         }
-        let said = Text::copy(self.alloc, into.as_bytes())?;
-        self.notes.note(HouseMark::HouseSaid(said));
+        self.notes.note_said(self.alloc, into.as_bytes())?;
         Ok(true)
     }
 

@@ -1,9 +1,11 @@
 //! Notes, and the room that is reserved in them.
-ghost use Rattle.std.specs.Prelude.{◌≡◌, ◌≤◌, ◌+◌, ◌++◌, ◌∷◌, [], OnOk};
+ghost use Rattle.std.specs.Prelude.{◌≡◌, ◌≤◌, ◌+◌, ◌++◌, ◌∷◌, [], OnOk, OnErr};
+ghost use Rattle.mux_outside.specs.declared.house_mark.HouseMark.TheVariants.{HouseSaid};
 ghost use Rattle.std.specs.Option.{option_map};
 
 use mux_outside::{HouseMark, Notes};
-use ssh_fields::OutOfMemory;
+use ssh_fields::{OutOfMemory, Text};
+use std::alloc::Global;
 
 /// Notes, and for how many marks there is room in them at least.
 #[derive(Drop)]
@@ -42,5 +44,20 @@ impl<N: Notes + Drop> Reserved<N> {
     {
         self.notes.note(mark);
         self.marks -= 1;
+    }
+
+    /// Takes the mark of what the house said, which is made only where marks are kept.
+    pub fn note_said(&mut self, alloc: Global, said: &[u8]) -> Result<(), OutOfMemory>
+        requires { 1 ≤ self.old.marks }
+        ensures told { OnOk result (N.told self.new.notes
+            ≡ option_map (λ marks. marks ++ HouseSaid said.now ∷ []) (N.told self.old.notes)) }
+        ensures marks { OnOk result (self.old.marks ≤ self.new.marks + 1) }
+        ensures unchanged { OnErr result (self.new ≡ self.old) }
+    {
+        if self.notes.keeps() {
+            let said = Text::copy(alloc, said)?;
+            self.note(HouseMark::HouseSaid(said));
+        }
+        Ok(())
     }
 }

@@ -34,6 +34,10 @@ impl Notes for KeptNotes {
 
     ghost spare = { λ n. vec_capacity n.marks - vec_len n.marks };
 
+    fn keeps(&self) -> bool {
+        true
+    }
+
     fn room(&mut self, n: usize) -> Result<(), OutOfMemory> {
         self.marks.reserve(n)?;
         Ok(())
@@ -52,6 +56,10 @@ impl Notes for NoNotes {
     ghost told = { λ _. None };
 
     ghost spare = { λ _. 2 ^ 64 };
+
+    fn keeps(&self) -> bool {
+        false
+    }
 
     fn room(&mut self, _n: usize) -> Result<(), OutOfMemory> {
         Ok(())

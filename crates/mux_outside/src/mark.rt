@@ -1,7 +1,7 @@
 ghost use Rattle.std.specs.Prelude.{◌≡◌, ◌++◌, IfOk};
-ghost use Rattle.mux_outside.specs.Marks.{bytes_taken as all_taken};
+ghost use Rattle.mux_outside.specs.Marks.{bytes_taken as all_taken, taken_at as all_taken_at};
 
-use crate::house_mark::HouseMark;
+use crate::kept_mark::KeptMark;
 use crate::kept_streams::KeptStreams;
 use crate::turn::Want;
 use ssh_fields::{OutOfMemory, Text};
@@ -40,7 +40,7 @@ pub enum Mark {
     /// A socket was joined at this listener of the master's own, and is this stream.
     Joins(u64, u64),
     /// What happened between the master and its house.
-    House(HouseMark),
+    House(KeptMark),
 }
 
 /// All bytes that a stream took, in order.
@@ -49,11 +49,17 @@ pub fn bytes_taken(alloc: Global, marks: &[Mark], stream: u64) -> Result<Text, O
 {
     let mut all = Text::new(alloc);
     for mark in marks {
-        if let Mark::Takes(taker, bytes) = mark {
-            if *taker == stream {
-                all.add(bytes.as_bytes())?;
-            }
-        }
+        all.add(taken_at(mark, stream))?;
     }
     Ok(all)
+}
+
+// The bytes that a stream took at one mark.
+fn taken_at(mark: &Mark, stream: u64) -> &[u8]
+    ensures { result.now ≡ all_taken_at stream mark.now }
+{
+    match mark {
+        Mark::Takes(taker, bytes) if *taker == stream => bytes.as_bytes(),
+        _ => b"",
+    }
 }

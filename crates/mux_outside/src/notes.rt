@@ -1,4 +1,4 @@
-ghost use Rattle.std.specs.Prelude.{◌≡◌, ◌≤◌, ◌+◌, ◌++◌, ◌∷◌, [], ℕ, List, Option, OnOk, OnErr};
+ghost use Rattle.std.specs.Prelude.{◌≡◌, ◌≤◌, ◌+◌, ◌++◌, ◌∷◌, [], ℕ, List, Option, None, OnOk, OnErr, false};
 ghost use Rattle.std.specs.Option.{option_map};
 ghost use Rattle.mux_outside.specs.declared.house_mark.HouseMark.{HouseMark as TheMark};
 
@@ -12,6 +12,10 @@ pub trait Notes {
 
     /// For how many marks there is room.
     ghost spare: { Self → ℕ };
+
+    /// Whether they keep any mark. Where they don't, none need be made.
+    fn keeps(&self) -> bool
+        ensures { result ≡ false → told self.now ≡ None };
 
     /// Makes room for so many marks at least.
     fn room(&mut self, n: usize) -> Result<(), OutOfMemory>

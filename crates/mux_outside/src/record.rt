@@ -31,14 +31,38 @@ pub fn record_wait(
     ensures err_streams { OnErr result (streams.new ≡ streams.old) }
     ensures memory { OnOk result (turn ≢ NoMemory) }
 {
-    let gives = mark_of_turn(alloc, turn, bytes)?;
-    let open = streams.keep(alloc)?;
-    let waits = marks.wait_mark(alloc, waiting, want, open, listening)?;
+    let (waits, gives) = marks_of_wait(
+        alloc, marks, streams, turn, waiting, want, listening, bytes,
+    )?;
     marks.told.reserve(2)?;
     open_stream(turn, streams)?;
     marks.told.push_reserved(waits);
     marks.told.push_reserved(gives);
     Ok(())
+}
+
+// The marks of a call of `wait` and of its turn, by the streams that are open before it. They aren't
+// told yet.
+fn marks_of_wait(
+    alloc: Global,
+    marks: &mut Marks,
+    streams: &mut OpenStreams,
+    turn: Turn,
+    waiting: &Streams,
+    want: Want,
+    listening: bool,
+    bytes: &[u8],
+) -> Result<(Mark, Mark), OutOfMemory>
+    ensures marks { IfOk result (λ two. wait_marks turn waiting.now want streams.old listening
+        bytes.now ≡ two.0 ∷ two.1 ∷ []) }
+    ensures told { marks.new.told ≡ marks.old.told }
+    ensures streams { streams.new ≡ streams.old }
+    ensures memory { OnOk result (turn ≢ NoMemory) }
+{
+    let gives = mark_of_turn(alloc, turn, bytes)?;
+    let open = streams.keep(alloc)?;
+    let waits = marks.wait_mark(alloc, waiting, want, open, listening)?;
+    Ok((waits, gives))
 }
 
 // The mark of a turn.

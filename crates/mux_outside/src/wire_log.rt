@@ -15,6 +15,7 @@ use crate::call_counts::CallCounts;
 use crate::counts::{count_fault, raised};
 use crate::file_error::FileError;
 use crate::house_mark::HouseMark;
+use crate::kept_mark::KeptMark;
 use crate::mark::{Mark, Opening, bytes_taken};
 use crate::marks::Marks;
 use crate::open_streams::OpenStreams;
@@ -351,8 +352,8 @@ impl WireLog {
     pub fn noted(&mut self, mark: &HouseMark) -> Result<(), OutOfMemory>
         ensures { Shows (seen_after_note result mark.now (seen_in self.old)) self.old self.new }
     {
-        let mark = mark.copy(self.alloc)?;
-        self.marks.told.push(Mark::House(mark))?;
+        let kept = KeptMark::copy(self.alloc, mark)?;
+        self.marks.told.push(Mark::House(kept))?;
         Ok(())
     }
 

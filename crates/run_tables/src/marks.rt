@@ -27,7 +27,7 @@ fn mark_line(alloc: Global, mark: &Mark) -> Result<Text, OutOfMemory> {
         Mark::Holds(stream) => stream_line(alloc, b"holds", *stream),
         Mark::WriteFails(stream) => stream_line(alloc, b"loses", *stream),
         Mark::Joins(listener, stream) => join_line(alloc, *listener, *stream),
-        Mark::House(mark) => house_line(alloc, mark),
+        Mark::House(mark) => house_line(alloc, mark.as_mark()),
     }
 }
 
