@@ -136,15 +136,32 @@ fn bind_beside<R: Files + Net + Clone + Drop>(
 
 // A temporary name in a folder: with the process's number, and shorter where that fits no address.
 fn temporary_name(alloc: Global, folder: &str, number: u32) -> io::Result<String> {
-    let pid = libc::getpid();
-    let long = format!(in alloc; "{folder}.{pid}.{number}")?;
-    if SocketAddr::from_pathname(long.as_str()).is_ok() {
+    let long = long_name(alloc, folder, number)?;
+    if fits_address(&long) {
         return Ok(long);
     }
-    let hidden = format!(in alloc; "{folder}.{number:x}")?;
-    if SocketAddr::from_pathname(hidden.as_str()).is_ok() {
+    let hidden = hidden_name(alloc, folder, number)?;
+    if fits_address(&hidden) {
         return Ok(hidden);
     }
+    short_name(alloc, folder, number)
+}
+
+// Whether a name fits the address of a socket.
+fn fits_address(name: &String) -> bool {
+    SocketAddr::from_pathname(name.as_str()).is_ok()
+}
+
+fn long_name(alloc: Global, folder: &str, number: u32) -> io::Result<String> {
+    let pid = libc::getpid();
+    Ok(format!(in alloc; "{folder}.{pid}.{number}")?)
+}
+
+fn hidden_name(alloc: Global, folder: &str, number: u32) -> io::Result<String> {
+    Ok(format!(in alloc; "{folder}.{number:x}")?)
+}
+
+fn short_name(alloc: Global, folder: &str, number: u32) -> io::Result<String> {
     Ok(format!(in alloc; "{folder}{number:x}")?)
 }
 

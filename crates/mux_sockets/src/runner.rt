@@ -4,7 +4,7 @@ ghost use Rattle.mux_outside.specs.Counts.{HasCause};
 use crate::faults::{count_failed, file_error};
 use mux_outside::{FileError, Runner};
 use std::alloc::Global;
-use std::process::{Command, Processes, Stdio};
+use std::process::{Command, ExitStatus, Processes, Stdio};
 use std::{io, str};
 
 // The status of a command that a signal ended.
@@ -60,15 +60,31 @@ fn run_shell<P: Processes>(rt: &P, alloc: Global, command: &[u8]) -> Result<u8, 
 
 // The status with which the shell ends.
 fn status_of<P: Processes>(rt: &P, alloc: Global, command: &str) -> io::Result<u8> {
+    let mut shell = shell_of(alloc, command)?;
+    silence(&mut shell);
+    let status = shell.status(rt)?;
+    Ok(code_of(status))
+}
+
+// The shell that runs a command.
+fn shell_of(alloc: Global, command: &str) -> io::Result<Command> {
     let mut shell = Command::new(alloc, "/bin/sh")?;
     shell.arg("-c")?;
     shell.arg(command)?;
+    Ok(shell)
+}
+
+// It reads from nowhere, and what it writes is dropped.
+fn silence(shell: &mut Command) {
     shell.stdin(Stdio::null());
     shell.stdout(Stdio::null());
     shell.stderr(Stdio::null());
-    let status = shell.status(rt)?;
+}
+
+// The status as a byte.
+fn code_of(status: ExitStatus) -> u8 {
     match status.code() {
-        Some(code) => Ok(u8::try_from(code).unwrap_or(BY_A_SIGNAL)),
-        None => Ok(BY_A_SIGNAL),
+        Some(code) => u8::try_from(code).unwrap_or(BY_A_SIGNAL),
+        None => BY_A_SIGNAL,
     }
 }
