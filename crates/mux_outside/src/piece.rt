@@ -1,4 +1,4 @@
-ghost use Rattle.std.specs.Prelude.{◌≡◌, ◌≤◌, [], length, IfOk, IfSome, OnErr, OnOk, take, unwrap_or};
+ghost use Rattle.std.specs.Prelude.{◌≡◌, ◌≤◌, ◌+◌, ◌++◌, [], length, IfOk, IfSome, OnErr, OnOk, take, unwrap_or};
 ghost use Rattle.std.specs.Option.{option_map};
 ghost use Rattle.std.specs.Io.KnownBytes.{Consumes, IsAtEnd, Keeps};
 
@@ -46,6 +46,15 @@ impl Piece {
     {
         put_front(self.room.as_mut_slice(), bytes);
         self.len = bytes.len();
+    }
+
+    /// Puts these bytes behind those before.
+    pub fn add(&mut self, bytes: &[u8])
+        requires { length self.old + length bytes.now ≤ LONGEST_PIECE }
+        ensures { self.new ≡ self.old ++ bytes.now }
+    {
+        put_behind(self.room.as_mut_slice(), self.len, bytes);
+        self.len += bytes.len();
     }
 
     /// Reads once, and puts what comes in place of the bytes before. A read that fails leaves none.
@@ -101,4 +110,13 @@ fn put_front(room: &mut [u8], bytes: &[u8])
     ensures front { take (length bytes.now) room.new ≡ bytes.now }
 {
     room[..bytes.len()].copy_from_slice(bytes);
+}
+
+// Writes over the bytes behind so many.
+fn put_behind(room: &mut [u8], at: usize, bytes: &[u8])
+    requires { at + length bytes.now ≤ length room.old }
+    ensures len { length room.new ≡ length room.old }
+    ensures front { take (at + length bytes.now) room.new ≡ take at room.old ++ bytes.now }
+{
+    room[at..at + bytes.len()].copy_from_slice(bytes);
 }
