@@ -1,5 +1,5 @@
 -- What the house says as a client, byte for byte.
-use Rattle.std.specs.Prelude.{ℕ, ◌+◌, List, [], ◌∷◌, ◌++◌, length, take, codes, Option, Some, None}
+use Rattle.std.specs.Prelude.{ℕ, ◌+◌, Bool, true, false, List, [], ◌∷◌, ◌++◌, length, take, codes, Option, Some, None}
 use Rattle.ssh_fields.specs.Fields.{u32, str}
 use Rattle.ssh_grammar.specs.Messages.{To, Confirmation as Confirmed, Adjust as Adjusts, Data as GivesData, Eof as GivesEof, Failure as Fails}
 use Rattle.ssh_grammar.specs.SpellMessage.{spell, close, open_failure}
@@ -63,6 +63,17 @@ request_port (Cancelling port) asked = asked
 abbrev pub request_payload : Forwarding → List ℕ
 request_payload f =
     requested (request_name f.stage) f.listen_host (request_port f.stage f.listen_port)
+
+-- whether data is said
+abbrev pub is_data : Saying → Bool
+is_data (Data n) = true
+is_data Open = false
+is_data Confirmation = false
+is_data OpenFailure = false
+is_data Close = false
+is_data Failure = false
+is_data Eof = false
+is_data (Adjust n) = false
 
 -- in a channel that is confirmed: of the bytes that are held so many as are said
 abbrev pub in_live : Saying → ℕ → List ℕ → List ℕ

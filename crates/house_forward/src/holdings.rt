@@ -286,7 +286,7 @@ impl Holdings {
             forwarding.listen_host.as_bytes(),
             forwarding.request_port(),
         )?;
-        saying::put_frame(self.alloc, into, &payload)?;
+        saying::put_frame(into, &payload)?;
         Ok(Some(forwarding.request()))
     }
 

@@ -1,12 +1,14 @@
 //! What the house says as a client: whole frames, each in a piece of its own.
-ghost use Rattle.std.specs.Prelude.{◌≡◌, ◌<◌, ◌≤◌, ◌++◌, length, take, is_some, OnOk, IfOk, IfSome};
-ghost use Rattle.ssh_fields.specs.Fields.{str};
+ghost use Rattle.std.specs.Prelude.{◌≡◌, ◌<◌, ◌≤◌, ◌++◌, ◌∷◌, [], false, length, take, is_some, OnOk, IfOk, IfSome};
+ghost use Rattle.ssh_fields.specs.Fields.{str, u32};
+ghost use Rattle.ssh_grammar.specs.Messages.{To, Data as GivesData};
+ghost use Rattle.ssh_grammar.specs.SpellMessage.{spell};
 ghost use Rattle.mux_outside.specs.House.{SaysFits};
 ghost use Rattle.house_relay.specs.Next.{says_of};
 ghost use Rattle.house_relay.specs.Relay.{IsSaying, GoesOn};
 ghost use Rattle.house_forward.specs.Going.{act_of_saying};
 ghost use Rattle.house_forward.specs.Links.{after_saying};
-ghost use Rattle.house_forward.specs.Said.{framed, payload_of, direct, confirmed, in_live, limits, requested};
+ghost use Rattle.house_forward.specs.Said.{framed, payload_of, direct, confirmed, in_live, in_offer, is_data, limits, requested};
 ghost use Rattle.mux_outside.specs.declared.piece.TheConstants.{LONGEST_PIECE};
 
 use conn_messages::{close, open_failure};
@@ -40,18 +42,35 @@ pub fn put_whole(into: &mut Piece, bytes: &[u8]) -> Result<(), OutOfMemory>
 }
 
 /// Puts the frame of a payload into the piece.
-pub fn put_frame(alloc: Global, into: &mut Piece, payload: &[u8]) -> Result<(), OutOfMemory>
+pub fn put_frame(into: &mut Piece, payload: &[u8]) -> Result<(), OutOfMemory>
     ensures frame { OnOk result (into.new ≡ framed payload.now) }
     ensures short { OnOk result (length into.new ≤ LONGEST_PIECE) }
 {
     if payload.len() + 5 > mux_outside::LONGEST_PIECE {
         return Err(OutOfMemory);
     }
-    let mut frame = Vec::new(alloc);
-    put_u32(&mut frame, payload.len() as u32 + 1)?;
-    frame.push(0)?;
-    frame.extend_from_slice(payload)?;
-    put_whole(into, &frame)
+    let length = payload.len() as u32 + 1;
+    into.set(&length.to_be_bytes());
+    into.add(&[0]);
+    into.add(payload);
+    Ok(())
+}
+
+/// Puts the frame of data in a channel into the piece.
+fn put_data(into: &mut Piece, remote: u32, bytes: &[u8]) -> Result<(), OutOfMemory>
+    ensures frame { OnOk result (into.new ≡ framed (spell (To remote (GivesData bytes.now)))) }
+    ensures short { OnOk result (length into.new ≤ LONGEST_PIECE) }
+{
+    if bytes.len() + 14 > mux_outside::LONGEST_PIECE {
+        return Err(OutOfMemory);
+    }
+    let count = bytes.len() as u32;
+    into.set(&(count + 10).to_be_bytes());
+    into.add(&[0, CHANNEL_DATA]);
+    into.add(&remote.to_be_bytes());
+    into.add(&count.to_be_bytes());
+    into.add(bytes);
+    Ok(())
 }
 
 /// Puts what a relay has to say into the piece, and whether there was something. It has said it then.
@@ -68,24 +87,32 @@ pub fn say(alloc: Global, relay: &mut Relay, into: &mut Piece) -> Result<bool, O
     let Some(saying) = relay.says() else {
         return Ok(false);
     };
-    let payload = payload_of(alloc, relay, saying)?;
-    put_frame(alloc, into, &payload)?;
+    put_saying(alloc, relay, saying, into)?;
     relay.said(saying);
     Ok(true)
 }
 
-/// Writes what a relay says.
-fn payload_of(alloc: Global, relay: &Relay, saying: Saying) -> Result<Vec<u8>, OutOfMemory>
+/// Puts the frame of what a relay says into the piece.
+fn put_saying(
+    alloc: Global,
+    relay: &Relay,
+    saying: Saying,
+    into: &mut Piece,
+) -> Result<(), OutOfMemory>
     requires { IsSaying saying relay.now }
-    ensures { IfOk result (λ payload. payload.items ≡ payload_of relay.now saying) }
+    ensures frame { OnOk result (into.new ≡ framed (payload_of relay.now saying)) }
+    ensures short { OnOk result (length into.new ≤ LONGEST_PIECE) }
 {
     match &relay.line {
-        Line::Asked { host, port, .. } => open(alloc, relay.number, host.as_bytes(), *port),
-        Line::Offered { remote, .. } => match saying {
-            Saying::Confirmation => confirmation(alloc, *remote, relay.number),
-            _ => in_channel(alloc, Saying::OpenFailure, *remote, &[]),
-        },
-        Line::Live(live) => in_channel(alloc, saying, live.remote, relay.held.front()),
+        Line::Asked { host, port, .. } => {
+            let payload = open(alloc, relay.number, host.as_bytes(), *port)?;
+            put_frame(into, &payload)
+        }
+        Line::Offered { remote, .. } => {
+            let payload = answer(alloc, saying, *remote, relay.number)?;
+            put_frame(into, &payload)
+        }
+        Line::Live(live) => put_in_channel(alloc, saying, live.remote, relay.held.front(), into),
         Line::Dialing(_) | Line::Opened { .. } | Line::Over => Err(OutOfMemory),
     }
 }
@@ -137,14 +164,45 @@ fn put_limits(out: &mut Vec<u8>) -> Result<(), OutOfMemory>
     Ok(())
 }
 
-/// What a relay says in its confirmed channel.
-fn in_channel(
+/// The answer to the server's OPEN.
+fn answer(alloc: Global, saying: Saying, remote: u32, number: u32) -> Result<Vec<u8>, OutOfMemory>
+    ensures { IfOk result (λ payload. payload.items ≡ in_offer saying remote number) }
+{
+    if saying == Saying::Confirmation {
+        return confirmation(alloc, remote, number);
+    }
+    let mut payload = Vec::new(alloc);
+    payload.extend_from_slice(open_failure(
+        remote,
+        CONNECT_FAILED,
+        NOT_CONNECTED,
+    ).as_bytes())?;
+    Ok(payload)
+}
+
+/// Puts the frame of what a relay says in its confirmed channel into the piece. Data goes there at
+/// once.
+fn put_in_channel(
     alloc: Global,
     saying: Saying,
     remote: u32,
     held: &[u8],
-) -> Result<Vec<u8>, OutOfMemory>
-    ensures { IfOk result (λ payload. payload.items ≡ in_live saying remote held.now) }
+    into: &mut Piece,
+) -> Result<(), OutOfMemory>
+    ensures frame { OnOk result (into.new ≡ framed (in_live saying remote held.now)) }
+    ensures short { OnOk result (length into.new ≤ LONGEST_PIECE) }
+{
+    if let Saying::Data(count) = saying {
+        return put_data(into, remote, first_of(held, count));
+    }
+    let payload = besides_data(alloc, saying, remote)?;
+    put_frame(into, &payload)
+}
+
+/// What a relay says in its confirmed channel, but data.
+fn besides_data(alloc: Global, saying: Saying, remote: u32) -> Result<Vec<u8>, OutOfMemory>
+    requires { is_data saying ≡ false }
+    ensures { IfOk result (λ payload. payload.items ≡ in_live saying remote []) }
 {
     let mut payload = Vec::new(alloc);
     match saying {
@@ -156,27 +214,24 @@ fn in_channel(
                 NOT_CONNECTED,
             ).as_bytes())?;
         }
-        Saying::Failure => {
-            payload.push(CHANNEL_FAILURE)?;
-            put_u32(&mut payload, remote)?;
-        }
-        Saying::Data(count) => {
-            payload.push(CHANNEL_DATA)?;
-            put_u32(&mut payload, remote)?;
-            put_text(&mut payload, first_of(held, count))?;
-        }
-        Saying::Eof => {
-            payload.push(CHANNEL_EOF)?;
-            put_u32(&mut payload, remote)?;
-        }
+        Saying::Failure => put_to(&mut payload, CHANNEL_FAILURE, remote)?,
+        Saying::Eof => put_to(&mut payload, CHANNEL_EOF, remote)?,
         Saying::Adjust(owed) => {
-            payload.push(CHANNEL_WINDOW_ADJUST)?;
-            put_u32(&mut payload, remote)?;
+            put_to(&mut payload, CHANNEL_WINDOW_ADJUST, remote)?;
             put_u32(&mut payload, owed)?;
         }
-        Saying::Open | Saying::Confirmation => {}
+        Saying::Open | Saying::Confirmation | Saying::Data(_) => {}
     }
     Ok(payload)
+}
+
+/// The number of a message, and its recipient.
+fn put_to(out: &mut Vec<u8>, number: u8, remote: u32) -> Result<(), OutOfMemory>
+    ensures { OnOk result (out.new.items ≡ out.old.items ++ (number ∷ u32 remote)) }
+{
+    out.push(number)?;
+    put_u32(out, remote)?;
+    Ok(())
 }
 
 /// A request about a forwarding that wants a reply (RFC 4254, section 7.1).
