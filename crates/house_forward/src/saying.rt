@@ -172,11 +172,7 @@ fn answer(alloc: Global, saying: Saying, remote: u32, number: u32) -> Result<Vec
         return confirmation(alloc, remote, number);
     }
     let mut payload = Vec::new(alloc);
-    payload.extend_from_slice(open_failure(
-        remote,
-        CONNECT_FAILED,
-        NOT_CONNECTED,
-    ).as_bytes())?;
+    payload.extend_from_slice(open_failure(remote, CONNECT_FAILED, NOT_CONNECTED).as_bytes())?;
     Ok(payload)
 }
 
