@@ -28,6 +28,7 @@ use Rattle.mux_engine.specs.Serving.{IsSound, IsUnseen, IsUnused, Serving}
 use Rattle.mux_engine.specs.Sides.{Housed, Resting, Side}
 use Rattle.mux_engine.proofs.Lists.{among-here, among-less, none-without, or-true, own-or-house, test-other, true-false, without-other}
 use Rattle.mux_engine.proofs.Logs.{out-more}
+use Rattle.mux_engine.proofs.Owns.{client-apart, less-numbers, own-apart}
 use Rattle.mux_engine.proofs.Places.{house-shut}
 use Rattle.mux_engine.proofs.Taken.{here-less}
 
@@ -140,6 +141,21 @@ was-among k t xs a = elim (eqb_tells k t) [
   | inr q ↦ (sym (without-other k t xs q.1) ∙ a, q.1)
 ]
 
+-- no client is one of the master's own streams
+pub stays-all : (k : ℕ) (own : List OwnStream) → is_one k own ≡ false → without_stream k own ≡ own
+stays-all k [] e = refl
+stays-all k (t ∷ own) e = by_head (t.number == k) e (stays-all k own)
+  where
+    by_head : (b : Bool) → (b || is_one k own) ≡ false → (is_one k own ≡ false → without_stream k own ≡ own) → cond (not b) (t ∷ without_stream k own) (without_stream k own) ≡ t ∷ own
+    by_head true e ih = true-false e
+    by_head false e ih = ap (λ l. t ∷ l) (ih e)
+
+pub none-closed : {May : HouseReply → Type 0} {Rest : Resting} {before : Option (List HouseMark)} {now : Side} {policy : Policy} {pid : ℕ} {start : Option (List Mark)} {seen : Seen} {held failed : List ℕ} {given : ℕ} {todo : List ℕ} {s : State} (v : Serving May Rest before now policy pid start seen held failed given todo s) (k : ℕ) → IsFirst k s.leaving → is_one k seen.own ≡ false
+none-closed {seen = seen} {s = s} v k first = elim (eqb_tells k HOUSE) [
+  | inl q ↦ ap (λ i. is_one i seen.own) q.1 ∙ own-apart seen v.journal v.places HOUSE (house-shut v)
+  | inr q ↦ client-apart seen v.journal v.places k (own-or-house k (v.apart k (first-here v.stands k first)) q.1)
+]
+
 unfoldable pub serve-closed : {May : HouseReply → Type 0} {Rest : Resting} {before : Option (List HouseMark)} {now : Side} {policy : Policy} {pid : ℕ} {start : Option (List Mark)} {seen : Seen} {held failed : List ℕ} {given : ℕ} {todo : List ℕ} {s : State} (v : Serving May Rest before now policy pid start seen held failed given todo s) (k : ℕ)
     → IsFirst k s.leaving → Closes s (closed_by s k) k → Serving May Rest before now policy pid start (seen_after_close k seen) (without k held) failed given todo (closed_by s k)
 serve-closed {May} {Rest} {before} {now} {policy} {pid} {start} {seen} {held} {failed} {given} {todo} {s} v k first closes =
@@ -166,6 +182,12 @@ serve-closed {May} {Rest} {before} {now} {policy} {pid} {start} {seen} {held} {f
       absent = v.absent;
       tells = v.tells;
       of_wire = (wire-keeps seen.streams seen.blocked seen.last seen.listeners seen.own seen.last_own v.journal).close k v.of_wire;
+      places = record {
+        own = stays-all k seen.own (none-closed v k first) ∙ v.places.own;
+        listeners = v.places.listeners;
+        streams = both-tests is_own (λ i. not (i == k)) seen.streams ∙ (ap (without k) v.places.streams ∙ less-numbers k seen.own);
+      };
+      own_streams = v.own_streams;
       turns = v.turns;
       open_are = both-tests (λ i. not (is_own i)) (λ i. not (i == k)) seen.streams ∙ (ap (without k) v.open_are ∙ (ap (λ b. cond (not b) (0 ∷ without k (not_own (here s))) (without k (not_own (here s)))) (test-other 0 k (λ e. nz (sym e))) ∙ ap (λ l. 0 ∷ l) less));
       apart = λ j a. v.apart j (was-among k j (here s) (ap (among j) (here-less s k) ∙ a)).0;
@@ -180,14 +202,6 @@ serve-closed {May} {Rest} {before} {now} {policy} {pid} {start} {seen} {held} {f
     }
 
 -- ---- the master's own streams stay
-
-stays-all : (k : ℕ) (own : List OwnStream) → is_one k own ≡ false → without_stream k own ≡ own
-stays-all k [] e = refl
-stays-all k (t ∷ own) e = by_head (t.number == k) e (stays-all k own)
-  where
-    by_head : (b : Bool) → (b || is_one k own) ≡ false → (is_one k own ≡ false → without_stream k own ≡ own) → cond (not b) (t ∷ without_stream k own) (without_stream k own) ≡ t ∷ own
-    by_head true e ih = true-false e
-    by_head false e ih = ap (λ l. t ∷ l) (ih e)
 
 pub housed-closed : {May : HouseReply → Type 0} {Rest : Resting} {before : Option (List HouseMark)} {now : Side} {policy : Policy} {pid : ℕ} {start : Option (List Mark)} {seen : Seen} {held failed : List ℕ} {given : ℕ} {todo : List ℕ} {s : State} (v : Serving May Rest before now policy pid start seen held failed given todo s) (k : ℕ) → IsFirst k s.leaving → (known : Known) (own : List ℕ) → Housed known seen own → Housed known (seen_after_close k seen) own
 housed-closed {seen = seen} {s = s} v k first known own h =
@@ -205,21 +219,14 @@ housed-closed {seen = seen} {s = s} v k first known own h =
       };
     }
   where
-    not-one : (b : Bool) → is_one k seen.own ≡ b → b ≡ false
-    not-one false e = refl
-    not-one true e = elim (eqb_tells k HOUSE) [
-      | inl q ↦ true-false (sym (h.places.opened k e) ∙ (ap (λ i. among i seen.streams) q.1 ∙ house-shut v))
-      | inr q ↦ true-false (sym (h.places.numbered k e) ∙ own-or-house k (v.apart k (first-here v.stands k first)) q.1)
-    ]
-
     same : without_stream k seen.own ≡ seen.own
-    same = stays-all k seen.own (not-one (is_one k seen.own) refl)
+    same = stays-all k seen.own (none-closed v k first)
 
     mine : (t : ℕ) → IsTrue (is_one t (without_stream k seen.own)) → IsTrue (is_one t seen.own)
     mine t one = subst (λ (l : List OwnStream). IsTrue (is_one t l)) same one
 
     apart : (t : ℕ) → IsTrue (is_one t seen.own) → k ≢ t
-    apart t one e = true-false (sym one ∙ (ap (λ i. is_one i seen.own) (sym e) ∙ not-one (is_one k seen.own) refl))
+    apart t one e = true-false (sym one ∙ (ap (λ i. is_one i seen.own) (sym e) ∙ none-closed v k first))
 
 -- ---- the list of those to be closed
 

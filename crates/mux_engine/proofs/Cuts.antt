@@ -24,10 +24,12 @@ use Rattle.mux_machine.specs.Stands.{RowsFit}
 use Rattle.mux_outside.specs.HouseCalls.{HouseCall, calls_of}
 use Rattle.mux_outside.proofs.HouseCalls.{calls-append}
 use Rattle.mux_engine.specs.Called.{calls_in}
+use Rattle.mux_engine.specs.Places.{IsPlaced}
 use Rattle.mux_engine.specs.Run.{AsksOn, IsOfWire, RestedAt, is_by_house}
 use Rattle.mux_engine.specs.Serving.{IsLeft, Kept, Promised, Serving}
 use Rattle.mux_engine.specs.Sides.{Resting, Side, asks_in, house_mark, house_marks}
 use Rattle.mux_engine.proofs.Marks.{PromiseAt, kept-more, log-is, noted-more}
+use Rattle.mux_engine.proofs.Owns.{keeps-more}
 use Rattle.mux_engine.proofs.Told.{tells-more, tells-none, tells-then}
 
 pub of-streams : (streams blocked : List ℕ) (last : ℕ) (journal : List Mark) → OfWire streams blocked last journal → IsOfWire journal
@@ -60,9 +62,9 @@ on-next {May} {Rest} {before} {now} {policy} {pid} {start} {seen} {held} {failed
 
 -- the rows before the mark are left, whatever the house told at the mark
 unfoldable pub cut-next : {May : HouseReply → Type 0} {Rest : Resting} {before : Option (List HouseMark)} {now : Side} {policy : Policy} {pid : ℕ} {start : Option (List Mark)} {seen : Seen} {held failed : List ℕ} {given : ℕ} {todo : List ℕ} {s : State} (v : Serving May Rest before now policy pid start seen held failed given todo s) (now' : Option (List HouseMark)) (told' : Option (List Mark)) (given' : ℕ) (mark : Mark) (more left : List HouseMark)
-    → told' ≡ option_map (λ m. m ++ mark ∷ []) seen.told → TellsAsks now.told now' more → house_mark mark ++ left ≡ now.unnoted ++ more → IsOfWire (mark ∷ v.journal) → turns_in (mark ∷ v.journal) ≤ given' → ((set : Setting) → RestedAt Rest.rests set before v.journal mark) → (Rest.present ≡ false → is_by_house mark ≡ false) → AsksOn May policy pid v.picked v.replies (mark ∷ v.journal) v.stands.asks (asks_in more)
+    → told' ≡ option_map (λ m. m ++ mark ∷ []) seen.told → TellsAsks now.told now' more → house_mark mark ++ left ≡ now.unnoted ++ more → IsOfWire (mark ∷ v.journal) → IsPlaced v.journal mark → turns_in (mark ∷ v.journal) ≤ given' → ((set : Setting) → RestedAt Rest.rests set before v.journal mark) → (Rest.present ≡ false → is_by_house mark ≡ false) → AsksOn May policy pid v.picked v.replies (mark ∷ v.journal) v.stands.asks (asks_in more)
     → ((set : Setting) → IsLog set (mark ∷ v.journal) (log_of_journal set v.journal)) → ((picks : List ℕ) (later : List HouseReply) → PromiseAt (by_lists policy pid (v.picked ++ picks) (v.replies ++ later)) v.journal mark) → Promised May Rest before now' policy pid start told' given'
-cut-next {May} {Rest} {before} {now} {policy} {pid} {start} {seen} {held} {failed} {given} {todo} {s} v now' told' given' mark more left e h is of le rested absent on cut promise =
+cut-next {May} {Rest} {before} {now} {policy} {pid} {start} {seen} {held} {failed} {given} {todo} {s} v now' told' given' mark more left e h is of placed le rested absent on cut promise =
     let same : (house_marks v.journal ++ now.unnoted) ++ more ≡ (house_marks v.journal ++ house_mark mark) ++ left = noted-more (house_marks v.journal) (house_mark mark) left now.unnoted more is in
     record {
       journal = mark ∷ v.journal;
@@ -80,6 +82,7 @@ cut-next {May} {Rest} {before} {now} {policy} {pid} {start} {seen} {held} {faile
       absent = λ e. All-cons (λ (m : Mark). is_by_house m ≡ false) mark v.journal (absent e) (v.absent e);
       tells = tells-more start seen.told told' v.journal (mark ∷ []) v.tells e;
       of_wire = of;
+      own_streams = keeps-more v.journal mark placed v.own_streams;
       turns = le;
       left = λ picks later.
           let set : Setting = by_lists policy pid (v.picked ++ picks) (v.replies ++ later) in
@@ -107,6 +110,7 @@ cut-here {May} {Rest} {before} {now} {policy} {pid} {start} {seen} {held} {faile
   absent = v.absent;
   tells = e ∙ v.tells;
   of_wire = of-streams seen.streams seen.blocked seen.last v.journal v.of_wire;
+  own_streams = v.own_streams;
   turns = let w : turns_in v.journal ≡ given = v.turns in omega arith;
   left = λ picks later.
       let set : Setting = by_lists policy pid (v.picked ++ picks) (v.replies ++ later) in
@@ -144,6 +148,8 @@ serve-told {May} {Rest} {before} {now} {policy} {pid} {start} {seen} {held} {fai
       absent = v.absent;
       tells = v.tells;
       of_wire = v.of_wire;
+      places = v.places;
+      own_streams = v.own_streams;
       turns = v.turns;
       open_are = v.open_are;
       apart = v.apart;

@@ -26,7 +26,7 @@ use Rattle.mux_outside.specs.declared.turn.Turn.{Turn}
 use Rattle.mux_outside.specs.declared.turn.Turn.TheVariants as turn
 use Rattle.mux_outside.specs.declared.turn.Want.{Want}
 use Rattle.mux_history.specs.Policy.{Policy}
-use Rattle.mux_clients.specs.Asked.{TellsAsks, known_after}
+use Rattle.mux_clients.specs.Asked.{known_after}
 use Rattle.mux_machine.specs.State.{State}
 use Rattle.mux_machine.specs.Stands.{CutsShort}
 use Rattle.mux_machine.specs.Events.{MayEnd, here}
@@ -58,7 +58,7 @@ pub record AtWait (Rest : Resting) (now : Side) (seen : Seen) (own held failed :
   pub offered : Offered seen own held failed queue
   pub hears : seen.listens ≡ s.listening
   pub all_noted : now.unnoted ≡ []
-  pub rests : Rest.rests (want_of s) now.told now.calls
+  pub rests : Rest.rests (want_of s) now.told now.calls seen.listeners seen.own
 
 -- where there is a house and no refusal may be, none came
 none-refused : (present must : Bool) (refused : Option ℕ) → IsTrue present → refused_if present must refused ≡ None → IsTrue must → refused ≡ None
@@ -66,9 +66,9 @@ none-refused true true refused p e m = e
 none-refused true false refused p e m = true-false (sym m)
 none-refused false must refused p e m = true-false (sym p)
 
-pub at-wait : {T : Type 0} {calls : List HouseCall} (told : T → Option (List HouseMark)) (quiet : T → Quiet) (must : T → Bool) (refused : T → Option ℕ) (stands : T → List HouseCall → Type 0) (first house : T) (known : Known) (seen : Seen) (own held failed : List ℕ) (queue : ℕ → List ℕ) (s : State) → Housed known seen own → IsReady known (quiet house) queue held failed own s
-    → refused_if known.present (must house) (refused house) ≡ None → s.leaving ≡ [] → s.refused ≡ [] → s.ended ≡ None → seen.listens ≡ s.listening → HandsOn (stands first) (stands house) calls → AtWait (RestsOf told quiet must refused stands known.present first) (noted (told house) known calls) seen own held failed queue s
-at-wait told quiet must refused stands first house known seen own held failed queue s housed ready permitted none admitted live hears hands = record {
+pub at-wait : {T : Type 0} {calls : List HouseCall} (told : T → Option (List HouseMark)) (known_of : T → Known) (quiet : T → Quiet) (must : T → Bool) (refused : T → Option ℕ) (stands : T → List HouseCall → Type 0) (first house : T) (seen : Seen) (own held failed : List ℕ) (queue : ℕ → List ℕ) (s : State) → Housed (known_of house) seen own → IsReady (known_of house) (quiet house) queue held failed own s
+    → refused_if (known_of house).present (must house) (refused house) ≡ None → s.leaving ≡ [] → s.refused ≡ [] → s.ended ≡ None → seen.listens ≡ s.listening → HandsOn (stands first) (stands house) calls → AtWait (RestsOf told known_of quiet must refused stands (known_of house).present first) (noted (told house) (known_of house) calls) seen own held failed queue s
+at-wait told known_of quiet must refused stands first house seen own held failed queue s housed ready permitted none admitted live hears hands = record {
   none = none;
   admitted = admitted;
   live = live;
@@ -82,10 +82,11 @@ at-wait told quiet must refused stands first house known seen own held failed qu
         orders = ready.no_more.orders present;
         answers = ready.no_more.answers present;
         rests = ready.rests present;
-        permitted = none-refused known.present (must house) (refused house) present permitted;
+        permitted = none-refused (known_of house).present (must house) (refused house) present permitted;
       },
       refl,
       hands,
+      record { listeners_are = housed.listeners; streams_are = housed.streams },
     ),
   );
 }
@@ -177,32 +178,32 @@ module _ {May : HouseReply → Type 0} {Rest : Resting} {before : Option (List H
         let fits : OwnFits (turn.Joined l k) seen.listeners seen.own seen.last_own = subst (λ (x : Turn). OwnFits x seen.listeners seen.own seen.last_own) next w.own_fits in
         let of = of-turn v a.none a.admitted a.live a.offered a.hears a.all_noted a.rests (turn.Joined l k) bytes w.are (subst (λ (x : Turn). TurnFits x (want_of s) seen.listens seen.last seen.streams seen.blocked bytes) next w.fits) fits in
         subst (λ (x : Turn). Serving May Rest before (calling now (Turns (Joined l k) ∷ [])) policy pid start (seen-then x bytes) held failed (given + 1) (0 ∷ here s) s) (sym next)
-        (offered-again (own-joins told-waiting l k a.all_noted fits.1 (seen-then (turn.Joined l k) bytes) (marked-twice (wait-mark v a.none a.admitted a.live a.offered) (Joins l k) seen.told) of refl refl refl refl refl))
+        (offered-again (own-joins told-waiting l k fits.0 a.all_noted fits.1 (seen-then (turn.Joined l k) bytes) (marked-twice (wait-mark v a.none a.admitted a.live a.offered) (Joins l k) seen.told) of refl refl refl refl refl refl refl))
     by-turn (told.Got k got) next =
         let fits : TurnFits (turn.Got k) (want_of s) seen.listens seen.last seen.streams seen.blocked bytes = subst (λ (x : Turn). TurnFits x (want_of s) seen.listens seen.last seen.streams seen.blocked bytes) next.1 w.fits in
         let of = of-turn v a.none a.admitted a.live a.offered a.hears a.all_noted a.rests (turn.Got k) bytes w.are fits (subst (λ (x : Turn). OwnFits x seen.listeners seen.own seen.last_own) next.1 w.own_fits) in
         subst (λ (l : List ℕ). Serving May Rest before (calling now (Turns (Got k l) ∷ [])) policy pid start (seen-then t bytes) held failed (given + 1) (0 ∷ here s) s) (sym next.2)
         (subst (λ (x : Turn). Serving May Rest before (calling now (Turns (Got k bytes) ∷ [])) policy pid start (seen-then x bytes) held failed (given + 1) (0 ∷ here s) s) (sym next.1)
-        (offered-again (own-gets told-waiting k fits.1 (seen-then (turn.Got k) bytes) next.0 a.all_noted bytes w.are
-        record { told = marked-twice (wait-mark v a.none a.admitted a.live a.offered) (Gets k bytes) seen.told; of_wire = of; streams = refl; blocked = refl; last = refl; last_own = refl; listens = refl })))
+        (offered-again (own-gets told-waiting k fits.1 (seen-then (turn.Got k) bytes) next.0 (subst (λ (x : Turn). OwnFits x seen.listeners seen.own seen.last_own) next.1 w.own_fits next.0) a.all_noted bytes w.are
+        record { told = marked-twice (wait-mark v a.none a.admitted a.live a.offered) (Gets k bytes) seen.told; of_wire = of; streams = refl; blocked = refl; last = refl; last_own = refl; listens = refl; listeners = refl; own = refl })))
     by-turn (told.End k) next =
         let fits : TurnFits (turn.End k) (want_of s) seen.listens seen.last seen.streams seen.blocked bytes = subst (λ (x : Turn). TurnFits x (want_of s) seen.listens seen.last seen.streams seen.blocked bytes) next.1 w.fits in
         let of = of-turn v a.none a.admitted a.live a.offered a.hears a.all_noted a.rests (turn.End k) bytes w.are fits (subst (λ (x : Turn). OwnFits x seen.listeners seen.own seen.last_own) next.1 w.own_fits) in
         subst (λ (x : Turn). Serving May Rest before (calling now (Turns (End k) ∷ [])) policy pid start (seen-then x bytes) held failed (given + 1) (0 ∷ here s) s) (sym next.1)
-        (offered-again (own-ends told-waiting k fits.1 (seen-then (turn.End k) bytes) next.0 a.all_noted
-        record { told = marked-twice (wait-mark v a.none a.admitted a.live a.offered) (Ends k) seen.told; of_wire = of; streams = refl; blocked = refl; last = refl; last_own = refl; listens = refl }))
+        (offered-again (own-ends told-waiting k fits.1 (seen-then (turn.End k) bytes) next.0 (subst (λ (x : Turn). OwnFits x seen.listeners seen.own seen.last_own) next.1 w.own_fits next.0) a.all_noted
+        record { told = marked-twice (wait-mark v a.none a.admitted a.live a.offered) (Ends k) seen.told; of_wire = of; streams = refl; blocked = refl; last = refl; last_own = refl; listens = refl; listeners = refl; own = refl }))
     by-turn (told.Writable k) next =
         let fits : TurnFits (turn.Writable k) (want_of s) seen.listens seen.last seen.streams seen.blocked bytes = subst (λ (x : Turn). TurnFits x (want_of s) seen.listens seen.last seen.streams seen.blocked bytes) next.1 w.fits in
         let of = of-turn v a.none a.admitted a.live a.offered a.hears a.all_noted a.rests (turn.Writable k) bytes w.are fits (subst (λ (x : Turn). OwnFits x seen.listeners seen.own seen.last_own) next.1 w.own_fits) in
         subst (λ (x : Turn). Serving May Rest before (calling now (Turns (Writable k) ∷ [])) policy pid start (seen-then x bytes) (without k held) failed (given + 1) (0 ∷ here s) s) (sym next.1)
         (offered-again (own-frees told-waiting k fits.0 (seen-then (turn.Writable k) bytes) next.0 a.all_noted
-        record { told = marked-twice (wait-mark v a.none a.admitted a.live a.offered) (Frees k) seen.told; of_wire = of; streams = refl; blocked = refl; last = refl; last_own = refl; listens = refl }))
+        record { told = marked-twice (wait-mark v a.none a.admitted a.live a.offered) (Frees k) seen.told; of_wire = of; streams = refl; blocked = refl; last = refl; last_own = refl; listens = refl; listeners = refl; own = refl }))
     by-turn (told.Failed k) next =
         let fits : TurnFits (turn.Failed k) (want_of s) seen.listens seen.last seen.streams seen.blocked bytes = subst (λ (x : Turn). TurnFits x (want_of s) seen.listens seen.last seen.streams seen.blocked bytes) next.1 w.fits in
         let of = of-turn v a.none a.admitted a.live a.offered a.hears a.all_noted a.rests (turn.Failed k) bytes w.are fits (subst (λ (x : Turn). OwnFits x seen.listeners seen.own seen.last_own) next.1 w.own_fits) in
         subst (λ (x : Turn). Serving May Rest before (calling now (Turns (Failed k) ∷ [])) policy pid start (seen-then x bytes) held (failed ++ k ∷ []) (given + 1) (0 ∷ here s) s) (sym next.1)
         (offered-again (own-failed told-waiting k fits (seen-then (turn.Failed k) bytes) next.0 a.all_noted
-        record { told = marked-twice (wait-mark v a.none a.admitted a.live a.offered) (Fails k) seen.told; of_wire = of; streams = refl; blocked = refl; last = refl; last_own = refl; listens = refl }))
+        record { told = marked-twice (wait-mark v a.none a.admitted a.live a.offered) (Fails k) seen.told; of_wire = of; streams = refl; blocked = refl; last = refl; last_own = refl; listens = refl; listeners = refl; own = refl }))
 
     pub turn-owns : (o : OwnTurn) → IsOwnOf o t bytes → Serving May Rest before (calling now (Turns (happening_of o) ∷ [])) policy pid start seen' (held_heard o held) (failed_heard o failed) (given + 1) (0 ∷ here s) s
     turn-owns o next = subst (λ (x : Seen). Serving May Rest before (calling now (Turns (happening_of o) ∷ [])) policy pid start x (held_heard o held) (failed_heard o failed) (given + 1) (0 ∷ here s) s) (sym w.seen_is) (by-turn o next)
@@ -215,7 +216,7 @@ module _ {May : HouseReply → Type 0} {Rest : Resting} {before : Option (List H
         let of = of-turn v a.none a.admitted a.live a.offered a.hears a.all_noted a.rests (turn.Writable k) bytes w.are fits (subst (λ (x : Turn). OwnFits x seen.listeners seen.own seen.last_own) is w.own_fits) in
         subst (λ (x : Turn). Serving May Rest before now policy pid start (seen-then x bytes) (without k held) failed (given + 1) (0 ∷ here s) s) (sym is)
         (client-frees told-waiting k fits.0 (seen-then (turn.Writable k) bytes) client
-        record { told = marked-twice (wait-mark v a.none a.admitted a.live a.offered) (Frees k) seen.told; of_wire = of; streams = refl; blocked = refl; last = refl; last_own = refl; listens = refl })
+        record { told = marked-twice (wait-mark v a.none a.admitted a.live a.offered) (Frees k) seen.told; of_wire = of; streams = refl; blocked = refl; last = refl; last_own = refl; listens = refl; listeners = refl; own = refl })
 
     pub turn-frees : (k : ℕ) → is_own k ≡ false → t ≡ turn.Writable k → Serving May Rest before now policy pid start seen' (without k held) failed (given + 1) (0 ∷ here s) s
     turn-frees k client is = subst (λ (x : Seen). Serving May Rest before now policy pid start x (without k held) failed (given + 1) (0 ∷ here s) s) (sym w.seen_is) (by-room k client is)

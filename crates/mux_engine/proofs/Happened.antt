@@ -33,6 +33,7 @@ use Rattle.mux_engine.proofs.Lists.{among-last, or-none, test-other, true-false}
 use Rattle.mux_engine.proofs.Logs.{has-failed-other}
 use Rattle.mux_engine.proofs.Marks.{Notes, Placed, serve-next}
 use Rattle.mux_engine.proofs.Outs.{Spares}
+use Rattle.mux_engine.proofs.Owns.{Owns}
 use Rattle.mux_engine.proofs.Places.{placed-by}
 use Rattle.mux_engine.proofs.Turns.{IsTold, told-sound}
 
@@ -69,27 +70,27 @@ module _ {May : HouseReply → Type 0} {Rest : Resting} {before : Option (List H
 
   -- a stream gave bytes, or no more, or failed
   pub placed-gets : (seen' : Seen) (s' : State) (k : ℕ) (bytes : List ℕ) → among k seen.streams ≡ true → OfWire seen'.streams seen'.blocked seen'.last (Gets k bytes ∷ v.journal)
-      → seen'.streams ≡ seen.streams → seen'.blocked ≡ seen.blocked → seen'.last ≡ seen.last → seen'.last_own ≡ seen.last_own → seen'.listens ≡ seen.listens → here s' ≡ here s → Placed s' v.journal seen seen' held failed (Gets k bytes)
-  placed-gets seen' s' k bytes found of streams blocked last last_own listens same =
+      → seen'.streams ≡ seen.streams → seen'.blocked ≡ seen.blocked → seen'.last ≡ seen.last → seen'.last_own ≡ seen.last_own → seen'.listens ≡ seen.listens → here s' ≡ here s → Owns v.journal seen' (Gets k bytes) → Placed s' v.journal seen seen' held failed (Gets k bytes)
+  placed-gets seen' s' k bytes found of streams blocked last last_own listens same owns =
       placed-by v (Gets k bytes) seen' held failed s' k found of streams last last_own listens same (v.held_is ∙ sym blocked) (ap (among k) blocked ∙ v.blocked_is k found) (λ t ne. ap (among t) blocked) (λ t ne. refl) (λ t. refl) (λ t ne. refl)
-      (λ own f. v.failed_are k own found f) (λ t a. a)
+      (λ own f. v.failed_are k own found f) (λ t a. a) owns
 
   pub placed-ends : (seen' : Seen) (s' : State) (k : ℕ) → among k seen.streams ≡ true → OfWire seen'.streams seen'.blocked seen'.last (Ends k ∷ v.journal)
-      → seen'.streams ≡ seen.streams → seen'.blocked ≡ seen.blocked → seen'.last ≡ seen.last → seen'.last_own ≡ seen.last_own → seen'.listens ≡ seen.listens → here s' ≡ here s → Placed s' v.journal seen seen' held failed (Ends k)
-  placed-ends seen' s' k found of streams blocked last last_own listens same =
+      → seen'.streams ≡ seen.streams → seen'.blocked ≡ seen.blocked → seen'.last ≡ seen.last → seen'.last_own ≡ seen.last_own → seen'.listens ≡ seen.listens → here s' ≡ here s → Owns v.journal seen' (Ends k) → Placed s' v.journal seen seen' held failed (Ends k)
+  placed-ends seen' s' k found of streams blocked last last_own listens same owns =
       placed-by v (Ends k) seen' held failed s' k found of streams last last_own listens same (v.held_is ∙ sym blocked) (ap (among k) blocked ∙ v.blocked_is k found) (λ t ne. ap (among t) blocked) (λ t ne. refl) (λ t. refl) (λ t ne. refl)
-      (λ own f. v.failed_are k own found f) (λ t a. a)
+      (λ own f. v.failed_are k own found f) (λ t a. a) owns
 
   pub placed-fails : (seen' : Seen) (s' : State) (failed' : List ℕ) (k : ℕ) → among k seen.streams ≡ true → OfWire seen'.streams seen'.blocked seen'.last (Fails k ∷ v.journal)
-      → seen'.streams ≡ seen.streams → seen'.blocked ≡ seen.blocked → seen'.last ≡ seen.last → seen'.last_own ≡ seen.last_own → seen'.listens ≡ seen.listens → here s' ≡ here s → (IsTrue (is_own k) → among k failed' ≡ true) → ((t : ℕ) → among t failed ≡ true → among t failed' ≡ true) → Placed s' v.journal seen seen' held failed' (Fails k)
-  placed-fails seen' s' failed' k found of streams blocked last last_own listens same noted grows =
+      → seen'.streams ≡ seen.streams → seen'.blocked ≡ seen.blocked → seen'.last ≡ seen.last → seen'.last_own ≡ seen.last_own → seen'.listens ≡ seen.listens → here s' ≡ here s → (IsTrue (is_own k) → among k failed' ≡ true) → ((t : ℕ) → among t failed ≡ true → among t failed' ≡ true) → Owns v.journal seen' (Fails k) → Placed s' v.journal seen seen' held failed' (Fails k)
+  placed-fails seen' s' failed' k found of streams blocked last last_own listens same noted grows owns =
       placed-by v (Fails k) seen' held failed' s' k found of streams last last_own listens same (v.held_is ∙ sym blocked) (ap (among k) blocked ∙ v.blocked_is k found) (λ t ne. ap (among t) blocked) (λ t ne. refl) (λ t. refl) (λ t ne. has-failed-other k t v.journal ne)
-      (λ own f. noted own) grows
+      (λ own f. noted own) grows owns
 
   -- a client came
   pub placed-accepts : (seen' : Seen) (s' : State) (k : ℕ) → k ≡ seen.last + 1 → k ≤ LAST_CLIENT → OfWire seen'.streams seen'.blocked seen'.last (Accepts k ∷ v.journal)
-      → seen'.streams ≡ seen.streams ++ k ∷ [] → seen'.blocked ≡ seen.blocked → seen'.last ≡ k → seen'.last_own ≡ seen.last_own → seen'.listens ≡ seen.listens → here s' ≡ here s ++ k ∷ [] → is_own k ≡ false → Placed s' v.journal seen seen' held failed (Accepts k)
-  placed-accepts seen' s' k next most of streams blocked last last_own listens more client =
+      → seen'.streams ≡ seen.streams ++ k ∷ [] → seen'.blocked ≡ seen.blocked → seen'.last ≡ k → seen'.last_own ≡ seen.last_own → seen'.listens ≡ seen.listens → here s' ≡ here s ++ k ∷ [] → is_own k ≡ false → Owns v.journal seen' (Accepts k) → Placed s' v.journal seen seen' held failed (Accepts k)
+  placed-accepts seen' s' k next most of streams blocked last last_own listens more client owns =
       let new : IsUnseen v.journal seen.blocked k = v.unseen k (omega arith) most in
       record {
         of_wire = of;
@@ -109,6 +110,7 @@ module _ {May : HouseReply → Type 0} {Rest : Resting} {before : Option (List H
             record { not_open = ap (among j) streams ∙ (among-last k j seen.streams ∙ (ap (λ b. among j seen.streams || (b || false)) (test-other k j (λ q. no-client j free q)) ∙ (or-none (among j seen.streams) ∙ w.not_open))); never_blocked = w.never_blocked; not_blocked = ap (among j) blocked ∙ w.not_blocked; never_failed = w.never_failed };
         failed_are = λ t own a f. v.failed_are t own (last-or k t seen.streams (ap (among t) (sym streams) ∙ a) (λ q. true-false (sym own ∙ (ap is_own (sym q) ∙ client)))) f;
         listens = λ l. listens ∙ l;
+        owns = owns;
       }
     where
       before-too : (j : ℕ) → seen'.last < j → seen.last < j
@@ -122,8 +124,8 @@ module _ {May : HouseReply → Type 0} {Rest : Resting} {before : Option (List H
       no-client j (inr house) q = true-false (sym (ap is_own (q ∙ house)) ∙ client)
 
   -- the house was let in
-  pub placed-house-in : (seen' : Seen) (s' : State) → OfWire seen'.streams seen'.blocked seen'.last (House HouseIn ∷ v.journal) → seen'.streams ≡ seen.streams → seen'.blocked ≡ seen.blocked → seen'.last ≡ seen.last → seen'.last_own ≡ seen.last_own → seen'.listens ≡ seen.listens → here s' ≡ here s ++ HOUSE ∷ [] → Placed s' v.journal seen seen' held failed (House HouseIn)
-  placed-house-in seen' s' of streams blocked last last_own listens more = record {
+  pub placed-house-in : (seen' : Seen) (s' : State) → OfWire seen'.streams seen'.blocked seen'.last (House HouseIn ∷ v.journal) → seen'.streams ≡ seen.streams → seen'.blocked ≡ seen.blocked → seen'.last ≡ seen.last → seen'.last_own ≡ seen.last_own → seen'.listens ≡ seen.listens → here s' ≡ here s ++ HOUSE ∷ [] → Owns v.journal seen' (House HouseIn) → Placed s' v.journal seen seen' held failed (House HouseIn)
+  placed-house-in seen' s' of streams blocked last last_own listens more owns = record {
     of_wire = of;
     open_are = ap not_own streams ∙ (v.open_are ∙ ap (λ l. 0 ∷ l) (sym (ap not_own more ∙ (filter-append (λ (t : ℕ). not (is_own t)) (here s) (HOUSE ∷ []) ∙ append-nil (not_own (here s))))));
     apart = λ j a. elim (eqb_tells HOUSE j) [
@@ -138,4 +140,5 @@ module _ {May : HouseReply → Type 0} {Rest : Resting} {before : Option (List H
         record { not_open = ap (among j) streams ∙ w.not_open; never_blocked = w.never_blocked; not_blocked = ap (among j) blocked ∙ w.not_blocked; never_failed = w.never_failed };
     failed_are = λ t own a f. v.failed_are t own (ap (among t) (sym streams) ∙ a) f;
     listens = λ l. listens ∙ l;
+    owns = owns;
   }

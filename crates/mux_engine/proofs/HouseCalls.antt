@@ -145,6 +145,8 @@ module _ {May : HouseReply → Type 0} {Rest : Resting} {before : Option (List H
     absent = v.absent;
     tells = v.tells;
     of_wire = v.of_wire;
+    places = v.places;
+    own_streams = v.own_streams;
     turns = v.turns;
     open_are = v.open_are;
     apart = v.apart;

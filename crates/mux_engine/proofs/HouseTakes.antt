@@ -35,6 +35,7 @@ use Rattle.mux_engine.proofs.Logs.{log-out, settled-as, took-log}
 use Rattle.mux_engine.proofs.Marks.{log-is, serve-alone}
 use Rattle.mux_engine.proofs.Noted.{seen-with}
 use Rattle.mux_engine.proofs.Offers.{SameRun, Waiting}
+use Rattle.mux_engine.proofs.Owns.{owns-plain}
 use Rattle.mux_engine.proofs.Places.{at-stream, placed-still}
 use Rattle.mux_engine.proofs.Quiet.{askers-more}
 use Rattle.mux_engine.proofs.Taken.{queue-present, took-asks, took-run}
@@ -95,7 +96,7 @@ module _ {May : HouseReply → Type 0} {Rest : Resting} {before : Option (List H
         rested = λ picks later. tt;
         absent = λ e. true-false (sym (v.house_there within) ∙ e);
         turns = v.turns;
-        placed = placed-still v mark (seen-with (HouseTook n ∷ []) seen) s' ((wire-keeps seen.streams seen.blocked seen.last seen.listeners seen.own seen.last_own v.journal).note (HouseTook n) (v.house_in ∙ within) refl v.of_wire) refl refl refl refl refl same.streams (λ t. refl) (λ t. refl) (λ t. refl);
+        placed = placed-still v mark (seen-with (HouseTook n ∷ []) seen) s' ((wire-keeps seen.streams seen.blocked seen.last seen.listeners seen.own seen.last_own v.journal).note (HouseTook n) (v.house_in ∙ within) refl v.of_wire) refl refl refl refl refl same.streams (λ t. refl) (λ t. refl) (λ t. refl) (owns-plain v.journal seen (seen-with (HouseTook n ∷ []) seen) mark tt v.places refl refl refl);
         sound = λ picks later.
             let set : Setting = by_lists policy pid (v.picked ++ picks) (v.replies ++ later) in
             let old : IsSound set v.journal todo s = v.sound picks later in
@@ -138,5 +139,6 @@ module _ {May : HouseReply → Type 0} {Rest : Resting} {before : Option (List H
         cut = λ set. inr (0, refl);
         called = λ set. refl;
         house = refl;
-        placed = λ s' arrives. placed-still v mark (seen-with (HouseSaid bytes ∷ []) seen) s' of refl refl refl refl refl (stayed e (Gets HOUSE bytes) s s' tells tt (arrives live)) (λ t. refl) (λ t. refl) (λ t. refl);
+        placed = λ s' arrives. placed-still v mark (seen-with (HouseSaid bytes ∷ []) seen) s' of refl refl refl refl refl (stayed e (Gets HOUSE bytes) s s' tells tt (arrives live)) (λ t. refl) (λ t. refl) (λ t. refl) (owns-plain v.journal seen (seen-with (HouseSaid bytes ∷ []) seen) mark tt v.places refl refl refl);
+        right = record { opened = tt; gives = tt; writes = tt; joins = tt };
       }

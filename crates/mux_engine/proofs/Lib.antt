@@ -28,6 +28,7 @@ mod Ordered
 mod Outs
 mod OwnMarks
 mod OwnTurns
+mod Owns
 mod Places
 mod Quiet
 mod Readied

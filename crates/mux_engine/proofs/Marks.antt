@@ -34,6 +34,7 @@ use Rattle.mux_machine.proofs.Over.{some-end}
 use Rattle.mux_engine.proofs.Called.{CallsOn}
 use Rattle.mux_engine.proofs.Lists.{true-false}
 use Rattle.mux_engine.proofs.Logs.{log-listens, log-live}
+use Rattle.mux_engine.proofs.Owns.{Owns, keeps-more}
 use Rattle.mux_engine.proofs.Told.{may-more, tells-more, tells-then}
 
 -- ---- what stood before, with the numbers and replies of now
@@ -104,6 +105,7 @@ pub record Placed (s' : State) (journal : List Mark) (seen seen' : Seen) (held' 
   pub unused : (k : ℕ) → IsFree seen'.last_own k → IsUnused (mark ∷ journal) seen' k
   pub failed_are : (t : ℕ) → IsTrue (is_own t) → among t seen'.streams ≡ true → has_failed t (mark ∷ journal) ≡ true → among t failed' ≡ true
   pub listens : seen.listens ≡ true → seen'.listens ≡ true
+  pub owns : Owns journal seen' mark
 
 -- what the house told with it, and what is noted of it: it was asked this
 pub record Notes (now now' : Side) (mark : Mark) (asks : List HouseMark) : Type 0 where
@@ -182,6 +184,8 @@ serve-on {May} {Rest} {before} {now} {policy} {pid} {start} {seen} {held} {faile
       absent = λ e. All-cons (λ (m : Mark). is_by_house m ≡ false) mark v.journal (n.absent e) (v.absent e);
       tells = tells-more start seen.told seen'.told v.journal (mark ∷ []) v.tells n.told;
       of_wire = n.placed.of_wire;
+      places = n.placed.owns.places;
+      own_streams = keeps-more v.journal mark n.placed.owns.right v.own_streams;
       turns = n.turns;
       open_are = n.placed.open_are;
       apart = n.placed.apart;

@@ -17,6 +17,7 @@ use Rattle.mux_engine.specs.Serving.{Serving}
 use Rattle.mux_engine.specs.Sides.{Resting, Side}
 use Rattle.mux_engine.proofs.Asks.{EachAsked}
 use Rattle.mux_engine.proofs.Called.{calls-told}
+use Rattle.mux_engine.proofs.Owns.{owns-plain}
 use Rattle.mux_engine.proofs.Places.{placed-still}
 use Rattle.mux_engine.proofs.Quiet.{serve-quiet}
 use Rattle.mux_engine.proofs.Told.{tells-none, told-none}
@@ -38,7 +39,8 @@ module _ {May : HouseReply → Type 0} {Rest : Resting} {before : Option (List H
       (record { more = []; told_is = tells-none now.told; noted_is = sym e ∙ sym (append-nil now.unnoted); asks_are = refl })
       (λ set. calls-told now (record now { unnoted = rest }) (m ∷ []) [] (sym e ∙ sym (append-nil now.unnoted)) (sym (append-nil now.calls)))
       refl refl refl v.turns
-      (placed-still v (House m) (seen-with (m ∷ []) seen) s ((wire-keeps seen.streams seen.blocked seen.last seen.listeners seen.own seen.last_own v.journal).note m tt refl v.of_wire) refl refl refl refl refl refl (λ t. refl) (λ t. refl) (λ t. refl))
+      (placed-still v (House m) (seen-with (m ∷ []) seen) s ((wire-keeps seen.streams seen.blocked seen.last seen.listeners seen.own seen.last_own v.journal).note m tt refl v.of_wire) refl refl refl refl refl refl (λ t. refl) (λ t. refl) (λ t. refl)
+      (owns-plain v.journal seen (seen-with (m ∷ []) seen) (House m) tt v.places refl refl refl))
 
   -- as many as were
   pub note-some : (n : ℕ) (asks : List HouseMark) (P : ℕ → Type 0) → EachAsked P asks → {now : Side} {seen : Seen} → Serving May Rest before now policy pid start seen held failed given todo s → now.unnoted ≡ asks

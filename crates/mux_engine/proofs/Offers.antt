@@ -1,12 +1,13 @@
 -- What an answer to a write makes of what holds while a wire is served.
 use Rattle.std.proofs.Common.{◌≡◌, ◌≢◌, ◌≤◌, ◌<◌, ℕ, Bool, true, false, ◌||◌, List, [], ◌∷◌, ◌++◌, take, drop, length, Option, None, refl, sym, ap, ◌∙◌, subst, inl, inr, arith, append-nil}
-use Rattle.std.specs.Prelude.{◌==◌, is_some, reverse}
+use Rattle.std.specs.Prelude.{◌==◌, is_some, reverse, IsTrue}
 use Rattle.std.specs.Bool.{MatchBool}
 use Rattle.std.proofs.lemmas.Bool.Decides.{eqb_tells}
 use Rattle.std.proofs.lemmas.List.{take-append-drop}
 use Rattle.ssh_fields.specs.Fields.{AreBytes}
 use Rattle.mux_outside.specs.HouseCalls.{Failed, Turns}
 use Rattle.mux_outside.specs.HouseCalls as call
+use Rattle.mux_outside.specs.OwnStreams.{is_own}
 use Rattle.mux_outside.specs.Seen.{Seen, seen_after_write}
 use Rattle.mux_outside.specs.Streams.{among, without}
 use Rattle.mux_outside.specs.declared.house.HouseReply.{HouseReply}
@@ -30,6 +31,7 @@ use Rattle.mux_machine.specs.State.{State}
 use Rattle.mux_machine.specs.Events.{here}
 use Rattle.mux_machine.specs.Stands.{GoesBy, log}
 use Rattle.mux_machine.proofs.Over.{some-end}
+use Rattle.mux_engine.specs.Places.{IsTaking, own_in}
 use Rattle.mux_engine.specs.Run.{IsOfWire}
 use Rattle.mux_engine.specs.Serving.{IsSound, Promised, Serving, is_open}
 use Rattle.mux_engine.specs.Sides.{Resting, Side}
@@ -38,6 +40,7 @@ use Rattle.mux_engine.proofs.Cuts.{cut-next, cut-still, of-streams, on-next}
 use Rattle.mux_engine.proofs.Lists.{among-last, among-other-last, apart-or-left, not-own-stream, or-last, test-other, true-false, without-other}
 use Rattle.mux_engine.proofs.Logs.{blocked-other, failed-other, failed-pending, fails-failed, has-failed-other, holds-blocked, holds-failed, log-out, lost-out, settled-as, takes-failed, took-pending}
 use Rattle.mux_engine.proofs.Marks.{Next, log-is, sound-at, stood-at}
+use Rattle.mux_engine.proofs.Owns.{fails-placed, holds-placed, owns-as, takes-placed, writes-client}
 use Rattle.mux_engine.proofs.Places.{open-own, placed-by, placed-still, stream-open}
 use Rattle.mux_engine.proofs.Quiet.{askers-more, notes-none}
 use Rattle.mux_engine.proofs.Told.{tells-none, told-none}
@@ -79,7 +82,8 @@ next-takes {May} {Rest} {before} {now} {policy} {pid} {start} {seen} {held} {fai
       absent = λ e. refl;
       turns = v.turns;
       placed = placed-still v mark (seen_after_write (wrote.Took n) k bytes seen) s' ((wire-keeps seen.streams seen.blocked seen.last seen.listeners seen.own seen.last_own v.journal).write (wrote.Took n) k bytes are (omega arith) (stream-open v k opened ne) (one, fits) v.of_wire)
-          refl refl refl refl refl same.streams (λ t. refl) (λ t. refl) (λ t. refl);
+          refl refl refl refl refl same.streams (λ t. refl) (λ t. refl) (λ t. refl)
+          (owns-as v.journal seen (seen_after_write (wrote.Took n) k bytes seen) mark v.places (takes-placed v.journal k (take n bytes) (writes-client v.journal k (open-own v k opened ne))) (λ o. refl) (λ l. refl) refl refl refl);
       sound = λ picks later.
           let set : Setting = by_lists policy pid (v.picked ++ picks) (v.replies ++ later) in
           let old : IsSound set v.journal todo s = v.sound picks later in
@@ -121,7 +125,8 @@ next-holds {May} {Rest} {before} {now} {policy} {pid} {start} {seen} {held} {fai
       turns = v.turns;
       placed = placed-by v mark (seen_after_write wrote.Later k bytes seen) (held ++ k ∷ []) failed s k there ((wire-keeps seen.streams seen.blocked seen.last seen.listeners seen.own seen.last_own v.journal).write wrote.Later k bytes are some there tt v.of_wire)
           refl refl refl refl refl (ap (λ l. l ++ k ∷ []) v.held_is) (now-blocked ∙ sym (holds-blocked k k v.journal true (test-same k))) (λ t q. among-other-last k t seen.blocked q) (λ t q. blocked-other mark v.journal t tt q) (λ t. refl) (λ t q. refl)
-          (λ own f. v.failed_are k own there f) (λ t a. a);
+          (λ own f. v.failed_are k own there f) (λ t a. a)
+          (owns-as v.journal seen (seen_after_write wrote.Later k bytes seen) mark v.places (holds-placed v.journal k (writes-client v.journal k (open-own v k opened ne))) (λ o. refl) (λ l. refl) refl refl refl);
       sound = λ picks later.
           let set : Setting = by_lists policy pid (v.picked ++ picks) (v.replies ++ later) in
           let old : IsSound set v.journal todo s = v.sound picks later in
@@ -165,7 +170,8 @@ next-fails {May} {Rest} {before} {now} {policy} {pid} {start} {seen} {held} {fai
       turns = v.turns;
       placed = placed-by v mark (seen_after_write wrote.Failed k bytes seen) held failed s' k there ((wire-keeps seen.streams seen.blocked seen.last seen.listeners seen.own seen.last_own v.journal).write wrote.Failed k bytes are some there tt v.of_wire)
           refl refl refl refl same v.held_is (v.blocked_is k there) (λ t q. refl) (λ t q. refl) (λ t. refl) (λ t q. has-failed-other k t v.journal q)
-          (λ own f. true-false (sym own ∙ open-own v k opened ne)) (λ t a. a);
+          (λ own f. true-false (sym own ∙ open-own v k opened ne)) (λ t a. a)
+          (owns-as v.journal seen (seen_after_write wrote.Failed k bytes seen) mark v.places (fails-placed v.journal k (writes-client v.journal k (open-own v k opened ne))) (λ o. refl) (λ l. refl) refl refl refl);
       sound = λ picks later.
           let ps : List ℕ = (v.picked ++ g.picks) ++ picks in
           let rs : List HouseReply = (v.replies ++ g.replies) ++ later in
@@ -202,16 +208,16 @@ wrote-of-wire {seen = seen} v answer k bytes there are some fits =
 
 -- none to note that the stream is blocked
 pub cut-holds : {May : HouseReply → Type 0} {Rest : Resting} {before : Option (List HouseMark)} {now : Side} {policy : Policy} {pid : ℕ} {start : Option (List Mark)} {seen : Seen} {held failed : List ℕ} {given : ℕ} {todo : List ℕ} {s : State} (v : Serving May Rest before now policy pid start seen held failed given todo s) (seen' : Seen) (k : ℕ) (bytes : List ℕ)
-    → among k seen.streams ≡ true → AreBytes bytes → 0 < length bytes → seen' ≡ seen_after_write wrote.Later k bytes seen → Promised May Rest before now.told policy pid start seen'.told given
-cut-holds {now = now} {given = given} v seen' k bytes there are some e =
-    cut-next v now.told seen'.told given (Holds k) [] now.unnoted (ap (λ (x : Seen). x.told) e) (tells-none now.told) (sym (append-nil now.unnoted)) (wrote-of-wire v wrote.Later k bytes there are some tt) (let w : turns_in v.journal ≡ given = v.turns in omega arith) (λ set. tt) (λ e. refl) (on-next v (Holds k))
+    → (IsTrue (is_own k) → IsTaking k (own_in v.journal)) → among k seen.streams ≡ true → AreBytes bytes → 0 < length bytes → seen' ≡ seen_after_write wrote.Later k bytes seen → Promised May Rest before now.told policy pid start seen'.told given
+cut-holds {now = now} {given = given} v seen' k bytes takes there are some e =
+    cut-next v now.told seen'.told given (Holds k) [] now.unnoted (ap (λ (x : Seen). x.told) e) (tells-none now.told) (sym (append-nil now.unnoted)) (wrote-of-wire v wrote.Later k bytes there are some tt) (holds-placed v.journal k takes) (let w : turns_in v.journal ≡ given = v.turns in omega arith) (λ set. tt) (λ e. refl) (on-next v (Holds k))
     (λ set. inr (0, refl)) (λ picks later. record { takes = tt; waits = tt; speaks = tt; open_streams = tt })
 
 -- none for the event of a stream that failed
 pub cut-fails : {May : HouseReply → Type 0} {Rest : Resting} {before : Option (List HouseMark)} {now : Side} {policy : Policy} {pid : ℕ} {start : Option (List Mark)} {seen : Seen} {held failed : List ℕ} {given : ℕ} {todo : List ℕ} {s : State} (v : Serving May Rest before now policy pid start seen held failed given todo s) (seen' : Seen) (k : ℕ) (bytes : List ℕ)
-    → among k seen.streams ≡ true → AreBytes bytes → 0 < length bytes → seen' ≡ seen_after_write wrote.Failed k bytes seen → Promised May Rest before now.told policy pid start seen'.told given
-cut-fails {now = now} {given = given} v seen' k bytes there are some e =
-    cut-next v now.told seen'.told given (WriteFails k) [] now.unnoted (ap (λ (x : Seen). x.told) e) (tells-none now.told) (sym (append-nil now.unnoted)) (wrote-of-wire v wrote.Failed k bytes there are some tt) (let w : turns_in v.journal ≡ given = v.turns in omega arith) (λ set. tt) (λ e. refl) (on-next v (WriteFails k))
+    → (IsTrue (is_own k) → IsTaking k (own_in v.journal)) → among k seen.streams ≡ true → AreBytes bytes → 0 < length bytes → seen' ≡ seen_after_write wrote.Failed k bytes seen → Promised May Rest before now.told policy pid start seen'.told given
+cut-fails {now = now} {given = given} v seen' k bytes takes there are some e =
+    cut-next v now.told seen'.told given (WriteFails k) [] now.unnoted (ap (λ (x : Seen). x.told) e) (tells-none now.told) (sym (append-nil now.unnoted)) (wrote-of-wire v wrote.Failed k bytes there are some tt) (fails-placed v.journal k takes) (let w : turns_in v.journal ≡ given = v.turns in omega arith) (λ set. tt) (λ e. refl) (on-next v (WriteFails k))
     (λ set. inr (0, refl)) (λ picks later. record { takes = tt; waits = tt; speaks = tt; open_streams = tt })
 
 -- none for the write

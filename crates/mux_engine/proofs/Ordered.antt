@@ -1,12 +1,12 @@
 -- What an order that was carried out makes of what holds while a wire is served.
 use Rattle.std.proofs.Common.{◌≡◌, ◌≢◌, ◌≤◌, ◌<◌, ◌+◌, ℕ, Bool, true, false, not, ◌||◌, List, [], ◌∷◌, ◌++◌, Option, Some, None, refl, sym, ap, ◌∙◌, subst, inl, inr, cond, arith, append-nil}
-use Rattle.std.specs.Prelude.{◌==◌, IsTrue, MatchResult, Result, Ok, Err}
+use Rattle.std.specs.Prelude.{◌==◌, filter, IsTrue, MatchResult, Result, Ok, Err}
 use Rattle.std.specs.Option.{option_map}
 use Rattle.std.proofs.lemmas.Bool.Decides.{eqb_tells}
 use Rattle.std.proofs.lemmas.List.Elements.{filter-append}
 use Rattle.mux_outside.specs.House.{Known, OpenAsk, known_after_order, order_marks}
 use Rattle.mux_outside.specs.HouseCalls.{HouseCall, calls_of}
-use Rattle.mux_outside.specs.OwnStreams.{is_one, is_own}
+use Rattle.mux_outside.specs.OwnStreams.{is_one, is_own, numbers_of}
 use Rattle.mux_outside.specs.Seen.{Seen, seen_after_note}
 use Rattle.mux_outside.specs.declared.own_streams.OwnStream.{OwnStream}
 use Rattle.mux_outside.specs.Streams.{among, without}
@@ -29,6 +29,7 @@ use Rattle.mux_machine.specs.State.{State}
 use Rattle.mux_machine.proofs.Twins.{own-silent, stands-alike}
 use Rattle.mux_engine.specs.Called.{calls_at}
 use Rattle.mux_engine.specs.Orders.{HasOrdered, MadeBy, failed_carried, held_carried, known_carried, more_told, seen_carried}
+use Rattle.mux_engine.specs.Places.{listeners_ordered, own_ordered}
 use Rattle.mux_engine.specs.Serving.{IsFree, IsUnseen, IsUnused, Promised, Serving}
 use Rattle.mux_engine.specs.Sides.{Resting, Side, asks_in, noted, noting}
 use Rattle.mux_engine.proofs.Called.{CallsOn, calls-told}
@@ -37,6 +38,7 @@ use Rattle.mux_engine.proofs.Cuts.{cut-here, serve-told}
 use Rattle.mux_engine.proofs.Happened.{last-or}
 use Rattle.mux_engine.proofs.Lists.{among-last, among-less, among-other-last, or-last, own-stream, test-other, true-false, without-other}
 use Rattle.mux_engine.proofs.Marks.{Notes, Placed}
+use Rattle.mux_engine.proofs.Owns.{Owns, finish-numbers, less-numbers, owns-by, pause-numbers, streams-more}
 use Rattle.mux_engine.proofs.Places.{placed-still}
 use Rattle.mux_engine.proofs.Quiet.{serve-quiet}
 use Rattle.mux_engine.proofs.WireTurns.{client-number}
@@ -71,12 +73,16 @@ module _ {May : HouseReply → Type 0} {Rest : Resting} {before : Option (List H
     (v : Serving May Rest before now policy pid start seen held failed given todo s) where
   -- an order that makes no stream and closes none
   placed-plain : (order : Order) (number : Option ℕ) → is_connect (HouseOrder order number) ≡ false → (seen' : Seen) → seen'.streams ≡ seen.streams → seen'.blocked ≡ seen.blocked → seen'.last ≡ seen.last → seen'.last_own ≡ seen.last_own → seen'.listens ≡ seen.listens
-      → ((t : ℕ) → is_blocked t (House (HouseOrder order number) ∷ v.journal) ≡ is_blocked t v.journal) → Placed s v.journal seen seen' held failed (House (HouseOrder order number))
-  placed-plain order number plain seen' streams blocked last last_own listens never =
+      → ((t : ℕ) → is_blocked t (House (HouseOrder order number) ∷ v.journal) ≡ is_blocked t v.journal) → Owns v.journal seen' (House (HouseOrder order number)) → Placed s v.journal seen seen' held failed (House (HouseOrder order number))
+  placed-plain order number plain seen' streams blocked last last_own listens never owns =
       placed-still v (House (HouseOrder order number)) seen' s
       (subst (λ (l : List ℕ). OfWire l seen'.blocked seen'.last (House (HouseOrder order number) ∷ v.journal)) (sym streams) (subst (λ (l : List ℕ). OfWire seen.streams l seen'.last (House (HouseOrder order number) ∷ v.journal)) (sym blocked) (subst (λ (n : ℕ). OfWire seen.streams seen.blocked n (House (HouseOrder order number) ∷ v.journal)) (sym last)
       ((wire-keeps seen.streams seen.blocked seen.last seen.listeners seen.own seen.last_own v.journal).note (HouseOrder order number) tt plain v.of_wire))))
-      streams blocked last last_own listens refl never (λ t. refl) (λ t. refl)
+      streams blocked last last_own listens refl never (λ t. refl) (λ t. refl) owns
+
+  -- an order changes nothing of which numbers are open, or as the wire does
+  owns-order : (order : Order) (number : Option ℕ) (seen' : Seen) → seen'.own ≡ own_ordered order number seen.own → seen'.listeners ≡ listeners_ordered order number seen.listeners → filter is_own seen'.streams ≡ numbers_of seen'.own → Owns v.journal seen' (House (HouseOrder order number))
+  owns-order order number seen' own listeners streams = owns-by v.journal seen seen' (House (HouseOrder order number)) v.places record { opened = tt; gives = tt; writes = tt; joins = tt } own listeners streams
 
   later-free : (n j : ℕ) → IsNewOwn seen.last_own n → IsFree n j → IsFree seen.last_own j
   later-free n j new (inl free) = inl (free.0, let a : n < j = free.1 in let b : seen.last_own < n = new.above in omega arith)
@@ -86,17 +92,19 @@ module _ {May : HouseReply → Type 0} {Rest : Resting} {before : Option (List H
   placed-listens : (host : List ℕ) (port n : ℕ) → IsNewOwn seen.last_own n → (let m : HouseMark = HouseOrder (Listen host port) (Some n) in Placed s v.journal seen (seen-noted m (seen_carried (Listen host port) (Some n) seen)) held failed (House m))
   placed-listens host port n new =
       let m : HouseMark = HouseOrder (Listen host port) (Some n) in
-      let p : Placed s v.journal seen (seen-noted m seen) held failed (House m) = placed-plain (Listen host port) (Some n) refl (seen-noted m seen) refl refl refl refl refl (λ t. refl) in
+      let seen' : Seen = seen-noted m (seen_carried (Listen host port) (Some n) seen) in
+      let u : (j : ℕ) → IsFree n j → IsUnused v.journal seen j = λ j free. v.unused j (later-free n j new free) in
       record {
-        of_wire = p.of_wire;
-        open_are = p.open_are;
-        apart = p.apart;
-        held_is = p.held_is;
-        blocked_is = p.blocked_is;
-        unseen = p.unseen;
-        unused = λ j free. let u : IsUnused (House m ∷ v.journal) (seen-noted m seen) j = p.unused j (later-free n j new free) in record { not_open = u.not_open; never_blocked = u.never_blocked; not_blocked = u.not_blocked; never_failed = u.never_failed };
-        failed_are = p.failed_are;
-        listens = p.listens;
+        of_wire = (wire-keeps seen.streams seen.blocked seen.last seen.listeners seen.own seen.last_own v.journal).note m tt refl v.of_wire;
+        open_are = v.open_are;
+        apart = v.apart;
+        held_is = v.held_is;
+        blocked_is = v.blocked_is;
+        unseen = λ j lt le. let w : IsUnseen v.journal seen.blocked j = v.unseen j lt le in record { not_accepted = w.not_accepted; never_blocked = w.never_blocked; not_blocked = w.not_blocked };
+        unused = λ j free. record { not_open = (u j free).not_open; never_blocked = (u j free).never_blocked; not_blocked = (u j free).not_blocked; never_failed = (u j free).never_failed };
+        failed_are = v.failed_are;
+        listens = λ l. l;
+        owns = owns-order (Listen host port) (Some n) seen' refl refl v.places.streams;
       }
 
   made-apart : (n j : ℕ) → IsNewOwn seen.last_own n → IsFree n j → n ≢ j
@@ -132,6 +140,7 @@ module _ {May : HouseReply → Type 0} {Rest : Resting} {before : Option (List H
           | inr q ↦ v.failed_are t own (last-or n t seen.streams a q.1) f
         ];
         listens = λ l. l;
+        owns = owns-order (Connect host port) (Some n) (seen-noted m (seen_carried (Connect host port) (Some n) seen)) refl refl (streams-more seen v.journal n v.places new.own);
       }
     where
       below : (n j : ℕ) → j ≤ LAST_CLIENT → IsNewOwn seen.last_own n → n ≢ j
@@ -152,6 +161,7 @@ module _ {May : HouseReply → Type 0} {Rest : Resting} {before : Option (List H
         unused = λ j free. let u : IsUnused v.journal seen j = v.unused j free in record { not_open = among-less k j seen.streams u.not_open; never_blocked = u.never_blocked; not_blocked = among-less k j seen.blocked u.not_blocked; never_failed = u.never_failed };
         failed_are = λ t is a f. let w = was-among k t seen.streams a in without-other k t failed w.1 ∙ v.failed_are t is w.0 f;
         listens = λ l. l;
+        owns = owns-order (Close k) None (seen-noted m (seen_carried (Close k) None seen)) refl refl (both-tests is_own (λ i. not (i == k)) seen.streams ∙ (ap (without k) v.places.streams ∙ less-numbers k seen.own));
       }
 
   -- where it is noted
@@ -182,13 +192,13 @@ module _ {May : HouseReply → Type 0} {Rest : Resting} {before : Option (List H
   pub order-done : now.let_in ≡ true → (order : Order) (number : Option ℕ) (told' : Option (List HouseMark)) → MadeBy order number seen → OwnedBy order → now.unnoted ≡ order_marks (Some order) → told' ≡ option_map (λ l. l ++ more_told order number) now.told
       → Serving May Rest before (done-side order number told') policy pid start (seen-noted (HouseOrder order number) (seen_carried order number seen)) (held_carried order number held) (failed_carried order failed) (given + 1) todo s
   order-done inside (Listen host port) (Some n) told' made own noted e = noted-order inside (Listen host port) (Some n) (done-side (Listen host port) (Some n) told') _ _ _ (λ t client. refl) (notes-of (Listen host port) (Some n) told' noted e refl refl) (called-of (Listen host port) (Some n) told' noted refl) refl refl refl (placed-listens host port n made)
-  order-done inside (Listen host port) None told' made own noted e = noted-order inside (Listen host port) None (done-side (Listen host port) None told') _ _ _ (λ t client. refl) (notes-of (Listen host port) None told' noted e refl refl) (called-of (Listen host port) None told' noted refl) refl refl refl (placed-plain (Listen host port) None refl _ refl refl refl refl refl (λ t. refl))
+  order-done inside (Listen host port) None told' made own noted e = noted-order inside (Listen host port) None (done-side (Listen host port) None told') _ _ _ (λ t client. refl) (notes-of (Listen host port) None told' noted e refl refl) (called-of (Listen host port) None told' noted refl) refl refl refl (placed-plain (Listen host port) None refl _ refl refl refl refl refl (λ t. refl) (owns-order (Listen host port) None _ refl refl v.places.streams))
   order-done inside (Connect host port) (Some n) told' made own noted e = noted-order inside (Connect host port) (Some n) (done-side (Connect host port) (Some n) told') _ _ _ (λ t client. connects-other host port n t (λ q. true-false (sym (new-own n made) ∙ (ap is_own_stream q ∙ client)))) (notes-of (Connect host port) (Some n) told' noted e refl refl) (called-of (Connect host port) (Some n) told' noted refl) refl refl refl (placed-connects host port n made)
-  order-done inside (Connect host port) None told' made own noted e = noted-order inside (Connect host port) None (done-side (Connect host port) None told') _ _ _ (λ t client. refl) (notes-of (Connect host port) None told' noted e refl refl) (called-of (Connect host port) None told' noted refl) refl refl refl (placed-plain (Connect host port) None refl _ refl refl refl refl refl (λ t. refl))
-  order-done inside (Unlisten l) None told' made own noted e = noted-order inside (Unlisten l) None (done-side (Unlisten l) None told') _ _ _ (λ t client. refl) (notes-of (Unlisten l) None told' noted e refl refl) (called-of (Unlisten l) None told' noted refl) refl refl refl (placed-plain (Unlisten l) None refl _ refl refl refl refl refl (λ t. refl))
-  order-done inside (Pause k) None told' made own noted e = noted-order inside (Pause k) None (done-side (Pause k) None told') _ _ _ (λ t client. refl) (notes-of (Pause k) None told' noted e refl refl) (called-of (Pause k) None told' noted refl) refl refl refl (placed-plain (Pause k) None refl _ refl refl refl refl refl (λ t. refl))
-  order-done inside (Resume k) None told' made own noted e = noted-order inside (Resume k) None (done-side (Resume k) None told') _ _ _ (λ t client. refl) (notes-of (Resume k) None told' noted e refl refl) (called-of (Resume k) None told' noted refl) refl refl refl (placed-plain (Resume k) None refl _ refl refl refl refl refl (λ t. refl))
-  order-done inside (Finish k) None told' made own noted e = noted-order inside (Finish k) None (done-side (Finish k) None told') _ _ _ (λ t client. refl) (notes-of (Finish k) None told' noted e refl refl) (called-of (Finish k) None told' noted refl) refl refl refl (placed-plain (Finish k) None refl _ refl refl refl refl refl (λ t. refl))
+  order-done inside (Connect host port) None told' made own noted e = noted-order inside (Connect host port) None (done-side (Connect host port) None told') _ _ _ (λ t client. refl) (notes-of (Connect host port) None told' noted e refl refl) (called-of (Connect host port) None told' noted refl) refl refl refl (placed-plain (Connect host port) None refl _ refl refl refl refl refl (λ t. refl) (owns-order (Connect host port) None _ refl refl v.places.streams))
+  order-done inside (Unlisten l) None told' made own noted e = noted-order inside (Unlisten l) None (done-side (Unlisten l) None told') _ _ _ (λ t client. refl) (notes-of (Unlisten l) None told' noted e refl refl) (called-of (Unlisten l) None told' noted refl) refl refl refl (placed-plain (Unlisten l) None refl _ refl refl refl refl refl (λ t. refl) (owns-order (Unlisten l) None _ refl refl v.places.streams))
+  order-done inside (Pause k) None told' made own noted e = noted-order inside (Pause k) None (done-side (Pause k) None told') _ _ _ (λ t client. refl) (notes-of (Pause k) None told' noted e refl refl) (called-of (Pause k) None told' noted refl) refl refl refl (placed-plain (Pause k) None refl _ refl refl refl refl refl (λ t. refl) (owns-order (Pause k) None _ refl refl (v.places.streams ∙ sym (pause-numbers true k seen.own))))
+  order-done inside (Resume k) None told' made own noted e = noted-order inside (Resume k) None (done-side (Resume k) None told') _ _ _ (λ t client. refl) (notes-of (Resume k) None told' noted e refl refl) (called-of (Resume k) None told' noted refl) refl refl refl (placed-plain (Resume k) None refl _ refl refl refl refl refl (λ t. refl) (owns-order (Resume k) None _ refl refl (v.places.streams ∙ sym (pause-numbers false k seen.own))))
+  order-done inside (Finish k) None told' made own noted e = noted-order inside (Finish k) None (done-side (Finish k) None told') _ _ _ (λ t client. refl) (notes-of (Finish k) None told' noted e refl refl) (called-of (Finish k) None told' noted refl) refl refl refl (placed-plain (Finish k) None refl _ refl refl refl refl refl (λ t. refl) (owns-order (Finish k) None _ refl refl (v.places.streams ∙ sym (finish-numbers k seen.own))))
   order-done inside (Close k) None told' made own noted e = noted-order inside (Close k) None (done-side (Close k) None told') _ _ _ (λ t client. refl) (notes-of (Close k) None told' noted e refl refl) (called-of (Close k) None told' noted refl) refl refl refl (placed-closes k own)
   order-done inside (Unlisten l) (Some n) told' made own noted e = absurd (let z : Some n ≡ None = made in cc)
   order-done inside (Pause k) (Some n) told' made own noted e = absurd (let z : Some n ≡ None = made in cc)

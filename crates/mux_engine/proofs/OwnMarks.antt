@@ -7,7 +7,7 @@ use Rattle.std.proofs.lemmas.List.{length-take-le}
 use Rattle.ssh_fields.specs.Fields.{AreBytes}
 use Rattle.mux_outside.specs.HouseCalls.{Failed, Turns}
 use Rattle.mux_outside.specs.HouseCalls as call
-use Rattle.mux_outside.specs.OwnStreams.{is_own}
+use Rattle.mux_outside.specs.OwnStreams.{is_finished, is_own}
 use Rattle.mux_outside.specs.Seen.{Seen, seen_after_write}
 use Rattle.mux_outside.specs.Streams.{among}
 use Rattle.mux_outside.specs.Wire.{WroteFits}
@@ -30,6 +30,7 @@ use Rattle.mux_engine.specs.Sides.{Resting, Side}
 use Rattle.mux_engine.proofs.Called.{CallsOn, calling, calls-none, calls-own}
 use Rattle.mux_engine.proofs.Lists.{among-last, among-other-last, or-last, own-stream, true-false}
 use Rattle.mux_engine.proofs.Logs.{blocked-other, failed-other, has-failed-other, holds-blocked}
+use Rattle.mux_engine.proofs.Owns.{fails-placed, holds-placed, owns-as, takes-placed, taking}
 use Rattle.mux_engine.proofs.Places.{house-shut, placed-by, placed-still}
 use Rattle.mux_engine.proofs.Quiet.{notes-calling, notes-none, serve-quiet}
 use Rattle.mux_engine.proofs.Silent.{holds-alike}
@@ -50,8 +51,8 @@ module _ {May : HouseReply → Type 0} {Rest : Resting} {before : Option (List H
   takes-own set bytes = subst (λ (b : Bool). MatchBool b (Unit {0}) (IsFront bytes (pending k (log_of_journal set v.journal)))) (sym own-is) tt
 
   -- it took bytes
-  pub own-takes : (n : ℕ) (bytes : List ℕ) (seen' : Seen) → now.unnoted ≡ [] → AreBytes bytes → 0 < length bytes → WroteFits (wrote.Took n) (length bytes) → seen' ≡ seen_after_write (wrote.Took n) k bytes seen → Serving May Rest before (calling now (call.Takes k n ∷ [])) policy pid start seen' held failed given todo s
-  own-takes n bytes seen' none are some fits e =
+  pub own-takes : (n : ℕ) (bytes : List ℕ) (seen' : Seen) → is_finished k seen.own ≡ false → now.unnoted ≡ [] → AreBytes bytes → 0 < length bytes → WroteFits (wrote.Took n) (length bytes) → seen' ≡ seen_after_write (wrote.Took n) k bytes seen → Serving May Rest before (calling now (call.Takes k n ∷ [])) policy pid start seen' held failed given todo s
+  own-takes n bytes seen' unfinished none are some fits e =
       let mark : Mark = Takes k (take n bytes) in
       let alike = own-silent.takes v.journal k (take n bytes) own-is in
       subst (λ (x : Seen). Serving May Rest before (calling now (call.Takes k n ∷ [])) policy pid start x held failed given todo s) (sym e)
@@ -59,11 +60,12 @@ module _ {May : HouseReply → Type 0} {Rest : Resting} {before : Option (List H
       (record { log = alike.log; blocked = λ t client. refl; unwritten = λ t client. failed-other mark v.journal t (apart-own t client); promise = λ set. record { takes = takes-own set (take n bytes); waits = tt; speaks = tt; open_streams = tt }; rested = λ set. tt; absent = λ e. refl; house = refl })
       (stands-alike v.journal (mark ∷ v.journal) v.picked v.replies s v.closed alike v.stands) (notes-calling now (call.Takes k n ∷ []) mark refl)
       (λ set. subst (λ (i : ℕ). CallsOn now (calling now (call.Takes k n ∷ [])) (if_own k (call.Takes k i))) (sym (length-take-le n bytes fits.1)) (calls-own now k (call.Takes k n) own none)) refl refl refl v.turns
-      (placed-still v mark (seen_after_write (wrote.Took n) k bytes seen) s ((wire-keeps seen.streams seen.blocked seen.last seen.listeners seen.own seen.last_own v.journal).write (wrote.Took n) k bytes are some found fits v.of_wire) refl refl refl refl refl refl (λ t. refl) (λ t. refl) (λ t. refl)))
+      (placed-still v mark (seen_after_write (wrote.Took n) k bytes seen) s ((wire-keeps seen.streams seen.blocked seen.last seen.listeners seen.own seen.last_own v.journal).write (wrote.Took n) k bytes are some found fits v.of_wire) refl refl refl refl refl refl (λ t. refl) (λ t. refl) (λ t. refl)
+      (owns-as v.journal seen (seen_after_write (wrote.Took n) k bytes seen) mark v.places (takes-placed v.journal k (take n bytes) (taking seen v.journal v.places k found unfinished)) (λ o. refl) (λ l. refl) refl refl refl)))
 
   -- it is blocked now
-  pub own-holds : (bytes : List ℕ) (seen' : Seen) (held' : List ℕ) → AreBytes bytes → 0 < length bytes → seen' ≡ seen_after_write wrote.Later k bytes seen → held' ≡ held ++ k ∷ [] → Serving May Rest before now policy pid start seen' held' failed given todo s
-  own-holds bytes seen' held' are some e h =
+  pub own-holds : (bytes : List ℕ) (seen' : Seen) (held' : List ℕ) → is_finished k seen.own ≡ false → AreBytes bytes → 0 < length bytes → seen' ≡ seen_after_write wrote.Later k bytes seen → held' ≡ held ++ k ∷ [] → Serving May Rest before now policy pid start seen' held' failed given todo s
+  own-holds bytes seen' held' unfinished are some e h =
       let mark : Mark = Holds k in
       let alike = holds-alike k v.journal in
       let now-blocked : among k (seen.blocked ++ k ∷ []) ≡ true = among-last k k seen.blocked ∙ (ap (λ b. among k seen.blocked || (b || false)) (test-same k) ∙ or-last (among k seen.blocked)) in
@@ -74,11 +76,12 @@ module _ {May : HouseReply → Type 0} {Rest : Resting} {before : Option (List H
       (stands-alike v.journal (mark ∷ v.journal) v.picked v.replies s v.closed alike v.stands) (notes-none now mark refl) (λ set. calls-none now) refl refl refl v.turns
       (placed-by v mark (seen_after_write wrote.Later k bytes seen) (held ++ k ∷ []) failed s k found ((wire-keeps seen.streams seen.blocked seen.last seen.listeners seen.own seen.last_own v.journal).write wrote.Later k bytes are some found tt v.of_wire)
       refl refl refl refl refl (ap (λ l. l ++ k ∷ []) v.held_is) (now-blocked ∙ sym (holds-blocked k k v.journal true (test-same k))) (λ t q. among-other-last k t seen.blocked q) (λ t q. blocked-other mark v.journal t tt q) (λ t. refl) (λ t q. refl)
-      (λ is f. v.failed_are k is found f) (λ t a. a))))
+      (λ is f. v.failed_are k is found f) (λ t a. a)
+      (owns-as v.journal seen (seen_after_write wrote.Later k bytes seen) mark v.places (holds-placed v.journal k (taking seen v.journal v.places k found unfinished)) (λ o. refl) (λ l. refl) refl refl refl))))
 
   -- it failed
-  pub own-fails : (bytes : List ℕ) (seen' : Seen) (failed' : List ℕ) → now.unnoted ≡ [] → AreBytes bytes → 0 < length bytes → seen' ≡ seen_after_write wrote.Failed k bytes seen → failed' ≡ failed ++ k ∷ [] → Serving May Rest before (calling now (Turns (Failed k) ∷ [])) policy pid start seen' held failed' given todo s
-  own-fails bytes seen' failed' none are some e f =
+  pub own-fails : (bytes : List ℕ) (seen' : Seen) (failed' : List ℕ) → is_finished k seen.own ≡ false → now.unnoted ≡ [] → AreBytes bytes → 0 < length bytes → seen' ≡ seen_after_write wrote.Failed k bytes seen → failed' ≡ failed ++ k ∷ [] → Serving May Rest before (calling now (Turns (Failed k) ∷ [])) policy pid start seen' held failed' given todo s
+  own-fails bytes seen' failed' unfinished none are some e f =
       let mark : Mark = WriteFails k in
       let alike = own-silent.unwritten v.journal k own-is in
       let noted : among k (failed ++ k ∷ []) ≡ true = among-last k k failed ∙ (ap (λ b. among k failed || (b || false)) (test-same k) ∙ or-last (among k failed)) in
@@ -89,4 +92,5 @@ module _ {May : HouseReply → Type 0} {Rest : Resting} {before : Option (List H
       (stands-alike v.journal (mark ∷ v.journal) v.picked v.replies s v.closed alike v.stands) (notes-calling now (Turns (Failed k) ∷ []) mark refl) (λ set. calls-own now k (Turns (Failed k)) own none) refl refl refl v.turns
       (placed-by v mark (seen_after_write wrote.Failed k bytes seen) held (failed ++ k ∷ []) s k found ((wire-keeps seen.streams seen.blocked seen.last seen.listeners seen.own seen.last_own v.journal).write wrote.Failed k bytes are some found tt v.of_wire)
       refl refl refl refl refl v.held_is (v.blocked_is k found) (λ t q. refl) (λ t q. refl) (λ t. refl) (λ t q. has-failed-other k t v.journal q)
-      (λ is x. noted) (λ t a. among-last k t failed ∙ ap (λ b. b || ((k == t) || false)) a))))
+      (λ is x. noted) (λ t a. among-last k t failed ∙ ap (λ b. b || ((k == t) || false)) a)
+      (owns-as v.journal seen (seen_after_write wrote.Failed k bytes seen) mark v.places (fails-placed v.journal k (taking seen v.journal v.places k found unfinished)) (λ o. refl) (λ l. refl) refl refl refl))))

@@ -7,7 +7,7 @@ use Rattle.std.proofs.lemmas.Bool.Decides.{eqb_tells}
 use Rattle.std.proofs.lemmas.List.Elements.{filter-append}
 use Rattle.ssh_fields.specs.Fields.{AreBytes}
 use Rattle.mux_outside.specs.HouseCalls.{End, Failed, Got, Joined, Turns, Writable}
-use Rattle.mux_outside.specs.OwnStreams.{is_own}
+use Rattle.mux_outside.specs.OwnStreams.{is_own, is_silent, new_stream}
 use Rattle.mux_outside.specs.Seen.{Seen}
 use Rattle.mux_outside.specs.Streams.{among, without}
 use Rattle.mux_outside.specs.Wire.{IsNewOwn}
@@ -28,6 +28,7 @@ use Rattle.mux_machine.specs.State.{State}
 use Rattle.mux_machine.specs.Events.{here}
 use Rattle.mux_machine.proofs.Twins.{own-silent, stands-alike}
 use Rattle.std.proofs.lemmas.List.Folds.{list_any-append}
+use Rattle.mux_engine.specs.Places.{own_marked}
 use Rattle.mux_engine.specs.Serving.{IsFree, IsSound, IsUnseen, IsUnused, Serving}
 use Rattle.mux_engine.specs.Sides.{Resting, Side}
 use Rattle.mux_engine.proofs.Called.{calling, calls-behind, calls-other, calls-own}
@@ -36,6 +37,7 @@ use Rattle.mux_engine.proofs.Lists.{among-last, among-open, none-without, or-las
 use Rattle.mux_engine.proofs.Logs.{settled-as}
 use Rattle.mux_engine.proofs.Marks.{Placed, serve-alone}
 use Rattle.mux_engine.proofs.OwnMarks.{own-is, test-same}
+use Rattle.mux_engine.proofs.Owns.{giving, owns-ends, owns-gets, owns-joins, owns-plain}
 use Rattle.mux_engine.proofs.Places.{open-stream, placed-by}
 use Rattle.mux_engine.proofs.Quiet.{askers-more, notes-calling, notes-none, serve-quiet}
 use Rattle.mux_engine.proofs.Silent.{frees-alike, given-log, stands-given}
@@ -60,6 +62,8 @@ module _ {May : HouseReply → Type 0} {Rest : Resting} {before : Option (List H
       pub last : seen'.last ≡ seen.last
       pub last_own : seen'.last_own ≡ seen.last_own
       pub listens : seen'.listens ≡ seen.listens
+      pub listeners : seen'.listeners ≡ seen.listeners
+      pub own : seen'.own ≡ own_marked mark seen.own
 
     apart-own : IsTrue (is_own k) → (t : ℕ) → is_own_stream t ≡ false → k ≢ t
     apart-own own t client e = true-false (sym (own-is v k own found) ∙ (ap is_own_stream e ∙ client))
@@ -68,19 +72,21 @@ module _ {May : HouseReply → Type 0} {Rest : Resting} {before : Option (List H
     here-apart own t a = apart-own own t (v.apart t (list_any-append (λ (i : ℕ). i == t) (numbers s.clients) s.refused ∙ ap (λ b. b || among t s.refused) a))
 
     -- it gave bytes
-    pub own-gets : IsTrue (is_own k) → now.unnoted ≡ [] → (bytes : List ℕ) → AreBytes bytes → Same (Gets k bytes) seen.blocked → Serving May Rest before (calling now (Turns (Got k bytes) ∷ [])) policy pid start seen' held failed given [] s
-    own-gets own none bytes are m = serve-quiet v (calling now (Turns (Got k bytes) ∷ [])) seen' held failed given (Gets k bytes)
+    pub own-gets : IsTrue (is_own k) → is_silent k seen.own ≡ false → now.unnoted ≡ [] → (bytes : List ℕ) → AreBytes bytes → Same (Gets k bytes) seen.blocked → Serving May Rest before (calling now (Turns (Got k bytes) ∷ [])) policy pid start seen' held failed given [] s
+    own-gets own loud none bytes are m = serve-quiet v (calling now (Turns (Got k bytes) ∷ [])) seen' held failed given (Gets k bytes)
         (record { log = λ set. given-log set k bytes v.journal (own-is v k own found); blocked = λ t client. refl; unwritten = λ t client. refl; promise = λ set. record { takes = tt; waits = tt; speaks = tt; open_streams = tt }; rested = λ set. tt; absent = λ e. refl; house = refl })
         (stands-given v.picked v.replies s k bytes v.journal v.closed (own-is v k own found) are (here-apart own) v.stands) (notes-calling now (Turns (Got k bytes) ∷ []) (Gets k bytes) refl) (λ set. calls-own now k (Turns (Got k bytes)) own none) refl refl m.told v.turns
-        (placed-gets v seen' s k bytes found m.of_wire m.streams m.blocked m.last m.last_own m.listens refl)
+        (placed-gets v seen' s k bytes found m.of_wire m.streams m.blocked m.last m.last_own m.listens refl
+        (owns-gets v.journal seen seen' k bytes v.places (record { opened = tt; gives = giving seen v.journal v.places k found (λ own. loud); writes = tt; joins = tt }) m.streams m.own m.listeners))
 
     -- it gives no more
-    pub own-ends : IsTrue (is_own k) → now.unnoted ≡ [] → Same (Ends k) seen.blocked → Serving May Rest before (calling now (Turns (End k) ∷ [])) policy pid start seen' held failed given [] s
-    own-ends own none m = let alike = own-silent.ends v.journal k (own-is v k own found) in
+    pub own-ends : IsTrue (is_own k) → is_silent k seen.own ≡ false → now.unnoted ≡ [] → Same (Ends k) seen.blocked → Serving May Rest before (calling now (Turns (End k) ∷ [])) policy pid start seen' held failed given [] s
+    own-ends own loud none m = let alike = own-silent.ends v.journal k (own-is v k own found) in
         serve-quiet v (calling now (Turns (End k) ∷ [])) seen' held failed given (Ends k)
         (record { log = alike.log; blocked = λ t client. refl; unwritten = λ t client. refl; promise = λ set. record { takes = tt; waits = tt; speaks = tt; open_streams = tt }; rested = λ set. tt; absent = λ e. refl; house = refl })
         (stands-alike v.journal (Ends k ∷ v.journal) v.picked v.replies s v.closed alike v.stands) (notes-calling now (Turns (End k) ∷ []) (Ends k) refl) (λ set. calls-own now k (Turns (End k)) own none) refl refl m.told v.turns
-        (placed-ends v seen' s k found m.of_wire m.streams m.blocked m.last m.last_own m.listens refl)
+        (placed-ends v seen' s k found m.of_wire m.streams m.blocked m.last m.last_own m.listens refl
+        (owns-ends v.journal seen seen' k v.places (record { opened = tt; gives = giving seen v.journal v.places k found (λ own. loud); writes = tt; joins = tt }) m.streams m.own m.listeners))
 
     -- it failed
     pub own-failed : IsTrue (is_own k) → now.unnoted ≡ [] → Same (Fails k) seen.blocked → Serving May Rest before (calling now (Turns (Failed k) ∷ [])) policy pid start seen' held (failed ++ k ∷ []) given [] s
@@ -89,12 +95,13 @@ module _ {May : HouseReply → Type 0} {Rest : Resting} {before : Option (List H
         (record { log = alike.log; blocked = λ t client. refl; unwritten = λ t client. refl; promise = λ set. record { takes = tt; waits = tt; speaks = tt; open_streams = tt }; rested = λ set. tt; absent = λ e. refl; house = refl })
         (stands-alike v.journal (Fails k ∷ v.journal) v.picked v.replies s v.closed alike v.stands) (notes-calling now (Turns (Failed k) ∷ []) (Fails k) refl) (λ set. calls-own now k (Turns (Failed k)) own none) refl refl m.told v.turns
         (placed-fails v seen' s (failed ++ k ∷ []) k found m.of_wire m.streams m.blocked m.last m.last_own m.listens refl
-        (λ is. among-last k k failed ∙ (ap (λ b. among k failed || (b || false)) (test-same k) ∙ or-last (among k failed))) (λ t a. among-last k t failed ∙ ap (λ b. b || ((k == t) || false)) a))
+        (λ is. among-last k k failed ∙ (ap (λ b. among k failed || (b || false)) (test-same k) ∙ or-last (among k failed))) (λ t a. among-last k t failed ∙ ap (λ b. b || ((k == t) || false)) a)
+        (owns-plain v.journal seen seen' (Fails k) tt v.places m.streams m.own m.listeners))
 
     placed-frees : Same (Frees k) (without k seen.blocked) → Placed s v.journal seen seen' (without k held) failed (Frees k)
     placed-frees m = placed-by v (Frees k) seen' (without k held) failed s k found m.of_wire m.streams m.last m.last_own m.listens refl (ap (without k) v.held_is ∙ sym m.blocked)
         (ap (among k) m.blocked ∙ (none-without k seen.blocked ∙ sym (freed k k v.journal true (test-same k)))) (λ t ne. ap (among t) m.blocked ∙ without-other k t seen.blocked ne) (λ t ne. freed k t v.journal false (test-other k t ne)) (λ t. refl) (λ t ne. refl)
-        (λ own f. v.failed_are k own found f) (λ t a. a)
+        (λ own f. v.failed_are k own found f) (λ t a. a) (owns-plain v.journal seen seen' (Frees k) tt v.places m.streams m.own m.listeners)
 
     -- it takes bytes again
     pub own-frees : IsTrue (is_own k) → now.unnoted ≡ [] → Same (Frees k) (without k seen.blocked) → Serving May Rest before (calling now (Turns (Writable k) ∷ [])) policy pid start seen' (without k held) failed given [] s
@@ -134,9 +141,9 @@ module _ {May : HouseReply → Type 0} {Rest : Resting} {before : Option (List H
         shut t a e = true-false (sym (open-stream v k client found) ∙ (sym (among-open s k) ∙ (ap (λ i. among i (0 ∷ here s)) e ∙ a)))
 
   -- a socket was joined
-  pub own-joins : (l k : ℕ) → now.unnoted ≡ [] → IsNewOwn seen.last_own k → (seen' : Seen) → seen'.told ≡ option_map (λ m. m ++ Joins l k ∷ []) seen.told → OfWire seen'.streams seen'.blocked seen'.last (Joins l k ∷ v.journal)
-      → seen'.streams ≡ seen.streams ++ k ∷ [] → seen'.blocked ≡ seen.blocked → seen'.last ≡ seen.last → seen'.last_own ≡ k → seen'.listens ≡ seen.listens → Serving May Rest before (calling now (Turns (Joined l k) ∷ [])) policy pid start seen' held failed given [] s
-  own-joins l k none new seen' told of streams blocked last last_own listens =
+  pub own-joins : (l k : ℕ) → IsTrue (among l seen.listeners) → now.unnoted ≡ [] → IsNewOwn seen.last_own k → (seen' : Seen) → seen'.told ≡ option_map (λ m. m ++ Joins l k ∷ []) seen.told → OfWire seen'.streams seen'.blocked seen'.last (Joins l k ∷ v.journal)
+      → seen'.streams ≡ seen.streams ++ k ∷ [] → seen'.blocked ≡ seen.blocked → seen'.last ≡ seen.last → seen'.last_own ≡ k → seen'.listens ≡ seen.listens → seen'.own ≡ seen.own ++ new_stream k ∷ [] → seen'.listeners ≡ seen.listeners → Serving May Rest before (calling now (Turns (Joined l k) ∷ [])) policy pid start seen' held failed given [] s
+  own-joins l k there none new seen' told of streams blocked last last_own listens own listeners =
       let alike = own-silent.joins v.journal l k in
       let fresh : IsUnused v.journal seen k = v.unused k (inl (new.own, new.above)) in
       serve-quiet v (calling now (Turns (Joined l k) ∷ [])) seen' held failed given (Joins l k)
@@ -158,6 +165,7 @@ module _ {May : HouseReply → Type 0} {Rest : Resting} {before : Option (List H
           | inr q ↦ v.failed_are t own (last-or k t seen.streams (ap (among t) (sym streams) ∙ a) q.1) f
         ];
         listens = λ x. listens ∙ x;
+        owns = owns-joins v.journal seen seen' l k v.places there new.own streams own listeners;
       }
     where
       earlier : (j : ℕ) → IsFree seen'.last_own j → IsFree seen.last_own j

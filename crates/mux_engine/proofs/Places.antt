@@ -23,6 +23,7 @@ use Rattle.mux_engine.specs.Serving.{IsFree, IsUnseen, IsUnused, Serving, is_ope
 use Rattle.mux_engine.specs.Sides.{Resting, SamePlaces, Side}
 use Rattle.mux_engine.proofs.Lists.{among-not-own, among-open, not-own-stream, open-here, own-or-house, test-other, true-false}
 use Rattle.mux_engine.proofs.Marks.{Placed}
+use Rattle.mux_engine.proofs.Owns.{Owns}
 
 -- ---- a stream that is open
 
@@ -98,8 +99,8 @@ module _ {May : HouseReply → Type 0} {Rest : Resting} {before : Option (List H
       → seen'.streams ≡ seen.streams → seen'.last ≡ seen.last → seen'.last_own ≡ seen.last_own → seen'.listens ≡ seen.listens → here s' ≡ here s → held' ≡ seen'.blocked
       → among k seen'.blocked ≡ is_blocked k (mark ∷ v.journal) → ((t : ℕ) → k ≢ t → among t seen'.blocked ≡ among t seen.blocked) → ((t : ℕ) → k ≢ t → is_blocked t (mark ∷ v.journal) ≡ is_blocked t v.journal)
       → ((t : ℕ) → is_accepted t (mark ∷ v.journal) ≡ is_accepted t v.journal) → ((t : ℕ) → k ≢ t → has_failed t (mark ∷ v.journal) ≡ has_failed t v.journal)
-      → (IsTrue (is_own k) → has_failed k (mark ∷ v.journal) ≡ true → among k failed' ≡ true) → ((t : ℕ) → among t failed ≡ true → among t failed' ≡ true) → Placed s' v.journal seen seen' held' failed' mark
-  placed-by mark seen' held' failed' s' k found of streams last last_own listens same held_is mine blocked never accepted fails mine_failed grows = record {
+      → (IsTrue (is_own k) → has_failed k (mark ∷ v.journal) ≡ true → among k failed' ≡ true) → ((t : ℕ) → among t failed ≡ true → among t failed' ≡ true) → Owns v.journal seen' mark → Placed s' v.journal seen seen' held' failed' mark
+  placed-by mark seen' held' failed' s' k found of streams last last_own listens same held_is mine blocked never accepted fails mine_failed grows owns = record {
     of_wire = of;
     open_are = ap not_own streams ∙ (v.open_are ∙ ap (λ l. 0 ∷ not_own l) (sym same));
     apart = λ j a. v.apart j (ap (among j) (sym same) ∙ a);
@@ -123,17 +124,18 @@ module _ {May : HouseReply → Type 0} {Rest : Resting} {before : Option (List H
       | inr q ↦ grows t (v.failed_are t own (ap (among t) (sym streams) ∙ a) (sym (fails t q.1) ∙ f))
     ];
     listens = λ l. listens ∙ l;
+    owns = owns;
   }
 
   -- behind one that tells nothing of a stream
   pub placed-still : (mark : Mark) (seen' : Seen) (s' : State) → OfWire seen'.streams seen'.blocked seen'.last (mark ∷ v.journal)
       → seen'.streams ≡ seen.streams → seen'.blocked ≡ seen.blocked → seen'.last ≡ seen.last → seen'.last_own ≡ seen.last_own → seen'.listens ≡ seen.listens → here s' ≡ here s
       → ((t : ℕ) → is_blocked t (mark ∷ v.journal) ≡ is_blocked t v.journal) → ((t : ℕ) → is_accepted t (mark ∷ v.journal) ≡ is_accepted t v.journal) → ((t : ℕ) → has_failed t (mark ∷ v.journal) ≡ has_failed t v.journal)
-      → Placed s' v.journal seen seen' held failed mark
-  placed-still mark seen' s' of streams blocked last last_own listens same never accepted fails =
+      → Owns v.journal seen' mark → Placed s' v.journal seen seen' held failed mark
+  placed-still mark seen' s' of streams blocked last last_own listens same never accepted fails owns =
       placed-by mark seen' held failed s' 0 server-open of streams last last_own listens same (v.held_is ∙ sym blocked)
       (ap (among 0) blocked ∙ (v.blocked_is 0 server-open ∙ sym (never 0))) (λ t ne. ap (among t) blocked) (λ t ne. never t) accepted (λ t ne. fails t)
-      (λ own f. v.failed_are 0 own server-open (sym (fails 0) ∙ f)) (λ t a. a)
+      (λ own f. v.failed_are 0 own server-open (sym (fails 0) ∙ f)) (λ t a. a) owns
 
 -- ---- the same streams and listeners
 

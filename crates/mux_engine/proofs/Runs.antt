@@ -1,13 +1,12 @@
 -- The start and the end of a run.
 use Rattle.std.proofs.Common.{◌≡◌, ◌≢◌, ◌≤◌, ℕ, Bool, true, false, List, [], ◌∷◌, ◌++◌, length, Option, refl, sym, ap, ◌∙◌, subst, inl, inr, ◌||◌, arith, append-nil}
-use Rattle.std.specs.Prelude.{◌==◌, All}
+use Rattle.std.specs.Prelude.{◌==◌, filter, All}
 use Rattle.std.proofs.lemmas.List.Elements.{All-nil}
 use Rattle.mux_outside.specs.House.{OpenAsk}
 use Rattle.mux_outside.specs.HouseCalls.{HandsOn, HouseCall, calls_of}
-use Rattle.mux_outside.specs.OwnStreams.{is_own}
+use Rattle.mux_outside.specs.OwnStreams.{is_own, numbers_of}
 use Rattle.mux_outside.specs.Seen.{Seen}
 use Rattle.mux_outside.specs.Streams.{among}
-use Rattle.mux_outside.specs.declared.turn.Want.{Want}
 use Rattle.mux_outside.specs.declared.mark.Mark.{Mark}
 use Rattle.mux_outside.specs.declared.house.HouseReply.{HouseReply}
 use Rattle.mux_outside.specs.declared.house_mark.HouseMark.{HouseMark}
@@ -31,9 +30,10 @@ use Rattle.mux_machine.specs.State.{State, numbers}
 use Rattle.mux_machine.specs.Events.{here}
 use Rattle.mux_machine.specs.Stands.{Stands, StandsFor, log}
 use Rattle.mux_engine.specs.Called.{calls_in}
+use Rattle.mux_engine.specs.Places.{HasPlaces, KeepsOwn}
 use Rattle.mux_engine.specs.Run.{AsksOn, EndsRight, IsOfWire, IsRun, Rested, is_by_house}
 use Rattle.mux_engine.specs.Serving.{IsFree, IsSound, Kept, Promised, Serving}
-use Rattle.mux_engine.specs.Sides.{Resting, Side, asks_in, house_marks}
+use Rattle.mux_engine.specs.Sides.{AtWaits, Resting, Side, asks_in, house_marks}
 use Rattle.mux_engine.proofs.Cuts.{on-here}
 use Rattle.mux_engine.proofs.Keeps.{keeps-rows, rests-short}
 use Rattle.mux_engine.proofs.Lists.{not-own-stream, test-other, true-false}
@@ -60,8 +60,8 @@ on-again {May} {policy} {pid} {picks} {picks'} {replies} {replies'} {journal} {a
     (subst (λ (l : List HouseMark). AsksOn May policy pid picks replies journal l more) g h))
 
 -- all of a run whose rows are known
-run-of : (May : HouseReply → Type 0) (Rest : Want → Option (List HouseMark) → List HouseCall → Type 0) (stands stands' : List HouseCall → Type 0) (present : Bool) (before now : Option (List HouseMark)) (policy : Policy) (pid turns : ℕ) (start told : Option (List Mark)) (refused : Option ℕ) (journal : List Mark) (picks : List ℕ) (replies : List HouseReply) (answer : Ended)
-    → IsOfWire journal → MayGive May replies → Tells start told journal → turns_in journal ≤ turns
+run-of : (May : HouseReply → Type 0) (Rest : AtWaits) (stands stands' : List HouseCall → Type 0) (present : Bool) (before now : Option (List HouseMark)) (policy : Policy) (pid turns : ℕ) (start : Option (List Mark)) (seen : Seen) (refused : Option ℕ) (journal : List Mark) (picks : List ℕ) (replies : List HouseReply) (answer : Ended)
+    → IsOfWire journal → KeepsOwn journal → MayGive May replies → Tells start seen.told journal → turns_in journal ≤ turns
     → (rows : List Row)
     → Kept (by_lists policy pid picks replies) journal
     → IsLog (by_lists policy pid picks replies) journal rows
@@ -71,9 +71,10 @@ run-of : (May : HouseReply → Type 0) (Rest : Want → Option (List HouseMark) 
     → (answer ≢ ended.OutOfMemory → TellsAsks before now (house_marks journal))
     → (answer ≢ ended.OutOfMemory → asks_in (house_marks journal) ≡ asked_of rows)
     → (answer ≢ ended.OutOfMemory → HandsOn stands stands' (calls_in (by_lists policy pid picks replies) journal))
+    → (answer ≢ ended.OutOfMemory → HasPlaces seen journal)
     → (answer ≢ ended.OutOfMemory → EndsRight (by_lists policy pid picks replies) turns journal refused answer)
-    → IsRun May Rest stands stands' present policy pid turns before now start told refused answer
-run-of May Rest stands stands' present before now policy pid turns start told refused journal picks replies answer wire may tells given rows kept is fresh numbers answers more more_asks house asked asks_on rested absent whole house_whole asks_whole handed ends = record {
+    → IsRun May Rest stands stands' present policy pid turns before now start seen refused answer
+run-of May Rest stands stands' present before now policy pid turns start seen refused journal picks replies answer wire own_streams may tells given rows kept is fresh numbers answers more more_asks house asked asks_on rested absent whole house_whole asks_whole handed places ends = record {
   journal = journal;
   picks = picks;
   replies = replies;
@@ -83,6 +84,8 @@ run-of May Rest stands stands' present before now policy pid turns start told re
   may = may;
   written = kept.written;
   open_streams = kept.open_streams;
+  own_streams = own_streams;
+  places = places;
   is_log = is;
   whole = whole;
   fresh = fresh;
@@ -108,7 +111,7 @@ run-of May Rest stands stands' present before now policy pid turns start told re
 module _ (May : HouseReply → Type 0) (Rest : Resting) (stands stands' : List HouseCall → Type 0) (before : Option (List HouseMark)) (policy : Policy) (pid turns : ℕ) (start : Option (List Mark)) (refused : Option ℕ) where
   -- each stream was offered what waits for it, and the run ends so
   pub ends-run : (now : Side) (seen : Seen) (held failed : List ℕ) (given : ℕ) (todo : List ℕ) (s : State) (answer : Ended) (v : Serving May Rest before now policy pid start seen held failed given todo s) → now.unnoted ≡ [] → HandsOn stands stands' now.calls → ((t : ℕ) → is_own t ≡ false → among t todo ≡ false) → given ≤ turns → EndsAs turns v.journal refused s.ended answer
-      → IsRun May Rest.rests stands stands' Rest.present policy pid turns before now.told start seen.told refused answer
+      → IsRun May Rest.rests stands stands' Rest.present policy pid turns before now.told start seen refused answer
   ends-run now seen held failed given todo s answer v noted hands offered le ends =
       let picks : List ℕ = v.picked ++ [] in
       let replies : List HouseReply = v.replies ++ [] in
@@ -119,8 +122,8 @@ module _ (May : HouseReply → Type 0) (Rest : Resting) (stands stands' : List H
       let sound : IsSound (by_lists policy pid picks replies) v.journal todo s = v.sound [] [] in
       let asked : asked_of rows ≡ v.stands.asks = ap asked_of (sym same) ∙ fits.asked_is in
       let all : house_marks v.journal ++ now.unnoted ≡ house_marks v.journal = ap (λ l. house_marks v.journal ++ l) noted ∙ append-nil (house_marks v.journal) in
-      run-of May Rest.rests stands stands' Rest.present before now.told policy pid turns start seen.told refused v.journal picks replies answer
-      (record { lawful = v.of_wire.lawful; asked = v.of_wire.asked })
+      run-of May Rest.rests stands stands' Rest.present before now.told policy pid turns start seen refused v.journal picks replies answer
+      (record { lawful = v.of_wire.lawful; asked = v.of_wire.asked }) v.own_streams
       (subst (MayGive May) (sym (append-nil v.replies)) v.may)
       v.tells
       (let w : turns_in v.journal ≡ given = v.turns in omega arith)
@@ -133,22 +136,24 @@ module _ (May : HouseReply → Type 0) (Rest : Resting) (stands stands' : List H
       (λ ne. subst (TellsAsks before now.told) all v.house)
       (λ ne. ap asks_in (sym all) ∙ (v.asked ∙ sym asked))
       (λ ne. subst (HandsOn stands stands') (sym (v.called [] []) ∙ (ap (λ l. calls_in (by_lists policy pid picks replies) v.journal ++ calls_of l) noted ∙ append-nil (calls_in (by_lists policy pid picks replies) v.journal))) hands)
+      (λ ne. v.places)
       (λ ne. record {
         end = subst (λ o. EndsAs turns v.journal refused o answer) (fits.ended_is ∙ ap end_of same) ends;
         settled = λ t client. sound.settled t (not-own-stream t client) (offered t client);
       })
 
   -- there was no memory
-  pub ends-starved : (now : Option (List HouseMark)) (told : Option (List Mark)) → Promised May Rest before now policy pid start told turns → IsRun May Rest.rests stands stands' Rest.present policy pid turns before now start told refused ended.OutOfMemory
-  ends-starved now told p =
+  pub ends-starved : (now : Option (List HouseMark)) (seen : Seen) → Promised May Rest before now policy pid start seen.told turns → IsRun May Rest.rests stands stands' Rest.present policy pid turns before now start seen refused ended.OutOfMemory
+  ends-starved now seen p =
       let left = p.left [] [] in
-      run-of May Rest.rests stands stands' Rest.present before now policy pid turns start told refused p.journal (p.picked ++ []) (p.replies ++ []) ended.OutOfMemory
-      p.of_wire
+      run-of May Rest.rests stands stands' Rest.present before now policy pid turns start seen refused p.journal (p.picked ++ []) (p.replies ++ []) ended.OutOfMemory
+      p.of_wire p.own_streams
       (subst (MayGive May) (sym (append-nil p.replies)) p.may)
       p.tells p.turns left.rows left.kept left.is_log left.fresh
       (left.taken_is ∙ ap length (sym (append-nil p.picked)))
       (left.given_is ∙ (p.each ∙ ap length (sym (append-nil p.replies))))
       p.more p.more_asks p.house (p.asked ∙ ap (λ l. l ++ p.more_asks) (sym left.asked_is)) (on-again (sym (append-nil p.picked)) (sym (append-nil p.replies)) (sym left.asked_is) p.asks_on) (p.rested [] []) p.absent
+      (λ ne. absurd (ne refl))
       (λ ne. absurd (ne refl))
       (λ ne. absurd (ne refl))
       (λ ne. absurd (ne refl))
@@ -173,6 +178,7 @@ promised-more given more le p = record {
   absent = p.absent;
   tells = p.tells;
   of_wire = p.of_wire;
+  own_streams = p.own_streams;
   turns = let w : turns_in p.journal ≤ given = p.turns in omega arith;
   left = p.left;
 }
@@ -200,14 +206,15 @@ starts-starved May Rest house policy pid told given = record {
   absent = λ e. All-nil (λ (mark : Mark). is_by_house mark ≡ false);
   tells = sym (told-none told);
   of_wire = (let w = (wire-keeps (0 ∷ []) [] 0 [] [] 0 []).none in record { lawful = w.lawful; asked = w.asked });
+  own_streams = record { opened = tt; gives = tt; writes = tt; joins = tt };
   turns = (omega arith);
   left = λ picks later. record { kept = of-nothing (by_lists policy pid picks later); rows = []; is_log = inl refl; fresh = tt; taken_is = refl; given_is = refl; asked_is = refl };
 }
 
 -- a new engine is served
 pub starts : (May : HouseReply → Type 0) (Rest : Resting) (now : Side) (policy : Policy) (pid : ℕ) (seen : Seen) (s : State) → Stands [] [] s [] [] → s.core.policy ≡ policy → s.pid ≡ pid → s.clients ≡ [] → s.refused ≡ []
-    → now.asks ≡ [] → now.unnoted ≡ [] → now.let_in ≡ false → now.calls ≡ [] → seen.streams ≡ 0 ∷ [] → seen.blocked ≡ [] → seen.listens ≡ true → (v : Serving May Rest now.told now policy pid seen.told seen [] [] 0 (0 ∷ here s) s) × (v.journal ≡ [])
-starts May Rest now policy pid seen s stands e f clients refused unasked noted outside uncalled streams blocked listens =
+    → now.asks ≡ [] → now.unnoted ≡ [] → now.let_in ≡ false → now.calls ≡ [] → seen.streams ≡ 0 ∷ [] → seen.blocked ≡ [] → seen.listens ≡ true → seen.own ≡ [] → seen.listeners ≡ [] → (v : Serving May Rest now.told now policy pid seen.told seen [] [] 0 (0 ∷ here s) s) × (v.journal ≡ [])
+starts May Rest now policy pid seen s stands e f clients refused unasked noted outside uncalled streams blocked listens own listeners =
     let none : here s ≡ [] = ap (λ cs. numbers cs ++ s.refused) clients ∙ refused in
     let asks : stands.asks ≡ [] = no-asks stands.asks stands.each in (
       record {
@@ -229,6 +236,8 @@ starts May Rest now policy pid seen s stands e f clients refused unasked noted o
         absent = λ e. All-nil (λ (mark : Mark). is_by_house mark ≡ false);
         tells = sym (told-none seen.told);
         of_wire = subst (λ (l : List ℕ). OfWire l seen.blocked seen.last []) (sym streams) (subst (λ (l : List ℕ). OfWire (0 ∷ []) l seen.last []) (sym blocked) (wire-keeps (0 ∷ []) [] seen.last [] [] 0 []).none);
+        places = record { own = own; listeners = listeners; streams = ap (filter is_own) streams ∙ sym (ap numbers_of own) };
+        own_streams = record { opened = tt; gives = tt; writes = tt; joins = tt };
         turns = refl;
         open_are = ap not_own (streams ∙ ap (λ l. 0 ∷ l) (sym none));
         apart = λ k a. true-false (sym a ∙ ap (among k) none);

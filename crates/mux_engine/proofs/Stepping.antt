@@ -57,9 +57,9 @@ pub a-turn : {May : HouseReply → Type 0} {Rest : Resting} {before : Option (Li
 a-turn {May} {Rest} {before} {now} {policy} {pid} {start} {seen} {held} {failed} {given} {todo} {s} v = subst (λ (n : ℕ). Serving May Rest before now policy pid start seen held failed n todo s) (more-none given) v
 
 -- a house that is still there
-pub runs-same : {A E T : Type 0} (r : Result A E) (stands : T → List HouseCall → Type 0) (house house' : T) (May : HouseReply → Type 0) (told : T → Option (List HouseMark)) (quiet : T → Quiet) (must : T → Bool) (refused : T → Option ℕ) (now now' : List HouseCall → Side) (seen seen' : Seen) (held held' failed failed' : List ℕ) (most : ℕ) (more : A → ℕ) (todo : List ℕ) (rest : A → List ℕ) (s s' : State) (b b' : Bool) → b' ≡ b
-    → RunsOn r stands house house' May (RestsOf told quiet must refused stands b') now now' seen seen' held held' failed failed' most more todo rest s s' → RunsOn r stands house house' May (RestsOf told quiet must refused stands b) now now' seen seen' held held' failed failed' most more todo rest s s'
-runs-same r stands house house' May told quiet must refused now now' seen seen' held held' failed failed' most more todo rest s s' b b' e h = subst (λ (x : Bool). RunsOn r stands house house' May (RestsOf told quiet must refused stands x) now now' seen seen' held held' failed failed' most more todo rest s s') e h
+pub runs-same : {A E T : Type 0} (r : Result A E) (stands : T → List HouseCall → Type 0) (house house' : T) (May : HouseReply → Type 0) (told : T → Option (List HouseMark)) (known : T → Known) (quiet : T → Quiet) (must : T → Bool) (refused : T → Option ℕ) (now now' : List HouseCall → Side) (seen seen' : Seen) (held held' failed failed' : List ℕ) (most : ℕ) (more : A → ℕ) (todo : List ℕ) (rest : A → List ℕ) (s s' : State) (b b' : Bool) → b' ≡ b
+    → RunsOn r stands house house' May (RestsOf told known quiet must refused stands b') now now' seen seen' held held' failed failed' most more todo rest s s' → RunsOn r stands house house' May (RestsOf told known quiet must refused stands b) now now' seen seen' held held' failed failed' most more todo rest s s'
+runs-same r stands house house' May told known quiet must refused now now' seen seen' held held' failed failed' most more todo rest s s' b b' e h = subst (λ (x : Bool). RunsOn r stands house house' May (RestsOf told known quiet must refused stands x) now now' seen seen' held held' failed failed' most more todo rest s s') e h
 
 -- ---- the house
 

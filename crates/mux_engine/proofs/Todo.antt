@@ -45,6 +45,8 @@ serve-with {May} {Rest} {before} {now} {policy} {pid} {start} {seen} {held} {fai
   absent = v.absent;
   tells = v.tells;
   of_wire = v.of_wire;
+  places = record { own = v.places.own; listeners = v.places.listeners; streams = v.places.streams };
+  own_streams = v.own_streams;
   turns = v.turns;
   open_are = v.open_are;
   apart = v.apart;

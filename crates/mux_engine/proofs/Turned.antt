@@ -30,6 +30,7 @@ use Rattle.mux_machine.specs.Twins.{AreAlike}
 use Rattle.mux_machine.proofs.Twins.{stands-alike}
 use Rattle.mux_engine.specs.Asking.{HeedsSo}
 use Rattle.mux_engine.specs.Called.{calls_at}
+use Rattle.mux_engine.specs.Places.{IsPlaced}
 use Rattle.mux_engine.specs.Run.{AsksOn, RestedAt, is_by_house}
 use Rattle.mux_engine.specs.Serving.{Promised, Serving}
 use Rattle.mux_engine.specs.Sides.{Resting, Side, asks_in, house_mark}
@@ -125,6 +126,7 @@ module _ {May : HouseReply → Type 0} {Rest : Resting} {before : Option (List H
     pub called : (set : Setting) → calls_at set v.journal mark ≡ calls_of (house_mark mark)
     pub cut : (set : Setting) → IsLog set (mark ∷ v.journal) (log_of_journal set v.journal)
     pub house : is_accepted HOUSE (mark ∷ v.journal) ≡ is_accepted HOUSE v.journal
+    pub right : IsPlaced v.journal mark
     pub placed : (s' : State) → (s.ended ≡ None → Arrives e s s') → Placed s' v.journal seen seen' held failed mark
 
   -- the engine took it in, and so many of the asks were noted
@@ -172,5 +174,5 @@ module _ {May : HouseReply → Type 0} {Rest : Resting} {before : Option (List H
   pub event-cut : (e : Event) (seen' : Seen) (given' : ℕ) (at : EventAt e seen' given') (told' : Option (List HouseMark)) → ((mark : Mark) → Tells e mark → CutsShort May now.told told' s mark) → Promised May Rest before told' policy pid start seen'.told given'
   event-cut e seen' given' at told' cut =
       let a : AsksFirst May now.told told' v.picked v.replies s at.twin v.journal = cut at.twin at.tells v.picked v.replies v.journal v.closed v.stands at.allowed in
-      cut-next v told' seen'.told given' at.mark a.asks a.asks at.marks a.told (ap (λ l. l ++ a.asks) at.plain) (of-streams seen'.streams seen'.blocked seen'.last (at.mark ∷ v.journal) at.of_wire)
+      cut-next v told' seen'.told given' at.mark a.asks a.asks at.marks a.told (ap (λ l. l ++ a.asks) at.plain) (of-streams seen'.streams seen'.blocked seen'.last (at.mark ∷ v.journal) at.of_wire) at.right
       (let w : turns_in (at.mark ∷ v.journal) ≡ given' = at.turns in omega arith) at.rested at.absent (cut-asks e seen' given' at told' a) at.cut (λ picks later. told-promise _ at.mark v.journal at.is (at.speaks picks later))

@@ -30,6 +30,7 @@ use Rattle.mux_machine.specs.Stands.{RowsFit}
 use Rattle.mux_machine.proofs.Twins.{stands-alike}
 use Rattle.mux_engine.specs.Called.{calls_in}
 use Rattle.mux_engine.specs.Owned.{IsOffered, waits_for}
+use Rattle.mux_engine.specs.Places.{listeners_in, own_in}
 use Rattle.mux_engine.specs.Serving.{IsSound, Serving, is_open}
 use Rattle.mux_engine.specs.Sides.{Resting, Side, house_marks}
 use Rattle.mux_engine.specs.Turns.{want_of}
@@ -37,6 +38,7 @@ use Rattle.mux_engine.proofs.Called.{calls-none}
 use Rattle.mux_engine.proofs.Closed.{both-tests}
 use Rattle.mux_engine.proofs.Lists.{among-filter, among-open, and-first, and-second, not-own-stream, open-here, true-false}
 use Rattle.mux_engine.proofs.Marks.{log-is, serve-alone}
+use Rattle.mux_engine.proofs.Owns.{owns-as}
 use Rattle.mux_engine.proofs.Places.{open-own, placed-still, stream-open}
 use Rattle.mux_engine.proofs.Quiet.{askers-more, notes-none}
 use Rattle.mux_engine.proofs.Silent.{waits-alike}
@@ -275,7 +277,7 @@ module _ {May : HouseReply → Type 0} {Rest : Resting} {before : Option (List H
   seen-waiting = record seen { told = option_map (λ m. m ++ wait-mark ∷ []) seen.told }
 
   -- the call was told
-  unfoldable pub waited : seen.listens ≡ s.listening → now.unnoted ≡ [] → Rest.rests (want_of s) now.told now.calls → Serving May Rest before now policy pid start seen-waiting held failed (given + 1) [] s
+  unfoldable pub waited : seen.listens ≡ s.listening → now.unnoted ≡ [] → Rest.rests (want_of s) now.told now.calls seen.listeners seen.own → Serving May Rest before now policy pid start seen-waiting held failed (given + 1) [] s
   waited hears noted rests =
       let alike = waits-alike all-waiting seen.streams (want_of s) seen.listens v.journal in
       let told : now.told ≡ option_map (λ l. l ++ house_marks v.journal) before = v.house ∙ ap (λ (ms : List HouseMark). option_map (λ (l : List HouseMark). l ++ ms) before) (ap (λ l. house_marks v.journal ++ l) noted ∙ append-nil (house_marks v.journal)) in
@@ -292,7 +294,12 @@ module _ {May : HouseReply → Type 0} {Rest : Resting} {before : Option (List H
         rested = λ picks later.
             let set : Setting = by_lists policy pid (v.picked ++ picks) (v.replies ++ later) in
             let called : calls_in set v.journal ≡ now.calls = sym (ap (λ l. calls_in set v.journal ++ calls_of l) noted ∙ append-nil (calls_in set v.journal)) ∙ v.called picks later in
-            subst (λ (l : List HouseCall). Rest.rests (want_of s) (option_map (λ told. told ++ house_marks v.journal) before) l) (sym called) (subst (λ (o : Option (List HouseMark)). Rest.rests (want_of s) o now.calls) told rests);
+            let ls : List ℕ = listeners_in v.journal in
+            let os : List OwnStream = own_in v.journal in
+            subst (λ (l : List HouseCall). Rest.rests (want_of s) (option_map (λ told. told ++ house_marks v.journal) before) l ls os) (sym called)
+            (subst (λ (o : Option (List HouseMark)). Rest.rests (want_of s) o now.calls ls os) told
+            (subst (λ (l : List ℕ). Rest.rests (want_of s) now.told now.calls l os) v.places.listeners
+            (subst (λ (l : List OwnStream). Rest.rests (want_of s) now.told now.calls seen.listeners l) v.places.own rests)));
         absent = λ e. refl;
         turns = ap (λ n. n + 1) v.turns;
         placed = placed-still v wait-mark seen-waiting s record {
@@ -301,7 +308,8 @@ module _ {May : HouseReply → Type 0} {Rest : Resting} {before : Option (List H
           known = v.of_wire.known;
           holds = v.of_wire.holds;
           below = v.of_wire.below;
-        } refl refl refl refl refl refl (λ t. refl) (λ t. refl) (λ t. refl);
+        } refl refl refl refl refl refl (λ t. refl) (λ t. refl) (λ t. refl)
+            (owns-as v.journal seen seen-waiting wait-mark v.places (record { opened = v.places.streams ∙ ap numbers_of v.places.own; gives = tt; writes = tt; joins = tt }) (λ o. refl) (λ l. refl) refl refl refl);
         sound = λ picks later.
             let old : IsSound (setting picks later) v.journal [] s = v.sound picks later in
             record {

@@ -30,6 +30,7 @@ use Rattle.mux_engine.specs.Turns.{IsEventOf, want_of}
 use Rattle.mux_engine.proofs.Happened.{placed-accepts, placed-ends, placed-fails, placed-gets}
 use Rattle.mux_engine.proofs.Lists.{not-own-stream, test-other, true-false}
 use Rattle.mux_engine.proofs.Marks.{serve-alone, serve-on}
+use Rattle.mux_engine.proofs.Owns.{ends-client, gives-client, owns-accepts, owns-ends, owns-gets, owns-plain}
 use Rattle.mux_engine.proofs.Places.{at-stream, open-stream}
 use Rattle.mux_engine.proofs.Turned.{EventAt, came, stayed}
 use Rattle.mux_engine.proofs.Waits.{Offered, all-waiting, seen-waiting, wait-mark, waited, waiting-blocked}
@@ -53,7 +54,7 @@ same-marks marks = record { log = λ set. refl; bytes = λ t. refl; accepted = �
 
 module _ {May : HouseReply → Type 0} {Rest : Resting} {before : Option (List HouseMark)} {now : Side} {policy : Policy} {pid : ℕ} {start : Option (List Mark)} {seen : Seen} {held failed : List ℕ} {given : ℕ} {s : State}
     (v : Serving May Rest before now policy pid start seen held failed given [] s) (none : s.leaving ≡ []) (admitted : s.refused ≡ []) (live : s.ended ≡ None) {own : List ℕ} {queue : ℕ → List ℕ} (o : Offered seen own held failed queue)
-    (hears : seen.listens ≡ s.listening) (noted : now.unnoted ≡ []) (rests : Rest.rests (want_of s) now.told now.calls) where
+    (hears : seen.listens ≡ s.listening) (noted : now.unnoted ≡ []) (rests : Rest.rests (want_of s) now.told now.calls seen.listeners seen.own) where
   -- what holds with the call of wait
   abbrev pub now-waiting : Serving May Rest before now policy pid start (seen-waiting v none admitted live o) held failed (given + 1) [] s
   now-waiting = waited v none admitted live o hears noted rests
@@ -99,7 +100,9 @@ module _ {May : HouseReply → Type 0} {Rest : Resting} {before : Option (List H
         called = λ set. refl;
         cut = λ set. inr (0, refl);
         house = ap (λ b. cond b true (is_accepted HOUSE v.journal)) (test-other k HOUSE (house-apart k few));
-        placed = λ s' arrives. placed-accepts now-waiting (seen-then (turn.Accepted k) bytes) s' k fits.2 few (of-turn (turn.Accepted k) bytes are fits own_fits) refl refl refl refl refl (came e k s s' next admitted (arrives live)) (client-number k few);
+        right = (owns-accepts now-waiting.journal (seen-waiting v none admitted live o) (seen-then (turn.Accepted k) bytes) k now-waiting.places (client-number k few) refl refl refl).right;
+        placed = λ s' arrives. placed-accepts now-waiting (seen-then (turn.Accepted k) bytes) s' k fits.2 few (of-turn (turn.Accepted k) bytes are fits own_fits) refl refl refl refl refl (came e k s s' next admitted (arrives live)) (client-number k few)
+            (owns-accepts now-waiting.journal (seen-waiting v none admitted live o) (seen-then (turn.Accepted k) bytes) k now-waiting.places (client-number k few) refl refl refl);
       }
   event-at (turn.Got k) bytes e are fits own_fits next = record {
     mark = Gets k bytes;
@@ -120,7 +123,9 @@ module _ {May : HouseReply → Type 0} {Rest : Resting} {before : Option (List H
     called = λ set. ap (λ (b : Bool). cond b (Turns (Got k bytes) ∷ []) []) next.0;
     cut = λ set. inr (0, refl);
     house = refl;
-    placed = λ s' arrives. placed-gets now-waiting (seen-then (turn.Got k) bytes) s' k bytes fits.1 (of-turn (turn.Got k) bytes are fits own_fits) refl refl refl refl refl (stayed e (Gets k bytes) s s' next.1 tt (arrives live));
+    placed = λ s' arrives. placed-gets now-waiting (seen-then (turn.Got k) bytes) s' k bytes fits.1 (of-turn (turn.Got k) bytes are fits own_fits) refl refl refl refl refl (stayed e (Gets k bytes) s s' next.1 tt (arrives live))
+        (owns-gets now-waiting.journal (seen-waiting v none admitted live o) (seen-then (turn.Got k) bytes) k bytes now-waiting.places (gives-client now-waiting.journal k bytes next.0) refl refl refl);
+    right = gives-client now-waiting.journal k bytes next.0;
   }
   event-at (turn.End k) bytes e are fits own_fits next = record {
     mark = Ends k;
@@ -141,7 +146,9 @@ module _ {May : HouseReply → Type 0} {Rest : Resting} {before : Option (List H
     called = λ set. ap (λ (b : Bool). cond b (Turns (End k) ∷ []) []) next.0;
     cut = λ set. inr (0, refl);
     house = refl;
-    placed = λ s' arrives. placed-ends now-waiting (seen-then (turn.End k) bytes) s' k fits.1 (of-turn (turn.End k) bytes are fits own_fits) refl refl refl refl refl (stayed e (Ends k) s s' next.1 tt (arrives live));
+    placed = λ s' arrives. placed-ends now-waiting (seen-then (turn.End k) bytes) s' k fits.1 (of-turn (turn.End k) bytes are fits own_fits) refl refl refl refl refl (stayed e (Ends k) s s' next.1 tt (arrives live))
+        (owns-ends now-waiting.journal (seen-waiting v none admitted live o) (seen-then (turn.End k) bytes) k now-waiting.places (ends-client now-waiting.journal k next.0) refl refl refl);
+    right = ends-client now-waiting.journal k next.0;
   }
   event-at (turn.Failed k) bytes e are fits own_fits next = record {
     mark = Fails k;
@@ -162,7 +169,9 @@ module _ {May : HouseReply → Type 0} {Rest : Resting} {before : Option (List H
     called = λ set. ap (λ (b : Bool). cond b (Turns (Failed k) ∷ []) []) next.0;
     cut = λ set. inr (0, refl);
     house = refl;
-    placed = λ s' arrives. placed-fails now-waiting (seen-then (turn.Failed k) bytes) s' failed k fits (of-turn (turn.Failed k) bytes are fits own_fits) refl refl refl refl refl (stayed e (Fails k) s s' next.1 tt (arrives live)) (λ own. true-false (sym own ∙ next.0)) (λ t a. a);
+    placed = λ s' arrives. placed-fails now-waiting (seen-then (turn.Failed k) bytes) s' failed k fits (of-turn (turn.Failed k) bytes are fits own_fits) refl refl refl refl refl (stayed e (Fails k) s s' next.1 tt (arrives live)) (λ own. true-false (sym own ∙ next.0)) (λ t a. a)
+        (owns-plain now-waiting.journal (seen-waiting v none admitted live o) (seen-then (turn.Failed k) bytes) (Fails k) tt now-waiting.places refl refl refl);
+    right = record { opened = tt; gives = tt; writes = tt; joins = tt };
   }
   event-at (turn.Writable k) bytes e are fits own_fits next = absurd next
   event-at (turn.Joined l k) bytes e are fits own_fits next = absurd next

@@ -4,6 +4,7 @@ pub mod Called
 pub mod Counted
 pub mod Orders
 pub mod Owned
+pub mod Places
 pub mod Rests
 pub mod Run
 pub mod Serving

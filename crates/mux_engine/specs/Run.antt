@@ -7,7 +7,7 @@ use Rattle.mux_outside.specs.declared.house.HouseReply.{HouseReply}
 use Rattle.mux_outside.specs.declared.mark.Mark.{Mark}
 use Rattle.mux_outside.specs.declared.mark.Mark.TheVariants.{Waits, House}
 use Rattle.mux_outside.specs.OwnStreams.{is_own}
-use Rattle.mux_outside.specs.declared.turn.Want.{Want}
+use Rattle.mux_outside.specs.Seen.{Seen}
 use Rattle.mux_history.specs.declared.ended.Ended.{Ended}
 use Rattle.mux_history.specs.declared.ended.Ended.TheVariants.{OutOfMemory}
 use Rattle.mux_history.specs.Policy.{Policy}
@@ -29,7 +29,8 @@ use Rattle.mux_bounds.specs.Few.{ChannelsBounded, ForwardingsBounded, LeavesNoth
 use Rattle.mux_clients.specs.Asked.{asked_of, TellsAsks}
 use Rattle.mux_clients.specs.Starved.{BeginsWith}
 use Rattle.mux_engine.specs.Called.{calls_in}
-use Rattle.mux_engine.specs.Sides.{asks_in, house_marks}
+use Rattle.mux_engine.specs.Places.{HasPlaces, KeepsOwn, listeners_in, own_in}
+use Rattle.mux_engine.specs.Sides.{AtWaits, asks_in, house_marks}
 
 -- a journal that a wire can give: it is lawful, and the wire read and accepted only right behind a
 -- wait for that
@@ -37,16 +38,15 @@ pub record IsOfWire (journal : List Mark) : Type 0 where
   pub lawful : IsLawful journal
   pub asked : Throughout ReadsWhenAsked journal
 
--- what is so of a house right before a wait, by what is wanted there, by what it told and by its
--- calls, is so at each wait by what the journal has up to there
-abbrev pub RestedAt : (Want → Option (List HouseMark) → List HouseCall → Type 0) → Setting
-    → Option (List HouseMark) → List Mark → Mark → Type 0
+-- what is so of a house right before a wait is so at each wait by what the journal has up to there:
+-- what the house told, its calls, and the listeners and streams that its orders leave open
+abbrev pub RestedAt : AtWaits → Setting → Option (List HouseMark) → List Mark → Mark → Type 0
 RestedAt Rest setting before journal (Waits waiting want streams listens) =
     Rest want (option_map (λ told. told ++ house_marks journal) before) (calls_in setting journal)
+    (listeners_in journal) (own_in journal)
 RestedAt Rest setting before journal mark = Unit {0}
 
-abbrev pub Rested : (Want → Option (List HouseMark) → List HouseCall → Type 0) → Setting
-    → Option (List HouseMark) → List Mark → Type 0
+abbrev pub Rested : AtWaits → Setting → Option (List HouseMark) → List Mark → Type 0
 Rested Rest setting before journal = Throughout (RestedAt Rest setting before) journal
 
 -- a mark of what a house does by itself
@@ -109,21 +109,26 @@ pub record AsksOn (May : HouseReply → Type 0) (policy : Policy) (pid : ℕ) (p
 -- that want of memory may have left, keep what is promised of rows; and but for want of memory the
 -- run ends right, where `refused` is the forwarding of the start that was refused, if none may be.
 -- But for want of memory the house was handed on all that the journal has for it, once and in the
--- order of the journal.
+-- order of the journal. The master's own listeners and streams are at each mark those that the
+-- house's orders leave open: at each wait these streams stand among the open ones, and the house
+-- knows both; one that is paused gives nothing, and one that is finished is not written to. But for
+-- want of memory they are at the end, too, those of the wire, of which `seen` is seen then.
 pub record IsRun (May : HouseReply → Type 0)
-    (Rest : Want → Option (List HouseMark) → List HouseCall → Type 0)
+    (Rest : AtWaits)
     (stands stands' : List HouseCall → Type 0) (present : Bool) (policy : Policy) (pid turns : ℕ)
-    (before now : Option (List HouseMark)) (start told : Option (List Mark)) (refused : Option ℕ)
-    (answer : Ended) : Type 0 where
+    (before now : Option (List HouseMark)) (start : Option (List Mark)) (seen : Seen)
+    (refused : Option ℕ) (answer : Ended) : Type 0 where
   pub journal : List Mark
   pub picks : List ℕ
   pub replies : List HouseReply
   pub rows : List Row
-  pub tells : Tells start told journal
+  pub tells : Tells start seen.told journal
   pub of_wire : IsOfWire journal
   pub may : MayGive May replies
   pub written : Written (by_lists policy pid picks replies) journal
   pub open_streams : OpenStreams (by_lists policy pid picks replies) journal
+  pub own_streams : KeepsOwn journal
+  pub places : answer ≢ OutOfMemory → HasPlaces seen journal
   pub is_log : IsLog (by_lists policy pid picks replies) journal rows
   pub whole : answer ≢ OutOfMemory
       → rows ≡ log_of_journal (by_lists policy pid picks replies) journal

@@ -28,6 +28,7 @@ use Rattle.mux_machine.specs.State.{State, is_here}
 use Rattle.mux_machine.specs.Events.{here}
 use Rattle.mux_machine.specs.Stands.{Stands}
 use Rattle.mux_engine.specs.Called.{Handed, calls_in}
+use Rattle.mux_engine.specs.Places.{HasPlaces, KeepsOwn}
 use Rattle.mux_engine.specs.Run.{AsksOn, IsOfWire, Rested, is_by_house}
 use Rattle.mux_engine.specs.Sides.{Resting, Side, asks_in, house_marks}
 
@@ -75,7 +76,8 @@ IsFree last k = (IsTrue (is_own k) × (last < k)) ⊎ (k ≡ HOUSE)
 -- that was let in is present, and where none is the journal has nothing of a house but the asks of
 -- clients; the journal is one that a wire can give; the streams that are open are the server's, those
 -- of the clients that are here and the master's own; and whatever is picked and replied later, all is
--- sound; and the calls of the house since are those of the journal and of what is not noted yet
+-- sound; the calls of the house since are those of the journal and of what is not noted yet; and the
+-- master's own listeners and streams are those that the journal leaves open
 pub record Serving (May : HouseReply → Type 0) (Rest : Resting)
     (before : Option (List HouseMark)) (now : Side) (policy : Policy) (pid : ℕ)
     (start : Option (List Mark)) (seen : Seen) (held failed : List ℕ) (given : ℕ)
@@ -102,6 +104,8 @@ pub record Serving (May : HouseReply → Type 0) (Rest : Resting)
   pub absent : Rest.present ≡ false → All (λ (mark : Mark). is_by_house mark ≡ false) journal
   pub tells : Tells start seen.told journal
   pub of_wire : OfWire seen.streams seen.blocked seen.last journal
+  pub places : HasPlaces seen journal
+  pub own_streams : KeepsOwn journal
   pub turns : turns_in journal ≡ given
   pub open_are : not_own seen.streams ≡ 0 ∷ not_own (here s)
   pub apart : (k : ℕ) → among k (here s) ≡ true → is_own_stream k ≡ false
@@ -182,6 +186,7 @@ pub record Promised (May : HouseReply → Type 0) (Rest : Resting)
   pub absent : Rest.present ≡ false → All (λ (mark : Mark). is_by_house mark ≡ false) journal
   pub tells : Tells start told journal
   pub of_wire : IsOfWire journal
+  pub own_streams : KeepsOwn journal
   pub turns : turns_in journal ≤ given
   pub left : (picks : List ℕ) (given_later : List HouseReply)
       → IsLeft (by_lists policy pid (picked ++ picks) (replies ++ given_later)) journal

@@ -8,6 +8,7 @@ use Rattle.mux_outside.specs.Streams.{among}
 use Rattle.mux_outside.specs.declared.house_mark.HouseMark.{HouseMark}
 use Rattle.mux_outside.specs.declared.turn.Want.{Want}
 use Rattle.mux_outside.specs.declared.turn.Want.TheVariants.{Read}
+use Rattle.mux_outside.specs.declared.own_streams.OwnStream.{OwnStream}
 use Rattle.mux_outside.specs.declared.house_mark.HouseMark.TheVariants.{HouseIn}
 use Rattle.mux_outside.specs.declared.mark.Mark.{Mark}
 use Rattle.mux_outside.specs.declared.mark.Mark.TheVariants.{House}
@@ -70,22 +71,32 @@ pub record HouseWaits (want : Want) (quiet : Quiet) (must : Bool) (refused : Opt
   pub rests : want ≡ Read → IsAtRest quiet
   pub permitted : IsTrue must → refused ≡ None
 
--- whether a house is present, and what is so of it right before a wait for this, by what it told
--- and by its calls since the run began
+-- a house knows these as its listeners and its streams
+pub record Knows (known : Known) (listeners : List ℕ) (own : List OwnStream) : Type 0 where
+  pub listeners_are : known.listeners ≡ listeners
+  pub streams_are : known.streams ≡ own
+
+-- what may be so of a house right before a wait for this, by what it told, by its calls since the
+-- run began, and by the listeners and streams of its own that are open
+abbrev pub AtWaits : Type 1
+AtWaits = Want → Option (List HouseMark) → List HouseCall → List ℕ → List OwnStream → Type 0
+
+-- whether a house is present, and what is so of it right before a wait
 pub record Resting : Type 1 where
   pub present : Bool
-  pub rests : Want → Option (List HouseMark) → List HouseCall → Type 0
+  pub rests : AtWaits
 
--- there is a house that has told this and is as it is right before a wait, and to which the first
--- one came by these calls, unless none is present
-abbrev pub RestsOf : {T : Type 0} → (T → Option (List HouseMark)) → (T → Quiet)
+-- there is a house that has told this, knows these listeners and streams and is as it is right
+-- before a wait, and to which the first one came by these calls, unless none is present
+abbrev pub RestsOf : {T : Type 0} → (T → Option (List HouseMark)) → (T → Known) → (T → Quiet)
     → (T → Bool) → (T → Option ℕ) → (T → List HouseCall → Type 0) → Bool → T → Resting
-RestsOf {T} told quiet must refused stands present first = record {
+RestsOf {T} told known quiet must refused stands present first = record {
   present = present;
-  rests = λ want now calls. IsTrue present
+  rests = λ want now calls listeners own. IsTrue present
       → (house : T)
       × (HouseWaits want (quiet house) (must house) (refused house) × (told house ≡ now)
-      × HandsOn (stands first) (stands house) calls);
+      × HandsOn (stands first) (stands house) calls
+      × Knows (known house) listeners own);
 }
 
 -- ---- its streams and listeners

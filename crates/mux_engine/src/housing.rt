@@ -40,19 +40,19 @@ pub fn let_in<W: Wire, H: House>(
     ensures serving { (present : Bool) (first : H) (before : Option (List TheHouseMark))
         (now : TheSide) (policy : ThePolicy) (pid : ℕ) (start : Option (List TheMark))
         (held failed : List ℕ) (given : ℕ) →
-        (v : Serving H.may (RestsOf H.told H.quiet H.must H.refused H.stands present first) before
+        (v : Serving H.may (RestsOf H.told H.known H.quiet H.must H.refused H.stands present first) before
         now policy pid start (W.seen wire.old) held failed given (0 ∷ here engine.old) engine.old) →
         v.journal ≡ [] → present ≡ true → MatchResult result
-        (λ x. Serving H.may (RestsOf H.told H.quiet H.must H.refused H.stands present first) before
+        (λ x. Serving H.may (RestsOf H.told H.known H.quiet H.must H.refused H.stands present first) before
         (record now { let_in = true }) policy pid start (W.seen wire.new) held failed given
         (0 ∷ here engine.new) engine.new)
-        (λ e. Promised H.may (RestsOf H.told H.quiet H.must H.refused H.stands present first) before
+        (λ e. Promised H.may (RestsOf H.told H.known H.quiet H.must H.refused H.stands present first) before
         now.told policy pid start (W.seen wire.new).told given) }
     ensures places { SamePlaces (W.seen wire.old) (W.seen wire.new) }
     ensures on { (present : Bool) (first : H) (before : Option (List TheHouseMark))
         (now : TheSide) (policy : ThePolicy) (pid : ℕ) (start : Option (List TheMark))
         (held failed : List ℕ) (given : ℕ) →
-        (v : Serving H.may (RestsOf H.told H.quiet H.must H.refused H.stands present first) before
+        (v : Serving H.may (RestsOf H.told H.known H.quiet H.must H.refused H.stands present first) before
         now policy pid start (W.seen wire.old) held failed given (0 ∷ here engine.old) engine.old) →
         v.journal ≡ [] →
         OnOk result (engine.new.ended ≡ None) }
@@ -76,7 +76,7 @@ fn hand_over<W: Wire, H: House>(
     requires ordering { (H.known house.old).ordering ≡ None }
     ensures serving { (held failed : List ℕ) → RunsOn result H.stands
         house.old house.new H.may
-        (RestsOf H.told H.quiet H.must H.refused H.stands (H.known house.old).present)
+        (RestsOf H.told H.known H.quiet H.must H.refused H.stands (H.known house.old).present)
         (noted (H.told house.old) (H.known house.old))
         (noted (H.told house.new) (H.known house.new)) (W.seen wire.old) (W.seen wire.new) held held
         failed failed 0 (λ done. 0) (0 ∷ here engine.old)
@@ -115,7 +115,7 @@ fn reply<W: Wire, H: House>(
     requires on { engine.old.ended ≡ None }
     ensures serving { (held failed : List ℕ) → RunsOn result H.stands
         house.old house.new H.may
-        (RestsOf H.told H.quiet H.must H.refused H.stands (H.known house.old).present)
+        (RestsOf H.told H.known H.quiet H.must H.refused H.stands (H.known house.old).present)
         (noted (H.told house.old) (H.known house.old))
         (noted (H.told house.new) (H.known house.new)) (W.seen wire.old) (W.seen wire.new) held held
         failed failed 0 (λ more. 0) (0 ∷ without TheHouse (here engine.old))
@@ -130,7 +130,7 @@ fn reply<W: Wire, H: House>(
     ensures must { H.must house.new ≡ H.must house.old }
     ensures on { (held failed todo : List ℕ) →
         ServedWith H.stands house.old H.may
-        (RestsOf H.told H.quiet H.must H.refused H.stands (H.known house.old).present)
+        (RestsOf H.told H.known H.quiet H.must H.refused H.stands (H.known house.old).present)
         (noted (H.told house.old) (H.known house.old)) (W.seen wire.old) held failed todo
         engine.old → OnOk result (engine.new.ended ≡ None) }
     ensures places { SamePlaces (W.seen wire.old) (W.seen wire.new) }
@@ -162,7 +162,7 @@ pub fn reply_all<W: Wire, H: House>(
     lists: &mut Lists,
 ) -> Result<(), OutOfMemory>
     requires served { ServedWith H.stands house.old H.may
-        (RestsOf H.told H.quiet H.must H.refused H.stands (H.known house.old).present)
+        (RestsOf H.told H.known H.quiet H.must H.refused H.stands (H.known house.old).present)
         (noted (H.told house.old) (H.known house.old)) (W.seen wire.old) lists.old.held
         lists.old.failed (0 ∷ here engine.old) engine.old }
     requires housed { Housed (H.known house.old) (W.seen wire.old) lists.old.own }
@@ -170,7 +170,7 @@ pub fn reply_all<W: Wire, H: House>(
     requires held_is { lists.old.held ≡ (W.seen wire.old).blocked }
     requires on { engine.old.ended ≡ None }
     ensures serving { RunsOn result H.stands house.old house.new H.may
-        (RestsOf H.told H.quiet H.must H.refused H.stands (H.known house.old).present)
+        (RestsOf H.told H.known H.quiet H.must H.refused H.stands (H.known house.old).present)
         (noted (H.told house.old) (H.known house.old))
         (noted (H.told house.new) (H.known house.new)) (W.seen wire.old) (W.seen wire.new)
         lists.old.held lists.new.held lists.old.failed lists.new.failed 0 (λ done. 0)
@@ -234,7 +234,7 @@ fn speak<W: Wire, H: House>(
     requires room { want_of engine.old ≡ ToRead }
     ensures serving { (held failed : List ℕ) → RunsOn result H.stands
         house.old house.new H.may
-        (RestsOf H.told H.quiet H.must H.refused H.stands (H.known house.old).present)
+        (RestsOf H.told H.known H.quiet H.must H.refused H.stands (H.known house.old).present)
         (noted (H.told house.old) (H.known house.old))
         (noted (H.told house.new) (H.known house.new)) (W.seen wire.old) (W.seen wire.new) held held
         failed failed 1 (λ more. if more then 1 else 0) []
@@ -249,7 +249,7 @@ fn speak<W: Wire, H: House>(
     ensures must { H.must house.new ≡ H.must house.old }
     ensures ends { (held failed : List ℕ) →
         ServedWith H.stands house.old H.may
-        (RestsOf H.told H.quiet H.must H.refused H.stands (H.known house.old).present)
+        (RestsOf H.told H.known H.quiet H.must H.refused H.stands (H.known house.old).present)
         (noted (H.told house.old) (H.known house.old)) (W.seen wire.old) held failed []
         engine.old → OnOk result (EndsByAsk engine.new.ended) }
     ensures places { SamePlaces (W.seen wire.old) (W.seen wire.new) }
@@ -278,7 +278,7 @@ fn ask_house<W: Wire, H: House>(
     lists: &mut Lists,
 ) -> Result<bool, OutOfMemory>
     requires served { ServedWith H.stands house.old H.may
-        (RestsOf H.told H.quiet H.must H.refused H.stands (H.known house.old).present)
+        (RestsOf H.told H.known H.quiet H.must H.refused H.stands (H.known house.old).present)
         (noted (H.told house.old) (H.known house.old)) (W.seen wire.old) lists.old.held
         lists.old.failed (0 ∷ here engine.old) engine.old }
     requires housed { Housed (H.known house.old) (W.seen wire.old) lists.old.own }
@@ -286,7 +286,7 @@ fn ask_house<W: Wire, H: House>(
     requires held_is { lists.old.held ≡ (W.seen wire.old).blocked }
     requires on { engine.old.ended ≡ None }
     ensures serving { RunsOn result H.stands house.old house.new H.may
-        (RestsOf H.told H.quiet H.must H.refused H.stands (H.known house.old).present)
+        (RestsOf H.told H.known H.quiet H.must H.refused H.stands (H.known house.old).present)
         (noted (H.told house.old) (H.known house.old))
         (noted (H.told house.new) (H.known house.new)) (W.seen wire.old) (W.seen wire.new)
         lists.old.held lists.new.held lists.old.failed lists.new.failed 1
@@ -327,14 +327,14 @@ pub fn step_house<W: Wire, H: House>(
     piece: &mut Piece,
 ) -> Result<bool, OutOfMemory>
     requires served { ServedWith H.stands house.old H.may
-        (RestsOf H.told H.quiet H.must H.refused H.stands (H.known house.old).present)
+        (RestsOf H.told H.known H.quiet H.must H.refused H.stands (H.known house.old).present)
         (noted (H.told house.old) (H.known house.old)) (W.seen wire.old) lists.old.held
         lists.old.failed (0 ∷ here engine.old) engine.old }
     requires housed { Housed (H.known house.old) (W.seen wire.old) lists.old.own }
     requires alone { IsAlone (H.known house.old) }
     requires on { engine.old.ended ≡ None }
     ensures serving { RunsOn result H.stands house.old house.new H.may
-        (RestsOf H.told H.quiet H.must H.refused H.stands (H.known house.old).present)
+        (RestsOf H.told H.known H.quiet H.must H.refused H.stands (H.known house.old).present)
         (noted (H.told house.old) (H.known house.old))
         (noted (H.told house.new) (H.known house.new)) (W.seen wire.old) (W.seen wire.new)
         lists.old.held lists.new.held lists.old.failed lists.new.failed 1

@@ -132,7 +132,7 @@ fn obey<W: Wire, H: House>(
     requires present { (H.known house.old).present ≡ true }
     ensures serving { (todo : List ℕ) (s : TheState) → RunsOn result H.stands
         house.old house.new H.may
-        (RestsOf H.told H.quiet H.must H.refused H.stands (H.known house.old).present)
+        (RestsOf H.told H.known H.quiet H.must H.refused H.stands (H.known house.old).present)
         (noting (order_marks (Some order)) (H.told house.old) (H.known house.old))
         (noted (H.told house.new) (H.known house.new)) (W.seen wire.old) (W.seen wire.new)
         lists.old.held lists.new.held lists.old.failed lists.new.failed 1 (λ done. 1) todo
@@ -161,7 +161,7 @@ pub fn next_order<W: Wire, H: House>(
     requires present { (H.known house.old).present ≡ true }
     ensures serving { (todo : List ℕ) (s : TheState) → RunsOn result H.stands
         house.old house.new H.may
-        (RestsOf H.told H.quiet H.must H.refused H.stands (H.known house.old).present)
+        (RestsOf H.told H.known H.quiet H.must H.refused H.stands (H.known house.old).present)
         (noted (H.told house.old) (H.known house.old))
         (noted (H.told house.new) (H.known house.new)) (W.seen wire.old) (W.seen wire.new)
         lists.old.held lists.new.held lists.old.failed lists.new.failed 1

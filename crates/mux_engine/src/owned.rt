@@ -46,7 +46,7 @@ fn own_once<W: Wire, H: House>(
     requires stream_open { IsTrue (among stream (W.seen wire.old).streams) }
     requires held_is { held.old ≡ (W.seen wire.old).blocked }
     ensures serving { OwnOn result H.stands house.old house.new H.may
-        (RestsOf H.told H.quiet H.must H.refused H.stands) (W.seen wire.old)
+        (RestsOf H.told H.known H.quiet H.must H.refused H.stands) (W.seen wire.old)
         (W.seen wire.new) held.old held.new
         failed.old failed.new }
     ensures less { IfOk result (λ more. more ≡ true
@@ -111,7 +111,7 @@ fn offer_own<W: Wire, H: House>(
     requires stream_open { IsTrue (among stream (W.seen wire.old).streams) }
     requires held_is { held.old ≡ (W.seen wire.old).blocked }
     ensures serving { OwnOn result H.stands house.old house.new H.may
-        (RestsOf H.told H.quiet H.must H.refused H.stands) (W.seen wire.old)
+        (RestsOf H.told H.known H.quiet H.must H.refused H.stands) (W.seen wire.old)
         (W.seen wire.new) held.old held.new
         failed.old failed.new }
     ensures offered { OnOk result (IsOffered (H.queue house.new stream) held.new failed.new stream) }
@@ -154,7 +154,7 @@ fn own_round<W: Wire, H: House>(
         → IsTrue (among t (W.seen wire.old).streams) }
     requires held_is { held.old ≡ (W.seen wire.old).blocked }
     ensures serving { OwnOn result H.stands house.old house.new H.may
-        (RestsOf H.told H.quiet H.must H.refused H.stands) (W.seen wire.old)
+        (RestsOf H.told H.known H.quiet H.must H.refused H.stands) (W.seen wire.old)
         (W.seen wire.new) held.old held.new
         failed.old failed.new }
     ensures offered { OnOk result (length failed.new ≡ length failed.old → (t : ℕ)
@@ -194,7 +194,7 @@ pub fn own_rounds<W: Wire, H: House>(
     requires housed { Housed (H.known house.old) (W.seen wire.old) own.now }
     requires held_is { held.old ≡ (W.seen wire.old).blocked }
     ensures serving { OwnOn result H.stands house.old house.new H.may
-        (RestsOf H.told H.quiet H.must H.refused H.stands) (W.seen wire.old)
+        (RestsOf H.told H.known H.quiet H.must H.refused H.stands) (W.seen wire.old)
         (W.seen wire.new) held.old held.new
         failed.old failed.new }
     ensures offered { OnOk result ((t : ℕ) → among t own.now ≡ true

@@ -65,7 +65,7 @@ fn turn<W: Wire, H: House>(
     piece: &mut Piece,
 ) -> Result<Went, OutOfMemory>
     requires served { ServedWith H.stands house.old H.may
-        (RestsOf H.told H.quiet H.must H.refused H.stands (H.known house.old).present)
+        (RestsOf H.told H.known H.quiet H.must H.refused H.stands (H.known house.old).present)
         (noted (H.told house.old) (H.known house.old)) (W.seen wire.old) lists.old.held
         lists.old.failed [] engine.old }
     requires housed { Housed (H.known house.old) (W.seen wire.old) lists.old.own }
@@ -79,7 +79,7 @@ fn turn<W: Wire, H: House>(
     requires on { engine.old.ended ≡ None }
     requires hears { (W.seen wire.old).listens ≡ engine.old.listening }
     ensures serving { RunsOn result H.stands house.old house.new H.may
-        (RestsOf H.told H.quiet H.must H.refused H.stands (H.known house.old).present)
+        (RestsOf H.told H.known H.quiet H.must H.refused H.stands (H.known house.old).present)
         (noted (H.told house.old) (H.known house.old))
         (noted (H.told house.new) (H.known house.new)) (W.seen wire.old) (W.seen wire.new)
         lists.old.held lists.new.held lists.old.failed lists.new.failed 1 (λ went. 1) []
@@ -158,7 +158,7 @@ fn one_turn<W: Wire, H: House>(
     piece: &mut Piece,
 ) -> Result<bool, OutOfMemory>
     requires served { ServedWith H.stands house.old H.may
-        (RestsOf H.told H.quiet H.must H.refused H.stands (H.known house.old).present)
+        (RestsOf H.told H.known H.quiet H.must H.refused H.stands (H.known house.old).present)
         (noted (H.told house.old) (H.known house.old)) (W.seen wire.old) lists.old.held
         lists.old.failed (0 ∷ here engine.old) engine.old }
     requires housed { Housed (H.known house.old) (W.seen wire.old) lists.old.own }
@@ -168,16 +168,16 @@ fn one_turn<W: Wire, H: House>(
         (policy : ThePolicy) (pid : ℕ) (start : Option (List TheMark)) (given : ℕ) →
         HandsOn (H.stands first) (H.stands house.old) calls →
         Serving H.may
-        (RestsOf H.told H.quiet H.must H.refused H.stands (H.known house.old).present first) before
+        (RestsOf H.told H.known H.quiet H.must H.refused H.stands (H.known house.old).present first) before
         (noted (H.told house.old) (H.known house.old) calls) policy pid start (W.seen wire.old)
         lists.old.held lists.old.failed given (0 ∷ here engine.old) engine.old →
         MatchResult result
         (λ on. Handed (H.stands first) (H.stands house.new) (λ all. EndsTurn on given H.may
-        (RestsOf H.told H.quiet H.must H.refused H.stands (H.known house.old).present first) before
+        (RestsOf H.told H.known H.quiet H.must H.refused H.stands (H.known house.old).present first) before
         (noted (H.told house.new) (H.known house.new) all) policy pid start (W.seen wire.new)
         lists.new.held lists.new.failed (to_offer lists.new.settled engine.new) engine.new))
         (λ e. Promised H.may
-        (RestsOf H.told H.quiet H.must H.refused H.stands (H.known house.old).present first) before
+        (RestsOf H.told H.known H.quiet H.must H.refused H.stands (H.known house.old).present first) before
         (H.told house.new) policy pid start (W.seen wire.new).told (given + 1)) }
     ensures housed { OnOk result (Housed (H.known house.new) (W.seen wire.new) lists.new.own) }
     ensures alone { OnOk result (IsAlone (H.known house.new)) }
@@ -227,7 +227,7 @@ fn turns_of<W: Wire, H: House>(
     turns: u64,
 ) -> Result<bool, OutOfMemory>
     requires served { ServedWith H.stands house.old H.may
-        (RestsOf H.told H.quiet H.must H.refused H.stands (H.known house.old).present)
+        (RestsOf H.told H.known H.quiet H.must H.refused H.stands (H.known house.old).present)
         (noted (H.told house.old) (H.known house.old)) (W.seen wire.old) lists.old.held
         lists.old.failed (0 ∷ here engine.old) engine.old }
     requires housed { Housed (H.known house.old) (W.seen wire.old) lists.old.own }
@@ -239,17 +239,17 @@ fn turns_of<W: Wire, H: House>(
         (policy : ThePolicy) (pid : ℕ) (start : Option (List TheMark)) →
         HandsOn (H.stands first) (H.stands house.old) calls →
         Serving H.may
-        (RestsOf H.told H.quiet H.must H.refused H.stands (H.known house.old).present first) before
+        (RestsOf H.told H.known H.quiet H.must H.refused H.stands (H.known house.old).present first) before
         (noted (H.told house.old) (H.known house.old) calls) policy pid start (W.seen wire.old)
         lists.old.held lists.old.failed 0 (0 ∷ here engine.old) engine.old →
         MatchResult result
         (λ all. Handed (H.stands first) (H.stands house.new) (λ handed. Spends all turns H.may
-        (RestsOf H.told H.quiet H.must H.refused H.stands (H.known house.old).present first) before
+        (RestsOf H.told H.known H.quiet H.must H.refused H.stands (H.known house.old).present first) before
         (noted (H.told house.new) (H.known house.new) handed) policy pid start
         (W.seen wire.new) lists.new.held lists.new.failed (to_offer lists.new.settled engine.new)
         engine.new))
         (λ e. Promised H.may
-        (RestsOf H.told H.quiet H.must H.refused H.stands (H.known house.old).present first) before
+        (RestsOf H.told H.known H.quiet H.must H.refused H.stands (H.known house.old).present first) before
         (H.told house.new) policy pid start (W.seen wire.new).told turns) }
     ensures housed { OnOk result (Housed (H.known house.new) (W.seen wire.new) lists.new.own) }
     ensures held_is { OnOk result (lists.new.held ≡ (W.seen wire.new).blocked) }
@@ -308,16 +308,16 @@ fn enter<W: Wire, H: House>(
     ensures serving { (first : H) (calls : List TheCall) (before : Option (List TheHouseMark))
         (policy : ThePolicy) (pid : ℕ) (start : Option (List TheMark)) (held failed : List ℕ)
         (given : ℕ) → (v : Serving H.may
-        (RestsOf H.told H.quiet H.must H.refused H.stands (H.known house.now).present first) before
+        (RestsOf H.told H.known H.quiet H.must H.refused H.stands (H.known house.now).present first) before
         (outside (H.told house.now) (H.known house.now) calls) policy pid start (W.seen wire.old)
         held failed given (0 ∷ here engine.old) engine.old) → v.journal ≡ [] →
         MatchResult result
         (λ done. Serving H.may
-        (RestsOf H.told H.quiet H.must H.refused H.stands (H.known house.now).present first) before
+        (RestsOf H.told H.known H.quiet H.must H.refused H.stands (H.known house.now).present first) before
         (noted (H.told house.now) (H.known house.now) calls) policy pid start (W.seen wire.new) held
         failed given (0 ∷ here engine.new) engine.new × (engine.new.ended ≡ None))
         (λ e. Promised H.may
-        (RestsOf H.told H.quiet H.must H.refused H.stands (H.known house.now).present first) before
+        (RestsOf H.told H.known H.quiet H.must H.refused H.stands (H.known house.now).present first) before
         (H.told house.now) policy pid start (W.seen wire.new).told given) }
     ensures places { SamePlaces (W.seen wire.old) (W.seen wire.new) }
     ensures alone { (H.known house.now).present ≡ false → (engine.new ≡ engine.old)
@@ -342,14 +342,14 @@ fn last_replies<W: Wire, H: House>(
     all: bool,
 ) -> Result<(), OutOfMemory>
     requires served { ServedWith H.stands house.old H.may
-        (RestsOf H.told H.quiet H.must H.refused H.stands (H.known house.old).present)
+        (RestsOf H.told H.known H.quiet H.must H.refused H.stands (H.known house.old).present)
         (noted (H.told house.old) (H.known house.old)) (W.seen wire.old) lists.old.held
         lists.old.failed (0 ∷ here engine.old) engine.old }
     requires housed { Housed (H.known house.old) (W.seen wire.old) lists.old.own }
     requires held_is { lists.old.held ≡ (W.seen wire.old).blocked }
     requires on { all ≡ true → engine.old.ended ≡ None }
     ensures serving { RunsOn result H.stands house.old house.new H.may
-        (RestsOf H.told H.quiet H.must H.refused H.stands (H.known house.old).present)
+        (RestsOf H.told H.known H.quiet H.must H.refused H.stands (H.known house.old).present)
         (noted (H.told house.old) (H.known house.old))
         (noted (H.told house.new) (H.known house.new)) (W.seen wire.old) (W.seen wire.new)
         lists.old.held lists.new.held lists.old.failed lists.new.failed 0 (λ done. 0)
@@ -385,14 +385,14 @@ fn finish<W: Wire, H: House>(
     all: bool,
 ) -> Result<(), OutOfMemory>
     requires served { ServedWith H.stands house.old H.may
-        (RestsOf H.told H.quiet H.must H.refused H.stands (H.known house.old).present)
+        (RestsOf H.told H.known H.quiet H.must H.refused H.stands (H.known house.old).present)
         (noted (H.told house.old) (H.known house.old)) (W.seen wire.old) lists.old.held
         lists.old.failed (to_offer lists.old.settled engine.old) engine.old }
     requires housed { Housed (H.known house.old) (W.seen wire.old) lists.old.own }
     requires held_is { lists.old.held ≡ (W.seen wire.old).blocked }
     requires on { all ≡ true → engine.old.ended ≡ None }
     ensures serving { RunsOn result H.stands house.old house.new H.may
-        (RestsOf H.told H.quiet H.must H.refused H.stands (H.known house.old).present)
+        (RestsOf H.told H.known H.quiet H.must H.refused H.stands (H.known house.old).present)
         (noted (H.told house.old) (H.known house.old))
         (noted (H.told house.new) (H.known house.new)) (W.seen wire.old) (W.seen wire.new)
         lists.old.held lists.new.held lists.old.failed lists.new.failed 0 (λ done. 0)
@@ -433,7 +433,7 @@ fn run<W: Wire, H: House>(
     turns: u64,
 ) -> Result<Ended, OutOfMemory>
     requires running { (v : ServedWith H.stands house.old H.may
-        (RestsOf H.told H.quiet H.must H.refused H.stands (H.known house.old).present)
+        (RestsOf H.told H.known H.quiet H.must H.refused H.stands (H.known house.old).present)
         (outside (H.told house.old) (H.known house.old)) (W.seen wire.old) [] []
         (0 ∷ here engine.old) engine.old) × (v.serving.journal ≡ []) }
     requires housed { Housed (H.known house.old) (W.seen wire.old) [] }
@@ -444,15 +444,15 @@ fn run<W: Wire, H: House>(
     ensures ran { (before : Option (List TheHouseMark)) (policy : ThePolicy) (pid : ℕ)
         (start : Option (List TheMark)) →
         (v : Serving H.may
-        (RestsOf H.told H.quiet H.must H.refused H.stands (H.known house.old).present house.old)
+        (RestsOf H.told H.known H.quiet H.must H.refused H.stands (H.known house.old).present house.old)
         before
         (outside (H.told house.old) (H.known house.old) []) policy pid start (W.seen wire.old) [] []
         0 (0 ∷ here engine.old) engine.old) → v.journal ≡ [] →
         IsRun H.may
-        (RestsOf H.told H.quiet H.must H.refused H.stands (H.known house.old).present
+        (RestsOf H.told H.known H.quiet H.must H.refused H.stands (H.known house.old).present
         house.old).rests
         (H.stands house.old) (H.stands house.new) (H.known house.old).present policy pid turns
-        before (H.told house.new) start (W.seen wire.new).told
+        before (H.told house.new) start (W.seen wire.new)
         (refused_if (H.known house.old).present (H.must house.new) (H.refused house.new))
         (result_unwrap_or result WantOfMemory) }
     ensures must { H.must house.new ≡ H.must house.old }
@@ -486,14 +486,16 @@ fn run<W: Wire, H: House>(
 /// `wait`, an order of the house that is carried out, or a piece that the house said; without a
 /// house it waits once for each turn, and writes nothing before. The house is told each ask of
 /// its clients; where it is present it is let in as a client, and at each wait it has nothing to
-/// order and to answer, is at rest where more is read, and has no refusal that ends the run: what
-/// is so of each such house by what it told and by its calls is so there. But for want of memory
-/// it is handed all that happens at the streams and listeners of its own, each write there that
-/// fails, how many bytes each takes, and what waits for it as a client, once and in that order.
-/// Behind a call that wanted memory none is made. But for want of memory the wire's own listeners
-/// and streams are at the end those that the house knows, as it ordered them; without a house
-/// none was opened. The forwarding of the start that an answer names was refused, where none may
-/// be.
+/// order and to answer, is at rest where more is read, has no refusal that ends the run, and knows
+/// the wire's own listeners and streams, as it ordered them: what is so of each such house by what
+/// it told, by its calls and by these is so there. At each wait these streams stand among the open
+/// ones; one that it paused gives nothing, and one that it finished is not written to. But for want
+/// of memory it is handed all that happens at the streams and listeners of its own, each write
+/// there that fails, how many bytes each takes, and what waits for it as a client, once and in that
+/// order. Behind a call that wanted memory none is made. But for want of memory the wire's own
+/// listeners and streams are at the end, too, those that the house ordered, and knows; without a
+/// house none was opened. The forwarding of the start that an answer names was refused, where none
+/// may be.
 pub fn serve<W: Wire, H: House>(
     alloc: Global,
     policy: Policy,
@@ -509,10 +511,10 @@ pub fn serve<W: Wire, H: House>(
     requires listeners { (W.seen wire.old).listeners ≡ [] }
     requires blank { H.known house.old ≡ nothing_known (H.known house.old).present }
     ensures kept { IsRun H.may
-        (RestsOf H.told H.quiet H.must H.refused H.stands (H.known house.old).present
+        (RestsOf H.told H.known H.quiet H.must H.refused H.stands (H.known house.old).present
         house.old).rests
         (H.stands house.old) (H.stands house.new) (H.known house.old).present policy pid turns
-        (H.told house.old) (H.told house.new) (W.seen wire.old).told (W.seen wire.new).told
+        (H.told house.old) (H.told house.new) (W.seen wire.old).told (W.seen wire.new)
         (refused_if (H.known house.old).present (H.must house.new) (H.refused house.new)) result }
     ensures must { H.must house.new ≡ H.must house.old }
     ensures permitted { (index : ℕ) → result ≡ StartWasRefused index

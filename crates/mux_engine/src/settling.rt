@@ -33,7 +33,7 @@ fn offer_once<W: Wire, H: House>(
     stream: u64,
 ) -> Result<bool, OutOfMemory>
     requires served { IsServed H.may
-        (RestsOf H.told H.quiet H.must H.refused H.stands) (W.seen wire.old) held.old
+        (RestsOf H.told H.known H.quiet H.must H.refused H.stands) (W.seen wire.old) held.old
         engine.old }
     requires stream_open { is_open engine.old stream ≡ true }
     requires no_house { stream ≢ TheHouse }
@@ -41,7 +41,7 @@ fn offer_once<W: Wire, H: House>(
     requires numbered { (t : ℕ) → IsTrue (is_one t (W.seen wire.old).own) → IsTrue (is_own t) }
     ensures serving { (todo : List ℕ) → among 0 (stream ∷ todo) ≡ true →
         ServesOn result H.may
-        (RestsOf H.told H.quiet H.must H.refused H.stands) (W.seen wire.old) (W.seen wire.new)
+        (RestsOf H.told H.known H.quiet H.must H.refused H.stands) (W.seen wire.old) (W.seen wire.new)
         held.old held.new todo (λ more. if more then stream ∷ todo else without stream todo)
         engine.old engine.new }
     ensures streams { OnOk result (here engine.new ≡ here engine.old) }
@@ -91,14 +91,14 @@ fn offer<W: Wire, H: House>(
     stream: u64,
 ) -> Result<(), OutOfMemory>
     requires served { IsServed H.may
-        (RestsOf H.told H.quiet H.must H.refused H.stands) (W.seen wire.old) held.old
+        (RestsOf H.told H.known H.quiet H.must H.refused H.stands) (W.seen wire.old) held.old
         engine.old }
     requires stream_open { is_open engine.old stream ≡ true }
     requires no_house { stream ≢ TheHouse }
     requires numbered { (t : ℕ) → IsTrue (is_one t (W.seen wire.old).own) → IsTrue (is_own t) }
     ensures serving { (todo : List ℕ) → among 0 (stream ∷ todo) ≡ true →
         ServesOn result H.may
-        (RestsOf H.told H.quiet H.must H.refused H.stands) (W.seen wire.old) (W.seen wire.new)
+        (RestsOf H.told H.known H.quiet H.must H.refused H.stands) (W.seen wire.old) (W.seen wire.new)
         held.old held.new (stream ∷ todo) (λ done. todo) engine.old engine.new }
     ensures streams { OnOk result (here engine.new ≡ here engine.old) }
     ensures holds { OnOk result ((t : ℕ) → among t held.old ≡ true → among t held.new ≡ true) }
@@ -129,11 +129,11 @@ fn offer_clients<W: Wire, H: House>(
     asks: &mut Asks,
 ) -> Result<(), OutOfMemory>
     requires served { IsServed H.may
-        (RestsOf H.told H.quiet H.must H.refused H.stands) (W.seen wire.old) held.old
+        (RestsOf H.told H.known H.quiet H.must H.refused H.stands) (W.seen wire.old) held.old
         engine.old }
     requires numbered { (t : ℕ) → IsTrue (is_one t (W.seen wire.old).own) → IsTrue (is_own t) }
     ensures serving { (left : List ℕ) → ServesOn result H.may
-        (RestsOf H.told H.quiet H.must H.refused H.stands)
+        (RestsOf H.told H.known H.quiet H.must H.refused H.stands)
         (W.seen wire.old) (W.seen wire.new) held.old held.new
         (0 ∷ (without TheHouse (here engine.old) ++ left)) (λ done. 0 ∷ left) engine.old engine.new }
     ensures streams { OnOk result (here engine.new ≡ here engine.old) }
@@ -162,10 +162,10 @@ pub fn hush<W: Wire, H: House>(engine: &Engine, wire: &mut W)
     ensures serving { (present : Bool) (first : H) (before : Option (List TheHouseMark))
         (now : TheSide) (policy : ThePolicy) (pid : ℕ) (start : Option (List TheMark))
         (held failed : List ℕ) (given : ℕ) (todo : List ℕ) →
-        Serving H.may (RestsOf H.told H.quiet H.must H.refused H.stands present first) before
+        Serving H.may (RestsOf H.told H.known H.quiet H.must H.refused H.stands present first) before
         now policy pid start
         (W.seen wire.old) held failed given todo engine.now →
-        Serving H.may (RestsOf H.told H.quiet H.must H.refused H.stands present first) before
+        Serving H.may (RestsOf H.told H.known H.quiet H.must H.refused H.stands present first) before
         now policy pid start
         (W.seen wire.new) held failed given todo engine.now }
     ensures hears { engine.now.ended ≡ None → (W.seen wire.new).listens ≡ engine.now.listening }
@@ -193,11 +193,11 @@ pub fn flush<W: Wire, H: House>(
     asks: &mut Asks,
 ) -> Result<(), OutOfMemory>
     requires served { IsServed H.may
-        (RestsOf H.told H.quiet H.must H.refused H.stands) (W.seen wire.old) held.old
+        (RestsOf H.told H.known H.quiet H.must H.refused H.stands) (W.seen wire.old) held.old
         engine.old }
     requires numbered { (t : ℕ) → IsTrue (is_one t (W.seen wire.old).own) → IsTrue (is_own t) }
     ensures serving { (left : List ℕ) → ServesOn result H.may
-        (RestsOf H.told H.quiet H.must H.refused H.stands)
+        (RestsOf H.told H.known H.quiet H.must H.refused H.stands)
         (W.seen wire.old) (W.seen wire.new) held.old held.new
         (0 ∷ (without TheHouse (here engine.old) ++ left)) (λ done. left) engine.old engine.new }
     ensures streams { OnOk result (here engine.new ≡ here engine.old) }
@@ -221,15 +221,15 @@ pub fn flush<W: Wire, H: House>(
 // Closes the streams of the clients that are lost or refused.
 pub fn close_lost<W: Wire, H: House>(engine: &mut Engine, wire: &mut W, held: &mut Streams)
     requires served { IsServed H.may
-        (RestsOf H.told H.quiet H.must H.refused H.stands) (W.seen wire.old) held.old
+        (RestsOf H.told H.known H.quiet H.must H.refused H.stands) (W.seen wire.old) held.old
         engine.old }
     ensures serving { (present : Bool) (first : H) (before : Option (List TheHouseMark))
         (now : TheSide) (policy : ThePolicy) (pid : ℕ) (start : Option (List TheMark))
         (failed : List ℕ) (given : ℕ) (todo : List ℕ) →
-        Serving H.may (RestsOf H.told H.quiet H.must H.refused H.stands present first) before
+        Serving H.may (RestsOf H.told H.known H.quiet H.must H.refused H.stands present first) before
         now policy pid start
         (W.seen wire.old) held.old failed given todo engine.old →
-        Serving H.may (RestsOf H.told H.quiet H.must H.refused H.stands present first) before
+        Serving H.may (RestsOf H.told H.known H.quiet H.must H.refused H.stands present first) before
         now policy pid start
         (W.seen wire.new) held.new failed given todo engine.new }
     ensures housed { (known : TheKnown) (own : List ℕ) → Housed known (W.seen wire.old) own

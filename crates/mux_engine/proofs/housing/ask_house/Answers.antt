@@ -45,7 +45,7 @@ returns-clause-serving g c first calls before policy pid start given hands v =
     let here_is : (H.known c.args.house.now).present ≡ true = sym c.present.ensures.present ∙ c.if-not-present.false in
     let same : SameHouse (H.known c.args.house.now) (H.known c.reply_all.new.house) = c.in_ok-reply_all.ensures.known in
     let h = ok-serves c.reply_all.result _ _ c.in_ok-reply_all.was (c.reply_all.ensures.serving first calls before policy pid start given hands v) in
-    (runs-same c.next_order.result H.stands c.reply_all.new.house c.next_order.new.house H.may H.told H.quiet H.must H.refused (noted (H.told c.reply_all.new.house) (H.known c.reply_all.new.house)) (noted (H.told c.next_order.new.house) (H.known c.next_order.new.house)) (W.seen c.reply_all.new.wire) (W.seen c.next_order.new.wire) c.reply_all.new.lists.held c.next_order.new.lists.held c.reply_all.new.lists.failed c.next_order.new.lists.failed 1 (λ (more : Bool). cond more 1 0) (0 ∷ without HOUSE (here c.reply_all.new.engine)) (λ (more : Bool). 0 ∷ without HOUSE (here c.reply_all.new.engine)) c.reply_all.new.engine c.reply_all.new.engine (H.known c.args.house.now).present (H.known c.reply_all.new.house).present same.present
+    (runs-same c.next_order.result H.stands c.reply_all.new.house c.next_order.new.house H.may H.told H.known H.quiet H.must H.refused (noted (H.told c.reply_all.new.house) (H.known c.reply_all.new.house)) (noted (H.told c.next_order.new.house) (H.known c.next_order.new.house)) (W.seen c.reply_all.new.wire) (W.seen c.next_order.new.wire) c.reply_all.new.lists.held c.next_order.new.lists.held c.reply_all.new.lists.failed c.next_order.new.lists.failed 1 (λ (more : Bool). cond more 1 0) (0 ∷ without HOUSE (here c.reply_all.new.engine)) (λ (more : Bool). 0 ∷ without HOUSE (here c.reply_all.new.engine)) c.reply_all.new.engine c.reply_all.new.engine (H.known c.args.house.now).present (H.known c.reply_all.new.house).present same.present
     (c.next_order.ensures.serving (0 ∷ without HOUSE (here c.reply_all.new.engine)) c.reply_all.new.engine)) first h.all before policy pid start given h.hands
     (a-turn h.so)
 
@@ -57,7 +57,7 @@ returns-clause-held_is g c =
     let same : SameHouse (H.known c.args.house.now) (H.known c.reply_all.new.house) = c.in_ok-reply_all.ensures.known in
     let s = c.requires.served in
     let h = ok-serves c.reply_all.result _ _ c.in_ok-reply_all.was (c.reply_all.ensures.serving s.first s.calls s.before s.policy s.pid s.start s.given s.hands s.serving) in
-    match-ok c.next_order.result (λ (more : Bool). Handed (H.stands s.first) (H.stands c.next_order.new.house) (λ (all : List HouseCall). Serving H.may (RestsOf H.told H.quiet H.must H.refused H.stands (H.known c.args.house.now).present s.first) s.before (noted (H.told c.next_order.new.house) (H.known c.next_order.new.house) all) s.policy s.pid s.start (W.seen c.next_order.new.wire) c.next_order.new.lists.held c.next_order.new.lists.failed (s.given + cond more 1 0) (0 ∷ without HOUSE (here c.reply_all.new.engine)) c.reply_all.new.engine)) _ _ (λ (more : Bool) x. x.so.held_is) ((runs-same c.next_order.result H.stands c.reply_all.new.house c.next_order.new.house H.may H.told H.quiet H.must H.refused (noted (H.told c.reply_all.new.house) (H.known c.reply_all.new.house)) (noted (H.told c.next_order.new.house) (H.known c.next_order.new.house)) (W.seen c.reply_all.new.wire) (W.seen c.next_order.new.wire) c.reply_all.new.lists.held c.next_order.new.lists.held c.reply_all.new.lists.failed c.next_order.new.lists.failed 1 (λ (more : Bool). cond more 1 0) (0 ∷ without HOUSE (here c.reply_all.new.engine)) (λ (more : Bool). 0 ∷ without HOUSE (here c.reply_all.new.engine)) c.reply_all.new.engine c.reply_all.new.engine (H.known c.args.house.now).present (H.known c.reply_all.new.house).present same.present
+    match-ok c.next_order.result (λ (more : Bool). Handed (H.stands s.first) (H.stands c.next_order.new.house) (λ (all : List HouseCall). Serving H.may (RestsOf H.told H.known H.quiet H.must H.refused H.stands (H.known c.args.house.now).present s.first) s.before (noted (H.told c.next_order.new.house) (H.known c.next_order.new.house) all) s.policy s.pid s.start (W.seen c.next_order.new.wire) c.next_order.new.lists.held c.next_order.new.lists.failed (s.given + cond more 1 0) (0 ∷ without HOUSE (here c.reply_all.new.engine)) c.reply_all.new.engine)) _ _ (λ (more : Bool) x. x.so.held_is) ((runs-same c.next_order.result H.stands c.reply_all.new.house c.next_order.new.house H.may H.told H.known H.quiet H.must H.refused (noted (H.told c.reply_all.new.house) (H.known c.reply_all.new.house)) (noted (H.told c.next_order.new.house) (H.known c.next_order.new.house)) (W.seen c.reply_all.new.wire) (W.seen c.next_order.new.wire) c.reply_all.new.lists.held c.next_order.new.lists.held c.reply_all.new.lists.failed c.next_order.new.lists.failed 1 (λ (more : Bool). cond more 1 0) (0 ∷ without HOUSE (here c.reply_all.new.engine)) (λ (more : Bool). 0 ∷ without HOUSE (here c.reply_all.new.engine)) c.reply_all.new.engine c.reply_all.new.engine (H.known c.args.house.now).present (H.known c.reply_all.new.house).present same.present
     (c.next_order.ensures.serving (0 ∷ without HOUSE (here c.reply_all.new.engine)) c.reply_all.new.engine)) s.first h.all s.before s.policy s.pid s.start s.given h.hands
     (a-turn h.so))
 

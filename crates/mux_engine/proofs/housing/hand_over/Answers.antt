@@ -34,5 +34,5 @@ returns-clause-serving g c held failed first calls before policy pid start given
     let H = g.H.House in
     let bytes : List ℕ = c.queue_of-bytes.result.now in
     handed-more _ (Hears bytes ∷ []) hands c.in_ok-takes.ensures.stands
-    (subst (λ (x : Seen). Serving H.may (RestsOf H.told H.quiet H.must H.refused H.stands (H.known c.args.house.now).present first) before (noted (H.told c.takes.new.self) (H.known c.takes.new.self) (calls ++ Hears bytes ∷ [])) policy pid start x held failed (given + 0) (0 ∷ without HOUSE (here c.took.new.self)) c.took.new.self) (sym c.in_ok-note.ensures.seen)
+    (subst (λ (x : Seen). Serving H.may (RestsOf H.told H.known H.quiet H.must H.refused H.stands (H.known c.args.house.now).present first) before (noted (H.told c.takes.new.self) (H.known c.takes.new.self) (calls ++ Hears bytes ∷ [])) policy pid start x held failed (given + 0) (0 ∷ without HOUSE (here c.took.new.self)) c.took.new.self) (sym c.in_ok-note.ensures.seen)
     (no-turns (handed (H.known c.takes.new.self) v c.took.new.self bytes c.in_ok-takes.ensures.told c.in_ok-takes.ensures.known c.queue_of-bytes.ensures.exact (some-bytes bytes (sym c.if-is_empty.ensures)) c.queue_of-bytes.ensures.waits c.took.ensures.exact (c.took.ensures.stands bytes refl))))

@@ -21,7 +21,7 @@ pub returns-in_err-event-clause-serving : goal.returns-in_err-event-clause-servi
 returns-in_err-event-clause-serving g c held failed first calls before policy pid start given hands v =
     let H = g.H.House in
     on-err c.from_residual-in_err-event.result _ _ c.from_residual-in_err-event.ensures.0
-    (subst (λ (x : Seen). Promised H.may (RestsOf H.told H.quiet H.must H.refused H.stands (H.known c.args.house.now).present first) before (H.told c.answer.new.self) policy pid start x.told (given + 0)) (sym c.in_ok-note.ensures.seen)
+    (subst (λ (x : Seen). Promised H.may (RestsOf H.told H.known H.quiet H.must H.refused H.stands (H.known c.args.house.now).present first) before (H.told c.answer.new.self) policy pid start x.told (given + 0)) (sym c.in_ok-note.ensures.seen)
     (no-turns-left (cut-answered (H.known c.args.house.now) v c.in-Some.client c.in-Some.id c.in-Some.given c.requires.present c.in-Some.ensures.fits c.in-Some.ensures.told)))
 
 pub returns-clause-serving : goal.returns-clause-serving
@@ -29,7 +29,7 @@ returns-clause-serving g c held failed first calls before policy pid start given
     let H = g.H.House in
     let more : List HouseCall = calls_of (HouseAnswer c.in-Some.client c.in-Some.id c.in-Some.given ∷ []) in
     handed-more _ more hands c.in-Some.ensures.stands
-    (subst (λ (x : Seen). Serving H.may (RestsOf H.told H.quiet H.must H.refused H.stands (H.known c.args.house.now).present first) before (noted (H.told c.answer.new.self) (H.known c.answer.new.self) (calls ++ more)) policy pid start x held failed (given + 0) (0 ∷ here c.event.new.self) c.event.new.self) (sym c.in_ok-note.ensures.seen)
+    (subst (λ (x : Seen). Serving H.may (RestsOf H.told H.known H.quiet H.must H.refused H.stands (H.known c.args.house.now).present first) before (noted (H.told c.answer.new.self) (H.known c.answer.new.self) (calls ++ more)) policy pid start x held failed (given + 0) (0 ∷ here c.event.new.self) c.event.new.self) (sym c.in_ok-note.ensures.seen)
     (no-turns (answered (H.known c.args.house.now) (H.known c.answer.new.self) v c.event.new.self c.in-Some.client c.in-Some.id c.in-Some.given c.requires.present c.requires.on c.in-Some.ensures.fits c.in-Some.ensures.told c.in-Some.ensures.known c.in_ok-event.ensures.stands c.in_ok-event.ensures.keeps)))
 
 pub returns-clause-on : goal.returns-clause-on

@@ -51,11 +51,11 @@ pub loop-wire-preserved : goal.loop-wire-preserved
 loop-wire-preserved g c = let H = g.H.House in let w = c.requires.served in record {
   serving = λ first calls before policy pid start given hands v.
       let h0 = c.loop-wire.invariant.serving first calls before policy pid start given hands v in
-      let h1 = c.in_ok-hand_over.ensures.serving c.loop-wire.lists.held c.loop-wire.lists.failed first h0.all before policy pid start given h0.hands (same-rests (λ b. RestsOf H.told H.quiet H.must H.refused H.stands b first) _ _ (sym c.loop-wire.invariant.known.present) h0.so) in
-      let h2 = c.in_ok-own_rounds.ensures.serving (H.known c.args.house.now).present first before (noted (H.told c.hand_over.new.house) (H.known c.hand_over.new.house) h1.all) policy pid start given (0 ∷ without HOUSE (here c.hand_over.new.engine)) c.hand_over.new.engine refl h1.hands (none-given (same-rests (λ b. RestsOf H.told H.quiet H.must H.refused H.stands b first) _ _ c.loop-wire.invariant.known.present h1.so)) in
-      let v2 = same-rests (λ b. RestsOf H.told H.quiet H.must H.refused H.stands b first) _ _ (sym (ap (λ (k : Known). k.present) c.in_ok-own_rounds.ensures.known ∙ (ap (λ (k : Known). k.present) c.in_ok-hand_over.ensures.known ∙ c.loop-wire.invariant.known.present))) (same-noted (H.told c.hand_over.new.house) (H.told c.own_rounds.new.house) (H.known c.hand_over.new.house) (H.known c.own_rounds.new.house) c.own_rounds.ensures.told c.in_ok-own_rounds.ensures.known h2.so) in
+      let h1 = c.in_ok-hand_over.ensures.serving c.loop-wire.lists.held c.loop-wire.lists.failed first h0.all before policy pid start given h0.hands (same-rests (λ b. RestsOf H.told H.known H.quiet H.must H.refused H.stands b first) _ _ (sym c.loop-wire.invariant.known.present) h0.so) in
+      let h2 = c.in_ok-own_rounds.ensures.serving (H.known c.args.house.now).present first before (noted (H.told c.hand_over.new.house) (H.known c.hand_over.new.house) h1.all) policy pid start given (0 ∷ without HOUSE (here c.hand_over.new.engine)) c.hand_over.new.engine refl h1.hands (none-given (same-rests (λ b. RestsOf H.told H.known H.quiet H.must H.refused H.stands b first) _ _ c.loop-wire.invariant.known.present h1.so)) in
+      let v2 = same-rests (λ b. RestsOf H.told H.known H.quiet H.must H.refused H.stands b first) _ _ (sym (ap (λ (k : Known). k.present) c.in_ok-own_rounds.ensures.known ∙ (ap (λ (k : Known). k.present) c.in_ok-hand_over.ensures.known ∙ c.loop-wire.invariant.known.present))) (same-noted (H.told c.hand_over.new.house) (H.told c.own_rounds.new.house) (H.known c.hand_over.new.house) (H.known c.own_rounds.new.house) c.own_rounds.ensures.told c.in_ok-own_rounds.ensures.known h2.so) in
       let h3 = c.in_ok-reply.ensures.serving c.own_rounds.new.held c.own_rounds.new.failed first h2.all before policy pid start given h2.hands v2 in
-      handed-so h3 (none-given (same-rests (λ b. RestsOf H.told H.quiet H.must H.refused H.stands b first) _ _ (ap (λ (k : Known). k.present) c.in_ok-own_rounds.ensures.known ∙ (ap (λ (k : Known). k.present) c.in_ok-hand_over.ensures.known ∙ c.loop-wire.invariant.known.present)) (replied (0 ∷ here c.reply.new.engine) (0 ∷ without HOUSE (here c.reply.new.engine)) _ true c.if-not-branch.false h3.so)));
+      handed-so h3 (none-given (same-rests (λ b. RestsOf H.told H.known H.quiet H.must H.refused H.stands b first) _ _ (ap (λ (k : Known). k.present) c.in_ok-own_rounds.ensures.known ∙ (ap (λ (k : Known). k.present) c.in_ok-hand_over.ensures.known ∙ c.loop-wire.invariant.known.present)) (replied (0 ∷ here c.reply.new.engine) (0 ∷ without HOUSE (here c.reply.new.engine)) _ true c.if-not-branch.false h3.so)));
   known = house-then _ _ _ (house-then _ _ _ (house-then _ _ _ c.loop-wire.invariant.known (same-house _ _ c.in_ok-hand_over.ensures.known)) (same-house _ _ c.in_ok-own_rounds.ensures.known)) c.reply.ensures.known;
   places = (places-then _ _ _ (places-then _ _ _ (places-then _ _ _ c.loop-wire.invariant.places c.hand_over.ensures.places) c.own_rounds.ensures.places) c.reply.ensures.places);
   held_is = c.in_ok-own_rounds.ensures.held_is ∙ sym c.reply.ensures.blocked;
@@ -63,9 +63,9 @@ loop-wire-preserved g c = let H = g.H.House in let w = c.requires.served in reco
   must = c.reply.ensures.must ∙ (c.own_rounds.ensures.must ∙ (c.hand_over.ensures.must ∙ c.loop-wire.invariant.must));
   on =
       let h0 = c.loop-wire.invariant.serving w.first w.calls w.before w.policy w.pid w.start w.given w.hands w.serving in
-      let h1 = c.in_ok-hand_over.ensures.serving c.loop-wire.lists.held c.loop-wire.lists.failed w.first h0.all w.before w.policy w.pid w.start w.given h0.hands (same-rests (λ b. RestsOf H.told H.quiet H.must H.refused H.stands b w.first) _ _ (sym c.loop-wire.invariant.known.present) h0.so) in
-      let h2 = c.in_ok-own_rounds.ensures.serving (H.known c.args.house.now).present w.first w.before (noted (H.told c.hand_over.new.house) (H.known c.hand_over.new.house) h1.all) w.policy w.pid w.start w.given (0 ∷ without HOUSE (here c.hand_over.new.engine)) c.hand_over.new.engine refl h1.hands (none-given (same-rests (λ b. RestsOf H.told H.quiet H.must H.refused H.stands b w.first) _ _ c.loop-wire.invariant.known.present h1.so)) in
-      let v2 = same-rests (λ b. RestsOf H.told H.quiet H.must H.refused H.stands b w.first) _ _ (sym (ap (λ (k : Known). k.present) c.in_ok-own_rounds.ensures.known ∙ (ap (λ (k : Known). k.present) c.in_ok-hand_over.ensures.known ∙ c.loop-wire.invariant.known.present))) (same-noted (H.told c.hand_over.new.house) (H.told c.own_rounds.new.house) (H.known c.hand_over.new.house) (H.known c.own_rounds.new.house) c.own_rounds.ensures.told c.in_ok-own_rounds.ensures.known h2.so) in
+      let h1 = c.in_ok-hand_over.ensures.serving c.loop-wire.lists.held c.loop-wire.lists.failed w.first h0.all w.before w.policy w.pid w.start w.given h0.hands (same-rests (λ b. RestsOf H.told H.known H.quiet H.must H.refused H.stands b w.first) _ _ (sym c.loop-wire.invariant.known.present) h0.so) in
+      let h2 = c.in_ok-own_rounds.ensures.serving (H.known c.args.house.now).present w.first w.before (noted (H.told c.hand_over.new.house) (H.known c.hand_over.new.house) h1.all) w.policy w.pid w.start w.given (0 ∷ without HOUSE (here c.hand_over.new.engine)) c.hand_over.new.engine refl h1.hands (none-given (same-rests (λ b. RestsOf H.told H.known H.quiet H.must H.refused H.stands b w.first) _ _ c.loop-wire.invariant.known.present h1.so)) in
+      let v2 = same-rests (λ b. RestsOf H.told H.known H.quiet H.must H.refused H.stands b w.first) _ _ (sym (ap (λ (k : Known). k.present) c.in_ok-own_rounds.ensures.known ∙ (ap (λ (k : Known). k.present) c.in_ok-hand_over.ensures.known ∙ c.loop-wire.invariant.known.present))) (same-noted (H.told c.hand_over.new.house) (H.told c.own_rounds.new.house) (H.known c.hand_over.new.house) (H.known c.own_rounds.new.house) c.own_rounds.ensures.told c.in_ok-own_rounds.ensures.known h2.so) in
       c.in_ok-reply.ensures.on c.own_rounds.new.held c.own_rounds.new.failed (0 ∷ without HOUSE (here c.hand_over.new.engine)) record {
         first = w.first;
         calls = h2.all;
@@ -92,11 +92,11 @@ pub returns-then-not-branch : goal.returns-then-not-branch
 returns-then-not-branch g c = let H = g.H.House in let w = c.requires.served in record {
   serving = λ first calls before policy pid start given hands v.
       let h0 = c.loop-wire.invariant.serving first calls before policy pid start given hands v in
-      let h1 = c.in_ok-hand_over.ensures.serving c.loop-wire.lists.held c.loop-wire.lists.failed first h0.all before policy pid start given h0.hands (same-rests (λ b. RestsOf H.told H.quiet H.must H.refused H.stands b first) _ _ (sym c.loop-wire.invariant.known.present) h0.so) in
-      let h2 = c.in_ok-own_rounds.ensures.serving (H.known c.args.house.now).present first before (noted (H.told c.hand_over.new.house) (H.known c.hand_over.new.house) h1.all) policy pid start given (0 ∷ without HOUSE (here c.hand_over.new.engine)) c.hand_over.new.engine refl h1.hands (none-given (same-rests (λ b. RestsOf H.told H.quiet H.must H.refused H.stands b first) _ _ c.loop-wire.invariant.known.present h1.so)) in
-      let v2 = same-rests (λ b. RestsOf H.told H.quiet H.must H.refused H.stands b first) _ _ (sym (ap (λ (k : Known). k.present) c.in_ok-own_rounds.ensures.known ∙ (ap (λ (k : Known). k.present) c.in_ok-hand_over.ensures.known ∙ c.loop-wire.invariant.known.present))) (same-noted (H.told c.hand_over.new.house) (H.told c.own_rounds.new.house) (H.known c.hand_over.new.house) (H.known c.own_rounds.new.house) c.own_rounds.ensures.told c.in_ok-own_rounds.ensures.known h2.so) in
+      let h1 = c.in_ok-hand_over.ensures.serving c.loop-wire.lists.held c.loop-wire.lists.failed first h0.all before policy pid start given h0.hands (same-rests (λ b. RestsOf H.told H.known H.quiet H.must H.refused H.stands b first) _ _ (sym c.loop-wire.invariant.known.present) h0.so) in
+      let h2 = c.in_ok-own_rounds.ensures.serving (H.known c.args.house.now).present first before (noted (H.told c.hand_over.new.house) (H.known c.hand_over.new.house) h1.all) policy pid start given (0 ∷ without HOUSE (here c.hand_over.new.engine)) c.hand_over.new.engine refl h1.hands (none-given (same-rests (λ b. RestsOf H.told H.known H.quiet H.must H.refused H.stands b first) _ _ c.loop-wire.invariant.known.present h1.so)) in
+      let v2 = same-rests (λ b. RestsOf H.told H.known H.quiet H.must H.refused H.stands b first) _ _ (sym (ap (λ (k : Known). k.present) c.in_ok-own_rounds.ensures.known ∙ (ap (λ (k : Known). k.present) c.in_ok-hand_over.ensures.known ∙ c.loop-wire.invariant.known.present))) (same-noted (H.told c.hand_over.new.house) (H.told c.own_rounds.new.house) (H.known c.hand_over.new.house) (H.known c.own_rounds.new.house) c.own_rounds.ensures.told c.in_ok-own_rounds.ensures.known h2.so) in
       let h3 = c.in_ok-reply.ensures.serving c.own_rounds.new.held c.own_rounds.new.failed first h2.all before policy pid start given h2.hands v2 in
-      handed-so h3 (same-rests (λ b. RestsOf H.told H.quiet H.must H.refused H.stands b first) _ _ (ap (λ (k : Known). k.present) c.in_ok-own_rounds.ensures.known ∙ (ap (λ (k : Known). k.present) c.in_ok-hand_over.ensures.known ∙ c.loop-wire.invariant.known.present)) (replied (0 ∷ here c.reply.new.engine) (0 ∷ without HOUSE (here c.reply.new.engine)) _ false c.if-not-branch.true h3.so));
+      handed-so h3 (same-rests (λ b. RestsOf H.told H.known H.quiet H.must H.refused H.stands b first) _ _ (ap (λ (k : Known). k.present) c.in_ok-own_rounds.ensures.known ∙ (ap (λ (k : Known). k.present) c.in_ok-hand_over.ensures.known ∙ c.loop-wire.invariant.known.present)) (replied (0 ∷ here c.reply.new.engine) (0 ∷ without HOUSE (here c.reply.new.engine)) _ false c.if-not-branch.true h3.so));
   known = house-then _ _ _ (house-then _ _ _ (house-then _ _ _ c.loop-wire.invariant.known (same-house _ _ c.in_ok-hand_over.ensures.known)) (same-house _ _ c.in_ok-own_rounds.ensures.known)) c.reply.ensures.known;
   places = (places-then _ _ _ (places-then _ _ _ (places-then _ _ _ c.loop-wire.invariant.places c.hand_over.ensures.places) c.own_rounds.ensures.places) c.reply.ensures.places);
   held_is = c.in_ok-own_rounds.ensures.held_is ∙ sym c.reply.ensures.blocked;
@@ -106,9 +106,9 @@ returns-then-not-branch g c = let H = g.H.House in let w = c.requires.served in 
   must = c.reply.ensures.must ∙ (c.own_rounds.ensures.must ∙ (c.hand_over.ensures.must ∙ c.loop-wire.invariant.must));
   on =
       let h0 = c.loop-wire.invariant.serving w.first w.calls w.before w.policy w.pid w.start w.given w.hands w.serving in
-      let h1 = c.in_ok-hand_over.ensures.serving c.loop-wire.lists.held c.loop-wire.lists.failed w.first h0.all w.before w.policy w.pid w.start w.given h0.hands (same-rests (λ b. RestsOf H.told H.quiet H.must H.refused H.stands b w.first) _ _ (sym c.loop-wire.invariant.known.present) h0.so) in
-      let h2 = c.in_ok-own_rounds.ensures.serving (H.known c.args.house.now).present w.first w.before (noted (H.told c.hand_over.new.house) (H.known c.hand_over.new.house) h1.all) w.policy w.pid w.start w.given (0 ∷ without HOUSE (here c.hand_over.new.engine)) c.hand_over.new.engine refl h1.hands (none-given (same-rests (λ b. RestsOf H.told H.quiet H.must H.refused H.stands b w.first) _ _ c.loop-wire.invariant.known.present h1.so)) in
-      let v2 = same-rests (λ b. RestsOf H.told H.quiet H.must H.refused H.stands b w.first) _ _ (sym (ap (λ (k : Known). k.present) c.in_ok-own_rounds.ensures.known ∙ (ap (λ (k : Known). k.present) c.in_ok-hand_over.ensures.known ∙ c.loop-wire.invariant.known.present))) (same-noted (H.told c.hand_over.new.house) (H.told c.own_rounds.new.house) (H.known c.hand_over.new.house) (H.known c.own_rounds.new.house) c.own_rounds.ensures.told c.in_ok-own_rounds.ensures.known h2.so) in
+      let h1 = c.in_ok-hand_over.ensures.serving c.loop-wire.lists.held c.loop-wire.lists.failed w.first h0.all w.before w.policy w.pid w.start w.given h0.hands (same-rests (λ b. RestsOf H.told H.known H.quiet H.must H.refused H.stands b w.first) _ _ (sym c.loop-wire.invariant.known.present) h0.so) in
+      let h2 = c.in_ok-own_rounds.ensures.serving (H.known c.args.house.now).present w.first w.before (noted (H.told c.hand_over.new.house) (H.known c.hand_over.new.house) h1.all) w.policy w.pid w.start w.given (0 ∷ without HOUSE (here c.hand_over.new.engine)) c.hand_over.new.engine refl h1.hands (none-given (same-rests (λ b. RestsOf H.told H.known H.quiet H.must H.refused H.stands b w.first) _ _ c.loop-wire.invariant.known.present h1.so)) in
+      let v2 = same-rests (λ b. RestsOf H.told H.known H.quiet H.must H.refused H.stands b w.first) _ _ (sym (ap (λ (k : Known). k.present) c.in_ok-own_rounds.ensures.known ∙ (ap (λ (k : Known). k.present) c.in_ok-hand_over.ensures.known ∙ c.loop-wire.invariant.known.present))) (same-noted (H.told c.hand_over.new.house) (H.told c.own_rounds.new.house) (H.known c.hand_over.new.house) (H.known c.own_rounds.new.house) c.own_rounds.ensures.told c.in_ok-own_rounds.ensures.known h2.so) in
       c.in_ok-reply.ensures.on c.own_rounds.new.held c.own_rounds.new.failed (0 ∷ without HOUSE (here c.hand_over.new.engine)) record {
         first = w.first;
         calls = h2.all;
@@ -133,7 +133,7 @@ pub returns-in_err-hand_over : goal.returns-in_err-hand_over
 returns-in_err-hand_over g c = let H = g.H.House in record {
   serving = λ first calls before policy pid start given hands v.
       let h0 = c.loop-wire.invariant.serving first calls before policy pid start given hands v in
-      on-err c.from_residual.result _ _ c.from_residual.ensures.0 (same-rests-left (λ b. RestsOf H.told H.quiet H.must H.refused H.stands b first) _ _ c.loop-wire.invariant.known.present (c.in_err-hand_over.ensures.serving c.loop-wire.lists.held c.loop-wire.lists.failed first h0.all before policy pid start given h0.hands (same-rests (λ b. RestsOf H.told H.quiet H.must H.refused H.stands b first) _ _ (sym c.loop-wire.invariant.known.present) h0.so)));
+      on-err c.from_residual.result _ _ c.from_residual.ensures.0 (same-rests-left (λ b. RestsOf H.told H.known H.quiet H.must H.refused H.stands b first) _ _ c.loop-wire.invariant.known.present (c.in_err-hand_over.ensures.serving c.loop-wire.lists.held c.loop-wire.lists.failed first h0.all before policy pid start given h0.hands (same-rests (λ b. RestsOf H.told H.known H.quiet H.must H.refused H.stands b first) _ _ (sym c.loop-wire.invariant.known.present) h0.so)));
   known = on-err c.from_residual.result _ _ c.from_residual.ensures.0 tt;
   places = (places-then _ _ _ c.loop-wire.invariant.places c.hand_over.ensures.places);
   held_is = on-err c.from_residual.result _ _ c.from_residual.ensures.0 tt;
@@ -153,8 +153,8 @@ pub returns-in_err-own_rounds : goal.returns-in_err-own_rounds
 returns-in_err-own_rounds g c = let H = g.H.House in record {
   serving = λ first calls before policy pid start given hands v.
       let h0 = c.loop-wire.invariant.serving first calls before policy pid start given hands v in
-      let h1 = c.in_ok-hand_over.ensures.serving c.loop-wire.lists.held c.loop-wire.lists.failed first h0.all before policy pid start given h0.hands (same-rests (λ b. RestsOf H.told H.quiet H.must H.refused H.stands b first) _ _ (sym c.loop-wire.invariant.known.present) h0.so) in
-      on-err c.from_residual-in_err-own_rounds.result _ _ c.from_residual-in_err-own_rounds.ensures.0 (no-turns-left (subst (λ (told : Option (List HouseMark)). Promised H.may (RestsOf H.told H.quiet H.must H.refused H.stands (H.known c.args.house.now).present first) before told policy pid start (g.W.Wire.seen c.own_rounds.new.wire).told given) (sym c.own_rounds.ensures.told) (c.in_err-own_rounds.ensures.serving (H.known c.args.house.now).present first before (noted (H.told c.hand_over.new.house) (H.known c.hand_over.new.house) h1.all) policy pid start given (0 ∷ without HOUSE (here c.hand_over.new.engine)) c.hand_over.new.engine refl h1.hands (none-given (same-rests (λ b. RestsOf H.told H.quiet H.must H.refused H.stands b first) _ _ c.loop-wire.invariant.known.present h1.so)))));
+      let h1 = c.in_ok-hand_over.ensures.serving c.loop-wire.lists.held c.loop-wire.lists.failed first h0.all before policy pid start given h0.hands (same-rests (λ b. RestsOf H.told H.known H.quiet H.must H.refused H.stands b first) _ _ (sym c.loop-wire.invariant.known.present) h0.so) in
+      on-err c.from_residual-in_err-own_rounds.result _ _ c.from_residual-in_err-own_rounds.ensures.0 (no-turns-left (subst (λ (told : Option (List HouseMark)). Promised H.may (RestsOf H.told H.known H.quiet H.must H.refused H.stands (H.known c.args.house.now).present first) before told policy pid start (g.W.Wire.seen c.own_rounds.new.wire).told given) (sym c.own_rounds.ensures.told) (c.in_err-own_rounds.ensures.serving (H.known c.args.house.now).present first before (noted (H.told c.hand_over.new.house) (H.known c.hand_over.new.house) h1.all) policy pid start given (0 ∷ without HOUSE (here c.hand_over.new.engine)) c.hand_over.new.engine refl h1.hands (none-given (same-rests (λ b. RestsOf H.told H.known H.quiet H.must H.refused H.stands b first) _ _ c.loop-wire.invariant.known.present h1.so)))));
   known = on-err c.from_residual-in_err-own_rounds.result _ _ c.from_residual-in_err-own_rounds.ensures.0 tt;
   places = (places-then _ _ _ (places-then _ _ _ c.loop-wire.invariant.places c.hand_over.ensures.places) c.own_rounds.ensures.places);
   held_is = on-err c.from_residual-in_err-own_rounds.result _ _ c.from_residual-in_err-own_rounds.ensures.0 tt;
@@ -174,10 +174,10 @@ pub returns-in_err-reply : goal.returns-in_err-reply
 returns-in_err-reply g c = let H = g.H.House in record {
   serving = λ first calls before policy pid start given hands v.
       let h0 = c.loop-wire.invariant.serving first calls before policy pid start given hands v in
-      let h1 = c.in_ok-hand_over.ensures.serving c.loop-wire.lists.held c.loop-wire.lists.failed first h0.all before policy pid start given h0.hands (same-rests (λ b. RestsOf H.told H.quiet H.must H.refused H.stands b first) _ _ (sym c.loop-wire.invariant.known.present) h0.so) in
-      let h2 = c.in_ok-own_rounds.ensures.serving (H.known c.args.house.now).present first before (noted (H.told c.hand_over.new.house) (H.known c.hand_over.new.house) h1.all) policy pid start given (0 ∷ without HOUSE (here c.hand_over.new.engine)) c.hand_over.new.engine refl h1.hands (none-given (same-rests (λ b. RestsOf H.told H.quiet H.must H.refused H.stands b first) _ _ c.loop-wire.invariant.known.present h1.so)) in
-      let v2 = same-rests (λ b. RestsOf H.told H.quiet H.must H.refused H.stands b first) _ _ (sym (ap (λ (k : Known). k.present) c.in_ok-own_rounds.ensures.known ∙ (ap (λ (k : Known). k.present) c.in_ok-hand_over.ensures.known ∙ c.loop-wire.invariant.known.present))) (same-noted (H.told c.hand_over.new.house) (H.told c.own_rounds.new.house) (H.known c.hand_over.new.house) (H.known c.own_rounds.new.house) c.own_rounds.ensures.told c.in_ok-own_rounds.ensures.known h2.so) in
-      on-err c.from_residual-in_err-reply.result _ _ c.from_residual-in_err-reply.ensures.0 (same-rests-left (λ b. RestsOf H.told H.quiet H.must H.refused H.stands b first) _ _ (ap (λ (k : Known). k.present) c.in_ok-own_rounds.ensures.known ∙ (ap (λ (k : Known). k.present) c.in_ok-hand_over.ensures.known ∙ c.loop-wire.invariant.known.present)) (c.in_err-reply.ensures.serving c.own_rounds.new.held c.own_rounds.new.failed first h2.all before policy pid start given h2.hands v2));
+      let h1 = c.in_ok-hand_over.ensures.serving c.loop-wire.lists.held c.loop-wire.lists.failed first h0.all before policy pid start given h0.hands (same-rests (λ b. RestsOf H.told H.known H.quiet H.must H.refused H.stands b first) _ _ (sym c.loop-wire.invariant.known.present) h0.so) in
+      let h2 = c.in_ok-own_rounds.ensures.serving (H.known c.args.house.now).present first before (noted (H.told c.hand_over.new.house) (H.known c.hand_over.new.house) h1.all) policy pid start given (0 ∷ without HOUSE (here c.hand_over.new.engine)) c.hand_over.new.engine refl h1.hands (none-given (same-rests (λ b. RestsOf H.told H.known H.quiet H.must H.refused H.stands b first) _ _ c.loop-wire.invariant.known.present h1.so)) in
+      let v2 = same-rests (λ b. RestsOf H.told H.known H.quiet H.must H.refused H.stands b first) _ _ (sym (ap (λ (k : Known). k.present) c.in_ok-own_rounds.ensures.known ∙ (ap (λ (k : Known). k.present) c.in_ok-hand_over.ensures.known ∙ c.loop-wire.invariant.known.present))) (same-noted (H.told c.hand_over.new.house) (H.told c.own_rounds.new.house) (H.known c.hand_over.new.house) (H.known c.own_rounds.new.house) c.own_rounds.ensures.told c.in_ok-own_rounds.ensures.known h2.so) in
+      on-err c.from_residual-in_err-reply.result _ _ c.from_residual-in_err-reply.ensures.0 (same-rests-left (λ b. RestsOf H.told H.known H.quiet H.must H.refused H.stands b first) _ _ (ap (λ (k : Known). k.present) c.in_ok-own_rounds.ensures.known ∙ (ap (λ (k : Known). k.present) c.in_ok-hand_over.ensures.known ∙ c.loop-wire.invariant.known.present)) (c.in_err-reply.ensures.serving c.own_rounds.new.held c.own_rounds.new.failed first h2.all before policy pid start given h2.hands v2));
   known = on-err c.from_residual-in_err-reply.result _ _ c.from_residual-in_err-reply.ensures.0 tt;
   places = (places-then _ _ _ (places-then _ _ _ (places-then _ _ _ c.loop-wire.invariant.places c.hand_over.ensures.places) c.own_rounds.ensures.places) c.reply.ensures.places);
   held_is = on-err c.from_residual-in_err-reply.result _ _ c.from_residual-in_err-reply.ensures.0 tt;

@@ -12,8 +12,8 @@ use Rattle.mux_engine.proofs.housing.reply_all.Given as goal
 
 abbrev pub invariant-loop-wire : goal.invariant-loop-wire
 invariant-loop-wire g l = let W = g.W.Wire in let H = g.H.House in record {
-  serving : (first : _) (calls : List HouseCall) (before : Option (List HouseMark)) (policy : Policy) (pid : ℕ) (start : Option (List Mark)) (given : ℕ) → HandsOn (H.stands first) (H.stands l.fn.house) calls → Serving H.may (RestsOf H.told H.quiet H.must H.refused H.stands (H.known l.fn.house).present first) before (noted (H.told l.fn.house) (H.known l.fn.house) calls) policy pid start (W.seen l.fn.wire) l.fn.lists.held l.fn.lists.failed given (0 ∷ here l.fn.engine) l.fn.engine
-      → Handed (H.stands first) (H.stands l.house) (λ (all : List HouseCall). Serving H.may (RestsOf H.told H.quiet H.must H.refused H.stands (H.known l.fn.house).present first) before (noted (H.told l.house) (H.known l.house) all) policy pid start (W.seen l.wire) l.lists.held l.lists.failed given (0 ∷ here l.engine) l.engine);
+  serving : (first : _) (calls : List HouseCall) (before : Option (List HouseMark)) (policy : Policy) (pid : ℕ) (start : Option (List Mark)) (given : ℕ) → HandsOn (H.stands first) (H.stands l.fn.house) calls → Serving H.may (RestsOf H.told H.known H.quiet H.must H.refused H.stands (H.known l.fn.house).present first) before (noted (H.told l.fn.house) (H.known l.fn.house) calls) policy pid start (W.seen l.fn.wire) l.fn.lists.held l.fn.lists.failed given (0 ∷ here l.fn.engine) l.fn.engine
+      → Handed (H.stands first) (H.stands l.house) (λ (all : List HouseCall). Serving H.may (RestsOf H.told H.known H.quiet H.must H.refused H.stands (H.known l.fn.house).present first) before (noted (H.told l.house) (H.known l.house) all) policy pid start (W.seen l.wire) l.lists.held l.lists.failed given (0 ∷ here l.engine) l.engine);
   known : SameHouse (H.known l.fn.house) (H.known l.house);
   places : SamePlaces (W.seen l.fn.wire) (W.seen l.wire);
   held_is : l.lists.held ≡ (W.seen l.wire).blocked;

@@ -86,7 +86,7 @@ returns-clause-serving g c first calls before policy pid start given hands v =
     let lists = c.ask_house.new.lists in
     let is : c.ask_house.result ≡ Ok false = c.in_ok-ask_house.was ∙ ap (λ (b : Bool). Ok b) c.if-branch.false in
     let h = ok-serves c.ask_house.result _ _ is (c.ask_house.ensures.serving first calls before policy pid start given hands v) in
-    (runs-same c.speak.result H.stands house c.speak.new.house H.may H.told H.quiet H.must H.refused (noted (H.told house) (H.known house)) (noted (H.told c.speak.new.house) (H.known c.speak.new.house)) (W.seen c.flush.new.wire) (W.seen c.speak.new.wire) c.flush.new.held c.flush.new.held lists.failed lists.failed 1 (λ (more : Bool). cond more 1 0) [] (λ (more : Bool). cond more (0 ∷ here c.speak.new.engine) []) c.flush.new.engine c.speak.new.engine (H.known c.args.house.now).present (H.known house).present c.in_ok-ask_house.ensures.present
+    (runs-same c.speak.result H.stands house c.speak.new.house H.may H.told H.known H.quiet H.must H.refused (noted (H.told house) (H.known house)) (noted (H.told c.speak.new.house) (H.known c.speak.new.house)) (W.seen c.flush.new.wire) (W.seen c.speak.new.wire) c.flush.new.held c.flush.new.held lists.failed lists.failed 1 (λ (more : Bool). cond more 1 0) [] (λ (more : Bool). cond more (0 ∷ here c.speak.new.engine) []) c.flush.new.engine c.speak.new.engine (H.known c.args.house.now).present (H.known house).present c.in_ok-ask_house.ensures.present
     (c.speak.ensures.serving c.flush.new.held lists.failed)) first h.all before policy pid start given h.hands (ok-serves c.flush.result _ _ c.in_ok-flush.was (c.flush.ensures.serving [] (H.known c.args.house.now).present first before (noted (H.told house) (H.known house) h.all) policy pid start lists.failed given (to-flush h.so)))
 
 pub returns-clause-held_is : goal.returns-clause-held_is
@@ -98,7 +98,7 @@ returns-clause-held_is g c =
     let is : c.ask_house.result ≡ Ok false = c.in_ok-ask_house.was ∙ ap (λ (b : Bool). Ok b) c.if-branch.false in
     let s = c.requires.served in
     let h = ok-serves c.ask_house.result _ _ is (c.ask_house.ensures.serving s.first s.calls s.before s.policy s.pid s.start s.given s.hands s.serving) in
-    match-ok c.speak.result (λ (more : Bool). Handed (H.stands s.first) (H.stands c.speak.new.house) (λ (all : List HouseCall). Serving H.may (RestsOf H.told H.quiet H.must H.refused H.stands (H.known c.args.house.now).present s.first) s.before (noted (H.told c.speak.new.house) (H.known c.speak.new.house) all) s.policy s.pid s.start (W.seen c.speak.new.wire) c.flush.new.held lists.failed (s.given + cond more 1 0) (cond more (0 ∷ here c.speak.new.engine) []) c.speak.new.engine)) _ _ (λ (more : Bool) x. x.so.held_is) ((runs-same c.speak.result H.stands house c.speak.new.house H.may H.told H.quiet H.must H.refused (noted (H.told house) (H.known house)) (noted (H.told c.speak.new.house) (H.known c.speak.new.house)) (W.seen c.flush.new.wire) (W.seen c.speak.new.wire) c.flush.new.held c.flush.new.held lists.failed lists.failed 1 (λ (more : Bool). cond more 1 0) [] (λ (more : Bool). cond more (0 ∷ here c.speak.new.engine) []) c.flush.new.engine c.speak.new.engine (H.known c.args.house.now).present (H.known house).present c.in_ok-ask_house.ensures.present
+    match-ok c.speak.result (λ (more : Bool). Handed (H.stands s.first) (H.stands c.speak.new.house) (λ (all : List HouseCall). Serving H.may (RestsOf H.told H.known H.quiet H.must H.refused H.stands (H.known c.args.house.now).present s.first) s.before (noted (H.told c.speak.new.house) (H.known c.speak.new.house) all) s.policy s.pid s.start (W.seen c.speak.new.wire) c.flush.new.held lists.failed (s.given + cond more 1 0) (cond more (0 ∷ here c.speak.new.engine) []) c.speak.new.engine)) _ _ (λ (more : Bool) x. x.so.held_is) ((runs-same c.speak.result H.stands house c.speak.new.house H.may H.told H.known H.quiet H.must H.refused (noted (H.told house) (H.known house)) (noted (H.told c.speak.new.house) (H.known c.speak.new.house)) (W.seen c.flush.new.wire) (W.seen c.speak.new.wire) c.flush.new.held c.flush.new.held lists.failed lists.failed 1 (λ (more : Bool). cond more 1 0) [] (λ (more : Bool). cond more (0 ∷ here c.speak.new.engine) []) c.flush.new.engine c.speak.new.engine (H.known c.args.house.now).present (H.known house).present c.in_ok-ask_house.ensures.present
     (c.speak.ensures.serving c.flush.new.held lists.failed)) s.first h.all s.before s.policy s.pid s.start s.given h.hands (ok-serves c.flush.result _ _ c.in_ok-flush.was (c.flush.ensures.serving [] (H.known c.args.house.now).present s.first s.before (noted (H.told house) (H.known house) h.all) s.policy s.pid s.start lists.failed s.given (to-flush h.so))))
 
 pub returns-clause-failed : goal.returns-clause-failed
@@ -110,7 +110,7 @@ returns-clause-failed g c =
     let is : c.ask_house.result ≡ Ok false = c.in_ok-ask_house.was ∙ ap (λ (b : Bool). Ok b) c.if-branch.false in
     let s = c.requires.served in
     let h = ok-serves c.ask_house.result _ _ is (c.ask_house.ensures.serving s.first s.calls s.before s.policy s.pid s.start s.given s.hands s.serving) in
-    on-ok c.speak.result (λ (e : EndsByAsk c.speak.new.engine.ended) over. absurd (e.lives over)) (c.speak.ensures.ends c.flush.new.held lists.failed record { first = s.first; calls = h.all; hands = h.hands; before = s.before; policy = s.policy; pid = s.pid; start = s.start; given = s.given; serving = subst (λ (b : Bool). Serving H.may (RestsOf H.told H.quiet H.must H.refused H.stands b s.first) s.before (noted (H.told house) (H.known house) h.all) s.policy s.pid s.start (W.seen c.flush.new.wire) c.flush.new.held lists.failed s.given [] c.flush.new.engine) (sym c.in_ok-ask_house.ensures.present) (ok-serves c.flush.result _ _ c.in_ok-flush.was (c.flush.ensures.serving [] (H.known c.args.house.now).present s.first s.before (noted (H.told house) (H.known house) h.all) s.policy s.pid s.start lists.failed s.given (to-flush h.so))) })
+    on-ok c.speak.result (λ (e : EndsByAsk c.speak.new.engine.ended) over. absurd (e.lives over)) (c.speak.ensures.ends c.flush.new.held lists.failed record { first = s.first; calls = h.all; hands = h.hands; before = s.before; policy = s.policy; pid = s.pid; start = s.start; given = s.given; serving = subst (λ (b : Bool). Serving H.may (RestsOf H.told H.known H.quiet H.must H.refused H.stands b s.first) s.before (noted (H.told house) (H.known house) h.all) s.policy s.pid s.start (W.seen c.flush.new.wire) c.flush.new.held lists.failed s.given [] c.flush.new.engine) (sym c.in_ok-ask_house.ensures.present) (ok-serves c.flush.result _ _ c.in_ok-flush.was (c.flush.ensures.serving [] (H.known c.args.house.now).present s.first s.before (noted (H.told house) (H.known house) h.all) s.policy s.pid s.start lists.failed s.given (to-flush h.so))) })
 
 pub returns-clause-by_row : goal.returns-clause-by_row
 returns-clause-by_row g c =
@@ -121,7 +121,7 @@ returns-clause-by_row g c =
     let is : c.ask_house.result ≡ Ok false = c.in_ok-ask_house.was ∙ ap (λ (b : Bool). Ok b) c.if-branch.false in
     let s = c.requires.served in
     let h = ok-serves c.ask_house.result _ _ is (c.ask_house.ensures.serving s.first s.calls s.before s.policy s.pid s.start s.given s.hands s.serving) in
-    on-ok c.speak.result (λ (e : EndsByAsk c.speak.new.engine.ended). e.by_row) (c.speak.ensures.ends c.flush.new.held lists.failed record { first = s.first; calls = h.all; hands = h.hands; before = s.before; policy = s.policy; pid = s.pid; start = s.start; given = s.given; serving = subst (λ (b : Bool). Serving H.may (RestsOf H.told H.quiet H.must H.refused H.stands b s.first) s.before (noted (H.told house) (H.known house) h.all) s.policy s.pid s.start (W.seen c.flush.new.wire) c.flush.new.held lists.failed s.given [] c.flush.new.engine) (sym c.in_ok-ask_house.ensures.present) (ok-serves c.flush.result _ _ c.in_ok-flush.was (c.flush.ensures.serving [] (H.known c.args.house.now).present s.first s.before (noted (H.told house) (H.known house) h.all) s.policy s.pid s.start lists.failed s.given (to-flush h.so))) })
+    on-ok c.speak.result (λ (e : EndsByAsk c.speak.new.engine.ended). e.by_row) (c.speak.ensures.ends c.flush.new.held lists.failed record { first = s.first; calls = h.all; hands = h.hands; before = s.before; policy = s.policy; pid = s.pid; start = s.start; given = s.given; serving = subst (λ (b : Bool). Serving H.may (RestsOf H.told H.known H.quiet H.must H.refused H.stands b s.first) s.before (noted (H.told house) (H.known house) h.all) s.policy s.pid s.start (W.seen c.flush.new.wire) c.flush.new.held lists.failed s.given [] c.flush.new.engine) (sym c.in_ok-ask_house.ensures.present) (ok-serves c.flush.result _ _ c.in_ok-flush.was (c.flush.ensures.serving [] (H.known c.args.house.now).present s.first s.before (noted (H.told house) (H.known house) h.all) s.policy s.pid s.start lists.failed s.given (to-flush h.so))) })
 
 pub returns-then-not-present-clause-held_is : goal.returns-then-not-present-clause-held_is
 returns-then-not-present-clause-held_is g c =

@@ -16,9 +16,9 @@ returns-in_err-obey-clause-serving g c todo s first calls before policy pid star
     let side = given-side c.in-Some.order _ _ c.in-Some.ensures.known in
     let more : List HouseCall = calls_of (order_marks (Some c.in-Some.order)) in
     on-err c.from_residual.result _ _ c.from_residual.ensures.0
-    (subst (λ (b : Bool). Promised H.may (RestsOf H.told H.quiet H.must H.refused H.stands b first) before (H.told c.obey.new.house) policy pid start (g.W.Wire.seen c.obey.new.wire).told (given + 1)) side.present
+    (subst (λ (b : Bool). Promised H.may (RestsOf H.told H.known H.quiet H.must H.refused H.stands b first) before (H.told c.obey.new.house) policy pid start (g.W.Wire.seen c.obey.new.wire).told (given + 1)) side.present
     (c.in_err-obey.ensures.serving todo s first (calls ++ more) before policy pid start given (hands-then (H.stands first) (H.stands c.args.house.now) (H.stands c.order.new.self) calls more hands c.in-Some.ensures.stands)
-    (subst (λ (b : Bool). Serving H.may (RestsOf H.told H.quiet H.must H.refused H.stands b first) before (noting (order_marks (Some c.in-Some.order)) (H.told c.order.new.self) (H.known c.order.new.self) (calls ++ more)) policy pid start (g.W.Wire.seen c.args.wire.now) c.args.lists.now.held c.args.lists.now.failed given todo s) (sym side.present)
+    (subst (λ (b : Bool). Serving H.may (RestsOf H.told H.known H.quiet H.must H.refused H.stands b first) before (noting (order_marks (Some c.in-Some.order)) (H.told c.order.new.self) (H.known c.order.new.self) (calls ++ more)) policy pid start (g.W.Wire.seen c.args.wire.now) c.args.lists.now.held c.args.lists.now.failed given todo s) (sym side.present)
     (order-given c.in-Some.order _ _ _ _ c.in-Some.ensures.told c.in-Some.ensures.known v))))
 
 pub returns-clause-serving : goal.returns-clause-serving
@@ -27,9 +27,9 @@ returns-clause-serving g c todo s first calls before policy pid start given hand
     let side = given-side c.in-Some.order _ _ c.in-Some.ensures.known in
     let more : List HouseCall = calls_of (order_marks (Some c.in-Some.order)) in
     let obeyed = c.in_ok-obey.ensures.serving todo s first (calls ++ more) before policy pid start given (hands-then (H.stands first) (H.stands c.args.house.now) (H.stands c.order.new.self) calls more hands c.in-Some.ensures.stands)
-    (subst (λ (b : Bool). Serving H.may (RestsOf H.told H.quiet H.must H.refused H.stands b first) before (noting (order_marks (Some c.in-Some.order)) (H.told c.order.new.self) (H.known c.order.new.self) (calls ++ more)) policy pid start (g.W.Wire.seen c.args.wire.now) c.args.lists.now.held c.args.lists.now.failed given todo s) (sym side.present)
+    (subst (λ (b : Bool). Serving H.may (RestsOf H.told H.known H.quiet H.must H.refused H.stands b first) before (noting (order_marks (Some c.in-Some.order)) (H.told c.order.new.self) (H.known c.order.new.self) (calls ++ more)) policy pid start (g.W.Wire.seen c.args.wire.now) c.args.lists.now.held c.args.lists.now.failed given todo s) (sym side.present)
     (order-given c.in-Some.order _ _ _ _ c.in-Some.ensures.told c.in-Some.ensures.known v)) in
-    handed-so obeyed (subst (λ (b : Bool). Serving H.may (RestsOf H.told H.quiet H.must H.refused H.stands b first) before (noted (H.told c.obey.new.house) (H.known c.obey.new.house) obeyed.all) policy pid start (g.W.Wire.seen c.obey.new.wire) c.obey.new.lists.held c.obey.new.lists.failed (given + 1) todo s) side.present obeyed.so)
+    handed-so obeyed (subst (λ (b : Bool). Serving H.may (RestsOf H.told H.known H.quiet H.must H.refused H.stands b first) before (noted (H.told c.obey.new.house) (H.known c.obey.new.house) obeyed.all) policy pid start (g.W.Wire.seen c.obey.new.wire) c.obey.new.lists.held c.obey.new.lists.failed (given + 1) todo s) side.present obeyed.so)
 
 -- ---- no order
 

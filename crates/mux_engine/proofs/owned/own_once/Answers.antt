@@ -1,4 +1,7 @@
-use Rattle.std.proofs.Common.{[], ◌∷◌, sym}
+use Rattle.std.proofs.Common.{◌≡◌, ◌<◌, ◌∙◌, ℕ, Bool, true, false, List, [], ◌∷◌, length, ap, refl, sym, arith}
+use Rattle.std.specs.Prelude.{IsTrue}
+use Rattle.mux_outside.specs.OwnStreams.{is_finished}
+use Rattle.mux_outside.specs.declared.own_streams.OwnStream.{OwnStream}
 use Rattle.mux_outside.specs.HouseCalls.{Failed, Turns}
 use Rattle.mux_outside.specs.HouseCalls as call
 use Rattle.mux_engine.proofs.Arms.{on-err, some-bytes}
@@ -6,33 +9,42 @@ use Rattle.mux_engine.proofs.Called.{handed-more, handed-none}
 use Rattle.mux_engine.proofs.Left.{fewer-left}
 use Rattle.mux_engine.proofs.Offers.{cut-fails, cut-holds, cut-starved}
 use Rattle.mux_engine.proofs.OwnMarks.{own-fails, own-holds, own-takes}
+use Rattle.mux_engine.proofs.Owns.{taking}
 use Rattle.mux_engine.proofs.owned.own_once.Goals as goal
+
+-- where something waits for a stream it is not finished
+unfinished : {own : List OwnStream} (k : ℕ) (bytes : List ℕ) (known : List OwnStream) → known ≡ own → (IsTrue (is_finished k known) → bytes ≡ []) → 0 < length bytes → is_finished k own ≡ false
+unfinished k bytes known same finished some = ap (is_finished k) (sym same) ∙ by_test (is_finished k known) finished
+  where
+    by_test : (b : Bool) → (IsTrue b → bytes ≡ []) → b ≡ false
+    by_test true e = let none : length bytes ≡ 0 = ap length (e refl) in absurd (omega arith)
+    by_test false e = refl
 
 pub returns-in-Took-clause-serving : goal.returns-in-Took-clause-serving
 returns-in-Took-clause-serving g c present first before now policy pid start given todo s none hands v =
     handed-more _ (call.Takes c.args.stream c.in-Took.n ∷ []) hands c.took.ensures.stands
-    (own-takes v c.args.stream c.requires.own c.requires.stream_open c.in-Took.n c.queue_of-bytes.result.now _ none c.in-Took.ensures.bytes (some-bytes c.queue_of-bytes.result.now (sym c.if-is_empty.ensures)) c.in-Took.ensures.wrote c.in-Took.ensures.seen)
+    (own-takes v c.args.stream c.requires.own c.requires.stream_open c.in-Took.n c.queue_of-bytes.result.now _ (unfinished _ _ _ c.requires.same c.queue_of-bytes.ensures.finished (some-bytes c.queue_of-bytes.result.now (sym c.if-is_empty.ensures))) none c.in-Took.ensures.bytes (some-bytes c.queue_of-bytes.result.now (sym c.if-is_empty.ensures)) c.in-Took.ensures.wrote c.in-Took.ensures.seen)
 
 pub returns-in_ok-push-in-Later-clause-serving : goal.returns-in_ok-push-in-Later-clause-serving
 returns-in_ok-push-in-Later-clause-serving g c present first before now policy pid start given todo s none hands v =
-    handed-none _ hands (own-holds v c.args.stream c.requires.own c.requires.stream_open c.queue_of-bytes.result.now _ _ c.in-Later.ensures.bytes (some-bytes c.queue_of-bytes.result.now (sym c.if-is_empty.ensures)) c.in-Later.ensures.seen c.in_ok-push-in-Later.ensures.ok)
+    handed-none _ hands (own-holds v c.args.stream c.requires.own c.requires.stream_open c.queue_of-bytes.result.now _ _ (unfinished _ _ _ c.requires.same c.queue_of-bytes.ensures.finished (some-bytes c.queue_of-bytes.result.now (sym c.if-is_empty.ensures))) c.in-Later.ensures.bytes (some-bytes c.queue_of-bytes.result.now (sym c.if-is_empty.ensures)) c.in-Later.ensures.seen c.in_ok-push-in-Later.ensures.ok)
 
 pub returns-in_err-push-in-Later-clause-serving : goal.returns-in_err-push-in-Later-clause-serving
 returns-in_err-push-in-Later-clause-serving g c present first before now policy pid start given todo s none hands v = on-err c.from_residual.result _ _ c.from_residual.ensures.0
-    (cut-holds v _ c.args.stream c.queue_of-bytes.result.now c.requires.stream_open c.in-Later.ensures.bytes (some-bytes c.queue_of-bytes.result.now (sym c.if-is_empty.ensures)) c.in-Later.ensures.seen)
+    (cut-holds v _ c.args.stream c.queue_of-bytes.result.now (taking _ v.journal v.places c.args.stream c.requires.stream_open (unfinished _ _ _ c.requires.same c.queue_of-bytes.ensures.finished (some-bytes c.queue_of-bytes.result.now (sym c.if-is_empty.ensures)))) c.requires.stream_open c.in-Later.ensures.bytes (some-bytes c.queue_of-bytes.result.now (sym c.if-is_empty.ensures)) c.in-Later.ensures.seen)
 
 pub returns-in_ok-turn-in-Failed-clause-serving : goal.returns-in_ok-turn-in-Failed-clause-serving
 returns-in_ok-turn-in-Failed-clause-serving g c present first before now policy pid start given todo s none hands v =
     handed-more _ (Turns (Failed c.args.stream) ∷ []) hands c.in_ok-turn-in-Failed.ensures.stands
-    (own-fails v c.args.stream c.requires.own c.requires.stream_open c.queue_of-bytes.result.now _ _ none c.in-Failed.ensures.bytes (some-bytes c.queue_of-bytes.result.now (sym c.if-is_empty.ensures)) c.in-Failed.ensures.seen c.in_ok-push-in-Failed.ensures.ok)
+    (own-fails v c.args.stream c.requires.own c.requires.stream_open c.queue_of-bytes.result.now _ _ (unfinished _ _ _ c.requires.same c.queue_of-bytes.ensures.finished (some-bytes c.queue_of-bytes.result.now (sym c.if-is_empty.ensures))) none c.in-Failed.ensures.bytes (some-bytes c.queue_of-bytes.result.now (sym c.if-is_empty.ensures)) c.in-Failed.ensures.seen c.in_ok-push-in-Failed.ensures.ok)
 
 pub returns-in_err-push-in-Failed-clause-serving : goal.returns-in_err-push-in-Failed-clause-serving
 returns-in_err-push-in-Failed-clause-serving g c present first before now policy pid start given todo s none hands v = on-err c.from_residual-in_err-push-in-Failed.result _ _ c.from_residual-in_err-push-in-Failed.ensures.0
-    (cut-fails v _ c.args.stream c.queue_of-bytes.result.now c.requires.stream_open c.in-Failed.ensures.bytes (some-bytes c.queue_of-bytes.result.now (sym c.if-is_empty.ensures)) c.in-Failed.ensures.seen)
+    (cut-fails v _ c.args.stream c.queue_of-bytes.result.now (taking _ v.journal v.places c.args.stream c.requires.stream_open (unfinished _ _ _ c.requires.same c.queue_of-bytes.ensures.finished (some-bytes c.queue_of-bytes.result.now (sym c.if-is_empty.ensures)))) c.requires.stream_open c.in-Failed.ensures.bytes (some-bytes c.queue_of-bytes.result.now (sym c.if-is_empty.ensures)) c.in-Failed.ensures.seen)
 
 pub returns-in_err-turn-in-Failed-clause-serving : goal.returns-in_err-turn-in-Failed-clause-serving
 returns-in_err-turn-in-Failed-clause-serving g c present first before now policy pid start given todo s none hands v = on-err c.from_residual-in_err-turn-in-Failed.result _ _ c.from_residual-in_err-turn-in-Failed.ensures.0
-    (cut-fails v _ c.args.stream c.queue_of-bytes.result.now c.requires.stream_open c.in-Failed.ensures.bytes (some-bytes c.queue_of-bytes.result.now (sym c.if-is_empty.ensures)) c.in-Failed.ensures.seen)
+    (cut-fails v _ c.args.stream c.queue_of-bytes.result.now (taking _ v.journal v.places c.args.stream c.requires.stream_open (unfinished _ _ _ c.requires.same c.queue_of-bytes.ensures.finished (some-bytes c.queue_of-bytes.result.now (sym c.if-is_empty.ensures)))) c.requires.stream_open c.in-Failed.ensures.bytes (some-bytes c.queue_of-bytes.result.now (sym c.if-is_empty.ensures)) c.in-Failed.ensures.seen)
 
 pub returns-in-NoMemory-clause-serving : goal.returns-in-NoMemory-clause-serving
 returns-in-NoMemory-clause-serving g c present first before now policy pid start given todo s none hands v = cut-starved v _ c.args.stream c.queue_of-bytes.result.now c.in-NoMemory.ensures.seen

@@ -15,8 +15,8 @@ use Rattle.mux_engine.proofs.owned.own_round.Given as goal
 
 abbrev pub invariant-loop-stream : goal.invariant-loop-stream
 invariant-loop-stream g l = let W = g.W.Wire in let H = g.H.House in record {
-  serving : (present : Bool) (first : _) (before : Option (List HouseMark)) (now : Side) (policy : Policy) (pid : ℕ) (start : Option (List Mark)) (given : ℕ) (todo : List ℕ) (s : State) → now.unnoted ≡ [] → HandsOn (H.stands first) (H.stands l.fn.house) now.calls → Serving H.may (RestsOf H.told H.quiet H.must H.refused H.stands present first) before now policy pid start (W.seen l.fn.wire) l.fn.held l.fn.failed given todo s
-      → Handed (H.stands first) (H.stands l.house) (λ (calls : List HouseCall). Serving H.may (RestsOf H.told H.quiet H.must H.refused H.stands present first) before (record now { calls = calls }) policy pid start (W.seen l.wire) l.held l.failed given todo s);
+  serving : (present : Bool) (first : _) (before : Option (List HouseMark)) (now : Side) (policy : Policy) (pid : ℕ) (start : Option (List Mark)) (given : ℕ) (todo : List ℕ) (s : State) → now.unnoted ≡ [] → HandsOn (H.stands first) (H.stands l.fn.house) now.calls → Serving H.may (RestsOf H.told H.known H.quiet H.must H.refused H.stands present first) before now policy pid start (W.seen l.fn.wire) l.fn.held l.fn.failed given todo s
+      → Handed (H.stands first) (H.stands l.house) (λ (calls : List HouseCall). Serving H.may (RestsOf H.told H.known H.quiet H.must H.refused H.stands present first) before (record now { calls = calls }) policy pid start (W.seen l.wire) l.held l.failed given todo s);
   known : H.known l.house ≡ H.known l.fn.house;
   told : H.told l.house ≡ H.told l.fn.house;
   must : H.must l.house ≡ H.must l.fn.house;

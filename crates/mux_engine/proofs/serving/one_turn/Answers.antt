@@ -102,7 +102,7 @@ turn-requires-clause-served g c =
       pid = s.pid;
       start = s.start;
       given = s.given;
-      serving = present-is (λ b. RestsOf H.told H.quiet H.must H.refused H.stands b s.first) _ _ (sym c.in_ok-step_house.ensures.present) hushed;
+      serving = present-is (λ b. RestsOf H.told H.known H.quiet H.must H.refused H.stands b s.first) _ _ (sym c.in_ok-step_house.ensures.present) hushed;
     }
 
 pub turn-requires-clause-housed : goal.turn-requires-clause-housed
@@ -118,8 +118,8 @@ returns-in_err-went-clause-serving g c first calls before policy pid start given
     let stepped = step-waits given (0 ∷ here c.step_house.new.engine) c.in_ok-step_house.field-0 c.if-branch.false h.so in
     let closed = c.close_lost.ensures.serving (H.known c.args.house.now).present first before (noted (H.told house) (H.known house) h.all) policy pid start lists.failed given [] stepped in
     let hushed = c.hush.ensures.serving (H.known c.args.house.now).present first before (noted (H.told house) (H.known house) h.all) policy pid start c.close_lost.new.held lists.failed given [] closed in
-    on-err c.from_residual-in_err-went.result _ _ c.from_residual-in_err-went.ensures.0 (promised-is (λ b. RestsOf H.told H.quiet H.must H.refused H.stands b first) _ _ c.in_ok-step_house.ensures.present
-    (c.in_err-went.ensures.serving first h.all before policy pid start given h.hands (present-is (λ b. RestsOf H.told H.quiet H.must H.refused H.stands b first) _ _ (sym c.in_ok-step_house.ensures.present) hushed)))
+    on-err c.from_residual-in_err-went.result _ _ c.from_residual-in_err-went.ensures.0 (promised-is (λ b. RestsOf H.told H.known H.quiet H.must H.refused H.stands b first) _ _ c.in_ok-step_house.ensures.present
+    (c.in_err-went.ensures.serving first h.all before policy pid start given h.hands (present-is (λ b. RestsOf H.told H.known H.quiet H.must H.refused H.stands b first) _ _ (sym c.in_ok-step_house.ensures.present) hushed)))
 
 pub returns-clause-serving : goal.returns-clause-serving
 returns-clause-serving g c first calls before policy pid start given hands v =
@@ -130,5 +130,5 @@ returns-clause-serving g c first calls before policy pid start given hands v =
     let stepped = step-waits given (0 ∷ here c.step_house.new.engine) c.in_ok-step_house.field-0 c.if-branch.false h.so in
     let closed = c.close_lost.ensures.serving (H.known c.args.house.now).present first before (noted (H.told house) (H.known house) h.all) policy pid start lists.failed given [] stepped in
     let hushed = c.hush.ensures.serving (H.known c.args.house.now).present first before (noted (H.told house) (H.known house) h.all) policy pid start c.close_lost.new.held lists.failed given [] closed in
-    let t = c.in_ok-went.ensures.serving first h.all before policy pid start given h.hands (present-is (λ b. RestsOf H.told H.quiet H.must H.refused H.stands b first) _ _ (sym c.in_ok-step_house.ensures.present) hushed) in
-    handed-so t (inl (present-is (λ b. RestsOf H.told H.quiet H.must H.refused H.stands b first) _ _ c.in_ok-step_house.ensures.present t.so))
+    let t = c.in_ok-went.ensures.serving first h.all before policy pid start given h.hands (present-is (λ b. RestsOf H.told H.known H.quiet H.must H.refused H.stands b first) _ _ (sym c.in_ok-step_house.ensures.present) hushed) in
+    handed-so t (inl (present-is (λ b. RestsOf H.told H.known H.quiet H.must H.refused H.stands b first) _ _ c.in_ok-step_house.ensures.present t.so))

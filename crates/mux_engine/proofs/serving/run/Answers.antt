@@ -46,7 +46,7 @@ finish-requires-clause-served g c = let H = g.H.House in let w = c.requires.runn
       pid = w.pid;
       start = w.start;
       given = spent.given;
-      serving = present-is (λ b. RestsOf H.told H.quiet H.must H.refused H.stands b w.first) _ _ (sym c.in_ok-all.ensures.present) spent.serving;
+      serving = present-is (λ b. RestsOf H.told H.known H.quiet H.must H.refused H.stands b w.first) _ _ (sym c.in_ok-all.ensures.present) spent.serving;
     }
 
 pub returns-in_err-finish-clause-ran : goal.returns-in_err-finish-clause-ran
@@ -54,15 +54,15 @@ returns-in_err-finish-clause-ran g c before policy pid start v z = let H = g.H.H
     let handed = c.in_ok-all.ensures.serving c.args.house.now [] before policy pid start (hands-none (H.stands c.args.house.now)) (none-held _ _ c.new-lists.ensures.held c.new-lists.ensures.failed (c.in_ok-enter.ensures.serving c.args.house.now [] before policy pid start [] [] 0 v z).0) in
     let spent = handed.so in
     ran-starved _ _ c.args.turns (spent.given + 0) r.result r.ensures.0 (none-more spent.given c.args.turns spent.most)
-    (promised-is (λ b. RestsOf H.told H.quiet H.must H.refused H.stands b c.args.house.now) _ _ c.in_ok-all.ensures.present (c.in_err-finish.ensures.serving c.args.house.now handed.all before policy pid start spent.given handed.hands (present-is (λ b. RestsOf H.told H.quiet H.must H.refused H.stands b c.args.house.now) _ _ (sym c.in_ok-all.ensures.present) spent.serving)))
+    (promised-is (λ b. RestsOf H.told H.known H.quiet H.must H.refused H.stands b c.args.house.now) _ _ c.in_ok-all.ensures.present (c.in_err-finish.ensures.serving c.args.house.now handed.all before policy pid start spent.given handed.hands (present-is (λ b. RestsOf H.told H.known H.quiet H.must H.refused H.stands b c.args.house.now) _ _ (sym c.in_ok-all.ensures.present) spent.serving)))
 
 pub returns-clause-ran : goal.returns-clause-ran
 returns-clause-ran g c before policy pid start v z = let H = g.H.House in let t = c.in_ok-all.ensures in let f = c.in_ok-finish.ensures in
     let handed = t.serving c.args.house.now [] before policy pid start (hands-none (H.stands c.args.house.now)) (none-held _ _ c.new-lists.ensures.held c.new-lists.ensures.failed (c.in_ok-enter.ensures.serving c.args.house.now [] before policy pid start [] [] 0 v z).0) in
     let spent = handed.so in
-    let last = f.serving c.args.house.now handed.all before policy pid start spent.given handed.hands (present-is (λ b. RestsOf H.told H.quiet H.must H.refused H.stands b c.args.house.now) _ _ (sym t.present) spent.serving) in
+    let last = f.serving c.args.house.now handed.all before policy pid start spent.given handed.hands (present-is (λ b. RestsOf H.told H.known H.quiet H.must H.refused H.stands b c.args.house.now) _ _ (sym t.present) spent.serving) in
     ran-whole (H.stands c.args.house.now) (H.stands c.finish.new.house) c.args.turns spent.given _ c.turns_of.new.engine.ended _ _ _ c.answer_of.result
-    (present-is (λ b. RestsOf H.told H.quiet H.must H.refused H.stands b c.args.house.now) _ _ t.present last.so)
+    (present-is (λ b. RestsOf H.told H.known H.quiet H.must H.refused H.stands b c.args.house.now) _ _ t.present last.so)
     refl last.hands spent.most spent.all_given f.ended
     (λ q on. over-still (λ h. (H.known h).present) H.must H.refused c.turns_of.new.house c.finish.new.house _ (f.unasked q) t.present (t.over q on))
     (answer-is c.answer_of.result c.finish.new.engine.ended _ _ _ _ (f.known.present ∙ t.present) c.answer_of.ensures)

@@ -33,8 +33,8 @@ wait-told-requires-clause-waiting_blocked g c =
     let house = c.args.house.now in
     let lists = c.args.lists.now in
     let seen : Seen = W.seen c.args.wire.now in
-    let a : AtWait (RestsOf H.told H.quiet H.must H.refused H.stands (H.known house).present c.requires.served.first) (noted (H.told house) (H.known house) c.requires.served.calls) seen lists.own lists.held lists.failed (H.queue house) c.args.engine.now =
-    at-wait H.told H.quiet H.must H.refused H.stands c.requires.served.first house (H.known house) seen lists.own lists.held lists.failed (H.queue house) c.args.engine.now c.requires.housed c.requires.ready c.requires.permitted c.requires.closed c.requires.refused c.requires.on c.requires.hears c.requires.served.hands in
+    let a : AtWait (RestsOf H.told H.known H.quiet H.must H.refused H.stands (H.known house).present c.requires.served.first) (noted (H.told house) (H.known house) c.requires.served.calls) seen lists.own lists.held lists.failed (H.queue house) c.args.engine.now =
+    at-wait H.told H.known H.quiet H.must H.refused H.stands c.requires.served.first house seen lists.own lists.held lists.failed (H.queue house) c.args.engine.now c.requires.housed c.requires.ready c.requires.permitted c.requires.closed c.requires.refused c.requires.on c.requires.hears c.requires.served.hands in
     let todo : c.list_waiting.new.todo ≡ c.args.engine.now.waiting ++ filter (waits_for (H.queue house) lists.failed) lists.own =
     c.in_ok-list_waiting.ensures ∙ ap (λ (l : List ℕ). l ++ filter (waits_for (H.queue house) lists.failed) lists.own) c.waiting.ensures.exact in
     subst (λ (l : List ℕ). All (λ t. IsTrue (among t seen.blocked)) l) (sym todo) (waiting-blocked c.requires.served.serving a.none a.admitted a.live a.offered)
@@ -46,8 +46,8 @@ wait-told-requires-clause-waiting_open g c =
     let house = c.args.house.now in
     let lists = c.args.lists.now in
     let seen : Seen = W.seen c.args.wire.now in
-    let a : AtWait (RestsOf H.told H.quiet H.must H.refused H.stands (H.known house).present c.requires.served.first) (noted (H.told house) (H.known house) c.requires.served.calls) seen lists.own lists.held lists.failed (H.queue house) c.args.engine.now =
-    at-wait H.told H.quiet H.must H.refused H.stands c.requires.served.first house (H.known house) seen lists.own lists.held lists.failed (H.queue house) c.args.engine.now c.requires.housed c.requires.ready c.requires.permitted c.requires.closed c.requires.refused c.requires.on c.requires.hears c.requires.served.hands in
+    let a : AtWait (RestsOf H.told H.known H.quiet H.must H.refused H.stands (H.known house).present c.requires.served.first) (noted (H.told house) (H.known house) c.requires.served.calls) seen lists.own lists.held lists.failed (H.queue house) c.args.engine.now =
+    at-wait H.told H.known H.quiet H.must H.refused H.stands c.requires.served.first house seen lists.own lists.held lists.failed (H.queue house) c.args.engine.now c.requires.housed c.requires.ready c.requires.permitted c.requires.closed c.requires.refused c.requires.on c.requires.hears c.requires.served.hands in
     let todo : c.list_waiting.new.todo ≡ c.args.engine.now.waiting ++ filter (waits_for (H.queue house) lists.failed) lists.own =
     c.in_ok-list_waiting.ensures ∙ ap (λ (l : List ℕ). l ++ filter (waits_for (H.queue house) lists.failed) lists.own) c.waiting.ensures.exact in
     subst (λ (l : List ℕ). All (λ t. IsTrue (among t seen.streams)) l) (sym todo) (waiting-open c.requires.served.serving a.none a.admitted a.live a.offered)
@@ -62,8 +62,8 @@ wait-told-requires-clause-some g c write =
     let house = c.args.house.now in
     let lists = c.args.lists.now in
     let seen : Seen = W.seen c.args.wire.now in
-    let a : AtWait (RestsOf H.told H.quiet H.must H.refused H.stands (H.known house).present c.requires.served.first) (noted (H.told house) (H.known house) c.requires.served.calls) seen lists.own lists.held lists.failed (H.queue house) c.args.engine.now =
-    at-wait H.told H.quiet H.must H.refused H.stands c.requires.served.first house (H.known house) seen lists.own lists.held lists.failed (H.queue house) c.args.engine.now c.requires.housed c.requires.ready c.requires.permitted c.requires.closed c.requires.refused c.requires.on c.requires.hears c.requires.served.hands in
+    let a : AtWait (RestsOf H.told H.known H.quiet H.must H.refused H.stands (H.known house).present c.requires.served.first) (noted (H.told house) (H.known house) c.requires.served.calls) seen lists.own lists.held lists.failed (H.queue house) c.args.engine.now =
+    at-wait H.told H.known H.quiet H.must H.refused H.stands c.requires.served.first house seen lists.own lists.held lists.failed (H.queue house) c.args.engine.now c.requires.housed c.requires.ready c.requires.permitted c.requires.closed c.requires.refused c.requires.on c.requires.hears c.requires.served.hands in
     let todo : c.list_waiting.new.todo ≡ c.args.engine.now.waiting ++ filter (waits_for (H.queue house) lists.failed) lists.own =
     c.in_ok-list_waiting.ensures ∙ ap (λ (l : List ℕ). l ++ filter (waits_for (H.queue house) lists.failed) lists.own) c.waiting.ensures.exact in
     subst (λ (l : List ℕ). 0 < length l) (sym todo) (some-waits c.requires.served.serving a.none a.admitted a.live a.offered (sym c.wanted.ensures ∙ write))
@@ -77,8 +77,8 @@ returns-in-Event-clause-serving g c first calls before policy pid start given ha
     let house = c.args.house.now in
     let lists = c.args.lists.now in
     let seen : Seen = W.seen c.args.wire.now in
-    let a : AtWait (RestsOf H.told H.quiet H.must H.refused H.stands (H.known house).present first) (noted (H.told house) (H.known house) calls) seen lists.own lists.held lists.failed (H.queue house) c.args.engine.now =
-    at-wait H.told H.quiet H.must H.refused H.stands first house (H.known house) seen lists.own lists.held lists.failed (H.queue house) c.args.engine.now c.requires.housed c.requires.ready c.requires.permitted c.requires.closed c.requires.refused c.requires.on c.requires.hears hands in
+    let a : AtWait (RestsOf H.told H.known H.quiet H.must H.refused H.stands (H.known house).present first) (noted (H.told house) (H.known house) calls) seen lists.own lists.held lists.failed (H.queue house) c.args.engine.now =
+    at-wait H.told H.known H.quiet H.must H.refused H.stands first house seen lists.own lists.held lists.failed (H.queue house) c.args.engine.now c.requires.housed c.requires.ready c.requires.permitted c.requires.closed c.requires.refused c.requires.on c.requires.hears hands in
     let w : HasWaited seen (W.seen c.wait-told.new.self) lists.own lists.failed (H.queue house) c.args.engine.now c.wait-told.result c.wait-told.new.into =
     has-waited seen (W.seen c.wait-told.new.self) lists.own lists.failed (H.queue house) c.args.engine.now c.wait-told.result c.wait-told.new.into c.as_bytes.result.now c.list_waiting.new.todo c.waiting.result.now c.wanted.result c.wait-told.ensures.seen c.in_ok-list_waiting.ensures c.waiting.ensures.exact c.wanted.ensures c.next_of.ensures.bytes c.as_bytes.ensures.bytes c.wait-told.ensures.turn c.wait-told.ensures.own_turn in
     let next : IsEventOf c.in-Event.e c.wait-told.result c.wait-told.new.into = subst (λ (b : List ℕ). IsEventOf c.in-Event.e c.wait-told.result b) c.as_bytes.ensures.bytes c.in-Event.ensures.next in
@@ -92,8 +92,8 @@ returns-in-Event-clause-housed g c =
     let house = c.args.house.now in
     let lists = c.args.lists.now in
     let seen : Seen = W.seen c.args.wire.now in
-    let a : AtWait (RestsOf H.told H.quiet H.must H.refused H.stands (H.known house).present c.requires.served.first) (noted (H.told house) (H.known house) c.requires.served.calls) seen lists.own lists.held lists.failed (H.queue house) c.args.engine.now =
-    at-wait H.told H.quiet H.must H.refused H.stands c.requires.served.first house (H.known house) seen lists.own lists.held lists.failed (H.queue house) c.args.engine.now c.requires.housed c.requires.ready c.requires.permitted c.requires.closed c.requires.refused c.requires.on c.requires.hears c.requires.served.hands in
+    let a : AtWait (RestsOf H.told H.known H.quiet H.must H.refused H.stands (H.known house).present c.requires.served.first) (noted (H.told house) (H.known house) c.requires.served.calls) seen lists.own lists.held lists.failed (H.queue house) c.args.engine.now =
+    at-wait H.told H.known H.quiet H.must H.refused H.stands c.requires.served.first house seen lists.own lists.held lists.failed (H.queue house) c.args.engine.now c.requires.housed c.requires.ready c.requires.permitted c.requires.closed c.requires.refused c.requires.on c.requires.hears c.requires.served.hands in
     let w : HasWaited seen (W.seen c.wait-told.new.self) lists.own lists.failed (H.queue house) c.args.engine.now c.wait-told.result c.wait-told.new.into =
     has-waited seen (W.seen c.wait-told.new.self) lists.own lists.failed (H.queue house) c.args.engine.now c.wait-told.result c.wait-told.new.into c.as_bytes.result.now c.list_waiting.new.todo c.waiting.result.now c.wanted.result c.wait-told.ensures.seen c.in_ok-list_waiting.ensures c.waiting.ensures.exact c.wanted.ensures c.next_of.ensures.bytes c.as_bytes.ensures.bytes c.wait-told.ensures.turn c.wait-told.ensures.own_turn in
     let next : IsEventOf c.in-Event.e c.wait-told.result c.wait-told.new.into = subst (λ (b : List ℕ). IsEventOf c.in-Event.e c.wait-told.result b) c.as_bytes.ensures.bytes c.in-Event.ensures.next in
@@ -118,8 +118,8 @@ returns-in-Event-clause-failed g c =
     let house = c.args.house.now in
     let lists = c.args.lists.now in
     let seen : Seen = W.seen c.args.wire.now in
-    let a : AtWait (RestsOf H.told H.quiet H.must H.refused H.stands (H.known house).present c.requires.served.first) (noted (H.told house) (H.known house) c.requires.served.calls) seen lists.own lists.held lists.failed (H.queue house) c.args.engine.now =
-    at-wait H.told H.quiet H.must H.refused H.stands c.requires.served.first house (H.known house) seen lists.own lists.held lists.failed (H.queue house) c.args.engine.now c.requires.housed c.requires.ready c.requires.permitted c.requires.closed c.requires.refused c.requires.on c.requires.hears c.requires.served.hands in
+    let a : AtWait (RestsOf H.told H.known H.quiet H.must H.refused H.stands (H.known house).present c.requires.served.first) (noted (H.told house) (H.known house) c.requires.served.calls) seen lists.own lists.held lists.failed (H.queue house) c.args.engine.now =
+    at-wait H.told H.known H.quiet H.must H.refused H.stands c.requires.served.first house seen lists.own lists.held lists.failed (H.queue house) c.args.engine.now c.requires.housed c.requires.ready c.requires.permitted c.requires.closed c.requires.refused c.requires.on c.requires.hears c.requires.served.hands in
     let w : HasWaited seen (W.seen c.wait-told.new.self) lists.own lists.failed (H.queue house) c.args.engine.now c.wait-told.result c.wait-told.new.into =
     has-waited seen (W.seen c.wait-told.new.self) lists.own lists.failed (H.queue house) c.args.engine.now c.wait-told.result c.wait-told.new.into c.as_bytes.result.now c.list_waiting.new.todo c.waiting.result.now c.wanted.result c.wait-told.ensures.seen c.in_ok-list_waiting.ensures c.waiting.ensures.exact c.wanted.ensures c.next_of.ensures.bytes c.as_bytes.ensures.bytes c.wait-told.ensures.turn c.wait-told.ensures.own_turn in
     let next : IsEventOf c.in-Event.e c.wait-told.result c.wait-told.new.into = subst (λ (b : List ℕ). IsEventOf c.in-Event.e c.wait-told.result b) c.as_bytes.ensures.bytes c.in-Event.ensures.next in
@@ -134,8 +134,8 @@ returns-in-Event-clause-by_row g c =
     let house = c.args.house.now in
     let lists = c.args.lists.now in
     let seen : Seen = W.seen c.args.wire.now in
-    let a : AtWait (RestsOf H.told H.quiet H.must H.refused H.stands (H.known house).present c.requires.served.first) (noted (H.told house) (H.known house) c.requires.served.calls) seen lists.own lists.held lists.failed (H.queue house) c.args.engine.now =
-    at-wait H.told H.quiet H.must H.refused H.stands c.requires.served.first house (H.known house) seen lists.own lists.held lists.failed (H.queue house) c.args.engine.now c.requires.housed c.requires.ready c.requires.permitted c.requires.closed c.requires.refused c.requires.on c.requires.hears c.requires.served.hands in
+    let a : AtWait (RestsOf H.told H.known H.quiet H.must H.refused H.stands (H.known house).present c.requires.served.first) (noted (H.told house) (H.known house) c.requires.served.calls) seen lists.own lists.held lists.failed (H.queue house) c.args.engine.now =
+    at-wait H.told H.known H.quiet H.must H.refused H.stands c.requires.served.first house seen lists.own lists.held lists.failed (H.queue house) c.args.engine.now c.requires.housed c.requires.ready c.requires.permitted c.requires.closed c.requires.refused c.requires.on c.requires.hears c.requires.served.hands in
     let w : HasWaited seen (W.seen c.wait-told.new.self) lists.own lists.failed (H.queue house) c.args.engine.now c.wait-told.result c.wait-told.new.into =
     has-waited seen (W.seen c.wait-told.new.self) lists.own lists.failed (H.queue house) c.args.engine.now c.wait-told.result c.wait-told.new.into c.as_bytes.result.now c.list_waiting.new.todo c.waiting.result.now c.wanted.result c.wait-told.ensures.seen c.in_ok-list_waiting.ensures c.waiting.ensures.exact c.wanted.ensures c.next_of.ensures.bytes c.as_bytes.ensures.bytes c.wait-told.ensures.turn c.wait-told.ensures.own_turn in
     let next : IsEventOf c.in-Event.e c.wait-told.result c.wait-told.new.into = subst (λ (b : List ℕ). IsEventOf c.in-Event.e c.wait-told.result b) c.as_bytes.ensures.bytes c.in-Event.ensures.next in
@@ -151,8 +151,8 @@ hear-requires-clause-fits g c =
     let house = c.args.house.now in
     let lists = c.args.lists.now in
     let seen : Seen = W.seen c.args.wire.now in
-    let a : AtWait (RestsOf H.told H.quiet H.must H.refused H.stands (H.known house).present c.requires.served.first) (noted (H.told house) (H.known house) c.requires.served.calls) seen lists.own lists.held lists.failed (H.queue house) c.args.engine.now =
-    at-wait H.told H.quiet H.must H.refused H.stands c.requires.served.first house (H.known house) seen lists.own lists.held lists.failed (H.queue house) c.args.engine.now c.requires.housed c.requires.ready c.requires.permitted c.requires.closed c.requires.refused c.requires.on c.requires.hears c.requires.served.hands in
+    let a : AtWait (RestsOf H.told H.known H.quiet H.must H.refused H.stands (H.known house).present c.requires.served.first) (noted (H.told house) (H.known house) c.requires.served.calls) seen lists.own lists.held lists.failed (H.queue house) c.args.engine.now =
+    at-wait H.told H.known H.quiet H.must H.refused H.stands c.requires.served.first house seen lists.own lists.held lists.failed (H.queue house) c.args.engine.now c.requires.housed c.requires.ready c.requires.permitted c.requires.closed c.requires.refused c.requires.on c.requires.hears c.requires.served.hands in
     let w : HasWaited seen (W.seen c.wait-told.new.self) lists.own lists.failed (H.queue house) c.args.engine.now c.wait-told.result c.wait-told.new.into =
     has-waited seen (W.seen c.wait-told.new.self) lists.own lists.failed (H.queue house) c.args.engine.now c.wait-told.result c.wait-told.new.into c.as_bytes.result.now c.list_waiting.new.todo c.waiting.result.now c.wanted.result c.wait-told.ensures.seen c.in_ok-list_waiting.ensures c.waiting.ensures.exact c.wanted.ensures c.next_of.ensures.bytes c.as_bytes.ensures.bytes c.wait-told.ensures.turn c.wait-told.ensures.own_turn in
     let next : IsOwnOf c.in-Own.told c.wait-told.result c.wait-told.new.into = subst (λ (b : List ℕ). IsOwnOf c.in-Own.told c.wait-told.result b) c.as_bytes.ensures.bytes c.in-Own.ensures.next in
@@ -165,8 +165,8 @@ returns-in_err-hear-in-Own-clause-serving g c first calls before policy pid star
     let house = c.args.house.now in
     let lists = c.args.lists.now in
     let seen : Seen = W.seen c.args.wire.now in
-    let a : AtWait (RestsOf H.told H.quiet H.must H.refused H.stands (H.known house).present first) (noted (H.told house) (H.known house) calls) seen lists.own lists.held lists.failed (H.queue house) c.args.engine.now =
-    at-wait H.told H.quiet H.must H.refused H.stands first house (H.known house) seen lists.own lists.held lists.failed (H.queue house) c.args.engine.now c.requires.housed c.requires.ready c.requires.permitted c.requires.closed c.requires.refused c.requires.on c.requires.hears hands in
+    let a : AtWait (RestsOf H.told H.known H.quiet H.must H.refused H.stands (H.known house).present first) (noted (H.told house) (H.known house) calls) seen lists.own lists.held lists.failed (H.queue house) c.args.engine.now =
+    at-wait H.told H.known H.quiet H.must H.refused H.stands first house seen lists.own lists.held lists.failed (H.queue house) c.args.engine.now c.requires.housed c.requires.ready c.requires.permitted c.requires.closed c.requires.refused c.requires.on c.requires.hears hands in
     let w : HasWaited seen (W.seen c.wait-told.new.self) lists.own lists.failed (H.queue house) c.args.engine.now c.wait-told.result c.wait-told.new.into =
     has-waited seen (W.seen c.wait-told.new.self) lists.own lists.failed (H.queue house) c.args.engine.now c.wait-told.result c.wait-told.new.into c.as_bytes.result.now c.list_waiting.new.todo c.waiting.result.now c.wanted.result c.wait-told.ensures.seen c.in_ok-list_waiting.ensures c.waiting.ensures.exact c.wanted.ensures c.next_of.ensures.bytes c.as_bytes.ensures.bytes c.wait-told.ensures.turn c.wait-told.ensures.own_turn in
     let next : IsOwnOf c.in-Own.told c.wait-told.result c.wait-told.new.into = subst (λ (b : List ℕ). IsOwnOf c.in-Own.told c.wait-told.result b) c.as_bytes.ensures.bytes c.in-Own.ensures.next in
@@ -180,8 +180,8 @@ returns-in_ok-hear-in-Own-clause-serving g c first calls before policy pid start
     let house = c.args.house.now in
     let lists = c.args.lists.now in
     let seen : Seen = W.seen c.args.wire.now in
-    let a : AtWait (RestsOf H.told H.quiet H.must H.refused H.stands (H.known house).present first) (noted (H.told house) (H.known house) calls) seen lists.own lists.held lists.failed (H.queue house) c.args.engine.now =
-    at-wait H.told H.quiet H.must H.refused H.stands first house (H.known house) seen lists.own lists.held lists.failed (H.queue house) c.args.engine.now c.requires.housed c.requires.ready c.requires.permitted c.requires.closed c.requires.refused c.requires.on c.requires.hears hands in
+    let a : AtWait (RestsOf H.told H.known H.quiet H.must H.refused H.stands (H.known house).present first) (noted (H.told house) (H.known house) calls) seen lists.own lists.held lists.failed (H.queue house) c.args.engine.now =
+    at-wait H.told H.known H.quiet H.must H.refused H.stands first house seen lists.own lists.held lists.failed (H.queue house) c.args.engine.now c.requires.housed c.requires.ready c.requires.permitted c.requires.closed c.requires.refused c.requires.on c.requires.hears hands in
     let w : HasWaited seen (W.seen c.wait-told.new.self) lists.own lists.failed (H.queue house) c.args.engine.now c.wait-told.result c.wait-told.new.into =
     has-waited seen (W.seen c.wait-told.new.self) lists.own lists.failed (H.queue house) c.args.engine.now c.wait-told.result c.wait-told.new.into c.as_bytes.result.now c.list_waiting.new.todo c.waiting.result.now c.wanted.result c.wait-told.ensures.seen c.in_ok-list_waiting.ensures c.waiting.ensures.exact c.wanted.ensures c.next_of.ensures.bytes c.as_bytes.ensures.bytes c.wait-told.ensures.turn c.wait-told.ensures.own_turn in
     let next : IsOwnOf c.in-Own.told c.wait-told.result c.wait-told.new.into = subst (λ (b : List ℕ). IsOwnOf c.in-Own.told c.wait-told.result b) c.as_bytes.ensures.bytes c.in-Own.ensures.next in
@@ -195,8 +195,8 @@ returns-in_ok-hear-in-Own-clause-housed g c =
     let house = c.args.house.now in
     let lists = c.args.lists.now in
     let seen : Seen = W.seen c.args.wire.now in
-    let a : AtWait (RestsOf H.told H.quiet H.must H.refused H.stands (H.known house).present c.requires.served.first) (noted (H.told house) (H.known house) c.requires.served.calls) seen lists.own lists.held lists.failed (H.queue house) c.args.engine.now =
-    at-wait H.told H.quiet H.must H.refused H.stands c.requires.served.first house (H.known house) seen lists.own lists.held lists.failed (H.queue house) c.args.engine.now c.requires.housed c.requires.ready c.requires.permitted c.requires.closed c.requires.refused c.requires.on c.requires.hears c.requires.served.hands in
+    let a : AtWait (RestsOf H.told H.known H.quiet H.must H.refused H.stands (H.known house).present c.requires.served.first) (noted (H.told house) (H.known house) c.requires.served.calls) seen lists.own lists.held lists.failed (H.queue house) c.args.engine.now =
+    at-wait H.told H.known H.quiet H.must H.refused H.stands c.requires.served.first house seen lists.own lists.held lists.failed (H.queue house) c.args.engine.now c.requires.housed c.requires.ready c.requires.permitted c.requires.closed c.requires.refused c.requires.on c.requires.hears c.requires.served.hands in
     let w : HasWaited seen (W.seen c.wait-told.new.self) lists.own lists.failed (H.queue house) c.args.engine.now c.wait-told.result c.wait-told.new.into =
     has-waited seen (W.seen c.wait-told.new.self) lists.own lists.failed (H.queue house) c.args.engine.now c.wait-told.result c.wait-told.new.into c.as_bytes.result.now c.list_waiting.new.todo c.waiting.result.now c.wanted.result c.wait-told.ensures.seen c.in_ok-list_waiting.ensures c.waiting.ensures.exact c.wanted.ensures c.next_of.ensures.bytes c.as_bytes.ensures.bytes c.wait-told.ensures.turn c.wait-told.ensures.own_turn in
     let next : IsOwnOf c.in-Own.told c.wait-told.result c.wait-told.new.into = subst (λ (b : List ℕ). IsOwnOf c.in-Own.told c.wait-told.result b) c.as_bytes.ensures.bytes c.in-Own.ensures.next in
@@ -209,8 +209,8 @@ returns-in_ok-hear-in-Own-clause-alone g c =
     let house = c.args.house.now in
     let lists = c.args.lists.now in
     let seen : Seen = W.seen c.args.wire.now in
-    let a : AtWait (RestsOf H.told H.quiet H.must H.refused H.stands (H.known house).present c.requires.served.first) (noted (H.told house) (H.known house) c.requires.served.calls) seen lists.own lists.held lists.failed (H.queue house) c.args.engine.now =
-    at-wait H.told H.quiet H.must H.refused H.stands c.requires.served.first house (H.known house) seen lists.own lists.held lists.failed (H.queue house) c.args.engine.now c.requires.housed c.requires.ready c.requires.permitted c.requires.closed c.requires.refused c.requires.on c.requires.hears c.requires.served.hands in
+    let a : AtWait (RestsOf H.told H.known H.quiet H.must H.refused H.stands (H.known house).present c.requires.served.first) (noted (H.told house) (H.known house) c.requires.served.calls) seen lists.own lists.held lists.failed (H.queue house) c.args.engine.now =
+    at-wait H.told H.known H.quiet H.must H.refused H.stands c.requires.served.first house seen lists.own lists.held lists.failed (H.queue house) c.args.engine.now c.requires.housed c.requires.ready c.requires.permitted c.requires.closed c.requires.refused c.requires.on c.requires.hears c.requires.served.hands in
     let w : HasWaited seen (W.seen c.wait-told.new.self) lists.own lists.failed (H.queue house) c.args.engine.now c.wait-told.result c.wait-told.new.into =
     has-waited seen (W.seen c.wait-told.new.self) lists.own lists.failed (H.queue house) c.args.engine.now c.wait-told.result c.wait-told.new.into c.as_bytes.result.now c.list_waiting.new.todo c.waiting.result.now c.wanted.result c.wait-told.ensures.seen c.in_ok-list_waiting.ensures c.waiting.ensures.exact c.wanted.ensures c.next_of.ensures.bytes c.as_bytes.ensures.bytes c.wait-told.ensures.turn c.wait-told.ensures.own_turn in
     let next : IsOwnOf c.in-Own.told c.wait-told.result c.wait-told.new.into = subst (λ (b : List ℕ). IsOwnOf c.in-Own.told c.wait-told.result b) c.as_bytes.ensures.bytes c.in-Own.ensures.next in
@@ -223,8 +223,8 @@ returns-in_ok-hear-in-Own-clause-held_is g c =
     let house = c.args.house.now in
     let lists = c.args.lists.now in
     let seen : Seen = W.seen c.args.wire.now in
-    let a : AtWait (RestsOf H.told H.quiet H.must H.refused H.stands (H.known house).present c.requires.served.first) (noted (H.told house) (H.known house) c.requires.served.calls) seen lists.own lists.held lists.failed (H.queue house) c.args.engine.now =
-    at-wait H.told H.quiet H.must H.refused H.stands c.requires.served.first house (H.known house) seen lists.own lists.held lists.failed (H.queue house) c.args.engine.now c.requires.housed c.requires.ready c.requires.permitted c.requires.closed c.requires.refused c.requires.on c.requires.hears c.requires.served.hands in
+    let a : AtWait (RestsOf H.told H.known H.quiet H.must H.refused H.stands (H.known house).present c.requires.served.first) (noted (H.told house) (H.known house) c.requires.served.calls) seen lists.own lists.held lists.failed (H.queue house) c.args.engine.now =
+    at-wait H.told H.known H.quiet H.must H.refused H.stands c.requires.served.first house seen lists.own lists.held lists.failed (H.queue house) c.args.engine.now c.requires.housed c.requires.ready c.requires.permitted c.requires.closed c.requires.refused c.requires.on c.requires.hears c.requires.served.hands in
     let w : HasWaited seen (W.seen c.wait-told.new.self) lists.own lists.failed (H.queue house) c.args.engine.now c.wait-told.result c.wait-told.new.into =
     has-waited seen (W.seen c.wait-told.new.self) lists.own lists.failed (H.queue house) c.args.engine.now c.wait-told.result c.wait-told.new.into c.as_bytes.result.now c.list_waiting.new.todo c.waiting.result.now c.wanted.result c.wait-told.ensures.seen c.in_ok-list_waiting.ensures c.waiting.ensures.exact c.wanted.ensures c.next_of.ensures.bytes c.as_bytes.ensures.bytes c.wait-told.ensures.turn c.wait-told.ensures.own_turn in
     let next : IsOwnOf c.in-Own.told c.wait-told.result c.wait-told.new.into = subst (λ (b : List ℕ). IsOwnOf c.in-Own.told c.wait-told.result b) c.as_bytes.ensures.bytes c.in-Own.ensures.next in
@@ -239,11 +239,11 @@ returns-in-Freed-clause-serving g c first calls before policy pid start given ha
     let house = c.args.house.now in
     let lists = c.args.lists.now in
     let seen : Seen = W.seen c.args.wire.now in
-    let a : AtWait (RestsOf H.told H.quiet H.must H.refused H.stands (H.known house).present first) (noted (H.told house) (H.known house) calls) seen lists.own lists.held lists.failed (H.queue house) c.args.engine.now =
-    at-wait H.told H.quiet H.must H.refused H.stands first house (H.known house) seen lists.own lists.held lists.failed (H.queue house) c.args.engine.now c.requires.housed c.requires.ready c.requires.permitted c.requires.closed c.requires.refused c.requires.on c.requires.hears hands in
+    let a : AtWait (RestsOf H.told H.known H.quiet H.must H.refused H.stands (H.known house).present first) (noted (H.told house) (H.known house) calls) seen lists.own lists.held lists.failed (H.queue house) c.args.engine.now =
+    at-wait H.told H.known H.quiet H.must H.refused H.stands first house seen lists.own lists.held lists.failed (H.queue house) c.args.engine.now c.requires.housed c.requires.ready c.requires.permitted c.requires.closed c.requires.refused c.requires.on c.requires.hears hands in
     let w : HasWaited seen (W.seen c.wait-told.new.self) lists.own lists.failed (H.queue house) c.args.engine.now c.wait-told.result c.wait-told.new.into =
     has-waited seen (W.seen c.wait-told.new.self) lists.own lists.failed (H.queue house) c.args.engine.now c.wait-told.result c.wait-told.new.into c.as_bytes.result.now c.list_waiting.new.todo c.waiting.result.now c.wanted.result c.wait-told.ensures.seen c.in_ok-list_waiting.ensures c.waiting.ensures.exact c.wanted.ensures c.next_of.ensures.bytes c.as_bytes.ensures.bytes c.wait-told.ensures.turn c.wait-told.ensures.own_turn in
-    handed-none _ hands (subst (λ (l : List ℕ). Serving H.may (RestsOf H.told H.quiet H.must H.refused H.stands (H.known house).present first) before (noted (H.told house) (H.known house) calls) policy pid start (W.seen c.wait-told.new.self) l lists.failed (given + 1) (0 ∷ here c.args.engine.now) c.args.engine.now) (sym c.remove.ensures)
+    handed-none _ hands (subst (λ (l : List ℕ). Serving H.may (RestsOf H.told H.known H.quiet H.must H.refused H.stands (H.known house).present first) before (noted (H.told house) (H.known house) calls) policy pid start (W.seen c.wait-told.new.self) l lists.failed (given + 1) (0 ∷ here c.args.engine.now) c.args.engine.now) (sym c.remove.ensures)
     (turn-frees v a w c.in-Freed.stream c.in-Freed.ensures.next.0 c.in-Freed.ensures.next.1))
 
 -- ---- no memory
@@ -255,8 +255,8 @@ returns-in-NoMemory-clause-serving g c first calls before policy pid start given
     let house = c.args.house.now in
     let lists = c.args.lists.now in
     let seen : Seen = W.seen c.args.wire.now in
-    let a : AtWait (RestsOf H.told H.quiet H.must H.refused H.stands (H.known house).present first) (noted (H.told house) (H.known house) calls) seen lists.own lists.held lists.failed (H.queue house) c.args.engine.now =
-    at-wait H.told H.quiet H.must H.refused H.stands first house (H.known house) seen lists.own lists.held lists.failed (H.queue house) c.args.engine.now c.requires.housed c.requires.ready c.requires.permitted c.requires.closed c.requires.refused c.requires.on c.requires.hears hands in
+    let a : AtWait (RestsOf H.told H.known H.quiet H.must H.refused H.stands (H.known house).present first) (noted (H.told house) (H.known house) calls) seen lists.own lists.held lists.failed (H.queue house) c.args.engine.now =
+    at-wait H.told H.known H.quiet H.must H.refused H.stands first house seen lists.own lists.held lists.failed (H.queue house) c.args.engine.now c.requires.housed c.requires.ready c.requires.permitted c.requires.closed c.requires.refused c.requires.on c.requires.hears hands in
     let w : HasWaited seen (W.seen c.wait-told.new.self) lists.own lists.failed (H.queue house) c.args.engine.now c.wait-told.result c.wait-told.new.into =
     has-waited seen (W.seen c.wait-told.new.self) lists.own lists.failed (H.queue house) c.args.engine.now c.wait-told.result c.wait-told.new.into c.as_bytes.result.now c.list_waiting.new.todo c.waiting.result.now c.wanted.result c.wait-told.ensures.seen c.in_ok-list_waiting.ensures c.waiting.ensures.exact c.wanted.ensures c.next_of.ensures.bytes c.as_bytes.ensures.bytes c.wait-told.ensures.turn c.wait-told.ensures.own_turn in
     turn-starved v a w c.in-NoMemory.ensures.next

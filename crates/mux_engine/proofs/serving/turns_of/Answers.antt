@@ -43,7 +43,7 @@ one_turn-requires g c = let H = g.H.House in let w = c.requires.served in let i 
         pid = w.pid;
         start = w.start;
         given = w.given + c.loop.counter;
-        serving = present-is (λ b. RestsOf H.told H.quiet H.must H.refused H.stands b w.first) _ _ (sym i.present) h.so;
+        serving = present-is (λ b. RestsOf H.told H.known H.quiet H.must H.refused H.stands b w.first) _ _ (sym i.present) h.so;
       };
       housed = i.housed;
       alone = i.alone;
@@ -54,9 +54,9 @@ pub loop-preserved : goal.loop-preserved
 loop-preserved g c = let H = g.H.House in let i = c.loop.invariant in let o = c.in_ok-one_turn.ensures in record {
   serving = λ first calls before policy pid start given hands v.
       let h = i.serving first calls before policy pid start given hands v in
-      let t = o.serving first h.all before policy pid start (given + c.loop.counter) h.hands (present-is (λ b. RestsOf H.told H.quiet H.must H.refused H.stands b first) _ _ (sym i.present) h.so) in
+      let t = o.serving first h.all before policy pid start (given + c.loop.counter) h.hands (present-is (λ b. RestsOf H.told H.known H.quiet H.must H.refused H.stands b first) _ _ (sym i.present) h.so) in
       handed-so t (given-is (given + c.loop.counter + 1) (given + (c.loop.counter + 1)) (omega arith)
-      (none-settled _ (o.settled c.if-not-branch.false) (went-on _ c.if-not-branch.false (ends-is (λ b. RestsOf H.told H.quiet H.must H.refused H.stands b first) _ _ i.present t.so))));
+      (none-settled _ (o.settled c.if-not-branch.false) (went-on _ c.if-not-branch.false (ends-is (λ b. RestsOf H.told H.known H.quiet H.must H.refused H.stands b first) _ _ i.present t.so))));
   housed = o.housed;
   alone = o.alone;
   held_is = o.held_is;
@@ -76,8 +76,8 @@ pub returns-then-not-branch : goal.returns-then-not-branch
 returns-then-not-branch g c = let H = g.H.House in let i = c.loop.invariant in let o = c.in_ok-one_turn.ensures in record {
   serving = λ first calls before policy pid start hands v.
       let h = i.serving first calls before policy pid start 0 hands v in
-      let t = o.serving first h.all before policy pid start c.loop.counter h.hands (present-is (λ b. RestsOf H.told H.quiet H.must H.refused H.stands b first) _ _ (sym i.present) (given-is (0 + c.loop.counter) c.loop.counter (omega arith) h.so)) in
-      handed-so t (went-over c.loop.counter c.args.turns _ (omega arith) (ends-is (λ b. RestsOf H.told H.quiet H.must H.refused H.stands b first) _ _ i.present t.so));
+      let t = o.serving first h.all before policy pid start c.loop.counter h.hands (present-is (λ b. RestsOf H.told H.known H.quiet H.must H.refused H.stands b first) _ _ (sym i.present) (given-is (0 + c.loop.counter) c.loop.counter (omega arith) h.so)) in
+      handed-so t (went-over c.loop.counter c.args.turns _ (omega arith) (ends-is (λ b. RestsOf H.told H.known H.quiet H.must H.refused H.stands b first) _ _ i.present t.so));
   housed = o.housed;
   held_is = o.held_is;
   present = o.present ∙ i.present;
@@ -122,8 +122,8 @@ pub returns-in_err-one_turn : goal.returns-in_err-one_turn
 returns-in_err-one_turn g c = let H = g.H.House in let i = c.loop.invariant in let r = c.from_residual-in_err-one_turn in record {
   serving = λ first calls before policy pid start hands v.
       let h = i.serving first calls before policy pid start 0 hands v in
-      on-err r.result _ _ r.ensures.0 (promised-more (c.loop.counter + 1) c.args.turns (omega arith) (promised-is (λ b. RestsOf H.told H.quiet H.must H.refused H.stands b first) _ _ i.present
-      (c.in_err-one_turn.ensures.serving first h.all before policy pid start c.loop.counter h.hands (present-is (λ b. RestsOf H.told H.quiet H.must H.refused H.stands b first) _ _ (sym i.present) (given-is (0 + c.loop.counter) c.loop.counter (omega arith) h.so)))));
+      on-err r.result _ _ r.ensures.0 (promised-more (c.loop.counter + 1) c.args.turns (omega arith) (promised-is (λ b. RestsOf H.told H.known H.quiet H.must H.refused H.stands b first) _ _ i.present
+      (c.in_err-one_turn.ensures.serving first h.all before policy pid start c.loop.counter h.hands (present-is (λ b. RestsOf H.told H.known H.quiet H.must H.refused H.stands b first) _ _ (sym i.present) (given-is (0 + c.loop.counter) c.loop.counter (omega arith) h.so)))));
   housed = on-err r.result _ _ r.ensures.0 tt;
   held_is = on-err r.result _ _ r.ensures.0 tt;
   present = on-err r.result _ _ r.ensures.0 tt;

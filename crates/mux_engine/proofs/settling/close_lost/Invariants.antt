@@ -10,8 +10,8 @@ use Rattle.mux_engine.proofs.settling.close_lost.Given as goal
 
 abbrev pub invariant-loop-client : goal.invariant-loop-client
 invariant-loop-client g l = let W = g.W.Wire in let H = g.H.House in record {
-  serving : (present : Bool) (first : _) (before : Option (List HouseMark)) (now : Side) (policy : Policy) (pid : ℕ) (start : Option (List Mark)) (failed : List ℕ) (given : ℕ) (todo : List ℕ) → Serving H.may (RestsOf H.told H.quiet H.must H.refused H.stands present first) before now policy pid start (W.seen l.fn.wire) l.fn.held failed given todo l.fn.engine
-      → Serving H.may (RestsOf H.told H.quiet H.must H.refused H.stands present first) before now policy pid start (W.seen l.wire) l.held failed given todo l.engine;
+  serving : (present : Bool) (first : _) (before : Option (List HouseMark)) (now : Side) (policy : Policy) (pid : ℕ) (start : Option (List Mark)) (failed : List ℕ) (given : ℕ) (todo : List ℕ) → Serving H.may (RestsOf H.told H.known H.quiet H.must H.refused H.stands present first) before now policy pid start (W.seen l.fn.wire) l.fn.held failed given todo l.fn.engine
+      → Serving H.may (RestsOf H.told H.known H.quiet H.must H.refused H.stands present first) before now policy pid start (W.seen l.wire) l.held failed given todo l.engine;
   housed : (known : Known) (own : List ℕ) → Housed known (W.seen l.fn.wire) own → Housed known (W.seen l.wire) own;
   ready : (known : Known) (quiet : Quiet) (queue : ℕ → List ℕ) (failed own : List ℕ) → Housed known (W.seen l.fn.wire) own → IsReady known quiet queue l.fn.held failed own l.fn.engine → IsReady known quiet queue l.held failed own l.engine;
   ended : l.engine.ended ≡ l.fn.engine.ended;

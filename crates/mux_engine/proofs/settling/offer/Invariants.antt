@@ -12,8 +12,8 @@ use Rattle.mux_engine.proofs.settling.offer.Given as goal
 
 abbrev pub invariant-loop : goal.invariant-loop
 invariant-loop g l = let W = g.W.Wire in let H = g.H.House in record {
-  serving : (todo : List ℕ) → among 0 (l.stream ∷ todo) ≡ true → (present : Bool) (first : _) (before : Option (List HouseMark)) (now : Side) (policy : Policy) (pid : ℕ) (start : Option (List Mark)) (failed : List ℕ) (given : ℕ) → Serving H.may (RestsOf H.told H.quiet H.must H.refused H.stands present first) before now policy pid start (W.seen l.fn.wire) l.fn.held failed given (l.stream ∷ todo) l.fn.engine
-      → Serving H.may (RestsOf H.told H.quiet H.must H.refused H.stands present first) before now policy pid start (W.seen l.wire) l.held failed given (l.stream ∷ todo) l.engine;
+  serving : (todo : List ℕ) → among 0 (l.stream ∷ todo) ≡ true → (present : Bool) (first : _) (before : Option (List HouseMark)) (now : Side) (policy : Policy) (pid : ℕ) (start : Option (List Mark)) (failed : List ℕ) (given : ℕ) → Serving H.may (RestsOf H.told H.known H.quiet H.must H.refused H.stands present first) before now policy pid start (W.seen l.fn.wire) l.fn.held failed given (l.stream ∷ todo) l.fn.engine
+      → Serving H.may (RestsOf H.told H.known H.quiet H.must H.refused H.stands present first) before now policy pid start (W.seen l.wire) l.held failed given (l.stream ∷ todo) l.engine;
   streams : here l.engine ≡ here l.fn.engine;
   holds : (t : ℕ) → among t l.fn.held ≡ true → among t l.held ≡ true;
   places : SamePlaces (W.seen l.fn.wire) (W.seen l.wire);

@@ -14,6 +14,7 @@ use Rattle.mux_engine.proofs.Holding.{client-unfinished, held-more}
 use Rattle.mux_engine.proofs.Lists.{not-own-stream}
 use Rattle.mux_engine.proofs.Marks.{serve-alone, serve-next}
 use Rattle.mux_engine.proofs.Offers.{SameRun, cut-fails, cut-holds, cut-starved, next-fails, next-holds, next-takes}
+use Rattle.mux_engine.proofs.Owns.{writes-client}
 use Rattle.mux_engine.proofs.Places.{AtStream, at-stream, open-own, places-same, places-write, stream-open}
 use Rattle.mux_engine.proofs.Silent.{holds-alike}
 use Rattle.mux_engine.proofs.Taken.{queue-present, took-asks, took-less, took-run}
@@ -45,7 +46,7 @@ returns-in-Took-clause-serving g c todo zero present first before now policy pid
     let some : 0 < length bytes = some-bytes bytes (sym c.if-is_empty.ensures) in
     let same : SameRun s c.took.new.self = took-run s c.took.new.self k n c.took.ensures.exact in
     let at : AtStream s v.journal v.closed k = at-stream v.stands k c.requires.stream_open in
-    subst (λ (x : Seen). Serving g.H.House.may (RestsOf g.H.House.told g.H.House.quiet g.H.House.must g.H.House.refused g.H.House.stands present first) before now policy pid start x c.args.held.now failed given (k ∷ todo) c.took.new.self) (sym c.in-Took.ensures.seen)
+    subst (λ (x : Seen). Serving g.H.House.may (RestsOf g.H.House.told g.H.House.known g.H.House.quiet g.H.House.must g.H.House.refused g.H.House.stands present first) before now policy pid start x c.args.held.now failed given (k ∷ todo) c.took.new.self) (sym c.in-Took.ensures.seen)
     (serve-alone v now (seen_after_write (wrote.Took n) k bytes (g.W.Wire.seen c.args.wire.now)) c.args.held.now failed given (k ∷ todo) c.took.new.self (Takes k (take n bytes))
     (c.took.ensures.stands (take n bytes) (length-take-le n bytes fits) v.picked v.replies v.journal v.closed v.stands ((λ nz. queue-present s k bytes c.queue_of-bytes.ensures.exact some nz), not-own-stream k (open-own v k c.requires.stream_open c.requires.no_house)))
     (took-asks s c.took.new.self k (take n bytes) v.journal same)
@@ -83,8 +84,8 @@ returns-in_ok-push-in-Later-clause-serving g c todo zero present first before no
     let s : State = c.args.engine.now in
     let k : ℕ = c.args.stream in
     let bytes : List ℕ = c.queue_of-bytes.result.now in
-    subst (λ (x : Seen). Serving g.H.House.may (RestsOf g.H.House.told g.H.House.quiet g.H.House.must g.H.House.refused g.H.House.stands present first) before now policy pid start x c.push.new.self failed given (without k todo) s) (sym c.in-Later.ensures.seen)
-    (subst (λ (h : List ℕ). Serving g.H.House.may (RestsOf g.H.House.told g.H.House.quiet g.H.House.must g.H.House.refused g.H.House.stands present first) before now policy pid start (seen_after_write wrote.Later k bytes (g.W.Wire.seen c.args.wire.now)) h failed given (without k todo) s) (sym c.in_ok-push-in-Later.ensures.ok)
+    subst (λ (x : Seen). Serving g.H.House.may (RestsOf g.H.House.told g.H.House.known g.H.House.quiet g.H.House.must g.H.House.refused g.H.House.stands present first) before now policy pid start x c.push.new.self failed given (without k todo) s) (sym c.in-Later.ensures.seen)
+    (subst (λ (h : List ℕ). Serving g.H.House.may (RestsOf g.H.House.told g.H.House.known g.H.House.quiet g.H.House.must g.H.House.refused g.H.House.stands present first) before now policy pid start (seen_after_write wrote.Later k bytes (g.W.Wire.seen c.args.wire.now)) h failed given (without k todo) s) (sym c.in_ok-push-in-Later.ensures.ok)
     (serve-alone v now (seen_after_write wrote.Later k bytes (g.W.Wire.seen c.args.wire.now)) (c.args.held.now ++ k ∷ []) failed given (without k todo) s (Holds k)
     (stands-alike v.journal (Holds k ∷ v.journal) v.picked v.replies s v.closed (holds-alike k v.journal) v.stands) (λ picks replies. refl)
     (next-holds v k bytes c.requires.stream_open c.requires.no_house c.queue_of-bytes.ensures.bytes (some-bytes c.queue_of-bytes.result.now (sym c.if-is_empty.ensures)))))
@@ -94,7 +95,7 @@ returns-in_ok-push-in-Later-clause-holds g c = λ t a. ap (among t) c.in_ok-push
 
 pub returns-in_err-push-in-Later-clause-serving : goal.returns-in_err-push-in-Later-clause-serving
 returns-in_err-push-in-Later-clause-serving g c todo zero present first before now policy pid start failed given v = on-err c.from_residual.result _ _ c.from_residual.ensures.0
-    (cut-holds v _ c.args.stream c.queue_of-bytes.result.now (stream-open v c.args.stream c.requires.stream_open c.requires.no_house) c.queue_of-bytes.ensures.bytes (some-bytes c.queue_of-bytes.result.now (sym c.if-is_empty.ensures)) c.in-Later.ensures.seen)
+    (cut-holds v _ c.args.stream c.queue_of-bytes.result.now (writes-client v.journal c.args.stream (open-own v c.args.stream c.requires.stream_open c.requires.no_house)) (stream-open v c.args.stream c.requires.stream_open c.requires.no_house) c.queue_of-bytes.ensures.bytes (some-bytes c.queue_of-bytes.result.now (sym c.if-is_empty.ensures)) c.in-Later.ensures.seen)
 
 -- ---- a stream that failed
 
@@ -114,13 +115,13 @@ returns-in_ok-event-in-Failed-clause-serving g c todo zero present first before 
     let said = c.in_ok-event-in-Failed.ensures.stands (WriteFails k) c.event_of_fault.ensures.write v.picked v.replies v.journal v.closed v.stands (at.accepted, not-own-stream k (open-own v k c.requires.stream_open c.requires.no_house)) in
     let none = none-asked said.asks (goes-asked (λ j. ⊥) said f.policy f.pid tt) in
     let on = goes-unasked {May = g.H.House.may} v.stands said none in
-    subst (λ (x : Seen). Serving g.H.House.may (RestsOf g.H.House.told g.H.House.quiet g.H.House.must g.H.House.refused g.H.House.stands present first) before now policy pid start x c.args.held.now failed given (without k todo) c.event.new.self) (sym c.in-Failed.ensures.seen)
+    subst (λ (x : Seen). Serving g.H.House.may (RestsOf g.H.House.told g.H.House.known g.H.House.quiet g.H.House.must g.H.House.refused g.H.House.stands present first) before now policy pid start x c.args.held.now failed given (without k todo) c.event.new.self) (sym c.in-Failed.ensures.seen)
     (serve-next v now (seen_after_write wrote.Failed k bytes (g.W.Wire.seen c.args.wire.now)) c.args.held.now failed given (without k todo) c.event.new.self (WriteFails k) on
     (next-fails v k bytes on (unasked-none g.H.House.may v.stands said none) c.requires.stream_open c.requires.no_house c.queue_of-bytes.ensures.bytes (some-bytes c.queue_of-bytes.result.now (sym c.if-is_empty.ensures)) zero f.policy f.pid f.streams f.live f.over))
 
 pub returns-in_err-event-in-Failed-clause-serving : goal.returns-in_err-event-in-Failed-clause-serving
 returns-in_err-event-in-Failed-clause-serving g c todo zero present first before now policy pid start failed given v = on-err c.from_residual-in_err-event-in-Failed.result _ _ c.from_residual-in_err-event-in-Failed.ensures.0
-    (cut-fails v _ c.args.stream c.queue_of-bytes.result.now (stream-open v c.args.stream c.requires.stream_open c.requires.no_house) c.queue_of-bytes.ensures.bytes (some-bytes c.queue_of-bytes.result.now (sym c.if-is_empty.ensures)) c.in-Failed.ensures.seen)
+    (cut-fails v _ c.args.stream c.queue_of-bytes.result.now (writes-client v.journal c.args.stream (open-own v c.args.stream c.requires.stream_open c.requires.no_house)) (stream-open v c.args.stream c.requires.stream_open c.requires.no_house) c.queue_of-bytes.ensures.bytes (some-bytes c.queue_of-bytes.result.now (sym c.if-is_empty.ensures)) c.in-Failed.ensures.seen)
 
 pub returns-in_ok-event-in-Failed-clause-streams : goal.returns-in_ok-event-in-Failed-clause-streams
 returns-in_ok-event-in-Failed-clause-streams g c = (lost g c).streams

@@ -1,0 +1,106 @@
+-- What the marks of a journal leave open of the master's own listeners and streams.
+use Rattle.std.specs.Prelude.{◌≡◌, ℕ, true, false, List, [], ◌∷◌, ◌++◌, filter, Option, Some, IsTrue}
+use Rattle.mux_outside.specs.OwnStreams.{is_finished, is_one, is_own, is_silent, new_stream, numbers_of, with_end, with_finish, with_pause, without_stream}
+use Rattle.mux_outside.specs.Seen.{Seen}
+use Rattle.mux_outside.specs.Streams.{among, without}
+use Rattle.mux_outside.specs.declared.house_mark.HouseMark.TheVariants.{HouseOrder}
+use Rattle.mux_outside.specs.declared.mark.Mark.{Mark}
+use Rattle.mux_outside.specs.declared.mark.Mark.TheVariants.{Waits, Gets, Ends, Takes, Holds, WriteFails, Joins, House}
+use Rattle.mux_outside.specs.declared.order.Order.{Order}
+use Rattle.mux_outside.specs.declared.order.Order.TheVariants.{Listen, Connect, Unlisten, Pause, Resume, Finish, Close}
+use Rattle.mux_outside.specs.declared.own_streams.OwnStream.{OwnStream}
+use Rattle.mux_history.specs.Promises.{Throughout}
+
+-- the streams behind an order, whose number is that of what it made
+abbrev pub own_ordered : Order → Option ℕ → List OwnStream → List OwnStream
+own_ordered (Connect host port) (Some t) own = own ++ new_stream t ∷ []
+own_ordered (Pause t) number own = with_pause true t own
+own_ordered (Resume t) number own = with_pause false t own
+own_ordered (Finish t) number own = with_finish t own
+own_ordered (Close t) number own = without_stream t own
+own_ordered order number own = own
+
+-- the listeners behind it
+abbrev pub listeners_ordered : Order → Option ℕ → List ℕ → List ℕ
+listeners_ordered (Listen host port) (Some l) listeners = listeners ++ l ∷ []
+listeners_ordered (Unlisten l) number listeners = without l listeners
+listeners_ordered order number listeners = listeners
+
+-- both behind a mark
+abbrev pub own_marked : Mark → List OwnStream → List OwnStream
+own_marked (Joins l t) own = own ++ new_stream t ∷ []
+own_marked (Ends t) own = with_end t own
+own_marked (House (HouseOrder order number)) own = own_ordered order number own
+own_marked mark own = own
+
+abbrev pub listeners_marked : Mark → List ℕ → List ℕ
+listeners_marked (House (HouseOrder order number)) listeners =
+    listeners_ordered order number listeners
+listeners_marked mark listeners = listeners
+
+-- both behind all marks
+abbrev pub own_in : List Mark → List OwnStream
+own_in [] = []
+own_in (mark ∷ before) = own_marked mark (own_in before)
+
+abbrev pub listeners_in : List Mark → List ℕ
+listeners_in [] = []
+listeners_in (mark ∷ before) = listeners_marked mark (listeners_in before)
+
+-- ---- what is so of each mark
+
+-- at a wait the own streams among the open ones are those, in the order in which they were opened
+abbrev pub OpenOwn : List Mark → Mark → Type 0
+OpenOwn before (Waits waiting want streams listens) =
+    filter is_own streams ≡ numbers_of (own_in before)
+OpenOwn before mark = Unit {0}
+
+-- it is one of these that gives something: it is not paused, and has not ended
+pub record IsGiving (t : ℕ) (own : List OwnStream) : Type 0 where
+  pub is : IsTrue (is_one t own)
+  pub speaks : is_silent t own ≡ false
+
+-- what an own stream gives comes from one that gives something
+abbrev pub GivesOwn : List Mark → Mark → Type 0
+GivesOwn before (Gets t bytes) = IsTrue (is_own t) → IsGiving t (own_in before)
+GivesOwn before (Ends t) = IsTrue (is_own t) → IsGiving t (own_in before)
+GivesOwn before mark = Unit {0}
+
+-- it is one of these that takes bytes: it is not finished
+pub record IsTaking (t : ℕ) (own : List OwnStream) : Type 0 where
+  pub is : IsTrue (is_one t own)
+  pub unfinished : is_finished t own ≡ false
+
+-- an own stream is written to only where it takes bytes
+abbrev pub WritesOwn : List Mark → Mark → Type 0
+WritesOwn before (Takes t bytes) = IsTrue (is_own t) → IsTaking t (own_in before)
+WritesOwn before (Holds t) = IsTrue (is_own t) → IsTaking t (own_in before)
+WritesOwn before (WriteFails t) = IsTrue (is_own t) → IsTaking t (own_in before)
+WritesOwn before mark = Unit {0}
+
+-- a socket is joined at an open listener
+abbrev pub JoinsOwn : List Mark → Mark → Type 0
+JoinsOwn before (Joins l t) = IsTrue (among l (listeners_in before))
+JoinsOwn before mark = Unit {0}
+
+-- all of it
+pub record IsPlaced (before : List Mark) (mark : Mark) : Type 0 where
+  pub opened : OpenOwn before mark
+  pub gives : GivesOwn before mark
+  pub writes : WritesOwn before mark
+  pub joins : JoinsOwn before mark
+
+-- each of it throughout
+pub record KeepsOwn (journal : List Mark) : Type 0 where
+  pub opened : Throughout OpenOwn journal
+  pub gives : Throughout GivesOwn journal
+  pub writes : Throughout WritesOwn journal
+  pub joins : Throughout JoinsOwn journal
+
+-- ---- a wire behind its marks
+
+-- its own streams and listeners are those of the marks, and its own streams are open
+pub record HasPlaces (seen : Seen) (journal : List Mark) : Type 0 where
+  pub own : seen.own ≡ own_in journal
+  pub listeners : seen.listeners ≡ listeners_in journal
+  pub streams : filter is_own seen.streams ≡ numbers_of seen.own
