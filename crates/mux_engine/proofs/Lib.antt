@@ -26,6 +26,8 @@ mod Offers
 mod OrderHoused
 mod Ordered
 mod Outs
+mod OwnAsks
+mod OwnFaults
 mod OwnMarks
 mod OwnTurns
 mod Owns

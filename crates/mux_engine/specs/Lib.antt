@@ -3,6 +3,7 @@ pub mod CallLaws
 pub mod Called
 pub mod Counted
 pub mod Orders
+pub mod OwnFaults
 pub mod Owned
 pub mod Places
 pub mod Rests

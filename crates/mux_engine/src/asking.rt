@@ -28,6 +28,7 @@ pub fn heed<W: Wire, H: House>(
     ensures calls { W.calls wire.new ≡ W.calls wire.old }
     ensures faults { W.server_faults wire.new ≡ W.server_faults wire.old }
     ensures clients { W.client_faults wire.new ≡ W.client_faults wire.old }
+    ensures own_faults { W.own_faults wire.new ≡ W.own_faults wire.old }
     ensures openings { W.openings wire.new ≡ W.openings wire.old }
     ensures joinings { W.joinings wire.new ≡ W.joinings wire.old }
 {

@@ -1,15 +1,19 @@
 ghost use Rattle.std.specs.Prelude.{◌≡◌, ◌<◌, ℕ, Bool, true, false, List, [], ◌∷◌, length, IfOk, OnOk, Some, None, MatchResult, Ok, ◌≢◌, ◌≤◌, if◌then◌else◌};
 ghost use Rattle.std.specs.declared.option.Option.{Option};
 ghost use Rattle.mux_outside.specs.Streams.{among, without};
+ghost use Rattle.mux_outside.specs.declared.house.HouseReply.{HouseReply as TheReply};
 ghost use Rattle.mux_outside.specs.declared.house_mark.HouseMark.{HouseMark as TheHouseMark};
 ghost use Rattle.mux_outside.specs.declared.mark.Mark.{Mark as TheMark};
 ghost use Rattle.mux_history.specs.declared.limits.TheConstants.{HOUSE as TheHouse};
 ghost use Rattle.mux_history.specs.declared.ended.Ended.TheVariants.{ServerFailed};
+ghost use Rattle.mux_history.specs.Journal.{is_accepted};
 ghost use Rattle.mux_history.specs.Policy.{Policy as ThePolicy};
 ghost use Rattle.mux_outside.specs.Counts.{Rose};
 ghost use Rattle.mux_outside.specs.declared.turn.Want.TheVariants.{Read as ToRead};
 ghost use Rattle.mux_machine.specs.Events.{here};
+ghost use Rattle.mux_machine.specs.Stands.{Stands};
 ghost use Rattle.mux_engine.specs.Counted.{Counts};
+ghost use Rattle.mux_engine.specs.OwnFaults.{OwnCounted};
 ghost use Rattle.mux_engine.specs.Owned.{IsOffered};
 ghost use Rattle.mux_engine.specs.Rests.{EndsByAsk, HasNoMore, IsAlone, IsByRow, IsReady};
 ghost use Rattle.mux_engine.specs.Serving.{Promised, RunsOn, ServedWith, Serving};
@@ -59,6 +63,8 @@ pub fn let_in<W: Wire, H: House>(
     ensures calls { W.calls wire.new ≡ W.calls wire.old }
     ensures faults { W.server_faults wire.new ≡ W.server_faults wire.old }
     ensures clients { W.client_faults wire.new ≡ W.client_faults wire.old }
+    ensures own_faults { OwnCounted (W.seen wire.old).told (W.seen wire.new).told
+        (W.own_faults wire.old) (W.own_faults wire.new) }
     ensures openings { W.openings wire.new ≡ W.openings wire.old }
     ensures joinings { W.joinings wire.new ≡ W.joinings wire.old }
 {
@@ -89,6 +95,8 @@ fn hand_over<W: Wire, H: House>(
     ensures calls { W.calls wire.new ≡ W.calls wire.old }
     ensures faults { W.server_faults wire.new ≡ W.server_faults wire.old }
     ensures clients { W.client_faults wire.new ≡ W.client_faults wire.old }
+    ensures own_faults { OwnCounted (W.seen wire.old).told (W.seen wire.new).told
+        (W.own_faults wire.old) (W.own_faults wire.new) }
     ensures openings { W.openings wire.new ≡ W.openings wire.old }
     ensures joinings { W.joinings wire.new ≡ W.joinings wire.old }
 {
@@ -138,6 +146,8 @@ fn reply<W: Wire, H: House>(
     ensures calls { W.calls wire.new ≡ W.calls wire.old }
     ensures faults { W.server_faults wire.new ≡ W.server_faults wire.old }
     ensures clients { W.client_faults wire.new ≡ W.client_faults wire.old }
+    ensures own_faults { OwnCounted (W.seen wire.old).told (W.seen wire.new).told
+        (W.own_faults wire.old) (W.own_faults wire.new) }
     ensures openings { W.openings wire.new ≡ W.openings wire.old }
     ensures joinings { W.joinings wire.new ≡ W.joinings wire.old }
 {
@@ -188,6 +198,8 @@ pub fn reply_all<W: Wire, H: House>(
     ensures calls { Counts 0 result (W.calls wire.old) (W.calls wire.new) }
     ensures faults { W.server_faults wire.new ≡ W.server_faults wire.old }
     ensures clients { W.client_faults wire.new ≡ W.client_faults wire.old }
+    ensures own_faults { OwnCounted (W.seen wire.old).told (W.seen wire.new).told
+        (W.own_faults wire.old) (W.own_faults wire.new) }
     ensures openings { W.openings wire.new ≡ W.openings wire.old }
     ensures joinings { W.joinings wire.new ≡ W.joinings wire.old }
 {
@@ -257,6 +269,11 @@ fn speak<W: Wire, H: House>(
     ensures calls { W.calls wire.new ≡ W.calls wire.old }
     ensures faults { W.server_faults wire.new ≡ W.server_faults wire.old }
     ensures clients { W.client_faults wire.new ≡ W.client_faults wire.old }
+    ensures own_faults { (picked : List ℕ) (replies : List TheReply) (journal : List TheMark)
+        (closed : List ℕ) → Stands picked replies engine.old journal closed
+        → is_accepted TheHouse journal ≡ true
+        → OwnCounted (W.seen wire.old).told (W.seen wire.new).told (W.own_faults wire.old)
+        (W.own_faults wire.new) }
     ensures openings { W.openings wire.new ≡ W.openings wire.old }
     ensures joinings { W.joinings wire.new ≡ W.joinings wire.old }
 {
@@ -305,6 +322,8 @@ fn ask_house<W: Wire, H: House>(
     ensures calls { Counts 0 result (W.calls wire.old) (W.calls wire.new) }
     ensures faults { W.server_faults wire.new ≡ W.server_faults wire.old }
     ensures clients { W.client_faults wire.new ≡ W.client_faults wire.old }
+    ensures own_faults { OwnCounted (W.seen wire.old).told (W.seen wire.new).told
+        (W.own_faults wire.old) (W.own_faults wire.new) }
     ensures openings { W.openings wire.new ≡ W.openings wire.old }
     ensures joinings { W.joinings wire.new ≡ W.joinings wire.old }
 {
@@ -358,6 +377,8 @@ pub fn step_house<W: Wire, H: House>(
         → (W.seen wire.new).last_own ≡ (W.seen wire.old).last_own }
     ensures later { W.server_faults wire.old ≤ W.server_faults wire.new }
     ensures calls { Counts 0 result (W.calls wire.old) (W.calls wire.new) }
+    ensures own_faults { OwnCounted (W.seen wire.old).told (W.seen wire.new).told
+        (W.own_faults wire.old) (W.own_faults wire.new) }
     ensures openings { W.openings wire.new ≡ W.openings wire.old }
     ensures joinings { W.joinings wire.new ≡ W.joinings wire.old }
 {

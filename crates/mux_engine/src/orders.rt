@@ -1,10 +1,11 @@
-ghost use Rattle.std.specs.Prelude.{◌≡◌, ◌++◌, ℕ, true, false, List, IfOk, OnOk, OnErr, Some, if◌then◌else◌};
+ghost use Rattle.std.specs.Prelude.{◌≡◌, ◌≤◌, ◌++◌, ℕ, true, false, List, IfOk, OnOk, OnErr, Some, if◌then◌else◌};
 ghost use Rattle.std.specs.Option.{option_map};
 ghost use Rattle.mux_outside.specs.House.{order_marks};
 ghost use Rattle.mux_outside.specs.HouseCalls.{HandsOn, calls_of};
 ghost use Rattle.mux_outside.specs.declared.order.Order.TheVariants.{Connect as TheConnect};
 ghost use Rattle.mux_machine.specs.State.{State as TheState};
 ghost use Rattle.mux_engine.specs.Orders.{HasOrdered, IsMade, MadeBy, failed_carried, held_carried, known_carried, more_told, own_carried, seen_carried};
+ghost use Rattle.mux_engine.specs.OwnFaults.{OrderCounted, OwnCounted};
 ghost use Rattle.mux_engine.specs.Serving.{RunsOn};
 ghost use Rattle.mux_engine.specs.Sides.{Housed, RestsOf, noted, noting};
 
@@ -55,6 +56,9 @@ fn add_stream<W: Wire, H: House>(
     ensures calls { W.calls wire.new ≡ W.calls wire.old }
     ensures faults { W.server_faults wire.new ≡ W.server_faults wire.old }
     ensures clients { W.client_faults wire.new ≡ W.client_faults wire.old }
+    ensures own_faults { IfOk result (λ number. OrderCounted (TheConnect host.now port) number
+        (W.own_faults wire.old) (W.own_faults wire.new)) }
+    ensures own_later { W.own_faults wire.old ≤ W.own_faults wire.new }
     ensures openings { W.openings wire.new ≡ W.openings wire.old }
     ensures joinings { W.joinings wire.new ≡ W.joinings wire.old }
 {
@@ -97,6 +101,9 @@ fn carry_out<W: Wire, H: House>(
     ensures calls { W.calls wire.new ≡ W.calls wire.old }
     ensures faults { W.server_faults wire.new ≡ W.server_faults wire.old }
     ensures clients { W.client_faults wire.new ≡ W.client_faults wire.old }
+    ensures own_faults { IfOk result (λ number. OrderCounted order.now number
+        (W.own_faults wire.old) (W.own_faults wire.new)) }
+    ensures own_later { W.own_faults wire.old ≤ W.own_faults wire.new }
     ensures openings { W.openings wire.new ≡ W.openings wire.old }
     ensures joinings { W.joinings wire.new ≡ W.joinings wire.old }
 {
@@ -144,6 +151,8 @@ fn obey<W: Wire, H: House>(
     ensures calls { W.calls wire.new ≡ W.calls wire.old }
     ensures faults { W.server_faults wire.new ≡ W.server_faults wire.old }
     ensures clients { W.client_faults wire.new ≡ W.client_faults wire.old }
+    ensures own_faults { OwnCounted (W.seen wire.old).told (W.seen wire.new).told
+        (W.own_faults wire.old) (W.own_faults wire.new) }
     ensures openings { W.openings wire.new ≡ W.openings wire.old }
     ensures joinings { W.joinings wire.new ≡ W.joinings wire.old }
 {
@@ -178,6 +187,8 @@ pub fn next_order<W: Wire, H: House>(
     ensures calls { W.calls wire.new ≡ W.calls wire.old }
     ensures faults { W.server_faults wire.new ≡ W.server_faults wire.old }
     ensures clients { W.client_faults wire.new ≡ W.client_faults wire.old }
+    ensures own_faults { OwnCounted (W.seen wire.old).told (W.seen wire.new).told
+        (W.own_faults wire.old) (W.own_faults wire.new) }
     ensures openings { W.openings wire.new ≡ W.openings wire.old }
     ensures joinings { W.joinings wire.new ≡ W.joinings wire.old }
 {

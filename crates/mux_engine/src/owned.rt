@@ -5,6 +5,7 @@ ghost use Rattle.mux_outside.specs.Seen.{calls_after_write, seen_after_write};
 ghost use Rattle.mux_outside.specs.Wire.{WroteFaults, WroteFits};
 ghost use Rattle.mux_outside.specs.Streams.{among};
 ghost use Rattle.mux_engine.specs.Counted.{Counts};
+ghost use Rattle.mux_engine.specs.OwnFaults.{OwnCounted};
 ghost use Rattle.mux_engine.specs.Owned.{IsOffered, left_of, waits_for};
 ghost use Rattle.mux_engine.specs.Serving.{OwnOn};
 ghost use Rattle.mux_engine.specs.Sides.{Housed, RestsOf, SamePlaces};
@@ -24,6 +25,8 @@ fn hand<W: Wire>(wire: &mut W, stream: u64, bytes: &[u8]) -> Wrote
     ensures calls { W.calls wire.new ≡ calls_after_write result (W.calls wire.old) }
     ensures cause { WroteFaults result stream (W.server_faults wire.old)
         (W.server_faults wire.new) (W.client_faults wire.old) (W.client_faults wire.new) }
+    ensures own_faults { OwnCounted (W.seen wire.old).told (W.seen wire.new).told
+        (W.own_faults wire.old) (W.own_faults wire.new) }
     ensures openings { W.openings wire.new ≡ W.openings wire.old }
     ensures joinings { W.joinings wire.new ≡ W.joinings wire.old }
 {
@@ -67,6 +70,8 @@ fn own_once<W: Wire, H: House>(
     ensures faults { W.server_faults wire.new ≡ W.server_faults wire.old }
     ensures clients { W.client_faults wire.new ≡ W.client_faults wire.old }
     ensures calls { Counts 0 result (W.calls wire.old) (W.calls wire.new) }
+    ensures own_faults { OwnCounted (W.seen wire.old).told (W.seen wire.new).told
+        (W.own_faults wire.old) (W.own_faults wire.new) }
     ensures openings { W.openings wire.new ≡ W.openings wire.old }
     ensures joinings { W.joinings wire.new ≡ W.joinings wire.old }
 {
@@ -129,6 +134,8 @@ fn offer_own<W: Wire, H: House>(
     ensures faults { W.server_faults wire.new ≡ W.server_faults wire.old }
     ensures clients { W.client_faults wire.new ≡ W.client_faults wire.old }
     ensures calls { Counts 0 result (W.calls wire.old) (W.calls wire.new) }
+    ensures own_faults { OwnCounted (W.seen wire.old).told (W.seen wire.new).told
+        (W.own_faults wire.old) (W.own_faults wire.new) }
     ensures openings { W.openings wire.new ≡ W.openings wire.old }
     ensures joinings { W.joinings wire.new ≡ W.joinings wire.old }
 {
@@ -171,6 +178,8 @@ fn own_round<W: Wire, H: House>(
     ensures faults { W.server_faults wire.new ≡ W.server_faults wire.old }
     ensures clients { W.client_faults wire.new ≡ W.client_faults wire.old }
     ensures calls { Counts 0 result (W.calls wire.old) (W.calls wire.new) }
+    ensures own_faults { OwnCounted (W.seen wire.old).told (W.seen wire.new).told
+        (W.own_faults wire.old) (W.own_faults wire.new) }
     ensures openings { W.openings wire.new ≡ W.openings wire.old }
     ensures joinings { W.joinings wire.new ≡ W.joinings wire.old }
 {
@@ -207,6 +216,8 @@ pub fn own_rounds<W: Wire, H: House>(
     ensures faults { W.server_faults wire.new ≡ W.server_faults wire.old }
     ensures clients { W.client_faults wire.new ≡ W.client_faults wire.old }
     ensures calls { Counts 0 result (W.calls wire.old) (W.calls wire.new) }
+    ensures own_faults { OwnCounted (W.seen wire.old).told (W.seen wire.new).told
+        (W.own_faults wire.old) (W.own_faults wire.new) }
     ensures openings { W.openings wire.new ≡ W.openings wire.old }
     ensures joinings { W.joinings wire.new ≡ W.joinings wire.old }
 {

@@ -13,6 +13,7 @@ ghost use Rattle.mux_history.specs.Policy.{Policy as ThePolicy};
 ghost use Rattle.mux_machine.specs.Events.{went_of, here};
 ghost use Rattle.mux_engine.specs.Called.{Handed};
 ghost use Rattle.mux_engine.specs.Counted.{Counts, Cut, Spent, Stops, Turned, Well};
+ghost use Rattle.mux_engine.specs.OwnFaults.{OwnCounted};
 ghost use Rattle.mux_engine.specs.Rests.{IsAlone, IsByRow, IsReady, ended_as, refused_if};
 ghost use Rattle.mux_engine.specs.Run.{IsRun};
 ghost use Rattle.mux_engine.specs.Serving.{EndsTurn, Promised, RunsOn, ServedWith, Serving, Spends, StaysOrFails, to_offer};
@@ -97,6 +98,8 @@ fn turn<W: Wire, H: House>(
         → (W.seen wire.new).last_own ≡ (W.seen wire.old).last_own }
     ensures later { W.server_faults wire.old ≤ W.server_faults wire.new }
     ensures calls { Counts 1 result (W.calls wire.old) (W.calls wire.new) }
+    ensures own_faults { OwnCounted (W.seen wire.old).told (W.seen wire.new).told
+        (W.own_faults wire.old) (W.own_faults wire.new) }
     ensures openings { W.openings wire.new ≡ W.openings wire.old }
     ensures joinings { W.joinings wire.new ≡ W.joinings wire.old }
 {
@@ -199,6 +202,8 @@ fn one_turn<W: Wire, H: House>(
     ensures calls { MatchResult result
         (λ on. Turned (H.known house.old).present on (W.calls wire.old) (W.calls wire.new))
         (λ e. Cut 1 (W.calls wire.old) (W.calls wire.new)) }
+    ensures own_faults { OwnCounted (W.seen wire.old).told (W.seen wire.new).told
+        (W.own_faults wire.old) (W.own_faults wire.new) }
     ensures openings { W.openings wire.new ≡ W.openings wire.old }
     ensures joinings { W.joinings wire.new ≡ W.joinings wire.old }
 {
@@ -270,6 +275,8 @@ fn turns_of<W: Wire, H: House>(
     ensures idle { turns ≡ 0 → (house.new ≡ house.old) × (engine.new ≡ engine.old)
         × SameFaults (W.server_faults wire.old) (W.server_faults wire.new)
         (W.client_faults wire.old) (W.client_faults wire.new) }
+    ensures own_faults { OwnCounted (W.seen wire.old).told (W.seen wire.new).told
+        (W.own_faults wire.old) (W.own_faults wire.new) }
     ensures openings { W.openings wire.new ≡ W.openings wire.old }
     ensures joinings { W.joinings wire.new ≡ W.joinings wire.old }
 {
@@ -324,6 +331,8 @@ fn enter<W: Wire, H: House>(
         × (wire.new ≡ wire.old) }
     ensures calls { W.calls wire.new ≡ W.calls wire.old }
     ensures faults { W.server_faults wire.new ≡ W.server_faults wire.old }
+    ensures own_faults { OwnCounted (W.seen wire.old).told (W.seen wire.new).told
+        (W.own_faults wire.old) (W.own_faults wire.new) }
     ensures openings { W.openings wire.new ≡ W.openings wire.old }
     ensures joinings { W.joinings wire.new ≡ W.joinings wire.old }
 {
@@ -363,6 +372,8 @@ fn last_replies<W: Wire, H: House>(
         × (wire.new ≡ wire.old) }
     ensures calls { Counts 0 result (W.calls wire.old) (W.calls wire.new) }
     ensures faults { W.server_faults wire.new ≡ W.server_faults wire.old }
+    ensures own_faults { OwnCounted (W.seen wire.old).told (W.seen wire.new).told
+        (W.own_faults wire.old) (W.own_faults wire.new) }
     ensures openings { W.openings wire.new ≡ W.openings wire.old }
     ensures joinings { W.joinings wire.new ≡ W.joinings wire.old }
 {
@@ -404,6 +415,8 @@ fn finish<W: Wire, H: House>(
     ensures ended { OnOk result (StaysOrFails engine.old.ended engine.new.ended
         (W.server_faults wire.old) (W.server_faults wire.new)) }
     ensures calls { Counts 0 result (W.calls wire.old) (W.calls wire.new) }
+    ensures own_faults { OwnCounted (W.seen wire.old).told (W.seen wire.new).told
+        (W.own_faults wire.old) (W.own_faults wire.new) }
     ensures openings { W.openings wire.new ≡ W.openings wire.old }
     ensures joinings { W.joinings wire.new ≡ W.joinings wire.old }
     ensures idle { engine.old.waiting ≡ [] → (H.known house.old).present ≡ false
@@ -467,6 +480,8 @@ fn run<W: Wire, H: House>(
         → (W.seen wire.new).last_own ≡ (W.seen wire.old).last_own }
     ensures places { OnOk result (((W.seen wire.new).listeners ≡ (H.known house.new).listeners)
         × ((W.seen wire.new).own ≡ (H.known house.new).streams)) }
+    ensures own_faults { OwnCounted (W.seen wire.old).told (W.seen wire.new).told
+        (W.own_faults wire.old) (W.own_faults wire.new) }
     ensures openings { W.openings wire.new ≡ W.openings wire.old }
     ensures joinings { W.joinings wire.new ≡ W.joinings wire.old }
     ensures idle { turns ≡ 0 → (H.known house.old).present ≡ false
@@ -495,7 +510,8 @@ fn run<W: Wire, H: House>(
 /// order. Behind a call that wanted memory none is made. But for want of memory the wire's own
 /// listeners and streams are at the end, too, those that the house ordered, and knows; without a
 /// house none was opened. The forwarding of the start that an answer names was refused, where none
-/// may be.
+/// may be. Each order of the house to listen or to connect that got no number is an own fault that
+/// was counted, unless that count stands at its last value.
 pub fn serve<W: Wire, H: House>(
     alloc: Global,
     policy: Policy,
@@ -529,6 +545,8 @@ pub fn serve<W: Wire, H: House>(
     ensures places { result ≢ WantOfMemory
         → ((W.seen wire.new).listeners ≡ (H.known house.new).listeners)
         × ((W.seen wire.new).own ≡ (H.known house.new).streams) }
+    ensures own_faults { OwnCounted (W.seen wire.old).told (W.seen wire.new).told
+        (W.own_faults wire.old) (W.own_faults wire.new) }
     ensures openings { W.openings wire.new ≡ W.openings wire.old }
     ensures joinings { W.joinings wire.new ≡ W.joinings wire.old }
     ensures idle { turns ≡ 0 → (H.known house.old).present ≡ false

@@ -11,6 +11,7 @@ ghost use Rattle.mux_history.specs.declared.limits.TheConstants.{HOUSE as TheHou
 ghost use Rattle.mux_machine.specs.Events.{here};
 ghost use Rattle.mux_machine.specs.State.{queue_in};
 ghost use Rattle.mux_engine.specs.Counted.{Counts};
+ghost use Rattle.mux_engine.specs.OwnFaults.{OwnCounted};
 ghost use Rattle.mux_engine.specs.Rests.{IsReady};
 ghost use Rattle.mux_engine.specs.Serving.{IsServed, Serving, ServesOn, StaysOrFails, is_open};
 ghost use Rattle.mux_engine.specs.Sides.{Housed, RestsOf, SamePlaces, Side as TheSide};
@@ -56,6 +57,8 @@ fn offer_once<W: Wire, H: House>(
     ensures client { OnOk result (stream ≢ 0 → engine.new.ended ≡ engine.old.ended) }
     ensures later { W.server_faults wire.old ≤ W.server_faults wire.new }
     ensures calls { Counts 0 result (W.calls wire.old) (W.calls wire.new) }
+    ensures own_faults { OwnCounted (W.seen wire.old).told (W.seen wire.new).told
+        (W.own_faults wire.old) (W.own_faults wire.new) }
     ensures openings { W.openings wire.new ≡ W.openings wire.old }
     ensures joinings { W.joinings wire.new ≡ W.joinings wire.old }
     ensures idle { queue_in engine.old stream ≡ [] → (engine.new ≡ engine.old)
@@ -108,6 +111,8 @@ fn offer<W: Wire, H: House>(
     ensures client { OnOk result (stream ≢ 0 → engine.new.ended ≡ engine.old.ended) }
     ensures later { W.server_faults wire.old ≤ W.server_faults wire.new }
     ensures calls { Counts 0 result (W.calls wire.old) (W.calls wire.new) }
+    ensures own_faults { OwnCounted (W.seen wire.old).told (W.seen wire.new).told
+        (W.own_faults wire.old) (W.own_faults wire.new) }
     ensures openings { W.openings wire.new ≡ W.openings wire.old }
     ensures joinings { W.joinings wire.new ≡ W.joinings wire.old }
     ensures idle { queue_in engine.old stream ≡ [] → (engine.new ≡ engine.old)
@@ -142,6 +147,8 @@ fn offer_clients<W: Wire, H: House>(
     ensures ended { OnOk result (engine.new.ended ≡ engine.old.ended) }
     ensures later { W.server_faults wire.old ≤ W.server_faults wire.new }
     ensures calls { Counts 0 result (W.calls wire.old) (W.calls wire.new) }
+    ensures own_faults { OwnCounted (W.seen wire.old).told (W.seen wire.new).told
+        (W.own_faults wire.old) (W.own_faults wire.new) }
     ensures openings { W.openings wire.new ≡ W.openings wire.old }
     ensures joinings { W.joinings wire.new ≡ W.joinings wire.old }
     ensures idle { engine.old.waiting ≡ [] → (engine.new ≡ engine.old) × (wire.new ≡ wire.old) }
@@ -173,6 +180,8 @@ pub fn hush<W: Wire, H: House>(engine: &Engine, wire: &mut W)
     ensures faults { W.server_faults wire.new ≡ W.server_faults wire.old }
     ensures client { W.client_faults wire.new ≡ W.client_faults wire.old }
     ensures calls { W.calls wire.new ≡ W.calls wire.old }
+    ensures own_faults { OwnCounted (W.seen wire.old).told (W.seen wire.new).told
+        (W.own_faults wire.old) (W.own_faults wire.new) }
     ensures openings { W.openings wire.new ≡ W.openings wire.old }
     ensures joinings { W.joinings wire.new ≡ W.joinings wire.old }
 {
@@ -207,6 +216,8 @@ pub fn flush<W: Wire, H: House>(
         (W.server_faults wire.old) (W.server_faults wire.new)) }
     ensures later { W.server_faults wire.old ≤ W.server_faults wire.new }
     ensures calls { Counts 0 result (W.calls wire.old) (W.calls wire.new) }
+    ensures own_faults { OwnCounted (W.seen wire.old).told (W.seen wire.new).told
+        (W.own_faults wire.old) (W.own_faults wire.new) }
     ensures openings { W.openings wire.new ≡ W.openings wire.old }
     ensures joinings { W.joinings wire.new ≡ W.joinings wire.old }
     ensures idle { engine.old.waiting ≡ [] → (engine.new ≡ engine.old)
@@ -244,6 +255,8 @@ pub fn close_lost<W: Wire, H: House>(engine: &mut Engine, wire: &mut W, held: &m
     ensures unopened { (W.seen wire.new).last_own ≡ (W.seen wire.old).last_own }
     ensures faults { W.server_faults wire.new ≡ W.server_faults wire.old }
     ensures calls { W.calls wire.new ≡ W.calls wire.old }
+    ensures own_faults { OwnCounted (W.seen wire.old).told (W.seen wire.new).told
+        (W.own_faults wire.old) (W.own_faults wire.new) }
     ensures openings { W.openings wire.new ≡ W.openings wire.old }
     ensures joinings { W.joinings wire.new ≡ W.joinings wire.old }
 {

@@ -16,6 +16,7 @@ loop-mark-preserved g c = record {
   calls = c.note.ensures.calls ∙ c.loop-mark.invariant.calls;
   faults = c.note.ensures.server ∙ c.loop-mark.invariant.faults;
   clients = c.note.ensures.client ∙ c.loop-mark.invariant.clients;
+  own_faults = c.note.ensures.own ∙ c.loop-mark.invariant.own_faults;
   openings = c.note.ensures.openings ∙ c.loop-mark.invariant.openings;
   joinings = c.note.ensures.joinings ∙ c.loop-mark.invariant.joinings;
 }

@@ -8,6 +8,7 @@ invariant-loop-mark g l = let W = g.W.Wire in record {
   calls : W.calls l.wire ≡ W.calls l.fn.wire;
   faults : W.server_faults l.wire ≡ W.server_faults l.fn.wire;
   clients : W.client_faults l.wire ≡ W.client_faults l.fn.wire;
+  own_faults : W.own_faults l.wire ≡ W.own_faults l.fn.wire;
   openings : W.openings l.wire ≡ W.openings l.fn.wire;
   joinings : W.joinings l.wire ≡ W.joinings l.fn.wire;
 }

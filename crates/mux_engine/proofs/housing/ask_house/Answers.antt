@@ -3,6 +3,7 @@ use Rattle.mux_outside.specs.HouseCalls.{HouseCall}
 use Rattle.mux_outside.specs.Streams.{without}
 use Rattle.mux_history.specs.declared.limits.TheConstants.{HOUSE}
 use Rattle.mux_machine.specs.Events.{here}
+use Rattle.mux_engine.proofs.OwnFaults.{own-same, own-then}
 use Rattle.mux_engine.specs.Called.{Handed}
 use Rattle.mux_engine.specs.Rests.{HasNoMore}
 use Rattle.mux_engine.specs.Serving.{Serving}
@@ -96,3 +97,14 @@ returns-clause-ready g c =
     subst (λ (x : Lists). HasNoMore (H.known c.next_order.new.house) (H.quiet c.next_order.new.house) (H.queue c.next_order.new.house) x.held x.failed x.own) (sym l)
     (no-more (H.known c.next_order.new.house) (H.quiet c.reply_all.new.house) (H.quiet c.next_order.new.house) (H.queue c.reply_all.new.house) (H.queue c.next_order.new.house) c.reply_all.new.lists.held c.reply_all.new.lists.failed c.reply_all.new.lists.own o c.in_ok-reply_all.ensures.answered q u c.in_ok-reply_all.ensures.offered))
     c.next_order.ensures.quiet c.next_order.ensures.orders c.next_order.ensures.queues c.next_order.ensures.still
+
+-- ---- own faults
+
+pub returns-then-not-present-clause-own_faults : goal.returns-then-not-present-clause-own_faults
+returns-then-not-present-clause-own_faults g c = own-same _ _
+
+pub returns-in_err-reply_all-clause-own_faults : goal.returns-in_err-reply_all-clause-own_faults
+returns-in_err-reply_all-clause-own_faults g c = c.reply_all.ensures.own_faults
+
+pub returns-clause-own_faults : goal.returns-clause-own_faults
+returns-clause-own_faults g c = own-then _ _ _ _ _ _ c.reply_all.ensures.own_faults c.next_order.ensures.own_faults

@@ -5,6 +5,7 @@ use Rattle.mux_outside.specs.Streams.{without}
 use Rattle.mux_outside.specs.declared.house_mark.HouseMark.TheVariants.{HouseTook}
 use Rattle.mux_history.specs.declared.limits.TheConstants.{HOUSE}
 use Rattle.mux_machine.specs.Events.{here}
+use Rattle.mux_engine.proofs.OwnFaults.{own-note, own-same}
 use Rattle.mux_engine.specs.Serving.{Serving}
 use Rattle.mux_engine.specs.Sides.{RestsOf, noted}
 use Rattle.mux_engine.proofs.Arms.{empty-is, on-err, some-bytes}
@@ -36,3 +37,17 @@ returns-clause-serving g c held failed first calls before policy pid start given
     handed-more _ (Hears bytes ∷ []) hands c.in_ok-takes.ensures.stands
     (subst (λ (x : Seen). Serving H.may (RestsOf H.told H.known H.quiet H.must H.refused H.stands (H.known c.args.house.now).present first) before (noted (H.told c.takes.new.self) (H.known c.takes.new.self) (calls ++ Hears bytes ∷ [])) policy pid start x held failed (given + 0) (0 ∷ without HOUSE (here c.took.new.self)) c.took.new.self) (sym c.in_ok-note.ensures.seen)
     (no-turns (handed (H.known c.takes.new.self) v c.took.new.self bytes c.in_ok-takes.ensures.told c.in_ok-takes.ensures.known c.queue_of-bytes.ensures.exact (some-bytes bytes (sym c.if-is_empty.ensures)) c.queue_of-bytes.ensures.waits c.took.ensures.exact (c.took.ensures.stands bytes refl))))
+
+-- ---- own faults
+
+pub returns-then-is_empty-clause-own_faults : goal.returns-then-is_empty-clause-own_faults
+returns-then-is_empty-clause-own_faults g c = own-same _ _
+
+pub returns-in_err-takes-clause-own_faults : goal.returns-in_err-takes-clause-own_faults
+returns-in_err-takes-clause-own_faults g c = own-same _ _
+
+pub returns-in_err-note-clause-own_faults : goal.returns-in_err-note-clause-own_faults
+returns-in_err-note-clause-own_faults g c = own-note c.note.result (HouseTook (length c.queue_of-bytes.result.now)) _ _ _ _ refl c.note.ensures.seen c.note.ensures.own
+
+pub returns-clause-own_faults : goal.returns-clause-own_faults
+returns-clause-own_faults g c = own-note c.note.result (HouseTook (length c.queue_of-bytes.result.now)) _ _ _ _ refl c.note.ensures.seen c.note.ensures.own

@@ -3,6 +3,8 @@ use Rattle.mux_outside.specs.Seen.{Seen}
 use Rattle.mux_outside.specs.declared.mark.Mark.TheVariants.{Accepts}
 use Rattle.mux_history.specs.declared.limits.TheConstants.{HOUSE}
 use Rattle.mux_machine.specs.Events.{here}
+use Rattle.mux_outside.specs.declared.house_mark.HouseMark.TheVariants.{HouseIn}
+use Rattle.mux_engine.proofs.OwnFaults.{own-note}
 use Rattle.mux_engine.specs.Serving.{Promised, Serving}
 use Rattle.mux_engine.specs.Sides.{RestsOf}
 use Rattle.mux_engine.proofs.Arms.{on-err}
@@ -26,3 +28,14 @@ returns-clause-serving g c present first before now policy pid start held failed
 
 pub returns-clause-on : goal.returns-clause-on
 returns-clause-on g c present first before now policy pid start held failed given v none = let-in-live v c.event.new.self none c.requires.on (c.in_ok-event.ensures.ends (Accepts HOUSE) refl)
+
+-- ---- own faults
+
+pub returns-in_err-note-clause-own_faults : goal.returns-in_err-note-clause-own_faults
+returns-in_err-note-clause-own_faults g c = own-note c.note.result HouseIn _ _ _ _ refl c.note.ensures.seen c.note.ensures.own
+
+pub returns-in_err-event-clause-own_faults : goal.returns-in_err-event-clause-own_faults
+returns-in_err-event-clause-own_faults g c = own-note c.note.result HouseIn _ _ _ _ refl c.note.ensures.seen c.note.ensures.own
+
+pub returns-clause-own_faults : goal.returns-clause-own_faults
+returns-clause-own_faults g c = own-note c.note.result HouseIn _ _ _ _ refl c.note.ensures.seen c.note.ensures.own

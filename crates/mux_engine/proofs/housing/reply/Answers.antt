@@ -4,6 +4,7 @@ use Rattle.mux_outside.specs.HouseCalls.{HouseCall, calls_of}
 use Rattle.mux_outside.specs.Seen.{Seen}
 use Rattle.mux_outside.specs.declared.house_mark.HouseMark.TheVariants.{HouseAnswer}
 use Rattle.mux_machine.specs.Events.{here}
+use Rattle.mux_engine.proofs.OwnFaults.{own-note, own-same}
 use Rattle.mux_engine.specs.Serving.{Promised, Serving}
 use Rattle.mux_engine.specs.Sides.{RestsOf, noted}
 use Rattle.mux_engine.proofs.Arms.{on-err}
@@ -42,3 +43,17 @@ returns-clause-fewer g c = λ more. subst (λ (k : Known). length k.asks < lengt
 
 pub returns-in_default-clause-serving : goal.returns-in_default-clause-serving
 returns-in_default-clause-serving g c held failed first calls before policy pid start given hands v = still-handed (g.H.House.known c.answer.new.self) hands c.in_default.ensures.stands c.in_default.ensures.told c.in_default.ensures.known v
+
+-- ---- own faults
+
+pub returns-in_default-clause-own_faults : goal.returns-in_default-clause-own_faults
+returns-in_default-clause-own_faults g c = own-same _ _
+
+pub returns-in_err-note-clause-own_faults : goal.returns-in_err-note-clause-own_faults
+returns-in_err-note-clause-own_faults g c = own-note c.note.result (HouseAnswer c.in-Some.client c.in-Some.id c.in-Some.given) _ _ _ _ refl c.note.ensures.seen c.note.ensures.own
+
+pub returns-in_err-event-clause-own_faults : goal.returns-in_err-event-clause-own_faults
+returns-in_err-event-clause-own_faults g c = own-note c.note.result (HouseAnswer c.in-Some.client c.in-Some.id c.in-Some.given) _ _ _ _ refl c.note.ensures.seen c.note.ensures.own
+
+pub returns-clause-own_faults : goal.returns-clause-own_faults
+returns-clause-own_faults g c = own-note c.note.result (HouseAnswer c.in-Some.client c.in-Some.id c.in-Some.given) _ _ _ _ refl c.note.ensures.seen c.note.ensures.own

@@ -4,6 +4,7 @@ use Rattle.mux_outside.specs.Streams.{without}
 use Rattle.mux_outside.specs.declared.house_mark.HouseMark.{HouseMark}
 use Rattle.mux_history.specs.declared.limits.TheConstants.{HOUSE}
 use Rattle.mux_machine.specs.Events.{here}
+use Rattle.mux_engine.proofs.OwnFaults.{own-same, own-then}
 use Rattle.mux_engine.specs.Owned.{IsOffered}
 use Rattle.mux_engine.specs.Serving.{Promised}
 use Rattle.mux_engine.specs.Sides.{Housed, RestsOf, noted}
@@ -26,6 +27,7 @@ loop-wire-init g c = record {
   faults = refl;
   clients = refl;
   calls = well-none _;
+  own_faults = own-same _ _;
   openings = refl;
   joinings = refl;
 }
@@ -80,6 +82,7 @@ loop-wire-preserved g c = let H = g.H.House in let w = c.requires.served in reco
   calls = (well-still _ _ _ (well-then _ _ _ (well-still _ _ _ c.loop-wire.invariant.calls c.hand_over.ensures.calls) c.in_ok-own_rounds.ensures.calls) c.reply.ensures.calls);
   faults = c.reply.ensures.faults ∙ (c.own_rounds.ensures.faults ∙ (c.hand_over.ensures.faults ∙ c.loop-wire.invariant.faults));
   clients = c.reply.ensures.clients ∙ (c.own_rounds.ensures.clients ∙ (c.hand_over.ensures.clients ∙ c.loop-wire.invariant.clients));
+  own_faults = own-then _ _ _ _ _ _ (own-then _ _ _ _ _ _ (own-then _ _ _ _ _ _ c.loop-wire.invariant.own_faults c.hand_over.ensures.own_faults) c.own_rounds.ensures.own_faults) c.reply.ensures.own_faults;
   openings = c.reply.ensures.openings ∙ (c.own_rounds.ensures.openings ∙ (c.hand_over.ensures.openings ∙ c.loop-wire.invariant.openings));
   joinings = c.reply.ensures.joinings ∙ (c.own_rounds.ensures.joinings ∙ (c.hand_over.ensures.joinings ∙ c.loop-wire.invariant.joinings));
 }
@@ -123,6 +126,7 @@ returns-then-not-branch g c = let H = g.H.House in let w = c.requires.served in 
   calls = (well-still _ _ _ (well-then _ _ _ (well-still _ _ _ c.loop-wire.invariant.calls c.hand_over.ensures.calls) c.in_ok-own_rounds.ensures.calls) c.reply.ensures.calls);
   faults = c.reply.ensures.faults ∙ (c.own_rounds.ensures.faults ∙ (c.hand_over.ensures.faults ∙ c.loop-wire.invariant.faults));
   clients = c.reply.ensures.clients ∙ (c.own_rounds.ensures.clients ∙ (c.hand_over.ensures.clients ∙ c.loop-wire.invariant.clients));
+  own_faults = own-then _ _ _ _ _ _ (own-then _ _ _ _ _ _ (own-then _ _ _ _ _ _ c.loop-wire.invariant.own_faults c.hand_over.ensures.own_faults) c.own_rounds.ensures.own_faults) c.reply.ensures.own_faults;
   openings = c.reply.ensures.openings ∙ (c.own_rounds.ensures.openings ∙ (c.hand_over.ensures.openings ∙ c.loop-wire.invariant.openings));
   joinings = c.reply.ensures.joinings ∙ (c.own_rounds.ensures.joinings ∙ (c.hand_over.ensures.joinings ∙ c.loop-wire.invariant.joinings));
 }
@@ -145,6 +149,7 @@ returns-in_err-hand_over g c = let H = g.H.House in record {
   calls = counts-err c.from_residual.result 0 _ _ c.from_residual.ensures.0 (cut-well _ _ _ c.loop-wire.invariant.calls c.hand_over.ensures.calls);
   faults = c.hand_over.ensures.faults ∙ c.loop-wire.invariant.faults;
   clients = c.hand_over.ensures.clients ∙ c.loop-wire.invariant.clients;
+  own_faults = own-then _ _ _ _ _ _ c.loop-wire.invariant.own_faults c.hand_over.ensures.own_faults;
   openings = c.hand_over.ensures.openings ∙ c.loop-wire.invariant.openings;
   joinings = c.hand_over.ensures.joinings ∙ c.loop-wire.invariant.joinings;
 }
@@ -166,6 +171,7 @@ returns-in_err-own_rounds g c = let H = g.H.House in record {
   calls = counts-err c.from_residual-in_err-own_rounds.result 0 _ _ c.from_residual-in_err-own_rounds.ensures.0 (cut-then _ _ _ (well-still _ _ _ c.loop-wire.invariant.calls c.hand_over.ensures.calls) c.in_err-own_rounds.ensures.calls);
   faults = c.own_rounds.ensures.faults ∙ (c.hand_over.ensures.faults ∙ c.loop-wire.invariant.faults);
   clients = c.own_rounds.ensures.clients ∙ (c.hand_over.ensures.clients ∙ c.loop-wire.invariant.clients);
+  own_faults = own-then _ _ _ _ _ _ (own-then _ _ _ _ _ _ c.loop-wire.invariant.own_faults c.hand_over.ensures.own_faults) c.own_rounds.ensures.own_faults;
   openings = c.own_rounds.ensures.openings ∙ (c.hand_over.ensures.openings ∙ c.loop-wire.invariant.openings);
   joinings = c.own_rounds.ensures.joinings ∙ (c.hand_over.ensures.joinings ∙ c.loop-wire.invariant.joinings);
 }
@@ -189,6 +195,7 @@ returns-in_err-reply g c = let H = g.H.House in record {
   calls = counts-err c.from_residual-in_err-reply.result 0 _ _ c.from_residual-in_err-reply.ensures.0 (cut-well _ _ _ (well-then _ _ _ (well-still _ _ _ c.loop-wire.invariant.calls c.hand_over.ensures.calls) c.in_ok-own_rounds.ensures.calls) c.reply.ensures.calls);
   faults = c.reply.ensures.faults ∙ (c.own_rounds.ensures.faults ∙ (c.hand_over.ensures.faults ∙ c.loop-wire.invariant.faults));
   clients = c.reply.ensures.clients ∙ (c.own_rounds.ensures.clients ∙ (c.hand_over.ensures.clients ∙ c.loop-wire.invariant.clients));
+  own_faults = own-then _ _ _ _ _ _ (own-then _ _ _ _ _ _ (own-then _ _ _ _ _ _ c.loop-wire.invariant.own_faults c.hand_over.ensures.own_faults) c.own_rounds.ensures.own_faults) c.reply.ensures.own_faults;
   openings = c.reply.ensures.openings ∙ (c.own_rounds.ensures.openings ∙ (c.hand_over.ensures.openings ∙ c.loop-wire.invariant.openings));
   joinings = c.reply.ensures.joinings ∙ (c.own_rounds.ensures.joinings ∙ (c.hand_over.ensures.joinings ∙ c.loop-wire.invariant.joinings));
 }

@@ -11,6 +11,8 @@ use Rattle.mux_clients.specs.Asked.{TellsAsks}
 use Rattle.mux_machine.specs.Events.{Tells}
 use Rattle.mux_machine.specs.declared.event.Event.{Event}
 use Rattle.mux_outside.proofs.HouseCalls.{hands-then}
+use Rattle.mux_engine.proofs.OwnAsks.{heeded-counted, house-comes}
+use Rattle.mux_engine.proofs.OwnFaults.{own-note, own-same, own-then}
 use Rattle.mux_engine.specs.Sides.{SameHouse}
 use Rattle.mux_engine.proofs.Arms.{on-err}
 use Rattle.mux_engine.proofs.Called.{handed-more}
@@ -123,3 +125,25 @@ returns-then-not-branch-clause-serving g c held failed first calls before policy
     let none : c.says.result ≡ Ok false = c.in_ok-says.was ∙ ap (λ (b : Bool). Ok b) c.if-not-branch.true in
     still-handed (H.known c.says.new.self) hands (hands-nothing (H.stands c.args.house.now) (H.stands c.says.new.self) c.says.result c.says.new.into none c.says.ensures.stands)
     (told-nothing c.says.result c.says.new.into (H.told c.args.house.now) (H.told c.says.new.self) none c.says.ensures.told) c.in_ok-says.ensures.known v
+
+-- ---- own faults
+
+pub returns-in_err-says-clause-own_faults : goal.returns-in_err-says-clause-own_faults
+returns-in_err-says-clause-own_faults g c picked replies journal closed st within = own-same _ _
+
+pub returns-then-not-branch-clause-own_faults : goal.returns-then-not-branch-clause-own_faults
+returns-then-not-branch-clause-own_faults g c picked replies journal closed st within = own-same _ _
+
+pub returns-in_err-bytes-clause-own_faults : goal.returns-in_err-bytes-clause-own_faults
+returns-in_err-bytes-clause-own_faults g c picked replies journal closed st within = own-same _ _
+
+pub returns-in_err-note-clause-own_faults : goal.returns-in_err-note-clause-own_faults
+returns-in_err-note-clause-own_faults g c picked replies journal closed st within = own-note c.note.result (HouseSaid c.in_ok-bytes.bytes) _ _ _ _ refl c.note.ensures.seen c.note.ensures.own
+
+pub returns-in_err-heed-clause-own_faults : goal.returns-in_err-heed-clause-own_faults
+returns-in_err-heed-clause-own_faults g c picked replies journal closed st within = let H = g.H.House in own-then _ _ _ _ _ _ (own-note c.note.result (HouseSaid c.in_ok-bytes.bytes) _ _ _ _ refl c.note.ensures.seen c.note.ensures.own)
+    (heeded-counted st (house-comes c.event_of_bytes-said.result c.args.engine.now journal c.as_bytes-2.result.now within c.event_of_bytes-said.ensures.bytes c.event_of_bytes-said.ensures.tells) c.heed.result H.may c.heed.new.engine c.heed.new.asks _ _ _ _ _ _ _ _ c.heed.ensures.own_faults c.heed.ensures.heeded)
+
+pub returns-clause-own_faults : goal.returns-clause-own_faults
+returns-clause-own_faults g c picked replies journal closed st within = let H = g.H.House in own-then _ _ _ _ _ _ (own-note c.note.result (HouseSaid c.in_ok-bytes.bytes) _ _ _ _ refl c.note.ensures.seen c.note.ensures.own)
+    (heeded-counted st (house-comes c.event_of_bytes-said.result c.args.engine.now journal c.as_bytes-2.result.now within c.event_of_bytes-said.ensures.bytes c.event_of_bytes-said.ensures.tells) c.heed.result H.may c.heed.new.engine c.heed.new.asks _ _ _ _ _ _ _ _ c.heed.ensures.own_faults c.heed.ensures.heeded)

@@ -2,6 +2,7 @@ use Rattle.std.proofs.Common.{◌≡◌, ◌+◌, ◌∙◌, List, ◌∷◌, []
 use Rattle.std.specs.Prelude.{Ok}
 use Rattle.mux_machine.specs.Events.{here}
 use Rattle.mux_outside.specs.HouseCalls.{HouseCall}
+use Rattle.mux_engine.proofs.OwnFaults.{own-then}
 use Rattle.mux_engine.specs.Called.{Handed}
 use Rattle.mux_engine.specs.Rests.{EndsByAsk}
 use Rattle.mux_engine.specs.Serving.{Serving}
@@ -133,3 +134,30 @@ returns-then-not-present-clause-held_is g c =
     let s = c.requires.served in
     let h = ok-serves c.ask_house.result _ _ is (c.ask_house.ensures.serving s.first s.calls s.before s.policy s.pid s.start s.given s.hands s.serving) in
     let x = (ok-serves c.flush.result _ _ c.in_ok-flush.was (c.flush.ensures.serving [] (H.known c.args.house.now).present s.first s.before (noted (H.told house) (H.known house) h.all) s.policy s.pid s.start lists.failed s.given (to-flush h.so))) in x.held_is
+
+-- ---- own faults
+
+pub returns-in_err-flush-clause-own_faults : goal.returns-in_err-flush-clause-own_faults
+returns-in_err-flush-clause-own_faults g c = own-then _ _ _ _ _ _ c.ask_house.ensures.own_faults c.flush.ensures.own_faults
+
+pub returns-then-not-present-clause-own_faults : goal.returns-then-not-present-clause-own_faults
+returns-then-not-present-clause-own_faults g c = own-then _ _ _ _ _ _ c.ask_house.ensures.own_faults c.flush.ensures.own_faults
+
+pub returns-then-branch-clause-own_faults : goal.returns-then-branch-clause-own_faults
+returns-then-branch-clause-own_faults g c = c.ask_house.ensures.own_faults
+
+pub returns-in_err-ask_house-clause-own_faults : goal.returns-in_err-ask_house-clause-own_faults
+returns-in_err-ask_house-clause-own_faults g c = c.ask_house.ensures.own_faults
+
+pub returns-clause-own_faults : goal.returns-clause-own_faults
+returns-clause-own_faults g c =
+    let H = g.H.House in
+    let W = g.W.Wire in
+    let house = c.ask_house.new.house in
+    let lists = c.ask_house.new.lists in
+    let is : c.ask_house.result ≡ Ok false = c.in_ok-ask_house.was ∙ ap (λ (b : Bool). Ok b) c.if-branch.false in
+    let s = c.requires.served in
+    let h = ok-serves c.ask_house.result _ _ is (c.ask_house.ensures.serving s.first s.calls s.before s.policy s.pid s.start s.given s.hands s.serving) in
+    let x = (ok-serves c.flush.result _ _ c.in_ok-flush.was (c.flush.ensures.serving [] (H.known c.args.house.now).present s.first s.before (noted (H.told house) (H.known house) h.all) s.policy s.pid s.start lists.failed s.given (to-flush h.so))) in
+    own-then _ _ _ _ _ _ (own-then _ _ _ _ _ _ c.ask_house.ensures.own_faults c.flush.ensures.own_faults)
+    (c.speak.ensures.own_faults x.picked x.replies x.journal x.closed x.stands (x.house_in ∙ (sym c.present.ensures.present ∙ c.if-not-present.false)))

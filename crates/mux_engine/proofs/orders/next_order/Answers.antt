@@ -2,6 +2,7 @@ use Rattle.std.proofs.Common.{◌+◌, ◌++◌, List, sym, subst, Bool, Some}
 use Rattle.mux_outside.specs.House.{order_marks}
 use Rattle.mux_outside.specs.HouseCalls.{HouseCall, calls_of}
 use Rattle.mux_outside.proofs.HouseCalls.{hands-then}
+use Rattle.mux_engine.proofs.OwnFaults.{own-same}
 use Rattle.mux_engine.specs.Serving.{Promised, Serving}
 use Rattle.mux_engine.specs.Sides.{RestsOf, noted, noting}
 use Rattle.mux_engine.proofs.Arms.{on-err}
@@ -35,3 +36,14 @@ returns-clause-serving g c todo s first calls before policy pid start given hand
 
 pub returns-in_default-clause-serving : goal.returns-in_default-clause-serving
 returns-in_default-clause-serving g c todo s first calls before policy pid start given hands v = still-handed (g.H.House.known c.order.new.self) hands c.in_default.ensures.stands c.in_default.ensures.told c.in_default.ensures.known v
+
+-- ---- own faults
+
+pub returns-in_default-clause-own_faults : goal.returns-in_default-clause-own_faults
+returns-in_default-clause-own_faults g c = own-same _ _
+
+pub returns-in_err-obey-clause-own_faults : goal.returns-in_err-obey-clause-own_faults
+returns-in_err-obey-clause-own_faults g c = c.obey.ensures.own_faults
+
+pub returns-clause-own_faults : goal.returns-clause-own_faults
+returns-clause-own_faults g c = c.obey.ensures.own_faults

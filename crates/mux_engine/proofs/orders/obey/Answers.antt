@@ -1,5 +1,6 @@
 use Rattle.std.proofs.Common.{◌∙◌, ◌++◌, List, [], ap, refl, arith}
 use Rattle.mux_outside.specs.HouseCalls.{HouseCall, calls_of}
+use Rattle.mux_engine.proofs.OwnFaults.{own-ordered, own-still}
 use Rattle.mux_engine.specs.Orders.{more_told}
 use Rattle.mux_engine.specs.Sides.{noted}
 use Rattle.mux_engine.proofs.Arms.{on-err}
@@ -28,3 +29,11 @@ pub returns-clause-housed : goal.returns-clause-housed
 returns-clause-housed g c =
     let o = c.in_ok-number.ensures in
     housed-noted c.note.result c.args.order c.in_ok-number.number _ _ _ _ _ _ _ _ c.requires.ordered o.made o.known o.seen o.own c.note.ensures.seen
+
+-- ---- own faults
+
+pub returns-in_err-number-clause-own_faults : goal.returns-in_err-number-clause-own_faults
+returns-in_err-number-clause-own_faults g c = own-still _ _ _ _ c.in_err-number.ensures.kept c.carry_out.ensures.own_later
+
+pub returns-clause-own_faults : goal.returns-clause-own_faults
+returns-clause-own_faults g c = let o = c.in_ok-number.ensures in own-ordered c.note.result c.args.order c.in_ok-number.number (g.W.Wire.seen c.args.wire.now) (g.W.Wire.seen c.carry_out.new.wire) _ _ _ _ (ap (λ x. x.told) o.seen ∙ carried-told c.args.order c.in_ok-number.number _) o.own_faults c.note.ensures.seen c.note.ensures.own

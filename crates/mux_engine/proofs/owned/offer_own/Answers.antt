@@ -2,6 +2,7 @@ use Rattle.std.proofs.Common.{◌∙◌, refl, arith, le_trans, le_refl}
 use Rattle.mux_engine.proofs.Called.{handed-none}
 use Rattle.mux_engine.proofs.Arms.{cut-then, on-err, well-none, well-then}
 use Rattle.mux_engine.proofs.Loops.{counts-err}
+use Rattle.mux_engine.proofs.OwnFaults.{own-same, own-then}
 use Rattle.mux_engine.proofs.Places.{places-same, places-then}
 use Rattle.mux_engine.proofs.owned.offer_own.Goals as goal
 
@@ -19,6 +20,7 @@ loop-init g c = record {
   faults = refl;
   clients = refl;
   calls = well-none _;
+  own_faults = own-same _ _;
   openings = refl;
   joinings = refl;
   keeps = λ same t q. q;
@@ -40,6 +42,7 @@ loop-preserved g c = let v = c.loop.invariant in let o = c.in_ok-own_once.ensure
   faults = c.own_once.ensures.faults ∙ v.faults;
   clients = c.own_once.ensures.clients ∙ v.clients;
   calls = well-then _ _ _ v.calls o.calls;
+  own_faults = own-then _ _ _ _ _ _ v.own_faults c.own_once.ensures.own_faults;
   openings = c.own_once.ensures.openings ∙ v.openings;
   joinings = c.own_once.ensures.joinings ∙ v.joinings;
   grows = le_trans v.grows o.grows;
@@ -107,3 +110,11 @@ returns-clause-serving g c present first before now policy pid start given todo 
 
 pub returns-clause-fewer : goal.returns-clause-fewer
 returns-clause-fewer g c own a = le_trans (c.in_ok-own_once.ensures.fewer own a) (c.loop.invariant.fewer own a)
+
+-- ---- own faults
+
+pub returns-in_err-own_once-clause-own_faults : goal.returns-in_err-own_once-clause-own_faults
+returns-in_err-own_once-clause-own_faults g c = own-then _ _ _ _ _ _ c.loop.invariant.own_faults c.own_once.ensures.own_faults
+
+pub returns-clause-own_faults : goal.returns-clause-own_faults
+returns-clause-own_faults g c = own-then _ _ _ _ _ _ c.loop.invariant.own_faults c.own_once.ensures.own_faults

@@ -8,6 +8,7 @@ use Rattle.mux_engine.proofs.Arms.{on-err, some-bytes}
 use Rattle.mux_engine.proofs.Called.{handed-more, handed-none}
 use Rattle.mux_engine.proofs.Left.{fewer-left}
 use Rattle.mux_engine.proofs.Offers.{cut-fails, cut-holds, cut-starved}
+use Rattle.mux_engine.proofs.OwnFaults.{own-same}
 use Rattle.mux_engine.proofs.OwnMarks.{own-fails, own-holds, own-takes}
 use Rattle.mux_engine.proofs.Owns.{taking}
 use Rattle.mux_engine.proofs.owned.own_once.Goals as goal
@@ -51,3 +52,32 @@ returns-in-NoMemory-clause-serving g c present first before now policy pid start
 
 pub returns-in_ok-turn-in-Failed-clause-fewer : goal.returns-in_ok-turn-in-Failed-clause-fewer
 returns-in_ok-turn-in-Failed-clause-fewer g c own a = fewer-left c.args.stream c.args.failed.now _ own c.in_ok-push-in-Failed.ensures.ok a (sym c.if-contains-2.ensures)
+
+-- ---- own faults
+
+pub returns-then-contains-clause-own_faults : goal.returns-then-contains-clause-own_faults
+returns-then-contains-clause-own_faults g c = own-same _ _
+
+pub returns-then-is_empty-clause-own_faults : goal.returns-then-is_empty-clause-own_faults
+returns-then-is_empty-clause-own_faults g c = own-same _ _
+
+pub returns-in-Took-clause-own_faults : goal.returns-in-Took-clause-own_faults
+returns-in-Took-clause-own_faults g c = c.in-Took.ensures.own_faults
+
+pub returns-in_ok-push-in-Later-clause-own_faults : goal.returns-in_ok-push-in-Later-clause-own_faults
+returns-in_ok-push-in-Later-clause-own_faults g c = c.in-Later.ensures.own_faults
+
+pub returns-in_err-push-in-Later-clause-own_faults : goal.returns-in_err-push-in-Later-clause-own_faults
+returns-in_err-push-in-Later-clause-own_faults g c = c.in-Later.ensures.own_faults
+
+pub returns-in_err-push-in-Failed-clause-own_faults : goal.returns-in_err-push-in-Failed-clause-own_faults
+returns-in_err-push-in-Failed-clause-own_faults g c = c.in-Failed.ensures.own_faults
+
+pub returns-in_err-turn-in-Failed-clause-own_faults : goal.returns-in_err-turn-in-Failed-clause-own_faults
+returns-in_err-turn-in-Failed-clause-own_faults g c = c.in-Failed.ensures.own_faults
+
+pub returns-in_ok-turn-in-Failed-clause-own_faults : goal.returns-in_ok-turn-in-Failed-clause-own_faults
+returns-in_ok-turn-in-Failed-clause-own_faults g c = c.in-Failed.ensures.own_faults
+
+pub returns-in-NoMemory-clause-own_faults : goal.returns-in-NoMemory-clause-own_faults
+returns-in-NoMemory-clause-own_faults g c = c.in-NoMemory.ensures.own_faults

@@ -2,6 +2,7 @@ use Rattle.std.proofs.Common.{◌<◌, ◌∙◌, ℕ, List, inl, inr, sym, ap, 
 use Rattle.mux_outside.specs.House.{Known}
 use Rattle.mux_outside.specs.OwnStreams.{is_one}
 use Rattle.mux_outside.specs.Streams.{among}
+use Rattle.mux_engine.proofs.OwnFaults.{own-same, own-then}
 use Rattle.mux_engine.specs.Owned.{IsOffered}
 use Rattle.mux_engine.proofs.Called.{handed-none}
 use Rattle.mux_engine.proofs.Arms.{cut-then, on-err, well-none, well-then}
@@ -33,6 +34,7 @@ loop-stream-init g c = record {
   faults = refl;
   clients = refl;
   calls = well-none _;
+  own_faults = own-same _ _;
   openings = refl;
   joinings = refl;
   within = λ t h. h;
@@ -55,6 +57,7 @@ loop-stream-preserved g c = let v = c.loop-stream.invariant in let o = c.in_ok-o
   faults = c.offer_own.ensures.faults ∙ v.faults;
   clients = c.offer_own.ensures.clients ∙ v.clients;
   calls = well-then _ _ _ v.calls o.calls;
+  own_faults = own-then _ _ _ _ _ _ v.own_faults c.offer_own.ensures.own_faults;
   openings = c.offer_own.ensures.openings ∙ v.openings;
   joinings = c.offer_own.ensures.joinings ∙ v.joinings;
   within = λ t h. v.within t (was-among c.in-Some.stream t c.loop-stream.todo (ap (among t) (sym c.remove.ensures) ∙ h));
@@ -136,3 +139,11 @@ returns-clause-fewer g c = c.loop-stream.invariant.fewer
 
 pub returns-clause-serving : goal.returns-clause-serving
 returns-clause-serving g c = c.loop-stream.invariant.serving
+
+-- ---- own faults
+
+pub returns-in_err-offer_own-clause-own_faults : goal.returns-in_err-offer_own-clause-own_faults
+returns-in_err-offer_own-clause-own_faults g c = own-then _ _ _ _ _ _ c.loop-stream.invariant.own_faults c.offer_own.ensures.own_faults
+
+pub returns-clause-own_faults : goal.returns-clause-own_faults
+returns-clause-own_faults g c = c.loop-stream.invariant.own_faults

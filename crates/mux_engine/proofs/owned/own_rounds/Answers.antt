@@ -6,6 +6,7 @@ use Rattle.mux_engine.proofs.Called.{handed-none}
 use Rattle.mux_engine.proofs.Arms.{on-err, well-none, well-then}
 use Rattle.mux_engine.proofs.Cuts.{cut-still}
 use Rattle.mux_engine.proofs.Left.{own-known, own-one}
+use Rattle.mux_engine.proofs.OwnFaults.{own-same, own-then}
 use Rattle.mux_engine.proofs.Places.{places-same, places-then}
 use Rattle.mux_engine.proofs.owned.own_rounds.Goals as goal
 
@@ -20,6 +21,7 @@ loop-wire-init g c = record {
   faults = refl;
   clients = refl;
   calls = well-none _;
+  own_faults = own-same _ _;
   openings = refl;
   joinings = refl;
 }
@@ -37,6 +39,7 @@ loop-wire-preserved g c = let v = c.loop-wire.invariant in let o = c.in_ok-own_r
   faults = c.own_round.ensures.faults ∙ v.faults;
   clients = c.own_round.ensures.clients ∙ v.clients;
   calls = well-then _ _ _ v.calls o.calls;
+  own_faults = own-then _ _ _ _ _ _ v.own_faults c.own_round.ensures.own_faults;
   openings = c.own_round.ensures.openings ∙ v.openings;
   joinings = c.own_round.ensures.joinings ∙ v.joinings;
 }
@@ -66,3 +69,14 @@ pub returns-then-len-before-clause-serving : goal.returns-then-len-before-clause
 returns-then-len-before-clause-serving g c present first before now policy pid start given todo s none hands v =
     let h = c.loop-wire.invariant.serving present first before now policy pid start given todo s none hands v in
     c.in_ok-own_round.ensures.serving present first before (record now { calls = h.all }) policy pid start given todo s none h.hands h.so
+
+-- ---- own faults
+
+pub returns-in_err-own_round-clause-own_faults : goal.returns-in_err-own_round-clause-own_faults
+returns-in_err-own_round-clause-own_faults g c = own-then _ _ _ _ _ _ c.loop-wire.invariant.own_faults c.own_round.ensures.own_faults
+
+pub returns-in_err-refill-clause-own_faults : goal.returns-in_err-refill-clause-own_faults
+returns-in_err-refill-clause-own_faults g c = c.loop-wire.invariant.own_faults
+
+pub returns-then-len-before-clause-own_faults : goal.returns-then-len-before-clause-own_faults
+returns-then-len-before-clause-own_faults g c = own-then _ _ _ _ _ _ c.loop-wire.invariant.own_faults c.own_round.ensures.own_faults

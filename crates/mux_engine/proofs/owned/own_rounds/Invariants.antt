@@ -6,6 +6,7 @@ use Rattle.mux_history.specs.Policy.{Policy}
 use Rattle.mux_machine.specs.State.{State}
 use Rattle.mux_engine.specs.Called.{Handed}
 use Rattle.mux_engine.specs.Counted.{Well}
+use Rattle.mux_engine.specs.OwnFaults.{OwnCounted}
 use Rattle.mux_engine.specs.Owned.{left_of}
 use Rattle.mux_engine.specs.Serving.{Serving}
 use Rattle.mux_engine.specs.Sides.{RestsOf, SamePlaces, Side}
@@ -23,6 +24,7 @@ invariant-loop-wire g l = let W = g.W.Wire in let H = g.H.House in record {
   faults : W.server_faults l.wire ≡ W.server_faults l.fn.wire;
   clients : W.client_faults l.wire ≡ W.client_faults l.fn.wire;
   calls : Well 0 (W.calls l.fn.wire) (W.calls l.wire);
+  own_faults : OwnCounted (W.seen l.fn.wire).told (W.seen l.wire).told (W.own_faults l.fn.wire) (W.own_faults l.wire);
   openings : W.openings l.wire ≡ W.openings l.fn.wire;
   joinings : W.joinings l.wire ≡ W.joinings l.fn.wire;
 }

@@ -1,5 +1,6 @@
 use Rattle.std.proofs.Common.{◌∙◌, refl, sym}
 use Rattle.mux_engine.proofs.Lists.{true-false}
+use Rattle.mux_engine.proofs.OwnFaults.{own-same}
 use Rattle.mux_engine.proofs.Places.{places-same}
 use Rattle.mux_engine.proofs.Running.{both-ok, let-inside, side-is, still-outside}
 use Rattle.mux_engine.proofs.serving.enter.Goals as goal
@@ -11,6 +12,7 @@ returns-then-not-present g c = let H = g.H.House in record {
   alone = λ p. (refl, refl);
   calls = refl;
   faults = refl;
+  own_faults = own-same _ _;
   openings = refl;
   joinings = refl;
 }
@@ -26,6 +28,7 @@ returns g c = let H = g.H.House in record {
   alone = λ p. true-false (sym (sym c.present.ensures.present ∙ c.if-not-present.false) ∙ p);
   calls = c.let_in.ensures.calls;
   faults = c.let_in.ensures.faults;
+  own_faults = c.let_in.ensures.own_faults;
   openings = c.let_in.ensures.openings;
   joinings = c.let_in.ensures.joinings;
 }

@@ -3,6 +3,7 @@ use Rattle.mux_outside.specs.OwnStreams.{is_one}
 use Rattle.mux_history.specs.declared.limits.TheConstants.{HOUSE}
 use Rattle.mux_machine.specs.Events.{here}
 use Rattle.mux_machine.specs.State.{State}
+use Rattle.mux_engine.proofs.OwnFaults.{own-then}
 use Rattle.mux_engine.specs.Sides.{noted}
 use Rattle.mux_engine.proofs.Arms.{counts-then, on-err, on-ok, stays, then-stays-or-fails}
 use Rattle.mux_engine.proofs.Called.{handed-none, handed-so}
@@ -46,6 +47,7 @@ returns-in_err-last_replies g c = let W = g.W.Wire in let r = c.from_residual in
   must = c.last_replies.ensures.must;
   ended = on-err r.result _ _ r.ensures.0 tt;
   calls = counts-err r.result 0 _ _ r.ensures.0 c.in_err-last_replies.ensures.calls;
+  own_faults = c.last_replies.ensures.own_faults;
   openings = c.last_replies.ensures.openings;
   joinings = c.last_replies.ensures.joinings;
   idle = λ none p. let a = c.last_replies.ensures.alone p in (a.0, same-faults W.server_faults W.client_faults _ _ a.1);
@@ -62,6 +64,7 @@ returns g c = let H = g.H.House in let W = g.W.Wire in let o = c.in_ok-last_repl
   must = c.last_replies.ensures.must;
   ended = on-ok c.flush.result (λ e. then-stays-or-fails _ _ _ _ _ _ (stays _ _ _ _ o.ended c.last_replies.ensures.faults) e) c.flush.ensures.ended;
   calls = counts-then c.flush.result _ _ _ o.calls c.flush.ensures.calls;
+  own_faults = own-then _ _ _ _ _ _ c.last_replies.ensures.own_faults c.flush.ensures.own_faults;
   openings = c.flush.ensures.openings ∙ c.last_replies.ensures.openings;
   joinings = c.flush.ensures.joinings ∙ c.last_replies.ensures.joinings;
   idle = λ none p. let a = c.last_replies.ensures.alone p in let b = c.flush.ensures.idle (ap (λ (s : State). s.waiting) a.0 ∙ none) in

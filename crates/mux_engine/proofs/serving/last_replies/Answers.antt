@@ -4,6 +4,7 @@ use Rattle.mux_engine.proofs.Arms.{on-ok, well-none}
 use Rattle.mux_engine.proofs.Called.{handed-none, handed-so}
 use Rattle.mux_engine.proofs.HouseCalls.{reply-covers, same-house}
 use Rattle.mux_engine.proofs.Lists.{true-false}
+use Rattle.mux_engine.proofs.OwnFaults.{own-same}
 use Rattle.mux_engine.proofs.Places.{places-same}
 use Rattle.mux_engine.proofs.Running.{given-is, match-more}
 use Rattle.mux_engine.proofs.Todo.{serve-todo}
@@ -20,6 +21,7 @@ returns-then-not-all g c = record {
   alone = λ p. (refl, refl);
   calls = well-none _;
   faults = refl;
+  own_faults = own-same _ _;
   openings = refl;
   joinings = refl;
 }
@@ -35,6 +37,7 @@ returns-then-not-present g c = record {
   alone = λ p. (refl, refl);
   calls = well-none _;
   faults = refl;
+  own_faults = own-same _ _;
   openings = refl;
   joinings = refl;
 }
@@ -53,6 +56,7 @@ returns g c = let o = c.reply_all.ensures in record {
   alone = λ p. true-false (sym (sym c.present.ensures.present ∙ c.if-not-present.false) ∙ p);
   calls = o.calls;
   faults = o.faults;
+  own_faults = o.own_faults;
   openings = o.openings;
   joinings = o.joinings;
 }

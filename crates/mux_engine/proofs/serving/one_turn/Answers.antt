@@ -1,6 +1,7 @@
 use Rattle.std.proofs.Common.{◌∷◌, [], refl, sym, inl, inr}
 use Rattle.mux_history.specs.declared.limits.TheConstants.{HOUSE}
 use Rattle.mux_machine.specs.Events.{here}
+use Rattle.mux_engine.proofs.OwnFaults.{own-then}
 use Rattle.mux_engine.specs.Sides.{RestsOf, noted}
 use Rattle.mux_engine.proofs.Arms.{on-err}
 use Rattle.mux_engine.proofs.Called.{handed-so}
@@ -132,3 +133,20 @@ returns-clause-serving g c first calls before policy pid start given hands v =
     let hushed = c.hush.ensures.serving (H.known c.args.house.now).present first before (noted (H.told house) (H.known house) h.all) policy pid start c.close_lost.new.held lists.failed given [] closed in
     let t = c.in_ok-went.ensures.serving first h.all before policy pid start given h.hands (present-is (λ b. RestsOf H.told H.known H.quiet H.must H.refused H.stands b first) _ _ (sym c.in_ok-step_house.ensures.present) hushed) in
     handed-so t (inl (present-is (λ b. RestsOf H.told H.known H.quiet H.must H.refused H.stands b first) _ _ c.in_ok-step_house.ensures.present t.so))
+
+-- ---- own faults
+
+pub returns-then-branch-clause-own_faults : goal.returns-then-branch-clause-own_faults
+returns-then-branch-clause-own_faults g c = c.step_house.ensures.own_faults
+
+pub returns-in_err-step_house-clause-own_faults : goal.returns-in_err-step_house-clause-own_faults
+returns-in_err-step_house-clause-own_faults g c = c.step_house.ensures.own_faults
+
+pub returns-then-is_over-clause-own_faults : goal.returns-then-is_over-clause-own_faults
+returns-then-is_over-clause-own_faults g c = own-then _ _ _ _ _ _ (own-then _ _ _ _ _ _ c.step_house.ensures.own_faults c.close_lost.ensures.own_faults) c.hush.ensures.own_faults
+
+pub returns-in_err-went-clause-own_faults : goal.returns-in_err-went-clause-own_faults
+returns-in_err-went-clause-own_faults g c = own-then _ _ _ _ _ _ (own-then _ _ _ _ _ _ (own-then _ _ _ _ _ _ c.step_house.ensures.own_faults c.close_lost.ensures.own_faults) c.hush.ensures.own_faults) c.turn.ensures.own_faults
+
+pub returns-clause-own_faults : goal.returns-clause-own_faults
+returns-clause-own_faults g c = own-then _ _ _ _ _ _ (own-then _ _ _ _ _ _ (own-then _ _ _ _ _ _ c.step_house.ensures.own_faults c.close_lost.ensures.own_faults) c.hush.ensures.own_faults) c.turn.ensures.own_faults

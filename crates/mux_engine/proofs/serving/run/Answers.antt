@@ -1,6 +1,7 @@
 use Rattle.std.proofs.Common.{◌+◌, ◌∙◌, [], refl, sym, ap, arith}
 use Rattle.mux_outside.proofs.HouseCalls.{hands-none}
 use Rattle.mux_machine.specs.State.{State}
+use Rattle.mux_engine.proofs.OwnFaults.{own-then}
 use Rattle.mux_engine.specs.Sides.{RestsOf}
 use Rattle.mux_engine.proofs.Answering.{answer-is, none-given, none-held, over-still, ran-starved, ran-whole, refused-whole, stops-whole}
 use Rattle.mux_engine.proofs.Counting.{none-more}
@@ -80,3 +81,17 @@ returns-clause-calls g c = let H = g.H.House in let t = c.in_ok-all.ensures in l
     (λ p none. let i = t.idle none in let a = c.enter.ensures.alone p in
     ap (λ (s : State). s.ended) ((f.idle (ap (λ (s : State). s.waiting) (i.1 ∙ a.0) ∙ c.requires.quiet) (t.present ∙ p)).0 ∙ (i.1 ∙ a.0)) ∙ c.requires.on)
     (answer-is c.answer_of.result c.finish.new.engine.ended _ _ _ _ (f.known.present ∙ t.present) c.answer_of.ensures)
+
+-- ---- own faults
+
+pub returns-in_err-enter-clause-own_faults : goal.returns-in_err-enter-clause-own_faults
+returns-in_err-enter-clause-own_faults g c = c.enter.ensures.own_faults
+
+pub returns-in_err-all-clause-own_faults : goal.returns-in_err-all-clause-own_faults
+returns-in_err-all-clause-own_faults g c = own-then _ _ _ _ _ _ c.enter.ensures.own_faults c.turns_of.ensures.own_faults
+
+pub returns-in_err-finish-clause-own_faults : goal.returns-in_err-finish-clause-own_faults
+returns-in_err-finish-clause-own_faults g c = own-then _ _ _ _ _ _ (own-then _ _ _ _ _ _ c.enter.ensures.own_faults c.turns_of.ensures.own_faults) c.finish.ensures.own_faults
+
+pub returns-clause-own_faults : goal.returns-clause-own_faults
+returns-clause-own_faults g c = own-then _ _ _ _ _ _ (own-then _ _ _ _ _ _ c.enter.ensures.own_faults c.turns_of.ensures.own_faults) c.finish.ensures.own_faults

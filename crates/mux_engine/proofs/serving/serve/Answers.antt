@@ -1,6 +1,7 @@
 use Rattle.std.proofs.Common.{[], ap, refl}
 use Rattle.mux_outside.specs.House.{Known}
 use Rattle.mux_outside.proofs.HouseCalls.{hands-none}
+use Rattle.mux_engine.proofs.OwnFaults.{own-same}
 use Rattle.mux_engine.specs.Sides.{RestsOf, outside}
 use Rattle.mux_engine.proofs.Answering.{alone-blank, housed-blank}
 use Rattle.mux_engine.proofs.Counting.{cut-none, same-faults}
@@ -57,3 +58,8 @@ returns-clause-kept g c = let H = g.H.House in let r = c.requires in let e = c.i
     let start = starts H.may (RestsOf H.told H.known H.quiet H.must H.refused H.stands (H.known c.args.house.now).present c.args.house.now) (outside (H.told c.args.house.now) (H.known c.args.house.now) []) c.args.policy c.args.pid (g.W.Wire.seen c.args.wire.now) c.in-Ok.engine
     e.stands e.policy e.pid e.clients e.refused (ap (λ (k : Known). k.asks) r.blank) refl refl refl r.server_alone r.none_blocked r.listens r.own r.listeners in
     c.in-Err.ensures.ran (H.told c.args.house.now) c.args.policy c.args.pid (g.W.Wire.seen c.args.wire.now).told start.0 start.1
+
+-- ---- own faults
+
+pub returns-in_default-clause-own_faults : goal.returns-in_default-clause-own_faults
+returns-in_default-clause-own_faults g c = own-same _ _

@@ -5,6 +5,8 @@ use Rattle.mux_outside.specs.HouseCalls.{Turns, calls_of, happening_of}
 use Rattle.mux_outside.specs.Seen.{Seen}
 use Rattle.mux_outside.specs.Streams.{among}
 use Rattle.mux_machine.specs.Events.{here}
+use Rattle.mux_engine.proofs.OwnAsks.{heeded-counted, turn-comes}
+use Rattle.mux_engine.proofs.OwnFaults.{own-same, own-then, own-turn}
 use Rattle.mux_engine.specs.Owned.{waits_for}
 use Rattle.mux_engine.specs.Serving.{Serving}
 use Rattle.mux_engine.specs.Sides.{RestsOf, SameHouse, noted}
@@ -293,3 +295,24 @@ returns-in-NoMemory-clause-unopened g c =
     let H = g.H.House in
     let W = g.W.Wire in
     wait-opens c.wait-told.result c.list_waiting.new.todo c.wanted.result c.wait-told.new.into (H.known c.args.house.now) (W.seen c.args.wire.now) (W.seen c.wait-told.new.self) c.args.lists.now.own c.requires.housed c.requires.alone c.wait-told.ensures.own_turn c.wait-told.ensures.seen
+
+-- ---- own faults
+
+pub returns-in_err-list_waiting-clause-own_faults : goal.returns-in_err-list_waiting-clause-own_faults
+returns-in_err-list_waiting-clause-own_faults g c = own-same _ _
+
+pub returns-in_err-hear-in-Own-clause-own_faults : goal.returns-in_err-hear-in-Own-clause-own_faults
+returns-in_err-hear-in-Own-clause-own_faults g c = own-turn c.wait-told.result c.list_waiting.new.todo c.wanted.result c.wait-told.new.into _ _ _ _ c.wait-told.ensures.seen c.wait-told.ensures.own
+
+pub returns-in_ok-hear-in-Own-clause-own_faults : goal.returns-in_ok-hear-in-Own-clause-own_faults
+returns-in_ok-hear-in-Own-clause-own_faults g c = own-turn c.wait-told.result c.list_waiting.new.todo c.wanted.result c.wait-told.new.into _ _ _ _ c.wait-told.ensures.seen c.wait-told.ensures.own
+
+pub returns-in-Freed-clause-own_faults : goal.returns-in-Freed-clause-own_faults
+returns-in-Freed-clause-own_faults g c = own-turn c.wait-told.result c.list_waiting.new.todo c.wanted.result c.wait-told.new.into _ _ _ _ c.wait-told.ensures.seen c.wait-told.ensures.own
+
+pub returns-in-NoMemory-clause-own_faults : goal.returns-in-NoMemory-clause-own_faults
+returns-in-NoMemory-clause-own_faults g c = own-turn c.wait-told.result c.list_waiting.new.todo c.wanted.result c.wait-told.new.into _ _ _ _ c.wait-told.ensures.seen c.wait-told.ensures.own
+
+pub returns-in-Event-clause-own_faults : goal.returns-in-Event-clause-own_faults
+returns-in-Event-clause-own_faults g c = let H = g.H.House in let v = c.requires.served.serving in own-then _ _ _ _ _ _ (own-turn c.wait-told.result c.list_waiting.new.todo c.wanted.result c.wait-told.new.into _ _ _ _ c.wait-told.ensures.seen c.wait-told.ensures.own)
+    (heeded-counted v.stands (turn-comes v c.in-Event.e c.wait-told.result c.wanted.result c.wait-told.new.into c.as_bytes.result.now c.next_of.ensures.bytes c.wait-told.ensures.turn c.in-Event.ensures.next) c.heed.result H.may c.heed.new.engine c.heed.new.asks _ _ _ _ _ _ _ _ c.heed.ensures.own_faults c.heed.ensures.heeded)

@@ -1,6 +1,7 @@
 use Rattle.std.proofs.Common.{◌≡◌, ◌+◌, ◌∙◌, refl, sym, ap, Some, None, arith}
 use Rattle.mux_history.specs.declared.ended.Ended.TheVariants.{ServerFailed}
 use Rattle.mux_machine.specs.State.{State}
+use Rattle.mux_engine.proofs.OwnFaults.{own-same, own-then}
 use Rattle.mux_engine.specs.Sides.{RestsOf}
 use Rattle.mux_engine.proofs.Arms.{on-err}
 use Rattle.mux_engine.proofs.Called.{handed-none, handed-so}
@@ -27,6 +28,7 @@ loop-init g c = record {
   later = omega arith;
   calls = spent-none _ _;
   must = refl;
+  own_faults = own-same _ _;
   openings = refl;
   joinings = refl;
 }
@@ -68,6 +70,7 @@ loop-preserved g c = let H = g.H.House in let i = c.loop.invariant in let o = c.
   later = later-on _ _ _ i.later c.one_turn.ensures.later;
   calls = spent-on _ _ _ _ _ i.calls (turned-is _ _ _ _ _ _ i.present c.if-not-branch.false o.calls);
   must = c.one_turn.ensures.must ∙ i.must;
+  own_faults = own-then _ _ _ _ _ _ i.own_faults c.one_turn.ensures.own_faults;
   openings = c.one_turn.ensures.openings ∙ i.openings;
   joinings = c.one_turn.ensures.joinings ∙ i.joinings;
 }
@@ -91,6 +94,7 @@ returns-then-not-branch g c = let H = g.H.House in let i = c.loop.invariant in l
       (λ z p. o.idle (ap (λ (s : State). s.waiting) (i.first z).1 ∙ c.requires.quiet p) (i.present ∙ p));
   idle = λ z. absurd (omega (arith, z));
   must = c.one_turn.ensures.must ∙ i.must;
+  own_faults = own-then _ _ _ _ _ _ i.own_faults c.one_turn.ensures.own_faults;
   openings = c.one_turn.ensures.openings ∙ i.openings;
   joinings = c.one_turn.ensures.joinings ∙ i.joinings;
 }
@@ -112,6 +116,7 @@ returns g c = let W = g.W.Wire in let i = c.loop.invariant in record {
   calls = spent-all _ c.loop.counter c.args.turns _ _ (omega arith) i.calls;
   idle = λ z. let f = i.first (omega (arith, z)) in (f.0, f.1, record { same_server = ap W.server_faults f.2; same_client = ap W.client_faults f.2 });
   must = i.must;
+  own_faults = i.own_faults;
   openings = i.openings;
   joinings = i.joinings;
 }
@@ -136,6 +141,7 @@ returns-in_err-one_turn g c = let H = g.H.House in let i = c.loop.invariant in l
   calls = on-err r.result _ _ r.ensures.0 (spent-cut _ c.loop.counter c.args.turns _ _ _ (omega arith) i.calls c.in_err-one_turn.ensures.calls);
   idle = λ z. absurd (omega (arith, z));
   must = c.one_turn.ensures.must ∙ i.must;
+  own_faults = own-then _ _ _ _ _ _ i.own_faults c.one_turn.ensures.own_faults;
   openings = c.one_turn.ensures.openings ∙ i.openings;
   joinings = c.one_turn.ensures.joinings ∙ i.joinings;
 }
@@ -155,6 +161,7 @@ returns-in_err-piece g c = let r = c.from_residual in record {
   calls = on-err r.result _ _ r.ensures.0 (cut-none c.args.turns _);
   idle = λ z. (refl, refl, record { same_server = refl; same_client = refl });
   must = refl;
+  own_faults = own-same _ _;
   openings = refl;
   joinings = refl;
 }

@@ -6,6 +6,7 @@ use Rattle.mux_history.specs.Policy.{Policy}
 use Rattle.mux_machine.specs.Events.{here}
 use Rattle.mux_engine.specs.Called.{Handed}
 use Rattle.mux_engine.specs.Counted.{Spent}
+use Rattle.mux_engine.specs.OwnFaults.{OwnCounted}
 use Rattle.mux_engine.specs.Rests.{IsAlone}
 use Rattle.mux_engine.specs.Serving.{Serving}
 use Rattle.mux_engine.specs.Sides.{Housed, RestsOf, noted}
@@ -26,6 +27,7 @@ invariant-loop g l = let W = g.W.Wire in let H = g.H.House in record {
   later : W.server_faults l.fn.wire ≤ W.server_faults l.wire;
   calls : Spent (H.known l.fn.house).present true l.counter (W.calls l.fn.wire) (W.calls l.wire);
   must : H.must l.house ≡ H.must l.fn.house;
+  own_faults : OwnCounted (W.seen l.fn.wire).told (W.seen l.wire).told (W.own_faults l.fn.wire) (W.own_faults l.wire);
   openings : W.openings l.wire ≡ W.openings l.fn.wire;
   joinings : W.joinings l.wire ≡ W.joinings l.fn.wire;
 }

@@ -3,6 +3,7 @@ use Rattle.mux_outside.specs.Seen.{Seen, seen_after_close}
 use Rattle.mux_outside.specs.Streams.{without}
 use Rattle.mux_machine.specs.State.{State, closed_by}
 use Rattle.mux_machine.specs.Stands.{Closes, IsFirst}
+use Rattle.mux_engine.proofs.OwnFaults.{own-kept, own-then}
 use Rattle.mux_engine.specs.Rests.{IsReady}
 use Rattle.mux_engine.specs.Serving.{Serving}
 use Rattle.mux_engine.specs.Sides.{Housed, RestsOf}
@@ -38,6 +39,12 @@ loop-client-preserved g c =
       unopened = ap (λ (x : Seen). x.last_own) c.close.ensures.seen ∙ c.loop-client.invariant.unopened;
       faults = c.close.ensures.server ∙ c.loop-client.invariant.faults;
       calls = c.close.ensures.calls ∙ c.loop-client.invariant.calls;
+      own_faults = own-then _ _ _ _ _ _ c.loop-client.invariant.own_faults (own-kept _ _ _ _ (ap (λ (x : Seen). x.told) c.close.ensures.seen) c.close.ensures.own);
       openings = c.close.ensures.openings ∙ c.loop-client.invariant.openings;
       joinings = c.close.ensures.joinings ∙ c.loop-client.invariant.joinings;
     }
+
+-- ---- own faults
+
+pub returns-clause-own_faults : goal.returns-clause-own_faults
+returns-clause-own_faults g c = c.loop-client.invariant.own_faults

@@ -3,6 +3,7 @@ use Rattle.mux_outside.specs.declared.house_mark.HouseMark.{HouseMark}
 use Rattle.mux_outside.specs.House.{Known, Quiet}
 use Rattle.mux_outside.specs.declared.mark.Mark.{Mark}
 use Rattle.mux_history.specs.Policy.{Policy}
+use Rattle.mux_engine.specs.OwnFaults.{OwnCounted}
 use Rattle.mux_engine.specs.Rests.{IsReady}
 use Rattle.mux_engine.specs.Serving.{Serving}
 use Rattle.mux_engine.specs.Sides.{Housed, RestsOf, Side}
@@ -18,6 +19,7 @@ invariant-loop-client g l = let W = g.W.Wire in let H = g.H.House in record {
   unopened : (W.seen l.wire).last_own ≡ (W.seen l.fn.wire).last_own;
   faults : W.server_faults l.wire ≡ W.server_faults l.fn.wire;
   calls : W.calls l.wire ≡ W.calls l.fn.wire;
+  own_faults : OwnCounted (W.seen l.fn.wire).told (W.seen l.wire).told (W.own_faults l.fn.wire) (W.own_faults l.wire);
   openings : W.openings l.wire ≡ W.openings l.fn.wire;
   joinings : W.joinings l.wire ≡ W.joinings l.fn.wire;
 }

@@ -2,6 +2,7 @@ use Rattle.std.proofs.Common.{◌∷◌, ◌∙◌, refl, sym, ap, inl, subst, l
 use Rattle.mux_outside.specs.OwnStreams.{is_one}
 use Rattle.mux_outside.specs.Seen.{Calls}
 use Rattle.mux_machine.specs.State.{State, queue_in}
+use Rattle.mux_engine.proofs.OwnFaults.{own-then}
 use Rattle.mux_engine.specs.Counted.{Cut, Well}
 use Rattle.mux_engine.proofs.Arms.{counts-then, le-of, on-err, on-ok, stays, then-stays-or-fails}
 use Rattle.mux_engine.proofs.Loops.{counts-err, more-left, no-zero, server-idle}
@@ -94,3 +95,11 @@ returns-clause-idle g c = λ none.
     let a = c.offer_clients.ensures.idle none in
     let b = c.offer.ensures.idle (ap (λ (s : State). queue_in s 0) a.0 ∙ server-idle c.requires.served.serving none) in
     (b.0 ∙ a.0, record { same_server = ap g.W.Wire.server_faults (b.1 ∙ a.1) ∙ c.hush.ensures.faults; same_client = ap g.W.Wire.client_faults (b.1 ∙ a.1) ∙ c.hush.ensures.client })
+
+-- ---- own faults
+
+pub returns-in_err-offer_clients-clause-own_faults : goal.returns-in_err-offer_clients-clause-own_faults
+returns-in_err-offer_clients-clause-own_faults g c = own-then _ _ _ _ _ _ c.hush.ensures.own_faults c.offer_clients.ensures.own_faults
+
+pub returns-clause-own_faults : goal.returns-clause-own_faults
+returns-clause-own_faults g c = own-then _ _ _ _ _ _ (own-then _ _ _ _ _ _ c.hush.ensures.own_faults c.offer_clients.ensures.own_faults) c.offer.ensures.own_faults

@@ -1,6 +1,7 @@
 use Rattle.std.proofs.Common.{◌≡◌, ◌∙◌, None, false, refl, sym, ap, subst}
 use Rattle.std.specs.Prelude.{is_some}
 use Rattle.mux_outside.specs.Seen.{Seen}
+use Rattle.mux_engine.proofs.OwnFaults.{own-kept}
 use Rattle.mux_engine.specs.Serving.{Serving}
 use Rattle.mux_engine.specs.Sides.{RestsOf, SamePlaces}
 use Rattle.mux_engine.proofs.Lists.{true-false}
@@ -21,3 +22,8 @@ returns-clause-serving g c present first before now policy pid start held failed
 
 pub returns-clause-places : goal.returns-clause-places
 returns-clause-places g c = subst (SamePlaces (g.W.Wire.seen c.args.wire.now)) (sym c.stop_listening.ensures.seen) record { streams = refl; listeners = refl; own = refl; last_own = refl }
+
+-- ---- own faults
+
+pub returns-clause-own_faults : goal.returns-clause-own_faults
+returns-clause-own_faults g c = own-kept _ _ _ _ (ap (λ (x : Seen). x.told) c.stop_listening.ensures.seen) c.stop_listening.ensures.own

@@ -4,6 +4,7 @@ use Rattle.mux_outside.specs.Streams.{among}
 use Rattle.mux_engine.proofs.Arms.{cut-then, idle-then, on-err, stays, then-stays-or-fails, well-none, well-then}
 use Rattle.mux_engine.proofs.Lists.{same-open}
 use Rattle.mux_engine.proofs.Loops.{counts-err, on-done, on-more, twice-among, zero-among}
+use Rattle.mux_engine.proofs.OwnFaults.{own-same, own-then}
 use Rattle.mux_engine.proofs.Places.{places-same, places-then}
 use Rattle.mux_engine.proofs.Todo.{held-back, wider}
 use Rattle.mux_engine.proofs.settling.offer.Goals as goal
@@ -19,6 +20,7 @@ loop-init g c = let w = c.requires.served in record {
   client = λ nz. refl;
   later = le_refl _;
   calls = well-none _;
+  own_faults = own-same _ _;
   openings = refl;
   joinings = refl;
   idle = λ none. (refl, refl);
@@ -70,6 +72,7 @@ loop-preserved g c = record {
   client = λ nz. c.in_ok-offer_once.ensures.client nz ∙ c.loop.invariant.client nz;
   later = le_trans c.loop.invariant.later c.offer_once.ensures.later;
   calls = well-then _ _ _ c.loop.invariant.calls c.in_ok-offer_once.ensures.calls;
+  own_faults = own-then _ _ _ _ _ _ c.loop.invariant.own_faults c.offer_once.ensures.own_faults;
   openings = c.offer_once.ensures.openings ∙ c.loop.invariant.openings;
   joinings = c.offer_once.ensures.joinings ∙ c.loop.invariant.joinings;
   idle = idle-then c.args.stream c.args.engine.now c.loop.engine c.offer_once.new.engine c.args.wire.now c.loop.wire c.offer_once.new.wire c.loop.invariant.idle c.offer_once.ensures.idle;
@@ -127,3 +130,14 @@ returns-in_err-offer_once-clause-places g c = places-then _ _ _ c.loop.invariant
 
 pub returns-then-contains-clause-places : goal.returns-then-contains-clause-places
 returns-then-contains-clause-places g c = places-same _ _ refl
+
+-- ---- own faults
+
+pub returns-then-contains-clause-own_faults : goal.returns-then-contains-clause-own_faults
+returns-then-contains-clause-own_faults g c = own-same _ _
+
+pub returns-in_err-offer_once-clause-own_faults : goal.returns-in_err-offer_once-clause-own_faults
+returns-in_err-offer_once-clause-own_faults g c = own-then _ _ _ _ _ _ c.loop.invariant.own_faults c.offer_once.ensures.own_faults
+
+pub returns-clause-own_faults : goal.returns-clause-own_faults
+returns-clause-own_faults g c = own-then _ _ _ _ _ _ c.loop.invariant.own_faults c.offer_once.ensures.own_faults

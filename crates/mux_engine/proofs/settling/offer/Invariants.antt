@@ -6,6 +6,7 @@ use Rattle.mux_history.specs.Policy.{Policy}
 use Rattle.mux_machine.specs.Events.{here}
 use Rattle.mux_machine.specs.State.{queue_in}
 use Rattle.mux_engine.specs.Counted.{Well}
+use Rattle.mux_engine.specs.OwnFaults.{OwnCounted}
 use Rattle.mux_engine.specs.Serving.{Serving, StaysOrFails}
 use Rattle.mux_engine.specs.Sides.{RestsOf, SamePlaces, Side}
 use Rattle.mux_engine.proofs.settling.offer.Given as goal
@@ -22,6 +23,7 @@ invariant-loop g l = let W = g.W.Wire in let H = g.H.House in record {
   client : l.stream ≢ 0 → l.engine.ended ≡ l.fn.engine.ended;
   later : W.server_faults l.fn.wire ≤ W.server_faults l.wire;
   calls : Well 0 (W.calls l.fn.wire) (W.calls l.wire);
+  own_faults : OwnCounted (W.seen l.fn.wire).told (W.seen l.wire).told (W.own_faults l.fn.wire) (W.own_faults l.wire);
   openings : W.openings l.wire ≡ W.openings l.fn.wire;
   joinings : W.joinings l.wire ≡ W.joinings l.fn.wire;
   idle : queue_in l.fn.engine l.stream ≡ [] → (l.engine ≡ l.fn.engine) × (l.wire ≡ l.fn.wire);

@@ -7,6 +7,7 @@ use Rattle.mux_engine.proofs.Arms.{cut-then, none-there, on-err, well-none, well
 use Rattle.mux_engine.proofs.Cuts.{cut-still}
 use Rattle.mux_engine.proofs.Lists.{drop-next, element-among, same-open}
 use Rattle.mux_engine.proofs.Loops.{clients-of, counts-err, more-left, only-waiting, server-behind, todo-is, waits-open}
+use Rattle.mux_engine.proofs.OwnFaults.{own-same, own-then}
 use Rattle.mux_engine.proofs.Places.{places-same, places-then}
 use Rattle.mux_engine.proofs.settling.offer_clients.Goals as goal
 
@@ -25,6 +26,7 @@ loop-stream-init g c =
       ended = refl;
       later = le_refl _;
       calls = well-none _;
+      own_faults = own-same _ _;
       openings = refl;
       joinings = refl;
       none = λ e. items ∙ ap clients-of (c.waiting.ensures.exact ∙ e);
@@ -90,6 +92,7 @@ loop-stream-preserved g c =
       ended = c.in_ok-offer.ensures.client (c.loop-stream.invariant.clients k (element-among i items (omega arith))).no_server ∙ c.loop-stream.invariant.ended;
       later = le_trans c.loop-stream.invariant.later c.offer.ensures.later;
       calls = well-then _ _ _ c.loop-stream.invariant.calls c.in_ok-offer.ensures.calls;
+      own_faults = own-then _ _ _ _ _ _ c.loop-stream.invariant.own_faults c.offer.ensures.own_faults;
       openings = c.offer.ensures.openings ∙ c.loop-stream.invariant.openings;
       joinings = c.offer.ensures.joinings ∙ c.loop-stream.invariant.joinings;
       none = c.loop-stream.invariant.none;
@@ -107,3 +110,14 @@ returns-in_err-refill-clause-places g c = places-same _ _ refl
 
 pub returns-in_err-refill-clause-idle : goal.returns-in_err-refill-clause-idle
 returns-in_err-refill-clause-idle g c = λ none. (refl, refl)
+
+-- ---- own faults
+
+pub returns-in_err-refill-clause-own_faults : goal.returns-in_err-refill-clause-own_faults
+returns-in_err-refill-clause-own_faults g c = own-same _ _
+
+pub returns-in_err-offer-clause-own_faults : goal.returns-in_err-offer-clause-own_faults
+returns-in_err-offer-clause-own_faults g c = own-then _ _ _ _ _ _ c.loop-stream.invariant.own_faults c.offer.ensures.own_faults
+
+pub returns-clause-own_faults : goal.returns-clause-own_faults
+returns-clause-own_faults g c = c.loop-stream.invariant.own_faults

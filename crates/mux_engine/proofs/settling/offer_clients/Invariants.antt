@@ -6,6 +6,7 @@ use Rattle.mux_history.specs.declared.limits.TheConstants.{HOUSE}
 use Rattle.mux_history.specs.Policy.{Policy}
 use Rattle.mux_machine.specs.Events.{here}
 use Rattle.mux_engine.specs.Counted.{Well}
+use Rattle.mux_engine.specs.OwnFaults.{OwnCounted}
 use Rattle.mux_engine.specs.Serving.{Serving}
 use Rattle.mux_engine.specs.Sides.{RestsOf, SamePlaces, Side}
 use Rattle.mux_engine.proofs.Loops.{IsClient}
@@ -22,6 +23,7 @@ invariant-loop-stream g l = let W = g.W.Wire in let H = g.H.House in record {
   ended : l.engine.ended ≡ l.fn.engine.ended;
   later : W.server_faults l.fn.wire ≤ W.server_faults l.wire;
   calls : Well 0 (W.calls l.fn.wire) (W.calls l.wire);
+  own_faults : OwnCounted (W.seen l.fn.wire).told (W.seen l.wire).told (W.own_faults l.fn.wire) (W.own_faults l.wire);
   openings : W.openings l.wire ≡ W.openings l.fn.wire;
   joinings : W.joinings l.wire ≡ W.joinings l.fn.wire;
   none : l.fn.engine.waiting ≡ [] → l.stream-items ≡ [];

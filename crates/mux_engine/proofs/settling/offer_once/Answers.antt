@@ -5,6 +5,7 @@ use Rattle.mux_outside.specs.Streams.{among, without}
 use Rattle.mux_outside.specs.declared.mark.Mark.TheVariants.{Takes, Holds, WriteFails}
 use Rattle.mux_outside.specs.declared.turn.Wrote.TheVariants as wrote
 use Rattle.mux_machine.specs.State.{State}
+use Rattle.mux_engine.proofs.OwnFaults.{own-same, own-write}
 use Rattle.mux_engine.specs.Counted.{Well}
 use Rattle.mux_engine.specs.Serving.{Serving}
 use Rattle.mux_engine.specs.Sides.{RestsOf}
@@ -189,3 +190,26 @@ returns-in-NoMemory-clause-places g c = places-write wrote.NoMemory c.args.strea
 
 pub returns-then-is_empty-clause-places : goal.returns-then-is_empty-clause-places
 returns-then-is_empty-clause-places g c = places-same _ _ refl
+
+-- ---- own faults
+
+pub returns-then-is_empty-clause-own_faults : goal.returns-then-is_empty-clause-own_faults
+returns-then-is_empty-clause-own_faults g c = own-same _ _
+
+pub returns-in-Took-clause-own_faults : goal.returns-in-Took-clause-own_faults
+returns-in-Took-clause-own_faults g c = own-write (wrote.Took c.in-Took.n) c.args.stream c.queue_of-bytes.result.now _ _ _ _ c.in-Took.ensures.seen c.in-Took.ensures.own
+
+pub returns-in_ok-push-in-Later-clause-own_faults : goal.returns-in_ok-push-in-Later-clause-own_faults
+returns-in_ok-push-in-Later-clause-own_faults g c = own-write wrote.Later c.args.stream c.queue_of-bytes.result.now _ _ _ _ c.in-Later.ensures.seen c.in-Later.ensures.own
+
+pub returns-in_err-push-in-Later-clause-own_faults : goal.returns-in_err-push-in-Later-clause-own_faults
+returns-in_err-push-in-Later-clause-own_faults g c = own-write wrote.Later c.args.stream c.queue_of-bytes.result.now _ _ _ _ c.in-Later.ensures.seen c.in-Later.ensures.own
+
+pub returns-in_ok-event-in-Failed-clause-own_faults : goal.returns-in_ok-event-in-Failed-clause-own_faults
+returns-in_ok-event-in-Failed-clause-own_faults g c = own-write wrote.Failed c.args.stream c.queue_of-bytes.result.now _ _ _ _ c.in-Failed.ensures.seen c.in-Failed.ensures.own
+
+pub returns-in_err-event-in-Failed-clause-own_faults : goal.returns-in_err-event-in-Failed-clause-own_faults
+returns-in_err-event-in-Failed-clause-own_faults g c = own-write wrote.Failed c.args.stream c.queue_of-bytes.result.now _ _ _ _ c.in-Failed.ensures.seen c.in-Failed.ensures.own
+
+pub returns-in-NoMemory-clause-own_faults : goal.returns-in-NoMemory-clause-own_faults
+returns-in-NoMemory-clause-own_faults g c = own-write wrote.NoMemory c.args.stream c.queue_of-bytes.result.now _ _ _ _ c.in-NoMemory.ensures.seen c.in-NoMemory.ensures.own

@@ -1,0 +1,192 @@
+-- Which calls of a wire leave the orders that got no number within the own faults that were counted.
+use Rattle.std.proofs.Common.{◌≡◌, ◌≤◌, ◌+◌, ◌-◌, ◌^◌, ℕ, zero, suc, Bool, true, false, List, [], ◌∷◌, ◌++◌, length, take, Option, Some, None, refl, sym, ap, ◌∙◌, subst, inl, inr, ◌⊎◌, cond, arith, length-append}
+use Rattle.std.specs.Prelude.{filter, map, Result, Ok, Err}
+use Rattle.std.specs.Bool.{MatchBool}
+use Rattle.std.specs.Option.{option_map}
+use Rattle.std.proofs.lemmas.List.Elements.{filter-append}
+use Rattle.mux_outside.specs.Counts.{HasCause, Rose, counted}
+use Rattle.mux_outside.specs.OwnStreams.{is_own}
+use Rattle.mux_outside.specs.Seen.{Seen, seen_after_note, seen_after_turn, seen_after_write}
+use Rattle.mux_outside.specs.Wire.{OwnTurnFaults, OwnWroteFaults}
+use Rattle.mux_outside.specs.declared.file_error.FileError.{FileError}
+use Rattle.mux_outside.specs.declared.file_error.FileError.TheVariants.{Failed, OutOfMemory}
+use Rattle.mux_outside.specs.declared.house_mark.HouseMark.{HouseMark}
+use Rattle.mux_outside.specs.declared.house_mark.HouseMark.TheVariants.{HouseIn, HouseSaid, HouseTook, HouseAsked, HouseAnswer, HouseOrder}
+use Rattle.mux_outside.specs.declared.mark.Mark.{Mark}
+use Rattle.mux_outside.specs.declared.mark.Mark.TheVariants.{House}
+use Rattle.mux_outside.specs.declared.order.Order.{Order}
+use Rattle.mux_outside.specs.declared.order.Order.TheVariants.{Listen, Connect, Unlisten, Pause, Resume, Finish, Close}
+use Rattle.mux_outside.specs.declared.turn.Turn.{Turn}
+use Rattle.mux_outside.specs.declared.turn.Turn.TheVariants as turn
+use Rattle.mux_outside.specs.declared.turn.Want.{Want}
+use Rattle.mux_outside.specs.declared.turn.Wrote.{Wrote}
+use Rattle.mux_outside.specs.declared.turn.Wrote.TheVariants as wrote
+use Rattle.mux_engine.specs.Orders.{IsMade}
+use Rattle.mux_engine.specs.OwnFaults.{OrderCounted, OwnCounted, is_unmade, unmade_in}
+use Rattle.mux_engine.proofs.Asks.{EachAsked}
+
+same-later : (a b : ℕ) → b ≡ a → a ≤ b
+same-later a b e = omega arith
+
+-- ---- first one, then another
+
+-- where nothing was told
+pub own-same : (told : Option (List Mark)) (faults : ℕ) → OwnCounted told told faults faults
+own-same told faults = record { later = omega arith; counted = inl (omega arith) }
+
+pub own-still : (told told' : Option (List Mark)) (faults faults' : ℕ) → told' ≡ told → faults ≤ faults' → OwnCounted told told' faults faults'
+own-still told told' faults faults' e l = let z : unmade_in told' ≡ unmade_in told = ap unmade_in e in record { later = l; counted = inl (omega (arith, z, l)) }
+
+pub own-kept : (told told' : Option (List Mark)) (faults faults' : ℕ) → told' ≡ told → faults' ≡ faults → OwnCounted told told' faults faults'
+own-kept told told' faults faults' e f = own-still told told' faults faults' e (same-later faults faults' f)
+
+pub own-then : (a b c : Option (List Mark)) (m n o : ℕ) → OwnCounted a b m n → OwnCounted b c n o → OwnCounted a c m o
+own-then a b c m n o v w = let f : m ≤ n = v.later in let g : n ≤ o = w.later in record { later = omega (arith, f, g); counted = both v.counted w.counted f g }
+  where
+    both : (unmade_in b + m ≤ unmade_in a + n) ⊎ (2 ^ 64 - 1 ≤ n) → (unmade_in c + n ≤ unmade_in b + o) ⊎ (2 ^ 64 - 1 ≤ o) → m ≤ n → n ≤ o → (unmade_in c + m ≤ unmade_in a + o) ⊎ (2 ^ 64 - 1 ≤ o)
+    both (inl x) (inl y) f g = inl (omega (arith, x, y))
+    both (inl x) (inr y) f g = inr y
+    both (inr x) y f g = inr (omega (arith, x, g))
+
+-- the wire is the one before
+pub own-wire : {V : Type 0} (seen : V → Seen) (faults : V → ℕ) (old new : V) → new ≡ old → OwnCounted (seen old).told (seen new).told (faults old) (faults new)
+own-wire seen faults old new e = own-still (seen old).told (seen new).told (faults old) (faults new) (ap (λ w. (seen w).told) e) (same-later (faults old) (faults new) (ap faults e))
+
+-- ---- marks that are told
+
+unmade-more : (told : Option (List Mark)) (more : List Mark) → filter is_unmade more ≡ [] → unmade_in (option_map (λ m. m ++ more) told) ≡ unmade_in told
+unmade-more None more none = refl
+unmade-more (Some marks) more none = ap length (filter-append is_unmade marks more) ∙ (length-append (filter is_unmade marks) (filter is_unmade more) ∙ adds (length (filter is_unmade marks)) (length (filter is_unmade more)) (ap length none))
+  where
+    adds : (m n : ℕ) → n ≡ 0 → m + n ≡ m
+    adds m n e = omega arith
+
+unmade-one : (told : Option (List Mark)) (mark : Mark) → unmade_in (option_map (λ m. m ++ mark ∷ []) told) ≤ unmade_in told + 1
+unmade-one None mark = omega arith
+unmade-one (Some marks) mark =
+    let e : length (filter is_unmade (marks ++ mark ∷ [])) ≡ length (filter is_unmade marks) + length (filter is_unmade (mark ∷ [])) = ap length (filter-append is_unmade marks (mark ∷ [])) ∙ length-append (filter is_unmade marks) (filter is_unmade (mark ∷ [])) in
+    let l : length (filter is_unmade (mark ∷ [])) ≤ 1 = one (is_unmade mark) in omega (arith, e, l)
+  where
+    one : (b : Bool) → length (cond b (mark ∷ []) []) ≤ 1
+    one true = omega arith
+    one false = omega arith
+
+-- none of them is an order that got no number
+pub own-told : (told told' : Option (List Mark)) (more : List Mark) (faults faults' : ℕ) → told' ≡ option_map (λ m. m ++ more) told → filter is_unmade more ≡ [] → faults ≤ faults' → OwnCounted told told' faults faults'
+own-told told told' more faults faults' e none l =
+    let z : unmade_in told' ≡ unmade_in told = ap unmade_in e ∙ unmade-more told more none in record { later = l; counted = inl (omega (arith, z, l)) }
+
+-- one of them may be, whose fault was counted
+pub own-rose : (told told' : Option (List Mark)) (mark : Mark) (faults faults' : ℕ) → told' ≡ option_map (λ m. m ++ mark ∷ []) told → Rose faults faults' → OwnCounted told told' faults faults'
+own-rose told told' mark faults faults' e r =
+    let z : unmade_in told' ≡ unmade_in (option_map (λ m. m ++ mark ∷ []) told) = ap unmade_in e in
+    let l : unmade_in (option_map (λ m. m ++ mark ∷ []) told) ≤ unmade_in told + 1 = unmade-one told mark in
+    record { later = r.later; counted = full (unmade_in told) (unmade_in told') (omega (arith, z, l)) r.rose }
+  where
+    full : (m n : ℕ) → n ≤ m + 1 → counted faults ≤ faults' → (n + faults ≤ m + faults') ⊎ (2 ^ 64 - 1 ≤ faults')
+    full m n l c = grind (arith, l, c)
+
+-- ---- a call of the wire
+
+fault-later : (b : Bool) (m n : ℕ) → MatchBool b (Rose m n) (n ≡ m) → m ≤ n
+fault-later true m n r = r.later
+fault-later false m n e = omega arith
+
+turn-later : (t : Turn) (m n : ℕ) → OwnTurnFaults t m n → m ≤ n
+turn-later (turn.Failed k) m n f = fault-later (is_own k) m n f
+turn-later (turn.Accepted k) m n f = same-later m n f
+turn-later (turn.Got k) m n f = same-later m n f
+turn-later (turn.End k) m n f = same-later m n f
+turn-later (turn.Writable k) m n f = same-later m n f
+turn-later (turn.Joined l k) m n f = same-later m n f
+turn-later turn.NoMemory m n f = same-later m n f
+
+pub own-turn : (t : Turn) (waiting : List ℕ) (want : Want) (bytes : List ℕ) (old new : Seen) (m n : ℕ) → new ≡ seen_after_turn t waiting want bytes old → OwnTurnFaults t m n → OwnCounted old.told new.told m n
+own-turn (turn.Failed k) waiting want bytes old new m n e f = own-told old.told new.told _ m n (ap (λ (x : Seen). x.told) e) refl (turn-later (turn.Failed k) m n f)
+own-turn (turn.Accepted k) waiting want bytes old new m n e f = own-told old.told new.told _ m n (ap (λ (x : Seen). x.told) e) refl (turn-later (turn.Accepted k) m n f)
+own-turn (turn.Got k) waiting want bytes old new m n e f = own-told old.told new.told _ m n (ap (λ (x : Seen). x.told) e) refl (turn-later (turn.Got k) m n f)
+own-turn (turn.End k) waiting want bytes old new m n e f = own-told old.told new.told _ m n (ap (λ (x : Seen). x.told) e) refl (turn-later (turn.End k) m n f)
+own-turn (turn.Writable k) waiting want bytes old new m n e f = own-told old.told new.told _ m n (ap (λ (x : Seen). x.told) e) refl (turn-later (turn.Writable k) m n f)
+own-turn (turn.Joined l k) waiting want bytes old new m n e f = own-told old.told new.told _ m n (ap (λ (x : Seen). x.told) e) refl (turn-later (turn.Joined l k) m n f)
+own-turn turn.NoMemory waiting want bytes old new m n e f = own-told old.told new.told _ m n (ap (λ (x : Seen). x.told) e) refl (turn-later turn.NoMemory m n f)
+
+wrote-later : (answer : Wrote) (k m n : ℕ) → OwnWroteFaults answer k m n → m ≤ n
+wrote-later wrote.Failed k m n f = fault-later (is_own k) m n f
+wrote-later (wrote.Took j) k m n f = same-later m n f
+wrote-later wrote.Later k m n f = same-later m n f
+wrote-later wrote.NoMemory k m n f = same-later m n f
+
+pub own-write : (answer : Wrote) (k : ℕ) (bytes : List ℕ) (old new : Seen) (m n : ℕ) → new ≡ seen_after_write answer k bytes old → OwnWroteFaults answer k m n → OwnCounted old.told new.told m n
+own-write wrote.Failed k bytes old new m n e f = own-told old.told new.told _ m n (ap (λ (x : Seen). x.told) e) refl (wrote-later wrote.Failed k m n f)
+own-write (wrote.Took j) k bytes old new m n e f = own-told old.told new.told _ m n (ap (λ (x : Seen). x.told) e) refl (wrote-later (wrote.Took j) k m n f)
+own-write wrote.Later k bytes old new m n e f = own-told old.told new.told _ m n (ap (λ (x : Seen). x.told) e) refl (wrote-later wrote.Later k m n f)
+own-write wrote.NoMemory k bytes old new m n e f = own-told old.told new.told _ m n (ap (λ (x : Seen). x.told) e) refl (wrote-later wrote.NoMemory k m n f)
+
+-- a mark of a house was noted that is no such order
+pub own-note : {E : Type 0} (r : Result (Unit {0}) E) (mark : HouseMark) (old new : Seen) (m n : ℕ) → is_unmade (House mark) ≡ false → new ≡ seen_after_note r mark old → n ≡ m → OwnCounted old.told new.told m n
+own-note (Ok x) mark old new m n made e f = own-told old.told new.told (House mark ∷ []) m n (ap (λ (x : Seen). x.told) e) (ap (λ b. cond b (House mark ∷ []) []) made) (same-later m n f)
+own-note (Err x) mark old new m n made e f = own-still old.told new.told m n (ap (λ (x : Seen). x.told) e) (same-later m n f)
+
+-- asks of clients are none
+asks-made : (P : ℕ → Type 0) (n : ℕ) (asks : List HouseMark) → EachAsked P asks → filter is_unmade (map (λ (a : HouseMark). House a) (take n asks)) ≡ []
+asks-made P zero asks each = refl
+asks-made P (suc n) [] each = refl
+asks-made P (suc n) (HouseAsked client id opening ask reply ∷ asks) each = asks-made P n asks each.1
+asks-made P (suc n) (HouseIn ∷ asks) each = absurd each.0
+asks-made P (suc n) (HouseSaid bytes ∷ asks) each = absurd each.0
+asks-made P (suc n) (HouseTook size ∷ asks) each = absurd each.0
+asks-made P (suc n) (HouseAnswer client id reply ∷ asks) each = absurd each.0
+asks-made P (suc n) (HouseOrder order number ∷ asks) each = absurd each.0
+
+pub own-asks : (P : ℕ → Type 0) (k : ℕ) (asks : List HouseMark) (old new : Seen) (m n : ℕ) → EachAsked P asks → new ≡ record old { told = option_map (λ (l : List Mark). l ++ map (λ (a : HouseMark). House a) (take k asks)) old.told } → n ≡ m → OwnCounted old.told new.told m n
+own-asks P k asks old new m n each e f = own-told old.told new.told (map (λ (a : HouseMark). House a) (take k asks)) m n (ap (λ (x : Seen). x.told) e) (asks-made P k asks each) (same-later m n f)
+
+-- ---- an order
+
+-- what was made, or not, as its call was counted
+pub made-later : {X : Type 0} (r : Result X FileError) (m n : ℕ) → HasCause r m n → m ≤ n
+made-later (Ok x) m n f = same-later m n f
+made-later (Err Failed) m n f = f.later
+made-later (Err OutOfMemory) m n f = same-later m n f
+
+-- what an order is told with, behind what was counted for it
+order-step : (order : Order) (number : Option ℕ) (m n : ℕ) → OrderCounted order number m n → ((is_unmade (House (HouseOrder order number)) ≡ false) × (n ≡ m)) ⊎ Rose m n
+order-step (Listen host port) None m n f = inr f
+order-step (Listen host port) (Some k) m n f = inl (refl, f)
+order-step (Connect host port) None m n f = inr f
+order-step (Connect host port) (Some k) m n f = inl (refl, f)
+order-step (Unlisten l) number m n f = inl (refl, f)
+order-step (Pause t) number m n f = inl (refl, f)
+order-step (Resume t) number m n f = inl (refl, f)
+order-step (Finish t) number m n f = inl (refl, f)
+order-step (Close t) number m n f = inl (refl, f)
+
+pub own-ordered : {E : Type 0} (r : Result (Unit {0}) E) (order : Order) (number : Option ℕ) (old mid new : Seen) (m n o : ℕ) → mid.told ≡ old.told → OrderCounted order number m n → new ≡ seen_after_note r (HouseOrder order number) mid → o ≡ n → OwnCounted old.told new.told m o
+own-ordered {E} r order number old mid new m n o same f e g = elim (order-step order number m n f) [
+  | inl p ↦ own-then old.told mid.told new.told m n o (own-still old.told mid.told m n same (same-later m n p.1)) (own-note r (HouseOrder order number) mid new n o p.0 e g)
+  | inr rose ↦ by_note r e rose
+]
+  where
+    by_note : (r : Result (Unit {0}) E) → new ≡ seen_after_note r (HouseOrder order number) mid → Rose m n → OwnCounted old.told new.told m o
+    by_note (Ok x) e rose = own-rose old.told new.told (House (HouseOrder order number)) m o (ap (λ (x : Seen). x.told) e ∙ ap (λ (t : Option (List Mark)). option_map (λ l. l ++ House (HouseOrder order number) ∷ []) t) same) (subst (λ (j : ℕ). Rose m j) (sym g) rose)
+    by_note (Err x) e rose = own-still old.told new.told m o (ap (λ (x : Seen). x.told) e ∙ same) (let l : m ≤ n = rose.later in omega (arith, l, g))
+
+abbrev number-of : {E : Type 0} → Result (Option ℕ) E → Option ℕ
+number-of (Ok number) = number
+number-of (Err e) = None
+
+made-is : {E : Type 0} (r : Result (Option ℕ) E) (a b : Option ℕ) → r ≡ Ok a → r ≡ Ok b → a ≡ b
+made-is r a b e f = sym (ap number-of e) ∙ ap number-of f
+
+-- the number of what a call made, by what the call counted
+pub listen-counted : {E : Type 0} (made : Result ℕ FileError) (result : Result (Option ℕ) E) (number : Option ℕ) (host : List ℕ) (port m n : ℕ) → IsMade made result → result ≡ Ok number → HasCause made m n → OrderCounted (Listen host port) number m n
+listen-counted (Ok k) result number host port m n is e f = subst (λ (o : Option ℕ). OrderCounted (Listen host port) o m n) (made-is result (Some k) number is e) f
+listen-counted (Err Failed) result number host port m n is e f = subst (λ (o : Option ℕ). OrderCounted (Listen host port) o m n) (made-is result None number is e) f
+listen-counted (Err OutOfMemory) (Ok x) number host port m n is e f = absurd (let z : false ≡ true = is in cc)
+listen-counted (Err OutOfMemory) (Err x) number host port m n is e f = absurd (cc)
+
+pub connect-counted : {E : Type 0} (made : Result ℕ FileError) (result : Result (Option ℕ) E) (number : Option ℕ) (host : List ℕ) (port m n : ℕ) → IsMade made result → result ≡ Ok number → HasCause made m n → OrderCounted (Connect host port) number m n
+connect-counted (Ok k) result number host port m n is e f = subst (λ (o : Option ℕ). OrderCounted (Connect host port) o m n) (made-is result (Some k) number is e) f
+connect-counted (Err Failed) result number host port m n is e f = subst (λ (o : Option ℕ). OrderCounted (Connect host port) o m n) (made-is result None number is e) f
+connect-counted (Err OutOfMemory) (Ok x) number host port m n is e f = absurd (let z : false ≡ true = is in cc)
+connect-counted (Err OutOfMemory) (Err x) number host port m n is e f = absurd (cc)
