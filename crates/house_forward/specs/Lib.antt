@@ -1,4 +1,5 @@
 pub mod Asks
+pub mod Connects
 pub mod Desk
 pub mod Due
 pub mod Forwardings
@@ -8,6 +9,7 @@ pub mod Known
 pub mod Laws
 pub mod Lives
 pub mod Links
+pub mod Numbers
 pub mod Quiet
 pub mod Rules
 pub mod Said

@@ -2,6 +2,7 @@
 //! law.
 
 ghost use Rattle.house_forward.specs.Laws.{EachRelays, EachKeeps, EachRests};
+ghost use Rattle.house_forward.specs.Numbers.{ChannelsDiffer, StreamsAreTheirs, StreamsDiffer};
 
 /// Of each relay that the house has, or had: what is sent in its channel was read from its socket
 /// before, behind the dialog, in order; what its socket takes are the replies to the dialog, and then
@@ -15,4 +16,13 @@ pub fn every_relay_relays()
 /// Where the house has nothing to say and nothing to order, each of its relays is at rest.
 pub fn relays_of_a_quiet_house_rest()
     ensures { EachRests }
+{}
+
+/// Channel numbers and streams are each one's own: no two relays of the house have the same channel
+/// number; and its relays have exactly the streams that were joined or connected and not closed since,
+/// of which no two are the same, if each came with a number that no open one had.
+pub fn each_relay_has_its_own_channel_and_stream()
+    ensures channels { ChannelsDiffer }
+    ensures streams { StreamsAreTheirs }
+    ensures apart { StreamsDiffer }
 {}
