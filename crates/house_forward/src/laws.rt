@@ -1,6 +1,7 @@
 //! What holds of the relays of the house, whatever calls were made: each function's contract is the
 //! law.
 
+ghost use Rattle.house_forward.specs.Connects.{OneConnectEach};
 ghost use Rattle.house_forward.specs.Laws.{EachRelays, EachKeeps, EachRests};
 ghost use Rattle.house_forward.specs.Numbers.{ChannelsDiffer, StreamsAreTheirs, StreamsDiffer};
 
@@ -25,4 +26,11 @@ pub fn each_relay_has_its_own_channel_and_stream()
     ensures channels { ChannelsDiffer }
     ensures streams { StreamsAreTheirs }
     ensures apart { StreamsDiffer }
+{}
+
+/// Of each OPEN of forwarded-tcpip that it takes, which is one at whose address and port the server
+/// listens for a forwarding, the house orders one Connect, to where that forwarding connects, in the
+/// order of the OPENs; it orders none besides.
+pub fn each_open_that_is_taken_is_connected_once()
+    ensures { OneConnectEach }
 {}
