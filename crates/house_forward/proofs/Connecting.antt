@@ -35,7 +35,7 @@ use Rattle.house_forward.proofs.Frames.{Heeds, frames}
 use Rattle.house_forward.proofs.Fresh.{joined}
 use Rattle.house_forward.proofs.Keeping.{stays-heard, stays-after}
 use Rattle.house_forward.proofs.Picking.{pick-none, pick-push, pick-kept, pick-stepped, one-picks, most-picks}
-use Rattle.house_forward.proofs.Sound.{Each, All, Sound, sound, all-follow, offered_life, joined_life, step_of, each-stepped, each-one}
+use Rattle.house_forward.proofs.Sound.{Each, All, Sound, offered_life, joined_life, step_of, each-one, sound-says, sound-hears, sound-gets, stepped-sound, follow-sound}
 
 -- where one is to be connected, if that isn't ordered yet
 abbrev due : Life → Option Place
@@ -87,7 +87,7 @@ due-takes n a b h = due-same _ _ a b h (ap (λ (r : Relay). r.socket) h.relay.0)
 due-gets : (free : Bool) (bytes : List ℕ) (t : ℕ) (a b : Life) → Sound a → has_stream t a ≡ true
     → GoesBy (GetsOn free bytes) (Reads bytes) a b → due b ≡ due a
 due-gets free bytes t a b s is h =
-    let s' = sound.gets free bytes t a b s is h in
+    let s' = sound-gets free bytes a b s h in
     not-due b (owned t b.own b.relay.socket (ap (is_stream t) h.own ∙ is) s'.stream)
     ∙ sym (not-due a (owned t a.own a.relay.socket is s.stream))
 
@@ -135,7 +135,7 @@ Owes connects ls taken = taken ≡ connects ++ still_to_connect ls
 heeds : (connects : List Place) → Heeds (Owes connects)
 heeds connects = record {
   hears = λ n m old new taken sounds h one. h ∙ ap (λ ps. connects ++ ps)
-      (sym (kept-due new (each-one Sound (has_channel n) (Listens m) old new (λ a b s is goes. sound.hears m a b s goes) one sounds)
+      (sym (kept-due new (each-one Sound (has_channel n) (Listens m) old new (λ a b s is goes. sound-hears m a b s goes) one sounds)
       ∙ one-picks due Sound (has_channel n) (Listens m) old new (λ a b s is goes. due-hears m a b goes) sounds one));
   offers = λ f number remote window maximum old taken free h.
       ap (λ ps. ps ++ place_of (Some f)) h ∙ append_assoc connects (still_to_connect old) (place_of (Some f))
@@ -150,14 +150,14 @@ due-says-by false o bytes old new h s = ap (λ (c : Course). still_to_connect c.
 due-says-by true (Some f) bytes old new h s = ap (λ (c : Course). still_to_connect c.lives) h.1
 due-says-by true None bytes old new h s =
     ap (λ (c : Course). still_to_connect c.lives) h.2
-    ∙ kept-due h.0 (each-one Sound has_words (Speaks bytes) old.lives h.0 (λ a b x is goes. sound.says bytes a b x goes) h.1 s.lives)
+    ∙ kept-due h.0 (each-one Sound has_words (Speaks bytes) old.lives h.0 (λ a b x is goes. sound-says bytes a b x goes) h.1 s.lives)
     ∙ one-picks due Sound has_words (Speaks bytes) old.lives h.0 (λ a b x is goes. due-says bytes a b goes) s.lives h.1
 
 due-steps-by : (o : Order) (k : Step) (t : ℕ) (old new : Course) → StepsBy o k t old new → All Sound old
     → still_to_connect new.lives ≡ still_to_connect old.lives
 due-steps-by o k t old new h s =
     ap (λ (c : Course). still_to_connect c.lives) h.1
-    ∙ kept-due (map (stepped k t) old.lives) (each-stepped Sound sound k t old.lives s.lives)
+    ∙ kept-due (map (stepped k t) old.lives) (stepped-sound k t old.lives s.lives)
     ∙ steps-due k t old.lives s.lives
 
 -- none is to be connected of those in front
@@ -249,7 +249,7 @@ due-reach [] old new h connects taken s owes =
 due-reach (call ∷ calls) old new h connects taken s owes =
     let one = due-follow call old h.0 h.1 connects taken s owes in
     let rest = due-reach calls h.0 new h.2 (connects ++ connect_of call) (taken ++ taken_call call old h.0 h.1)
-    (all-follow Sound sound call old h.0 h.1 s) one in
+    (follow-sound call old h.0 h.1 s) one in
     sym (append_assoc taken (taken_call call old h.0 h.1) (taken_in calls h.0 new h.2)) ∙ rest
     ∙ ap (λ ps. ps ++ still_to_connect new.lives) (append_assoc connects (connect_of call) (connects_in calls))
 

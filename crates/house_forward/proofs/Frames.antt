@@ -19,7 +19,7 @@ use Rattle.house_forward.specs.Lives.{has_channel, is_grant, cut_off, kept_in}
 use Rattle.house_forward.specs.declared.forwarding.Forwarding.{Forwarding}
 use Rattle.house_forward.specs.declared.holdings.Stage.{Stage}
 use Rattle.house_forward.specs.declared.holdings.Stage.TheVariants.{Control, Proxy}
-use Rattle.house_forward.proofs.Sound.{Each, All, Sound, sound, all-frame, offered_life}
+use Rattle.house_forward.proofs.Sound.{Each, All, Sound, offered_life, frame-sound}
 
 -- what a message keeps, by the relays and the OPENs that were taken
 pub record Heeds (K : List Life → List Place → Type 0) : Type 0 where
@@ -101,6 +101,6 @@ frames K heeds (content ∷ more) old new taken h s k =
     let its : All Sound cut = record { lives = s.lives; past = s.past } in
     let one = frame K heeds old.stage content cut h.2.0 taken h.2.1 s.lives k in
     let rest = frames K heeds more h.2.0 new (taken ++ taken_frame old.stage content old.desk.all) h.2.2
-    (all-frame Sound sound old.stage content cut h.2.0 h.2.1 its) one in
+    (frame-sound old.stage content cut h.2.0 h.2.1 its) one in
     subst (λ (ps : List Place). K new.lives ps)
     (append_assoc taken (taken_frame old.stage content old.desk.all) (taken_frames more h.2.0 new h.2.2)) rest

@@ -41,7 +41,7 @@ use Rattle.house_forward.specs.declared.link.Step.TheVariants as step
 use Rattle.house_forward.proofs.Frames.{Heeds, frames}
 use Rattle.house_forward.proofs.Lists.{any-map, one-passes}
 use Rattle.house_forward.proofs.Picking.{pick-none, pick-push, pick-kept, pick-stepped, one-picks, most-picks, one-maps, most-maps}
-use Rattle.house_forward.proofs.Sound.{Each, All, Sound, sound, all-follow, offered_life, joined_life, step_of, each-back, each-stepped, each-one}
+use Rattle.house_forward.proofs.Sound.{Each, All, Sound, offered_life, joined_life, step_of, each-back, each-one, sound-says, sound-hears, stepped-sound, follow-sound}
 
 -- ---- numbers of which no two are the same
 
@@ -301,7 +301,7 @@ channels-reach : (calls : List HouseCall) (old new : Course) → Reaches old cal
     → ChannelsApart new.lives
 channels-reach [] old new h s a = subst (λ (c : Course). ChannelsApart c.lives) (sym h) a
 channels-reach (call ∷ calls) old new h s a =
-    channels-reach calls h.0 new h.2 (all-follow Sound sound call old h.0 h.1 s) (channels-follow call old h.0 h.1 s a)
+    channels-reach calls h.0 new h.2 (follow-sound call old h.0 h.1 s) (channels-follow call old h.0 h.1 s a)
 
 pub channels-differ : ChannelsDiffer
 channels-differ calls course h =
@@ -378,7 +378,7 @@ kept-streams ls all = pick-kept stream Sound gone-none ls all
 heeds-streams : (there : List ℕ) → Heeds (λ ls taken. open_streams ls ≡ there)
 heeds-streams there = record {
   hears = λ n m old new taken sounds h one.
-      kept-streams new (each-one Sound (has_channel n) (Listens m) old new (λ a b s is goes. sound.hears m a b s goes) one sounds)
+      kept-streams new (each-one Sound (has_channel n) (Listens m) old new (λ a b s is goes. sound-hears m a b s goes) one sounds)
       ∙ one-picks stream Sound (has_channel n) (Listens m) old new (λ a b s is goes. goes-same _ _ a b goes) sounds one ∙ h;
   offers = λ f number remote window maximum old taken free h.
       pick-push stream old (offered_life f number remote window maximum) ∙ append-nil (open_streams old) ∙ h;
@@ -394,14 +394,14 @@ streams-says false o bytes old new h s = ap (λ (c : Course). open_streams c.liv
 streams-says true (Some f) bytes old new h s = ap (λ (c : Course). open_streams c.lives) h.1
 streams-says true None bytes old new h s =
     ap (λ (c : Course). open_streams c.lives) h.2
-    ∙ kept-streams h.0 (each-one Sound has_words (Speaks bytes) old.lives h.0 (λ a b x is goes. sound.says bytes a b x goes) h.1 s.lives)
+    ∙ kept-streams h.0 (each-one Sound has_words (Speaks bytes) old.lives h.0 (λ a b x is goes. sound-says bytes a b x goes) h.1 s.lives)
     ∙ one-picks stream Sound has_words (Speaks bytes) old.lives h.0 (λ a b x is goes. goes-same _ _ a b goes.1) s.lives h.1
 
 streams-step : (o : Order) (k : Step) → leaves k → (t : ℕ) (old new : Course) → StepsBy o k t old new → All Sound old
     → open_streams new.lives ≡ open_streams old.lives
 streams-step o k l t old new h s =
     ap (λ (c : Course). open_streams c.lives) h.1
-    ∙ kept-streams (map (stepped k t) old.lives) (each-stepped Sound sound k t old.lives s.lives)
+    ∙ kept-streams (map (stepped k t) old.lives) (stepped-sound k t old.lives s.lives)
     ∙ step-streams k l t old.lives s.lives
 
 own-list : (number : Option ℕ) → option_to_list (number_of (own_made number)) ≡ option_to_list number
@@ -431,7 +431,7 @@ streams-order (order.Resume t) number old new h s = more _ _ (streams-step (orde
 streams-order (order.Finish t) number old new h s = more _ _ (streams-step (order.Finish t) step.Finish tt t old new h s)
 streams-order (order.Close t) number old new h s = more _ _
     (ap (λ (c : Course). open_streams c.lives) h.1
-    ∙ kept-streams (map (stepped step.Close t) old.lives) (each-stepped Sound sound step.Close t old.lives s.lives)
+    ∙ kept-streams (map (stepped step.Close t) old.lives) (stepped-sound step.Close t old.lives s.lives)
     ∙ close-streams t old.lives)
 
 streams-mark : (mark : HouseMark) (old new : Course) → MarksIn mark old new → All Sound old
@@ -469,7 +469,7 @@ streams-reach : (calls : List HouseCall) (old new : Course) → Reaches old call
     → open_streams new.lives ≡ open_after (open_streams old.lives) calls
 streams-reach [] old new h s = ap (λ (c : Course). open_streams c.lives) h
 streams-reach (call ∷ calls) old new h s =
-    streams-reach calls h.0 new h.2 (all-follow Sound sound call old h.0 h.1 s)
+    streams-reach calls h.0 new h.2 (follow-sound call old h.0 h.1 s)
     ∙ ap (λ there. open_after there calls) (streams-follow call old h.0 h.1 s)
 
 pub streams-are-theirs : StreamsAreTheirs

@@ -80,17 +80,29 @@ step_of step l = record l {
   acts = act_of step ∷ l.acts;
 }
 
--- what each step keeps
-pub record Kept (P : Life → Type 0) : Type 0 where
-  pub says : (bytes : List ℕ) (a b : Life) → P a → Speaks bytes a b → P b
+-- which call takes a step of a stream
+abbrev pub Causes : HouseCall → Step → ℕ → Type 0
+Causes call (step.Pause b) t = Unit {0}
+Causes call step.Finish t = Unit {0}
+Causes call step.End t = call ≡ Turns (End t)
+Causes call step.Close t = Unit {0}
+Causes call step.Writable t = call ≡ Turns (Writable t)
+Causes call step.Failed t = call ≡ Turns (Failed t)
+
+-- what each step keeps, where this is known of a call and of the course before it
+pub record Kept (Now : HouseCall → Course → Type 0) (P : Life → Type 0) : Type 0 where
+  pub says : (bytes : List ℕ) (a b : Life) → P a → has_words a ≡ true → Speaks bytes a b → P b
   pub hears : (m : Message) (a b : Life) → P a → Listens m a b → P b
-  pub gets : (free : Bool) (bytes : List ℕ) (t : ℕ) (a b : Life) → P a → has_stream t a ≡ true
-      → GoesBy (GetsOn free bytes) (Reads bytes) a b → P b
+  pub gets : (t : ℕ) (bytes : List ℕ) (old : Course) → Now (Turns (Got t bytes)) old → (a b : Life) → P a
+      → has_stream t a ≡ true → GoesBy (GetsOn (not (are_full old.lives)) bytes) (Reads bytes) a b → P b
   pub takes : (t n : ℕ) (a b : Life) → P a → has_stream t a ≡ true → GoesBy (TakesOn n) (Takes n) a b → P b
-  pub steps : (s : Step) (t : ℕ) (a : Life) → P a → has_stream t a ≡ true → P (step_of s a)
-  pub makes : (number : Option ℕ) (a : Life) → P a → is_unmade a ≡ true → P (made_life number a)
-  pub joins : (full crowded : Bool) (f : Option Forwarding) (t : ℕ) (r : Relay) → IsJoined full crowded f t r
-      → P (joined_life t r)
+  pub steps : (s : Step) (t : ℕ) (call : HouseCall) (old : Course) → Now call old → Causes call s t → (a : Life) → P a
+      → has_stream t a ≡ true → P (step_of s a)
+  pub makes : (host : List ℕ) (port : ℕ) (number : Option ℕ) (old : Course)
+      → Now (Marks (HouseOrder (order.Connect host port) number)) old → (a : Life) → P a → is_unmade a ≡ true
+      → P (made_life number a)
+  pub joins : (l t : ℕ) (old : Course) → Now (Turns (Joined l t)) old → (r : Relay)
+      → IsJoined (are_full old.lives) (are_crowded old.lives) (find (has_listener l) old.desk.all) t r → P (joined_life t r)
   pub offers : (f : Forwarding) (number remote window maximum : ℕ) → P (offered_life f number remote window maximum)
 
 -- ---- it holds of all by one
@@ -132,11 +144,11 @@ stepped-if : (P : Life → Type 0) (s : Step) (b : Bool) (l : Life) → P l → 
 stepped-if P s true l p k = k refl
 stepped-if P s false l p k = p
 
-pub each-stepped : (P : Life → Type 0) → Kept P → (s : Step) (t : ℕ) (ls : List Life) → Each P ls
-    → Each P (map (stepped s t) ls)
-each-stepped P k s t [] h = tt
-each-stepped P k s t (l ∷ ls) h =
-    (stepped-if P s (has_stream t l) l h.0 (k.steps s t l h.0), each-stepped P k s t ls h.1)
+pub each-stepped : (P : Life → Type 0) (s : Step) (t : ℕ) → ((a : Life) → P a → has_stream t a ≡ true → P (step_of s a))
+    → (ls : List Life) → Each P ls → Each P (map (stepped s t) ls)
+each-stepped P s t keeps [] h = tt
+each-stepped P s t keeps (l ∷ ls) h =
+    (stepped-if P s (has_stream t l) l h.0 (keeps l h.0), each-stepped P s t keeps ls h.1)
 
 -- ---- of those of a course
 
@@ -157,141 +169,162 @@ all-left P old new lives e h all = subst (All P) (sym e) (record {
   past = each-append P old.past (left_in lives) all.past (each-left P lives h);
 })
 
-all-at : (P : Life → Type 0) → Kept P → (n : ℕ) (m : Message) (old new : Course) → HearsAt n m old new → All P old → All P new
-all-at P k n m old new (inl h) all =
+all-at : (Now : HouseCall → Course → Type 0) (P : Life → Type 0) → Kept Now P → (n : ℕ) (m : Message) (old new : Course) → HearsAt n m old new → All P old → All P new
+all-at Now P k n m old new (inl h) all =
     all-left P old new h.0 h.2
     (each-one P (has_channel n) (Listens m) old.lives h.0 (λ a b p is goes. k.hears m a b p goes) h.1 all.lives) all
-all-at P k n m old new (inr h) all = all-same P old new h.1 all
+all-at Now P k n m old new (inr h) all = all-same P old new h.1 all
 
-all-opens : (P : Life → Type 0) → Kept P → (o : Option Forwarding) (remote window maximum : ℕ) (old new : Course)
+all-opens : (Now : HouseCall → Course → Type 0) (P : Life → Type 0) → Kept Now P → (o : Option Forwarding) (remote window maximum : ℕ) (old new : Course)
     → OpensFor o remote window maximum old new → All P old → All P new
-all-opens P k None remote window maximum old new h all = all-same P old new h all
-all-opens P k (Some f) remote window maximum old new h all = subst (All P) (sym h.more) (record {
+all-opens Now P k None remote window maximum old new h all = all-same P old new h all
+all-opens Now P k (Some f) remote window maximum old new h all = subst (All P) (sym h.more) (record {
   lives = each-append P old.lives _ all.lives (k.offers f h.number remote window maximum, tt);
   past = all.past;
 })
 
-all-open : (P : Life → Type 0) → Kept P → (what : Opens) (remote window maximum : ℕ) (old new : Course)
+all-open : (Now : HouseCall → Course → Type 0) (P : Life → Type 0) → Kept Now P → (what : Opens) (remote window maximum : ℕ) (old new : Course)
     → HearsOpen what remote window maximum old new → All P old → All P new
-all-open P k (opens.Forwarded address port) remote window maximum old new h all =
-    all-opens P k (find (served_at address.now port) old.desk.all) remote window maximum old new h all
-all-open P k opens.Session remote window maximum old new h all = all-same P old new h all
-all-open P k (opens.Direct host port) remote window maximum old new h all = all-same P old new h all
-all-open P k (opens.DirectPath path) remote window maximum old new h all = all-same P old new h all
-all-open P k (opens.ForwardedPath path) remote window maximum old new h all = all-same P old new h all
-all-open P k opens.Other remote window maximum old new h all = all-same P old new h all
+all-open Now P k (opens.Forwarded address port) remote window maximum old new h all =
+    all-opens Now P k (find (served_at address.now port) old.desk.all) remote window maximum old new h all
+all-open Now P k opens.Session remote window maximum old new h all = all-same P old new h all
+all-open Now P k (opens.Direct host port) remote window maximum old new h all = all-same P old new h all
+all-open Now P k (opens.DirectPath path) remote window maximum old new h all = all-same P old new h all
+all-open Now P k (opens.ForwardedPath path) remote window maximum old new h all = all-same P old new h all
+all-open Now P k opens.Other remote window maximum old new h all = all-same P old new h all
 
 all-desk : (P : Life → Type 0) (old new : Course) → new ≡ record old { desk = new.desk } → All P old → All P new
 all-desk P old new e h = subst (All P) (sym e) (record { lives = h.lives; past = h.past })
 
-all-message : (P : Life → Type 0) → Kept P → (m : Message) (old new : Course) → HearsMessage m old new → All P old → All P new
-all-message P k (message.Transport number rest) old new h all = all-same P old new h all
-all-message P k (message.GlobalRequest name want rest what) old new h all = all-same P old new h all
-all-message P k (message.RequestSuccess rest) old new h all = subst (All P) (sym h) (record { lives = all.lives; past = all.past })
-all-message P k message.RequestFailure old new h all = subst (All P) (sym h) (record { lives = all.lives; past = all.past })
-all-message P k (message.Open kind sender window maximum rest what) old new h all = all-open P k what sender window maximum old new h all
-all-message P k (message.Confirmation recipient sender window maximum rest) old new h all = all-at P k recipient (message.Confirmation recipient sender window maximum rest) old new h all
-all-message P k (message.OpenFailure recipient reason text language) old new h all = all-at P k recipient (message.OpenFailure recipient reason text language) old new h all
-all-message P k (message.Adjust recipient add) old new h all = all-at P k recipient (message.Adjust recipient add) old new h all
-all-message P k (message.Data recipient bytes) old new h all = all-at P k recipient (message.Data recipient bytes) old new h all
-all-message P k (message.Extended recipient code bytes) old new h all = all-at P k recipient (message.Extended recipient code bytes) old new h all
-all-message P k (message.Eof recipient) old new h all = all-at P k recipient (message.Eof recipient) old new h all
-all-message P k (message.Close recipient) old new h all = all-at P k recipient (message.Close recipient) old new h all
-all-message P k (message.Request recipient kind want rest) old new h all = all-at P k recipient (message.Request recipient kind want rest) old new h all
-all-message P k (message.Success recipient) old new h all = all-at P k recipient (message.Success recipient) old new h all
-all-message P k (message.Failure recipient) old new h all = all-at P k recipient (message.Failure recipient) old new h all
+all-message : (Now : HouseCall → Course → Type 0) (P : Life → Type 0) → Kept Now P → (m : Message) (old new : Course) → HearsMessage m old new → All P old → All P new
+all-message Now P k (message.Transport number rest) old new h all = all-same P old new h all
+all-message Now P k (message.GlobalRequest name want rest what) old new h all = all-same P old new h all
+all-message Now P k (message.RequestSuccess rest) old new h all = subst (All P) (sym h) (record { lives = all.lives; past = all.past })
+all-message Now P k message.RequestFailure old new h all = subst (All P) (sym h) (record { lives = all.lives; past = all.past })
+all-message Now P k (message.Open kind sender window maximum rest what) old new h all = all-open Now P k what sender window maximum old new h all
+all-message Now P k (message.Confirmation recipient sender window maximum rest) old new h all = all-at Now P k recipient (message.Confirmation recipient sender window maximum rest) old new h all
+all-message Now P k (message.OpenFailure recipient reason text language) old new h all = all-at Now P k recipient (message.OpenFailure recipient reason text language) old new h all
+all-message Now P k (message.Adjust recipient add) old new h all = all-at Now P k recipient (message.Adjust recipient add) old new h all
+all-message Now P k (message.Data recipient bytes) old new h all = all-at Now P k recipient (message.Data recipient bytes) old new h all
+all-message Now P k (message.Extended recipient code bytes) old new h all = all-at Now P k recipient (message.Extended recipient code bytes) old new h all
+all-message Now P k (message.Eof recipient) old new h all = all-at Now P k recipient (message.Eof recipient) old new h all
+all-message Now P k (message.Close recipient) old new h all = all-at Now P k recipient (message.Close recipient) old new h all
+all-message Now P k (message.Request recipient kind want rest) old new h all = all-at Now P k recipient (message.Request recipient kind want rest) old new h all
+all-message Now P k (message.Success recipient) old new h all = all-at Now P k recipient (message.Success recipient) old new h all
+all-message Now P k (message.Failure recipient) old new h all = all-at Now P k recipient (message.Failure recipient) old new h all
 
-all-reading : (P : Life → Type 0) → Kept P → (r : Result Said Bad) (old new : Course) → HearsReading r old new → All P old → All P new
-all-reading P k (Err bad) old new h all = all-same P old new h all
-all-reading P k (Ok said) old new h all = all-message P k h.0 old new h.2 all
+all-reading : (Now : HouseCall → Course → Type 0) (P : Life → Type 0) → Kept Now P → (r : Result Said Bad) (old new : Course) → HearsReading r old new → All P old → All P new
+all-reading Now P k (Err bad) old new h all = all-same P old new h all
+all-reading Now P k (Ok said) old new h all = all-message Now P k h.0 old new h.2 all
 
 granted : (P : Life → Type 0) (b : Bool) (old : Course) (a : Course) → All P a → All P old → All P (if b then a else old)
 granted P true old a h all = h
 granted P false old a h all = all
 
-pub all-frame : (P : Life → Type 0) → Kept P → (stage : Stage) (content : List ℕ) (old new : Course) → HearsFrame stage content old new
+pub all-frame : (Now : HouseCall → Course → Type 0) (P : Life → Type 0) → Kept Now P → (stage : Stage) (content : List ℕ) (old new : Course) → HearsFrame stage content old new
     → All P old → All P new
-all-frame P k Control content old new h all = subst (All P) (sym h)
+all-frame Now P k Control content old new h all = subst (All P) (sym h)
     (granted P (is_grant (take_u32 content)) old _ (record { lives = all.lives; past = all.past }) all)
-all-frame P k Proxy content old new h all = all-reading P k (reading content) old new h all
+all-frame Now P k Proxy content old new h all = all-reading Now P k (reading content) old new h all
 
-all-frames : (P : Life → Type 0) → Kept P → (contents : List (List ℕ)) (old new : Course) → HearsFrames contents old new → All P old
+all-frames : (Now : HouseCall → Course → Type 0) (P : Life → Type 0) → Kept Now P → (contents : List (List ℕ)) (old new : Course) → HearsFrames contents old new → All P old
     → All P new
-all-frames P k [] old new h all = subst (All P) (sym h.1) (record { lives = all.lives; past = all.past })
-all-frames P k (content ∷ more) old new h all =
-    all-frames P k more h.2.0 new h.2.2
-    (all-frame P k old.stage content (cut_off (Frame content h.0) old) h.2.0 h.2.1 (record { lives = all.lives; past = all.past }))
+all-frames Now P k [] old new h all = subst (All P) (sym h.1) (record { lives = all.lives; past = all.past })
+all-frames Now P k (content ∷ more) old new h all =
+    all-frames Now P k more h.2.0 new h.2.2
+    (all-frame Now P k old.stage content (cut_off (Frame content h.0) old) h.2.0 h.2.1 (record { lives = all.lives; past = all.past }))
 
-all-says : (P : Life → Type 0) → Kept P → (b : Bool) (o : Option Forwarding) (bytes : List ℕ) (old new : Course) → SaysBy b o bytes old new
+all-says : (Now : HouseCall → Course → Type 0) (P : Life → Type 0) → Kept Now P → (b : Bool) (o : Option Forwarding) (bytes : List ℕ) (old new : Course) → SaysBy b o bytes old new
     → All P old → All P new
-all-says P k false o bytes old new h all = subst (All P) (sym h.1) (record { lives = all.lives; past = all.past })
-all-says P k true (Some f) bytes old new h all = subst (All P) (sym h.1) (record { lives = all.lives; past = all.past })
-all-says P k true None bytes old new h all =
+all-says Now P k false o bytes old new h all = subst (All P) (sym h.1) (record { lives = all.lives; past = all.past })
+all-says Now P k true (Some f) bytes old new h all = subst (All P) (sym h.1) (record { lives = all.lives; past = all.past })
+all-says Now P k true None bytes old new h all =
     all-left P old new h.0 h.2
-    (each-one P has_words (Speaks bytes) old.lives h.0 (λ a b p is goes. k.says bytes a b p goes) h.1 all.lives) all
+    (each-one P has_words (Speaks bytes) old.lives h.0 (λ a b p is goes. k.says bytes a b p is goes) h.1 all.lives) all
 
-all-steps : (P : Life → Type 0) → Kept P → (o : Order) (s : Step) (t : ℕ) (old new : Course) → StepsBy o s t old new → All P old → All P new
-all-steps P k o s t old new h all =
-    all-left P old new (map (stepped s t) old.lives) h.1 (each-stepped P k s t old.lives all.lives) all
+all-steps : (Now : HouseCall → Course → Type 0) (P : Life → Type 0) → Kept Now P → (call : HouseCall) (o : Order) (s : Step) (t : ℕ)
+    (old new : Course) → Now call old → Causes call s t → StepsBy o s t old new → All P old → All P new
+all-steps Now P k call o s t old new now causes h all =
+    all-left P old new (map (stepped s t) old.lives) h.1
+    (each-stepped P s t (k.steps s t call old now causes) old.lives all.lives) all
 
-all-makes : (P : Life → Type 0) → Kept P → (host : List ℕ) (port : ℕ) (number : Option ℕ) (old new : Course) → MakesOne host port number old new
+all-makes : (Now : HouseCall → Course → Type 0) (P : Life → Type 0) → Kept Now P → (host : List ℕ) (port : ℕ) (number : Option ℕ)
+    (old new : Course) → Now (Marks (HouseOrder (order.Connect host port) number)) old → MakesOne host port number old new
     → All P old → All P new
-all-makes P k host port number old new h all =
+all-makes Now P k host port number old new now h all =
     let were = subst (Each P) h.were all.lives in
     let front = each-front P h.before (h.life ∷ h.behind) were in
     let back = each-back P h.before (h.life ∷ h.behind) were in
     subst (All P) (sym h.are) (record {
       lives = each-append P (h.before ++ h.behind) (made_life number h.life ∷ [])
-          (each-append P h.before h.behind front back.1) (k.makes number h.life back.0 h.is, tt);
+          (each-append P h.before h.behind front back.1) (k.makes host port number old now h.life back.0 h.is, tt);
       past = all.past;
     })
 
-all-orders : (P : Life → Type 0) → Kept P → (o : Order) (number : Option ℕ) (old new : Course) → OrdersIn o number old new → All P old → All P new
-all-orders P k (order.Listen host port) number old new h all = subst (All P) (sym h.2) (record { lives = all.lives; past = all.past })
-all-orders P k (order.Connect host port) number old new h all = all-makes P k host port number old new h all
-all-orders P k (order.Unlisten l) number old new h all = subst (All P) (sym h.2) (record { lives = all.lives; past = all.past })
-all-orders P k (order.Pause t) number old new h all = all-steps P k (order.Pause t) (step.Pause true) t old new h all
-all-orders P k (order.Resume t) number old new h all = all-steps P k (order.Resume t) (step.Pause false) t old new h all
-all-orders P k (order.Finish t) number old new h all = all-steps P k (order.Finish t) step.Finish t old new h all
-all-orders P k (order.Close t) number old new h all = all-steps P k (order.Close t) step.Close t old new h all
+all-orders : (Now : HouseCall → Course → Type 0) (P : Life → Type 0) → Kept Now P → (o : Order) (number : Option ℕ) (old new : Course)
+    → Now (Marks (HouseOrder o number)) old → OrdersIn o number old new → All P old → All P new
+all-orders Now P k (order.Listen host port) number old new now h all = subst (All P) (sym h.2) (record { lives = all.lives; past = all.past })
+all-orders Now P k (order.Connect host port) number old new now h all = all-makes Now P k host port number old new now h all
+all-orders Now P k (order.Unlisten l) number old new now h all = subst (All P) (sym h.2) (record { lives = all.lives; past = all.past })
+all-orders Now P k (order.Pause t) number old new now h all =
+    all-steps Now P k (Marks (HouseOrder (order.Pause t) number)) (order.Pause t) (step.Pause true) t old new now tt h all
+all-orders Now P k (order.Resume t) number old new now h all =
+    all-steps Now P k (Marks (HouseOrder (order.Resume t) number)) (order.Resume t) (step.Pause false) t old new now tt h all
+all-orders Now P k (order.Finish t) number old new now h all =
+    all-steps Now P k (Marks (HouseOrder (order.Finish t) number)) (order.Finish t) step.Finish t old new now tt h all
+all-orders Now P k (order.Close t) number old new now h all =
+    all-steps Now P k (Marks (HouseOrder (order.Close t) number)) (order.Close t) step.Close t old new now tt h all
 
-all-marks : (P : Life → Type 0) → Kept P → (mark : HouseMark) (old new : Course) → MarksIn mark old new → All P old → All P new
-all-marks P k HouseIn old new h all = all-same P old new h all
-all-marks P k (HouseSaid bytes) old new h all = all-says P k old.desk.greeted (find has_request old.desk.all) bytes old new h all
-all-marks P k (HouseTook size) old new h all = all-same P old new h all
-all-marks P k (HouseAsked client id opening ask reply) old new h all = subst (All P) (sym h.2) (record { lives = all.lives; past = all.past })
-all-marks P k (HouseAnswer client id reply) old new h all = subst (All P) (sym h.2) (record { lives = all.lives; past = all.past })
-all-marks P k (HouseOrder o number) old new h all = all-orders P k o number old new h all
+all-marks : (Now : HouseCall → Course → Type 0) (P : Life → Type 0) → Kept Now P → (mark : HouseMark) (old new : Course) → Now (Marks mark) old
+    → MarksIn mark old new → All P old → All P new
+all-marks Now P k HouseIn old new now h all = all-same P old new h all
+all-marks Now P k (HouseSaid bytes) old new now h all = all-says Now P k old.desk.greeted (find has_request old.desk.all) bytes old new h all
+all-marks Now P k (HouseTook size) old new now h all = all-same P old new h all
+all-marks Now P k (HouseAsked client id opening ask reply) old new now h all = subst (All P) (sym h.2) (record { lives = all.lives; past = all.past })
+all-marks Now P k (HouseAnswer client id reply) old new now h all = subst (All P) (sym h.2) (record { lives = all.lives; past = all.past })
+all-marks Now P k (HouseOrder o number) old new now h all = all-orders Now P k o number old new now h all
 
-each-turn : (P : Life → Type 0) → Kept P → (happening : Happening) (fs : List Forwarding) (old new : List Life) → TurnsTo happening fs old new
-    → Each P old → Each P new
-each-turn P k (Joined l t) fs old new h all = subst (Each P) (sym h.more)
-    (each-append P old (joined_life t h.relay ∷ []) all
-    (k.joins (are_full old) (are_crowded old) (find (has_listener l) fs) t h.relay h.joined, tt))
-each-turn P k (Got t bytes) fs old new h all =
-    each-most P (has_stream t) (GoesBy (GetsOn (not (are_full old)) bytes) (Reads bytes)) old new
-    (λ a b p is goes. k.gets (not (are_full old)) bytes t a b p is goes) h all
-each-turn P k (End t) fs old new h all = subst (Each P) (sym h) (each-stepped P k step.End t old all)
-each-turn P k (Writable t) fs old new h all = subst (Each P) (sym h) (each-stepped P k step.Writable t old all)
-each-turn P k (Failed t) fs old new h all = subst (Each P) (sym h) (each-stepped P k step.Failed t old all)
+each-turn : (Now : HouseCall → Course → Type 0) (P : Life → Type 0) → Kept Now P → (happening : Happening) (old : Course) (new : List Life)
+    → Now (Turns happening) old → TurnsTo happening old.desk.all old.lives new → Each P old.lives → Each P new
+each-turn Now P k (Joined l t) old new now h all = subst (Each P) (sym h.more)
+    (each-append P old.lives (joined_life t h.relay ∷ []) all (k.joins l t old now h.relay h.joined, tt))
+each-turn Now P k (Got t bytes) old new now h all =
+    each-most P (has_stream t) (GoesBy (GetsOn (not (are_full old.lives)) bytes) (Reads bytes)) old.lives new
+    (λ a b p is goes. k.gets t bytes old now a b p is goes) h all
+each-turn Now P k (End t) old new now h all =
+    subst (Each P) (sym h) (each-stepped P step.End t (k.steps step.End t (Turns (End t)) old now refl) old.lives all)
+each-turn Now P k (Writable t) old new now h all =
+    subst (Each P) (sym h) (each-stepped P step.Writable t (k.steps step.Writable t (Turns (Writable t)) old now refl) old.lives all)
+each-turn Now P k (Failed t) old new now h all =
+    subst (Each P) (sym h) (each-stepped P step.Failed t (k.steps step.Failed t (Turns (Failed t)) old now refl) old.lives all)
 
-pub all-follow : (P : Life → Type 0) → Kept P → (call : HouseCall) (old new : Course) → Follows call old new → All P old → All P new
-all-follow P k (Begins starts) old new h all = subst (All P) (sym h.2) (record { lives = all.lives; past = all.past })
-all-follow P k (Marks mark) old new h all = all-marks P k mark old new h all
-all-follow P k (HearsBytes bytes) old new h all =
-    all-frames P k h.0 (with_heard bytes old) new h.1 (record { lives = all.lives; past = all.past })
-all-follow P k (Turns happening) old new h all = subst (All P) (sym h.2) (record {
-  lives = each-turn P k happening old.desk.all old.lives h.0 h.1 all.lives;
+pub all-follow : (Now : HouseCall → Course → Type 0) (P : Life → Type 0) → Kept Now P → (call : HouseCall) (old new : Course) → Now call old
+    → Follows call old new → All P old → All P new
+all-follow Now P k (Begins starts) old new now h all = subst (All P) (sym h.2) (record { lives = all.lives; past = all.past })
+all-follow Now P k (Marks mark) old new now h all = all-marks Now P k mark old new now h all
+all-follow Now P k (HearsBytes bytes) old new now h all =
+    all-frames Now P k h.0 (with_heard bytes old) new h.1 (record { lives = all.lives; past = all.past })
+all-follow Now P k (Turns happening) old new now h all = subst (All P) (sym h.2) (record {
+  lives = each-turn Now P k happening old h.0 now h.1 all.lives;
   past = all.past;
 })
-all-follow P k (TakesBytes t n) old new h all = subst (All P) (sym h.2) (record {
+all-follow Now P k (TakesBytes t n) old new now h all = subst (All P) (sym h.2) (record {
   lives = each-most P (has_stream t) (GoesBy (TakesOn n) (Takes n)) old.lives h.0 (λ a b p is goes. k.takes t n a b p is goes) h.1 all.lives;
   past = all.past;
 })
 
-pub all-reach : (P : Life → Type 0) → Kept P → (calls : List HouseCall) (old new : Course) → Reaches old calls new → All P old → All P new
-all-reach P k [] old new h all = all-same P old new h all
-all-reach P k (call ∷ calls) old new h all = all-reach P k calls h.0 new h.2 (all-follow P k call old h.0 h.1 all)
+-- what is known of each of the calls
+abbrev pub Known : (HouseCall → Course → Type 0) → Course → List HouseCall → Type 0
+Known Now old calls = (before : List HouseCall) (call : HouseCall) (behind : List HouseCall) (course : Course)
+    → calls ≡ before ++ call ∷ behind → Reaches old before course → Now call course
+
+pub all-reach : (Now : HouseCall → Course → Type 0) (P : Life → Type 0) → Kept Now P → (calls : List HouseCall) (old new : Course)
+    → Known Now old calls → Reaches old calls new → All P old → All P new
+all-reach Now P k [] old new known h all = all-same P old new h all
+all-reach Now P k (call ∷ calls) old new known h all =
+    all-reach Now P k calls h.0 new
+    (λ before c behind course e r. known (call ∷ before) c behind course (ap (λ cs. call ∷ cs) e) (h.0, h.1, r))
+    h.2 (all-follow Now P k call old h.0 (known [] call calls old refl refl) h.1 all)
 
 -- ---- each stands for what happened in it, and has its own stream
 
@@ -322,57 +355,102 @@ own-make : (number : Option ℕ) → stream_of (made_as number) ≡ number_of (o
 own-make None = refl
 own-make (Some t) = refl
 
-pub sound : Kept Sound
-sound = record {
-  says = λ bytes a b s h. went SaysOn _ a b h.1 s h.1.relay.1
-      (ap (λ (r : Relay). stream_of r.socket) h.1.relay.0 ∙ ap stream_of (stays-after (says_of a.relay) a.relay).socket_is);
-  hears = λ m a b s h. went (HearsOn m) _ a b h s h.relay.1
-      (ap (λ (r : Relay). stream_of r.socket) h.relay.0 ∙ ap stream_of (stays-heard m a.relay).socket_is);
-  gets = λ free bytes t a b s is h. went (GetsOn free bytes) (Reads bytes) a b h s h.relay.2
-      (keeps-stream a.dials free a.acts bytes a.relay b.relay s.stands h.relay.0).stream_is;
-  takes = λ t n a b s is h. went (TakesOn n) (Takes n) a b h s h.relay.1
-      (ap (λ (r : Relay). stream_of r.socket) h.relay.0);
-  steps = λ s t a h is. record {
-    stands = goes-after s a.relay a.dials a.acts h.stands;
-    stream = own-step s t a.relay a.own is h.stream;
-  };
-  makes = λ number a h is. record {
-    stands = goes-other a.relay (made_as number) a.dials a.acts h.stands;
-    stream = own-make number;
-  };
-  joins = λ full crowded f t r h. (let begins = joined full crowded f t r h in record { stands = begins.stands; stream = begins.stream });
-  offers = λ f number remote window maximum. record { stands = offered number remote window maximum socket.Unmade; stream = refl };
+pub sound-says : (bytes : List ℕ) (a b : Life) → Sound a → Speaks bytes a b → Sound b
+sound-says bytes a b s h = went SaysOn _ a b h.1 s h.1.relay.1
+    (ap (λ (r : Relay). stream_of r.socket) h.1.relay.0 ∙ ap stream_of (stays-after (says_of a.relay) a.relay).socket_is)
+
+pub sound-hears : (m : Message) (a b : Life) → Sound a → Listens m a b → Sound b
+sound-hears m a b s h = went (HearsOn m) _ a b h s h.relay.1
+    (ap (λ (r : Relay). stream_of r.socket) h.relay.0 ∙ ap stream_of (stays-heard m a.relay).socket_is)
+
+pub sound-gets : (free : Bool) (bytes : List ℕ) (a b : Life) → Sound a → GoesBy (GetsOn free bytes) (Reads bytes) a b → Sound b
+sound-gets free bytes a b s h = went (GetsOn free bytes) (Reads bytes) a b h s h.relay.2
+    (keeps-stream a.dials free a.acts bytes a.relay b.relay s.stands h.relay.0).stream_is
+
+pub sound-takes : (n : ℕ) (a b : Life) → Sound a → GoesBy (TakesOn n) (Takes n) a b → Sound b
+sound-takes n a b s h = went (TakesOn n) (Takes n) a b h s h.relay.1 (ap (λ (r : Relay). stream_of r.socket) h.relay.0)
+
+pub sound-steps : (s : Step) (t : ℕ) (a : Life) → Sound a → has_stream t a ≡ true → Sound (step_of s a)
+sound-steps s t a h is = record {
+  stands = goes-after s a.relay a.dials a.acts h.stands;
+  stream = own-step s t a.relay a.own is h.stream;
 }
+
+pub sound-makes : (number : Option ℕ) (a : Life) → Sound a → Sound (made_life number a)
+sound-makes number a h = record {
+  stands = goes-other a.relay (made_as number) a.dials a.acts h.stands;
+  stream = own-make number;
+}
+
+pub sound-joins : (full crowded : Bool) (f : Option Forwarding) (t : ℕ) (r : Relay) → IsJoined full crowded f t r → Sound (joined_life t r)
+sound-joins full crowded f t r h =
+    let begins = joined full crowded f t r h in record { stands = begins.stands; stream = begins.stream }
+
+pub sound-offers : (f : Forwarding) (number remote window maximum : ℕ) → Sound (offered_life f number remote window maximum)
+sound-offers f number remote window maximum =
+    record { stands = offered number remote window maximum socket.Unmade; stream = refl }
 
 -- ---- what else each step keeps of one that is sound
 
-pub record KeptSound (P : Life → Type 0) : Type 0 where
-  pub says : (bytes : List ℕ) (a b : Life) → Sound a → P a → Speaks bytes a b → P b
+pub record KeptSound (Now : HouseCall → Course → Type 0) (P : Life → Type 0) : Type 0 where
+  pub says : (bytes : List ℕ) (a b : Life) → Sound a → P a → has_words a ≡ true → Speaks bytes a b → P b
   pub hears : (m : Message) (a b : Life) → Sound a → P a → Listens m a b → P b
-  pub gets : (free : Bool) (bytes : List ℕ) (t : ℕ) (a b : Life) → Sound a → P a → has_stream t a ≡ true
-      → GoesBy (GetsOn free bytes) (Reads bytes) a b → P b
+  pub gets : (t : ℕ) (bytes : List ℕ) (old : Course) → Now (Turns (Got t bytes)) old → (a b : Life) → Sound a → Sound b → P a
+      → has_stream t a ≡ true → GoesBy (GetsOn (not (are_full old.lives)) bytes) (Reads bytes) a b → P b
   pub takes : (t n : ℕ) (a b : Life) → Sound a → P a → has_stream t a ≡ true → GoesBy (TakesOn n) (Takes n) a b → P b
-  pub steps : (s : Step) (t : ℕ) (a : Life) → Sound a → P a → has_stream t a ≡ true → P (step_of s a)
-  pub makes : (number : Option ℕ) (a : Life) → Sound a → P a → is_unmade a ≡ true → P (made_life number a)
-  pub joins : (full crowded : Bool) (f : Option Forwarding) (t : ℕ) (r : Relay) → IsJoined full crowded f t r
-      → P (joined_life t r)
+  pub steps : (s : Step) (t : ℕ) (call : HouseCall) (old : Course) → Now call old → Causes call s t → (a : Life) → Sound a
+      → P a → has_stream t a ≡ true → P (step_of s a)
+  pub makes : (host : List ℕ) (port : ℕ) (number : Option ℕ) (old : Course)
+      → Now (Marks (HouseOrder (order.Connect host port) number)) old → (a : Life) → Sound a → P a → is_unmade a ≡ true
+      → P (made_life number a)
+  pub joins : (l t : ℕ) (old : Course) → Now (Turns (Joined l t)) old → (r : Relay)
+      → IsJoined (are_full old.lives) (are_crowded old.lives) (find (has_listener l) old.desk.all) t r → P (joined_life t r)
   pub offers : (f : Forwarding) (number remote window maximum : ℕ) → P (offered_life f number remote window maximum)
 
 abbrev pub Both : (Life → Type 0) → Life → Type 0
 Both P l = Sound l × P l
 
-pub with-sound : (P : Life → Type 0) → KeptSound P → Kept (Both P)
-with-sound P k = record {
-  says = λ bytes a b p h. (sound.says bytes a b p.0 h, k.says bytes a b p.0 p.1 h);
-  hears = λ m a b p h. (sound.hears m a b p.0 h, k.hears m a b p.0 p.1 h);
-  gets = λ free bytes t a b p is h. (sound.gets free bytes t a b p.0 is h, k.gets free bytes t a b p.0 p.1 is h);
-  takes = λ t n a b p is h. (sound.takes t n a b p.0 is h, k.takes t n a b p.0 p.1 is h);
-  steps = λ s t a p is. (sound.steps s t a p.0 is, k.steps s t a p.0 p.1 is);
-  makes = λ number a p is. (sound.makes number a p.0 is, k.makes number a p.0 p.1 is);
-  joins = λ full crowded f t r h. (sound.joins full crowded f t r h, k.joins full crowded f t r h);
+pub with-sound : (Now : HouseCall → Course → Type 0) (P : Life → Type 0) → KeptSound Now P → Kept Now (Both P)
+with-sound Now P k = record {
+  says = λ bytes a b p is h. (sound-says bytes a b p.0 h, k.says bytes a b p.0 p.1 is h);
+  hears = λ m a b p h. (sound-hears m a b p.0 h, k.hears m a b p.0 p.1 h);
+  gets = λ t bytes old now a b p is h. (
+    let its = sound-gets (not (are_full old.lives)) bytes a b p.0 h in
+    (its, k.gets t bytes old now a b p.0 its p.1 is h)
+  );
+  takes = λ t n a b p is h. (sound-takes n a b p.0 h, k.takes t n a b p.0 p.1 is h);
+  steps = λ s t call old now causes a p is. (sound-steps s t a p.0 is, k.steps s t call old now causes a p.0 p.1 is);
+  makes = λ host port number old now a p is. (sound-makes number a p.0, k.makes host port number old now a p.0 p.1 is);
+  joins = λ l t old now r h.
+      (sound-joins (are_full old.lives) (are_crowded old.lives) (find (has_listener l) old.desk.all) t r h, k.joins l t old now r h);
   offers = λ f number remote window maximum.
-      (sound.offers f number remote window maximum, k.offers f number remote window maximum);
+      (sound-offers f number remote window maximum, k.offers f number remote window maximum);
 }
 
+abbrev Whenever : HouseCall → Course → Type 0
+Whenever call course = Unit {0}
+
+sound : Kept Whenever Sound
+sound = record {
+  says = λ bytes a b s is h. sound-says bytes a b s h;
+  hears = λ m a b s h. sound-hears m a b s h;
+  gets = λ t bytes old now a b s is h. sound-gets (not (are_full old.lives)) bytes a b s h;
+  takes = λ t n a b s is h. sound-takes n a b s h;
+  steps = λ s t call old now causes a h is. sound-steps s t a h is;
+  makes = λ host port number old now a h is. sound-makes number a h;
+  joins = λ l t old now r h. sound-joins (are_full old.lives) (are_crowded old.lives) (find (has_listener l) old.desk.all) t r h;
+  offers = λ f number remote window maximum. sound-offers f number remote window maximum;
+}
+
+pub stepped-sound : (s : Step) (t : ℕ) (ls : List Life) → Each Sound ls → Each Sound (map (stepped s t) ls)
+stepped-sound s t ls all = each-stepped Sound s t (sound-steps s t) ls all
+
+pub frame-sound : (stage : Stage) (content : List ℕ) (old new : Course) → HearsFrame stage content old new → All Sound old → All Sound new
+frame-sound stage content old new h all = all-frame Whenever Sound sound stage content old new h all
+
+pub follow-sound : (call : HouseCall) (old new : Course) → Follows call old new → All Sound old → All Sound new
+follow-sound call old new h all = all-follow Whenever Sound sound call old new tt h all
+
 pub all-sound : (calls : List HouseCall) (course : Course) → Reaches first_course calls course → All Sound course
-all-sound calls course h = all-reach Sound sound calls first_course course h (record { lives = tt; past = tt })
+all-sound calls course h =
+    all-reach Whenever Sound sound calls first_course course (λ before call behind mid e r. tt) h (record { lives = tt; past = tt })
