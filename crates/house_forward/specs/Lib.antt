@@ -10,6 +10,7 @@ pub mod Laws
 pub mod Lives
 pub mod Links
 pub mod Numbers
+pub mod Opening
 pub mod Quiet
 pub mod Rules
 pub mod Said

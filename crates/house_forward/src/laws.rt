@@ -3,6 +3,7 @@
 
 ghost use Rattle.house_forward.specs.Connects.{OneConnectEach};
 ghost use Rattle.house_forward.specs.Laws.{EachRelays, EachKeeps, EachRests};
+ghost use Rattle.house_forward.specs.Opening.{OneOpenAtMost};
 ghost use Rattle.house_forward.specs.Numbers.{ChannelsDiffer, StreamsAreTheirs, StreamsDiffer};
 
 /// Of each relay that the house has, or had: what is sent in its channel was read from its socket
@@ -33,4 +34,10 @@ pub fn each_relay_has_its_own_channel_and_stream()
 /// order of the OPENs; it orders none besides.
 pub fn each_open_that_is_taken_is_connected_once()
     ensures { OneConnectEach }
+{}
+
+/// No more OPENs are said than sockets were joined, those that are still to be said counted too: a
+/// socket has one at most.
+pub fn each_joined_socket_is_opened_once_at_most()
+    ensures count { OneOpenAtMost }
 {}
