@@ -42,7 +42,7 @@ abbrev due : Life → Option Place
 due l = if is_unmade l then l.to else None
 
 -- one with a stream has a socket
-streamed : (s : Socket) (t : ℕ) → stream_of s ≡ Some t → unmade s ≡ false
+pub streamed : (s : Socket) (t : ℕ) → stream_of s ≡ Some t → unmade s ≡ false
 streamed (socket.Connecting stream) t e = refl
 streamed (socket.Open stream) t e = refl
 streamed socket.Unmade t e = cc
@@ -50,7 +50,7 @@ streamed (socket.Failed stream) t e = refl
 streamed (socket.Surplus stream) t e = refl
 streamed socket.Closed t e = refl
 
-owned : (t : ℕ) (own : Option OwnStream) (s : Socket) → is_stream t own ≡ true → stream_of s ≡ number_of own → unmade s ≡ false
+pub owned : (t : ℕ) (own : Option OwnStream) (s : Socket) → is_stream t own ≡ true → stream_of s ≡ number_of own → unmade s ≡ false
 owned t None s is e = cc
 owned t (Some own) s is e = streamed s own.number e
 
@@ -91,7 +91,7 @@ due-gets free bytes t a b s is h =
     not-due b (owned t b.own b.relay.socket (ap (is_stream t) h.own ∙ is) s'.stream)
     ∙ sym (not-due a (owned t a.own a.relay.socket is s.stream))
 
-step-made : (s : Step) (r : Relay) → unmade r.socket ≡ false → unmade (relay_after s r).socket ≡ false
+pub step-made : (s : Step) (r : Relay) → unmade r.socket ≡ false → unmade (relay_after s r).socket ≡ false
 step-made (step.Pause b) r e = e
 step-made step.Finish r e = e
 step-made step.End r e = e

@@ -1,49 +1,38 @@
 -- The OPENs that the house says.
 use Rattle.std.proofs.Common.{◌≡◌, ◌∙◌, refl, sym, ap, subst, ◌⊎◌, inl, inr, arith, ℕ, ◌+◌, ◌≤◌, Bool, true, false, cond, List, [], ◌∷◌, ◌++◌, length, map, filter, Option, Some, None}
-use Rattle.std.specs.Prelude.{not, if◌then◌else◌, find, is_some, IfSome}
-use Rattle.std.proofs.lemmas.Bool.{false≢true}
-use Rattle.std.proofs.lemmas.List.{append-nil}
+use Rattle.std.specs.Prelude.{not, if◌then◌else◌, find, is_some}
 use Rattle.conn_messages.specs.declared.message.Message.{Message}
 use Rattle.conn_messages.specs.declared.message.Message.TheVariants as message
-use Rattle.socks_dialog.specs.declared.outcome.Outcome.TheVariants.{Connects}
 use Rattle.mux_outside.specs.HouseCalls.{HouseCall, Happening, Begins, Marks, Hears as HearsBytes, Turns, Takes as TakesBytes}
 use Rattle.mux_outside.specs.HouseCalls.{Joined, Got, End, Writable, Failed}
-use Rattle.mux_outside.specs.OwnStreams.{new_stream}
 use Rattle.mux_outside.specs.declared.house_mark.HouseMark.{HouseMark}
 use Rattle.mux_outside.specs.declared.house_mark.HouseMark.TheVariants.{HouseIn, HouseSaid, HouseTook, HouseAsked, HouseAnswer, HouseOrder}
 use Rattle.mux_outside.specs.declared.order.Order.{Order}
 use Rattle.mux_outside.specs.declared.order.Order.TheVariants as order
-use Rattle.mux_outside.specs.declared.own_streams.OwnStream.{OwnStream}
-use Rattle.house_relay.specs.Acts.{Act, Reads, Takes, read, outcome_in}
-use Rattle.house_relay.specs.Line.{in_live, over_if, takes_in, hears_close, closes}
-use Rattle.house_relay.specs.Next.{says_of, says_in, says_offered, says_live}
-use Rattle.house_relay.specs.Relay.{LineStands, WaitsFor, stream_of, delivers}
-use Rattle.house_relay.specs.Steps.{fresh_relay, is_gone, said_of, confirmed_in, refused_in, data_heard, Dials, DialsIn}
+use Rattle.house_relay.specs.Acts.{Reads, Takes}
+use Rattle.house_relay.specs.Line.{in_live, over_if, hears_close}
+use Rattle.house_relay.specs.Next.{says_of, says_offered}
+use Rattle.house_relay.specs.Relay.{delivers}
+use Rattle.house_relay.specs.Steps.{is_gone, said_of, confirmed_in, refused_in, data_heard, DialsIn}
 use Rattle.house_relay.specs.declared.line.Live.{Live as LiveState}
 use Rattle.house_relay.specs.declared.line.Line.{Line}
 use Rattle.house_relay.specs.declared.line.Line.TheVariants.{Dialing, Asked, Opened, Offered, Live, Over}
 use Rattle.house_relay.specs.declared.relay.Relay.{Relay}
 use Rattle.house_relay.specs.declared.relay.Saying.{Saying}
 use Rattle.house_relay.specs.declared.relay.Saying.TheVariants as saying
-use Rattle.house_relay.specs.declared.relay.Socket.{Socket}
-use Rattle.house_relay.specs.declared.relay.Socket.TheVariants as socket
-use Rattle.house_forward.specs.Connects.{Place}
-use Rattle.house_forward.specs.Forwardings.{has_request, has_listener}
+use Rattle.house_forward.specs.Forwardings.{has_request}
 use Rattle.house_forward.specs.Going.{GetsOn, TakesOn}
 use Rattle.house_forward.specs.Heard.{heard_of}
-use Rattle.house_forward.specs.Links.{IsJoined, IsJoinedAt, IsDialed as DialsFor, IsSurplus, after_saying, relay_after}
+use Rattle.house_forward.specs.Links.{after_saying, relay_after}
 use Rattle.house_forward.specs.Lives.{Life, Course, GoesBy, One, OneAtMost, Speaks, Listens, StepsBy, MakesOne, Reaches, Follows, SaysBy, MarksIn, OrdersIn, TurnsTo, first_course, with_heard}
-use Rattle.house_forward.specs.Lives.{has_channel, has_stream, has_words, is_unmade, unmade, are_full, are_crowded, own_after, stepped, made_life, kept_in}
-use Rattle.house_forward.specs.Opening.{OneOpenAtMost, OpensGoRight, is_open, opens_by, opens_by_mark, opens_in, joins_by, joins_by_turn, joins_in, may_open, still_to_open, IsBefore, IsJoinedFor, IsPlain, ConnectsTo, IsDynamic, IsDialed, IsOpenOf}
-use Rattle.house_forward.specs.Said.{framed, said_by, direct, request_payload, payload_of, payload_if}
+use Rattle.house_forward.specs.Lives.{has_channel, has_stream, has_words, are_full, stepped, made_life, kept_in}
+use Rattle.house_forward.specs.Opening.{OneOpenAtMost, is_open, opens_by, opens_by_mark, opens_in, joins_by, joins_by_turn, joins_in, may_open, still_to_open}
+use Rattle.house_forward.specs.Said.{framed, said_by, direct, payload_of, payload_if}
 use Rattle.house_forward.specs.declared.forwarding.Forwarding.{Forwarding}
 use Rattle.house_forward.specs.declared.link.Step.{Step}
 use Rattle.house_forward.specs.declared.link.Step.TheVariants as step
-use Rattle.house_forward.specs.declared.rules.Kind.{Kind}
-use Rattle.house_forward.specs.declared.rules.Kind.TheVariants.{Local, Remote, Dynamic}
-use Rattle.house_forward.specs.declared.saying.TheConstants.{GREETING}
 use Rattle.house_forward.proofs.Frames.{Heeds, frames}
-use Rattle.house_forward.proofs.Sound.{Each, All, Sound, follow-sound, offered_life, joined_life, step_of}
+use Rattle.house_forward.proofs.Sound.{All, Sound, follow-sound, offered_life, joined_life, step_of}
 
 -- ---- where an OPEN is to be said, as the channel goes on
 
@@ -55,7 +44,7 @@ one-most true = omega arith
 one-most false = omega arith
 
 -- it isn't to be from now on, or the channel stays
-abbrev Settles : Line → Line → Type 0
+abbrev pub Settles : Line → Line → Type 0
 Settles old new = (may_open new ≡ false) ⊎ (new ≡ old)
 
 settled-most : (old new : Line) → Settles old new → opens new ≤ opens old
@@ -111,14 +100,14 @@ heard (message.Request recipient kind want rest) r = in-live _ r.line (λ live. 
 heard (message.Success recipient) r = inr refl
 heard (message.Failure recipient) r = inr refl
 
-settles-hears : (m : Message) (a b : Life) → Listens m a b → Settles a.relay.line b.relay.line
+pub settles-hears : (m : Message) (a b : Life) → Listens m a b → Settles a.relay.line b.relay.line
 settles-hears m a b h = subst (λ (r : Relay). Settles a.relay.line r.line) (sym h.relay.0) (heard m a.relay)
 
-settles-takes : (n : ℕ) (a b : Life) → GoesBy (TakesOn n) (Takes n) a b → Settles a.relay.line b.relay.line
+pub settles-takes : (n : ℕ) (a b : Life) → GoesBy (TakesOn n) (Takes n) a b → Settles a.relay.line b.relay.line
 settles-takes n a b h =
     subst (λ (r : Relay). Settles a.relay.line r.line) (sym h.relay.0) (in-live _ a.relay.line (λ live. refl))
 
-line-step : (s : Step) (r : Relay) → (relay_after s r).line ≡ r.line
+pub line-step : (s : Step) (r : Relay) → (relay_after s r).line ≡ r.line
 line-step (step.Pause b) r = refl
 line-step step.Finish r = refl
 line-step step.End r = refl
@@ -223,7 +212,6 @@ spoken-in Over r e = cc
 pub spoken : (r : Relay) → is_some (says_of r) ≡ true → Spoken r
 spoken r e = spoken-in r.line r e
 
-
 -- ---- how many there are
 
 abbrev one : Life → ℕ
@@ -322,14 +310,14 @@ says-one bytes a b is h =
 heeds : (most : ℕ) → Heeds (λ ls taken. count ls ≤ most)
 heeds most = record {
   hears = λ n m old new taken sounds h goes. (
-    let less = count-most (has_channel n) (Listens m) old new (λ a b is on. hears-one m a b on) (inl goes) in
-    let kept = count-kept new in
-    omega (arith, h, less, kept)
-  );
+      let less = count-most (has_channel n) (Listens m) old new (λ a b is on. hears-one m a b on) (inl goes) in
+      let kept = count-kept new in
+      omega (arith, h, less, kept)
+      );
   offers = λ f number remote window maximum old taken free h. (
-    let more = count-append old (offered_life f number remote window maximum ∷ []) in
-    omega (arith, h, more)
-  );
+      let more = count-append old (offered_life f number remote window maximum ∷ []) in
+      omega (arith, h, more)
+      );
 }
 
 -- ---- by the calls

@@ -415,9 +415,9 @@ with-sound Now P k = record {
   says = λ bytes a b p is h. (sound-says bytes a b p.0 h, k.says bytes a b p.0 p.1 is h);
   hears = λ m a b p h. (sound-hears m a b p.0 h, k.hears m a b p.0 p.1 h);
   gets = λ t bytes old now a b p is h. (
-    let its = sound-gets (not (are_full old.lives)) bytes a b p.0 h in
-    (its, k.gets t bytes old now a b p.0 its p.1 is h)
-  );
+      let its = sound-gets (not (are_full old.lives)) bytes a b p.0 h in
+      (its, k.gets t bytes old now a b p.0 its p.1 is h)
+      );
   takes = λ t n a b p is h. (sound-takes n a b p.0 h, k.takes t n a b p.0 p.1 is h);
   steps = λ s t call old now causes a p is. (sound-steps s t a p.0 is, k.steps s t call old now causes a p.0 p.1 is);
   makes = λ host port number old now a p is. (sound-makes number a p.0, k.makes host port number old now a p.0 p.1 is);

@@ -3,7 +3,7 @@
 
 ghost use Rattle.house_forward.specs.Connects.{OneConnectEach};
 ghost use Rattle.house_forward.specs.Laws.{EachRelays, EachKeeps, EachRests};
-ghost use Rattle.house_forward.specs.Opening.{OneOpenAtMost};
+ghost use Rattle.house_forward.specs.Opening.{OneOpenAtMost, OpensGoRight};
 ghost use Rattle.house_forward.specs.Numbers.{ChannelsDiffer, StreamsAreTheirs, StreamsDiffer};
 
 /// Of each relay that the house has, or had: what is sent in its channel was read from its socket
@@ -37,7 +37,10 @@ pub fn each_open_that_is_taken_is_connected_once()
 {}
 
 /// No more OPENs are said than sockets were joined, those that are still to be said counted too: a
-/// socket has one at most.
+/// socket has one at most. Each is an OPEN of direct-tcpip with a window of 2,097,152 bytes and messages
+/// of 32,768 at most, to where the forwarding connects at whose listener its socket was joined, or, where
+/// that is a dynamic one, to the end that its dialog asked for.
 pub fn each_joined_socket_is_opened_once_at_most()
     ensures count { OneOpenAtMost }
+    ensures goes { OpensGoRight }
 {}
