@@ -73,7 +73,7 @@ aimed-on calls so act a b h settles same p = record {
   unmade_none = λ e. settles-none a.relay.line b.relay.line settles (p.unmade_none (ap unmade (sym same) ∙ e));
 }
 
-its-after : (s : Step) (own : Option OwnStream) (n : ℕ) → IfSome own (λ o. o.number ≡ n) → IfSome (own_after s own) (λ o. o.number ≡ n)
+pub its-after : (s : Step) (own : Option OwnStream) (n : ℕ) → IfSome own (λ o. o.number ≡ n) → IfSome (own_after s own) (λ o. o.number ≡ n)
 its-after s None n h = tt
 its-after (step.Pause b) (Some own) n h = h
 its-after step.Finish (Some own) n h = h

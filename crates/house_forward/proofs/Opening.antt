@@ -79,7 +79,7 @@ refused (Offered theirs room most) reason r = inr refl
 refused (Live live) reason r = inr refl
 refused Over reason r = inr refl
 
-data-same : (b : Bool) (bytes : List ℕ) (r : Relay) → (data_heard b bytes r).line ≡ r.line
+pub data-same : (b : Bool) (bytes : List ℕ) (r : Relay) → (data_heard b bytes r).line ≡ r.line
 data-same true bytes r = refl
 data-same false bytes r = refl
 

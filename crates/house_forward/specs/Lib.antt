@@ -1,4 +1,5 @@
 pub mod Asks
+pub mod Closing
 pub mod Connects
 pub mod Desk
 pub mod Due

@@ -1,6 +1,7 @@
 //! What holds of the relays of the house, whatever calls were made: each function's contract is the
 //! law.
 
+ghost use Rattle.house_forward.specs.Closing.{ClosesHaveCause};
 ghost use Rattle.house_forward.specs.Connects.{OneConnectEach};
 ghost use Rattle.house_forward.specs.Laws.{EachRelays, EachKeeps, EachRests};
 ghost use Rattle.house_forward.specs.Opening.{OneOpenAtMost, OpensGoRight};
@@ -43,4 +44,12 @@ pub fn each_open_that_is_taken_is_connected_once()
 pub fn each_joined_socket_is_opened_once_at_most()
     ensures count { OneOpenAtMost }
     ensures goes { OpensGoRight }
+{}
+
+/// A stream is closed in three cases alone: its socket failed; or nothing waits for it, and CLOSE went
+/// both ways in its channel, or its OPEN was refused, or its dialog broke, or its client left before that
+/// asked for an end; or there was no channel for it, since the house had 256, or as many dialogs, when it
+/// was joined, or 256 channels when its dialog asked for one, or there was no forwarding with its listener.
+pub fn each_close_has_its_cause()
+    ensures { ClosesHaveCause }
 {}
