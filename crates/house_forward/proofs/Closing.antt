@@ -168,7 +168,7 @@ if-either P true x y p q = p
 if-either P false x y p q = q
 
 -- what is said in a channel that is confirmed
-live-says : (P : Option Saying → Type 0) (r : Relay) (live : LiveState) → P None → P (Some saying.Close) → P (Some saying.Failure)
+pub live-says : (P : Option Saying → Type 0) (r : Relay) (live : LiveState) → P None → P (Some saying.Close) → P (Some saying.Failure)
     → ((n : ℕ) → P (Some (saying.Adjust n))) → ((n : ℕ) → P (Some (saying.Data n))) → P (Some saying.Eof) → P (says_live r live)
 live-says P r live none close failure adjust data-of eof =
     if-either P live.close_said _ _ none

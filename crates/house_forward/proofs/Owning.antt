@@ -38,16 +38,13 @@ use Rattle.house_forward.specs.Numbers.{ChannelsDiffer, StreamsAreTheirs, Stream
 use Rattle.house_forward.specs.declared.forwarding.Forwarding.{Forwarding}
 use Rattle.house_forward.specs.declared.link.Step.{Step}
 use Rattle.house_forward.specs.declared.link.Step.TheVariants as step
+use Rattle.house_forward.proofs.Differing.{Apart}
 use Rattle.house_forward.proofs.Frames.{Heeds, frames}
 use Rattle.house_forward.proofs.Lists.{any-map, one-passes}
 use Rattle.house_forward.proofs.Picking.{pick-none, pick-push, pick-kept, pick-stepped, one-picks, most-picks, one-maps, most-maps}
 use Rattle.house_forward.proofs.Sound.{Each, All, Sound, offered_life, joined_life, step_of, each-back, each-one, sound-says, sound-hears, stepped-sound, follow-sound}
 
 -- ---- numbers of which no two are the same
-
-abbrev Apart : List ℕ → Type 0
-Apart [] = Unit {0}
-Apart (n ∷ ns) = (among n ns ≡ false) × Apart ns
 
 differs : (n : ℕ) (ns : List ℕ) (j d : ℕ) → among n ns ≡ false → j < length ns → n ≢ get_or ns j d
 differs n ns j d none l =
@@ -385,7 +382,7 @@ heeds-streams there = record {
 }
 
 -- what a call leaves of them
-abbrev after : HouseCall → List ℕ → List ℕ
+abbrev pub after : HouseCall → List ℕ → List ℕ
 after call there = without_closed (closed_by call) there ++ option_to_list (made_by call)
 
 streams-says : (b : Bool) (o : Option Forwarding) (bytes : List ℕ) (old new : Course) → SaysBy b o bytes old new → All Sound old
@@ -452,7 +449,7 @@ streams-turn (End t) fs old new h s = more _ _ (ap open_streams h ∙ step-strea
 streams-turn (Writable t) fs old new h s = more _ _ (ap open_streams h ∙ step-streams step.Writable tt t old s)
 streams-turn (Failed t) fs old new h s = more _ _ (ap open_streams h ∙ step-streams step.Failed tt t old s)
 
-streams-follow : (call : HouseCall) (old new : Course) → Follows call old new → All Sound old
+pub streams-follow : (call : HouseCall) (old new : Course) → Follows call old new → All Sound old
     → open_streams new.lives ≡ after call (open_streams old.lives)
 streams-follow (Begins starts) old new h s = more _ _ (ap (λ (c : Course). open_streams c.lives) h.2)
 streams-follow (Marks mark) old new h s = streams-mark mark old new h s
@@ -490,7 +487,7 @@ apart-with : (o closed : Option ℕ) (there : List ℕ) → IfSome o (λ t. amon
 apart-with None closed there new h = subst Apart (sym (append-nil (without_closed closed there))) h
 apart-with (Some t) closed there new h = apart-push t (without_closed closed there) h (among-without closed t there new)
 
-apart-after : (calls : List HouseCall) (there : List ℕ) → BringsNew there calls → Apart there → Apart (open_after there calls)
+pub apart-after : (calls : List HouseCall) (there : List ℕ) → BringsNew there calls → Apart there → Apart (open_after there calls)
 apart-after [] there new h = h
 apart-after (call ∷ calls) there new h =
     apart-after calls (after call there) new.1

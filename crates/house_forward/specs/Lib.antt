@@ -1,5 +1,6 @@
 pub mod Asks
 pub mod Closing
+pub mod Confirming
 pub mod Connects
 pub mod Desk
 pub mod Due

@@ -2,6 +2,7 @@
 //! law.
 
 ghost use Rattle.house_forward.specs.Closing.{ClosesHaveCause};
+ghost use Rattle.house_forward.specs.Confirming.{ConfirmsConnected, RefusesUnconnected};
 ghost use Rattle.house_forward.specs.Connects.{OneConnectEach};
 ghost use Rattle.house_forward.specs.Laws.{EachRelays, EachKeeps, EachRests};
 ghost use Rattle.house_forward.specs.Opening.{OneOpenAtMost, OpensGoRight};
@@ -52,4 +53,11 @@ pub fn each_joined_socket_is_opened_once_at_most()
 /// was joined, or 256 channels when its dialog asked for one, or there was no forwarding with its listener.
 pub fn each_close_has_its_cause()
     ensures { ClosesHaveCause }
+{}
+
+/// An OPEN of the server is confirmed only behind the Writable of the stream that a Connect to its end
+/// made; and it is refused only where such a Connect got no number, or that stream failed.
+pub fn each_open_is_answered_by_its_socket()
+    ensures confirms { ConfirmsConnected }
+    ensures refuses { RefusesUnconnected }
 {}
