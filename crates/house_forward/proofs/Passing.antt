@@ -116,10 +116,10 @@ Untouched (TakesBytes t n) old a = IsOther t old.lives a
 
 -- a call that takes a step of a stream
 abbrev pub Orders : HouseCall → Step → ℕ → Type 0
-Orders call (step.Pause b) t = Unit {0}
-Orders call step.Finish t = Unit {0}
+Orders call (step.Pause b) t = (o : Order) × (number : Option ℕ) × call ≡ Marks (HouseOrder o number)
+Orders call step.Finish t = (o : Order) × (number : Option ℕ) × call ≡ Marks (HouseOrder o number)
 Orders call step.End t = call ≡ Turns (End t)
-Orders call step.Close t = Unit {0}
+Orders call step.Close t = (o : Order) × (number : Option ℕ) × call ≡ Marks (HouseOrder o number)
 Orders call step.Writable t = call ≡ Turns (Writable t)
 Orders call step.Failed t = call ≡ Turns (Failed t)
 
@@ -275,13 +275,13 @@ pass-orders (order.Connect host port) number old new P Q k h s all = pass-makes 
 pass-orders (order.Unlisten l) number old new P Q k h s all =
     stay-all (Marks (HouseOrder (order.Unlisten l) number)) old P Q k new.lives (ap (λ (c : Course). c.lives) h.2) (λ a. tt) all
 pass-orders (order.Pause t) number old new P Q k h s all =
-    pass-steps (order.Pause t) number (step.Pause true) t old new P Q k tt (always t (λ a. Unit {0}) old.lives (λ a. tt)) h s all
+    pass-steps (order.Pause t) number (step.Pause true) t old new P Q k (order.Pause t, number, refl) (always t (λ a. Unit {0}) old.lives (λ a. tt)) h s all
 pass-orders (order.Resume t) number old new P Q k h s all =
-    pass-steps (order.Resume t) number (step.Pause false) t old new P Q k tt (always t (λ a. Unit {0}) old.lives (λ a. tt)) h s all
+    pass-steps (order.Resume t) number (step.Pause false) t old new P Q k (order.Resume t, number, refl) (always t (λ a. Unit {0}) old.lives (λ a. tt)) h s all
 pass-orders (order.Finish t) number old new P Q k h s all =
-    pass-steps (order.Finish t) number step.Finish t old new P Q k tt (always t (λ a. Unit {0}) old.lives (λ a. tt)) h s all
+    pass-steps (order.Finish t) number step.Finish t old new P Q k (order.Finish t, number, refl) (always t (λ a. Unit {0}) old.lives (λ a. tt)) h s all
 pass-orders (order.Close t) number old new P Q k h s all =
-    pass-steps (order.Close t) number step.Close t old new P Q k tt (done-each t old.lives h.0) h s all
+    pass-steps (order.Close t) number step.Close t old new P Q k (order.Close t, number, refl) (done-each t old.lives h.0) h s all
 
 pass-marks : (mark : HouseMark) (old new : Course) (P Q : Life → Type 0) → Passes (Marks mark) old P Q → MarksIn mark old new
     → Each Sound old.lives → Each P old.lives → Each Q new.lives

@@ -16,3 +16,4 @@ pub mod Opening
 pub mod Quiet
 pub mod Rules
 pub mod Said
+pub mod Streaming

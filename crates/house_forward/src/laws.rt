@@ -5,6 +5,7 @@ ghost use Rattle.house_forward.specs.Closing.{ClosesHaveCause};
 ghost use Rattle.house_forward.specs.Confirming.{ConfirmsConnected, RefusesUnconnected};
 ghost use Rattle.house_forward.specs.Connects.{OneConnectEach};
 ghost use Rattle.house_forward.specs.Laws.{EachRelays, EachKeeps, EachRests};
+ghost use Rattle.house_forward.specs.Streaming.{EachHasItsStream};
 ghost use Rattle.house_forward.specs.Opening.{OneOpenAtMost, OpensGoRight};
 ghost use Rattle.house_forward.specs.Numbers.{ChannelsDiffer, StreamsAreTheirs, StreamsDiffer};
 
@@ -60,4 +61,10 @@ pub fn each_close_has_its_cause()
 pub fn each_open_is_answered_by_its_socket()
     ensures confirms { ConfirmsConnected }
     ensures refuses { RefusesUnconnected }
+{}
+
+/// What a relay read are the bytes that its stream gave since that was joined or connected, all of them
+/// and in order; and as many bytes as it has as taken its stream took since.
+pub fn each_relay_has_what_its_stream_gave()
+    ensures { EachHasItsStream }
 {}
