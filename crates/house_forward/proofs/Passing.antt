@@ -341,26 +341,28 @@ pass-follow (TakesBytes t n) old new P Q k h s all =
 
 -- ---- from the first call on
 
-pub pass-reach : (P : List HouseCall → Life → Type 0)
-    → ((before : List HouseCall) (call : HouseCall) (old : Course) → Apart (open_streams old.lives)
+pub pass-reach : (A : Type 0) (P : List HouseCall → Life → Type 0)
+    → ((before : List HouseCall) (call : HouseCall) (old : Course) → (A → Apart (open_streams old.lives))
     → Passes call old (P before) (P (before ++ call ∷ [])))
-    → (calls before : List HouseCall) (old new : Course) → BringsNew (open_streams old.lives) calls → Apart (open_streams old.lives)
-    → Reaches old calls new → All Sound old → Each (P before) old.lives → Each (P (before ++ calls)) new.lives
-pass-reach P k [] before old new brings apart h s all =
+    → (calls before : List HouseCall) (old new : Course) → (A → BringsNew (open_streams old.lives) calls)
+    → (A → Apart (open_streams old.lives)) → Reaches old calls new → All Sound old → Each (P before) old.lives
+    → Each (P (before ++ calls)) new.lives
+pass-reach A P k [] before old new brings apart h s all =
     subst (λ (cs : List HouseCall). Each (P cs) new.lives) (sym (append-nil before))
     (subst (λ (c : Course). Each (P before) c.lives) (sym h) all)
-pass-reach P k (call ∷ calls) before old new brings apart h s all =
+pass-reach A P k (call ∷ calls) before old new brings apart h s all =
     let same = streams-follow call old h.0 h.1 s in
-    let rest = pass-reach P k calls (before ++ call ∷ []) h.0 new
-    (subst (λ (ns : List ℕ). BringsNew ns calls) (sym same) brings.1)
-    (subst Apart (sym same) (apart-after (call ∷ []) (open_streams old.lives) (brings.0, tt) apart))
+    let rest = pass-reach A P k calls (before ++ call ∷ []) h.0 new
+    (λ x. subst (λ (ns : List ℕ). BringsNew ns calls) (sym same) (brings x).1)
+    (λ x. subst Apart (sym same) (apart-after (call ∷ []) (open_streams old.lives) ((brings x).0, tt) (apart x)))
     h.2 (follow-sound call old h.0 h.1 s)
     (pass-follow call old h.0 (P before) (P (before ++ call ∷ [])) (k before call old apart) h.1 s all) in
     subst (λ (cs : List HouseCall). Each (P cs) new.lives) (append_assoc before (call ∷ []) calls) rest
 
 -- of each relay behind the calls
-pub pass-all : (P : List HouseCall → Life → Type 0)
-    → ((before : List HouseCall) (call : HouseCall) (old : Course) → Apart (open_streams old.lives)
+pub pass-all : (A : Type 0) (P : List HouseCall → Life → Type 0)
+    → ((before : List HouseCall) (call : HouseCall) (old : Course) → (A → Apart (open_streams old.lives))
     → Passes call old (P before) (P (before ++ call ∷ [])))
-    → (calls : List HouseCall) (course : Course) → BringsNew [] calls → Reaches first_course calls course → Each (P calls) course.lives
-pass-all P k calls course brings h = pass-reach P k calls [] first_course course brings tt h (record { lives = tt; past = tt }) tt
+    → (calls : List HouseCall) (course : Course) → (A → BringsNew [] calls) → Reaches first_course calls course → Each (P calls) course.lives
+pass-all A P k calls course brings h =
+    pass-reach A P k calls [] first_course course brings (λ x. tt) h (record { lives = tt; past = tt }) tt

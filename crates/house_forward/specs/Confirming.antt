@@ -65,7 +65,7 @@ pub record IsConfirmationOf (calls : List HouseCall) (lives : List Life) (bytes 
 
 abbrev pub ConfirmsConnected : Type 0
 ConfirmsConnected = (calls : List HouseCall) (course next : Course) (bytes : List ℕ)
-    → BringsNew [] calls → Reaches first_course calls course
+    → Reaches first_course calls course
     → Follows (Marks (HouseSaid bytes)) course next → is_confirmation bytes ≡ true
     → IsConfirmationOf calls course.lives bytes
 

@@ -57,14 +57,16 @@ pub fn each_close_has_its_cause()
 {}
 
 /// An OPEN of the server is confirmed only behind the Writable of the stream that a Connect to its end
-/// made; and it is refused only where such a Connect got no number, or that stream failed.
+/// made; and it is refused only where such a Connect got no number, or that stream failed, if each stream
+/// came with a number that no open one had.
 pub fn each_open_is_answered_by_its_socket()
     ensures confirms { ConfirmsConnected }
     ensures refuses { RefusesUnconnected }
 {}
 
 /// What a relay read are the bytes that its stream gave since that was joined or connected, all of them
-/// and in order; and as many bytes as it has as taken its stream took since.
+/// and in order; and as many bytes as it has as taken its stream took since, if each stream came with a
+/// number that no open one had.
 pub fn each_relay_has_what_its_stream_gave()
     ensures { EachHasItsStream }
 {}
