@@ -21,7 +21,7 @@ use Rattle.house_relay.specs.declared.relay.Relay.{Relay}
 use Rattle.house_relay.specs.declared.relay.Socket.TheVariants as socket
 use Rattle.house_forward.specs.Desk.{Desk, greeting_said, request_said}
 use Rattle.house_forward.specs.Forwardings.{has_request, has_listener}
-use Rattle.house_forward.specs.Going.{GoesAt, LeavesAt, Gets, TakesOf, SaysOn, HearsOn, Obeys, AwaitsAt, MakesAt, MayBeFirst, swept}
+use Rattle.house_forward.specs.Going.{GoesAt, LeavesAt, Gets, GetsOn, TakesOf, TakesOn, SaysOn, HearsOn, Obeys, AwaitsAt, MakesAt, MayBeFirst, swept}
 use Rattle.house_forward.specs.Links.{has_saying, has_order, is_of, is_offered, is_awaited, link_after, streams_of, Offers, Joins, has_number, is_number, own_of, is_full, is_crowded, dials, ConnectsAt, made_stream, OrdersIn, IsJoined}
 use Rattle.house_forward.specs.Lives.{Course, Held, LinksGo, GoesFurther, DeskGoes, OnDesk, TakesFurther, StandsFor, Follows, taken_in, with_desk}
 use Rattle.house_forward.specs.Lives.{HearsAt, OffersOne, SaysIn, SaysBy, GivesOrder, JoinsOne, OrdersSocket, MakesOne, held, are_full, are_crowded, is_unmade, IsEndOf}
@@ -497,7 +497,7 @@ gets-by t bytes old new (Some i) e rests short loud h = λ framer stage desk mos
     let at = at-first (is_of t) old i x e h.2 in
     let goes-on = going t (take i old) x (drop (suc i) old) at.is
     (subst (λ (ls : List Link). is_silent t (streams_of ls) ≡ false) at.were loud) in
-    let went = goes-one (has_stream t) (is_of t) (GoesBy (Gets free bytes) (Reads bytes)) most most course.lives old i x (record x { relay = r })
+    let went = goes-one (has_stream t) (is_of t) (GoesBy (GetsOn free bytes) (Reads bytes)) most most course.lives old i x (record x { relay = r })
     (omega arith) (living.is-of t most) e h.2 is.lives
     (λ life its. let on = living.gets free bytes t most life x r its at.is goes-on (rests-first old i t x e h.2 rests) short gave in
     record { next = on.next; goes = on.goes; is = on.is }) in (
@@ -560,7 +560,7 @@ takes-by t n old new framer stage desk None e h = λ most course small is.
 takes-by t n old new framer stage desk (Some i) e h = λ most course small is.
     let x = h.0 in
     let r = h.1 in
-    let went = goes-one (has_stream t) (is_of t) (GoesBy (TakesOf n) (Takes n)) most (n + most) course.lives old i x (record x { relay = r })
+    let went = goes-one (has_stream t) (is_of t) (GoesBy (TakesOn n) (Takes n)) most (n + most) course.lives old i x (record x { relay = r })
     (omega arith) (living.is-of t most) e h.2 is.lives
     (λ life its. let on = living.takes n most life x r small its h.3 in record { next = on.next; goes = on.goes; is = on.is }) in (
       record course { lives = went.lives },

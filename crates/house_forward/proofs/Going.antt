@@ -41,6 +41,10 @@ pub on-both : {X E : Type 0} (A B : Type 0) (o : Result X E) → OnOk o A → On
 on-both A B (Ok x) a b = (a, b)
 on-both A B (Err e) a b = tt
 
+pub on-three : {X E : Type 0} (A B C : Type 0) (o : Result X E) → OnOk o A → OnOk o B → OnOk o C → OnOk o (A × B × C)
+on-three A B C (Ok x) a b c = (a, b, c)
+on-three A B C (Err e) a b c = tt
+
 -- ---- what is ordered
 
 -- the one that is found first obeys an order that it may give

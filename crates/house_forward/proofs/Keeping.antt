@@ -274,7 +274,7 @@ dials-keeps (Live live) free bytes old new reads h = same-keeps old new h.0 h.1
 dials-keeps Over free bytes old new reads h = same-keeps old new h.0 h.1
 
 -- a dialog that stands has given all replies, and wants more bytes
-is-reading : (dials : Bool) (acts : List Act) (r : Relay) → Stands dials acts r → (dialog : State) → r.line ≡ Dialing dialog
+pub is-reading : (dials : Bool) (acts : List Act) (r : Relay) → Stands dials acts r → (dialog : State) → r.line ≡ Dialing dialog
     → IsReading dialog
 is-reading dials acts r s dialog e =
     let d : IsDialing dialog dials acts = subst (λ (l : Line). LineStands l dials acts) e s.line in

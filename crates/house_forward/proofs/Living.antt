@@ -8,12 +8,12 @@ use Rattle.mux_outside.specs.declared.piece.TheConstants.{LONGEST_PIECE}
 use Rattle.house_relay.specs.Acts.{Act, Reads, Takes, taken}
 use Rattle.house_relay.specs.Line.{owed_in, counts}
 use Rattle.house_relay.specs.Next.{says_of}
-use Rattle.house_relay.specs.Relay.{GoesOn, stream_of}
+use Rattle.house_relay.specs.Relay.{GoesOn, MayRead, stream_of}
 use Rattle.house_relay.specs.Steps.{is_closed, is_gone, made_as, taken_of}
 use Rattle.house_relay.specs.declared.relay.Relay.{Relay}
 use Rattle.house_relay.specs.declared.relay.Socket.{Socket}
 use Rattle.house_relay.specs.declared.relay.Socket.TheVariants as socket
-use Rattle.house_forward.specs.Going.{Gets, TakesOf, Says, SaysOn, Hears, HearsOn, act_of_saying}
+use Rattle.house_forward.specs.Going.{Gets, GetsOn, TakesOf, TakesOn, SaysOn, HearsOn, act_of_saying}
 use Rattle.house_forward.specs.Heard.{act_heard}
 use Rattle.house_forward.specs.Links.{own_of, numbered, is_number, has_number, is_of, is_without, is_left, is_offered, is_awaited, awaits, offers, made_stream, relay_after, stream_after, link_after}
 use Rattle.house_forward.specs.Lives.{Life, GoesBy, IsLife, IsSocketOf, IsEndOf, is_stream, has_stream, own_after, own_made, act_of, stepped, made_life, is_unmade, unmade}
@@ -123,15 +123,15 @@ onward-same so act most life link r is goes on stays none =
     (omega (arith, owed, less, none)) (omega (arith, few, none))
 
 pub hears : (m : Message) (most : ℕ) (life : Life) (link : Link) (r : Relay) → IsLife most life link → HearsOn m link.relay r
-    → Onward (Hears m) (act_heard m) most life (record link { relay = r })
+    → Onward (HearsOn m) (act_heard m) most life (record link { relay = r })
 hears m most life link r is h =
-    onward-same (Hears m) (act_heard m) most life link r is h.0 h.1
+    onward-same (HearsOn m) (act_heard m) most life link r is h h.1
     (subst (λ (z : Relay). Stays link.relay z) (sym h.0) (stays-heard m link.relay)) (none-heard m link.relay life.acts)
 
 pub says : (most : ℕ) (life : Life) (link : Link) (r : Relay) → IsLife most life link → SaysOn link.relay r
-    → Onward Says (λ (z : Relay). act_of_saying (says_of z) z) most life (record link { relay = r })
+    → Onward SaysOn (λ (z : Relay). act_of_saying (says_of z) z) most life (record link { relay = r })
 says most life link r is h =
-    onward-same Says (λ (z : Relay). act_of_saying (says_of z) z) most life link r is h.0 h.1
+    onward-same SaysOn (λ (z : Relay). act_of_saying (says_of z) z) most life link r is h h.1
     (subst (λ (z : Relay). Stays link.relay z) (sym h.0) (stays-after (says_of link.relay) link.relay))
     (none-after (says_of link.relay) link.relay life.acts)
 
@@ -167,33 +167,34 @@ unended t Gone r n h f = cc
 pub gets : (free : Bool) (bytes : List ℕ) (t most : ℕ) (life : Life) (link : Link) (r : Relay) → IsLife most life link
     → is_of t link ≡ true → ((own : OwnStream) → own_of link.stream ≡ Some own → own.ended ≡ false)
     → link.relay.held.waiting ≡ [] → length bytes ≤ LONGEST_PIECE → Gets free bytes link.relay r
-    → Onward (Gets free bytes) (λ (z : Relay). Reads bytes) most life (record link { relay = r })
+    → Onward (GetsOn free bytes) (λ (z : Relay). Reads bytes) most life (record link { relay = r })
 gets free bytes t most life link r is of going rests short h =
     let n = (and_parts (has_number t link) (is_number t (stream_of link.relay.socket)) of).0 in
     let none = ap length rests in
-    let on : GoesOn link.relay r (Reads bytes) = h.1 (record {
+    let may : MayRead bytes link.relay = record {
       unended = unended t link.stream link.relay n is.socket going;
       room = omega (arith, none, short);
-    }) in
+    } in
+    let on : GoesOn link.relay r (Reads bytes) = h.1 may in
     let keeps = keeps-stream life.dials free life.acts bytes link.relay r is.stands h.0 in
     let ended : r.ended ≡ link.relay.ended = (on life.dials life.acts is.stands).ends ∙ sym is.stands.ends in
     let owed = is.owed in
     let less = keeps.owes in
-    onward (Gets free bytes) (λ (z : Relay). Reads bytes) most most life link r is h on
+    onward (GetsOn free bytes) (λ (z : Relay). Reads bytes) most most life link r is (h.0, may, on, h.2) on
     (socket-kept t link.stream link.relay r n keeps.stream_is ended is.socket)
     (omega (arith, owed, less)) is.few
 
 -- ---- what its socket takes
 
 pub takes : (n least : ℕ) (life : Life) (link : Link) (r : Relay) → n + least < 2 ^ 64 → IsLife least life link
-    → TakesOf n link.relay r → Onward (TakesOf n) (λ (z : Relay). Takes n) (n + least) life (record link { relay = r })
+    → TakesOf n link.relay r → Onward (TakesOn n) (λ (z : Relay). Takes n) (n + least) life (record link { relay = r })
 takes n least life link r small is h =
     let owed = is.owed in
     let few = is.few in
     let both = h (omega (arith, owed, few, small)) in
     let more = owed-takes n link.relay.line in
     let line : owed_in r.line ≡ owed_in (taken_of n link.relay).line = ap (λ (z : Relay). owed_in z.line) both.0 in
-    onward (TakesOf n) (λ (z : Relay). Takes n) least (n + least) life link r is h both.1
+    onward (TakesOn n) (λ (z : Relay). Takes n) least (n + least) life link r is both both.1
     (socket-same link.stream link.relay r (ap (λ (z : Relay). z.socket) both.0) (ap (λ (z : Relay). z.ended) both.0) is.socket)
     (omega (arith, owed, more, line)) (omega (arith, few))
 

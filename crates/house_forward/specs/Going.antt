@@ -37,12 +37,22 @@ LeavesAt (Some i) so old new = (now : List Link) × GoesAt (Some i) so old now �
 
 -- its socket gave these bytes
 abbrev pub Gets : Bool → List ℕ → Relay → Relay → Type 0
-Gets free bytes old new = Dials free bytes old new × (MayRead bytes old → GoesOn old new (Reads bytes))
+Gets free bytes old new = Dials free bytes old new
+    × (MayRead bytes old → GoesOn old new (Reads bytes)) × (new.number ≡ old.number)
+
+-- it may give them, and the relay stands for that too
+abbrev pub GetsOn : Bool → List ℕ → Relay → Relay → Type 0
+GetsOn free bytes old new = Dials free bytes old new × MayRead bytes old
+    × GoesOn old new (Reads bytes) × (new.number ≡ old.number)
 
 -- its socket took so many bytes
 abbrev pub TakesOf : ℕ → Relay → Relay → Type 0
 TakesOf n old new =
     owed_in old.line + n < 2 ^ 64 → (new ≡ taken_of n old) × GoesOn old new (Takes n)
+
+-- the relay stands for that too
+abbrev pub TakesOn : ℕ → Relay → Relay → Type 0
+TakesOn n old new = (new ≡ taken_of n old) × GoesOn old new (Takes n)
 
 -- it said what it had to say
 abbrev pub Says : Relay → Relay → Type 0

@@ -1,4 +1,7 @@
 pub mod Asks
+pub mod Closing
+pub mod Confirming
+pub mod Connects
 pub mod Desk
 pub mod Due
 pub mod Forwardings
@@ -8,6 +11,9 @@ pub mod Known
 pub mod Laws
 pub mod Lives
 pub mod Links
+pub mod Numbers
+pub mod Opening
 pub mod Quiet
 pub mod Rules
 pub mod Said
+pub mod Streaming

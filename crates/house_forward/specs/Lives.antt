@@ -37,7 +37,7 @@ use Rattle.house_relay.specs.declared.relay.Socket.{Socket}
 use Rattle.house_relay.specs.declared.relay.Socket.TheVariants as socket
 use Rattle.house_forward.specs.Desk.{Desk, empty_desk, desk_of, BeginsWith, IsAsked, Answers, greeting_said, request_said, reply_heard, OrdersListener, GetsListener, EndsListener}
 use Rattle.house_forward.specs.Forwardings.{has_request, has_listener, served_at}
-use Rattle.house_forward.specs.Going.{Gets, TakesOf, Says, Hears, act_of_saying, AwaitsAt}
+use Rattle.house_forward.specs.Going.{GetsOn, TakesOn, SaysOn, HearsOn, act_of_saying, AwaitsAt}
 use Rattle.house_forward.specs.Heard.{act_heard}
 use Rattle.house_forward.specs.Known.{ordering_of}
 use Rattle.house_forward.specs.Links.{IsJoined, dials, relay_after, own_of, is_offered, ConnectsAt}
@@ -225,7 +225,7 @@ pub record JoinsOne (f : Option Forwarding) (t : ℕ) (old new : List Life) : Ty
 abbrev pub TurnsTo : Happening → List Forwarding → List Life → List Life → Type 0
 TurnsTo (Joined l t) all old new = JoinsOne (find (has_listener l) all) t old new
 TurnsTo (Got t bytes) all old new =
-    OneAtMost (has_stream t) (GoesBy (Gets (not (are_full old)) bytes) (Reads bytes)) old new
+    OneAtMost (has_stream t) (GoesBy (GetsOn (not (are_full old)) bytes) (Reads bytes)) old new
 TurnsTo (End t) all old new = new ≡ map (stepped step.End t) old
 TurnsTo (Writable t) all old new = new ≡ map (stepped step.Writable t) old
 TurnsTo (Failed t) all old new = new ≡ map (stepped step.Failed t) old
@@ -235,7 +235,7 @@ TurnsTo (Failed t) all old new = new ≡ map (stepped step.Failed t) old
 -- it says this
 abbrev pub Speaks : List ℕ → Life → Life → Type 0
 Speaks bytes old new = (bytes ≡ framed (said_by old.relay))
-    × GoesBy Says (act_of_saying (says_of old.relay) old.relay) old new
+    × GoesBy SaysOn (act_of_saying (says_of old.relay) old.relay) old new
 
 -- where the house has not greeted it does; else the first forwarding that has a request says it;
 -- else the first relay that has something to say says that
@@ -255,7 +255,7 @@ SaysIn bytes old new = SaysBy old.desk.greeted (find has_request old.desk.all) b
 
 -- it hears this
 abbrev pub Listens : Message → Life → Life → Type 0
-Listens m old new = GoesBy (Hears m) (act_heard m old.relay) old new
+Listens m old new = GoesBy (HearsOn m) (act_heard m old.relay) old new
 
 -- the one whose channel has this number hears a message, if there is one
 abbrev pub HearsAt : ℕ → Message → Course → Course → Type 0
@@ -431,7 +431,7 @@ Follows (HearsBytes bytes) old new =
 Follows (Turns happening) old new = (lives : List Life)
     × TurnsTo happening old.desk.all old.lives lives × (new ≡ record old { lives = lives })
 Follows (TakesBytes t n) old new = (lives : List Life)
-    × OneAtMost (has_stream t) (GoesBy (TakesOf n) (Takes n)) old.lives lives
+    × OneAtMost (has_stream t) (GoesBy (TakesOn n) (Takes n)) old.lives lives
     × (new ≡ record old { lives = lives })
 
 -- what the calls leave of it, one behind the other

@@ -1,4 +1,5 @@
-use Rattle.std.proofs.Common.{refl, sym, ap, ◌≤◌, length, arith}
+use Rattle.std.proofs.Common.{◌≡◌, refl, sym, ap, ◌≤◌, length, arith}
+use Rattle.house_relay.specs.declared.relay.Relay.{Relay}
 use Rattle.mux_outside.specs.declared.piece.TheConstants.{LONGEST_PIECE}
 use Rattle.house_forward.specs.Links.{is_of}
 use Rattle.house_forward.specs.declared.link.Link.{Link}
@@ -8,7 +9,7 @@ use Rattle.std.specs.Prelude.{not}
 use Rattle.std.specs.List.{position}
 use Rattle.house_forward.specs.Going.{Gets}
 use Rattle.house_forward.specs.Links.{is_full}
-use Rattle.house_forward.proofs.Going.{goes-at, on-ok, on-both}
+use Rattle.house_forward.proofs.Going.{goes-at, on-ok, on-three}
 use Rattle.house_forward.proofs.relays.Relays.got.Goals as goal
 
 pub invariant_of-self : goal.invariant_of-self
@@ -36,5 +37,6 @@ pub returns-clause-reads : goal.returns-clause-reads
 returns-clause-reads c =
     let ls = c.args.self.now.all.items in
     let x = c.index_mut-link.result.now in
-    let both = on-both _ _ c.got.result (rw c.is_full-free.ensures at c.got.ensures.dials) c.got.ensures.stands in
+    let both = on-three _ _ (c.got.new.self.number ≡ x.relay.number) c.got.result (rw c.is_full-free.ensures at c.got.ensures.dials) c.got.ensures.stands
+    (on-ok c.got.result (λ e. ap (λ (r : Relay). r.number) e) c.got.ensures.others) in
     on-ok c.got.result (λ gets. goes-at (position (is_of c.args.stream) ls) c.in-Some.i (Gets (not (is_full ls)) c.args.bytes.now) ls x c.got.new.self (sym c.in-Some.ensures) c.index_mut-link.ensures.value gets) both

@@ -1,0 +1,672 @@
+-- The answers that the house says to the server's OPENs.
+use Rattle.std.proofs.Common.{◌≡◌, ◌∙◌, refl, sym, ap, subst, ◌⊎◌, inl, inr, ℕ, Bool, true, false, List, [], ◌∷◌, ◌++◌, append_assoc, Option, Some, None}
+use Rattle.std.specs.Prelude.{◌||◌, not, find, is_some}
+use Rattle.std.proofs.lemmas.Bool.{both_ways, eqb-true}
+use Rattle.conn_messages.specs.declared.message.Message.{Message}
+use Rattle.conn_messages.specs.declared.message.Message.TheVariants as message
+use Rattle.mux_outside.specs.HouseCalls.{HouseCall, Happening, Marks, Turns, Writable, Failed}
+use Rattle.mux_outside.specs.declared.house_mark.HouseMark.TheVariants.{HouseSaid, HouseOrder}
+use Rattle.mux_outside.specs.declared.order.Order.TheVariants as order
+use Rattle.mux_outside.specs.declared.own_streams.OwnStream.{OwnStream}
+use Rattle.socks_dialog.specs.declared.outcome.Outcome.{Outcome}
+use Rattle.socks_dialog.specs.declared.outcome.Outcome.TheVariants.{Wants, Connects, Breaks}
+use Rattle.house_relay.specs.Acts.{Act, outcome_in}
+use Rattle.house_relay.specs.Line.{in_live, over_if, hears_close}
+use Rattle.house_relay.specs.Next.{says_of, says_offered}
+use Rattle.house_relay.specs.Relay.{LineStands, IsDialing, stream_of, delivers, is_broken, is_done}
+use Rattle.house_relay.specs.Steps.{made_as, confirmed_in, refused_in, connected, failing, ComesOf, DialsIn, IsToDial, IsAskedFor}
+use Rattle.house_relay.specs.declared.line.Live.{Live as LiveState}
+use Rattle.house_relay.specs.declared.line.Line.{Line}
+use Rattle.house_relay.specs.declared.line.Line.TheVariants.{Dialing, Asked, Opened, Offered, Live, Over}
+use Rattle.house_relay.specs.declared.relay.Relay.{Relay}
+use Rattle.house_relay.specs.declared.relay.Saying.{Saying}
+use Rattle.house_relay.specs.declared.relay.Saying.TheVariants as saying
+use Rattle.house_relay.specs.declared.relay.Socket.{Socket}
+use Rattle.house_relay.specs.declared.relay.Socket.TheVariants as socket
+use Rattle.house_forward.specs.Closing.{IsStream}
+use Rattle.house_forward.specs.Confirming.{ConfirmsConnected, RefusesUnconnected, is_confirmation, is_failure, HasHappened, HasNoNumber, HasFailedSince, IsConfirmationOf, IsFailureOf}
+use Rattle.house_forward.specs.Connects.{Place}
+use Rattle.house_forward.specs.Forwardings.{has_request}
+use Rattle.house_forward.specs.Heard.{heard_of}
+use Rattle.house_forward.specs.Links.{IsJoined, IsJoinedAt, after_saying, relay_after}
+use Rattle.house_forward.specs.Lives.{Life, Course, GoesBy, Reaches, Follows, SaysBy, first_course}
+use Rattle.house_forward.specs.Lives.{has_stream, is_stream, are_full}
+use Rattle.house_forward.specs.Numbers.{BringsNew, open_streams, number_of}
+use Rattle.house_forward.specs.Said.{framed, said_by, confirmed, not_connected, payload_if}
+use Rattle.house_forward.specs.declared.forwarding.Forwarding.{Forwarding}
+use Rattle.house_forward.specs.declared.link.Step.{Step}
+use Rattle.house_forward.specs.declared.link.Step.TheVariants as step
+use Rattle.house_forward.specs.declared.rules.Kind.{Kind}
+use Rattle.house_forward.specs.declared.rules.Kind.TheVariants.{Local, Remote, Dynamic}
+use Rattle.house_forward.proofs.Closing.{live-says}
+use Rattle.house_forward.proofs.Differing.{Apart}
+use Rattle.house_forward.proofs.Keeping.{is-reading, stays-heard, stays-after}
+use Rattle.house_forward.proofs.Opening.{line-step, data-same}
+use Rattle.house_forward.proofs.Passing.{Passes, Orders, MayStep, pass-all}
+use Rattle.house_forward.proofs.Sound.{Each, Sound, each-back, all-sound}
+
+-- ---- a channel is offered from the first, or never
+
+abbrev offer : Line → Bool
+offer (Dialing dialog) = false
+offer (Asked host port version) = false
+offer (Opened version) = false
+offer (Offered remote window maximum) = true
+offer (Live live) = false
+offer Over = false
+
+abbrev Sets : Line → Line → Type 0
+Sets old new = (offer new ≡ false) ⊎ (new ≡ old)
+
+in-live : (step : LiveState → Line) (line : Line) → ((live : LiveState) → offer (step live) ≡ false) → Sets line (in_live step line)
+in-live step (Dialing dialog) none = inr refl
+in-live step (Asked host port version) none = inr refl
+in-live step (Opened version) none = inr refl
+in-live step (Offered remote window maximum) none = inr refl
+in-live step (Live live) none = inl (none live)
+in-live step Over none = inr refl
+
+over-none : (b : Bool) (live : LiveState) → offer (over_if b live) ≡ false
+over-none true live = refl
+over-none false live = refl
+
+confirms : (line : Line) (remote window maximum : ℕ) (r : Relay) → Sets r.line (confirmed_in line remote window maximum r).line
+confirms (Dialing dialog) remote window maximum r = inr refl
+confirms (Asked host port version) remote window maximum r = inr refl
+confirms (Opened version) remote window maximum r = inl refl
+confirms (Offered theirs room most) remote window maximum r = inr refl
+confirms (Live live) remote window maximum r = inr refl
+confirms Over remote window maximum r = inr refl
+
+refuses : (line : Line) (reason : ℕ) (r : Relay) → Sets r.line (refused_in line reason r).line
+refuses (Dialing dialog) reason r = inr refl
+refuses (Asked host port version) reason r = inr refl
+refuses (Opened version) reason r = inl refl
+refuses (Offered theirs room most) reason r = inr refl
+refuses (Live live) reason r = inr refl
+refuses Over reason r = inr refl
+
+heard : (m : Message) (r : Relay) → Sets r.line (heard_of m r).line
+heard (message.Transport number rest) r = inr refl
+heard (message.GlobalRequest name want rest what) r = inr refl
+heard (message.RequestSuccess rest) r = inr refl
+heard message.RequestFailure r = inr refl
+heard (message.Open kind sender window maximum rest what) r = inr refl
+heard (message.Confirmation recipient sender window maximum rest) r = confirms r.line sender window maximum r
+heard (message.OpenFailure recipient reason text language) r = refuses r.line reason r
+heard (message.Adjust recipient add) r = in-live _ r.line (λ live. refl)
+heard (message.Data recipient bytes) r = inr (data-same (delivers r) bytes.now r)
+heard (message.Extended recipient code bytes) r = inr refl
+heard (message.Eof recipient) r = in-live _ r.line (λ live. refl)
+heard (message.Close recipient) r = in-live hears_close r.line (λ live. over-none live.close_said _)
+heard (message.Request recipient kind want rest) r = in-live _ r.line (λ live. refl)
+heard (message.Success recipient) r = inr refl
+heard (message.Failure recipient) r = inr refl
+
+abbrev with-line : Line → Relay → Relay
+with-line line r = record r { line = line }
+
+live-said : (o : Option Saying) (live : LiveState) (r : Relay) → offer (after_saying o (with-line (Live live) r)).line ≡ false
+live-said None live r = refl
+live-said (Some saying.Open) live r = refl
+live-said (Some saying.Confirmation) live r = refl
+live-said (Some saying.OpenFailure) live r = refl
+live-said (Some saying.Close) live r = over-none live.close_heard _
+live-said (Some saying.Failure) live r = refl
+live-said (Some (saying.Data n)) live r = refl
+live-said (Some saying.Eof) live r = refl
+live-said (Some (saying.Adjust n)) live r = refl
+
+offered-said : (s : Socket) (remote window maximum : ℕ) (r : Relay) → is_some (says_offered s) ≡ true
+    → offer (after_saying (says_offered s) (with-line (Offered remote window maximum) r)).line ≡ false
+offered-said (socket.Open t) remote window maximum r e = refl
+offered-said socket.Unmade remote window maximum r e = cc
+offered-said (socket.Connecting t) remote window maximum r e = cc
+offered-said (socket.Failed t) remote window maximum r e = refl
+offered-said (socket.Surplus t) remote window maximum r e = refl
+offered-said socket.Closed remote window maximum r e = refl
+
+said : (line : Line) (r : Relay) → is_some (says_of (with-line line r)) ≡ true
+    → offer (after_saying (says_of (with-line line r)) (with-line line r)).line ≡ false
+said (Dialing dialog) r e = cc
+said (Asked host port version) r e = refl
+said (Opened version) r e = cc
+said (Offered remote window maximum) r e = offered-said r.socket remote window maximum r e
+said (Live live) r e = live-said (says_of (with-line (Live live) r)) live r
+said Over r e = cc
+
+dialing-none : (line : Line) → IsToDial line → offer line ≡ false
+dialing-none (Dialing dialog) h = refl
+dialing-none (Asked host port version) h = refl
+dialing-none (Opened version) h = refl
+dialing-none (Offered remote window maximum) h = absurd h
+dialing-none (Live live) h = refl
+dialing-none Over h = refl
+
+asked-none : (host : List ℕ) (port : ℕ) (line : Line) → IsAskedFor host port line → offer line ≡ false
+asked-none host port (Dialing dialog) h = refl
+asked-none host port (Asked host' port' version) h = refl
+asked-none host port (Opened version) h = refl
+asked-none host port (Offered remote window maximum) h = absurd h
+asked-none host port (Live live) h = refl
+asked-none host port Over h = refl
+
+comes-none : (o : Outcome) (free : Bool) (old new : Relay) → ComesOf o free old new → offer new.line ≡ false
+comes-none Wants free old new h = dialing-none new.line h.0
+comes-none (Connects host port) true old new h = asked-none host port new.line h.0
+comes-none (Connects host port) false old new h = ap offer h.0
+comes-none (Breaks reply) free old new h = ap offer h.0
+
+gets-sets : (line : Line) (free : Bool) (bytes : List ℕ) (a b : Life) → a.relay.line ≡ line → Sound a → DialsIn line free bytes a.relay b.relay
+    → Sets a.relay.line b.relay.line
+gets-sets (Dialing dialog) free bytes a b e s h =
+    inl (comes-none (outcome_in _) free a.relay b.relay (h (is-reading a.dials a.acts a.relay s.stands dialog e)))
+gets-sets (Asked host port version) free bytes a b e s h = inr h.0
+gets-sets (Opened version) free bytes a b e s h = inr h.0
+gets-sets (Offered remote window maximum) free bytes a b e s h = inr h.0
+gets-sets (Live live) free bytes a b e s h = inr h.0
+gets-sets Over free bytes a b e s h = inr h.0
+
+-- one without a dialog keeps its socket
+gets-socket : (line : Line) (free : Bool) (bytes : List ℕ) (a b : Life) → a.relay.line ≡ line → Sound a → a.dials ≡ false
+    → DialsIn line free bytes a.relay b.relay → b.relay.socket ≡ a.relay.socket
+gets-socket (Dialing dialog) free bytes a b e s d h =
+    let its : IsDialing dialog a.dials a.acts = subst (λ (x : Line). LineStands x a.dials a.acts) e s.stands.line in
+    absurd (both_ways a.dials d its.socks)
+gets-socket (Asked host port version) free bytes a b e s d h = h.1
+gets-socket (Opened version) free bytes a b e s d h = h.1
+gets-socket (Offered remote window maximum) free bytes a b e s d h = h.1
+gets-socket (Live live) free bytes a b e s d h = h.1
+gets-socket Over free bytes a b e s d h = h.1
+
+-- ---- what the calls so far tell of a socket
+
+record Made (calls : List HouseCall) (to : Place) (t : ℕ) : Type 0 where
+  before : List HouseCall
+  behind : List HouseCall
+  are : calls ≡ before ++ Marks (HouseOrder (order.Connect to.0 to.1) (Some t)) ∷ behind
+
+made-of : (calls : List HouseCall) (to : Place) (t : ℕ) (happening : Happening) → HasHappened calls to t happening → Made calls to t
+made-of calls to t happening h =
+    record { before = h.before; behind = h.between ++ Turns happening ∷ h.behind; are = h.are }
+
+made-more : (calls : List HouseCall) (call : HouseCall) (to : Place) (t : ℕ) → Made calls to t → Made (calls ++ call ∷ []) to t
+made-more calls call to t h = record {
+  before = h.before;
+  behind = h.behind ++ call ∷ [];
+  are = ap (λ (cs : List HouseCall). cs ++ call ∷ []) h.are ∙ append_assoc h.before (_ ∷ h.behind) (call ∷ []);
+}
+
+happened-more : (calls : List HouseCall) (call : HouseCall) (to : Place) (t : ℕ) (happening : Happening) → HasHappened calls to t happening
+    → HasHappened (calls ++ call ∷ []) to t happening
+happened-more calls call to t happening h = record {
+  before = h.before;
+  between = h.between;
+  behind = h.behind ++ call ∷ [];
+  are = ap (λ (cs : List HouseCall). cs ++ call ∷ []) h.are
+      ∙ append_assoc h.before (Marks (HouseOrder (order.Connect to.0 to.1) (Some t)) ∷ (h.between ++ Turns happening ∷ h.behind)) (call ∷ [])
+      ∙ ap (λ (cs : List HouseCall). h.before ++ Marks (HouseOrder (order.Connect to.0 to.1) (Some t)) ∷ cs)
+      (append_assoc h.between (Turns happening ∷ h.behind) (call ∷ []));
+}
+
+happens : (calls : List HouseCall) (to : Place) (t : ℕ) (happening : Happening) → Made calls to t
+    → HasHappened (calls ++ Turns happening ∷ []) to t happening
+happens calls to t happening h = record {
+  before = h.before;
+  between = h.behind;
+  behind = [];
+  are = ap (λ (cs : List HouseCall). cs ++ Turns happening ∷ []) h.are
+      ∙ append_assoc h.before (Marks (HouseOrder (order.Connect to.0 to.1) (Some t)) ∷ h.behind) (Turns happening ∷ []);
+}
+
+none-more : (calls : List HouseCall) (call : HouseCall) (to : Place) → HasNoNumber calls to → HasNoNumber (calls ++ call ∷ []) to
+none-more calls call to h = record {
+  before = h.before;
+  behind = h.behind ++ call ∷ [];
+  are = ap (λ (cs : List HouseCall). cs ++ call ∷ []) h.are
+      ∙ append_assoc h.before (Marks (HouseOrder (order.Connect to.0 to.1) None) ∷ h.behind) (call ∷ []);
+}
+
+abbrev IsLost : List HouseCall → Place → Type 0
+IsLost calls to = HasNoNumber calls to ⊎ ((t : ℕ) × HasHappened calls to t (Failed t))
+
+-- where this is so
+abbrev Lost : Type 0 → List HouseCall → Place → Type 0
+Lost A calls to = A → IsLost calls to
+
+abbrev Shut : Type 0 → Line → List HouseCall → Place → Type 0
+Shut A (Dialing dialog) calls to = Unit {0}
+Shut A (Asked host port version) calls to = Unit {0}
+Shut A (Opened version) calls to = Unit {0}
+Shut A (Offered remote window maximum) calls to = Lost A calls to
+Shut A (Live live) calls to = Unit {0}
+Shut A Over calls to = Unit {0}
+
+abbrev At : Type 0 → List HouseCall → Place → Line → Socket → Type 0
+At A calls to line socket.Unmade = Unit {0}
+At A calls to line (socket.Connecting t) = Made calls to t
+At A calls to line (socket.Open t) = HasHappened calls to t (Writable t)
+At A calls to line (socket.Failed t) = HasHappened calls to t (Failed t)
+At A calls to line (socket.Surplus t) = ⊥
+At A calls to line socket.Closed = Shut A line calls to
+
+abbrev WiredTo : Type 0 → Option Place → List HouseCall → Bool → Line → Socket → Type 0
+WiredTo A None calls dials line s = offer line ≡ false
+WiredTo A (Some to) calls dials line s = (dials ≡ false) × At A calls to line s
+
+abbrev Wired : Type 0 → List HouseCall → Life → Type 0
+Wired A calls l = WiredTo A l.to calls l.dials l.relay.line l.relay.socket
+
+lost-more : (A : Type 0) (calls : List HouseCall) (call : HouseCall) (to : Place) → Lost A calls to → Lost A (calls ++ call ∷ []) to
+lost-more A calls call to h = λ x. now (h x)
+  where
+    now : IsLost calls to → IsLost (calls ++ call ∷ []) to
+    now (inl h) = inl (none-more calls call to h)
+    now (inr h) = inr (h.0, happened-more calls call to h.0 (Failed h.0) h.1)
+
+shut-more : (A : Type 0) (calls : List HouseCall) (call : HouseCall) (to : Place) (line : Line) → Shut A line calls to → Shut A line (calls ++ call ∷ []) to
+shut-more A calls call to (Dialing dialog) h = tt
+shut-more A calls call to (Asked host port version) h = tt
+shut-more A calls call to (Opened version) h = tt
+shut-more A calls call to (Offered remote window maximum) h = lost-more A calls call to h
+shut-more A calls call to (Live live) h = tt
+shut-more A calls call to Over h = tt
+
+at-more : (A : Type 0) (calls : List HouseCall) (call : HouseCall) (to : Place) (line : Line) (s : Socket) → At A calls to line s
+    → At A (calls ++ call ∷ []) to line s
+at-more A calls call to line socket.Unmade h = tt
+at-more A calls call to line (socket.Connecting t) h = made-more calls call to t h
+at-more A calls call to line (socket.Open t) h = happened-more calls call to t (Writable t) h
+at-more A calls call to line (socket.Failed t) h = happened-more calls call to t (Failed t) h
+at-more A calls call to line (socket.Surplus t) h = absurd h
+at-more A calls call to line socket.Closed h = shut-more A calls call to line h
+
+wired-more : (A : Type 0) (calls : List HouseCall) (call : HouseCall) (o : Option Place) (dials : Bool) (line : Line) (s : Socket)
+    → WiredTo A o calls dials line s → WiredTo A o (calls ++ call ∷ []) dials line s
+wired-more A calls call None dials line s h = h
+wired-more A calls call (Some to) dials line s h = (h.0, at-more A calls call to line s h.1)
+
+shut-none : (A : Type 0) (calls : List HouseCall) (to : Place) (line : Line) → offer line ≡ false → Shut A line calls to
+shut-none A calls to (Dialing dialog) e = tt
+shut-none A calls to (Asked host port version) e = tt
+shut-none A calls to (Opened version) e = tt
+shut-none A calls to (Offered remote window maximum) e = cc
+shut-none A calls to (Live live) e = tt
+shut-none A calls to Over e = tt
+
+shut-sets : (A : Type 0) (calls : List HouseCall) (to : Place) (old new : Line) → Sets old new → Shut A old calls to → Shut A new calls to
+shut-sets A calls to old new (inl e) h = shut-none A calls to new e
+shut-sets A calls to old new (inr e) h = subst (λ (line : Line). Shut A line calls to) (sym e) h
+
+at-sets : (A : Type 0) (calls : List HouseCall) (to : Place) (old new : Line) (s : Socket) → Sets old new → At A calls to old s → At A calls to new s
+at-sets A calls to old new socket.Unmade e h = tt
+at-sets A calls to old new (socket.Connecting t) e h = h
+at-sets A calls to old new (socket.Open t) e h = h
+at-sets A calls to old new (socket.Failed t) e h = h
+at-sets A calls to old new (socket.Surplus t) e h = h
+at-sets A calls to old new socket.Closed e h = shut-sets A calls to old new e h
+
+none-sets : (old new : Line) → Sets old new → offer old ≡ false → offer new ≡ false
+none-sets old new (inl e) h = e
+none-sets old new (inr e) h = ap offer e ∙ h
+
+wired-sets : (A : Type 0) (calls : List HouseCall) (o : Option Place) (dials : Bool) (old new : Line) (s : Socket) → Sets old new
+    → WiredTo A o calls dials old s → WiredTo A o calls dials new s
+wired-sets A calls None dials old new s e h = none-sets old new e h
+wired-sets A calls (Some to) dials old new s e h = (h.0, at-sets A calls to old new s e h.1)
+
+-- ---- all steps
+
+wired-on : (A : Type 0) (calls : List HouseCall) (so : Relay → Relay → Type 0) (act : Act) (a b : Life) → GoesBy so act a b
+    → Sets a.relay.line b.relay.line → b.relay.socket ≡ a.relay.socket → Wired A calls a → Wired A calls b
+wired-on A calls so act a b h sets same p =
+    subst (λ (o : Option Place). WiredTo A o calls b.dials b.relay.line b.relay.socket) (sym h.to)
+    (subst (λ (d : Bool). WiredTo A a.to calls d b.relay.line b.relay.socket) (sym h.dials)
+    (subst (λ (s : Socket). WiredTo A a.to calls a.dials b.relay.line s) (sym same)
+    (wired-sets A calls a.to a.dials a.relay.line b.relay.line a.relay.socket sets p)))
+
+gets-wired : (A : Type 0) (calls : List HouseCall) (free : Bool) (bytes : List ℕ) (o : Option Place) (a b : Life) → Sound a
+    → DialsIn a.relay.line free bytes a.relay b.relay → WiredTo A o calls a.dials a.relay.line a.relay.socket
+    → WiredTo A o calls a.dials b.relay.line b.relay.socket
+gets-wired A calls free bytes None a b s h p =
+    none-sets a.relay.line b.relay.line (gets-sets a.relay.line free bytes a b refl s h) p
+gets-wired A calls free bytes (Some to) a b s h p = (
+  p.0,
+  subst (λ (k : Socket). At A calls to b.relay.line k) (sym (gets-socket a.relay.line free bytes a b refl s p.0 h))
+      (at-sets A calls to a.relay.line b.relay.line a.relay.socket (gets-sets a.relay.line free bytes a b refl s h) p.1),
+)
+
+-- its stream is this one
+its-number : (t n : ℕ) (own : Option OwnStream) → is_stream t own ≡ true → Some n ≡ number_of own → n ≡ t
+its-number t n None is e = cc
+its-number t n (Some own) is e = the n own.number e ∙ eqb-true own.number t is
+  where
+    the : (x y : ℕ) → Some x ≡ Some y → x ≡ y
+    the x y e = cc
+
+no-stream : (t : ℕ) (own : Option OwnStream) → is_stream t own ≡ true → None ≡ number_of own → ⊥
+no-stream t None is e = cc
+no-stream t (Some own) is e = cc
+
+turned : (calls : List HouseCall) (call : HouseCall) (to : Place) (t n : ℕ) (so : ℕ → Happening) → call ≡ Turns (so t) → n ≡ t → Made calls to n
+    → HasHappened (calls ++ call ∷ []) to n (so n)
+turned calls call to t n so e f h =
+    subst (λ (c : HouseCall). HasHappened (calls ++ c ∷ []) to n (so n)) (ap (λ (k : ℕ). Turns (so k)) f ∙ sym e) (happens calls to n (so n) h)
+
+writable-at : (A : Type 0) (calls : List HouseCall) (call : HouseCall) (to : Place) (t : ℕ) (own : Option OwnStream) (line : Line) (s : Socket)
+    → call ≡ Turns (Writable t) → is_stream t own ≡ true → stream_of s ≡ number_of own → At A calls to line s
+    → At A (calls ++ call ∷ []) to line (connected s)
+writable-at A calls call to t own line socket.Unmade e is same h = tt
+writable-at A calls call to t own line (socket.Connecting n) e is same h =
+    turned calls call to t n (λ k. Writable k) e (its-number t n own is same) h
+writable-at A calls call to t own line (socket.Open n) e is same h = at-more A calls call to line (socket.Open n) h
+writable-at A calls call to t own line (socket.Failed n) e is same h = at-more A calls call to line (socket.Failed n) h
+writable-at A calls call to t own line (socket.Surplus n) e is same h = absurd h
+writable-at A calls call to t own line socket.Closed e is same h = shut-more A calls call to line h
+
+failed-at : (A : Type 0) (calls : List HouseCall) (call : HouseCall) (to : Place) (t : ℕ) (own : Option OwnStream) (line : Line) (s : Socket)
+    → call ≡ Turns (Failed t) → is_stream t own ≡ true → stream_of s ≡ number_of own → At A calls to line s
+    → At A (calls ++ call ∷ []) to line (failing s)
+failed-at A calls call to t own line socket.Unmade e is same h = tt
+failed-at A calls call to t own line (socket.Connecting n) e is same h =
+    turned calls call to t n (λ k. Failed k) e (its-number t n own is same) h
+failed-at A calls call to t own line (socket.Open n) e is same h =
+    turned calls call to t n (λ k. Failed k) e (its-number t n own is same) (made-of calls to n (Writable n) h)
+failed-at A calls call to t own line (socket.Failed n) e is same h = at-more A calls call to line (socket.Failed n) h
+failed-at A calls call to t own line (socket.Surplus n) e is same h = absurd h
+failed-at A calls call to t own line socket.Closed e is same h = shut-more A calls call to line h
+
+broken-lost : (A : Type 0) (calls : List HouseCall) (call : HouseCall) (to : Place) (t : ℕ) (own : Option OwnStream) (line : Line) (s : Socket)
+    → is_broken s ≡ true → is_stream t own ≡ true → stream_of s ≡ number_of own → At A calls to line s → IsLost (calls ++ call ∷ []) to
+broken-lost A calls call to t own line socket.Unmade e is same h = cc
+broken-lost A calls call to t own line (socket.Connecting n) e is same h = cc
+broken-lost A calls call to t own line (socket.Open n) e is same h = cc
+broken-lost A calls call to t own line (socket.Failed n) e is same h = inr (n, happened-more calls call to n (Failed n) h)
+broken-lost A calls call to t own line (socket.Surplus n) e is same h = absurd h
+broken-lost A calls call to t own line socket.Closed e is same h = absurd (no-stream t own is same)
+
+offered-broken : (r : Relay) (remote window maximum : ℕ) → is_done (with-line (Offered remote window maximum) r) ≡ true → is_broken r.socket ≡ true
+offered-broken r remote window maximum h = by (is_broken r.socket) h
+  where
+    by : (b : Bool) → (b || false) ≡ true → b ≡ true
+    by true h = refl
+    by false h = cc
+
+shut-at : (A : Type 0) (calls : List HouseCall) (call : HouseCall) (to : Place) (t : ℕ) (own : Option OwnStream) (line : Line) (r : Relay)
+    → (A → is_done (with-line line r) ≡ true) → is_stream t own ≡ true → stream_of r.socket ≡ number_of own → At A calls to line r.socket
+    → Shut A line (calls ++ call ∷ []) to
+shut-at A calls call to t own (Dialing dialog) r done is same h = tt
+shut-at A calls call to t own (Asked host port version) r done is same h = tt
+shut-at A calls call to t own (Opened version) r done is same h = tt
+shut-at A calls call to t own (Offered remote window maximum) r done is same h =
+    λ x. broken-lost A calls call to t own (Offered remote window maximum) r.socket (offered-broken r remote window maximum (done x)) is same h
+shut-at A calls call to t own (Live live) r done is same h = tt
+shut-at A calls call to t own Over r done is same h = tt
+
+step-at : (A : Type 0) (calls : List HouseCall) (call : HouseCall) (old : Course) (to : Place) (s : Step) (t : ℕ) (a : Life) → Orders call s t → Sound a
+    → (A → Apart (open_streams old.lives)) → MayStep s old a → has_stream t a ≡ true → At A calls to a.relay.line a.relay.socket
+    → At A (calls ++ call ∷ []) to a.relay.line (relay_after s a.relay).socket
+step-at A calls call old to (step.Pause b) t a ord sa apart may is h = at-more A calls call to a.relay.line a.relay.socket h
+step-at A calls call old to step.Finish t a ord sa apart may is h = at-more A calls call to a.relay.line a.relay.socket h
+step-at A calls call old to step.End t a ord sa apart may is h = at-more A calls call to a.relay.line a.relay.socket h
+step-at A calls call old to step.Close t a ord sa apart may is h =
+    shut-at A calls call to t a.own a.relay.line a.relay (λ x. may (apart x)) is sa.stream h
+step-at A calls call old to step.Writable t a ord sa apart may is h =
+    writable-at A calls call to t a.own a.relay.line a.relay.socket ord is sa.stream h
+step-at A calls call old to step.Failed t a ord sa apart may is h =
+    failed-at A calls call to t a.own a.relay.line a.relay.socket ord is sa.stream h
+
+step-wired : (A : Type 0) (calls : List HouseCall) (call : HouseCall) (old : Course) (o : Option Place) (s : Step) (t : ℕ) (a : Life) → Orders call s t
+    → Sound a → (A → Apart (open_streams old.lives)) → MayStep s old a → has_stream t a ≡ true
+    → WiredTo A o calls a.dials a.relay.line a.relay.socket
+    → WiredTo A o (calls ++ call ∷ []) a.dials a.relay.line (relay_after s a.relay).socket
+step-wired A calls call old None s t a ord sa apart may is h = h
+step-wired A calls call old (Some to) s t a ord sa apart may is h = (h.0, step-at A calls call old to s t a ord sa apart may is h.1)
+
+shut-lost : (A : Type 0) (calls : List HouseCall) (to : Place) (line : Line) → Lost A calls to → Shut A line calls to
+shut-lost A calls to (Dialing dialog) h = tt
+shut-lost A calls to (Asked host port version) h = tt
+shut-lost A calls to (Opened version) h = tt
+shut-lost A calls to (Offered remote window maximum) h = h
+shut-lost A calls to (Live live) h = tt
+shut-lost A calls to Over h = tt
+
+made-at : (A : Type 0) (calls : List HouseCall) (number : Option ℕ) (to : Place) (line : Line)
+    → At A (calls ++ Marks (HouseOrder (order.Connect to.0 to.1) number) ∷ []) to line (made_as number)
+made-at A calls None to line = shut-lost A _ to line (λ x. inl (record { before = calls; behind = []; are = refl }))
+made-at A calls (Some t) to line = record { before = calls; behind = []; are = refl }
+
+makes-wired : (A : Type 0) (calls : List HouseCall) (to : Place) (number : Option ℕ) (o : Option Place) (dials : Bool) (line : Line) (s : Socket) → o ≡ Some to
+    → WiredTo A o calls dials line s
+    → WiredTo A o (calls ++ Marks (HouseOrder (order.Connect to.0 to.1) number) ∷ []) dials line (made_as number)
+makes-wired A calls to number None dials line s e h = cc
+makes-wired A calls to number (Some there) dials line s e h =
+    subst (λ (p : Place). WiredTo A (Some p) (calls ++ Marks (HouseOrder (order.Connect to.0 to.1) number) ∷ []) dials line (made_as number))
+    (the to there (sym e)) (h.0, made-at A calls number to line)
+  where
+    the : (x y : Place) → Some x ≡ Some y → x ≡ y
+    the x y e = cc
+
+joined-at : (kind : Kind) (crowded : Bool) (f : Forwarding) (t : ℕ) (r : Relay) → IsJoinedAt kind crowded f t r → offer r.line ≡ false
+joined-at Local crowded f t r h = ap (λ (x : Relay). offer x.line) h
+joined-at Remote crowded f t r h = ap (λ (x : Relay). offer x.line) h
+joined-at Dynamic true f t r h = ap (λ (x : Relay). offer x.line) h
+joined-at Dynamic false f t r h = ap (λ (x : Relay). offer x.line) h
+
+joined-none : (full crowded : Bool) (o : Option Forwarding) (t : ℕ) (r : Relay) → IsJoined full crowded o t r → offer r.line ≡ false
+joined-none true crowded o t r h = ap (λ (x : Relay). offer x.line) h
+joined-none false crowded None t r h = ap (λ (x : Relay). offer x.line) h
+joined-none false crowded (Some f) t r h = joined-at f.kind crowded f t r h
+
+wired : (A : Type 0) (before : List HouseCall) (call : HouseCall) (old : Course) → (A → Apart (open_streams old.lives))
+    → Passes call old (Wired A before) (Wired A (before ++ call ∷ []))
+wired A before call old apart = record {
+  stays = λ a p u. wired-more A before call a.to a.dials a.relay.line a.relay.socket p;
+  hears = λ m a b s p h. wired-on A before _ _ a b h
+      (subst (λ (r : Relay). Sets a.relay.line r.line) (sym h.relay.0) (heard m a.relay))
+      (ap (λ (r : Relay). r.socket) h.relay.0 ∙ (stays-heard m a.relay).socket_is) p;
+  offers = λ f number remote window maximum. (refl, tt);
+  says = λ bytes e a b s p is h. wired-more A before call b.to b.dials b.relay.line b.relay.socket (wired-on A before _ _ a b h.1
+      (inl (ap (λ (r : Relay). offer r.line) h.1.relay.0 ∙ said a.relay.line a.relay is))
+      (ap (λ (r : Relay). r.socket) h.1.relay.0 ∙ (stays-after (says_of a.relay) a.relay).socket_is) p);
+  gets = λ t bytes e a b s s' p is h. wired-more A before call b.to b.dials b.relay.line b.relay.socket
+      (subst (λ (o : Option Place). WiredTo A o before b.dials b.relay.line b.relay.socket) (sym h.to)
+      (subst (λ (d : Bool). WiredTo A a.to before d b.relay.line b.relay.socket) (sym h.dials)
+      (gets-wired A before (not (are_full old.lives)) bytes a.to a b s h.relay.0 p)));
+  takes = λ t n e a b s p is h. wired-more A before call b.to b.dials b.relay.line b.relay.socket (wired-on A before _ _ a b h
+      (subst (λ (r : Relay). Sets a.relay.line r.line) (sym h.relay.0) (in-live _ a.relay.line (λ live. refl)))
+      (ap (λ (r : Relay). r.socket) h.relay.0) p);
+  steps = λ s t ord a sa may p is.
+      subst (λ (line : Line). WiredTo A a.to (before ++ call ∷ []) a.dials line (relay_after s a.relay).socket) (sym (line-step s a.relay))
+      (step-wired A before call old a.to s t a ord sa apart may is p);
+  makes = λ host port number e a s p is there.
+      subst (λ (c : HouseCall). WiredTo A a.to (before ++ c ∷ []) a.dials a.relay.line (made_as number)) (sym e)
+      (makes-wired A before (host, port) number a.to a.dials a.relay.line a.relay.socket there p);
+  joins = λ l t e r h. joined-none _ _ _ t r h;
+}
+
+-- ---- what is said
+
+record Confirmed (remote window maximum : ℕ) (r : Relay) : Type 0 where
+  line : r.line ≡ Offered remote window maximum
+  stream : ℕ
+  socket_is : r.socket ≡ socket.Open stream
+  words : said_by r ≡ confirmed remote r.number
+
+record Denied (remote window maximum : ℕ) (r : Relay) : Type 0 where
+  line : r.line ≡ Offered remote window maximum
+  broken : is_broken r.socket ≡ true
+  words : said_by r ≡ not_connected remote
+
+record Neither (r : Relay) : Type 0 where
+  confirms_none : is_confirmation (framed (said_by r)) ≡ false
+  fails_none : is_failure (framed (said_by r)) ≡ false
+
+abbrev Answers : Relay → Type 0
+Answers r = Neither r ⊎ (((remote : ℕ) × (window : ℕ) × (maximum : ℕ) × Confirmed remote window maximum r)
+    ⊎ ((remote : ℕ) × (window : ℕ) × (maximum : ℕ) × Denied remote window maximum r))
+
+abbrev with-socket : Socket → Relay → Relay
+with-socket s r = record r { socket = s }
+
+answers-offer : (s : Socket) (remote window maximum : ℕ) (r : Relay) → is_some (says_offered s) ≡ true
+    → Answers (with-socket s (with-line (Offered remote window maximum) r))
+answers-offer (socket.Open t) remote window maximum r e =
+    inr (inl (remote, window, maximum, record { line = refl; stream = t; socket_is = refl; words = refl }))
+answers-offer socket.Unmade remote window maximum r e = cc
+answers-offer (socket.Connecting t) remote window maximum r e = cc
+answers-offer (socket.Failed t) remote window maximum r e =
+    inr (inr (remote, window, maximum, record { line = refl; broken = refl; words = refl }))
+answers-offer (socket.Surplus t) remote window maximum r e =
+    inr (inr (remote, window, maximum, record { line = refl; broken = refl; words = refl }))
+answers-offer socket.Closed remote window maximum r e =
+    inr (inr (remote, window, maximum, record { line = refl; broken = refl; words = refl }))
+
+abbrev LiveNeither : Relay → Option Saying → Type 0
+LiveNeither r o = (is_confirmation (framed (payload_if r o)) ≡ false) × (is_failure (framed (payload_if r o)) ≡ false)
+
+answers : (line : Line) (r : Relay) → is_some (says_of (with-line line r)) ≡ true → Answers (with-line line r)
+answers (Dialing dialog) r e = cc
+answers (Asked host port version) r e = inl (record { confirms_none = refl; fails_none = refl })
+answers (Opened version) r e = cc
+answers (Offered remote window maximum) r e = answers-offer r.socket remote window maximum r e
+answers (Live live) r e =
+    let none = live-says (LiveNeither (with-line (Live live) r)) (with-line (Live live) r) live (refl, refl) (refl, refl) (refl, refl)
+    (λ n. (refl, refl)) (λ n. (refl, refl)) (refl, refl) in
+    inl (record { confirms_none = none.0; fails_none = none.1 })
+answers Over r e = cc
+
+-- the one that says it
+record Speaker (A : Type 0) (calls : List HouseCall) (lives : List Life) (bytes : List ℕ) : Type 0 where
+  before : List Life
+  life : Life
+  behind : List Life
+  were : lives ≡ before ++ life ∷ behind
+  sounds : Sound life
+  wired_so : Wired A calls life
+  says : bytes ≡ framed (said_by life.relay)
+  answers_so : Answers life.relay
+
+speaker : (A : Type 0) (calls : List HouseCall) (b : Bool) (o : Option Forwarding) (bytes : List ℕ) (old new : Course) → SaysBy b o bytes old new
+    → Each Sound old.lives → Each (Wired A calls) old.lives
+    → ((is_confirmation bytes ≡ false) × (is_failure bytes ≡ false)) ⊎ Speaker A calls old.lives bytes
+speaker A calls false o bytes old new h s p = inl (ap is_confirmation h.0, ap is_failure h.0)
+speaker A calls true (Some f) bytes old new h s p = inl (ap is_confirmation h.0, ap is_failure h.0)
+speaker A calls true None bytes old new h s p =
+    let one = h.1 in
+    inr (record {
+      before = one.before;
+      life = one.life;
+      behind = one.behind;
+      were = one.were;
+      sounds = (each-back Sound one.before (one.life ∷ one.behind) (subst (Each Sound) one.were s)).0;
+      wired_so = (each-back (Wired A calls) one.before (one.life ∷ one.behind) (subst (Each (Wired A calls)) one.were p)).0;
+      says = one.goes.0;
+      answers_so = answers one.life.relay.line one.life.relay one.is;
+    })
+
+record There (A : Type 0) (calls : List HouseCall) (l : Life) : Type 0 where
+  to : Place
+  is : l.to ≡ Some to
+  at : At A calls to l.relay.line l.relay.socket
+
+there : (A : Type 0) (calls : List HouseCall) (o : Option Place) (l : Life) → l.to ≡ o → offer l.relay.line ≡ true
+    → WiredTo A o calls l.dials l.relay.line l.relay.socket → There A calls l
+there A calls None l e is h = absurd (both_ways (offer l.relay.line) h is)
+there A calls (Some to) l e is h = record { to = to; is = e; at = h.1 }
+
+number-its : (n : ℕ) (own : Option OwnStream) → Some n ≡ number_of own → IsStream own n
+number-its n None e = tt
+number-its n (Some own) e = cc
+
+none-its : (n : ℕ) (own : Option OwnStream) → None ≡ number_of own → IsStream own n
+none-its n None e = tt
+none-its n (Some own) e = cc
+
+confirmation : (A : Type 0) (calls : List HouseCall) (lives : List Life) (bytes : List ℕ) → is_confirmation bytes ≡ true → (x : Speaker A calls lives bytes)
+    → Answers x.life.relay → IsConfirmationOf calls lives bytes
+confirmation A calls lives bytes is x (inl none) = absurd (both_ways (is_confirmation bytes) (ap is_confirmation x.says ∙ none.confirms_none) is)
+confirmation A calls lives bytes is x (inr (inr d)) =
+    absurd (both_ways (is_confirmation bytes) (ap is_confirmation x.says ∙ ap (λ (p : List ℕ). is_confirmation (framed p)) d.3.words) is)
+confirmation A calls lives bytes is x (inr (inl c)) =
+    let where_to = there A calls x.life.to x.life refl (ap offer c.3.line) x.wired_so in
+    record {
+      life = x.life;
+      remote = c.0;
+      to = where_to.to;
+      stream = c.3.stream;
+      unanswered = record {
+        before = x.before;
+        behind = x.behind;
+        were = x.were;
+        window = c.1;
+        maximum = c.2;
+        line = c.3.line;
+        there = where_to.is;
+      };
+      says = x.says ∙ ap framed c.3.words;
+      its = number-its c.3.stream x.life.own (sym (ap stream_of c.3.socket_is) ∙ x.sounds.stream);
+      writable = subst (λ (s : Socket). At A calls where_to.to x.life.relay.line s) c.3.socket_is where_to.at;
+    }
+
+lost-since : (A : Type 0) → A → (calls : List HouseCall) (l : Life) (to : Place) (remote window maximum : ℕ) (s : Socket) → is_broken s ≡ true
+    → stream_of s ≡ number_of l.own → At A calls to (Offered remote window maximum) s → HasNoNumber calls to ⊎ HasFailedSince calls l to
+lost-since A x calls l to remote window maximum socket.Unmade e same h = cc
+lost-since A x calls l to remote window maximum (socket.Connecting n) e same h = cc
+lost-since A x calls l to remote window maximum (socket.Open n) e same h = cc
+lost-since A x calls l to remote window maximum (socket.Failed n) e same h =
+    inr (record { stream = n; its = number-its n l.own same; failed = h })
+lost-since A x calls l to remote window maximum (socket.Surplus n) e same h = absurd h
+lost-since A x calls l to remote window maximum socket.Closed e same h = now (h x)
+  where
+    now : IsLost calls to → HasNoNumber calls to ⊎ HasFailedSince calls l to
+    now (inl h) = inl h
+    now (inr h) = inr (record { stream = h.0; its = none-its h.0 l.own same; failed = h.1 })
+
+failure : (A : Type 0) → A → (calls : List HouseCall) (lives : List Life) (bytes : List ℕ) → is_failure bytes ≡ true → (x : Speaker A calls lives bytes)
+    → Answers x.life.relay → IsFailureOf calls lives bytes
+failure A so calls lives bytes is x (inl none) = absurd (both_ways (is_failure bytes) (ap is_failure x.says ∙ none.fails_none) is)
+failure A so calls lives bytes is x (inr (inl c)) =
+    absurd (both_ways (is_failure bytes) (ap is_failure x.says ∙ ap (λ (p : List ℕ). is_failure (framed p)) c.3.words) is)
+failure A so calls lives bytes is x (inr (inr d)) =
+    let where_to = there A calls x.life.to x.life refl (ap offer d.3.line) x.wired_so in
+    record {
+      life = x.life;
+      remote = d.0;
+      to = where_to.to;
+      unanswered = record {
+        before = x.before;
+        behind = x.behind;
+        were = x.were;
+        window = d.1;
+        maximum = d.2;
+        line = d.3.line;
+        there = where_to.is;
+      };
+      says = x.says ∙ ap framed d.3.words;
+      cause = lost-since A so calls x.life where_to.to d.0 d.1 d.2 x.life.relay.socket d.3.broken x.sounds.stream
+          (subst (λ (line : Line). At A calls where_to.to line x.life.relay.socket) d.3.line where_to.at);
+    }
+
+speaks : (A : Type 0) (calls : List HouseCall) (course next : Course) (bytes : List ℕ) → (A → BringsNew [] calls)
+    → Reaches first_course calls course → Follows (Marks (HouseSaid bytes)) course next
+    → ((is_confirmation bytes ≡ false) × (is_failure bytes ≡ false)) ⊎ Speaker A calls course.lives bytes
+speaks A calls course next bytes brings reached h =
+    speaker A calls course.desk.greeted (find has_request course.desk.all) bytes course next h (all-sound calls course reached).lives
+    (pass-all A (Wired A) (wired A) calls course brings reached)
+
+pub confirms-connected : ConfirmsConnected
+confirms-connected calls course next bytes reached h is = by (speaks ⊥ calls course next bytes (λ x. absurd x) reached h)
+  where
+    by : ((is_confirmation bytes ≡ false) × (is_failure bytes ≡ false)) ⊎ Speaker ⊥ calls course.lives bytes
+        → IsConfirmationOf calls course.lives bytes
+    by (inl none) = absurd (both_ways (is_confirmation bytes) none.0 is)
+    by (inr x) = confirmation ⊥ calls course.lives bytes is x x.answers_so
+
+pub refuses-unconnected : RefusesUnconnected
+refuses-unconnected calls course next bytes brings reached h is = by (speaks (Unit {0}) calls course next bytes (λ x. brings) reached h)
+  where
+    by : ((is_confirmation bytes ≡ false) × (is_failure bytes ≡ false)) ⊎ Speaker (Unit {0}) calls course.lives bytes
+        → IsFailureOf calls course.lives bytes
+    by (inl none) = absurd (both_ways (is_failure bytes) none.1 is)
+    by (inr x) = failure (Unit {0}) tt calls course.lives bytes is x x.answers_so

@@ -1,0 +1,272 @@
+-- To where the OPENs are that the house says.
+use Rattle.std.proofs.Common.{◌≡◌, ◌∙◌, refl, sym, ap, subst, ◌⊎◌, inl, inr, ℕ, Bool, true, false, List, ◌∷◌, ◌++◌, Option, Some, None}
+use Rattle.std.specs.Prelude.{not, find, IfSome}
+use Rattle.std.proofs.lemmas.Bool.{both_ways}
+use Rattle.mux_outside.specs.HouseCalls.{HouseCall, Turns, Joined}
+use Rattle.mux_outside.specs.OwnStreams.{new_stream}
+use Rattle.mux_outside.specs.declared.own_streams.OwnStream.{OwnStream}
+use Rattle.house_relay.specs.Acts.{Act}
+use Rattle.house_relay.specs.Relay.{LineStands}
+use Rattle.house_relay.specs.Steps.{fresh_relay, DialsIn}
+use Rattle.house_relay.specs.declared.line.Line.{Line}
+use Rattle.house_relay.specs.declared.line.Line.TheVariants.{Dialing, Asked, Opened, Offered, Live, Over}
+use Rattle.house_relay.specs.declared.relay.Relay.{Relay}
+use Rattle.house_relay.specs.declared.relay.Socket.TheVariants as socket
+use Rattle.house_forward.specs.Forwardings.{has_request, has_listener}
+use Rattle.house_forward.specs.Links.{IsJoined, IsJoinedAt, IsDialed as DialsFor, IsSurplus}
+use Rattle.house_forward.specs.Lives.{Life, Course, GoesBy, Reaches, SaysBy, first_course}
+use Rattle.house_forward.specs.Lives.{is_stream, is_unmade, unmade, are_full, are_crowded, own_after, made_life}
+use Rattle.house_forward.specs.Opening.{OpensGoRight, is_open, may_open, IsBefore, IsJoinedFor, IsPlain, ConnectsTo, IsDynamic, IsDialed, IsOpenOf}
+use Rattle.house_forward.specs.Said.{framed, said_by}
+use Rattle.house_forward.specs.declared.forwarding.Forwarding.{Forwarding}
+use Rattle.house_forward.specs.declared.link.Step.{Step}
+use Rattle.house_forward.specs.declared.link.Step.TheVariants as step
+use Rattle.house_forward.specs.declared.rules.Kind.{Kind}
+use Rattle.house_forward.specs.declared.rules.Kind.TheVariants.{Local, Remote, Dynamic}
+use Rattle.house_forward.proofs.Connecting.{streamed, owned, step-made}
+use Rattle.house_forward.proofs.Fresh.{joined}
+use Rattle.house_forward.proofs.Keeping.{stays-heard}
+use Rattle.house_forward.proofs.Opening.{Settles, settles-hears, settles-takes, line-step, SaysOpen, spoken}
+use Rattle.house_forward.proofs.Sound.{Each, All, Sound, KeptSound, Both, with-sound, all-reach, each-back, joined_life, step_of}
+
+-- ---- where an OPEN is to be said, it is for what was joined
+
+abbrev RightFor : List HouseCall → Option OwnStream → List ℕ → ℕ → Option ℕ → Type 0
+RightFor calls own host port None = IsJoinedFor calls own (ConnectsTo host port)
+RightFor calls own host port (Some version) = IsJoinedFor calls own IsDynamic
+
+abbrev Right : List HouseCall → Option OwnStream → Line → Type 0
+Right calls own (Dialing dialog) = IsJoinedFor calls own IsDynamic
+Right calls own (Asked host port version) = RightFor calls own host port version
+Right calls own (Opened version) = Unit {0}
+Right calls own (Offered remote window maximum) = Unit {0}
+Right calls own (Live live) = Unit {0}
+Right calls own Over = Unit {0}
+
+record Aimed (calls : List HouseCall) (l : Life) : Type 0 where
+  right : Right calls l.own l.relay.line
+  unmade_none : is_unmade l ≡ true → may_open l.relay.line ≡ false
+
+none-right : (calls : List HouseCall) (own : Option OwnStream) (line : Line) → may_open line ≡ false → Right calls own line
+none-right calls own (Dialing dialog) e = cc
+none-right calls own (Asked host port version) e = cc
+none-right calls own (Opened version) e = tt
+none-right calls own (Offered remote window maximum) e = tt
+none-right calls own (Live live) e = tt
+none-right calls own Over e = tt
+
+settles-right : (calls : List HouseCall) (own : Option OwnStream) (old new : Line) → Settles old new → Right calls own old
+    → Right calls own new
+settles-right calls own old new (inl e) h = none-right calls own new e
+settles-right calls own old new (inr e) h = subst (Right calls own) (sym e) h
+
+settles-none : (old new : Line) → Settles old new → may_open old ≡ false → may_open new ≡ false
+settles-none old new (inl e) h = e
+settles-none old new (inr e) h = ap may_open e ∙ h
+
+-- its channel settles or stays, and so does all else
+aimed-on : (calls : List HouseCall) (so : Relay → Relay → Type 0) (act : Act) (a b : Life) → GoesBy so act a b
+    → Settles a.relay.line b.relay.line → b.relay.socket ≡ a.relay.socket → Aimed calls a → Aimed calls b
+aimed-on calls so act a b h settles same p = record {
+  right = subst (λ (own : Option OwnStream). Right calls own b.relay.line) (sym h.own)
+      (settles-right calls a.own a.relay.line b.relay.line settles p.right);
+  unmade_none = λ e. settles-none a.relay.line b.relay.line settles (p.unmade_none (ap unmade (sym same) ∙ e));
+}
+
+pub its-after : (s : Step) (own : Option OwnStream) (n : ℕ) → IfSome own (λ o. o.number ≡ n) → IfSome (own_after s own) (λ o. o.number ≡ n)
+its-after s None n h = tt
+its-after (step.Pause b) (Some own) n h = h
+its-after step.Finish (Some own) n h = h
+its-after step.End (Some own) n h = h
+its-after step.Close (Some own) n h = tt
+its-after step.Writable (Some own) n h = h
+its-after step.Failed (Some own) n h = h
+
+joined-after : (calls : List HouseCall) (s : Step) (own : Option OwnStream) (so : Forwarding → Type 0) → IsJoinedFor calls own so
+    → IsJoinedFor calls (own_after s own) so
+joined-after calls s own so h = record {
+  listener = h.listener;
+  stream = h.stream;
+  course = h.course;
+  forwarding = h.forwarding;
+  joined = h.joined;
+  found = h.found;
+  its = its-after s own h.stream h.its;
+  right = h.right;
+}
+
+asked-after : (calls : List HouseCall) (s : Step) (own : Option OwnStream) (host : List ℕ) (port : ℕ) (version : Option ℕ)
+    → RightFor calls own host port version → RightFor calls (own_after s own) host port version
+asked-after calls s own host port None h = joined-after calls s own (ConnectsTo host port) h
+asked-after calls s own host port (Some version) h = joined-after calls s own IsDynamic h
+
+right-after : (calls : List HouseCall) (s : Step) (own : Option OwnStream) (line : Line) → Right calls own line
+    → Right calls (own_after s own) line
+right-after calls s own (Dialing dialog) h = joined-after calls s own IsDynamic h
+right-after calls s own (Asked host port version) h = asked-after calls s own host port version h
+right-after calls s own (Opened version) h = tt
+right-after calls s own (Offered remote window maximum) h = tt
+right-after calls s own (Live live) h = tt
+right-after calls s own Over h = tt
+
+-- ---- its socket gives bytes
+
+asked-dialed : (calls : List HouseCall) (own : Option OwnStream) (host : List ℕ) (port : ℕ) (version : Option ℕ) (dials : Bool)
+    (acts : List Act) → LineStands (Asked host port version) dials acts → dials ≡ true → IsJoinedFor calls own IsDynamic
+    → RightFor calls own host port version
+asked-dialed calls own host port None dials acts stands e h = absurd (both_ways dials stands.waits e)
+asked-dialed calls own host port (Some version) dials acts stands e h = h
+
+dialed-right : (calls : List HouseCall) (own : Option OwnStream) (line : Line) (dials : Bool) (acts : List Act)
+    → LineStands line dials acts → dials ≡ true → IsJoinedFor calls own IsDynamic → Right calls own line
+dialed-right calls own (Dialing dialog) dials acts stands e h = h
+dialed-right calls own (Asked host port version) dials acts stands e h = asked-dialed calls own host port version dials acts stands e h
+dialed-right calls own (Opened version) dials acts stands e h = tt
+dialed-right calls own (Offered remote window maximum) dials acts stands e h = tt
+dialed-right calls own (Live live) dials acts stands e h = tt
+dialed-right calls own Over dials acts stands e h = tt
+
+gets-right : (calls : List HouseCall) (line : Line) (free : Bool) (bytes : List ℕ) (a b : Life) → a.relay.line ≡ line
+    → DialsIn line free bytes a.relay b.relay → Sound a → Sound b → b.dials ≡ a.dials → Right calls a.own line
+    → Right calls a.own b.relay.line
+gets-right calls (Dialing dialog) free bytes a b e h s s' same right =
+    let its : LineStands (Dialing dialog) a.dials a.acts = subst (λ (x : Line). LineStands x a.dials a.acts) e s.stands.line in
+    dialed-right calls a.own b.relay.line b.dials b.acts s'.stands.line (same ∙ its.socks) right
+gets-right calls (Asked host port version) free bytes a b e h s s' same right = subst (Right calls a.own) (sym (h.0 ∙ e)) right
+gets-right calls (Opened version) free bytes a b e h s s' same right = subst (Right calls a.own) (sym (h.0 ∙ e)) right
+gets-right calls (Offered remote window maximum) free bytes a b e h s s' same right = subst (Right calls a.own) (sym (h.0 ∙ e)) right
+gets-right calls (Live live) free bytes a b e h s s' same right = subst (Right calls a.own) (sym (h.0 ∙ e)) right
+gets-right calls Over free bytes a b e h s s' same right = subst (Right calls a.own) (sym (h.0 ∙ e)) right
+
+-- ---- one is joined
+
+surplus-right : (calls : List HouseCall) (t : ℕ) (r : Relay) → IsSurplus t r → Right calls (Some (new_stream t)) r.line
+surplus-right calls t r h = none-right calls (Some (new_stream t)) r.line (ap (λ (x : Relay). may_open x.line) h)
+
+record JoinedThere (calls : List HouseCall) (l t : ℕ) (f : Forwarding) : Type 0 where
+  course : Course
+  joined : IsBefore calls (Turns (Joined l t)) course
+  found : find (has_listener l) course.desk.all ≡ Some f
+
+joined-for : (calls : List HouseCall) (l t : ℕ) (f : Forwarding) (so : Forwarding → Type 0) → JoinedThere calls l t f → so f
+    → IsJoinedFor calls (Some (new_stream t)) so
+joined-for calls l t f so h right = record {
+  listener = l;
+  stream = t;
+  course = h.course;
+  forwarding = f;
+  joined = h.joined;
+  found = h.found;
+  its = refl;
+  right = right;
+}
+
+plain-right : (calls : List HouseCall) (l t : ℕ) (f : Forwarding) (r : Relay) → JoinedThere calls l t f → IsPlain f.kind
+    → r ≡ fresh_relay r.number (Asked f.connect_host f.connect_port None) (socket.Open t) → Right calls (Some (new_stream t)) r.line
+plain-right calls l t f r there plain e =
+    subst (Right calls (Some (new_stream t))) (sym (ap (λ (x : Relay). x.line) e))
+    (joined-for calls l t f (ConnectsTo f.connect_host f.connect_port) there (record { plain = plain; to_host = refl; to_port = refl }))
+
+dynamic-right : (calls : List HouseCall) (l t : ℕ) (f : Forwarding) (crowded : Bool) (r : Relay) → JoinedThere calls l t f → IsDynamic f
+    → DialsFor crowded t r → Right calls (Some (new_stream t)) r.line
+dynamic-right calls l t f true r there dynamic h = surplus-right calls t r h
+dynamic-right calls l t f false r there dynamic h =
+    subst (Right calls (Some (new_stream t))) (sym (ap (λ (x : Relay). x.line) h)) (joined-for calls l t f IsDynamic there dynamic)
+
+joined-at : (calls : List HouseCall) (l t : ℕ) (f : Forwarding) (kind : Kind) (crowded : Bool) (r : Relay) → JoinedThere calls l t f
+    → f.kind ≡ kind → IsJoinedAt kind crowded f t r → Right calls (Some (new_stream t)) r.line
+joined-at calls l t f Local crowded r there e h = plain-right calls l t f r there (subst IsPlain (sym e) tt) h
+joined-at calls l t f Remote crowded r there e h = plain-right calls l t f r there (subst IsPlain (sym e) tt) h
+joined-at calls l t f Dynamic crowded r there e h = dynamic-right calls l t f crowded r there e h
+
+joined-right : (calls : List HouseCall) (l t : ℕ) (full crowded : Bool) (o : Option Forwarding) (course : Course) (r : Relay)
+    → IsBefore calls (Turns (Joined l t)) course → find (has_listener l) course.desk.all ≡ o → IsJoined full crowded o t r
+    → Right calls (Some (new_stream t)) r.line
+joined-right calls l t true crowded o course r before e h = surplus-right calls t r h
+joined-right calls l t false crowded None course r before e h = surplus-right calls t r h
+joined-right calls l t false crowded (Some f) course r before e h =
+    joined-at calls l t f f.kind crowded r (record { course = course; joined = before; found = e }) refl h
+
+-- ---- all steps
+
+not-unmade : (l : Life) → is_unmade l ≡ false → is_unmade l ≡ true → may_open l.relay.line ≡ false
+not-unmade l e f = absurd (both_ways (is_unmade l) e f)
+
+made-none : (number : Option ℕ) (a : Life) → is_unmade (made_life number a) ≡ false
+made-none None a = refl
+made-none (Some t) a = refl
+
+aimed : (calls : List HouseCall) → KeptSound (IsBefore calls) (Aimed calls)
+aimed calls = record {
+  says = λ bytes a b s p is h. (
+      let none = ap (λ (r : Relay). may_open r.line) h.1.relay.0 ∙ (spoken a.relay is).settled in
+      record { right = none-right calls b.own b.relay.line none; unmade_none = λ e. none }
+      );
+  hears = λ m a b s p h. aimed-on calls _ _ a b h (settles-hears m a b h)
+      (ap (λ (r : Relay). r.socket) h.relay.0 ∙ (stays-heard m a.relay).socket_is) p;
+  gets = λ t bytes old now a b s s' p is h. record {
+    right = subst (λ (own : Option OwnStream). Right calls own b.relay.line) (sym h.own)
+        (gets-right calls a.relay.line (not (are_full old.lives)) bytes a b refl h.relay.0 s s' h.dials p.right);
+    unmade_none = not-unmade b (owned t b.own b.relay.socket (ap (is_stream t) h.own ∙ is) s'.stream);
+  };
+  takes = λ t n a b s p is h. aimed-on calls _ _ a b h (settles-takes n a b h) (ap (λ (r : Relay). r.socket) h.relay.0) p;
+  steps = λ s t call old now causes a sounds p is. record {
+    right = subst (Right calls (own_after s a.own)) (sym (line-step s a.relay)) (right-after calls s a.own a.relay.line p.right);
+    unmade_none = not-unmade (step_of s a) (step-made s a.relay (owned t a.own a.relay.socket is sounds.stream));
+  };
+  makes = λ host port number old now a s p is. record {
+    right = none-right calls (made_life number a).own a.relay.line (p.unmade_none is);
+    unmade_none = not-unmade (made_life number a) (made-none number a);
+  };
+  joins = λ l t old now r h. record {
+    right = joined-right calls l t (are_full old.lives) (are_crowded old.lives) (find (has_listener l) old.desk.all) old r now refl h;
+    unmade_none = not-unmade (joined_life t r)
+        (streamed r.socket t (joined (are_full old.lives) (are_crowded old.lives) (find (has_listener l) old.desk.all) t r h).stream);
+  };
+  offers = λ f number remote window maximum. record { right = tt; unmade_none = λ e. refl };
+}
+
+all-aimed : (calls : List HouseCall) (course : Course) → Reaches first_course calls course → All (Both (Aimed calls)) course
+all-aimed calls course h =
+    all-reach (IsBefore calls) (Both (Aimed calls)) (with-sound (IsBefore calls) (Aimed calls) (aimed calls)) calls first_course course
+    (λ before call behind mid e r. record { before = before; behind = behind; are = e; reached = r }) h
+    (record { lives = tt; past = tt })
+
+-- ---- what is said
+
+goes-to : (calls : List HouseCall) (l : Life) (host : List ℕ) (port : ℕ) (version : Option ℕ) → LineStands (Asked host port version) l.dials l.acts
+    → RightFor calls l.own host port version → IsJoinedFor calls l.own (ConnectsTo host port) ⊎ IsDialed calls l host port
+goes-to calls l host port None stands h = inl h
+goes-to calls l host port (Some version) stands h = inr (record { joined = h; asks = stands.waits.2 })
+
+says-right : (calls : List HouseCall) (lives before : List Life) (l : Life) (behind : List Life) (bytes : List ℕ)
+    → lives ≡ before ++ l ∷ behind → Both (Aimed calls) l → is_open bytes ≡ true → bytes ≡ framed (said_by l.relay)
+    → (is_open (framed (said_by l.relay)) ≡ false)
+    ⊎ ((host : List ℕ) × (port : ℕ) × (version : Option ℕ) × SaysOpen host port version l.relay)
+    → IsOpenOf calls lives bytes
+says-right calls lives before l behind bytes were p is e (inl none) =
+    absurd (both_ways (is_open (framed (said_by l.relay))) none (ap is_open (sym e) ∙ is))
+says-right calls lives before l behind bytes were p is e (inr x) = record {
+  before = before;
+  life = l;
+  behind = behind;
+  host = x.0;
+  port = x.1;
+  were = were;
+  says = e ∙ ap framed x.3.words;
+  goes = goes-to calls l x.0 x.1 x.2 (subst (λ (line : Line). LineStands line l.dials l.acts) x.3.asked p.0.stands.line)
+      (subst (Right calls l.own) x.3.asked p.1.right);
+}
+
+opens-right : (calls : List HouseCall) (b : Bool) (o : Option Forwarding) (bytes : List ℕ) (old new : Course)
+    → SaysBy b o bytes old new → Each (Both (Aimed calls)) old.lives → is_open bytes ≡ true → IsOpenOf calls old.lives bytes
+opens-right calls false o bytes old new h all is = absurd (both_ways (is_open bytes) (ap is_open h.0) is)
+opens-right calls true (Some f) bytes old new h all is = absurd (both_ways (is_open bytes) (ap is_open h.0) is)
+opens-right calls true None bytes old new h all is =
+    let one = h.1 in
+    let its = each-back (Both (Aimed calls)) one.before (one.life ∷ one.behind) (subst (Each (Both (Aimed calls))) one.were all) in
+    says-right calls old.lives one.before one.life one.behind bytes one.were its.0 is one.goes.0 (spoken one.life.relay one.is).either
+
+pub opens-go-right : OpensGoRight
+opens-go-right calls course next bytes reached h is =
+    opens-right calls course.desk.greeted (find has_request course.desk.all) bytes course next h (all-aimed calls course reached).lives is

@@ -1,0 +1,422 @@
+-- The OPENs that the house says.
+use Rattle.std.proofs.Common.{◌≡◌, ◌∙◌, refl, sym, ap, subst, ◌⊎◌, inl, inr, arith, ℕ, ◌+◌, ◌≤◌, Bool, true, false, cond, List, [], ◌∷◌, ◌++◌, length, map, filter, Option, Some, None}
+use Rattle.std.specs.Prelude.{not, if◌then◌else◌, find, is_some}
+use Rattle.conn_messages.specs.declared.message.Message.{Message}
+use Rattle.conn_messages.specs.declared.message.Message.TheVariants as message
+use Rattle.mux_outside.specs.HouseCalls.{HouseCall, Happening, Begins, Marks, Hears as HearsBytes, Turns, Takes as TakesBytes}
+use Rattle.mux_outside.specs.HouseCalls.{Joined, Got, End, Writable, Failed}
+use Rattle.mux_outside.specs.declared.house_mark.HouseMark.{HouseMark}
+use Rattle.mux_outside.specs.declared.house_mark.HouseMark.TheVariants.{HouseIn, HouseSaid, HouseTook, HouseAsked, HouseAnswer, HouseOrder}
+use Rattle.mux_outside.specs.declared.order.Order.{Order}
+use Rattle.mux_outside.specs.declared.order.Order.TheVariants as order
+use Rattle.house_relay.specs.Acts.{Reads, Takes}
+use Rattle.house_relay.specs.Line.{in_live, over_if, hears_close}
+use Rattle.house_relay.specs.Next.{says_of, says_offered}
+use Rattle.house_relay.specs.Relay.{delivers}
+use Rattle.house_relay.specs.Steps.{is_gone, said_of, confirmed_in, refused_in, data_heard, DialsIn}
+use Rattle.house_relay.specs.declared.line.Live.{Live as LiveState}
+use Rattle.house_relay.specs.declared.line.Line.{Line}
+use Rattle.house_relay.specs.declared.line.Line.TheVariants.{Dialing, Asked, Opened, Offered, Live, Over}
+use Rattle.house_relay.specs.declared.relay.Relay.{Relay}
+use Rattle.house_relay.specs.declared.relay.Saying.{Saying}
+use Rattle.house_relay.specs.declared.relay.Saying.TheVariants as saying
+use Rattle.house_forward.specs.Forwardings.{has_request}
+use Rattle.house_forward.specs.Going.{GetsOn, TakesOn}
+use Rattle.house_forward.specs.Heard.{heard_of}
+use Rattle.house_forward.specs.Links.{after_saying, relay_after}
+use Rattle.house_forward.specs.Lives.{Life, Course, GoesBy, One, OneAtMost, Speaks, Listens, StepsBy, MakesOne, Reaches, Follows, SaysBy, MarksIn, OrdersIn, TurnsTo, first_course, with_heard}
+use Rattle.house_forward.specs.Lives.{has_channel, has_stream, has_words, are_full, stepped, made_life, kept_in}
+use Rattle.house_forward.specs.Opening.{OneOpenAtMost, is_open, opens_by, opens_by_mark, opens_in, joins_by, joins_by_turn, joins_in, may_open, still_to_open}
+use Rattle.house_forward.specs.Said.{framed, said_by, direct, payload_of, payload_if}
+use Rattle.house_forward.specs.declared.forwarding.Forwarding.{Forwarding}
+use Rattle.house_forward.specs.declared.link.Step.{Step}
+use Rattle.house_forward.specs.declared.link.Step.TheVariants as step
+use Rattle.house_forward.proofs.Frames.{Heeds, frames}
+use Rattle.house_forward.proofs.Sound.{All, Sound, follow-sound, offered_life, joined_life, step_of}
+
+-- ---- where an OPEN is to be said, as the channel goes on
+
+abbrev opens : Line → ℕ
+opens line = cond (may_open line) 1 0
+
+one-most : (b : Bool) → cond b 1 0 ≤ 1
+one-most true = omega arith
+one-most false = omega arith
+
+-- it isn't to be from now on, or the channel stays
+abbrev pub Settles : Line → Line → Type 0
+Settles old new = (may_open new ≡ false) ⊎ (new ≡ old)
+
+settled-most : (old new : Line) → Settles old new → opens new ≤ opens old
+settled-most old new (inl e) = let none = ap {B = ℕ} (λ (b : Bool). cond b 1 0) e in omega (arith, none)
+settled-most old new (inr e) = let same = ap opens e in omega (arith, same)
+
+in-live : (step : LiveState → Line) (line : Line) → ((live : LiveState) → may_open (step live) ≡ false) → Settles line (in_live step line)
+in-live step (Dialing dialog) none = inr refl
+in-live step (Asked host port version) none = inr refl
+in-live step (Opened version) none = inr refl
+in-live step (Offered remote window maximum) none = inr refl
+in-live step (Live live) none = inl (none live)
+in-live step Over none = inr refl
+
+over-none : (b : Bool) (live : LiveState) → may_open (over_if b live) ≡ false
+over-none true live = refl
+over-none false live = refl
+
+confirmed : (line : Line) (remote window maximum : ℕ) (r : Relay) → Settles r.line (confirmed_in line remote window maximum r).line
+confirmed (Dialing dialog) remote window maximum r = inr refl
+confirmed (Asked host port version) remote window maximum r = inr refl
+confirmed (Opened version) remote window maximum r = inl refl
+confirmed (Offered theirs room most) remote window maximum r = inr refl
+confirmed (Live live) remote window maximum r = inr refl
+confirmed Over remote window maximum r = inr refl
+
+refused : (line : Line) (reason : ℕ) (r : Relay) → Settles r.line (refused_in line reason r).line
+refused (Dialing dialog) reason r = inr refl
+refused (Asked host port version) reason r = inr refl
+refused (Opened version) reason r = inl refl
+refused (Offered theirs room most) reason r = inr refl
+refused (Live live) reason r = inr refl
+refused Over reason r = inr refl
+
+pub data-same : (b : Bool) (bytes : List ℕ) (r : Relay) → (data_heard b bytes r).line ≡ r.line
+data-same true bytes r = refl
+data-same false bytes r = refl
+
+heard : (m : Message) (r : Relay) → Settles r.line (heard_of m r).line
+heard (message.Transport number rest) r = inr refl
+heard (message.GlobalRequest name want rest what) r = inr refl
+heard (message.RequestSuccess rest) r = inr refl
+heard message.RequestFailure r = inr refl
+heard (message.Open kind sender window maximum rest what) r = inr refl
+heard (message.Confirmation recipient sender window maximum rest) r = confirmed r.line sender window maximum r
+heard (message.OpenFailure recipient reason text language) r = refused r.line reason r
+heard (message.Adjust recipient add) r = in-live _ r.line (λ live. refl)
+heard (message.Data recipient bytes) r = inr (data-same (delivers r) bytes.now r)
+heard (message.Extended recipient code bytes) r = inr refl
+heard (message.Eof recipient) r = in-live _ r.line (λ live. refl)
+heard (message.Close recipient) r = in-live hears_close r.line (λ live. over-none live.close_said _)
+heard (message.Request recipient kind want rest) r = in-live _ r.line (λ live. refl)
+heard (message.Success recipient) r = inr refl
+heard (message.Failure recipient) r = inr refl
+
+pub settles-hears : (m : Message) (a b : Life) → Listens m a b → Settles a.relay.line b.relay.line
+settles-hears m a b h = subst (λ (r : Relay). Settles a.relay.line r.line) (sym h.relay.0) (heard m a.relay)
+
+pub settles-takes : (n : ℕ) (a b : Life) → GoesBy (TakesOn n) (Takes n) a b → Settles a.relay.line b.relay.line
+settles-takes n a b h =
+    subst (λ (r : Relay). Settles a.relay.line r.line) (sym h.relay.0) (in-live _ a.relay.line (λ live. refl))
+
+pub line-step : (s : Step) (r : Relay) → (relay_after s r).line ≡ r.line
+line-step (step.Pause b) r = refl
+line-step step.Finish r = refl
+line-step step.End r = refl
+line-step step.Close r = refl
+line-step step.Writable r = refl
+line-step step.Failed r = refl
+
+-- what isn't dialing keeps its channel as its socket gives bytes
+gets-line : (line : Line) (free : Bool) (bytes : List ℕ) (old new : Relay) → old.line ≡ line → DialsIn line free bytes old new
+    → opens new.line ≤ opens line
+gets-line (Dialing dialog) free bytes old new e h = one-most (may_open new.line)
+gets-line (Asked host port version) free bytes old new e h = one-most (may_open new.line)
+gets-line (Opened version) free bytes old new e h = let same = ap opens (h.0 ∙ e) in omega (arith, same)
+gets-line (Offered remote window maximum) free bytes old new e h = let same = ap opens (h.0 ∙ e) in omega (arith, same)
+gets-line (Live live) free bytes old new e h = let same = ap opens (h.0 ∙ e) in omega (arith, same)
+gets-line Over free bytes old new e h = let same = ap opens (h.0 ∙ e) in omega (arith, same)
+
+-- ---- what is said
+
+abbrev opening : List ℕ → ℕ
+opening bytes = if is_open bytes then 1 else 0
+
+abbrev with-line : Line → Relay → Relay
+with-line line r = record r { line = line }
+
+-- in a channel that is confirmed, or offered, no OPEN is said
+live-none : (s : Saying) (live : LiveState) (r : Relay) → is_open (framed (payload_of (with-line (Live live) r) s)) ≡ false
+live-none saying.Open live r = refl
+live-none saying.Confirmation live r = refl
+live-none saying.OpenFailure live r = refl
+live-none saying.Close live r = refl
+live-none saying.Failure live r = refl
+live-none (saying.Data n) live r = refl
+live-none saying.Eof live r = refl
+live-none (saying.Adjust n) live r = refl
+
+offered-none : (s : Saying) (remote window maximum : ℕ) (r : Relay)
+    → is_open (framed (payload_of (with-line (Offered remote window maximum) r) s)) ≡ false
+offered-none saying.Open remote window maximum r = refl
+offered-none saying.Confirmation remote window maximum r = refl
+offered-none saying.OpenFailure remote window maximum r = refl
+offered-none saying.Close remote window maximum r = refl
+offered-none saying.Failure remote window maximum r = refl
+offered-none (saying.Data n) remote window maximum r = refl
+offered-none saying.Eof remote window maximum r = refl
+offered-none (saying.Adjust n) remote window maximum r = refl
+
+live-said : (s : Saying) (live : LiveState) (r : Relay) → may_open (said_of s (with-line (Live live) r)).line ≡ false
+live-said saying.Open live r = refl
+live-said saying.Confirmation live r = refl
+live-said saying.OpenFailure live r = refl
+live-said saying.Close live r = over-none live.close_heard _
+live-said saying.Failure live r = refl
+live-said (saying.Data n) live r = refl
+live-said saying.Eof live r = refl
+live-said (saying.Adjust n) live r = refl
+
+offered-said : (s : Saying) (remote window maximum : ℕ) (r : Relay)
+    → may_open (said_of s (with-line (Offered remote window maximum) r)).line ≡ false
+offered-said saying.Open remote window maximum r = refl
+offered-said saying.Confirmation remote window maximum r = refl
+offered-said saying.OpenFailure remote window maximum r = refl
+offered-said saying.Close remote window maximum r = refl
+offered-said saying.Failure remote window maximum r = refl
+offered-said (saying.Data n) remote window maximum r = refl
+offered-said saying.Eof remote window maximum r = refl
+offered-said (saying.Adjust n) remote window maximum r = refl
+
+-- what is said in a channel in which an OPEN is to be said is that OPEN, and it is none in another
+pub record SaysOpen (host : List ℕ) (port : ℕ) (version : Option ℕ) (r : Relay) : Type 0 where
+  pub asked : r.line ≡ Asked host port version
+  pub words : said_by r ≡ direct r.number host port
+
+pub record Spoken (r : Relay) : Type 0 where
+  pub settled : may_open (after_saying (says_of r) r).line ≡ false
+  pub either : (is_open (framed (said_by r)) ≡ false)
+      ⊎ ((host : List ℕ) × (port : ℕ) × (version : Option ℕ) × SaysOpen host port version r)
+
+live-spoken : (live : LiveState) (r : Relay) (o : Option Saying) → is_some o ≡ true
+    → (may_open (after_saying o (with-line (Live live) r)).line ≡ false)
+    × (is_open (framed (payload_if (with-line (Live live) r) o)) ≡ false)
+live-spoken live r None e = cc
+live-spoken live r (Some s) e = (live-said s live r, live-none s live r)
+
+offered-spoken : (remote window maximum : ℕ) (r : Relay) (o : Option Saying) → is_some o ≡ true
+    → (may_open (after_saying o (with-line (Offered remote window maximum) r)).line ≡ false)
+    × (is_open (framed (payload_if (with-line (Offered remote window maximum) r) o)) ≡ false)
+offered-spoken remote window maximum r None e = cc
+offered-spoken remote window maximum r (Some s) e = (offered-said s remote window maximum r, offered-none s remote window maximum r)
+
+spoken-in : (line : Line) (r : Relay) → is_some (says_of (with-line line r)) ≡ true → Spoken (with-line line r)
+spoken-in (Dialing dialog) r e = cc
+spoken-in (Asked host port version) r e =
+    record { settled = refl; either = inr (host, port, version, record { asked = refl; words = refl }) }
+spoken-in (Opened version) r e = cc
+spoken-in (Offered remote window maximum) r e =
+    let both = offered-spoken remote window maximum r (says_offered r.socket) e in record { settled = both.0; either = inl both.1 }
+spoken-in (Live live) r e =
+    let both = live-spoken live r (says_of (with-line (Live live) r)) e in record { settled = both.0; either = inl both.1 }
+spoken-in Over r e = cc
+
+pub spoken : (r : Relay) → is_some (says_of r) ≡ true → Spoken r
+spoken r e = spoken-in r.line r e
+
+-- ---- how many there are
+
+abbrev one : Life → ℕ
+one l = opens l.relay.line
+
+abbrev count : List Life → ℕ
+count [] = 0
+count (l ∷ ls) = one l + count ls
+
+counted-if : (b : Bool) (l : Life) (ls : List Life) → length (cond b (l ∷ ls) ls) ≡ cond b 1 0 + length ls
+counted-if true l ls = omega arith
+counted-if false l ls = omega arith
+
+counted : (ls : List Life) → still_to_open ls ≡ count ls
+counted [] = refl
+counted (l ∷ ls) =
+    let rest = counted ls in
+    let all = counted-if (may_open l.relay.line) l (filter (λ (x : Life). may_open x.relay.line) ls) in
+    omega (arith, rest, all)
+
+count-append : (xs ys : List Life) → count (xs ++ ys) ≡ count xs + count ys
+count-append [] ys = omega arith
+count-append (x ∷ xs) ys = let rest = count-append xs ys in omega (arith, rest)
+
+count-one : (which : Life → Bool) (so : Life → Life → Type 0) (old new : List Life) (k : ℕ)
+    → ((a b : Life) → which a ≡ true → so a b → k + one b ≤ one a) → One which so old new → k + count new ≤ count old
+count-one which so old new k less h =
+    let its = less h.life h.next h.is h.goes in
+    let were = ap count h.were in
+    let are = ap count h.are in
+    let a = count-append h.before (h.life ∷ h.behind) in
+    let b = count-append h.before (h.next ∷ h.behind) in
+    omega (arith, its, were, are, a, b)
+
+count-most : (which : Life → Bool) (so : Life → Life → Type 0) (old new : List Life)
+    → ((a b : Life) → which a ≡ true → so a b → one b ≤ one a) → OneAtMost which so old new → count new ≤ count old
+count-most which so old new less (inl h) =
+    let all = count-one which so old new 0 (λ a b is goes. (let its = less a b is goes in omega (arith, its))) h in omega (arith, all)
+count-most which so old new less (inr h) = let same = ap count h.1 in omega (arith, same)
+
+kept-if : (b : Bool) (l : Life) (ls more : List Life) → count more ≤ count ls
+    → count (if b then ls else l ∷ more) ≤ one l + count ls
+kept-if true l ls more h = omega arith
+kept-if false l ls more h = omega (arith, h)
+
+count-kept : (ls : List Life) → count (kept_in ls) ≤ count ls
+count-kept [] = omega arith
+count-kept (l ∷ ls) = kept-if (is_gone l.relay) l ls (kept_in ls) (count-kept ls)
+
+stepped-one : (s : Step) (b : Bool) (l : Life) → one (if b then step_of s l else l) ≡ one l
+stepped-one s true l = ap opens (line-step s l.relay)
+stepped-one s false l = refl
+
+count-stepped : (s : Step) (t : ℕ) (ls : List Life) → count (map (stepped s t) ls) ≡ count ls
+count-stepped s t [] = refl
+count-stepped s t (l ∷ ls) =
+    let its = stepped-one s (has_stream t l) l in
+    let rest = count-stepped s t ls in
+    omega (arith, its, rest)
+
+hears-one : (m : Message) (a b : Life) → Listens m a b → one b ≤ one a
+hears-one m a b h = settled-most a.relay.line b.relay.line (settles-hears m a b h)
+
+takes-one : (n : ℕ) (a b : Life) → GoesBy (TakesOn n) (Takes n) a b → one b ≤ one a
+takes-one n a b h = settled-most a.relay.line b.relay.line (settles-takes n a b h)
+
+gets-one : (free : Bool) (bytes : List ℕ) (a b : Life) → GoesBy (GetsOn free bytes) (Reads bytes) a b → one b ≤ one a
+gets-one free bytes a b h = gets-line a.relay.line free bytes a.relay b.relay refl h.relay.0
+
+says-after : (r : Relay) → Spoken r → opening (framed (said_by r)) + opens (after_saying (says_of r) r).line ≤ opens r.line
+says-after r h = by h.either
+  where
+    none : opens (after_saying (says_of r) r).line ≡ 0
+    none = ap {B = ℕ} (λ (b : Bool). cond b 1 0) h.settled
+
+    by : (is_open (framed (said_by r)) ≡ false)
+        ⊎ ((host : List ℕ) × (port : ℕ) × (version : Option ℕ) × SaysOpen host port version r)
+        → opening (framed (said_by r)) + opens (after_saying (says_of r) r).line ≤ opens r.line
+    by (inl e) =
+        let no = ap {B = ℕ} (λ (b : Bool). cond b 1 0) e in
+        let its = none in
+        omega (arith, no, its)
+    by (inr x) =
+        let asked = ap opens x.3.asked in
+        let most = one-most (is_open (framed (said_by r))) in
+        let its = none in
+        omega (arith, asked, most, its)
+
+says-one : (bytes : List ℕ) (a b : Life) → has_words a ≡ true → Speaks bytes a b → opening bytes + one b ≤ one a
+says-one bytes a b is h =
+    let its = says-after a.relay (spoken a.relay is) in
+    let said = ap opening h.0 in
+    let line = ap (λ (r : Relay). opens r.line) h.1.relay.0 in
+    omega (arith, its, said, line)
+
+heeds : (most : ℕ) → Heeds (λ ls taken. count ls ≤ most)
+heeds most = record {
+  hears = λ n m old new taken sounds h goes. (
+      let less = count-most (has_channel n) (Listens m) old new (λ a b is on. hears-one m a b on) (inl goes) in
+      let kept = count-kept new in
+      omega (arith, h, less, kept)
+      );
+  offers = λ f number remote window maximum old taken free h. (
+      let more = count-append old (offered_life f number remote window maximum ∷ []) in
+      omega (arith, h, more)
+      );
+}
+
+-- ---- by the calls
+
+says-count : (b : Bool) (o : Option Forwarding) (bytes : List ℕ) (old new : Course) → SaysBy b o bytes old new
+    → opening bytes + count new.lives ≤ count old.lives
+says-count false o bytes old new h =
+    let same = ap (λ (c : Course). count c.lives) h.1 in
+    let none = ap opening h.0 in
+    omega (arith, same, none)
+says-count true (Some f) bytes old new h =
+    let same = ap (λ (c : Course). count c.lives) h.1 in
+    let none = ap opening h.0 in
+    omega (arith, same, none)
+says-count true None bytes old new h =
+    let less = count-one has_words (Speaks bytes) old.lives h.0 (opening bytes) (says-one bytes) h.1 in
+    let kept = count-kept h.0 in
+    let are = ap (λ (c : Course). count c.lives) h.2 in
+    omega (arith, less, kept, are)
+
+steps-count : (o : Order) (s : Step) (t : ℕ) (old new : Course) → StepsBy o s t old new → count new.lives ≤ count old.lives
+steps-count o s t old new h =
+    let same = count-stepped s t old.lives in
+    let kept = count-kept (map (stepped s t) old.lives) in
+    let are = ap (λ (c : Course). count c.lives) h.1 in
+    omega (arith, same, kept, are)
+
+makes-count : (host : List ℕ) (port : ℕ) (number : Option ℕ) (old new : Course) → MakesOne host port number old new
+    → count new.lives ≤ count old.lives
+makes-count host port number old new h =
+    let were = ap count h.were in
+    let are = ap (λ (c : Course). count c.lives) h.are in
+    let a = count-append h.before (h.life ∷ h.behind) in
+    let b = count-append (h.before ++ h.behind) (made_life number h.life ∷ []) in
+    let c = count-append h.before h.behind in
+    omega (arith, were, are, a, b, c)
+
+same-count : (old new : Course) → new.lives ≡ old.lives → count new.lives ≤ count old.lives
+same-count old new e = let same = ap count e in omega (arith, same)
+
+orders-count : (o : Order) (number : Option ℕ) (old new : Course) → OrdersIn o number old new → count new.lives ≤ count old.lives
+orders-count (order.Listen host port) number old new h = same-count old new (ap (λ (c : Course). c.lives) h.2)
+orders-count (order.Connect host port) number old new h = makes-count host port number old new h
+orders-count (order.Unlisten l) number old new h = same-count old new (ap (λ (c : Course). c.lives) h.2)
+orders-count (order.Pause t) number old new h = steps-count (order.Pause t) (step.Pause true) t old new h
+orders-count (order.Resume t) number old new h = steps-count (order.Resume t) (step.Pause false) t old new h
+orders-count (order.Finish t) number old new h = steps-count (order.Finish t) step.Finish t old new h
+orders-count (order.Close t) number old new h = steps-count (order.Close t) step.Close t old new h
+
+marks-count : (mark : HouseMark) (old new : Course) → MarksIn mark old new → opens_by_mark mark + count new.lives ≤ count old.lives
+marks-count HouseIn old new h = let all = same-count old new (ap (λ (c : Course). c.lives) h) in omega (arith, all)
+marks-count (HouseSaid bytes) old new h = says-count old.desk.greeted (find has_request old.desk.all) bytes old new h
+marks-count (HouseTook size) old new h = let all = same-count old new (ap (λ (c : Course). c.lives) h) in omega (arith, all)
+marks-count (HouseAsked client id opening ask reply) old new h =
+    let all = same-count old new (ap (λ (c : Course). c.lives) h.2) in omega (arith, all)
+marks-count (HouseAnswer client id reply) old new h =
+    let all = same-count old new (ap (λ (c : Course). c.lives) h.2) in omega (arith, all)
+marks-count (HouseOrder o number) old new h = let all = orders-count o number old new h in omega (arith, all)
+
+turns-count : (happening : Happening) (fs : List Forwarding) (old new : List Life) → TurnsTo happening fs old new
+    → count new ≤ joins_by_turn happening + count old
+turns-count (Joined l t) fs old new h =
+    let more = count-append old (joined_life t h.relay ∷ []) in
+    let most = one-most (may_open h.relay.line) in
+    let are = ap count h.more in
+    omega (arith, more, most, are)
+turns-count (Got t bytes) fs old new h =
+    let less = count-most (has_stream t) _ old new (λ a b is goes. gets-one (not (are_full old)) bytes a b goes) h in omega (arith, less)
+turns-count (End t) fs old new h = let are = ap count h in let same = count-stepped step.End t old in omega (arith, are, same)
+turns-count (Writable t) fs old new h = let are = ap count h in let same = count-stepped step.Writable t old in omega (arith, are, same)
+turns-count (Failed t) fs old new h = let are = ap count h in let same = count-stepped step.Failed t old in omega (arith, are, same)
+
+follow-count : (call : HouseCall) (old new : Course) → Follows call old new → All Sound old
+    → opens_by call + count new.lives ≤ joins_by call + count old.lives
+follow-count (Begins starts) old new h s = let all = same-count old new (ap (λ (c : Course). c.lives) h.2) in omega (arith, all)
+follow-count (Marks mark) old new h s = let all = marks-count mark old new h in omega (arith, all)
+follow-count (HearsBytes bytes) old new h s =
+    let all = frames (λ ls taken. count ls ≤ count old.lives) (heeds (count old.lives)) h.0 (with_heard bytes old) new [] h.1
+    (record { lives = s.lives; past = s.past }) (omega arith) in
+    omega (arith, all)
+follow-count (Turns happening) old new h s =
+    let all = turns-count happening old.desk.all old.lives h.0 h.1 in
+    let are = ap (λ (c : Course). count c.lives) h.2 in
+    omega (arith, all, are)
+follow-count (TakesBytes t n) old new h s =
+    let less = count-most (has_stream t) (GoesBy (TakesOn n) (Takes n)) old.lives h.0 (λ a b is goes. takes-one n a b goes) h.1 in
+    let are = ap (λ (c : Course). count c.lives) h.2 in
+    omega (arith, less, are)
+
+reach-count : (calls : List HouseCall) (old new : Course) → Reaches old calls new → All Sound old
+    → opens_in calls + count new.lives ≤ joins_in calls + count old.lives
+reach-count [] old new h s = let all = same-count old new (ap (λ (c : Course). c.lives) h) in omega (arith, all)
+reach-count (call ∷ calls) old new h s =
+    let first = follow-count call old h.0 h.1 s in
+    let rest = reach-count calls h.0 new h.2 (follow-sound call old h.0 h.1 s) in
+    omega (arith, first, rest)
+
+pub one-open-at-most : OneOpenAtMost
+one-open-at-most calls course h =
+    let all = reach-count calls first_course course h (record { lives = tt; past = tt }) in
+    let same = counted course.lives in
+    omega (arith, all, same)

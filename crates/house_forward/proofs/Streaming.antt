@@ -1,0 +1,311 @@
+-- What the relays read and took is what their streams gave and took.
+use Rattle.std.proofs.Common.{◌≡◌, ◌∙◌, refl, sym, ap, subst, arith, ℕ, ◌+◌, Bool, true, false, List, [], ◌∷◌, ◌++◌, append_assoc, Option, Some, None}
+use Rattle.std.specs.Prelude.{◌==◌, if◌then◌else◌, IfSome}
+use Rattle.std.specs.List.{All}
+use Rattle.std.proofs.lemmas.List.{append-nil}
+use Rattle.std.proofs.lemmas.List.Elements.{All-nil, All-cons}
+use Rattle.conn_messages.specs.declared.message.Message.{Message}
+use Rattle.conn_messages.specs.declared.message.Message.TheVariants as message
+use Rattle.mux_outside.specs.HouseCalls.{HouseCall, Begins, Marks, Hears as HearsBytes, Turns, Takes as TakesBytes}
+use Rattle.mux_outside.specs.HouseCalls.{Joined, Got, End, Writable, Failed}
+use Rattle.mux_outside.specs.declared.house_mark.HouseMark.TheVariants.{HouseOrder}
+use Rattle.mux_outside.specs.declared.order.Order.TheVariants as order
+use Rattle.mux_outside.specs.declared.own_streams.OwnStream.{OwnStream}
+use Rattle.house_relay.specs.Acts.{Act, Reads, Takes, Confirms, Refuses, Delivers, HearsEof, HearsClose, Other, read, taken}
+use Rattle.house_relay.specs.Next.{says_of}
+use Rattle.house_relay.specs.Relay.{stream_of, delivers, answered_in, heard_in, said_act}
+use Rattle.house_relay.specs.Steps.{made_as}
+use Rattle.house_relay.specs.declared.line.Line.{Line}
+use Rattle.house_relay.specs.declared.line.Line.TheVariants.{Dialing, Asked, Opened, Offered, Live, Over}
+use Rattle.house_relay.specs.declared.relay.Relay.{Relay}
+use Rattle.house_relay.specs.declared.relay.Saying.{Saying}
+use Rattle.house_relay.specs.declared.relay.Saying.TheVariants as saying
+use Rattle.house_relay.specs.declared.relay.Socket.{Socket}
+use Rattle.house_relay.specs.declared.relay.Socket.TheVariants as socket
+use Rattle.house_forward.specs.Going.{act_of_saying}
+use Rattle.house_forward.specs.Heard.{act_heard}
+use Rattle.house_forward.specs.Links.{relay_after}
+use Rattle.house_forward.specs.Lives.{Life, Course, GoesBy}
+use Rattle.house_forward.specs.Lives.{is_stream, unmade, own_after, own_made, act_of, made_life}
+use Rattle.house_forward.specs.Numbers.{open_streams, number_of, made_by}
+use Rattle.house_forward.specs.Streaming.{EachHasItsStream, IsOf, got_in, got_call, took_in, took_call}
+use Rattle.house_forward.specs.declared.link.Step.{Step}
+use Rattle.house_forward.specs.declared.link.Step.TheVariants as step
+use Rattle.house_forward.proofs.Differing.{Apart}
+use Rattle.house_forward.proofs.Keeping.{none-heard, none-after, stays-heard, stays-after}
+use Rattle.house_forward.proofs.Passing.{Passes, Untouched, Orders, pass-all}
+use Rattle.house_forward.proofs.Sound.{Each}
+
+-- ---- what a step reads
+
+read-answered : (line : Line) (act : Act) (acts : List Act) → read (act ∷ acts) ≡ read acts → read (answered_in line act ∷ acts) ≡ read acts
+read-answered (Dialing dialog) act acts e = refl
+read-answered (Asked host port version) act acts e = refl
+read-answered (Opened version) act acts e = e
+read-answered (Offered remote window maximum) act acts e = refl
+read-answered (Live live) act acts e = refl
+read-answered Over act acts e = refl
+
+read-in : (line : Line) (act : Act) (acts : List Act) → read (act ∷ acts) ≡ read acts → read (heard_in line act ∷ acts) ≡ read acts
+read-in (Dialing dialog) act acts e = refl
+read-in (Asked host port version) act acts e = refl
+read-in (Opened version) act acts e = refl
+read-in (Offered remote window maximum) act acts e = refl
+read-in (Live live) act acts e = e
+read-in Over act acts e = refl
+
+read-data : (b : Bool) (bytes : List ℕ) (acts : List Act) → read ((if b then Delivers bytes else Other) ∷ acts) ≡ read acts
+read-data true bytes acts = refl
+read-data false bytes acts = refl
+
+read-heard : (m : Message) (r : Relay) (acts : List Act) → read (act_heard m r ∷ acts) ≡ read acts
+read-heard (message.Transport number rest) r acts = refl
+read-heard (message.GlobalRequest name want rest what) r acts = refl
+read-heard (message.RequestSuccess rest) r acts = refl
+read-heard message.RequestFailure r acts = refl
+read-heard (message.Open kind sender window maximum rest what) r acts = refl
+read-heard (message.Confirmation recipient sender window maximum rest) r acts = read-answered r.line Confirms acts refl
+read-heard (message.OpenFailure recipient reason text language) r acts = read-answered r.line (Refuses reason) acts refl
+read-heard (message.Adjust recipient add) r acts = refl
+read-heard (message.Data recipient bytes) r acts = read-data (delivers r) bytes.now acts
+read-heard (message.Extended recipient code bytes) r acts = refl
+read-heard (message.Eof recipient) r acts = read-in r.line HearsEof acts refl
+read-heard (message.Close recipient) r acts = read-in r.line HearsClose acts refl
+read-heard (message.Request recipient kind want rest) r acts = refl
+read-heard (message.Success recipient) r acts = refl
+read-heard (message.Failure recipient) r acts = refl
+
+read-said : (s : Saying) (r : Relay) (acts : List Act) → read (said_act s r ∷ acts) ≡ read acts
+read-said saying.Open r acts = refl
+read-said saying.Confirmation r acts = refl
+read-said saying.OpenFailure r acts = refl
+read-said saying.Close r acts = refl
+read-said saying.Failure r acts = refl
+read-said (saying.Data n) r acts = refl
+read-said saying.Eof r acts = refl
+read-said (saying.Adjust n) r acts = refl
+
+read-after : (o : Option Saying) (r : Relay) (acts : List Act) → read (act_of_saying o r ∷ acts) ≡ read acts
+read-after None r acts = refl
+read-after (Some s) r acts = read-said s r acts
+
+-- ---- more calls
+
+got-more : (s : ℕ) (calls : List HouseCall) (call : HouseCall) → got_in s (calls ++ call ∷ []) ≡ got_in s calls ++ got_call s call
+got-more s [] call = append-nil (got_call s call)
+got-more s (c ∷ calls) call =
+    ap (λ bs. got_call s c ++ bs) (got-more s calls call) ∙ sym (append_assoc (got_call s c) (got_in s calls) (got_call s call))
+
+took-more : (s : ℕ) (calls : List HouseCall) (call : HouseCall) → took_in s (calls ++ call ∷ []) ≡ took_in s calls + took_call s call
+took-more s [] call = omega arith
+took-more s (c ∷ calls) call = let rest = took-more s calls call in omega (arith, rest)
+
+-- a call in which so much was given and taken
+of-more : (calls : List HouseCall) (call : HouseCall) (t : ℕ) (old new : List Act) → read new ≡ read old ++ got_call t call
+    → taken new ≡ taken old + took_call t call → IsOf calls t old → IsOf (calls ++ call ∷ []) t new
+of-more calls call t old new e f h = record {
+  before = h.before;
+  birth = h.birth;
+  since = h.since ++ call ∷ [];
+  are = ap (λ (cs : List HouseCall). cs ++ call ∷ []) h.are ∙ append_assoc h.before (h.birth ∷ h.since) (call ∷ []);
+  brings = h.brings;
+  reads = e ∙ ap (λ bs. bs ++ got_call t call) h.reads ∙ sym (got-more t h.since call);
+  takes = f ∙ ap (λ n. n + took_call t call) h.takes ∙ sym (took-more t h.since call);
+}
+
+of-acts : (calls : List HouseCall) (t : ℕ) (old new : List Act) → read new ≡ read old → taken new ≡ taken old → IsOf calls t old → IsOf calls t new
+of-acts calls t old new e f h = record {
+  before = h.before;
+  birth = h.birth;
+  since = h.since;
+  are = h.are;
+  brings = h.brings;
+  reads = e ∙ h.reads;
+  takes = f ∙ h.takes;
+}
+
+-- nothing was
+of-none : (calls : List HouseCall) (call : HouseCall) (t : ℕ) (acts : List Act) → got_call t call ≡ [] → took_call t call ≡ 0 → IsOf calls t acts
+    → IsOf (calls ++ call ∷ []) t acts
+of-none calls call t acts e f h =
+    of-more calls call t acts acts (sym (append-nil (read acts)) ∙ ap (λ bs. read acts ++ bs) (sym e)) (omega (arith, f)) h
+
+-- ---- of a relay
+
+record Fresh (acts : List Act) : Type 0 where
+  reads : read acts ≡ []
+  takes : taken acts ≡ 0
+
+abbrev FedBy : Option OwnStream → List HouseCall → Socket → List Act → Type 0
+FedBy None calls s acts = unmade s ≡ true → Fresh acts
+FedBy (Some own) calls s acts = IsOf calls own.number acts
+
+abbrev Fed : List HouseCall → Life → Type 0
+Fed calls l = FedBy l.own calls l.relay.socket l.acts
+
+record Silent (t : ℕ) (call : HouseCall) : Type 0 where
+  gives : got_call t call ≡ []
+  takes : took_call t call ≡ 0
+
+fed-more : (calls : List HouseCall) (call : HouseCall) (o : Option OwnStream) (s : Socket) (acts : List Act)
+    → ((own : OwnStream) → o ≡ Some own → Silent own.number call) → FedBy o calls s acts → FedBy o (calls ++ call ∷ []) s acts
+fed-more calls call None s acts silent h = h
+fed-more calls call (Some own) s acts silent h =
+    let its = silent own refl in of-none calls call own.number acts its.gives its.takes h
+
+fed-acts : (calls : List HouseCall) (o : Option OwnStream) (s : Socket) (old new : List Act) → read new ≡ read old → taken new ≡ taken old
+    → FedBy o calls s old → FedBy o calls s new
+fed-acts calls None s old new e f h = λ is. (let its = h is in record { reads = e ∙ its.reads; takes = f ∙ its.takes })
+fed-acts calls (Some own) s old new e f h = of-acts calls own.number old new e f h
+
+-- where its socket stays, and nothing is read or taken
+fed-on : (calls : List HouseCall) (so : Relay → Relay → Type 0) (act : Act) (a b : Life) → GoesBy so act a b
+    → b.relay.socket ≡ a.relay.socket → read (act ∷ a.acts) ≡ read a.acts → taken (act ∷ a.acts) ≡ taken a.acts → Fed calls a → Fed calls b
+fed-on calls so act a b h same e f p =
+    subst (λ (o : Option OwnStream). FedBy o calls b.relay.socket b.acts) (sym h.own)
+    (subst (λ (s : Socket). FedBy a.own calls s b.acts) (sym same)
+    (fed-acts calls a.own a.relay.socket a.acts b.acts (ap read h.acts ∙ e) (ap taken h.acts ∙ f) p))
+
+untouched : (call : HouseCall) (old : Course) (a : Life) → Apart (open_streams old.lives) → Untouched call old a → (own : OwnStream)
+    → a.own ≡ Some own → Silent own.number call
+untouched (Begins starts) old a apart u own e = record { gives = refl; takes = refl }
+untouched (Marks mark) old a apart u own e = record { gives = refl; takes = refl }
+untouched (HearsBytes bytes) old a apart u own e = record { gives = refl; takes = refl }
+untouched (Turns (Joined l t)) old a apart u own e = record { gives = refl; takes = refl }
+untouched (Turns (Got t bytes)) old a apart u own e = record {
+  gives = ap (λ (b : Bool). if b then bytes else []) (ap (is_stream t) (sym e) ∙ u apart);
+  takes = refl;
+}
+untouched (Turns (End t)) old a apart u own e = record { gives = refl; takes = refl }
+untouched (Turns (Writable t)) old a apart u own e = record { gives = refl; takes = refl }
+untouched (Turns (Failed t)) old a apart u own e = record { gives = refl; takes = refl }
+untouched (TakesBytes t n) old a apart u own e = record {
+  gives = refl;
+  takes = ap {B = ℕ} (λ (b : Bool). if b then n else 0) (ap (is_stream t) (sym e) ∙ u apart);
+}
+
+gave : (t n : ℕ) (bytes : List ℕ) → (n == t) ≡ true → got_call n (Turns (Got t bytes)) ≡ bytes
+gave t n bytes e = ap (λ (b : Bool). if b then bytes else []) e
+
+took : (t n size : ℕ) → (n == t) ≡ true → took_call n (TakesBytes t size) ≡ size
+took t n size e = ap {B = ℕ} (λ (b : Bool). if b then size else 0) e
+
+gets-fed : (calls : List HouseCall) (t : ℕ) (bytes : List ℕ) (o : Option OwnStream) (s s' : Socket) (acts : List Act) → is_stream t o ≡ true
+    → FedBy o calls s acts → FedBy o (calls ++ Turns (Got t bytes) ∷ []) s' (Reads bytes ∷ acts)
+gets-fed calls t bytes None s s' acts is h = cc
+gets-fed calls t bytes (Some own) s s' acts is h =
+    of-more calls (Turns (Got t bytes)) own.number acts (Reads bytes ∷ acts)
+    (ap (λ bs. read acts ++ bs) (sym (gave t own.number bytes is))) (omega arith) h
+
+takes-fed : (calls : List HouseCall) (t n : ℕ) (o : Option OwnStream) (s s' : Socket) (acts : List Act) → is_stream t o ≡ true
+    → FedBy o calls s acts → FedBy o (calls ++ TakesBytes t n ∷ []) s' (Takes n ∷ acts)
+takes-fed calls t n None s s' acts is h = cc
+takes-fed calls t n (Some own) s s' acts is h =
+    of-more calls (TakesBytes t n) own.number acts (Takes n ∷ acts) (sym (append-nil (read acts)))
+    (ap (λ k. taken acts + k) (sym (took t own.number n is))) h
+
+-- a step of a stream gives and takes nothing
+silent-step : (call : HouseCall) (s : Step) (t n : ℕ) → Orders call s t → Silent n call
+silent-step call (step.Pause b) t n h =
+    record { gives = ap (got_call n) h.2; takes = ap (took_call n) h.2 }
+silent-step call step.Finish t n h = record { gives = ap (got_call n) h.2; takes = ap (took_call n) h.2 }
+silent-step call step.End t n h = record { gives = ap (got_call n) h; takes = ap (took_call n) h }
+silent-step call step.Close t n h = record { gives = ap (got_call n) h.2; takes = ap (took_call n) h.2 }
+silent-step call step.Writable t n h = record { gives = ap (got_call n) h; takes = ap (took_call n) h }
+silent-step call step.Failed t n h = record { gives = ap (got_call n) h; takes = ap (took_call n) h }
+
+steps-fed : (calls : List HouseCall) (call : HouseCall) (s : Step) (t : ℕ) (o : Option OwnStream) (r : Relay) (acts : List Act)
+    → Orders call s t → is_stream t o ≡ true → FedBy o calls r.socket acts
+    → FedBy (own_after s o) (calls ++ call ∷ []) (relay_after s r).socket (act_of s ∷ acts)
+steps-fed calls call s t None r acts ord is h = cc
+steps-fed calls call (step.Pause b) t (Some own) r acts ord is h =
+    let its = silent-step call (step.Pause b) t own.number ord in
+    of-none calls call own.number (Other ∷ acts) its.gives its.takes (of-acts calls own.number acts (Other ∷ acts) refl refl h)
+steps-fed calls call step.Finish t (Some own) r acts ord is h =
+    let its = silent-step call step.Finish t own.number ord in
+    of-none calls call own.number (Other ∷ acts) its.gives its.takes (of-acts calls own.number acts (Other ∷ acts) refl refl h)
+steps-fed calls call step.End t (Some own) r acts ord is h =
+    let its = silent-step call step.End t own.number ord in
+    of-none calls call own.number (act_of step.End ∷ acts) its.gives its.takes
+    (of-acts calls own.number acts (act_of step.End ∷ acts) refl refl h)
+steps-fed calls call step.Close t (Some own) r acts ord is h = λ made. cc
+steps-fed calls call step.Writable t (Some own) r acts ord is h =
+    let its = silent-step call step.Writable t own.number ord in
+    of-none calls call own.number (Other ∷ acts) its.gives its.takes (of-acts calls own.number acts (Other ∷ acts) refl refl h)
+steps-fed calls call step.Failed t (Some own) r acts ord is h =
+    let its = silent-step call step.Failed t own.number ord in
+    of-none calls call own.number (act_of step.Failed ∷ acts) its.gives its.takes
+    (of-acts calls own.number acts (act_of step.Failed ∷ acts) refl refl h)
+
+unmade-none : (s : Socket) → unmade s ≡ true → stream_of s ≡ None
+unmade-none (socket.Connecting t) e = cc
+unmade-none (socket.Open t) e = cc
+unmade-none socket.Unmade e = refl
+unmade-none (socket.Failed t) e = cc
+unmade-none (socket.Surplus t) e = cc
+unmade-none socket.Closed e = cc
+
+makes-fed : (calls : List HouseCall) (host : List ℕ) (port : ℕ) (number : Option ℕ) (o : Option OwnStream) (s : Socket) (acts : List Act)
+    → unmade s ≡ true → None ≡ number_of o → FedBy o calls s acts
+    → FedBy (own_made number) (calls ++ Marks (HouseOrder (order.Connect host port) number) ∷ [])
+    (made_as number) (Other ∷ acts)
+makes-fed calls host port number (Some own) s acts is none h = cc
+makes-fed calls host port None None s acts is none h = λ made. cc
+makes-fed calls host port (Some t) None s acts is none h =
+    let its = h is in
+    record {
+      before = calls;
+      birth = Marks (HouseOrder (order.Connect host port) (Some t));
+      since = [];
+      are = refl;
+      brings = refl;
+      reads = its.reads;
+      takes = its.takes;
+    }
+
+-- ---- all steps
+
+fed : (before : List HouseCall) (call : HouseCall) (old : Course) → (Unit {0} → Apart (open_streams old.lives))
+    → Passes call old (Fed before) (Fed (before ++ call ∷ []))
+fed before call old apart = record {
+  stays = λ a p u. fed-more before call a.own a.relay.socket a.acts (untouched call old a (apart tt) u) p;
+  hears = λ m a b s p h. fed-on before _ _ a b h (ap (λ (r : Relay). r.socket) h.relay.0 ∙ (stays-heard m a.relay).socket_is)
+      (read-heard m a.relay a.acts) (none-heard m a.relay a.acts) p;
+  offers = λ f number remote window maximum. λ is. record { reads = refl; takes = refl };
+  says = λ bytes e a b s p is h.
+      fed-more before call b.own b.relay.socket b.acts (λ own its. record { gives = ap (got_call own.number) e; takes = ap (took_call own.number) e })
+      (fed-on before _ _ a b h.1 (ap (λ (r : Relay). r.socket) h.1.relay.0 ∙ (stays-after (says_of a.relay) a.relay).socket_is)
+      (read-after (says_of a.relay) a.relay a.acts) (none-after (says_of a.relay) a.relay a.acts) p);
+  gets = λ t bytes e a b s s' p is h.
+      subst (λ (c : HouseCall). FedBy b.own (before ++ c ∷ []) b.relay.socket b.acts) (sym e)
+      (subst (λ (o : Option OwnStream). FedBy o (before ++ Turns (Got t bytes) ∷ []) b.relay.socket b.acts) (sym h.own)
+      (subst (λ (acts : List Act). FedBy a.own (before ++ Turns (Got t bytes) ∷ []) b.relay.socket acts) (sym h.acts)
+      (gets-fed before t bytes a.own a.relay.socket b.relay.socket a.acts is p)));
+  takes = λ t n e a b s p is h.
+      subst (λ (c : HouseCall). FedBy b.own (before ++ c ∷ []) b.relay.socket b.acts) (sym e)
+      (subst (λ (o : Option OwnStream). FedBy o (before ++ TakesBytes t n ∷ []) b.relay.socket b.acts) (sym h.own)
+      (subst (λ (acts : List Act). FedBy a.own (before ++ TakesBytes t n ∷ []) b.relay.socket acts) (sym h.acts)
+      (takes-fed before t n a.own a.relay.socket b.relay.socket a.acts is p)));
+  steps = λ s t ord a sa may p is. steps-fed before call s t a.own a.relay a.acts ord is p;
+  makes = λ host port number e a s p is there.
+      subst (λ (c : HouseCall). Fed (before ++ c ∷ []) (made_life number a)) (sym e)
+      (makes-fed before host port number a.own a.relay.socket a.acts is (sym (unmade-none a.relay.socket is) ∙ s.stream) p);
+  joins = λ l t e r h.
+      record { before = before; birth = call; since = []; are = refl; brings = ap made_by e; reads = refl; takes = refl };
+}
+
+-- ---- of all
+
+of-own : (calls : List HouseCall) (o : Option OwnStream) (s : Socket) (acts : List Act) → FedBy o calls s acts
+    → IfSome o (λ own. IsOf calls own.number acts)
+of-own calls None s acts h = tt
+of-own calls (Some own) s acts h = h
+
+all-of : (calls : List HouseCall) (ls : List Life) → Each (Fed calls) ls → All (λ l. IfSome l.own (λ own. IsOf calls own.number l.acts)) ls
+all-of calls [] h = All-nil (λ (l : Life). IfSome l.own (λ own. IsOf calls own.number l.acts))
+all-of calls (l ∷ ls) h =
+    All-cons (λ (x : Life). IfSome x.own (λ own. IsOf calls own.number x.acts)) l ls (of-own calls l.own l.relay.socket l.acts h.0)
+    (all-of calls ls h.1)
+
+pub each-has-its-stream : EachHasItsStream
+each-has-its-stream calls course brings h = all-of calls course.lives (pass-all (Unit {0}) Fed fed calls course (λ x. brings) h)

@@ -1,0 +1,100 @@
+-- Why a stream of the house is closed.
+use Rattle.std.specs.Prelude.{◌≡◌, ◌⊎◌, ℕ, Bool, true, false, List, [], ◌∷◌, ◌++◌, find, IfSome, Option, Some, None}
+use Rattle.socks_dialog.specs.declared.outcome.Outcome.TheVariants.{Wants, Breaks}
+use Rattle.mux_outside.specs.HouseCalls.{HouseCall, Marks, Turns, Joined, Got}
+use Rattle.mux_outside.specs.declared.house_mark.HouseMark.TheVariants.{HouseOrder}
+use Rattle.mux_outside.specs.declared.order.Order.TheVariants as order
+use Rattle.mux_outside.specs.declared.own_streams.OwnStream.{OwnStream}
+use Rattle.house_relay.specs.Acts.{Act, Fails, Refused, answer, read, outcome_in, waiting, has_ended, heard_close, said_close}
+use Rattle.house_forward.specs.Forwardings.{has_listener}
+use Rattle.house_forward.specs.Lives.{Life, Course, Follows, Reaches, first_course, are_full, are_crowded}
+use Rattle.house_forward.specs.Opening.{IsBefore}
+
+-- whether its socket failed
+abbrev pub has_failed : List Act → Bool
+has_failed [] = false
+has_failed (Fails ∷ acts) = true
+has_failed (_ ∷ acts) = has_failed acts
+
+-- ---- its channel has ended
+
+-- CLOSE went both ways
+pub record IsClosed (acts : List Act) : Type 0 where
+  pub heard : heard_close acts ≡ true
+  pub said : said_close acts ≡ true
+
+-- its OPEN was refused
+abbrev pub IsRefused : List Act → Type 0
+IsRefused acts = (reason : ℕ) × answer acts ≡ Refused reason
+
+-- its dialog broke
+pub record HasBroken (dials : Bool) (acts : List Act) : Type 0 where
+  pub dialed : dials ≡ true
+  pub reply : List ℕ
+  pub breaks : outcome_in (read acts) ≡ Breaks reply
+
+-- its client ended before its dialog asked for an end
+pub record HasLeft (dials : Bool) (acts : List Act) : Type 0 where
+  pub dialed : dials ≡ true
+  pub wants : outcome_in (read acts) ≡ Wants
+  pub ended : has_ended acts ≡ true
+
+abbrev pub IsThrough : Bool → List Act → Type 0
+IsThrough dials acts =
+    IsClosed acts ⊎ (IsRefused acts ⊎ (HasBroken dials acts ⊎ HasLeft dials acts))
+
+-- nothing waits for its socket, and nothing more comes of it
+pub record IsServed (dials : Bool) (acts : List Act) : Type 0 where
+  pub none : waiting dials acts ≡ []
+  pub through : IsThrough dials acts
+
+-- ---- there was no channel for it
+
+-- it is this stream, while that is open
+abbrev pub IsStream : Option OwnStream → ℕ → Type 0
+IsStream own t = IfSome own (λ o. o.number ≡ t)
+
+-- it was joined where the house had all channels or dialogs that it may have, or at a listener of no
+-- forwarding
+pub record IsTurnedAway (calls : List HouseCall) (own : Option OwnStream) : Type 0 where
+  pub listener : ℕ
+  pub stream : ℕ
+  pub course : Course
+  pub joined : IsBefore calls (Turns (Joined listener stream)) course
+  pub its : IsStream own stream
+  pub cause : (are_full course.lives ≡ true) ⊎ ((are_crowded course.lives ≡ true)
+      ⊎ (find (has_listener listener) course.desk.all ≡ None))
+
+-- its dialog asked for an end where the house had all channels that it may have
+pub record IsTooLate (calls : List HouseCall) (own : Option OwnStream) : Type 0 where
+  pub stream : ℕ
+  pub bytes : List ℕ
+  pub course : Course
+  pub gave : IsBefore calls (Turns (Got stream bytes)) course
+  pub its : IsStream own stream
+  pub cause : are_full course.lives ≡ true
+
+abbrev pub HasNoChannel : List HouseCall → Option OwnStream → Type 0
+HasNoChannel calls own = IsTurnedAway calls own ⊎ IsTooLate calls own
+
+-- ---- each that is closed
+
+-- the stream is that of one of the relays: its socket failed, or it is through with it, or there was
+-- no channel for it
+pub record IsCloseOf (calls : List HouseCall) (lives : List Life) (t : ℕ) : Type 0 where
+  pub before : List Life
+  pub life : Life
+  pub behind : List Life
+  pub own : OwnStream
+  pub were : lives ≡ before ++ life ∷ behind
+  pub is : life.own ≡ Some own
+  pub number : own.number ≡ t
+  pub cause : (has_failed life.acts ≡ true)
+      ⊎ (IsServed life.dials life.acts ⊎ HasNoChannel calls life.own)
+
+-- each Close that is ordered behind these calls
+abbrev pub ClosesHaveCause : Type 0
+ClosesHaveCause = (calls : List HouseCall) (course next : Course) (t : ℕ) (number : Option ℕ)
+    → Reaches first_course calls course
+    → Follows (Marks (HouseOrder (order.Close t) number)) course next
+    → IsCloseOf calls course.lives t

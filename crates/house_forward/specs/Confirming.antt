@@ -1,0 +1,86 @@
+-- The answers that the house says to the server's OPENs.
+use Rattle.std.specs.Prelude.{◌≡◌, ◌⊎◌, ◌==◌, ℕ, Bool, true, List, [], ◌∷◌, ◌++◌, get_or, Some, None}
+use Rattle.ssh_grammar.specs.declared.numbers.TheConstants.{CHANNEL_OPEN_CONFIRMATION, CHANNEL_OPEN_FAILURE}
+use Rattle.mux_outside.specs.HouseCalls.{HouseCall, Happening, Marks, Turns, Writable, Failed}
+use Rattle.mux_outside.specs.declared.house_mark.HouseMark.TheVariants.{HouseSaid, HouseOrder}
+use Rattle.mux_outside.specs.declared.order.Order.TheVariants as order
+use Rattle.house_relay.specs.declared.line.Line.TheVariants.{Offered}
+use Rattle.house_forward.specs.Closing.{IsStream}
+use Rattle.house_forward.specs.Connects.{Place}
+use Rattle.house_forward.specs.Lives.{Life, Course, Follows, Reaches, first_course}
+use Rattle.house_forward.specs.Numbers.{BringsNew}
+use Rattle.house_forward.specs.Said.{framed, confirmed, not_connected}
+
+-- whether what is said is an OPEN_CONFIRMATION, or an OPEN_FAILURE: its payload begins behind the
+-- length and the padding of its frame
+abbrev pub is_confirmation : List ℕ → Bool
+is_confirmation bytes = get_or bytes 5 0 == CHANNEL_OPEN_CONFIRMATION
+
+abbrev pub is_failure : List ℕ → Bool
+is_failure bytes = get_or bytes 5 0 == CHANNEL_OPEN_FAILURE
+
+-- a Connect to there got this number, and this happened to that stream behind it
+pub record HasHappened (calls : List HouseCall) (to : Place) (t : ℕ)
+    (happening : Happening) : Type 0 where
+  pub before : List HouseCall
+  pub between : List HouseCall
+  pub behind : List HouseCall
+  pub are : calls ≡ before ++ Marks (HouseOrder (order.Connect to.0 to.1) (Some t))
+      ∷ (between ++ Turns happening ∷ behind)
+
+-- a Connect to there got no number
+pub record HasNoNumber (calls : List HouseCall) (to : Place) : Type 0 where
+  pub before : List HouseCall
+  pub behind : List HouseCall
+  pub are : calls ≡ before ++ Marks (HouseOrder (order.Connect to.0 to.1) None) ∷ behind
+
+-- its stream got its number from a Connect to where it is to be connected, and failed then
+pub record HasFailedSince (calls : List HouseCall) (l : Life) (to : Place) : Type 0 where
+  pub stream : ℕ
+  pub its : IsStream l.own stream
+  pub failed : HasHappened calls to stream (Failed stream)
+
+-- one of the relays, which the server opened and the house didn't answer yet
+pub record IsUnanswered (lives : List Life) (l : Life) (remote : ℕ) (to : Place) : Type 0 where
+  pub before : List Life
+  pub behind : List Life
+  pub were : lives ≡ before ++ l ∷ behind
+  pub window : ℕ
+  pub maximum : ℕ
+  pub line : l.relay.line ≡ Offered remote window maximum
+  pub there : l.to ≡ Some to
+
+-- what is said confirms the OPEN of one whose stream a Connect to where that is to be connected made,
+-- and which was writable since
+pub record IsConfirmationOf (calls : List HouseCall) (lives : List Life) (bytes : List ℕ) : Type 0
+  where
+    pub life : Life
+    pub remote : ℕ
+    pub to : Place
+    pub stream : ℕ
+    pub unanswered : IsUnanswered lives life remote to
+    pub says : bytes ≡ framed (confirmed remote life.relay.number)
+    pub its : IsStream life.own stream
+    pub writable : HasHappened calls to stream (Writable stream)
+
+abbrev pub ConfirmsConnected : Type 0
+ConfirmsConnected = (calls : List HouseCall) (course next : Course) (bytes : List ℕ)
+    → Reaches first_course calls course
+    → Follows (Marks (HouseSaid bytes)) course next → is_confirmation bytes ≡ true
+    → IsConfirmationOf calls course.lives bytes
+
+-- what is said refuses the OPEN of one whose Connect got no number, or whose stream failed
+pub record IsFailureOf (calls : List HouseCall) (lives : List Life) (bytes : List ℕ) : Type 0 where
+  pub life : Life
+  pub remote : ℕ
+  pub to : Place
+  pub unanswered : IsUnanswered lives life remote to
+  pub says : bytes ≡ framed (not_connected remote)
+  pub cause : HasNoNumber calls to ⊎ HasFailedSince calls life to
+
+-- where each stream that is brought has a new number
+abbrev pub RefusesUnconnected : Type 0
+RefusesUnconnected = (calls : List HouseCall) (course next : Course) (bytes : List ℕ)
+    → BringsNew [] calls → Reaches first_course calls course
+    → Follows (Marks (HouseSaid bytes)) course next → is_failure bytes ≡ true
+    → IsFailureOf calls course.lives bytes

@@ -1,0 +1,123 @@
+-- Where the server's OPENs are to be connected, by the calls: which of them are taken, and which
+-- Connects are ordered.
+use Rattle.std.specs.Prelude.{◌≡◌, ℕ, if◌then◌else◌, List, [], ◌∷◌, ◌++◌, find, Result, Ok, Err, Option, Some, None}
+use Rattle.std.specs.List.{filter_map}
+use Rattle.ssh_grammar.specs.Messages.{Message, Plain, To, PlainMessage, Transport, GlobalRequest, RequestSuccess, RequestFailure, Open}
+use Rattle.ssh_grammar.specs.Messages.{Opens, Session, Direct, Forwarded, OtherType, Key, Tcp, Path}
+use Rattle.ssh_grammar.specs.ReadMessage.{read_message}
+use Rattle.ssh_grammar.specs.declared.fault.Bad.{Bad}
+use Rattle.mux_outside.specs.HouseCalls.{HouseCall, Begins, Marks, Hears, Turns, Takes}
+use Rattle.mux_outside.specs.declared.house_mark.HouseMark.{HouseMark}
+use Rattle.mux_outside.specs.declared.house_mark.HouseMark.TheVariants.{HouseIn, HouseSaid, HouseTook, HouseAsked, HouseAnswer, HouseOrder}
+use Rattle.mux_outside.specs.declared.order.Order.{Order}
+use Rattle.mux_outside.specs.declared.order.Order.TheVariants as order
+use Rattle.house_forward.specs.Forwardings.{served_at}
+use Rattle.house_forward.specs.Lives.{Life, Course, Follows, Reaches, HearsFrames, first_course, with_heard, is_unmade}
+use Rattle.house_forward.specs.declared.forwarding.Forwarding.{Forwarding}
+use Rattle.house_forward.specs.declared.holdings.Stage.{Stage}
+use Rattle.house_forward.specs.declared.holdings.Stage.TheVariants.{Control, Proxy}
+
+-- a host and a port to which a socket is connected
+abbrev pub Place : Type 0
+Place = List ℕ × ℕ
+
+-- ---- the Connects
+
+abbrev pub connect_in : Order → List Place
+connect_in (order.Listen host port) = []
+connect_in (order.Connect host port) = (host, port) ∷ []
+connect_in (order.Unlisten l) = []
+connect_in (order.Pause t) = []
+connect_in (order.Resume t) = []
+connect_in (order.Finish t) = []
+connect_in (order.Close t) = []
+
+abbrev pub connect_marked : HouseMark → List Place
+connect_marked HouseIn = []
+connect_marked (HouseSaid bytes) = []
+connect_marked (HouseTook size) = []
+connect_marked (HouseAsked client id opening ask reply) = []
+connect_marked (HouseAnswer client id reply) = []
+connect_marked (HouseOrder order number) = connect_in order
+
+abbrev pub connect_of : HouseCall → List Place
+connect_of (Begins starts) = []
+connect_of (Marks mark) = connect_marked mark
+connect_of (Hears bytes) = []
+connect_of (Turns happening) = []
+connect_of (Takes t n) = []
+
+-- where the Connects are to that are ordered in these calls, in their order
+abbrev pub connects_in : List HouseCall → List Place
+connects_in [] = []
+connects_in (call ∷ calls) = connect_of call ++ connects_in calls
+
+-- where the sockets are to be connected that aren't ordered yet
+abbrev pub still_to_connect : List Life → List Place
+still_to_connect lives = filter_map (λ l. if is_unmade l then l.to else None) lives
+
+-- ---- the OPENs
+
+-- where a forwarding connects, if there is one
+abbrev pub place_of : Option Forwarding → List Place
+place_of None = []
+place_of (Some f) = (f.connect_host, f.connect_port) ∷ []
+
+-- an OPEN of forwarded-tcpip is taken where the server listens at its address and port for a
+-- forwarding
+abbrev pub taken_at : Key → List Forwarding → List Place
+taken_at (Tcp address port) all = place_of (find (served_at address port) all)
+taken_at (Path path) all = []
+
+abbrev pub taken_for : Opens → List Forwarding → List Place
+taken_for Session all = []
+taken_for (Direct key) all = []
+taken_for (Forwarded key) all = taken_at key all
+taken_for OtherType all = []
+
+abbrev pub taken_plain : PlainMessage → List Forwarding → List Place
+taken_plain (Transport number rest) all = []
+taken_plain (GlobalRequest name want rest what) all = []
+taken_plain (RequestSuccess rest) all = []
+taken_plain RequestFailure all = []
+taken_plain (Open kind sender window maximum rest what) all = taken_for what all
+
+abbrev pub taken_message : Message → List Forwarding → List Place
+taken_message (Plain message) all = taken_plain message all
+taken_message (To recipient message) all = []
+
+abbrev pub taken_reading : Result Message Bad → List Forwarding → List Place
+taken_reading (Ok message) all = taken_message message all
+taken_reading (Err bad) all = []
+
+-- a frame is a message once the proxy is granted
+abbrev pub taken_frame : Stage → List ℕ → List Forwarding → List Place
+taken_frame Control content all = []
+taken_frame Proxy content all = taken_reading (read_message content) all
+
+-- frame by frame, as the forwardings are when that is heard
+abbrev pub taken_frames : (contents : List (List ℕ)) (old new : Course)
+    → HearsFrames contents old new → List Place
+taken_frames [] old new hears = []
+taken_frames (content ∷ more) old new hears =
+    taken_frame old.stage content old.desk.all ++ taken_frames more hears.2.0 new hears.2.2
+
+abbrev pub taken_call : (call : HouseCall) (old new : Course) → Follows call old new → List Place
+taken_call (Begins starts) old new follows = []
+taken_call (Marks mark) old new follows = []
+taken_call (Hears bytes) old new follows =
+    taken_frames follows.0 (with_heard bytes old) new follows.1
+taken_call (Turns happening) old new follows = []
+taken_call (Takes t n) old new follows = []
+
+-- where the OPENs are to be connected that are taken in these calls, in their order
+abbrev pub taken_in : (calls : List HouseCall) (old new : Course) → Reaches old calls new → List Place
+taken_in [] old new reaches = []
+taken_in (call ∷ calls) old new reaches =
+    taken_call call old reaches.0 reaches.1 ++ taken_in calls reaches.0 new reaches.2
+
+-- of each OPEN that is taken one Connect is ordered, in their order, to where its forwarding connects,
+-- or it is still to be; and none is ordered besides
+abbrev pub OneConnectEach : Type 0
+OneConnectEach = (calls : List HouseCall) (course : Course) (reaches : Reaches first_course calls course)
+    → taken_in calls first_course course reaches ≡ connects_in calls ++ still_to_connect course.lives

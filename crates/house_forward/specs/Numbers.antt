@@ -1,0 +1,118 @@
+-- The channel numbers of the relays and the numbers of their streams, by the calls.
+use Rattle.std.specs.Prelude.{◌≡◌, ◌≢◌, ℕ, false, List, [], ◌∷◌, ◌++◌, map, IfSome, Option, Some, None}
+use Rattle.std.specs.List.{AllPairs, filter_map}
+use Rattle.std.specs.Option.{option_to_list}
+use Rattle.mux_outside.specs.HouseCalls.{HouseCall, Happening, Begins, Marks, Hears, Turns, Takes}
+use Rattle.mux_outside.specs.HouseCalls.{Joined, Got, End, Writable, Failed}
+use Rattle.mux_outside.specs.Streams.{among, without}
+use Rattle.mux_outside.specs.declared.house_mark.HouseMark.{HouseMark}
+use Rattle.mux_outside.specs.declared.house_mark.HouseMark.TheVariants.{HouseIn, HouseSaid, HouseTook, HouseAsked, HouseAnswer, HouseOrder}
+use Rattle.mux_outside.specs.declared.order.Order.{Order}
+use Rattle.mux_outside.specs.declared.order.Order.TheVariants.{Listen, Connect, Unlisten, Pause, Resume, Finish, Close}
+use Rattle.mux_outside.specs.declared.own_streams.OwnStream.{OwnStream}
+use Rattle.house_forward.specs.Lives.{Life, Course, Reaches, first_course}
+
+-- ---- channels
+
+-- the channel numbers of the relays
+abbrev pub channels_of : List Life → List ℕ
+channels_of lives = map (λ l. l.relay.number) lives
+
+-- no two relays have the same, whatever the calls were
+abbrev pub ChannelsDiffer : Type 0
+ChannelsDiffer = (calls : List HouseCall) (course : Course) → Reaches first_course calls course
+    → AllPairs (λ a b. a ≢ b) (channels_of course.lives)
+
+-- ---- streams
+
+abbrev pub number_of : Option OwnStream → Option ℕ
+number_of None = None
+number_of (Some own) = Some own.number
+
+-- the numbers of the streams that the relays have open
+abbrev pub open_streams : List Life → List ℕ
+open_streams lives = filter_map (λ l. number_of l.own) lives
+
+-- the number of the stream that a happening, an order or a call brings, if it does
+abbrev pub joined_by : Happening → Option ℕ
+joined_by (Joined l t) = Some t
+joined_by (Got t bytes) = None
+joined_by (End t) = None
+joined_by (Writable t) = None
+joined_by (Failed t) = None
+
+abbrev pub connected_by : Order → Option ℕ → Option ℕ
+connected_by (Listen host port) number = None
+connected_by (Connect host port) number = number
+connected_by (Unlisten l) number = None
+connected_by (Pause t) number = None
+connected_by (Resume t) number = None
+connected_by (Finish t) number = None
+connected_by (Close t) number = None
+
+abbrev pub made_by_mark : HouseMark → Option ℕ
+made_by_mark HouseIn = None
+made_by_mark (HouseSaid bytes) = None
+made_by_mark (HouseTook size) = None
+made_by_mark (HouseAsked client id opening ask reply) = None
+made_by_mark (HouseAnswer client id reply) = None
+made_by_mark (HouseOrder order number) = connected_by order number
+
+abbrev pub made_by : HouseCall → Option ℕ
+made_by (Begins starts) = None
+made_by (Marks mark) = made_by_mark mark
+made_by (Hears bytes) = None
+made_by (Turns happening) = joined_by happening
+made_by (Takes t n) = None
+
+-- the number of the stream that an order or a call closes, if it does
+abbrev pub closed_by_order : Order → Option ℕ
+closed_by_order (Listen host port) = None
+closed_by_order (Connect host port) = None
+closed_by_order (Unlisten l) = None
+closed_by_order (Pause t) = None
+closed_by_order (Resume t) = None
+closed_by_order (Finish t) = None
+closed_by_order (Close t) = Some t
+
+abbrev pub closed_by_mark : HouseMark → Option ℕ
+closed_by_mark HouseIn = None
+closed_by_mark (HouseSaid bytes) = None
+closed_by_mark (HouseTook size) = None
+closed_by_mark (HouseAsked client id opening ask reply) = None
+closed_by_mark (HouseAnswer client id reply) = None
+closed_by_mark (HouseOrder order number) = closed_by_order order
+
+abbrev pub closed_by : HouseCall → Option ℕ
+closed_by (Begins starts) = None
+closed_by (Marks mark) = closed_by_mark mark
+closed_by (Hears bytes) = None
+closed_by (Turns happening) = None
+closed_by (Takes t n) = None
+
+abbrev pub without_closed : Option ℕ → List ℕ → List ℕ
+without_closed None there = there
+without_closed (Some t) there = without t there
+
+-- the streams that are open behind the calls, where these were open before: those that were joined
+-- or connected since, and not closed
+abbrev pub open_after : List ℕ → List HouseCall → List ℕ
+open_after there [] = there
+open_after there (call ∷ calls) =
+    open_after (without_closed (closed_by call) there ++ option_to_list (made_by call)) calls
+
+-- each stream that a call brings has a number that no open one has
+abbrev pub BringsNew : List ℕ → List HouseCall → Type 0
+BringsNew there [] = Unit {0}
+BringsNew there (call ∷ calls) = IfSome (made_by call) (λ t. among t there ≡ false)
+    × BringsNew (without_closed (closed_by call) there ++ option_to_list (made_by call)) calls
+
+-- the relays have exactly the streams that are open by the calls, each one of its own, in their order
+abbrev pub StreamsAreTheirs : Type 0
+StreamsAreTheirs = (calls : List HouseCall) (course : Course) → Reaches first_course calls course
+    → open_streams course.lives ≡ open_after [] calls
+
+-- where each stream that is brought has a new number, no two relays have the same stream
+abbrev pub StreamsDiffer : Type 0
+StreamsDiffer = (calls : List HouseCall) (course : Course) → BringsNew [] calls
+    → Reaches first_course calls course → AllPairs (λ a b. a ≢ b) (open_streams course.lives)

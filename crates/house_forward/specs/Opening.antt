@@ -1,0 +1,141 @@
+-- The OPENs that the house says, by the calls: for which sockets, and to where.
+use Rattle.std.specs.Prelude.{◌≡◌, ◌⊎◌, ◌≤◌, ◌+◌, ◌==◌, ℕ, Bool, true, false, if◌then◌else◌, List, [], ◌∷◌, ◌++◌, length, filter, find, get_or, IfSome, Option, Some}
+use Rattle.ssh_grammar.specs.declared.numbers.TheConstants.{CHANNEL_OPEN}
+use Rattle.socks_dialog.specs.declared.outcome.Outcome.TheVariants.{Connects}
+use Rattle.mux_outside.specs.HouseCalls.{HouseCall, Happening, Begins, Marks, Hears, Turns, Takes}
+use Rattle.mux_outside.specs.HouseCalls.{Joined, Got, End, Writable, Failed}
+use Rattle.mux_outside.specs.declared.house_mark.HouseMark.{HouseMark}
+use Rattle.mux_outside.specs.declared.house_mark.HouseMark.TheVariants.{HouseIn, HouseSaid, HouseTook, HouseAsked, HouseAnswer, HouseOrder}
+use Rattle.mux_outside.specs.declared.own_streams.OwnStream.{OwnStream}
+use Rattle.house_relay.specs.Acts.{read, outcome_in}
+use Rattle.house_relay.specs.declared.line.Line.{Line}
+use Rattle.house_relay.specs.declared.line.Line.TheVariants.{Dialing, Asked, Opened, Offered, Live, Over}
+use Rattle.house_forward.specs.Forwardings.{has_listener}
+use Rattle.house_forward.specs.Lives.{Life, Course, Follows, Reaches, first_course}
+use Rattle.house_forward.specs.Said.{framed, direct}
+use Rattle.house_forward.specs.declared.forwarding.Forwarding.{Forwarding}
+use Rattle.house_forward.specs.declared.rules.Kind.{Kind}
+use Rattle.house_forward.specs.declared.rules.Kind.TheVariants.{Local, Remote, Dynamic}
+
+-- ---- how many there are
+
+-- whether what is said is an OPEN: its payload begins behind the length and the padding of its frame
+abbrev pub is_open : List ℕ → Bool
+is_open bytes = get_or bytes 5 0 == CHANNEL_OPEN
+
+abbrev pub opens_by_mark : HouseMark → ℕ
+opens_by_mark HouseIn = 0
+opens_by_mark (HouseSaid bytes) = if is_open bytes then 1 else 0
+opens_by_mark (HouseTook size) = 0
+opens_by_mark (HouseAsked client id opening ask reply) = 0
+opens_by_mark (HouseAnswer client id reply) = 0
+opens_by_mark (HouseOrder order number) = 0
+
+abbrev pub opens_by : HouseCall → ℕ
+opens_by (Begins starts) = 0
+opens_by (Marks mark) = opens_by_mark mark
+opens_by (Hears bytes) = 0
+opens_by (Turns happening) = 0
+opens_by (Takes t n) = 0
+
+-- how many OPENs were said
+abbrev pub opens_in : List HouseCall → ℕ
+opens_in [] = 0
+opens_in (call ∷ calls) = opens_by call + opens_in calls
+
+abbrev pub joins_by_turn : Happening → ℕ
+joins_by_turn (Joined l t) = 1
+joins_by_turn (Got t bytes) = 0
+joins_by_turn (End t) = 0
+joins_by_turn (Writable t) = 0
+joins_by_turn (Failed t) = 0
+
+abbrev pub joins_by : HouseCall → ℕ
+joins_by (Begins starts) = 0
+joins_by (Marks mark) = 0
+joins_by (Hears bytes) = 0
+joins_by (Turns happening) = joins_by_turn happening
+joins_by (Takes t n) = 0
+
+-- how many sockets were joined
+abbrev pub joins_in : List HouseCall → ℕ
+joins_in [] = 0
+joins_in (call ∷ calls) = joins_by call + joins_in calls
+
+-- whether an OPEN is to be said, or is once the dialog asks for an end
+abbrev pub may_open : Line → Bool
+may_open (Dialing dialog) = true
+may_open (Asked host port version) = true
+may_open (Opened version) = false
+may_open (Offered remote window maximum) = false
+may_open (Live live) = false
+may_open Over = false
+
+-- of how many relays
+abbrev pub still_to_open : List Life → ℕ
+still_to_open lives = length (filter (λ l. may_open l.relay.line) lives)
+
+-- no more OPENs are said, or still to be, than sockets were joined
+abbrev pub OneOpenAtMost : Type 0
+OneOpenAtMost = (calls : List HouseCall) (course : Course) → Reaches first_course calls course
+    → opens_in calls + still_to_open course.lives ≤ joins_in calls
+
+-- ---- for what, and to where
+
+-- this is one of the calls, and the course was this before it
+pub record IsBefore (calls : List HouseCall) (call : HouseCall) (course : Course) : Type 0 where
+  pub before : List HouseCall
+  pub behind : List HouseCall
+  pub are : calls ≡ before ++ call ∷ behind
+  pub reached : Reaches first_course before course
+
+-- a socket was joined at the listener of a forwarding of which this is so, and it is this stream,
+-- while that is open
+pub record IsJoinedFor (calls : List HouseCall) (own : Option OwnStream)
+    (so : Forwarding → Type 0) : Type 0 where
+  pub listener : ℕ
+  pub stream : ℕ
+  pub course : Course
+  pub forwarding : Forwarding
+  pub joined : IsBefore calls (Turns (Joined listener stream)) course
+  pub found : find (has_listener listener) course.desk.all ≡ Some forwarding
+  pub its : IfSome own (λ o. o.number ≡ stream)
+  pub right : so forwarding
+
+abbrev pub IsPlain : Kind → Type 0
+IsPlain Local = Unit {0}
+IsPlain Remote = Unit {0}
+IsPlain Dynamic = ⊥
+
+-- a forwarding connects there
+pub record ConnectsTo (host : List ℕ) (port : ℕ) (f : Forwarding) : Type 0 where
+  pub plain : IsPlain f.kind
+  pub to_host : f.connect_host ≡ host
+  pub to_port : f.connect_port ≡ port
+
+-- a forwarding is dynamic
+abbrev pub IsDynamic : Forwarding → Type 0
+IsDynamic f = f.kind ≡ Dynamic
+
+-- the dialog of a socket that was joined at a dynamic forwarding asked for this end
+pub record IsDialed (calls : List HouseCall) (l : Life) (host : List ℕ) (port : ℕ) : Type 0 where
+  pub joined : IsJoinedFor calls l.own IsDynamic
+  pub asks : outcome_in (read l.acts) ≡ Connects host port
+
+-- what is said is the OPEN of direct-tcpip of one of the relays, to where the forwarding connects at
+-- whose listener its socket was joined, or to the end that its dialog asked for
+pub record IsOpenOf (calls : List HouseCall) (lives : List Life) (bytes : List ℕ) : Type 0 where
+  pub before : List Life
+  pub life : Life
+  pub behind : List Life
+  pub host : List ℕ
+  pub port : ℕ
+  pub were : lives ≡ before ++ life ∷ behind
+  pub says : bytes ≡ framed (direct life.relay.number host port)
+  pub goes : IsJoinedFor calls life.own (ConnectsTo host port) ⊎ IsDialed calls life host port
+
+-- each OPEN that is said behind these calls
+abbrev pub OpensGoRight : Type 0
+OpensGoRight = (calls : List HouseCall) (course next : Course) (bytes : List ℕ)
+    → Reaches first_course calls course → Follows (Marks (HouseSaid bytes)) course next
+    → is_open bytes ≡ true → IsOpenOf calls course.lives bytes

@@ -1,0 +1,55 @@
+-- What the streams gave and took, by the calls.
+use Rattle.std.specs.Prelude.{◌≡◌, ◌+◌, ◌==◌, ℕ, if◌then◌else◌, List, [], ◌∷◌, ◌++◌, IfSome, Some}
+use Rattle.std.specs.List.{All}
+use Rattle.mux_outside.specs.HouseCalls.{HouseCall, Happening, Begins, Marks, Hears, Turns, Takes}
+use Rattle.mux_outside.specs.HouseCalls.{Joined, Got, End, Writable, Failed}
+use Rattle.house_relay.specs.Acts.{Act, read, taken}
+use Rattle.house_forward.specs.Lives.{Course, Reaches, first_course}
+use Rattle.house_forward.specs.Numbers.{BringsNew, made_by}
+
+abbrev pub got_turn : ℕ → Happening → List ℕ
+got_turn s (Joined l t) = []
+got_turn s (Got t bytes) = if s == t then bytes else []
+got_turn s (End t) = []
+got_turn s (Writable t) = []
+got_turn s (Failed t) = []
+
+abbrev pub got_call : ℕ → HouseCall → List ℕ
+got_call s (Begins starts) = []
+got_call s (Marks mark) = []
+got_call s (Hears bytes) = []
+got_call s (Turns happening) = got_turn s happening
+got_call s (Takes t n) = []
+
+-- the bytes that a stream gave in these calls, in order
+abbrev pub got_in : ℕ → List HouseCall → List ℕ
+got_in s [] = []
+got_in s (call ∷ calls) = got_call s call ++ got_in s calls
+
+abbrev pub took_call : ℕ → HouseCall → ℕ
+took_call s (Begins starts) = 0
+took_call s (Marks mark) = 0
+took_call s (Hears bytes) = 0
+took_call s (Turns happening) = 0
+took_call s (Takes t n) = if s == t then n else 0
+
+-- how many bytes it took in them
+abbrev pub took_in : ℕ → List HouseCall → ℕ
+took_in s [] = 0
+took_in s (call ∷ calls) = took_call s call + took_in s calls
+
+-- what was read and taken is what this stream gave and took since a call brought it
+pub record IsOf (calls : List HouseCall) (t : ℕ) (acts : List Act) : Type 0 where
+  pub before : List HouseCall
+  pub birth : HouseCall
+  pub since : List HouseCall
+  pub are : calls ≡ before ++ birth ∷ since
+  pub brings : made_by birth ≡ Some t
+  pub reads : read acts ≡ got_in t since
+  pub takes : taken acts ≡ took_in t since
+
+-- where each stream that is brought has a new number, this is so of each relay and its stream
+abbrev pub EachHasItsStream : Type 0
+EachHasItsStream = (calls : List HouseCall) (course : Course) → BringsNew [] calls
+    → Reaches first_course calls course
+    → All (λ l. IfSome l.own (λ own. IsOf calls own.number l.acts)) course.lives
