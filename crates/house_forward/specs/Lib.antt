@@ -1,4 +1,5 @@
 pub mod Asks
+pub mod Deeds
 pub mod Desk
 pub mod Due
 pub mod Forwardings

@@ -1,6 +1,7 @@
 //! What holds of the relays of the house, whatever calls were made: each function's contract is the
 //! law.
 
+ghost use Rattle.house_forward.specs.Deeds.{EachHappens};
 ghost use Rattle.house_forward.specs.Laws.{EachRelays, EachKeeps, EachRests};
 
 /// Of each relay that the house has, or had: what is sent in its channel was read from its socket
@@ -15,4 +16,11 @@ pub fn every_relay_relays()
 /// Where the house has nothing to say and nothing to order, each of its relays is at rest.
 pub fn relays_of_a_quiet_house_rest()
     ensures { EachRests }
+{}
+
+/// What the calls leave of the forwardings, of the requests to the server and of the asks is what
+/// happened, one behind the other: what was asked for and answered, what was said, what the server
+/// replied, and which listeners were ordered and closed. Each of these is told by its call.
+pub fn calls_make_things_happen()
+    ensures { EachHappens }
 {}
