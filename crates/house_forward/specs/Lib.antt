@@ -1,4 +1,5 @@
 pub mod Asks
+pub mod Causes
 pub mod Deeds
 pub mod Desk
 pub mod Due
