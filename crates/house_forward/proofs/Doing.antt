@@ -39,7 +39,7 @@ same : (deeds : List Deed) (old new : Course) → Leave deeds old.desk → new.d
 same deeds old new left e = subst (Leave deeds) (sym e) left
 
 -- what happens, and what that leaves
-abbrev Goes : (List Deed → Type 0) → List Deed → Desk → Type 0
+abbrev pub Goes : (List Deed → Type 0) → List Deed → Desk → Type 0
 Goes so deeds desk = (more : List Deed) × so more × Leave (more ++ deeds) desk
 
 -- ---- what is heard
@@ -189,7 +189,7 @@ marks (HouseAnswer client id reply) deeds old new left h =
     (Answers client id reply ∷ [], refl, one (Answers client id reply) deeds old new left h)
 marks (HouseOrder o number) deeds old new left h = (ordered_by o number, refl, orders o number deeds old new left h)
 
-happens : (call : HouseCall) (deeds : List Deed) (old new : Course) → Leave deeds old.desk → Follows call old new
+pub happens : (call : HouseCall) (deeds : List Deed) (old new : Course) → Leave deeds old.desk → Follows call old new
     → Goes (λ more. HappenBy call old more new) deeds new.desk
 happens (IsBegun starts) deeds old new left h = (Begins starts ∷ [], refl, one (Begins starts) deeds old new left h)
 happens (Marks mark) deeds old new left h = marks mark deeds old new left h

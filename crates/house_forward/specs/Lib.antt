@@ -5,6 +5,7 @@ pub mod Desk
 pub mod Due
 pub mod Forwardings
 pub mod Going
+pub mod Greeting
 pub mod Heard
 pub mod Known
 pub mod Laws

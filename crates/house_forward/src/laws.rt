@@ -3,6 +3,7 @@
 
 ghost use Rattle.house_forward.specs.Causes.{EachServed, EachAnswer, EachUnlisten, EachCancel};
 ghost use Rattle.house_forward.specs.Deeds.{EachHappens};
+ghost use Rattle.house_forward.specs.Greeting.{EachGreets};
 ghost use Rattle.house_forward.specs.Laws.{EachRelays, EachKeeps, EachRests};
 
 /// Of each relay that the house has, or had: what is sent in its channel was read from its socket
@@ -42,4 +43,11 @@ pub fn every_reply_has_its_cause()
 pub fn what_is_closed_was_asked_to_close()
     ensures listeners { EachUnlisten }
     ensures cancels { EachCancel }
+{}
+
+/// The house greets once and first: the first piece that it says is HELLO and PROXY, and each behind
+/// it is one frame, of the request of a forwarding or of what a relay has to say. It says no other
+/// control message.
+pub fn the_greeting_is_said_once_and_first()
+    ensures { EachGreets }
 {}
