@@ -1,14 +1,15 @@
 -- Why asks get their replies and answers, by what happened before.
-use Rattle.std.specs.Prelude.{◌≡◌, ℕ, Bool, true, false, ◌==◌, List, [], ◌∷◌, ◌++◌, drop, Option, Some, None}
+use Rattle.std.specs.Prelude.{◌≡◌, ◌≤◌, ℕ, Bool, true, false, ◌==◌, List, [], ◌∷◌, ◌++◌, drop, Option, Some, None}
 use Rattle.std.specs.List.{list_any, Contains}
 use Rattle.mux_outside.specs.declared.house.HouseReply.{HouseReply}
 use Rattle.mux_outside.specs.declared.house.HouseReply.TheVariants as given
 use Rattle.mux_outside.specs.declared.start_ask.StartAsk.{StartAsk}
+use Rattle.house_forward.specs.Asks.{turns_away}
 use Rattle.house_forward.specs.Deeds.{Deed, Does, Leave}
 use Rattle.house_forward.specs.Deeds.{Begins, Asks, Answers, Greets, Requests, Replies, Listens, Unlistens}
 use Rattle.house_forward.specs.Desk.{Desk}
-use Rattle.house_forward.specs.Forwardings.{granted, bound_to, request_of, outcome_of, reply_to}
-use Rattle.house_forward.specs.Rules.{kind_of, listen_host, listens_here, connects_there}
+use Rattle.house_forward.specs.Forwardings.{granted, bound_to, request_of, outcome_of, reply_to, standing, connects_to, how_many}
+use Rattle.house_forward.specs.Rules.{AreEnds, is_refused_alone, kind_of, listen_host, listens_here, connects_there}
 use Rattle.house_forward.specs.declared.asks.Asked.TheVariants.{Now}
 use Rattle.house_forward.specs.declared.asks.Outcome.{Outcome}
 use Rattle.house_forward.specs.declared.asks.Outcome.TheVariants.{Done, Refused}
@@ -17,6 +18,8 @@ use Rattle.house_forward.specs.declared.forwarding.Request.{Request}
 use Rattle.house_forward.specs.declared.forwarding.Request.TheVariants.{Listen, Cancel}
 use Rattle.house_forward.specs.declared.forwarding.Stage.{Stage}
 use Rattle.house_forward.specs.declared.forwarding.Stage.TheVariants.{ToListen, Ordered, Listening, ToRequest, Requested, Live, Cancelling}
+use Rattle.house_forward.specs.declared.rules.Ends.{Ends}
+use Rattle.house_forward.specs.declared.rules.TheConstants.{MOST_FORWARDINGS}
 
 -- ---- what happened
 
@@ -230,3 +233,26 @@ pub record CancelsAsked (f : Forwarding) (deeds : List Deed) : Type 0 where
 abbrev pub EachCancel : Type 0
 EachCancel = (f : Forwarding) (deeds : List Deed) (old new : Desk) → Leave deeds old
     → Does (Requests f) old new → request_of f ≡ Cancel f.serial → CancelsAsked f deeds
+
+-- ---- what is refused at once
+
+-- an ask is refused at once: its client has an open ask with its id, or as many asks wait as may; or it
+-- is refused whatever stands; one to open, where the forwarding that listens there connects elsewhere,
+-- or none does and as many are asked or live as may be; one to close, where none listens there, or one
+-- that closes already
+pub data IsRefused (client id : ℕ) (opening : Bool) (ask : StartAsk) (d : Desk) : Type 0 where
+  TurnedAway : turns_away client id d.waiting ≡ true → IsRefused client id opening ask d
+  RefusedAlone : is_refused_alone ask ≡ true → IsRefused client id opening ask d
+  ConnectsElsewhere : (ends : Ends) (f : Forwarding) → opening ≡ true → AreEnds d.gateway ask ends
+      → standing ends d.all ≡ Some f → connects_to ends f ≡ false → IsRefused client id opening ask d
+  NoRoom : (ends : Ends) → opening ≡ true → AreEnds d.gateway ask ends → standing ends d.all ≡ None
+      → MOST_FORWARDINGS ≤ how_many d.all → IsRefused client id opening ask d
+  NoneThere : (ends : Ends) → opening ≡ false → AreEnds d.gateway ask ends → standing ends d.all ≡ None
+      → IsRefused client id opening ask d
+  ClosesAlready : (ends : Ends) (f : Forwarding) → opening ≡ false → AreEnds d.gateway ask ends
+      → standing ends d.all ≡ Some f → f.closing ≡ true → IsRefused client id opening ask d
+
+-- each has one of these causes
+abbrev pub EachRefused : Type 0
+EachRefused = (client id : ℕ) (opening : Bool) (ask : StartAsk) (old new : Desk)
+    → Does (Asks client id opening ask given.Refused) old new → IsRefused client id opening ask old

@@ -1,7 +1,7 @@
 //! What holds of the relays of the house, whatever calls were made: each function's contract is the
 //! law.
 
-ghost use Rattle.house_forward.specs.Causes.{EachServed, EachAnswer, EachUnlisten, EachCancel};
+ghost use Rattle.house_forward.specs.Causes.{EachServed, EachRefused, EachAnswer, EachUnlisten, EachCancel};
 ghost use Rattle.house_forward.specs.Deeds.{EachHappens};
 ghost use Rattle.house_forward.specs.Greeting.{EachGreets};
 ghost use Rattle.house_forward.specs.Laws.{EachRelays, EachKeeps, EachRests};
@@ -30,12 +30,14 @@ pub fn calls_make_things_happen()
 /// What a client's ask gets has its cause in what happened before. One to open that gets Done or a
 /// port at once asks for a forwarding that is there: it has a listener that was made at its host and
 /// port and was not closed since, or the server granted its request, and it gets the port where the
-/// server was to choose one. An answer comes by what happened to the forwarding since the ask: Done
+/// server was to choose one. One that is refused at once is refused for one of the causes that there
+/// are. An answer comes by what happened to the forwarding since the ask: Done
 /// as its listener was made, or as the server granted its request, and then with the port where the
 /// server was to choose one; to one to close as its listener was closed, or as the server granted its
 /// cancel; Refused as no listener could be made, or as the server refused the request or the cancel.
 pub fn every_reply_has_its_cause()
     ensures served { EachServed }
+    ensures refused { EachRefused }
     ensures answers { EachAnswer }
 {}
 
