@@ -1,14 +1,14 @@
 -- What an ask gets has its cause in what happened.
 use Rattle.std.proofs.Common.{◌≡◌, ◌∙◌, refl, sym, ap, subst, ℕ, Bool, true, false, List, [], ◌∷◌, ◌++◌, append_assoc, Option, Some, None}
 use Rattle.std.specs.Prelude.{◌&&◌, nat_lt, if◌then◌else◌, find, IfSome}
-use Rattle.std.specs.List.{All, Contains, fold}
+use Rattle.std.specs.List.{All, Contains, fold, list_any}
 use Rattle.std.proofs.lemmas.Bool.{and_parts}
 use Rattle.std.proofs.lemmas.List.Elements.{All-head, All-tail, All-contains_itself}
 use Rattle.mux_outside.specs.declared.house.HouseReply.{HouseReply}
 use Rattle.mux_outside.specs.declared.house.HouseReply.TheVariants as given
 use Rattle.mux_outside.specs.declared.start_ask.StartAsk.{StartAsk}
 use Rattle.house_forward.specs.Asks.{earlier, earlier_at, earliest, has_outcome, is_settled, stamp_of, reply_in, reply_of, answer_in, turns_away}
-use Rattle.house_forward.specs.Causes.{gateway_in, AreOne, IsFor, IsNext, IsGranted, ListensSince, ServesAt, IsGrant, IsServed, EachServed, CameBy, MadeBy, RepliedBy, HasCause, EachAnswer, WasToClose, EachUnlisten, EachCancel}
+use Rattle.house_forward.specs.Causes.{answers, gateway_in, AreOne, IsFor, IsNext, IsGranted, ListensSince, ServesAt, IsGrant, IsServed, EachServed, CameBy, MadeBy, RepliedBy, HasCause, EachAnswer, WasToClose, EachUnlisten, EachCancel}
 use Rattle.house_forward.specs.Deeds.{Deed}
 use Rattle.house_forward.specs.Deeds.{Begins, Asks, Answers, Greets, Requests, Replies, Listens, Unlistens}
 use Rattle.house_forward.specs.Desk.{Desk}
@@ -258,6 +258,7 @@ caused-by home serials deeds w (Some o) e some h =
       between = came.older;
       earlier = h.earlier;
       were = h.were ∙ ap (λ ds. ds ++ ask ∷ h.earlier) came.were ∙ append_assoc came.newer (came.deed ∷ came.older) (ask ∷ h.earlier);
+      open_yet = subst (λ (ds : List Deed). list_any (answers w.client w.id) ds ≡ false) came.were h.open_yet;
       is_for = h.is_for;
       came = came.by;
       replies = ap (λ x. reply_in x w.opening) e

@@ -1,8 +1,8 @@
 -- What is known by what happened, deed by deed.
 use Rattle.std.proofs.Common.{◌≡◌, ◌∙◌, refl, sym, ap, subst, arith, ℕ, zero, suc, ◌+◌, ◌-◌, ◌<◌, ◌≤◌, Bool, true, false, List, [], ◌∷◌, ◌++◌, length, length-append, get_or, set, take, drop, map, filter, Option, Some, None, inl, inr}
-use Rattle.std.specs.Prelude.{◌⊎◌, ◌==◌, ◌&&◌, ◌||◌, not, nat_lt, if◌then◌else◌, find, slice_get, IfSome}
+use Rattle.std.specs.Prelude.{◌⊎◌, ◌==◌, ◌&&◌, ◌||◌, not, nat_lt, nat_le, if◌then◌else◌, find, slice_get, IfSome}
 use Rattle.std.specs.List.{All, position, position_or_len, remove}
-use Rattle.std.proofs.lemmas.Bool.{and_parts, eqb-true, eq-eqb, not-true}
+use Rattle.std.proofs.lemmas.Bool.{and_parts, or_parts, eqb-true, eq-eqb, not-true}
 use Rattle.std.proofs.lemmas.List.{map-append, length-map}
 use Rattle.std.proofs.lemmas.List.Elements.{All-nil, All-head, All-tail, All-weaker, All-set, All-append, All-take, All-drop, All-filter, All-push, filter_passes}
 use Rattle.std.proofs.lemmas.List.Quantifiers.{position-Some}
@@ -12,7 +12,7 @@ use Rattle.std.proofs.lemmas.Slice.Eq.{bytes_eq-Decides}
 use Rattle.mux_outside.specs.declared.house.HouseReply.{HouseReply}
 use Rattle.mux_outside.specs.declared.start_ask.StartAsk.{StartAsk}
 use Rattle.mux_outside.specs.declared.starts.Starts.{Starts}
-use Rattle.house_forward.specs.Asks.{settled, counted, owes_opening, after_answer, taken_at, is_waiting, waiting_for}
+use Rattle.house_forward.specs.Asks.{has_open, turns_away, settled, counted, owes_opening, after_answer, taken_at, is_waiting, waiting_for}
 use Rattle.house_forward.specs.Causes.{gateway_in, unanswered, AreOne, IsFor, IsNext, IsGranted, CameBy, WasToClose}
 use Rattle.house_forward.specs.Deeds.{Deed, Does, Leave}
 use Rattle.house_forward.specs.Deeds.{Begins, Asks, Answers, Greets, Requests, Replies, Listens, Unlistens}
@@ -35,10 +35,11 @@ use Rattle.house_forward.specs.declared.forwardings.Want.TheVariants as want
 use Rattle.house_forward.specs.declared.rules.Ends.{Ends}
 use Rattle.house_forward.specs.declared.rules.Kind.{Kind}
 use Rattle.house_forward.specs.declared.rules.Kind.TheVariants as kind
-use Rattle.house_forward.specs.declared.rules.TheConstants.{MOST_FORWARDINGS}
+use Rattle.house_forward.specs.declared.rules.TheConstants.{MOST_ASKS, MOST_FORWARDINGS}
+use Rattle.house_forward.proofs.Apart.{Apart, apart-more, apart-replied, apart-ordered, apart-settled, apart-taken, others}
 use Rattle.house_forward.proofs.Desks.{same-desks}
 use Rattle.house_forward.proofs.Lists.{found-first}
-use Rattle.house_forward.proofs.Serving.{StageFits, Stands, Asked, Waits, Lets, all-later, all-wait-later, stands-later, Keeps, stands-grown, asked-grown, waits-grown, restaged, all-changed, steady-stage, all-settled, all-refused}
+use Rattle.house_forward.proofs.Serving.{StageFits, Stands, Asked, Waits, Lets, all-later, all-wait-later, waits-later, stands-later, Keeps, stands-grown, asked-grown, waits-grown, restaged, all-changed, steady-stage, all-settled, all-refused}
 
 -- what is known
 pub record Knows (deeds : List Deed) (d : Desk) : Type 0 where
@@ -48,6 +49,7 @@ pub record Knows (deeds : List Deed) (d : Desk) : Type 0 where
   pub all : All (Stands home d.serials deeds) d.all
   pub asked : All (Asked home d.serials) (unanswered deeds)
   pub waiting : All (Waits home d.serials deeds) d.waiting
+  pub apart : Apart d.waiting
 
 -- ---- lists
 
@@ -234,7 +236,8 @@ after-start starts deeds old new k b =
       waiting = subst (λ (ws : List Waiting). All (Waits g.to new.serials (deed ∷ deeds)) ws)
           (sym (ap (λ (d : Desk). d.waiting) b.others))
           (all-wait-grown k.home g.to old.serials new.serials (deed ∷ deeds) old.waiting g.less g.keeps
-          (all-wait-later k.home old.serials deed deeds old.waiting k.waiting));
+          (all-wait-later k.home old.serials deed deeds (λ c i. refl) old.waiting k.waiting));
+      apart = subst Apart (sym (ap (λ (d : Desk). d.waiting) b.others)) k.apart;
     }
 
 -- ---- nothing happened yet
@@ -260,6 +263,7 @@ knows-nothing = record {
   all = All-nil (Stands (λ n. nobody) 0 []);
   asked = All-nil (Asked (λ n. nobody) 0);
   waiting = All-nil (Waits (λ n. nobody) 0 []);
+  apart = tt;
 }
 
 -- ---- an ask
@@ -518,8 +522,23 @@ waits-more home serials deeds client id opening ask answer (Later serial) ws e w
       earlier = deeds;
       were = ap (λ r. Asks client id opening ask r ∷ deeds) e;
       is_for = w.is_for;
+      open_yet = refl;
       came = tt;
     })
+
+apart-came : (comes : Comes) (client id : ℕ) (opening : Bool) (ws : List Waiting) → has_open client id ws ≡ false → Apart ws
+    → Apart (asks_after comes client id opening ws)
+apart-came (Now o) client id opening ws e h = h
+apart-came (Later serial) client id opening ws e h = apart-more ws (waiting_for client id opening serial) h e
+
+-- an ask waits where its client has none with its id
+apart-asked : (client id : ℕ) (opening : Bool) (ask : StartAsk) (comes : Comes) (gateway : Bool) (serials : ℕ)
+    (fs new : List Forwarding) (ws : List Waiting) (away : Bool) → turns_away client id ws ≡ away
+    → ComesUnless away gateway opening ask serials fs new comes → Apart ws → Apart (asks_after comes client id opening ws)
+apart-asked client id opening ask comes gateway serials fs new ws true e c h =
+    subst (λ (x : Comes). Apart (asks_after x client id opening ws)) (sym c.0) h
+apart-asked client id opening ask comes gateway serials fs new ws false e c h =
+    apart-came comes client id opening ws (or_parts (has_open client id ws) (nat_le MOST_ASKS (length ws)) e).0 h
 
 to-close : (client id : ℕ) (opening : Bool) (ask : StartAsk) (answer : HouseReply) (comes : Comes) (deeds : List Deed) (gateway : Bool)
     (serial : ℕ) (a : Forwarding) → answer ≡ reply_to comes → gateway ≡ gateway_in deeds → comes ≡ Later serial → opening ≡ false
@@ -559,10 +578,22 @@ after-ask client id opening ask answer deeds old new k a =
           (waits-more g.to more deeds client id opening ask answer a.came_to old.waiting a.replies
           (λ serial later. subst (λ (b : Bool). WaitsFor g.to more b opening ask serial) k.gateway (left.waits serial later))
           (all-wait-grown k.home g.to old.serials more (deed ∷ deeds) old.waiting g.less g.keeps
-          (all-wait-later k.home old.serials deed deeds old.waiting k.waiting))));
+          (all-wait-later k.home old.serials deed deeds (λ c i. refl) old.waiting k.waiting))));
+      apart = subst Apart (sym (ap (λ (d : Desk). d.waiting) a.others))
+          (apart-asked client id opening ask a.came_to old.gateway old.serials old.all new.all old.waiting
+          (turns_away client id old.waiting) refl a.comes k.apart);
     }
 
 -- ---- an answer, and the greeting
+
+-- it answers no other ask
+all-answered : (home : ℕ → Forwarding) (serials client id : ℕ) (answer : HouseReply) (deeds : List Deed) (ws : List Waiting) (o : Option ℕ)
+    → position (is_waiting client id) ws ≡ o → Apart ws → All (Waits home serials deeds) ws
+    → All (Waits home serials (Answers client id answer ∷ deeds)) (taken_at o ws)
+all-answered home serials client id answer deeds ws o e apart h =
+    let rest = all-taken (Waits home serials deeds) o ws h in
+    let not = others ws client id o e apart in
+    λ k d lt. waits-later home serials (Answers client id answer) deeds (get_or (taken_at o ws) k d) (not k d lt) (rest k d lt)
 
 after-answering : (client id : ℕ) (answer : HouseReply) (deeds : List Deed) (old new : Desk) → Knows deeds old
     → IsAnswered client id answer old new → Knows (Answers client id answer ∷ deeds) new
@@ -575,8 +606,9 @@ after-answering client id answer deeds old new k a =
       requests = k.requests;
       all = all-later k.home old.serials deed deeds old.all (λ l. refl) k.all;
       asked = k.asked;
-      waiting = all-taken (Waits k.home old.serials (deed ∷ deeds)) (position (is_waiting client id) old.waiting) old.waiting
-          (all-wait-later k.home old.serials deed deeds old.waiting k.waiting);
+      waiting = all-answered k.home old.serials client id answer deeds old.waiting (position (is_waiting client id) old.waiting) refl
+          k.apart k.waiting;
+      apart = apart-taken (position (is_waiting client id) old.waiting) old.waiting k.apart;
     } in
     subst (Knows (deed ∷ deeds)) (sym a.others) got
 
@@ -588,7 +620,8 @@ after-greeting deeds old new k e =
       requests = k.requests;
       all = all-later k.home old.serials Greets deeds old.all (λ l. refl) k.all;
       asked = k.asked;
-      waiting = all-wait-later k.home old.serials Greets deeds old.waiting k.waiting;
+      waiting = all-wait-later k.home old.serials Greets deeds (λ c i. refl) old.waiting k.waiting;
+      apart = k.apart;
     } in
     subst (Knows (Greets ∷ deeds)) (sym e) got
 
@@ -628,7 +661,8 @@ after-request f deeds old new k is e =
         same = at.0.same;
         there = asks-there f.stage (k.home f.serial) deeds f.closing at.1 at.0.stage;
       });
-      waiting = all-wait-later k.home old.serials deed deeds old.waiting k.waiting;
+      waiting = all-wait-later k.home old.serials deed deeds (λ c i. refl) old.waiting k.waiting;
+      apart = k.apart;
     } in
     subst (Knows (deed ∷ deeds)) (sym e) got
 
@@ -663,12 +697,12 @@ opened : (home : ℕ → Forwarding) (serials : ℕ) (deeds : List Deed) (port :
     (ws : List Waiting) (o : Option Forwarding) → find (is_asked serial) fs ≡ o → IsNext Listen (home serial) deeds
     → All (Stands home serials deeds) fs → All (Waits home serials deeds) ws
     → All (Waits home serials (Replies true port ∷ deeds)) (opened_asks (live_in port o) serial at ws)
-opened home serials deeds port serial at fs ws None e next all h = all-wait-later home serials (Replies true port) deeds ws h
+opened home serials deeds port serial at fs ws None e next all h = all-wait-later home serials (Replies true port) deeds (λ c i. refl) ws h
 opened home serials deeds port serial at fs ws (Some f) e next all h =
     let one = found (Stands home serials deeds) (is_asked serial) fs f e all in
     let is = eqb-true f.serial serial (and_parts (f.serial == serial) (asks_at f.stage) one.1).0 in
     let same : (home serial).listen_port ≡ f.listen_port = ap (λ n. (home n).listen_port) (sym is) ∙ one.0.same.listen_port in
-    all-settled home serials (Replies true port) deeds serial true at (granted f.listen_port (bound_to f.listen_port port)) ws
+    all-settled home serials (Replies true port) deeds (λ c i. refl) serial true at (granted f.listen_port (bound_to f.listen_port port)) ws
     (next, ap (λ n. granted n (bound_to n port)) (sym same)) h
 
 replied : (success : Bool) (r : Request) (home : ℕ → Forwarding) (serials : ℕ) (deeds : List Deed) (port : Option ℕ) (at : ℕ)
@@ -705,7 +739,7 @@ replied true (Cancel serial) home serials deeds port at fs ws g gs e a is (inr w
     record {
       all = all-removed (Stands home serials (deed ∷ deeds)) (position (is_cancelled serial) fs) fs
           (all-later home serials deed deeds fs (λ l. refl) all);
-      waiting = all-settled home serials deed deeds serial false at Done ws (next, refl) h;
+      waiting = all-settled home serials deed deeds (λ c i. refl) serial false at Done ws (next, refl) h;
     }
 replied false (Listen serial) home serials deeds port at fs ws g gs e a is (inl which) all h =
     let same : serial ≡ g.serial = cc in
@@ -715,7 +749,7 @@ replied false (Listen serial) home serials deeds port at fs ws g gs e a is (inl 
     record {
       all = all-removed (Stands home serials (deed ∷ deeds)) (position (is_asked serial) fs) fs
           (all-later home serials deed deeds fs (λ l. refl) all);
-      waiting = all-refused home serials deed deeds serial at ws (refused-either (home serial) deeds port next) h;
+      waiting = all-refused home serials deed deeds (λ c i. refl) serial at ws (refused-either (home serial) deeds port next) h;
     }
 replied false (Listen serial) home serials deeds port at fs ws g gs e a is (inr which) all h = cc
 replied false (Cancel serial) home serials deeds port at fs ws g gs e a is (inl which) all h = cc
@@ -728,7 +762,7 @@ replied false (Cancel serial) home serials deeds port at fs ws g gs e a is (inr 
       all = all-changed home serials (deed ∷ deeds) change.Stay serial fs
           (λ f its one k. steady-stage change.Stay f.listen_port f.stage (home f.serial) (deed ∷ deeds) tt k)
           (λ f its k c. cc) (all-later home serials deed deeds fs (λ l. refl) all);
-      waiting = all-settled home serials deed deeds serial false at Refused ws (Cancel, next, refl) h;
+      waiting = all-settled home serials deed deeds (λ c i. refl) serial false at Refused ws (Cancel, next, refl) h;
     }
 
 request-is : (s : Stage) (serial : ℕ) → (request_at s serial ≡ Listen serial) ⊎ (request_at s serial ≡ Cancel serial)
@@ -747,7 +781,7 @@ replied-by : (success : Bool) (port : Option ℕ) (deeds : List Deed) (old : Des
     (replied_asks success port (first_of (map request_of gs)) old.all old.done old.waiting)
 replied-by success port deeds old [] k e = record {
   all = all-later k.home old.serials (Replies success port) deeds old.all (λ l. refl) k.all;
-  waiting = all-wait-later k.home old.serials (Replies success port) deeds old.waiting k.waiting;
+  waiting = all-wait-later k.home old.serials (Replies success port) deeds (λ c i. refl) old.waiting k.waiting;
 }
 replied-by success port deeds old (g ∷ gs) k e =
     let a = All-head (Asked k.home old.serials) g gs (subst (All (Asked k.home old.serials)) e k.asked) in
@@ -772,6 +806,7 @@ after-reply success port deeds old new k e =
       asked = All-drop (Asked k.home old.serials) 1 (unanswered deeds) k.asked;
       waiting = subst (λ (rs : List Request). All (Waits k.home old.serials (deed ∷ deeds))
           (replied_asks success port (first_of rs) old.all old.done old.waiting)) (sym k.requests) left.waiting;
+      apart = apart-replied success port (first_of old.requests) old.all old.done old.waiting k.apart;
     } in
     subst (Knows (deed ∷ deeds)) (sym e) got
 
@@ -843,9 +878,9 @@ made-waiting : (home : ℕ → Forwarding) (serials : ℕ) (host : List ℕ) (po
     (f : Forwarding) (at : ℕ) (ws : List Waiting) → Ordering home serials host port deeds fs f → All (Waits home serials deeds) ws
     → All (Waits home serials (Listens host port number ∷ deeds)) (ordered_asks number f.serial at ws)
 made-waiting home serials host port deeds None fs f at ws o h =
-    all-refused home serials (Listens host port None) deeds f.serial at ws (λ opening. (o.host_is, o.port_is, o.here, refl)) h
+    all-refused home serials (Listens host port None) deeds (λ c i. refl) f.serial at ws (λ opening. (o.host_is, o.port_is, o.here, refl)) h
 made-waiting home serials host port deeds (Some l) fs f at ws o h =
-    all-settled home serials (Listens host port (Some l)) deeds f.serial true at Done ws (o.host_is, o.port_is, o.here, refl) h
+    all-settled home serials (Listens host port (Some l)) deeds (λ c i. refl) f.serial true at Done ws (o.host_is, o.port_is, o.here, refl) h
 
 after-listen : (host : List ℕ) (port : ℕ) (number : Option ℕ) (deeds : List Deed) (old new : Desk) → Knows deeds old
     → GetsListener host port number old new → Knows (Listens host port number ∷ deeds) new
@@ -889,6 +924,7 @@ after-listen host port number deeds old new k h =
       asked = k.asked;
       waiting = subst (All (Waits k.home old.serials (deed ∷ deeds))) (sym waiting)
           (made-waiting k.home old.serials host port deeds number b.all g b.done old.waiting o k.waiting);
+      apart = subst Apart (sym waiting) (apart-ordered number f.serial b.done old.waiting k.apart);
     } in
     subst (Knows (deed ∷ deeds)) (sym e) got
 
@@ -964,7 +1000,8 @@ after-unlisten l deeds old new k h =
       requests = k.requests;
       all = λ i d lt. stands-later k.home old.serials deed deeds (get_or kept i d) (stays l (get_or kept i d) (pass i d lt)) (stand i d lt);
       asked = k.asked;
-      waiting = all-settled k.home old.serials deed deeds h.serial false old.done Done old.waiting (its.0, its.1, refl) k.waiting;
+      waiting = all-settled k.home old.serials deed deeds (λ c i. refl) h.serial false old.done Done old.waiting (its.0, its.1, refl) k.waiting;
+      apart = apart-settled h.serial false old.done Done old.waiting k.apart;
     } in
     subst (Knows (deed ∷ deeds)) (sym h.others) got
 

@@ -7,7 +7,7 @@ use Rattle.std.proofs.lemmas.List.Elements.{All-weaker, All-map}
 use Rattle.mux_outside.specs.declared.house.HouseReply.TheVariants as given
 use Rattle.mux_outside.specs.declared.start_ask.StartAsk.{StartAsk}
 use Rattle.house_forward.specs.Asks.{settled, settle_one, settled_at, refused, is_about, same, counted}
-use Rattle.house_forward.specs.Causes.{gateway_in, closes, AreOne, IsFor, ListensSince, IsGranted, CameBy, WasToClose}
+use Rattle.house_forward.specs.Causes.{answers, gateway_in, closes, AreOne, IsFor, ListensSince, IsGranted, CameBy, WasToClose}
 use Rattle.house_forward.specs.Deeds.{Deed}
 use Rattle.house_forward.specs.Deeds.{Asks}
 use Rattle.house_forward.specs.Forwardings.{changed, stage_after, closing_after}
@@ -66,6 +66,7 @@ pub record Waits (home : ℕ → Forwarding) (serials : ℕ) (deeds : List Deed)
   pub later : List Deed
   pub earlier : List Deed
   pub were : deeds ≡ later ++ Asks w.client w.id w.opening ask given.Later ∷ earlier
+  pub open_yet : list_any (answers w.client w.id) later ≡ false
   pub is_for : IsFor (gateway_in earlier) w.opening ask (home w.forwarding)
   pub came : CameIf w.outcome (home w.forwarding) w.opening later (Asks w.client w.id w.opening ask given.Later ∷ earlier)
 
@@ -139,23 +140,28 @@ came-later (Some o) a opening deed later earlier h =
     record { newer = deed ∷ h.newer; deed = h.deed; older = h.older; were = ap (λ ds. deed ∷ ds) h.were; by = h.by }
 
 pub waits-later : (home : ℕ → Forwarding) (serials : ℕ) (deed : Deed) (deeds : List Deed) (w : Waiting)
-    → Waits home serials deeds w → Waits home serials (deed ∷ deeds) w
-waits-later home serials deed deeds w h = record {
+    → answers w.client w.id deed ≡ false → Waits home serials deeds w → Waits home serials (deed ∷ deeds) w
+waits-later home serials deed deeds w e h = record {
   below = h.below;
   serial = h.serial;
   ask = h.ask;
   later = deed ∷ h.later;
   earlier = h.earlier;
   were = ap (λ ds. deed ∷ ds) h.were;
+  open_yet = or_from (answers w.client w.id deed) (list_any (answers w.client w.id) h.later) e h.open_yet;
   is_for = h.is_for;
   came = came-later w.outcome (home w.forwarding) w.opening deed h.later (Asks w.client w.id w.opening h.ask given.Later ∷ h.earlier) h.came;
 }
 
-pub all-wait-later : (home : ℕ → Forwarding) (serials : ℕ) (deed : Deed) (deeds : List Deed) (ws : List Waiting)
+-- it answers no ask
+abbrev pub IsNoAnswer : Deed → Type 0
+IsNoAnswer deed = (client id : ℕ) → answers client id deed ≡ false
+
+pub all-wait-later : (home : ℕ → Forwarding) (serials : ℕ) (deed : Deed) (deeds : List Deed) → IsNoAnswer deed → (ws : List Waiting)
     → All (Waits home serials deeds) ws → All (Waits home serials (deed ∷ deeds)) ws
-all-wait-later home serials deed deeds ws h =
+all-wait-later home serials deed deeds none ws h =
     All-weaker (Waits home serials deeds) (Waits home serials (deed ∷ deeds))
-    (λ w s. waits-later home serials deed deeds w s) ws h
+    (λ w s. waits-later home serials deed deeds w (none w.client w.id) s) ws h
 
 -- ---- more forwardings
 
@@ -195,6 +201,7 @@ waits-grown home to serials more deeds w less keeps h =
       later = h.later;
       earlier = h.earlier;
       were = h.were;
+      open_yet = h.open_yet;
       is_for = subst (λ (a : Forwarding). IsFor (gateway_in h.earlier) w.opening h.ask a) e h.is_for;
       came = subst (λ (a : Forwarding). CameIf w.outcome a w.opening h.later
           (Asks w.client w.id w.opening h.ask given.Later ∷ h.earlier)) e h.came;
@@ -286,13 +293,13 @@ abbrev Turns : Deed → List Deed → Bool → Forwarding → Option (ℕ × Out
 Turns deed deeds opening a old new =
     (new ≡ old) ⊎ ((o : ℕ × Outcome) × (new ≡ Some o) × CameBy deed deeds opening a o.1)
 
-turned : (home : ℕ → Forwarding) (serials : ℕ) (deed : Deed) (deeds : List Deed) (w : Waiting) (new : Option (ℕ × Outcome))
+turned : (home : ℕ → Forwarding) (serials : ℕ) (deed : Deed) (deeds : List Deed) → IsNoAnswer deed → (w : Waiting) (new : Option (ℕ × Outcome))
     → Waits home serials deeds w → Turns deed deeds w.opening (home w.forwarding) w.outcome new
     → Waits home serials (deed ∷ deeds) (record w { outcome = new })
-turned home serials deed deeds w new h (inl e) =
+turned home serials deed deeds none w new h (inl e) =
     subst (λ (o : Option (ℕ × Outcome)). Waits home serials (deed ∷ deeds) (record w { outcome = o })) (sym e)
-    (waits-later home serials deed deeds w h)
-turned home serials deed deeds w new h (inr s) =
+    (waits-later home serials deed deeds w (none w.client w.id) h)
+turned home serials deed deeds none w new h (inr s) =
     let got : Waits home serials (deed ∷ deeds) (record w { outcome = Some s.0 }) = record {
       below = h.below;
       serial = h.serial;
@@ -300,6 +307,7 @@ turned home serials deed deeds w new h (inr s) =
       later = deed ∷ h.later;
       earlier = h.earlier;
       were = ap (λ ds. deed ∷ ds) h.were;
+      open_yet = or_from (answers w.client w.id deed) (list_any (answers w.client w.id) h.later) (none w.client w.id) h.open_yet;
       is_for = h.is_for;
       came = record {
         newer = [];
@@ -342,23 +350,23 @@ about home deed deeds serial opening outcome w by e =
     (subst (λ (b : Bool). CameBy deed deeds b (home serial) outcome) (sym (same-true w.opening opening both.1)) by)
 
 -- those that asked for one thing come to this
-pub all-settled : (home : ℕ → Forwarding) (serials : ℕ) (deed : Deed) (deeds : List Deed) (serial : ℕ) (opening : Bool) (at : ℕ)
+pub all-settled : (home : ℕ → Forwarding) (serials : ℕ) (deed : Deed) (deeds : List Deed) → IsNoAnswer deed → (serial : ℕ) (opening : Bool) (at : ℕ)
     (outcome : Outcome) (ws : List Waiting) → CameBy deed deeds opening (home serial) outcome
     → All (Waits home serials deeds) ws → All (Waits home serials (deed ∷ deeds)) (settled serial opening at outcome ws)
-all-settled home serials deed deeds serial opening at outcome ws by h =
+all-settled home serials deed deeds none serial opening at outcome ws by h =
     All-map (Waits home serials (deed ∷ deeds)) (settle_one serial opening at outcome) ws
     (All-weaker (Waits home serials deeds) (λ (w : Waiting). Waits home serials (deed ∷ deeds) (settle_one serial opening at outcome w))
     (λ w s. subst (Waits home serials (deed ∷ deeds))
     (sym (settles serial opening at outcome w w.outcome (is_about serial opening w)))
-    (turned home serials deed deeds w (next_outcome (is_about serial opening w) at outcome w.outcome) s
+    (turned home serials deed deeds none w (next_outcome (is_about serial opening w) at outcome w.outcome) s
     (turns-at deed deeds w.opening (home w.forwarding) at outcome (is_about serial opening w) w.outcome w.outcome
     (about home deed deeds serial opening outcome w by) (inl refl)))) ws h)
 
 -- all that asked about it are refused
-refuse-one : (home : ℕ → Forwarding) (serials : ℕ) (deed : Deed) (deeds : List Deed) (serial at : ℕ) (w : Waiting)
+refuse-one : (home : ℕ → Forwarding) (serials : ℕ) (deed : Deed) (deeds : List Deed) → IsNoAnswer deed → (serial at : ℕ) (w : Waiting)
     → ((opening : Bool) → CameBy deed deeds opening (home serial) Refused) → Waits home serials deeds w
     → Waits home serials (deed ∷ deeds) (settle_one serial false (counted at) Refused (settle_one serial true at Refused w))
-refuse-one home serials deed deeds serial at w by h =
+refuse-one home serials deed deeds none serial at w by h =
     let a = home w.forwarding in
     let first = next_outcome (is_about serial true w) at Refused w.outcome in
     let last = next_outcome (is_about serial false w) (counted at) Refused first in
@@ -367,19 +375,19 @@ refuse-one home serials deed deeds serial at w by h =
     let e : settle_one serial false (counted at) Refused (settle_one serial true at Refused w) ≡ record w { outcome = last } =
     ap (settle_one serial false (counted at) Refused) one ∙ two in
     subst (Waits home serials (deed ∷ deeds)) (sym e)
-    (turned home serials deed deeds w last h
+    (turned home serials deed deeds none w last h
     (turns-at deed deeds w.opening a (counted at) Refused (is_about serial false w) w.outcome first
     (about home deed deeds serial false Refused w (by false))
     (turns-at deed deeds w.opening a at Refused (is_about serial true w) w.outcome w.outcome
     (about home deed deeds serial true Refused w (by true)) (inl refl))))
 
-pub all-refused : (home : ℕ → Forwarding) (serials : ℕ) (deed : Deed) (deeds : List Deed) (serial at : ℕ) (ws : List Waiting)
+pub all-refused : (home : ℕ → Forwarding) (serials : ℕ) (deed : Deed) (deeds : List Deed) → IsNoAnswer deed → (serial at : ℕ) (ws : List Waiting)
     → ((opening : Bool) → CameBy deed deeds opening (home serial) Refused)
     → All (Waits home serials deeds) ws → All (Waits home serials (deed ∷ deeds)) (refused serial at ws)
-all-refused home serials deed deeds serial at ws by h =
+all-refused home serials deed deeds none serial at ws by h =
     All-map (Waits home serials (deed ∷ deeds)) (settle_one serial false (counted at) Refused) (settled serial true at Refused ws)
     (All-map (λ (v : Waiting). Waits home serials (deed ∷ deeds) (settle_one serial false (counted at) Refused v))
     (settle_one serial true at Refused) ws
     (All-weaker (Waits home serials deeds) (λ (w : Waiting). Waits home serials (deed ∷ deeds)
     (settle_one serial false (counted at) Refused (settle_one serial true at Refused w)))
-    (λ w s. refuse-one home serials deed deeds serial at w by s) ws h))
+    (λ w s. refuse-one home serials deed deeds none serial at w by s) ws h))

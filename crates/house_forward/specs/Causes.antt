@@ -1,5 +1,5 @@
 -- Why asks get their replies and answers, by what happened before.
-use Rattle.std.specs.Prelude.{◌≡◌, ◌≤◌, ℕ, Bool, true, false, ◌==◌, List, [], ◌∷◌, ◌++◌, drop, Option, Some, None}
+use Rattle.std.specs.Prelude.{◌≡◌, ◌≤◌, ℕ, Bool, true, false, ◌==◌, ◌&&◌, List, [], ◌∷◌, ◌++◌, drop, Option, Some, None}
 use Rattle.std.specs.List.{list_any, Contains}
 use Rattle.mux_outside.specs.declared.house.HouseReply.{HouseReply}
 use Rattle.mux_outside.specs.declared.house.HouseReply.TheVariants as given
@@ -58,6 +58,17 @@ closes l (Requests f) = false
 closes l (Replies success port) = false
 closes l (Listens host port number) = false
 closes l (Unlistens k) = l == k
+
+-- whether this is the answer to a client's ask with this id
+abbrev pub answers : ℕ → ℕ → Deed → Bool
+answers client id (Begins starts) = false
+answers client id (Asks c i opening ask reply) = false
+answers client id (Answers c i reply) = (client == c) && (id == i)
+answers client id Greets = false
+answers client id (Requests f) = false
+answers client id (Replies success port) = false
+answers client id (Listens host port number) = false
+answers client id (Unlistens l) = false
 
 -- ---- a forwarding
 
@@ -182,7 +193,8 @@ CameBy (Listens host port number) earlier opening f outcome = (host ≡ f.listen
 CameBy (Unlistens l) earlier opening f outcome = (listens_here f.kind ≡ true)
     × ListensSince f.listen_host f.listen_port l earlier × ClosedBy opening outcome
 
--- an answer: its ask waited, and came to this by what happened since, to the forwarding that it is for
+-- an answer: its ask had none yet, and came to this by what happened since, to the forwarding that it
+-- is for
 pub record HasCause (client id : ℕ) (reply : HouseReply) (deeds : List Deed) : Type 0 where
   pub opening : Bool
   pub ask : StartAsk
@@ -193,6 +205,7 @@ pub record HasCause (client id : ℕ) (reply : HouseReply) (deeds : List Deed) :
   pub between : List Deed
   pub earlier : List Deed
   pub were : deeds ≡ later ++ deed ∷ (between ++ Asks client id opening ask given.Later ∷ earlier)
+  pub open_yet : list_any (answers client id) (later ++ deed ∷ between) ≡ false
   pub is_for : IsFor (gateway_in earlier) opening ask forwarding
   pub came : CameBy deed (between ++ Asks client id opening ask given.Later ∷ earlier) opening
       forwarding outcome
