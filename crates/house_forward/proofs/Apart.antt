@@ -70,7 +70,7 @@ pub apart-settled : (serial : ℕ) (opening : Bool) (at : ℕ) (outcome : Outcom
 apart-settled serial opening at outcome [] h = tt
 apart-settled serial opening at outcome (w ∷ ws) h = (
   one-apart (is_about serial opening w) w (settled_at at outcome w.outcome) (settled serial opening at outcome ws)
-  (settled-open serial opening at outcome ws w.client w.id ∙ h.0),
+      (settled-open serial opening at outcome ws w.client w.id ∙ h.0),
   apart-settled serial opening at outcome ws h.1,
 )
 

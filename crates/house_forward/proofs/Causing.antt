@@ -88,7 +88,7 @@ pub all-taken : (P : Waiting → Type 0) (o : Option ℕ) (xs : List Waiting) �
 all-taken P None xs h = h
 all-taken P (Some i) xs h = all-remove P xs i h
 
-in-range : {X : Type 0} (xs : List X) (i : ℕ) → i < length xs → (x : X) × (slice_get xs i ≡ Some x)
+pub in-range : {X : Type 0} (xs : List X) (i : ℕ) → i < length xs → (x : X) × (slice_get xs i ≡ Some x)
 in-range [] i l = absurd (omega arith)
 in-range (x ∷ xs) zero l = (x, refl)
 in-range (x ∷ xs) (suc i) l = in-range xs i (omega arith)
@@ -335,13 +335,13 @@ record Asking (home : ℕ → Forwarding) (serials : ℕ) (deeds : List Deed) (g
   closes : (serial : ℕ) → comes ≡ Later serial → opening ≡ false → (a : Forwarding) → IsFor gateway false ask a
       → WasToClose a deeds
 
-abbrev more_than : ℕ → List Forwarding → List Forwarding → ℕ
+abbrev pub more_than : ℕ → List Forwarding → List Forwarding → ℕ
 more_than serials old new = serials + (length new - length old)
 
-same-many : (serials : ℕ) (old new : List Forwarding) → length new ≡ length old → serials ≡ more_than serials old new
+pub same-many : (serials : ℕ) (old new : List Forwarding) → length new ≡ length old → serials ≡ more_than serials old new
 same-many serials old new e = omega (arith, e)
 
-one-many : (serials : ℕ) (fs : List Forwarding) (f : Forwarding) → serials + 1 ≡ more_than serials fs (fs ++ f ∷ [])
+pub one-many : (serials : ℕ) (fs : List Forwarding) (f : Forwarding) → serials + 1 ≡ more_than serials fs (fs ++ f ∷ [])
 one-many serials fs f = omega (arith, length-append fs (f ∷ []))
 
 never : (o : Outcome) (comes : Comes) (serial : ℕ) (P : Type 0) → comes ≡ Now o → comes ≡ Later serial → P
@@ -822,12 +822,12 @@ listens-there Requested a deeds e h = cc
 listens-there (Live port) a deeds e h = cc
 listens-there (Cancelling port) a deeds e h = cc
 
-first-place : (b : Bool) (n i : ℕ) → (if b then Some n else None) ≡ Some i → i ≡ n
+pub first-place : (b : Bool) (n i : ℕ) → (if b then Some n else None) ≡ Some i → i ≡ n
 first-place true n i e = cc
 first-place false n i e = cc
 
 -- the first that is to listen is still the first as it is ordered
-first-ordered : (fs : List Forwarding) (i : ℕ) (f : Forwarding) → position to_listen fs ≡ Some i
+pub first-ordered : (fs : List Forwarding) (i : ℕ) (f : Forwarding) → position to_listen fs ≡ Some i
     → find to_listen (set fs i (record f { stage = Ordered })) ≡ Some (record f { stage = Ordered })
 first-ordered fs i f e =
     let first = position-Some to_listen fs i f e in
@@ -843,7 +843,7 @@ record Ordering (home : ℕ → Forwarding) (serials : ℕ) (host : List ℕ) (p
   host_is : host ≡ (home f.serial).listen_host
   port_is : port ≡ (home f.serial).listen_port
 
-same-one-found : (f g : Forwarding) → Some f ≡ Some g → f ≡ g
+pub same-one-found : (f g : Forwarding) → Some f ≡ Some g → f ≡ g
 same-one-found f g e = cc
 
 made-all : (home : ℕ → Forwarding) (serials : ℕ) (host : List ℕ) (port : ℕ) (deeds : List Deed) (number : Option ℕ) (fs new : List Forwarding)
@@ -962,7 +962,7 @@ next-at P ws f serial l Requested next is h e rest = rest e
 next-at P ws f serial l (Live port) next is h e rest = rest e
 next-at P ws f serial l (Cancelling port) next is h e rest = rest e
 
-next-closing : (P : Forwarding → Type 0) (ws : List Waiting) (fs : List Forwarding) (serial l : ℕ) → All P fs
+pub next-closing : (P : Forwarding → Type 0) (ws : List Waiting) (fs : List Forwarding) (serial l : ℕ) → All P fs
     → next_of ws fs ≡ Some (want.Unlisten serial l) → Closing P serial l
 next-closing P ws [] serial l h e = cc
 next-closing P ws (f ∷ fs) serial l h e =

@@ -1,6 +1,6 @@
 -- Why asks get their replies and answers, by what happened before.
-use Rattle.std.specs.Prelude.{◌≡◌, ◌≤◌, ℕ, Bool, true, false, ◌==◌, ◌&&◌, List, [], ◌∷◌, ◌++◌, drop, Option, Some, None}
-use Rattle.std.specs.List.{list_any, Contains}
+use Rattle.std.specs.Prelude.{◌≡◌, ◌≢◌, ◌⊎◌, ◌≤◌, ℕ, Bool, true, false, ◌==◌, ◌&&◌, List, [], ◌∷◌, ◌++◌, drop, find, Option, Some, None}
+use Rattle.std.specs.List.{All, list_any, Contains}
 use Rattle.mux_outside.specs.declared.house.HouseReply.{HouseReply}
 use Rattle.mux_outside.specs.declared.house.HouseReply.TheVariants as given
 use Rattle.mux_outside.specs.declared.start_ask.StartAsk.{StartAsk}
@@ -8,11 +8,13 @@ use Rattle.house_forward.specs.Asks.{turns_away}
 use Rattle.house_forward.specs.Deeds.{Deed, Does, Leave}
 use Rattle.house_forward.specs.Deeds.{Begins, Asks, Answers, Greets, Requests, Replies, Listens, Unlistens}
 use Rattle.house_forward.specs.Desk.{Desk}
-use Rattle.house_forward.specs.Forwardings.{granted, bound_to, request_of, outcome_of, reply_to, standing, connects_to, how_many}
+use Rattle.house_forward.specs.Forwardings.{granted, bound_to, request_of, outcome_of, reply_to, standing, connects_to, how_many, has_request, next_of, listener_of}
+use Rattle.house_forward.specs.Quiet.{answers_none}
 use Rattle.house_forward.specs.Rules.{AreEnds, is_refused_alone, kind_of, listen_host, listens_here, connects_there}
 use Rattle.house_forward.specs.declared.asks.Asked.TheVariants.{Now}
 use Rattle.house_forward.specs.declared.asks.Outcome.{Outcome}
 use Rattle.house_forward.specs.declared.asks.Outcome.TheVariants.{Done, Refused}
+use Rattle.house_forward.specs.declared.asks.Waiting.{Waiting}
 use Rattle.house_forward.specs.declared.forwarding.Forwarding.{Forwarding}
 use Rattle.house_forward.specs.declared.forwarding.Request.{Request}
 use Rattle.house_forward.specs.declared.forwarding.Request.TheVariants.{Listen, Cancel}
@@ -269,3 +271,38 @@ pub data IsRefused (client id : ℕ) (opening : Bool) (ask : StartAsk) (d : Desk
 abbrev pub EachRefused : Type 0
 EachRefused = (client id : ℕ) (opening : Bool) (ask : StartAsk) (old new : Desk)
     → Does (Asks client id opening ask given.Refused) old new → IsRefused client id opening ask old
+
+-- ---- at rest
+
+-- there is no request to say, no listener to order or to close, and no answer to give
+pub record IsAtRest (d : Desk) : Type 0 where
+  pub says : find has_request d.all ≡ None
+  pub orders : next_of d.waiting d.all ≡ None
+  pub answers : answers_none d.waiting ≡ true
+
+-- two forwardings had listeners of one number at one time
+pub record ShareListener (deeds : List Deed) : Type 0 where
+  pub later : List Deed
+  pub earlier : List Deed
+  pub were : deeds ≡ later ++ earlier
+  pub desk : Desk
+  pub left : Leave earlier desk
+  pub one : Forwarding
+  pub other : Forwarding
+  pub listener : ℕ
+  pub has_one : Contains desk.all one
+  pub has_other : Contains desk.all other
+  pub differ : one.serial ≢ other.serial
+  pub listens : listener_of one ≡ Some listener
+  pub listens_too : listener_of other ≡ Some listener
+
+-- the request to listen for the forwarding that an ask waits for, or its cancel, was said and has no
+-- reply yet
+abbrev pub AwaitsReply : List Request → Waiting → Type 0
+AwaitsReply requests w =
+    Contains requests (Listen w.forwarding) ⊎ Contains requests (Cancel w.forwarding)
+
+-- at rest each ask that waits awaits a reply of the server, if listeners have numbers of their own
+abbrev pub EachAwaits : Type 0
+EachAwaits = (deeds : List Deed) (d : Desk) → Leave deeds d → IsAtRest d
+    → ShareListener deeds ⊎ All (AwaitsReply d.requests) d.waiting

@@ -1,7 +1,7 @@
 //! What holds of the relays of the house, whatever calls were made: each function's contract is the
 //! law.
 
-ghost use Rattle.house_forward.specs.Causes.{EachServed, EachRefused, EachAnswer, EachUnlisten, EachCancel};
+ghost use Rattle.house_forward.specs.Causes.{EachServed, EachRefused, EachAnswer, EachUnlisten, EachCancel, EachAwaits};
 ghost use Rattle.house_forward.specs.Deeds.{EachHappens};
 ghost use Rattle.house_forward.specs.Greeting.{EachGreets};
 ghost use Rattle.house_forward.specs.Laws.{EachRelays, EachKeeps, EachRests};
@@ -52,4 +52,12 @@ pub fn what_is_closed_was_asked_to_close()
 /// control message.
 pub fn the_greeting_is_said_once_and_first()
     ensures { EachGreets }
+{}
+
+/// Where there is no request to say, no listener to order or to close and no answer to give, each ask
+/// that has no answer yet waits for the server: the request to listen for its forwarding, or the
+/// cancel, was said and has no reply yet. This supposes that no two forwardings had listeners of one
+/// number at one time.
+pub fn at_rest_asks_wait_for_the_server()
+    ensures { EachAwaits }
 {}
