@@ -307,7 +307,7 @@ is-for gateway opening ask ends f a are one listens connects =
           );
     }
 
-new-is-for : (gateway opening : Bool) (ask : StartAsk) (ends : Ends) (serial : ℕ) (start : Option ℕ) (f : Forwarding)
+pub new-is-for : (gateway opening : Bool) (ask : StartAsk) (ends : Ends) (serial : ℕ) (start : Option ℕ) (f : Forwarding)
     → AreEnds gateway ask ends → IsAskedFor ends serial start f → IsFor gateway opening ask f
 new-is-for gateway opening ask ends serial start f are a = record {
   kind = are.kind ∙ ap (λ (k : Kind). Some k) (sym a.kind_is);

@@ -11,7 +11,7 @@ use Rattle.mux_outside.specs.declared.house.HouseReply.{HouseReply}
 use Rattle.mux_outside.specs.declared.start_ask.StartAsk.{StartAsk}
 use Rattle.mux_outside.specs.declared.starts.Starts.{Starts}
 use Rattle.house_forward.specs.Asks.{settled, counted, is_about, owes_opening, has_outcome, is_settled, is_waiting, taken_at, waiting_for, turns_away}
-use Rattle.house_forward.specs.Causes.{ShareListener, AwaitsReply, EachAwaits}
+use Rattle.house_forward.specs.Causes.{ShareListener, IsAtRest, AwaitsReply, EachAwaits}
 use Rattle.house_forward.specs.Deeds.{Deed, Does, Leave}
 use Rattle.house_forward.specs.Deeds.{Begins, Asks, Answers, Greets, Requests, Replies, Listens, Unlistens}
 use Rattle.house_forward.specs.Desk.{Desk, empty_desk, BeginsWith, IsAsked, Answers as IsAnswered, greeting_said, request_said, reply_heard, GetsListener, EndsListener, standing_at}
@@ -51,13 +51,13 @@ moved deed deeds old new ws move h =
     All-weaker (Unsettled (Fates deeds old)) (Unsettled (Fates (deed ∷ deeds) new))
     (λ w u none. elim (u none) [
       | inl f ↦ inl (move w f)
-      | inr s ↦ inr (share-later deed deeds s)
+      | inr s ↦ inr (s.0, share-later deed deeds s.1)
     ]) ws h
 
 step : (deed : Deed) (deeds : List Deed) (old new : List Forwarding) (w : Waiting) → (HasFate old w → Fates (deed ∷ deeds) new w)
     → Fates deeds old w → Fates (deed ∷ deeds) new w
 step deed deeds old new w move (inl f) = move f
-step deed deeds old new w move (inr s) = inr (share-later deed deeds s)
+step deed deeds old new w move (inr s) = inr (s.0, share-later deed deeds s.1)
 
 -- ---- the start
 
@@ -368,7 +368,7 @@ pass-if : (p : Forwarding → Bool) (y : Forwarding) (b : Bool) (o : Option Forw
 pass-if p y true o e f = cc
 pass-if p y false o e f = (e, f)
 
-none-passes-in : (p : Forwarding → Bool) (xs : List Forwarding) (x : Forwarding) → find p xs ≡ None → In x xs → p x ≡ false
+pub none-passes-in : (p : Forwarding → Bool) (xs : List Forwarding) (x : Forwarding) → find p xs ≡ None → In x xs → p x ≡ false
 none-passes-in p [] x e h = absurd h
 none-passes-in p (y ∷ xs) x e (inl is) =
     subst (λ (z : Forwarding). p z ≡ false) is (pass-if p y (p y) (find p xs) refl e).0
@@ -382,7 +382,7 @@ first-part : (a : Bool) → (a && true) ≡ false → a ≡ false
 first-part true e = cc
 first-part false e = refl
 
-and-second : (a b : Bool) → b ≡ false → (a && b) ≡ false
+pub and-second : (a b : Bool) → b ≡ false → (a && b) ≡ false
 and-second true b e = e
 and-second false b e = refl
 
@@ -431,7 +431,7 @@ numbered-removed None fs serials n = n
 numbered-removed (Some i) fs serials n = numbered-remove fs i serials n
 
 -- a forwarding that doesn't pass stays
-fate-left : (p : Forwarding → Bool) (fs : List Forwarding) (o : Option ℕ) (x : Forwarding) → position p fs ≡ o → p x ≡ false → In x fs
+pub fate-left : (p : Forwarding → Bool) (fs : List Forwarding) (o : Option ℕ) (x : Forwarding) → position p fs ≡ o → p x ≡ false → In x fs
     → In x (removed_at o fs)
 fate-left p fs None x e isnt h = h
 fate-left p [] (Some i) x e isnt h = absurd h
@@ -447,7 +447,7 @@ record Replied (deeds : List Deed) (rs : List Request) (fs : List Forwarding) (s
 serial-differs : (f : Forwarding) (n serial : ℕ) → f.serial ≡ n → (n == serial) ≡ false → f.serial ≡ serial → ⊥
 serial-differs f n serial is isnt same = both_ways (n == serial) isnt (eq-eqb n serial (sym is ∙ same))
 
-not-asked : (f : Forwarding) (serial : ℕ) → f.serial ≡ serial → is_asked serial f ≡ false → asks_at f.stage ≡ false
+pub not-asked : (f : Forwarding) (serial : ℕ) → f.serial ≡ serial → is_asked serial f ≡ false → asks_at f.stage ≡ false
 not-asked f serial is e = second-part (f.serial == serial) (asks_at f.stage) (eq-eqb f.serial serial is) e
 
 -- a success makes what is asked for live
@@ -588,7 +588,7 @@ after-reply success port deeds old new t e =
 
 -- ---- a listener is ordered
 
-same-place : (fs : List Forwarding) (i j : ℕ) (g : Forwarding) → position to_listen fs ≡ Some i → to_listen g ≡ true
+pub same-place : (fs : List Forwarding) (i j : ℕ) (g : Forwarding) → position to_listen fs ≡ Some i → to_listen g ≡ true
     → position to_listen (set fs i g) ≡ Some j → j ≡ i
 same-place fs i j g e is f =
     let one = position-Some to_listen fs i g e in
@@ -605,11 +605,11 @@ same-place fs i j g e is f =
     ]
 
 -- what a listener that was ordered leaves, where it got its number or none
-abbrev MadeOf : Option ℕ → ℕ → Forwarding → List Forwarding → List Forwarding → Type 0
+abbrev pub MadeOf : Option ℕ → ℕ → Forwarding → List Forwarding → List Forwarding → Type 0
 MadeOf None i f old new = new ≡ remove old i
 MadeOf (Some l) i f old new = new ≡ set old i (record f { stage = Listening l })
 
-made-of : (number : Option ℕ) (i j : ℕ) (f : Forwarding) (old middle new : List Forwarding) → j ≡ i
+pub made-of : (number : Option ℕ) (i j : ℕ) (f : Forwarding) (old middle new : List Forwarding) → j ≡ i
     → middle ≡ set old i (record f { stage = Ordered }) → find to_listen middle ≡ Some (record f { stage = Ordered })
     → position to_listen middle ≡ Some j → MadeAt number j middle new → MadeOf number i f old new
 made-of None i j f old middle new same e first at m =
@@ -711,10 +711,10 @@ has-it l (Cancelling port) n e = cc
 -- another with the same listener
 shares : (opening : Bool) (l : ℕ) (deeds : List Deed) (old : Desk) (serial : ℕ) (f : Forwarding) (w : Waiting) → w.opening ≡ opening
     → Leave deeds old → Closing (λ x. In x old.all) serial l → In f old.all → f.serial ≡ w.forwarding → Holds opening f
-    → is_about serial false w ≡ false → has_listener l f ≡ true → ShareListener (Unlistens l ∷ deeds)
+    → is_about serial false w ≡ false → has_listener l f ≡ true → (w.opening ≡ false) × ShareListener (Unlistens l ∷ deeds)
 shares true l deeds old serial f w opens left c here is holds other has =
     absurd ((has-it l f.stage f.listen_port has).0 holds)
-shares false l deeds old serial f w opens left c here is holds other has = record {
+shares false l deeds old serial f w opens left c here is holds other has = (opens, record {
   later = Unlistens l ∷ [];
   earlier = deeds;
   were = refl;
@@ -728,7 +728,7 @@ shares false l deeds old serial f w opens left c here is holds other has = recor
   differ = λ same. serial-differs f w.forwarding serial is (of-other serial false w opens other) (sym same ∙ c.serial_is);
   listens = ap listener_at c.stage_is;
   listens_too = (has-it l f.stage f.listen_port has).1;
-}
+})
 
 all-in : (xs : List Forwarding) → All (λ x. In x xs) xs
 all-in xs = all-by-in (λ (x : Forwarding). In x xs) xs (λ x h. h)
@@ -782,19 +782,14 @@ unsettled : (o : Option (ℕ × Outcome)) → is_settled o ≡ false → o ≡ N
 unsettled None e = refl
 unsettled (Some x) e = cc
 
--- each has its fate, or two shared a listener
+-- each has its fate
 all-fates : (deeds : List Deed) (all : List Forwarding) (ws : List Waiting) → All (Unsettled (Fates deeds all)) ws
-    → list_any has_outcome ws ≡ false → ShareListener deeds ⊎ All (HasFate all) ws
-all-fates deeds all [] h e = inr (All-nil (HasFate all))
+    → list_any has_outcome ws ≡ false → All (Fates deeds all) ws
+all-fates deeds all [] h e = All-nil (Fates deeds all)
 all-fates deeds all (w ∷ ws) h e =
     let both = or_parts (has_outcome w) (list_any has_outcome ws) e in
-    elim (All-head (Unsettled (Fates deeds all)) w ws h (unsettled w.outcome both.0)) [
-      | inr s ↦ inl s
-      | inl fate ↦ elim (all-fates deeds all ws (All-tail (Unsettled (Fates deeds all)) w ws h) both.1) [
-        | inl s ↦ inl s
-        | inr rest ↦ inr (All-cons (HasFate all) w ws fate rest)
-      ]
-    ]
+    All-cons (Fates deeds all) w ws (All-head (Unsettled (Fates deeds all)) w ws h (unsettled w.outcome both.0))
+    (all-fates deeds all ws (All-tail (Unsettled (Fates deeds all)) w ws h) both.1)
 
 -- none that asked for it waits where it has its listener
 owes-if : (opening : Bool) (fs : List Forwarding) (serials l : ℕ) (g f : Forwarding) (w : Waiting) → w.opening ≡ opening
@@ -807,17 +802,21 @@ owes-if true fs serials l g f w opens n here is there its holds =
     subst (λ (s : Stage). outcome_at s g.listen_port ≡ None) is (subst (λ (x : Forwarding). outcome_of x ≡ None) one holds) in cc)
 owes-if false fs serials l g f w opens n here is there its holds = and-second (w.forwarding == g.serial) false refl
 
-owes-none : (fs : List Forwarding) (serials l : ℕ) (g : Forwarding) (ws : List Waiting) → is_numbered 0 fs serials ≡ true → In g fs
-    → g.stage ≡ Listening l → All (HasFate fs) ws → owes_opening g.serial ws ≡ false
-owes-none fs serials l g [] n here is h = refl
-owes-none fs serials l g (w ∷ ws) n here is h =
-    let fate = All-head (HasFate fs) w ws h in
+owes-one : (deeds : List Deed) (fs : List Forwarding) (serials l : ℕ) (g : Forwarding) (w : Waiting) → is_numbered 0 fs serials ≡ true → In g fs
+    → g.stage ≡ Listening l → Fates deeds fs w → ((w.forwarding == g.serial) && w.opening) ≡ false
+owes-one deeds fs serials l g w n here is (inl fate) = owes-if w.opening fs serials l g fate.0 w refl n here is fate.1 fate.2 fate.3
+owes-one deeds fs serials l g w n here is (inr s) = and-second (w.forwarding == g.serial) w.opening s.0
+
+owes-none : (deeds : List Deed) (fs : List Forwarding) (serials l : ℕ) (g : Forwarding) (ws : List Waiting) → is_numbered 0 fs serials ≡ true
+    → In g fs → g.stage ≡ Listening l → All (Fates deeds fs) ws → owes_opening g.serial ws ≡ false
+owes-none deeds fs serials l g [] n here is h = refl
+owes-none deeds fs serials l g (w ∷ ws) n here is h =
     or_from ((w.forwarding == g.serial) && w.opening) (owes_opening g.serial ws)
-    (owes-if w.opening fs serials l g fate.0 w refl n here is fate.1 fate.2 fate.3)
-    (owes-none fs serials l g ws n here is (All-tail (HasFate fs) w ws h))
+    (owes-one deeds fs serials l g w n here is (All-head (Fates deeds fs) w ws h))
+    (owes-none deeds fs serials l g ws n here is (All-tail (Fates deeds fs) w ws h))
 
 -- where there is nothing to order, none is to listen, and none with a listener closes
-abbrev Rests : Stage → Bool → Type 0
+abbrev pub Rests : Stage → Bool → Type 0
 Rests (ToListen host) closing = ⊥
 Rests Ordered closing = ⊥
 Rests (Listening l) closing = closing ≡ false
@@ -846,16 +845,16 @@ next-rest Requested closing serial ws rs next owes a e = (tt, e)
 next-rest (Live port) closing serial ws rs next owes a e = (tt, e)
 next-rest (Cancelling port) closing serial ws rs next owes a e = (tt, e)
 
-all-rest : (all : List Forwarding) (serials : ℕ) (rs : List Request) (ws : List Waiting) (fs : List Forwarding)
-    → is_numbered 0 all serials ≡ true → All (HasFate all) ws → ((f : Forwarding) → In f fs → In f all) → All (Awaits rs) fs
+pub all-rest : (deeds : List Deed) (all : List Forwarding) (serials : ℕ) (rs : List Request) (ws : List Waiting) (fs : List Forwarding)
+    → is_numbered 0 all serials ≡ true → All (Fates deeds all) ws → ((f : Forwarding) → In f fs → In f all) → All (Awaits rs) fs
     → next_of ws fs ≡ None → (f : Forwarding) → In f fs → Rests f.stage f.closing
-all-rest all serials rs ws [] n fates within h e f here = absurd here
-all-rest all serials rs ws (g ∷ fs) n fates within h e f here =
+all-rest deeds all serials rs ws [] n fates within h e f here = absurd here
+all-rest deeds all serials rs ws (g ∷ fs) n fates within h e f here =
     let one = next-rest g.stage g.closing g.serial ws rs (next_of ws fs)
-    (λ l is. owes-none all serials l g ws n (within g (inl refl)) is fates) (All-head (Awaits rs) g fs h) e in
+    (λ l is. owes-none deeds all serials l g ws n (within g (inl refl)) is fates) (All-head (Awaits rs) g fs h) e in
     elim here [
       | inl same ↦ subst (λ (x : Forwarding). Rests x.stage x.closing) same one.0
-      | inr later ↦ all-rest all serials rs ws fs n fates (λ x k. within x (inr k)) (All-tail (Awaits rs) g fs h) one.1 f later
+      | inr later ↦ all-rest deeds all serials rs ws fs n fates (λ x k. within x (inr k)) (All-tail (Awaits rs) g fs h) one.1 f later
     ]
 
 -- what an ask then waits for
@@ -889,14 +888,21 @@ awaits-one : (d : Desk) (w : Waiting) (f : Forwarding) → f.serial ≡ w.forwar
 awaits-one d w f is (inl h) = inl (subst (λ (n : ℕ). Contains d.requests (Listen n)) is (in-contains (Listen f.serial) d.requests h))
 awaits-one d w f is (inr h) = inr (subst (λ (n : ℕ). Contains d.requests (Cancel n)) is (in-contains (Cancel f.serial) d.requests h))
 
+pub fates-at-rest : (deeds : List Deed) (d : Desk) → Tracks deeds d → IsAtRest d → All (Fates deeds d.all) d.waiting
+fates-at-rest deeds d t rest =
+    all-fates deeds d.all d.waiting t.fates (not-true (list_any has_outcome d.waiting) rest.answers)
+
+awaits-by : (deeds : List Deed) (d : Desk) (w : Waiting) → Tracks deeds d → IsAtRest d → Fates deeds d.all w
+    → AwaitsReply d.requests w ⊎ ((w.opening ≡ false) × ShareListener deeds)
+awaits-by deeds d w t rest (inr s) = inr s
+awaits-by deeds d w t rest (inl fate) = inl (awaits-one d w fate.0 fate.2 (waits-for w.opening fate.0 d.requests fate.3
+    (all-rest deeds d.all d.serials d.requests d.waiting d.all t.numbered (fates-at-rest deeds d t rest) (λ f h. h) t.stages rest.orders
+    fate.0 fate.1)
+    (none-passes-in has_request d.all fate.0 rest.says fate.1)
+    (in-all (Awaits d.requests) fate.0 d.all t.stages fate.1)))
+
 pub each-awaits : EachAwaits
 each-awaits deeds d left rest =
     let t = tracks deeds d left in
-    elim (all-fates deeds d.all d.waiting t.fates (not-true (list_any has_outcome d.waiting) rest.answers)) [
-      | inl s ↦ inl s
-      | inr fates ↦ inr (All-weaker (HasFate d.all) (AwaitsReply d.requests)
-          (λ w fate. awaits-one d w fate.0 fate.2 (waits-for w.opening fate.0 d.requests fate.3
-          (all-rest d.all d.serials d.requests d.waiting d.all t.numbered fates (λ f h. h) t.stages rest.orders fate.0 fate.1)
-          (none-passes-in has_request d.all fate.0 rest.says fate.1)
-          (in-all (Awaits d.requests) fate.0 d.all t.stages fate.1))) d.waiting fates)
-    ]
+    All-weaker (Fates deeds d.all) (λ (w : Waiting). AwaitsReply d.requests w ⊎ ((w.opening ≡ false) × ShareListener deeds))
+    (λ w fates. awaits-by deeds d w t rest fates) d.waiting (fates-at-rest deeds d t rest)

@@ -33,7 +33,7 @@ abbrev pub HasFate : List Forwarding → Waiting → Type 0
 HasFate all w = (f : Forwarding) × In f all × (f.serial ≡ w.forwarding) × Holds w.opening f
 
 abbrev pub Fates : List Deed → List Forwarding → Waiting → Type 0
-Fates deeds all w = HasFate all w ⊎ ShareListener deeds
+Fates deeds all w = HasFate all w ⊎ ((w.opening ≡ false) × ShareListener deeds)
 
 abbrev pub Unsettled : (Waiting → Type 0) → Waiting → Type 0
 Unsettled P w = w.outcome ≡ None → P w

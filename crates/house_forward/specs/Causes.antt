@@ -302,7 +302,8 @@ abbrev pub AwaitsReply : List Request → Waiting → Type 0
 AwaitsReply requests w =
     Contains requests (Listen w.forwarding) ⊎ Contains requests (Cancel w.forwarding)
 
--- at rest each ask that waits awaits a reply of the server, if listeners have numbers of their own
+-- at rest each ask that waits awaits a reply of the server, but one to close where two shared a
+-- listener
 abbrev pub EachAwaits : Type 0
 EachAwaits = (deeds : List Deed) (d : Desk) → Leave deeds d → IsAtRest d
-    → ShareListener deeds ⊎ All (AwaitsReply d.requests) d.waiting
+    → All (λ w. AwaitsReply d.requests w ⊎ ((w.opening ≡ false) × ShareListener deeds)) d.waiting
