@@ -765,7 +765,7 @@ replied false (Cancel serial) home serials deeds port at fs ws g gs e a is (inr 
       waiting = all-settled home serials deed deeds (λ c i. refl) serial false at Refused ws (Cancel, next, refl) h;
     }
 
-request-is : (s : Stage) (serial : ℕ) → (request_at s serial ≡ Listen serial) ⊎ (request_at s serial ≡ Cancel serial)
+pub request-is : (s : Stage) (serial : ℕ) → (request_at s serial ≡ Listen serial) ⊎ (request_at s serial ≡ Cancel serial)
 request-is (ToListen host) serial = inl refl
 request-is Ordered serial = inl refl
 request-is (Listening l) serial = inl refl

@@ -714,21 +714,24 @@ shares : (opening : Bool) (l : ℕ) (deeds : List Deed) (old : Desk) (serial : �
     → is_about serial false w ≡ false → has_listener l f ≡ true → (w.opening ≡ false) × ShareListener (Unlistens l ∷ deeds)
 shares true l deeds old serial f w opens left c here is holds other has =
     absurd ((has-it l f.stage f.listen_port has).0 holds)
-shares false l deeds old serial f w opens left c here is holds other has = (opens, record {
-  later = Unlistens l ∷ [];
-  earlier = deeds;
-  were = refl;
-  desk = old;
-  left = left;
-  one = c.f;
-  other = f;
-  listener = l;
-  has_one = in-contains c.f old.all c.holds;
-  has_other = in-contains f old.all here;
-  differ = λ same. serial-differs f w.forwarding serial is (of-other serial false w opens other) (sym same ∙ c.serial_is);
-  listens = ap listener_at c.stage_is;
-  listens_too = (has-it l f.stage f.listen_port has).1;
-})
+shares false l deeds old serial f w opens left c here is holds other has = (
+  opens,
+  record {
+    later = Unlistens l ∷ [];
+    earlier = deeds;
+    were = refl;
+    desk = old;
+    left = left;
+    one = c.f;
+    other = f;
+    listener = l;
+    has_one = in-contains c.f old.all c.holds;
+    has_other = in-contains f old.all here;
+    differ = λ same. serial-differs f w.forwarding serial is (of-other serial false w opens other) (sym same ∙ c.serial_is);
+    listens = ap listener_at c.stage_is;
+    listens_too = (has-it l f.stage f.listen_port has).1;
+  },
+)
 
 all-in : (xs : List Forwarding) → All (λ x. In x xs) xs
 all-in xs = all-by-in (λ (x : Forwarding). In x xs) xs (λ x h. h)

@@ -14,3 +14,4 @@ pub mod Links
 pub mod Quiet
 pub mod Rules
 pub mod Said
+pub mod Starting

@@ -5,6 +5,7 @@ ghost use Rattle.house_forward.specs.Causes.{EachServed, EachRefused, EachAnswer
 ghost use Rattle.house_forward.specs.Deeds.{EachHappens};
 ghost use Rattle.house_forward.specs.Greeting.{EachGreets};
 ghost use Rattle.house_forward.specs.Laws.{EachRelays, EachKeeps, EachRests};
+ghost use Rattle.house_forward.specs.Starting.{EachStart};
 
 /// Of each relay that the house has, or had: what is sent in its channel was read from its socket
 /// before, behind the dialog, in order; what its socket takes are the replies to the dialog, and then
@@ -56,8 +57,15 @@ pub fn the_greeting_is_said_once_and_first()
 
 /// Where there is no request to say, no listener to order or to close and no answer to give, each ask
 /// that has no answer yet waits for the server: the request to listen for its forwarding, or the
-/// cancel, was said and has no reply yet. This supposes that no two forwardings had listeners of one
-/// number at one time.
+/// cancel, was said and has no reply yet. Of an ask to close this supposes that no two forwardings had
+/// listeners of one number at one time.
 pub fn at_rest_asks_wait_for_the_server()
     ensures { EachAwaits }
+{}
+
+/// Of a house that began with forwardings: where there is no request to say, no listener to order or
+/// to close and no answer to give, each of them was refused as it was asked for, or its listener was
+/// ordered, or its request to listen was said.
+pub fn at_rest_each_forwarding_of_the_start_has_begun()
+    ensures { EachStart }
 {}
