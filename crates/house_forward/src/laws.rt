@@ -1,13 +1,16 @@
-//! What holds of the relays of the house, whatever calls were made: each function's contract is the
-//! law.
+//! What holds of the house, whatever calls were made: each function's contract is the law.
 
+ghost use Rattle.house_forward.specs.Causes.{EachServed, EachRefused, EachAnswer, EachUnlisten, EachCancel, EachAwaits};
 ghost use Rattle.house_forward.specs.Closing.{ClosesHaveCause};
 ghost use Rattle.house_forward.specs.Confirming.{ConfirmsConnected, RefusesUnconnected};
 ghost use Rattle.house_forward.specs.Connects.{OneConnectEach};
+ghost use Rattle.house_forward.specs.Deeds.{EachHappens};
+ghost use Rattle.house_forward.specs.Greeting.{EachGreets};
 ghost use Rattle.house_forward.specs.Laws.{EachRelays, EachKeeps, EachRests};
-ghost use Rattle.house_forward.specs.Streaming.{EachHasItsStream};
-ghost use Rattle.house_forward.specs.Opening.{OneOpenAtMost, OpensGoRight};
 ghost use Rattle.house_forward.specs.Numbers.{ChannelsDiffer, StreamsAreTheirs, StreamsDiffer};
+ghost use Rattle.house_forward.specs.Opening.{OneOpenAtMost, OpensGoRight};
+ghost use Rattle.house_forward.specs.Starting.{EachStart};
+ghost use Rattle.house_forward.specs.Streaming.{EachHasItsStream};
 
 /// Of each relay that the house has, or had: what is sent in its channel was read from its socket
 /// before, behind the dialog, in order; what its socket takes are the replies to the dialog, and then
@@ -69,4 +72,53 @@ pub fn each_open_is_answered_by_its_socket()
 /// number that no open one had.
 pub fn each_relay_has_what_its_stream_gave()
     ensures { EachHasItsStream }
+{}
+
+/// What the calls leave of the forwardings, of the requests to the server and of the asks is what
+/// happened, one behind the other: what was asked for and answered, what was said, what the server
+/// replied, and which listeners were ordered and closed. Each of these is told by its call.
+pub fn calls_make_things_happen()
+    ensures { EachHappens }
+{}
+
+/// What a client's ask gets has its cause in what happened before. One to open that gets Done or a
+/// port at once asks for a forwarding that is there: it has a listener that was made at its host and
+/// port and was not closed since, or the server granted its request, and it gets the port where the
+/// server was to choose one. One that is refused at once is refused for one of the causes that there
+/// are. An answer comes by what happened to the forwarding since the ask: Done
+/// as its listener was made, or as the server granted its request, and then with the port where the
+/// server was to choose one; to one to close as its listener was closed, or as the server granted its
+/// cancel; Refused as no listener could be made, or as the server refused the request or the cancel.
+pub fn every_reply_has_its_cause()
+    ensures served { EachServed }
+    ensures refused { EachRefused }
+    ensures answers { EachAnswer }
+{}
+
+/// A listener is closed, and a cancel is said, only for a forwarding that a client asked to close.
+pub fn what_is_closed_was_asked_to_close()
+    ensures listeners { EachUnlisten }
+    ensures cancels { EachCancel }
+{}
+
+/// The house greets once and first: the first piece that it says is HELLO and PROXY, and each behind
+/// it is one frame, of the request of a forwarding or of what a relay has to say. It says no other
+/// control message.
+pub fn the_greeting_is_said_once_and_first()
+    ensures { EachGreets }
+{}
+
+/// Where there is no request to say, no listener to order or to close and no answer to give, each ask
+/// that has no answer yet waits for the server: the request to listen for its forwarding, or the
+/// cancel, was said and has no reply yet. Of an ask to close this supposes that no two forwardings had
+/// listeners of one number at one time.
+pub fn at_rest_asks_wait_for_the_server()
+    ensures { EachAwaits }
+{}
+
+/// Of a house that began with forwardings: where there is no request to say, no listener to order or
+/// to close and no answer to give, each of them was refused as it was asked for, or its listener was
+/// ordered, or its request to listen was said.
+pub fn at_rest_each_forwarding_of_the_start_has_begun()
+    ensures { EachStart }
 {}

@@ -1,0 +1,1022 @@
+-- What is known by what happened, deed by deed.
+use Rattle.std.proofs.Common.{◌≡◌, ◌∙◌, refl, sym, ap, subst, arith, ℕ, zero, suc, ◌+◌, ◌-◌, ◌<◌, ◌≤◌, Bool, true, false, List, [], ◌∷◌, ◌++◌, length, length-append, get_or, set, take, drop, map, filter, Option, Some, None, inl, inr}
+use Rattle.std.specs.Prelude.{◌⊎◌, ◌==◌, ◌&&◌, ◌||◌, not, nat_lt, nat_le, if◌then◌else◌, find, slice_get, IfSome}
+use Rattle.std.specs.List.{All, position, position_or_len, remove}
+use Rattle.std.proofs.lemmas.Bool.{and_parts, or_parts, eqb-true, eq-eqb, not-true}
+use Rattle.std.proofs.lemmas.List.{map-append, length-map}
+use Rattle.std.proofs.lemmas.List.Elements.{All-nil, All-head, All-tail, All-weaker, All-set, All-append, All-take, All-drop, All-filter, All-push, filter_passes}
+use Rattle.std.proofs.lemmas.List.Quantifiers.{position-Some}
+use Rattle.std.proofs.lemmas.List.Folds.{find-set}
+use Rattle.std.specs.Str.{bytes_eq}
+use Rattle.std.proofs.lemmas.Slice.Eq.{bytes_eq-Decides}
+use Rattle.mux_outside.specs.declared.house.HouseReply.{HouseReply}
+use Rattle.mux_outside.specs.declared.start_ask.StartAsk.{StartAsk}
+use Rattle.mux_outside.specs.declared.starts.Starts.{Starts}
+use Rattle.house_forward.specs.Asks.{has_open, turns_away, settled, counted, owes_opening, after_answer, taken_at, is_waiting, waiting_for}
+use Rattle.house_forward.specs.Causes.{gateway_in, unanswered, AreOne, IsFor, IsNext, IsGranted, CameBy, WasToClose}
+use Rattle.house_forward.specs.Deeds.{Deed, Does, Leave}
+use Rattle.house_forward.specs.Deeds.{Begins, Asks, Answers, Greets, Requests, Replies, Listens, Unlistens}
+use Rattle.house_forward.specs.Desk.{Desk, empty_desk, BeginsWith, IsAsked, Answers as IsAnswered, greeting_said, request_said, reply_heard, GetsListener, EndsListener, standing_at}
+use Rattle.house_forward.specs.Forwardings.{Begins as BeginsAt, StartsIf, Standing, Opens, serials_after, IsAskedFor, is_first, waits_at, has_request, requests_at, request_of, request_at, after_saying, changed, removed_at, standing, counts, how_many, listens_at, connects_to, as_first, outcome_of, opens_of, closes_of, comes_of_ends, after_close, is_new, EndsLeave, ComesIf, ComesUnless, reply_to, asks_after, bound_to, granted, stage_after, is_asked, asks_at, is_cancelled, live_in, opened_asks, replied_all, replied_asks, first_of, to_listen, MadeAt, ordered_asks, serial_of, next_of, next_at, ends_at, has_listener, is_listener, listener_at}
+use Rattle.house_forward.specs.Rules.{listens_here, connects_there, same_kind, listen_host, AreEnds, is_refused_alone}
+use Rattle.house_forward.specs.declared.asks.Asked.{Asked as Comes}
+use Rattle.house_forward.specs.declared.asks.Asked.TheVariants.{Now, Later}
+use Rattle.house_forward.specs.declared.asks.Outcome.{Outcome}
+use Rattle.house_forward.specs.declared.asks.Outcome.TheVariants.{Done, Refused}
+use Rattle.house_forward.specs.declared.asks.Waiting.{Waiting}
+use Rattle.house_forward.specs.declared.forwarding.Change.TheVariants as change
+use Rattle.house_forward.specs.declared.forwarding.Forwarding.{Forwarding}
+use Rattle.house_forward.specs.declared.forwarding.Request.{Request}
+use Rattle.house_forward.specs.declared.forwarding.Request.TheVariants.{Listen, Cancel}
+use Rattle.house_forward.specs.declared.forwarding.Stage.{Stage}
+use Rattle.house_forward.specs.declared.forwarding.Stage.TheVariants.{ToListen, Ordered, Listening, ToRequest, Requested, Live, Cancelling}
+use Rattle.house_forward.specs.declared.forwardings.Want.{Want}
+use Rattle.house_forward.specs.declared.forwardings.Want.TheVariants as want
+use Rattle.house_forward.specs.declared.rules.Ends.{Ends}
+use Rattle.house_forward.specs.declared.rules.Kind.{Kind}
+use Rattle.house_forward.specs.declared.rules.Kind.TheVariants as kind
+use Rattle.house_forward.specs.declared.rules.TheConstants.{MOST_ASKS, MOST_FORWARDINGS}
+use Rattle.house_forward.proofs.Apart.{Apart, apart-more, apart-replied, apart-ordered, apart-settled, apart-taken, others}
+use Rattle.house_forward.proofs.Desks.{same-desks}
+use Rattle.house_forward.proofs.Lists.{found-first}
+use Rattle.house_forward.proofs.Serving.{StageFits, Stands, Asked, Waits, Lets, all-later, all-wait-later, waits-later, stands-later, Keeps, stands-grown, asked-grown, waits-grown, restaged, all-changed, steady-stage, all-settled, all-refused}
+
+-- what is known
+pub record Knows (deeds : List Deed) (d : Desk) : Type 0 where
+  pub home : ℕ → Forwarding
+  pub gateway : d.gateway ≡ gateway_in deeds
+  pub requests : d.requests ≡ map request_of (unanswered deeds)
+  pub all : All (Stands home d.serials deeds) d.all
+  pub asked : All (Asked home d.serials) (unanswered deeds)
+  pub waiting : All (Waits home d.serials deeds) d.waiting
+  pub apart : Apart d.waiting
+
+-- ---- lists
+
+found-if : {X : Type 0} (P : X → Type 0) (p : X → Bool) (y : X) (b : Bool) (o : Option X) (x : X) → p y ≡ b
+    → (if b then Some y else o) ≡ Some x → P y → (o ≡ Some x → P x × (p x ≡ true)) → P x × (p x ≡ true)
+found-if P p y true o x e is h rest =
+    let same : y ≡ x = cc in
+    (subst P same h, subst (λ z. p z ≡ true) same e)
+found-if P p y false o x e is h rest = rest is
+
+-- the one that is found
+pub found : {X : Type 0} (P : X → Type 0) (p : X → Bool) (xs : List X) (x : X) → find p xs ≡ Some x → All P xs
+    → P x × (p x ≡ true)
+found P p [] x e h = cc
+found P p (y ∷ xs) x e h =
+    found-if P p y (p y) (find p xs) x refl e (All-head P y xs h) (λ rest. found P p xs x rest (All-tail P y xs h))
+
+-- the one at a place that is the first
+pub placed : {X : Type 0} (P : X → Type 0) (p : X → Bool) (xs : List X) (i : ℕ) (x : X) → position p xs ≡ Some i → x ≡ get_or xs i x
+    → All P xs → P x × (p x ≡ true) × (find p xs ≡ Some x)
+placed P p xs i x e at h =
+    let first = position-Some p xs i x e in (
+      subst P (sym at) (h i x first.0),
+      subst (λ z. p z ≡ true) (sym at) first.1,
+      found-first p xs i x first.0 first.1 first.2 ∙ ap (λ z. Some z) (sym at),
+    )
+
+pub all-remove : {X : Type 0} (P : X → Type 0) (xs : List X) (i : ℕ) → All P xs → All P (remove xs i)
+all-remove P xs i h = All-append P (take i xs) (drop (suc i) xs) (All-take P i xs h) (All-drop P (suc i) xs h)
+
+pub all-removed : (P : Forwarding → Type 0) (o : Option ℕ) (xs : List Forwarding) → All P xs → All P (removed_at o xs)
+all-removed P None xs h = h
+all-removed P (Some i) xs h = all-remove P xs i h
+
+pub all-taken : (P : Waiting → Type 0) (o : Option ℕ) (xs : List Waiting) → All P xs → All P (taken_at o xs)
+all-taken P None xs h = h
+all-taken P (Some i) xs h = all-remove P xs i h
+
+pub in-range : {X : Type 0} (xs : List X) (i : ℕ) → i < length xs → (x : X) × (slice_get xs i ≡ Some x)
+in-range [] i l = absurd (omega arith)
+in-range (x ∷ xs) zero l = (x, refl)
+in-range (x ∷ xs) (suc i) l = in-range xs i (omega arith)
+
+-- ---- more forwardings
+
+-- there are more of them, or as many
+record Grown (home : ℕ → Forwarding) (serials : ℕ) (deeds : List Deed) (fs : List Forwarding) (more : ℕ) : Type 0 where
+  to : ℕ → Forwarding
+  less : serials ≤ more
+  keeps : Keeps home to serials
+  all : All (Stands to more deeds) fs
+
+as-many : (home : ℕ → Forwarding) (serials : ℕ) (deeds : List Deed) (fs : List Forwarding) → All (Stands home serials deeds) fs
+    → Grown home serials deeds fs serials
+as-many home serials deeds fs h = record { to = home; less = omega arith; keeps = λ n l. refl; all = h }
+
+grown-on : (home : ℕ → Forwarding) (serials : ℕ) (deeds : List Deed) (fs gs : List Forwarding) (more most : ℕ)
+    → (g : Grown home serials deeds fs more) → Grown g.to more deeds gs most → Grown home serials deeds gs most
+grown-on home serials deeds fs gs more most g k =
+    let one = g.less in
+    let two = k.less in record {
+      to = k.to;
+      less = omega (arith, one, two);
+      keeps = λ n l. k.keeps n (omega (arith, l, one)) ∙ g.keeps n l;
+      all = k.all;
+    }
+
+-- one more has the next serial
+abbrev with_one : ℕ → Forwarding → (ℕ → Forwarding) → ℕ → Forwarding
+with_one serial f home n = if n == serial then f else home n
+
+one-new : (serial : ℕ) (f : Forwarding) (home : ℕ → Forwarding) → with_one serial f home serial ≡ f
+one-new serial f home = rw (eq-eqb serial serial refl) refl
+
+one-old : (n serial : ℕ) (f : Forwarding) (home : ℕ → Forwarding) (b : Bool) → (n == serial) ≡ b → n < serial
+    → (if b then f else home n) ≡ home n
+one-old n serial f home true e l = let same = eqb-true n serial e in absurd (omega (arith, same, l))
+one-old n serial f home false e l = refl
+
+asked-stage : (s : Stage) (a : Forwarding) (deeds : List Deed) (here : Bool) → is_first s ≡ true → waits_at s ≡ here
+    → listens_here a.kind ≡ here → StageFits s a deeds
+asked-stage (ToListen host) a deeds here first e f = f ∙ sym e
+asked-stage Ordered a deeds here first e f = cc
+asked-stage (Listening l) a deeds here first e f = cc
+asked-stage ToRequest a deeds here first e f = f ∙ sym e
+asked-stage Requested a deeds here first e f = cc
+asked-stage (Live port) a deeds here first e f = cc
+asked-stage (Cancelling port) a deeds here first e f = cc
+
+pub itself : (f : Forwarding) → AreOne f f
+itself f = record { serial = refl; kind = refl; listens = refl; listen_port = refl; connects = refl; connect_port = refl }
+
+not-closing : (b : Bool) (P : Type 0) → b ≡ false → b ≡ true → P
+not-closing true P e f = cc
+not-closing false P e f = cc
+
+new-stands : (home : ℕ → Forwarding) (serials : ℕ) (deeds : List Deed) (ends : Ends) (start : Option ℕ) (f : Forwarding)
+    → IsAskedFor ends serials start f → Stands (with_one serials f home) (serials + 1) deeds f
+new-stands home serials deeds ends start f a =
+    let serial = a.serial_is in
+    let to : with_one serials f home f.serial ≡ f = ap (with_one serials f home) serial ∙ one-new serials f home in
+    record {
+      below = omega (arith, serial);
+      same = subst (λ (g : Forwarding). AreOne g f) (sym to) (itself f);
+      stage = subst (λ (g : Forwarding). StageFits f.stage g deeds) (sym to)
+          (asked-stage f.stage f deeds (listens_here ends.kind) a.first a.here (ap listens_here a.kind_is));
+      closing = λ c. not-closing f.closing (WasToClose (with_one serials f home f.serial) deeds) a.open_yet c;
+    }
+
+one-more : (home : ℕ → Forwarding) (serials : ℕ) (deeds : List Deed) (ends : Ends) (start : Option ℕ) (f : Forwarding) (fs : List Forwarding)
+    → IsAskedFor ends serials start f → All (Stands home serials deeds) fs
+    → Grown home serials deeds (fs ++ f ∷ []) (serials + 1)
+one-more home serials deeds ends start f fs a h =
+    let keeps : Keeps home (with_one serials f home) serials = λ n l. one-old n serials f home (n == serials) refl l in
+    record {
+      to = with_one serials f home;
+      less = omega arith;
+      keeps = keeps;
+      all = All-push (Stands (with_one serials f home) (serials + 1) deeds) fs f
+          (All-weaker (Stands home serials deeds) (Stands (with_one serials f home) (serials + 1) deeds)
+          (λ g s. stands-grown home (with_one serials f home) serials (serials + 1) deeds g (omega arith) keeps s) fs h)
+          (new-stands home serials deeds ends start f a);
+    }
+
+opens : (b : Bool) (ends : Ends) (serials : ℕ) (start : Option ℕ) (deeds : List Deed) (home : ℕ → Forwarding) (old new : List Forwarding)
+    → All (Stands home serials deeds) old → Opens b ends serials start old new
+    → Grown home serials deeds new (serials_after b serials)
+opens false ends serials start deeds home old new h o =
+    subst (λ (fs : List Forwarding). Grown home serials deeds fs serials) (sym o) (as-many home serials deeds old h)
+opens true ends serials start deeds home old new h o =
+    subst (λ (fs : List Forwarding). Grown home serials deeds fs (serials + 1)) (sym o.2)
+    (one-more home serials deeds ends start o.0 old o.1 h)
+
+-- ---- the start
+
+starts-one : (b gateway : Bool) (ask : StartAsk) (i : ℕ) (deeds : List Deed) (home : ℕ → Forwarding) (old new : Standing)
+    → All (Stands home old.serials deeds) old.all → StartsIf b gateway ask i old new
+    → Grown home old.serials deeds new.all new.serials
+starts-one true gateway ask i deeds home old new h s =
+    subst (λ (t : Standing). Grown home old.serials deeds t.all t.serials) (sym s) (as-many home old.serials deeds old.all h)
+starts-one false gateway ask i deeds home old new h s =
+    subst (λ (m : ℕ). Grown home old.serials deeds new.all m) (sym s.2.serials)
+    (opens _ s.0 old.serials (Some i) deeds home old.all new.all h s.2.all)
+
+pub there-is : {X : Type 0} (P : X → Type 0) (o : Option X) (x : X) → o ≡ Some x → IfSome o P → P x
+there-is P None x e h = cc
+there-is P (Some y) x e h = let same : y ≡ x = cc in subst P same h
+
+begins : (gateway : Bool) (asks : List StartAsk) (i : ℕ) (deeds : List Deed) (home : ℕ → Forwarding) (old new : Standing)
+    → i ≤ length asks → All (Stands home old.serials deeds) old.all → BeginsAt gateway asks i old new
+    → Grown home old.serials deeds new.all new.serials
+begins gateway asks zero deeds home old new l h b =
+    subst (λ (t : Standing). Grown home old.serials deeds t.all t.serials) (sym b) (as-many home old.serials deeds old.all h)
+begins gateway asks (suc i) deeds home old new l h b =
+    let first = begins gateway asks i deeds home old b.0 (omega arith) h b.1 in
+    let at = in-range asks i (omega arith) in
+    let starts = there-is (λ (ask : StartAsk). StartsIf (is_refused_alone ask) gateway ask i b.0 new) (slice_get asks i) at.0 at.1 b.2 in
+    grown-on home old.serials deeds b.0.all new.all b.0.serials new.serials first
+    (starts-one (is_refused_alone at.0) gateway at.0 i deeds first.to b.0 new first.all starts)
+
+all-asked-grown : (home to : ℕ → Forwarding) (serials more : ℕ) (gs : List Forwarding) → serials ≤ more → Keeps home to serials
+    → All (Asked home serials) gs → All (Asked to more) gs
+all-asked-grown home to serials more gs less keeps h =
+    All-weaker (Asked home serials) (Asked to more) (λ g a. asked-grown home to serials more g less keeps a) gs h
+
+all-wait-grown : (home to : ℕ → Forwarding) (serials more : ℕ) (deeds : List Deed) (ws : List Waiting) → serials ≤ more
+    → Keeps home to serials → All (Waits home serials deeds) ws → All (Waits to more deeds) ws
+all-wait-grown home to serials more deeds ws less keeps h =
+    All-weaker (Waits home serials deeds) (Waits to more deeds)
+    (λ w s. waits-grown home to serials more deeds w less keeps s) ws h
+
+after-start : (starts : Starts) (deeds : List Deed) (old new : Desk) → Knows deeds old → BeginsWith starts old new
+    → Knows (Begins starts ∷ deeds) new
+after-start starts deeds old new k b =
+    let deed : Deed = Begins starts in
+    let g = begins starts.gateway starts.asks (length starts.asks) (deed ∷ deeds) k.home (standing_at old) (standing_at new)
+    (omega arith) (all-later k.home old.serials deed deeds old.all (λ l. refl) k.all) b.begins in
+    record {
+      home = g.to;
+      gateway = ap (λ (d : Desk). d.gateway) b.others;
+      requests = ap (λ (d : Desk). d.requests) b.others ∙ k.requests;
+      all = g.all;
+      asked = all-asked-grown k.home g.to old.serials new.serials (unanswered deeds) g.less g.keeps k.asked;
+      waiting = subst (λ (ws : List Waiting). All (Waits g.to new.serials (deed ∷ deeds)) ws)
+          (sym (ap (λ (d : Desk). d.waiting) b.others))
+          (all-wait-grown k.home g.to old.serials new.serials (deed ∷ deeds) old.waiting g.less g.keeps
+          (all-wait-later k.home old.serials deed deeds (λ c i. refl) old.waiting k.waiting));
+      apart = subst Apart (sym (ap (λ (d : Desk). d.waiting) b.others)) k.apart;
+    }
+
+-- ---- nothing happened yet
+
+nobody : Forwarding
+nobody = record {
+  serial = 0;
+  kind = kind.Remote;
+  listen_host = [];
+  listen_port = 0;
+  connect_host = [];
+  connect_port = 0;
+  stage = ToRequest;
+  closing = false;
+  start = None;
+}
+
+knows-nothing : Knows [] empty_desk
+knows-nothing = record {
+  home = λ n. nobody;
+  gateway = refl;
+  requests = refl;
+  all = All-nil (Stands (λ n. nobody) 0 []);
+  asked = All-nil (Asked (λ n. nobody) 0);
+  waiting = All-nil (Waits (λ n. nobody) 0 []);
+  apart = tt;
+}
+
+-- ---- an ask
+
+same-kinds : (a b : Kind) → same_kind a b ≡ true → a ≡ b
+same-kinds kind.Local kind.Local e = refl
+same-kinds kind.Local kind.Remote e = cc
+same-kinds kind.Local kind.Dynamic e = cc
+same-kinds kind.Remote kind.Local e = cc
+same-kinds kind.Remote kind.Remote e = refl
+same-kinds kind.Remote kind.Dynamic e = cc
+same-kinds kind.Dynamic kind.Local e = cc
+same-kinds kind.Dynamic kind.Remote e = cc
+same-kinds kind.Dynamic kind.Dynamic e = refl
+
+same-bytes : (a b : List ℕ) → bytes_eq a b ≡ true → a ≡ b
+same-bytes a b e = (bytes_eq-Decides a b).0 e
+
+-- it connects to the same end
+one-end : (there p q : Bool) → (not there || (p && q)) ≡ true → there ≡ true → (p ≡ true) × (q ≡ true)
+one-end true p q e is = and_parts p q e
+one-end false p q e is = cc
+
+-- a forwarding that listens where an ask is to listen is the one that it is for
+pub is-for : (gateway opening : Bool) (ask : StartAsk) (ends : Ends) (f a : Forwarding) → AreEnds gateway ask ends → AreOne a f
+    → listens_at ends f ≡ true → (opening ≡ true → connects_to ends f ≡ true) → IsFor gateway opening ask a
+is-for gateway opening ask ends f a are one listens connects =
+    let first = and_parts (same_kind f.kind ends.kind) ((f.listen_port == ends.listen_port) && bytes_eq f.listen_host ends.listen_host.now) listens in
+    let second = and_parts (f.listen_port == ends.listen_port) (bytes_eq f.listen_host ends.listen_host.now) first.1 in
+    let kinds : a.kind ≡ ends.kind = one.kind ∙ same-kinds f.kind ends.kind first.0 in
+    record {
+      kind = are.kind ∙ ap (λ (k : Kind). Some k) (sym kinds);
+      listens = one.listens ∙ same-bytes f.listen_host ends.listen_host.now second.1 ∙ are.listens
+          ∙ ap (λ (k : Kind). listen_host k gateway ask.listen_host) (sym kinds);
+      listen_port = one.listen_port ∙ eqb-true f.listen_port ends.listen_port second.0 ∙ are.listen_port;
+      connects = λ o there.
+          let both = one-end (connects_there f.kind) (f.connect_port == ends.connect_port)
+          (bytes_eq f.connect_host ends.connect_host.now) (connects o) (ap connects_there (sym one.kind) ∙ there) in (
+            one.connects ∙ same-bytes f.connect_host ends.connect_host.now both.1 ∙ are.connects,
+            one.connect_port ∙ eqb-true f.connect_port ends.connect_port both.0 ∙ are.connect_port,
+          );
+    }
+
+pub new-is-for : (gateway opening : Bool) (ask : StartAsk) (ends : Ends) (serial : ℕ) (start : Option ℕ) (f : Forwarding)
+    → AreEnds gateway ask ends → IsAskedFor ends serial start f → IsFor gateway opening ask f
+new-is-for gateway opening ask ends serial start f are a = record {
+  kind = are.kind ∙ ap (λ (k : Kind). Some k) (sym a.kind_is);
+  listens = a.listens ∙ are.listens ∙ ap (λ (k : Kind). listen_host k gateway ask.listen_host) (sym a.kind_is);
+  listen_port = a.listen_port_is ∙ are.listen_port;
+  connects = λ o there. (a.connects ∙ are.connects, a.connect_port_is ∙ are.connect_port);
+}
+
+-- the forwarding for whose fate an ask waits
+record WaitsFor (home : ℕ → Forwarding) (serials : ℕ) (gateway opening : Bool) (ask : StartAsk) (serial : ℕ) : Type 0 where
+  below : serial < serials
+  serial_is : (home serial).serial ≡ serial
+  is_for : IsFor gateway opening ask (home serial)
+
+-- what an ask leaves
+record Leaves (home : ℕ → Forwarding) (serials : ℕ) (deeds : List Deed) (gateway opening : Bool) (ask : StartAsk) (comes : Comes)
+    (fs : List Forwarding) (more : ℕ) : Type 0 where
+  grown : Grown home serials deeds fs more
+  waits : (serial : ℕ) → comes ≡ Later serial → WaitsFor grown.to more gateway opening ask serial
+
+-- what is known as an ask comes: what stands then, and why one that closes is asked for
+record Asking (home : ℕ → Forwarding) (serials : ℕ) (deeds : List Deed) (gateway opening : Bool) (ask : StartAsk) (comes : Comes)
+    (fs : List Forwarding) : Type 0 where
+  all : All (Stands home serials deeds) fs
+  closes : (serial : ℕ) → comes ≡ Later serial → opening ≡ false → (a : Forwarding) → IsFor gateway false ask a
+      → WasToClose a deeds
+
+abbrev pub more_than : ℕ → List Forwarding → List Forwarding → ℕ
+more_than serials old new = serials + (length new - length old)
+
+pub same-many : (serials : ℕ) (old new : List Forwarding) → length new ≡ length old → serials ≡ more_than serials old new
+same-many serials old new e = omega (arith, e)
+
+pub one-many : (serials : ℕ) (fs : List Forwarding) (f : Forwarding) → serials + 1 ≡ more_than serials fs (fs ++ f ∷ [])
+one-many serials fs f = omega (arith, length-append fs (f ∷ []))
+
+never : (o : Outcome) (comes : Comes) (serial : ℕ) (P : Type 0) → comes ≡ Now o → comes ≡ Later serial → P
+never o comes serial P e f = cc
+
+now : (home : ℕ → Forwarding) (serials : ℕ) (deeds : List Deed) (gateway opening : Bool) (ask : StartAsk) (comes : Comes)
+    (o : Outcome) (fs new : List Forwarding) → Asking home serials deeds gateway opening ask comes fs → comes ≡ Now o → new ≡ fs
+    → Leaves home serials deeds gateway opening ask comes new (more_than serials fs new)
+now home serials deeds gateway opening ask comes o fs new k e same =
+    let grown : Grown home serials deeds new (more_than serials fs new) =
+    subst (λ (m : ℕ). Grown home serials deeds new m) (same-many serials fs new (ap (λ (xs : List Forwarding). length xs) same))
+    (subst (λ (xs : List Forwarding). Grown home serials deeds xs serials) (sym same) (as-many home serials deeds fs k.all)) in
+    record {
+      grown = grown;
+      waits = λ serial is. never o comes serial (WaitsFor grown.to (more_than serials fs new) gateway opening ask serial) e is;
+    }
+
+-- one more
+new-one : (home : ℕ → Forwarding) (serials : ℕ) (deeds : List Deed) (gateway : Bool) (ask : StartAsk) (comes : Comes) (ends : Ends)
+    (fs new : List Forwarding) (f : Forwarding) → Asking home serials deeds gateway true ask comes fs → AreEnds gateway ask ends
+    → comes ≡ Later serials → IsAskedFor ends serials None f → new ≡ fs ++ f ∷ []
+    → Leaves home serials deeds gateway true ask comes new (more_than serials fs new)
+unfolding one-more
+new-one home serials deeds gateway ask comes ends fs new f k are e a more =
+    let g = one-more home serials deeds ends None f fs a k.all in
+    let to = with_one serials f home in
+    let here : to serials ≡ f = one-new serials f home in
+    let got : Leaves home serials deeds gateway true ask comes (fs ++ f ∷ []) (serials + 1) = record {
+      grown = g;
+      waits = λ serial is.
+          let same : serials ≡ serial = cc in
+          subst (λ (n : ℕ). WaitsFor to (serials + 1) gateway true ask n) same (record {
+            below = omega arith;
+            serial_is = ap (λ (x : Forwarding). x.serial) here ∙ a.serial_is;
+            is_for = subst (λ (x : Forwarding). IsFor gateway true ask x) (sym here)
+                (new-is-for gateway true ask ends serials None f are a);
+          });
+    } in
+    subst (λ (xs : List Forwarding). Leaves home serials deeds gateway true ask comes xs (more_than serials fs xs)) (sym more)
+    (subst (λ (m : ℕ). Leaves home serials deeds gateway true ask comes (fs ++ f ∷ []) m) (one-many serials fs f) got)
+
+-- one that stands
+same-one : (home : ℕ → Forwarding) (serials : ℕ) (deeds : List Deed) (gateway opening : Bool) (ask : StartAsk) (ends : Ends) (f : Forwarding)
+    → AreEnds gateway ask ends → Stands home serials deeds f → listens_at ends f ≡ true
+    → (opening ≡ true → connects_to ends f ≡ true) → WaitsFor home serials gateway opening ask f.serial
+same-one home serials deeds gateway opening ask ends f are s listens connects = record {
+  below = s.below;
+  serial_is = s.same.serial;
+  is_for = is-for gateway opening ask ends f (home f.serial) are s.same listens connects;
+}
+
+as-found : (home : ℕ → Forwarding) (serials : ℕ) (deeds : List Deed) (gateway : Bool) (ask : StartAsk) (comes : Comes)
+    (fs new : List Forwarding) (f : Forwarding) (o : Option Outcome) → Asking home serials deeds gateway true ask comes fs
+    → comes ≡ as_first f o → new ≡ fs → WaitsFor home serials gateway true ask f.serial
+    → Leaves home serials deeds gateway true ask comes new (more_than serials fs new)
+unfolding as-many
+as-found home serials deeds gateway ask comes fs new f (Some o) k e same w =
+    now home serials deeds gateway true ask comes o fs new k e same
+as-found home serials deeds gateway ask comes fs new f None k e same w =
+    let got : Leaves home serials deeds gateway true ask comes fs serials = record {
+      grown = as-many home serials deeds fs k.all;
+      waits = λ serial is.
+          let its : f.serial ≡ serial = cc in
+          subst (λ (n : ℕ). WaitsFor home serials gateway true ask n) its w;
+    } in
+    subst (λ (xs : List Forwarding). Leaves home serials deeds gateway true ask comes xs (more_than serials fs xs)) (sym same)
+    (subst (λ (m : ℕ). Leaves home serials deeds gateway true ask comes fs m) (same-many serials fs fs refl) got)
+
+opens-none : (home : ℕ → Forwarding) (serials : ℕ) (deeds : List Deed) (gateway : Bool) (ask : StartAsk) (comes : Comes) (ends : Ends)
+    (fs new : List Forwarding) (b : Bool) → Asking home serials deeds gateway true ask comes fs → AreEnds gateway ask ends
+    → comes ≡ (if b then Later serials else Now Refused) → Opens b ends serials None fs new
+    → Leaves home serials deeds gateway true ask comes new (more_than serials fs new)
+opens-none home serials deeds gateway ask comes ends fs new true k are e o =
+    new-one home serials deeds gateway ask comes ends fs new o.0 k are e o.1 o.2
+opens-none home serials deeds gateway ask comes ends fs new false k are e o =
+    now home serials deeds gateway true ask comes Refused fs new k e o
+
+opens-some : (home : ℕ → Forwarding) (serials : ℕ) (deeds : List Deed) (gateway : Bool) (ask : StartAsk) (comes : Comes)
+    (fs new : List Forwarding) (f : Forwarding) (b : Bool) → Asking home serials deeds gateway true ask comes fs
+    → comes ≡ (if b then as_first f (outcome_of f) else Now Refused) → new ≡ fs
+    → (b ≡ true → WaitsFor home serials gateway true ask f.serial)
+    → Leaves home serials deeds gateway true ask comes new (more_than serials fs new)
+opens-some home serials deeds gateway ask comes fs new f true k e same w =
+    as-found home serials deeds gateway ask comes fs new f (outcome_of f) k e same (w refl)
+opens-some home serials deeds gateway ask comes fs new f false k e same w =
+    now home serials deeds gateway true ask comes Refused fs new k e same
+
+opens-by : (home : ℕ → Forwarding) (serials : ℕ) (deeds : List Deed) (gateway : Bool) (ask : StartAsk) (comes : Comes) (ends : Ends)
+    (fs new : List Forwarding) (o : Option Forwarding) → standing ends fs ≡ o → Asking home serials deeds gateway true ask comes fs
+    → AreEnds gateway ask ends → comes ≡ opens_of serials ends fs o → Opens (is_new ends fs o) ends serials None fs new
+    → Leaves home serials deeds gateway true ask comes new (more_than serials fs new)
+opens-by home serials deeds gateway ask comes ends fs new None is k are e o =
+    opens-none home serials deeds gateway ask comes ends fs new (nat_lt (how_many fs) MOST_FORWARDINGS) k are e o
+opens-by home serials deeds gateway ask comes ends fs new (Some f) is k are e o =
+    let at = found (Stands home serials deeds) (λ g. counts g && listens_at ends g) fs f is k.all in
+    let listens = (and_parts (counts f) (listens_at ends f) at.1).1 in
+    opens-some home serials deeds gateway ask comes fs new f (connects_to ends f) k e o
+    (λ there. same-one home serials deeds gateway true ask ends f are at.0 listens (λ _. there))
+
+-- one closes
+closes-one : (home : ℕ → Forwarding) (serials : ℕ) (deeds : List Deed) (gateway : Bool) (ask : StartAsk) (comes : Comes)
+    (fs new : List Forwarding) (f : Forwarding) (b : Bool) → Asking home serials deeds gateway false ask comes fs
+    → comes ≡ (if b then Now Refused else Later f.serial) → new ≡ after_close (if b then Now Refused else Later f.serial) fs
+    → WaitsFor home serials gateway false ask f.serial
+    → Leaves home serials deeds gateway false ask comes new (more_than serials fs new)
+unfolding as-many
+closes-one home serials deeds gateway ask comes fs new f true k e same w =
+    now home serials deeds gateway false ask comes Refused fs new k e same
+closes-one home serials deeds gateway ask comes fs new f false k e same w =
+    let all : All (Stands home serials deeds) (map (changed change.Close f.serial) fs) =
+    all-changed home serials deeds change.Close f.serial fs
+    (λ g is one h. steady-stage change.Close g.listen_port g.stage (home g.serial) deeds tt h)
+    (λ g is h c. subst (λ (n : ℕ). WasToClose (home n) deeds) (sym is) (k.closes f.serial e refl (home f.serial) w.is_for)) k.all in
+    let closed = map (changed change.Close f.serial) fs in
+    let got : Leaves home serials deeds gateway false ask comes closed serials = record {
+      grown = as-many home serials deeds closed all;
+      waits = λ serial is.
+          let its : f.serial ≡ serial = cc in
+          subst (λ (n : ℕ). WaitsFor home serials gateway false ask n) its w;
+    } in
+    subst (λ (xs : List Forwarding). Leaves home serials deeds gateway false ask comes xs (more_than serials fs xs)) (sym same)
+    (subst (λ (m : ℕ). Leaves home serials deeds gateway false ask comes closed m)
+    (same-many serials fs closed (length-map fs (changed change.Close f.serial))) got)
+
+closes-by : (home : ℕ → Forwarding) (serials : ℕ) (deeds : List Deed) (gateway : Bool) (ask : StartAsk) (comes : Comes) (ends : Ends)
+    (fs new : List Forwarding) (o : Option Forwarding) → standing ends fs ≡ o → Asking home serials deeds gateway false ask comes fs
+    → AreEnds gateway ask ends → comes ≡ closes_of o → new ≡ after_close (closes_of o) fs
+    → Leaves home serials deeds gateway false ask comes new (more_than serials fs new)
+closes-by home serials deeds gateway ask comes ends fs new None is k are e same =
+    now home serials deeds gateway false ask comes Refused fs new k e same
+closes-by home serials deeds gateway ask comes ends fs new (Some f) is k are e same =
+    let at = found (Stands home serials deeds) (λ g. counts g && listens_at ends g) fs f is k.all in
+    let listens = (and_parts (counts f) (listens_at ends f) at.1).1 in
+    closes-one home serials deeds gateway ask comes fs new f f.closing k e same
+    (same-one home serials deeds gateway false ask ends f are at.0 listens (λ o. cc))
+
+comes-by : (opening : Bool) (home : ℕ → Forwarding) (serials : ℕ) (deeds : List Deed) (gateway : Bool) (ask : StartAsk) (comes : Comes)
+    (ends : Ends) (fs new : List Forwarding) → Asking home serials deeds gateway opening ask comes fs → AreEnds gateway ask ends
+    → comes ≡ comes_of_ends opening serials ends fs → EndsLeave opening serials ends fs new
+    → Leaves home serials deeds gateway opening ask comes new (more_than serials fs new)
+comes-by true home serials deeds gateway ask comes ends fs new k are e l =
+    opens-by home serials deeds gateway ask comes ends fs new (standing ends fs) refl k are e l
+comes-by false home serials deeds gateway ask comes ends fs new k are e l =
+    closes-by home serials deeds gateway ask comes ends fs new (standing ends fs) refl k are e l
+
+comes-if : (alone opening : Bool) (home : ℕ → Forwarding) (serials : ℕ) (deeds : List Deed) (gateway : Bool) (ask : StartAsk) (comes : Comes)
+    (fs new : List Forwarding) → Asking home serials deeds gateway opening ask comes fs
+    → ComesIf alone gateway opening ask serials fs new comes
+    → Leaves home serials deeds gateway opening ask comes new (more_than serials fs new)
+comes-if true opening home serials deeds gateway ask comes fs new k c =
+    now home serials deeds gateway opening ask comes Refused fs new k c.0 c.1
+comes-if false opening home serials deeds gateway ask comes fs new k c =
+    comes-by opening home serials deeds gateway ask comes c.0 fs new k c.1 c.2 c.3
+
+comes-unless : (away opening : Bool) (home : ℕ → Forwarding) (serials : ℕ) (deeds : List Deed) (gateway : Bool) (ask : StartAsk) (comes : Comes)
+    (fs new : List Forwarding) → Asking home serials deeds gateway opening ask comes fs
+    → ComesUnless away gateway opening ask serials fs new comes
+    → Leaves home serials deeds gateway opening ask comes new (more_than serials fs new)
+comes-unless true opening home serials deeds gateway ask comes fs new k c =
+    now home serials deeds gateway opening ask comes Refused fs new k c.0 c.1
+comes-unless false opening home serials deeds gateway ask comes fs new k c =
+    comes-if (is_refused_alone ask) opening home serials deeds gateway ask comes fs new k c
+
+-- it waits, where it is to
+waits-more : (home : ℕ → Forwarding) (serials : ℕ) (deeds : List Deed) (client id : ℕ) (opening : Bool) (ask : StartAsk)
+    (answer : HouseReply) (comes : Comes) (ws : List Waiting) → answer ≡ reply_to comes
+    → ((serial : ℕ) → comes ≡ Later serial → WaitsFor home serials (gateway_in deeds) opening ask serial)
+    → All (Waits home serials (Asks client id opening ask answer ∷ deeds)) ws
+    → All (Waits home serials (Asks client id opening ask answer ∷ deeds)) (asks_after comes client id opening ws)
+waits-more home serials deeds client id opening ask answer (Now o) ws e waits h = h
+waits-more home serials deeds client id opening ask answer (Later serial) ws e waits h =
+    let w = waits serial refl in
+    All-push (Waits home serials (Asks client id opening ask answer ∷ deeds)) ws (waiting_for client id opening serial) h (record {
+      below = w.below;
+      serial = w.serial_is;
+      ask = ask;
+      later = [];
+      earlier = deeds;
+      were = ap (λ r. Asks client id opening ask r ∷ deeds) e;
+      is_for = w.is_for;
+      open_yet = refl;
+      came = tt;
+    })
+
+apart-came : (comes : Comes) (client id : ℕ) (opening : Bool) (ws : List Waiting) → has_open client id ws ≡ false → Apart ws
+    → Apart (asks_after comes client id opening ws)
+apart-came (Now o) client id opening ws e h = h
+apart-came (Later serial) client id opening ws e h = apart-more ws (waiting_for client id opening serial) h e
+
+-- an ask waits where its client has none with its id
+apart-asked : (client id : ℕ) (opening : Bool) (ask : StartAsk) (comes : Comes) (gateway : Bool) (serials : ℕ)
+    (fs new : List Forwarding) (ws : List Waiting) (away : Bool) → turns_away client id ws ≡ away
+    → ComesUnless away gateway opening ask serials fs new comes → Apart ws → Apart (asks_after comes client id opening ws)
+apart-asked client id opening ask comes gateway serials fs new ws true e c h =
+    subst (λ (x : Comes). Apart (asks_after x client id opening ws)) (sym c.0) h
+apart-asked client id opening ask comes gateway serials fs new ws false e c h =
+    apart-came comes client id opening ws (or_parts (has_open client id ws) (nat_le MOST_ASKS (length ws)) e).0 h
+
+to-close : (client id : ℕ) (opening : Bool) (ask : StartAsk) (answer : HouseReply) (comes : Comes) (deeds : List Deed) (gateway : Bool)
+    (serial : ℕ) (a : Forwarding) → answer ≡ reply_to comes → gateway ≡ gateway_in deeds → comes ≡ Later serial → opening ≡ false
+    → IsFor gateway false ask a → WasToClose a (Asks client id opening ask answer ∷ deeds)
+to-close client id opening ask answer comes deeds gateway serial a e same later closing is = record {
+  client = client;
+  id = id;
+  ask = ask;
+  later = [];
+  earlier = deeds;
+  were = ap (λ b. Asks client id b ask answer ∷ deeds) closing
+      ∙ ap (λ r. Asks client id false ask r ∷ deeds) (e ∙ ap reply_to later);
+  is_for = subst (λ (b : Bool). IsFor b false ask a) same is;
+}
+
+after-ask : (client id : ℕ) (opening : Bool) (ask : StartAsk) (answer : HouseReply) (deeds : List Deed) (old new : Desk) → Knows deeds old
+    → IsAsked client id opening ask answer old new → Knows (Asks client id opening ask answer ∷ deeds) new
+after-ask client id opening ask answer deeds old new k a =
+    let deed : Deed = Asks client id opening ask answer in
+    let more = more_than old.serials old.all new.all in
+    let left = comes-unless _ opening k.home old.serials (deed ∷ deeds) old.gateway ask a.came_to old.all new.all (record {
+      all = all-later k.home old.serials deed deeds old.all (λ l. refl) k.all;
+      closes = λ serial later closing g is. to-close client id opening ask answer a.came_to deeds old.gateway serial g a.replies
+          k.gateway later closing is;
+    }) a.comes in
+    let g = left.grown in
+    let serials : more ≡ new.serials = sym (ap (λ (d : Desk). d.serials) a.others) in
+    record {
+      home = g.to;
+      gateway = ap (λ (d : Desk). d.gateway) a.others ∙ k.gateway;
+      requests = ap (λ (d : Desk). d.requests) a.others ∙ k.requests;
+      all = subst (λ (n : ℕ). All (Stands g.to n (deed ∷ deeds)) new.all) serials g.all;
+      asked = subst (λ (n : ℕ). All (Asked g.to n) (unanswered deeds)) serials
+          (all-asked-grown k.home g.to old.serials more (unanswered deeds) g.less g.keeps k.asked);
+      waiting = subst (λ (n : ℕ). All (Waits g.to n (deed ∷ deeds)) new.waiting) serials
+          (subst (λ (ws : List Waiting). All (Waits g.to more (deed ∷ deeds)) ws) (sym (ap (λ (d : Desk). d.waiting) a.others))
+          (waits-more g.to more deeds client id opening ask answer a.came_to old.waiting a.replies
+          (λ serial later. subst (λ (b : Bool). WaitsFor g.to more b opening ask serial) k.gateway (left.waits serial later))
+          (all-wait-grown k.home g.to old.serials more (deed ∷ deeds) old.waiting g.less g.keeps
+          (all-wait-later k.home old.serials deed deeds (λ c i. refl) old.waiting k.waiting))));
+      apart = subst Apart (sym (ap (λ (d : Desk). d.waiting) a.others))
+          (apart-asked client id opening ask a.came_to old.gateway old.serials old.all new.all old.waiting
+          (turns_away client id old.waiting) refl a.comes k.apart);
+    }
+
+-- ---- an answer, and the greeting
+
+-- it answers no other ask
+all-answered : (home : ℕ → Forwarding) (serials client id : ℕ) (answer : HouseReply) (deeds : List Deed) (ws : List Waiting) (o : Option ℕ)
+    → position (is_waiting client id) ws ≡ o → Apart ws → All (Waits home serials deeds) ws
+    → All (Waits home serials (Answers client id answer ∷ deeds)) (taken_at o ws)
+all-answered home serials client id answer deeds ws o e apart h =
+    let rest = all-taken (Waits home serials deeds) o ws h in
+    let not = others ws client id o e apart in
+    λ k d lt. waits-later home serials (Answers client id answer) deeds (get_or (taken_at o ws) k d) (not k d lt) (rest k d lt)
+
+after-answering : (client id : ℕ) (answer : HouseReply) (deeds : List Deed) (old new : Desk) → Knows deeds old
+    → IsAnswered client id answer old new → Knows (Answers client id answer ∷ deeds) new
+after-answering client id answer deeds old new k a =
+    let deed : Deed = Answers client id answer in
+    let left : Desk = record old { waiting = after_answer (Some (client, id, answer)) old.waiting } in
+    let got : Knows (deed ∷ deeds) left = record {
+      home = k.home;
+      gateway = k.gateway;
+      requests = k.requests;
+      all = all-later k.home old.serials deed deeds old.all (λ l. refl) k.all;
+      asked = k.asked;
+      waiting = all-answered k.home old.serials client id answer deeds old.waiting (position (is_waiting client id) old.waiting) refl
+          k.apart k.waiting;
+      apart = apart-taken (position (is_waiting client id) old.waiting) old.waiting k.apart;
+    } in
+    subst (Knows (deed ∷ deeds)) (sym a.others) got
+
+after-greeting : (deeds : List Deed) (old new : Desk) → Knows deeds old → new ≡ greeting_said old → Knows (Greets ∷ deeds) new
+after-greeting deeds old new k e =
+    let got : Knows (Greets ∷ deeds) (greeting_said old) = record {
+      home = k.home;
+      gateway = k.gateway;
+      requests = k.requests;
+      all = all-later k.home old.serials Greets deeds old.all (λ l. refl) k.all;
+      asked = k.asked;
+      waiting = all-wait-later k.home old.serials Greets deeds (λ c i. refl) old.waiting k.waiting;
+      apart = k.apart;
+    } in
+    subst (Knows (Greets ∷ deeds)) (sym e) got
+
+-- ---- a request
+
+-- one that has a request to say is to be listened for by the server
+asks-there : (s : Stage) (a : Forwarding) (deeds : List Deed) (closing : Bool) → requests_at s closing ≡ true → StageFits s a deeds
+    → listens_here a.kind ≡ false
+asks-there (ToListen host) a deeds closing e h = cc
+asks-there Ordered a deeds closing e h = cc
+asks-there (Listening l) a deeds closing e h = cc
+asks-there ToRequest a deeds closing e h = h
+asks-there Requested a deeds closing e h = cc
+asks-there (Live port) a deeds closing e h = h.0
+asks-there (Cancelling port) a deeds closing e h = cc
+
+said-all : (r : Request) (home : ℕ → Forwarding) (serials : ℕ) (deeds : List Deed) (fs : List Forwarding)
+    → All (Stands home serials deeds) fs → All (Stands home serials deeds) (after_saying r fs)
+said-all (Listen serial) home serials deeds fs h = all-changed home serials deeds change.Request serial fs
+    (λ g is one k. steady-stage change.Request g.listen_port g.stage (home g.serial) deeds tt k) (λ g is k c. k c) h
+said-all (Cancel serial) home serials deeds fs h = all-changed home serials deeds change.Cancel serial fs
+    (λ g is one k. steady-stage change.Cancel g.listen_port g.stage (home g.serial) deeds tt k) (λ g is k c. k c) h
+
+after-request : (f : Forwarding) (deeds : List Deed) (old new : Desk) → Knows deeds old → find has_request old.all ≡ Some f
+    → new ≡ request_said f old → Knows (Requests f ∷ deeds) new
+after-request f deeds old new k is e =
+    let deed : Deed = Requests f in
+    let at = found (Stands k.home old.serials deeds) has_request old.all f is k.all in
+    let got : Knows (deed ∷ deeds) (request_said f old) = record {
+      home = k.home;
+      gateway = k.gateway;
+      requests = ap (λ rs. rs ++ request_of f ∷ []) k.requests ∙ sym (map-append request_of (unanswered deeds) (f ∷ []));
+      all = said-all (request_of f) k.home old.serials (deed ∷ deeds) old.all
+          (all-later k.home old.serials deed deeds old.all (λ l. refl) k.all);
+      asked = All-push (Asked k.home old.serials) (unanswered deeds) f k.asked (record {
+        below = at.0.below;
+        same = at.0.same;
+        there = asks-there f.stage (k.home f.serial) deeds f.closing at.1 at.0.stage;
+      });
+      waiting = all-wait-later k.home old.serials deed deeds (λ c i. refl) old.waiting k.waiting;
+      apart = k.apart;
+    } in
+    subst (Knows (deed ∷ deeds)) (sym e) got
+
+-- ---- a reply
+
+live-fits : (asked : ℕ) (chosen : Option ℕ) (s : Stage) (a : Forwarding) (deeds : List Deed) → IsGranted a (bound_to asked chosen) deeds
+    → StageFits s a deeds → StageFits (stage_after (change.Live chosen) asked s) a deeds
+live-fits asked chosen (ToListen host) a deeds granted h = h
+live-fits asked chosen Ordered a deeds granted h = h
+live-fits asked chosen (Listening l) a deeds granted h = h
+live-fits asked chosen ToRequest a deeds granted h = h
+live-fits asked chosen Requested a deeds granted h = (h, granted)
+live-fits asked chosen (Live p) a deeds granted h = h
+live-fits asked chosen (Cancelling p) a deeds granted h = h
+
+-- what a reply leaves, where the first request is this
+record Replied (home : ℕ → Forwarding) (serials : ℕ) (deeds : List Deed) (fs : List Forwarding) (ws : List Waiting) : Type 0 where
+  all : All (Stands home serials deeds) fs
+  waiting : All (Waits home serials deeds) ws
+
+next-is : (home : ℕ → Forwarding) (serials : ℕ) (deeds : List Deed) (what : ℕ → Request) (g : Forwarding) (gs : List Forwarding)
+    → unanswered deeds ≡ g ∷ gs → Asked home serials g → request_of g ≡ what g.serial → IsNext what (home g.serial) deeds
+next-is home serials deeds what g gs e a is =
+    record { first = g; others = gs; were = e; is = a.same; asks = is; there = a.there }
+
+refused-either : (a : Forwarding) (deeds : List Deed) (port : Option ℕ) → IsNext Listen a deeds → (opening : Bool)
+    → CameBy (Replies false port) deeds opening a Refused
+refused-either a deeds port next true = (next, refl)
+refused-either a deeds port next false = (Listen, next, refl)
+
+opened : (home : ℕ → Forwarding) (serials : ℕ) (deeds : List Deed) (port : Option ℕ) (serial at : ℕ) (fs : List Forwarding)
+    (ws : List Waiting) (o : Option Forwarding) → find (is_asked serial) fs ≡ o → IsNext Listen (home serial) deeds
+    → All (Stands home serials deeds) fs → All (Waits home serials deeds) ws
+    → All (Waits home serials (Replies true port ∷ deeds)) (opened_asks (live_in port o) serial at ws)
+opened home serials deeds port serial at fs ws None e next all h = all-wait-later home serials (Replies true port) deeds (λ c i. refl) ws h
+opened home serials deeds port serial at fs ws (Some f) e next all h =
+    let one = found (Stands home serials deeds) (is_asked serial) fs f e all in
+    let is = eqb-true f.serial serial (and_parts (f.serial == serial) (asks_at f.stage) one.1).0 in
+    let same : (home serial).listen_port ≡ f.listen_port = ap (λ n. (home n).listen_port) (sym is) ∙ one.0.same.listen_port in
+    all-settled home serials (Replies true port) deeds (λ c i. refl) serial true at (granted f.listen_port (bound_to f.listen_port port)) ws
+    (next, ap (λ n. granted n (bound_to n port)) (sym same)) h
+
+replied : (success : Bool) (r : Request) (home : ℕ → Forwarding) (serials : ℕ) (deeds : List Deed) (port : Option ℕ) (at : ℕ)
+    (fs : List Forwarding) (ws : List Waiting) (g : Forwarding) (gs : List Forwarding) → unanswered deeds ≡ g ∷ gs
+    → Asked home serials g → request_of g ≡ r → (r ≡ Listen g.serial) ⊎ (r ≡ Cancel g.serial)
+    → All (Stands home serials deeds) fs → All (Waits home serials deeds) ws
+    → Replied home serials (Replies success port ∷ deeds) (replied_all success port (Some r) fs)
+    (replied_asks success port (Some r) fs at ws)
+replied true (Listen serial) home serials deeds port at fs ws g gs e a is (inl which) all h =
+    let same : serial ≡ g.serial = cc in
+    let deed : Deed = Replies true port in
+    let next : IsNext Listen (home serial) deeds = subst (λ (n : ℕ). IsNext Listen (home n) deeds) (sym same)
+    (next-is home serials deeds Listen g gs e a (is ∙ which)) in
+    record {
+      all = all-changed home serials (deed ∷ deeds) (change.Live port) serial fs
+          (λ f its one k. live-fits f.listen_port port f.stage (home f.serial) (deed ∷ deeds) (record {
+            chosen = port;
+            later = [];
+            earlier = deeds;
+            were = refl;
+            next = subst (λ (n : ℕ). IsNext Listen (home n) deeds) (sym its) next;
+            bound = ap (λ n. bound_to n port) (sym one.listen_port);
+          }) k)
+          (λ f its k c. k c) (all-later home serials deed deeds fs (λ l. refl) all);
+      waiting = opened home serials deeds port serial at fs ws (find (is_asked serial) fs) refl next all h;
+    }
+replied true (Listen serial) home serials deeds port at fs ws g gs e a is (inr which) all h = cc
+replied true (Cancel serial) home serials deeds port at fs ws g gs e a is (inl which) all h = cc
+replied true (Cancel serial) home serials deeds port at fs ws g gs e a is (inr which) all h =
+    let same : serial ≡ g.serial = cc in
+    let deed : Deed = Replies true port in
+    let next : IsNext Cancel (home serial) deeds = subst (λ (n : ℕ). IsNext Cancel (home n) deeds) (sym same)
+    (next-is home serials deeds Cancel g gs e a (is ∙ which)) in
+    record {
+      all = all-removed (Stands home serials (deed ∷ deeds)) (position (is_cancelled serial) fs) fs
+          (all-later home serials deed deeds fs (λ l. refl) all);
+      waiting = all-settled home serials deed deeds (λ c i. refl) serial false at Done ws (next, refl) h;
+    }
+replied false (Listen serial) home serials deeds port at fs ws g gs e a is (inl which) all h =
+    let same : serial ≡ g.serial = cc in
+    let deed : Deed = Replies false port in
+    let next : IsNext Listen (home serial) deeds = subst (λ (n : ℕ). IsNext Listen (home n) deeds) (sym same)
+    (next-is home serials deeds Listen g gs e a (is ∙ which)) in
+    record {
+      all = all-removed (Stands home serials (deed ∷ deeds)) (position (is_asked serial) fs) fs
+          (all-later home serials deed deeds fs (λ l. refl) all);
+      waiting = all-refused home serials deed deeds (λ c i. refl) serial at ws (refused-either (home serial) deeds port next) h;
+    }
+replied false (Listen serial) home serials deeds port at fs ws g gs e a is (inr which) all h = cc
+replied false (Cancel serial) home serials deeds port at fs ws g gs e a is (inl which) all h = cc
+replied false (Cancel serial) home serials deeds port at fs ws g gs e a is (inr which) all h =
+    let same : serial ≡ g.serial = cc in
+    let deed : Deed = Replies false port in
+    let next : IsNext Cancel (home serial) deeds = subst (λ (n : ℕ). IsNext Cancel (home n) deeds) (sym same)
+    (next-is home serials deeds Cancel g gs e a (is ∙ which)) in
+    record {
+      all = all-changed home serials (deed ∷ deeds) change.Stay serial fs
+          (λ f its one k. steady-stage change.Stay f.listen_port f.stage (home f.serial) (deed ∷ deeds) tt k)
+          (λ f its k c. cc) (all-later home serials deed deeds fs (λ l. refl) all);
+      waiting = all-settled home serials deed deeds (λ c i. refl) serial false at Refused ws (Cancel, next, refl) h;
+    }
+
+pub request-is : (s : Stage) (serial : ℕ) → (request_at s serial ≡ Listen serial) ⊎ (request_at s serial ≡ Cancel serial)
+request-is (ToListen host) serial = inl refl
+request-is Ordered serial = inl refl
+request-is (Listening l) serial = inl refl
+request-is ToRequest serial = inl refl
+request-is Requested serial = inl refl
+request-is (Live port) serial = inr refl
+request-is (Cancelling port) serial = inl refl
+
+-- what a reply leaves, with the requests that wait then
+replied-by : (success : Bool) (port : Option ℕ) (deeds : List Deed) (old : Desk) (gs : List Forwarding) (k : Knows deeds old)
+    → unanswered deeds ≡ gs → Replied k.home old.serials (Replies success port ∷ deeds)
+    (replied_all success port (first_of (map request_of gs)) old.all)
+    (replied_asks success port (first_of (map request_of gs)) old.all old.done old.waiting)
+replied-by success port deeds old [] k e = record {
+  all = all-later k.home old.serials (Replies success port) deeds old.all (λ l. refl) k.all;
+  waiting = all-wait-later k.home old.serials (Replies success port) deeds (λ c i. refl) old.waiting k.waiting;
+}
+replied-by success port deeds old (g ∷ gs) k e =
+    let a = All-head (Asked k.home old.serials) g gs (subst (All (Asked k.home old.serials)) e k.asked) in
+    replied success (request_of g) k.home old.serials deeds port old.done old.all old.waiting g gs e a refl
+    (request-is g.stage g.serial) k.all k.waiting
+
+drop-map : (gs : List Forwarding) → drop 1 (map request_of gs) ≡ map request_of (drop 1 gs)
+drop-map [] = refl
+drop-map (g ∷ gs) = refl
+
+after-reply : (success : Bool) (port : Option ℕ) (deeds : List Deed) (old new : Desk) → Knows deeds old
+    → new ≡ reply_heard success port old → Knows (Replies success port ∷ deeds) new
+after-reply success port deeds old new k e =
+    let deed : Deed = Replies success port in
+    let left = replied-by success port deeds old (unanswered deeds) k refl in
+    let got : Knows (deed ∷ deeds) (reply_heard success port old) = record {
+      home = k.home;
+      gateway = k.gateway;
+      requests = ap (λ (rs : List Request). drop 1 rs) k.requests ∙ drop-map (unanswered deeds);
+      all = subst (λ (rs : List Request). All (Stands k.home old.serials (deed ∷ deeds))
+          (replied_all success port (first_of rs) old.all)) (sym k.requests) left.all;
+      asked = All-drop (Asked k.home old.serials) 1 (unanswered deeds) k.asked;
+      waiting = subst (λ (rs : List Request). All (Waits k.home old.serials (deed ∷ deeds))
+          (replied_asks success port (first_of rs) old.all old.done old.waiting)) (sym k.requests) left.waiting;
+      apart = apart-replied success port (first_of old.requests) old.all old.done old.waiting k.apart;
+    } in
+    subst (Knows (deed ∷ deeds)) (sym e) got
+
+-- ---- a listener is ordered
+
+listens-there : (s : Stage) (a : Forwarding) (deeds : List Deed) → waits_at s ≡ true → StageFits s a deeds
+    → listens_here a.kind ≡ true
+listens-there (ToListen host) a deeds e h = h
+listens-there Ordered a deeds e h = h
+listens-there (Listening l) a deeds e h = cc
+listens-there ToRequest a deeds e h = cc
+listens-there Requested a deeds e h = cc
+listens-there (Live port) a deeds e h = cc
+listens-there (Cancelling port) a deeds e h = cc
+
+pub first-place : (b : Bool) (n i : ℕ) → (if b then Some n else None) ≡ Some i → i ≡ n
+first-place true n i e = cc
+first-place false n i e = cc
+
+-- the first that is to listen is still the first as it is ordered
+pub first-ordered : (fs : List Forwarding) (i : ℕ) (f : Forwarding) → position to_listen fs ≡ Some i
+    → find to_listen (set fs i (record f { stage = Ordered })) ≡ Some (record f { stage = Ordered })
+first-ordered fs i f e =
+    let first = position-Some to_listen fs i f e in
+    find-set to_listen fs i (record f { stage = Ordered }) (first-place _ (position_or_len to_listen fs) i e) first.0 refl
+
+-- where it gets its number, or none
+record Ordering (home : ℕ → Forwarding) (serials : ℕ) (host : List ℕ) (port : ℕ) (deeds : List Deed) (fs : List Forwarding)
+    (f : Forwarding) : Type 0 where
+  all : All (Stands home serials deeds) fs
+  first : find to_listen fs ≡ Some f
+  named : AreOne (home f.serial) f
+  here : listens_here (home f.serial).kind ≡ true
+  host_is : host ≡ (home f.serial).listen_host
+  port_is : port ≡ (home f.serial).listen_port
+
+pub same-one-found : (f g : Forwarding) → Some f ≡ Some g → f ≡ g
+same-one-found f g e = cc
+
+made-all : (home : ℕ → Forwarding) (serials : ℕ) (host : List ℕ) (port : ℕ) (deeds : List Deed) (number : Option ℕ) (fs new : List Forwarding)
+    (f : Forwarding) (i : ℕ) → Ordering home serials host port deeds fs f → position to_listen fs ≡ Some i → MadeAt number i fs new
+    → All (Stands home serials (Listens host port number ∷ deeds)) new
+made-all home serials host port deeds None fs new f i o e m =
+    subst (All (Stands home serials (Listens host port None ∷ deeds))) (sym m)
+    (all-remove (Stands home serials (Listens host port None ∷ deeds)) fs i
+    (all-later home serials (Listens host port None) deeds fs (λ l. refl) o.all))
+made-all home serials host port deeds (Some l) fs new f i o e m =
+    let deed : Deed = Listens host port (Some l) in
+    let all = all-later home serials deed deeds fs (λ k. refl) o.all in
+    let at = placed (Stands home serials (deed ∷ deeds)) to_listen fs i m.0 e m.1 all in
+    let same : f ≡ m.0 = same-one-found f m.0 (sym o.first ∙ at.2) in
+    let a = home m.0.serial in
+    let host_is : host ≡ a.listen_host = subst (λ (g : Forwarding). host ≡ (home g.serial).listen_host) same o.host_is in
+    let port_is : port ≡ a.listen_port = subst (λ (g : Forwarding). port ≡ (home g.serial).listen_port) same o.port_is in
+    let here : listens_here a.kind ≡ true = subst (λ (g : Forwarding). listens_here (home g.serial).kind ≡ true) same o.here in
+    subst (All (Stands home serials (deed ∷ deeds))) (sym m.2)
+    (All-set (Stands home serials (deed ∷ deeds)) fs i (record m.0 { stage = Listening l })
+    (restaged home serials (deed ∷ deeds) m.0 (Listening l) m.0.closing (
+      here,
+      record {
+        later = [];
+        earlier = deeds;
+        were = ap (λ h. Listens h port (Some l) ∷ deeds) host_is ∙ ap (λ p. Listens a.listen_host p (Some l) ∷ deeds) port_is;
+        open_yet = refl;
+      },
+    ) at.0.closing at.0) all)
+
+made-waiting : (home : ℕ → Forwarding) (serials : ℕ) (host : List ℕ) (port : ℕ) (deeds : List Deed) (number : Option ℕ) (fs : List Forwarding)
+    (f : Forwarding) (at : ℕ) (ws : List Waiting) → Ordering home serials host port deeds fs f → All (Waits home serials deeds) ws
+    → All (Waits home serials (Listens host port number ∷ deeds)) (ordered_asks number f.serial at ws)
+made-waiting home serials host port deeds None fs f at ws o h =
+    all-refused home serials (Listens host port None) deeds (λ c i. refl) f.serial at ws (λ opening. (o.host_is, o.port_is, o.here, refl)) h
+made-waiting home serials host port deeds (Some l) fs f at ws o h =
+    all-settled home serials (Listens host port (Some l)) deeds (λ c i. refl) f.serial true at Done ws (o.host_is, o.port_is, o.here, refl) h
+
+after-listen : (host : List ℕ) (port : ℕ) (number : Option ℕ) (deeds : List Deed) (old new : Desk) → Knows deeds old
+    → GetsListener host port number old new → Knows (Listens host port number ∷ deeds) new
+after-listen host port number deeds old new k h =
+    let deed : Deed = Listens host port number in
+    let b = h.between in
+    let f = h.orders.ordered.0 in
+    let g : Forwarding = record f { stage = Ordered } in
+    let i = h.orders.place in
+    let at = placed (Stands k.home old.serials deeds) to_listen old.all i f h.orders.first h.orders.ordered.1 k.all in
+    let ends = there-is (λ (x : Forwarding). (host ≡ x.listen_host) × (port ≡ x.listen_port)) (find to_listen old.all) f at.2 h.orders.there in
+    let here = listens-there f.stage (k.home f.serial) deeds at.1 at.0.stage in
+    let one = restaged k.home old.serials deeds f Ordered f.closing here at.0.closing at.0 in
+    let all : All (Stands k.home old.serials deeds) b.all = subst (All (Stands k.home old.serials deeds)) (sym h.orders.ordered.2)
+    (All-set (Stands k.home old.serials deeds) old.all i g one k.all) in
+    let first : find to_listen b.all ≡ Some g =
+    ap (λ (fs : List Forwarding). find to_listen fs) h.orders.ordered.2 ∙ first-ordered old.all i f h.orders.first in
+    let o : Ordering k.home old.serials host port deeds b.all g = record {
+      all = all;
+      first = first;
+      named = one.same;
+      here = here;
+      host_is = ends.0 ∙ sym at.0.same.listens;
+      port_is = ends.1 ∙ sym at.0.same.listen_port;
+    } in
+    let t : Desk = record old { all = new.all; refused = new.refused; waiting = new.waiting; done = new.done } in
+    let m = h.makes.others in
+    let s = h.orders.others in
+    let e : new ≡ t = same-desks new t (ap (λ (d : Desk). d.gateway) m ∙ ap (λ (d : Desk). d.gateway) s)
+    (ap (λ (d : Desk). d.greeted) m ∙ ap (λ (d : Desk). d.greeted) s) refl
+    (ap (λ (d : Desk). d.serials) m ∙ ap (λ (d : Desk). d.serials) s) refl
+    (ap (λ (d : Desk). d.requests) m ∙ ap (λ (d : Desk). d.requests) s) refl refl in
+    let waiting : new.waiting ≡ ordered_asks number f.serial b.done old.waiting = ap (λ (d : Desk). d.waiting) m
+    ∙ ap (λ (x : Option Forwarding). ordered_asks number (serial_of x) b.done b.waiting) first
+    ∙ ap (λ (ws : List Waiting). ordered_asks number f.serial b.done ws) (ap (λ (d : Desk). d.waiting) s) in
+    let got : Knows (deed ∷ deeds) t = record {
+      home = k.home;
+      gateway = k.gateway;
+      requests = k.requests;
+      all = made-all k.home old.serials host port deeds number b.all new.all g h.makes.place o h.makes.first h.makes.made;
+      asked = k.asked;
+      waiting = subst (All (Waits k.home old.serials (deed ∷ deeds))) (sym waiting)
+          (made-waiting k.home old.serials host port deeds number b.all g b.done old.waiting o k.waiting);
+      apart = subst Apart (sym waiting) (apart-ordered number f.serial b.done old.waiting k.apart);
+    } in
+    subst (Knows (deed ∷ deeds)) (sym e) got
+
+-- ---- a listener is closed
+
+-- the one that is closed next is that of a forwarding that closes
+pub record Closing (P : Forwarding → Type 0) (serial l : ℕ) : Type 0 where
+  pub f : Forwarding
+  pub holds : P f
+  pub serial_is : f.serial ≡ serial
+  pub stage_is : f.stage ≡ Listening l
+  pub closing_is : f.closing ≡ true
+
+ends-if : (owes : Bool) (serial k : ℕ) (l n : ℕ) → (if owes then None else Some (want.Unlisten n k)) ≡ Some (want.Unlisten serial l)
+    → (k ≡ l) × (n ≡ serial)
+ends-if true serial k l n e = cc
+ends-if false serial k l n e = (cc, cc)
+
+ends-at : (P : Forwarding → Type 0) (ws : List Waiting) (f : Forwarding) (serial k l : ℕ) (closing : Bool) (next : Option Want)
+    → f.stage ≡ Listening k → f.closing ≡ closing → P f → ends_at k closing f.serial ws next ≡ Some (want.Unlisten serial l)
+    → (next ≡ Some (want.Unlisten serial l) → Closing P serial l) → Closing P serial l
+ends-at P ws f serial k l true next s c h e rest =
+    let both = ends-if (owes_opening f.serial ws) serial k l f.serial e in
+    record { f = f; holds = h; serial_is = both.1; stage_is = s ∙ ap (λ n. Listening n) both.0; closing_is = c }
+ends-at P ws f serial k l false next s c h e rest = rest e
+
+next-at : (P : Forwarding → Type 0) (ws : List Waiting) (f : Forwarding) (serial l : ℕ) (s : Stage) (next : Option Want)
+    → f.stage ≡ s → P f → next_at s f.closing f.serial ws next ≡ Some (want.Unlisten serial l)
+    → (next ≡ Some (want.Unlisten serial l) → Closing P serial l) → Closing P serial l
+next-at P ws f serial l (ToListen host) next is h e rest = cc
+next-at P ws f serial l Ordered next is h e rest = cc
+next-at P ws f serial l (Listening k) next is h e rest = ends-at P ws f serial k l f.closing next is refl h e rest
+next-at P ws f serial l ToRequest next is h e rest = rest e
+next-at P ws f serial l Requested next is h e rest = rest e
+next-at P ws f serial l (Live port) next is h e rest = rest e
+next-at P ws f serial l (Cancelling port) next is h e rest = rest e
+
+pub next-closing : (P : Forwarding → Type 0) (ws : List Waiting) (fs : List Forwarding) (serial l : ℕ) → All P fs
+    → next_of ws fs ≡ Some (want.Unlisten serial l) → Closing P serial l
+next-closing P ws [] serial l h e = cc
+next-closing P ws (f ∷ fs) serial l h e =
+    next-at P ws f serial l f.stage (next_of ws fs) refl (All-head P f fs h) e
+    (λ rest. next-closing P ws fs serial l (All-tail P f fs h) rest)
+
+-- a listener that stays isn't the one that is closed
+stays : (l : ℕ) (f : Forwarding) → not (has_listener l f) ≡ true → Lets f.stage (Unlistens l)
+stays l f e k is = not-true (k == l) (subst (λ (s : Stage). not (is_listener l (listener_at s)) ≡ true) is e)
+
+pub closing-of : (l : ℕ) (deeds : List Deed) (old : Desk) (k : Knows deeds old) (serial : ℕ)
+    → next_of old.waiting old.all ≡ Some (want.Unlisten serial l) → Closing (Stands k.home old.serials deeds) serial l
+closing-of l deeds old k serial e = next-closing (Stands k.home old.serials deeds) old.waiting old.all serial l k.all e
+
+after-unlisten : (l : ℕ) (deeds : List Deed) (old new : Desk) → Knows deeds old → EndsListener l old new
+    → Knows (Unlistens l ∷ deeds) new
+after-unlisten l deeds old new k h =
+    let deed : Deed = Unlistens l in
+    let c = closing-of l deeds old k h.serial h.next in
+    let fits : StageFits (Listening l) (k.home c.f.serial) deeds =
+    subst (λ (s : Stage). StageFits s (k.home c.f.serial) deeds) c.stage_is c.holds.stage in
+    let its : StageFits (Listening l) (k.home h.serial) deeds =
+    subst (λ (n : ℕ). StageFits (Listening l) (k.home n) deeds) c.serial_is fits in
+    let kept = filter (λ f. not (has_listener l f)) old.all in
+    let stand = All-filter (λ f. not (has_listener l f)) (Stands k.home old.serials deeds) old.all k.all in
+    let pass = filter_passes (λ f. not (has_listener l f)) old.all in
+    let t : Desk = record old {
+      all = kept;
+      waiting = settled h.serial false old.done Done old.waiting;
+      done = counted old.done;
+    } in
+    let got : Knows (deed ∷ deeds) t = record {
+      home = k.home;
+      gateway = k.gateway;
+      requests = k.requests;
+      all = λ i d lt. stands-later k.home old.serials deed deeds (get_or kept i d) (stays l (get_or kept i d) (pass i d lt)) (stand i d lt);
+      asked = k.asked;
+      waiting = all-settled k.home old.serials deed deeds (λ c i. refl) h.serial false old.done Done old.waiting (its.0, its.1, refl) k.waiting;
+      apart = apart-settled h.serial false old.done Done old.waiting k.apart;
+    } in
+    subst (Knows (deed ∷ deeds)) (sym h.others) got
+
+-- ---- by all that happened
+
+after : (deed : Deed) (deeds : List Deed) (old new : Desk) → Knows deeds old → Does deed old new → Knows (deed ∷ deeds) new
+after (Begins starts) deeds old new k d = after-start starts deeds old new k d
+after (Asks client id opening ask answer) deeds old new k d = after-ask client id opening ask answer deeds old new k d
+after (Answers client id answer) deeds old new k d = after-answering client id answer deeds old new k d
+after Greets deeds old new k d = after-greeting deeds old new k d.1
+after (Requests f) deeds old new k d = after-request f deeds old new k d.1 d.2
+after (Replies success port) deeds old new k d = after-reply success port deeds old new k d
+after (Listens host port number) deeds old new k d = after-listen host port number deeds old new k d
+after (Unlistens l) deeds old new k d = after-unlisten l deeds old new k d
+
+pub knows : (deeds : List Deed) (desk : Desk) → Leave deeds desk → Knows deeds desk
+knows [] desk left = subst (Knows []) (sym left) knows-nothing
+knows (deed ∷ deeds) desk left = after deed deeds left.0 desk (knows deeds left.0 left.1) left.2

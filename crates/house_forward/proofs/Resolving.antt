@@ -1,0 +1,911 @@
+-- What is kept of asks and requests, deed by deed, and what that says of a house at rest.
+use Rattle.std.proofs.Common.{◌≡◌, ◌∙◌, refl, sym, ap, subst, arith, ℕ, zero, suc, ◌+◌, ◌<◌, ◌≤◌, Bool, true, false, List, [], ◌∷◌, ◌++◌, length, get_or, set, drop, map, filter, Option, Some, None, inl, inr}
+use Rattle.std.specs.Prelude.{◌⊎◌, ◌==◌, ◌&&◌, not, nat_lt, find, slice_get, if◌then◌else◌}
+use Rattle.std.specs.List.{All, Contains, list_any, position, remove}
+use Rattle.std.proofs.lemmas.Bool.{and_parts, or_parts, or_from, both_ways, cases_Bool, cases_lt, eqb-true, eq-eqb, not-true}
+use Rattle.std.proofs.lemmas.Grind.{common_steps}
+use Rattle.std.proofs.lemmas.List.{length-map}
+use Rattle.std.proofs.lemmas.List.Elements.{All-nil, All-cons, All-head, All-tail, All-weaker, All-map, All-push, All-set, All-filter}
+use Rattle.std.proofs.lemmas.List.Quantifiers.{position-Some}
+use Rattle.mux_outside.specs.declared.house.HouseReply.{HouseReply}
+use Rattle.mux_outside.specs.declared.start_ask.StartAsk.{StartAsk}
+use Rattle.mux_outside.specs.declared.starts.Starts.{Starts}
+use Rattle.house_forward.specs.Asks.{settled, counted, is_about, owes_opening, has_outcome, is_settled, is_waiting, taken_at, waiting_for, turns_away}
+use Rattle.house_forward.specs.Causes.{ShareListener, IsAtRest, AwaitsReply, EachAwaits}
+use Rattle.house_forward.specs.Deeds.{Deed, Does, Leave}
+use Rattle.house_forward.specs.Deeds.{Begins, Asks, Answers, Greets, Requests, Replies, Listens, Unlistens}
+use Rattle.house_forward.specs.Desk.{Desk, empty_desk, BeginsWith, IsAsked, Answers as IsAnswered, greeting_said, request_said, reply_heard, GetsListener, EndsListener, standing_at}
+use Rattle.house_forward.specs.Forwardings.{Begins as BeginsAt, StartsIf, Standing, Opens, serials_after, IsAskedFor, is_first, has_request, requests_at, request_of, after_saying, changed, stage_after, closing_after, standing, counts, how_many, listens_at, connects_to, as_first, outcome_of, outcome_at, opens_of, closes_of, comes_of_ends, after_close, is_new, EndsLeave, ComesIf, ComesUnless, asks_after, is_asked, asks_at, is_cancelled, cancels_at, live_in, opened_asks, replied_all, replied_asks, removed_at, first_of, to_listen, MadeAt, ordered_asks, serial_of, is_numbered, next_of, next_at, ends_at, has_listener, is_listener, listener_at}
+use Rattle.house_forward.specs.Rules.{is_refused_alone}
+use Rattle.house_forward.specs.declared.asks.Asked.{Asked as Comes}
+use Rattle.house_forward.specs.declared.asks.Asked.TheVariants.{Now, Later}
+use Rattle.house_forward.specs.declared.asks.Outcome.{Outcome}
+use Rattle.house_forward.specs.declared.asks.Outcome.TheVariants.{Done, Refused}
+use Rattle.house_forward.specs.declared.asks.Waiting.{Waiting}
+use Rattle.house_forward.specs.declared.forwarding.Change.{Change}
+use Rattle.house_forward.specs.declared.forwarding.Change.TheVariants as change
+use Rattle.house_forward.specs.declared.forwarding.Forwarding.{Forwarding}
+use Rattle.house_forward.specs.declared.forwarding.Request.{Request}
+use Rattle.house_forward.specs.declared.forwarding.Request.TheVariants.{Listen, Cancel}
+use Rattle.house_forward.specs.declared.forwarding.Stage.{Stage}
+use Rattle.house_forward.specs.declared.forwarding.Stage.TheVariants.{ToListen, Ordered, Listening, ToRequest, Requested, Live, Cancelling}
+use Rattle.house_forward.specs.declared.forwardings.Want.{Want}
+use Rattle.house_forward.specs.declared.forwardings.Want.TheVariants as want
+use Rattle.house_forward.specs.declared.rules.Ends.{Ends}
+use Rattle.house_forward.specs.declared.rules.TheConstants.{MOST_FORWARDINGS}
+use Rattle.house_forward.proofs.Causing.{placed, all-remove, all-removed, all-taken, in-range, there-is, same-many, one-many, more_than, first-ordered, same-one-found, Closing, next-closing}
+use Rattle.house_forward.proofs.Lists.{none-passes}
+use Rattle.house_forward.proofs.Members.{In, in-left, in-last, in-map, in-filter, in-remove, in-set, in-set_new, in-all, in-contains, found-in, set-set, remove-set}
+use Rattle.house_forward.proofs.Numbered.{numbered_more, numbered-remove, numbered-filter, numbered-first, numbered-changed}
+use Rattle.house_forward.proofs.Tracking.{Holds, HasFate, Fates, Unsettled, StageAwaits, Awaits, Tracks, share-later, removed-differs, one-serial, all-unsettled, all-unrefused, of-other, of-neither, changed-serial, fate-changed, said-holds, live-holds, stay-holds, awaits-more, listen-awaits, cancel-awaits, close-awaits, live-awaits, stay-awaits, other-awaits}
+
+-- ---- fates go on
+
+abbrev Moves : List Forwarding → List Forwarding → Type 0
+Moves old new = (w : Waiting) → HasFate old w → HasFate new w
+
+-- as nothing comes to something
+moved : (deed : Deed) (deeds : List Deed) (old new : List Forwarding) (ws : List Waiting) → Moves old new
+    → All (Unsettled (Fates deeds old)) ws → All (Unsettled (Fates (deed ∷ deeds) new)) ws
+moved deed deeds old new ws move h =
+    All-weaker (Unsettled (Fates deeds old)) (Unsettled (Fates (deed ∷ deeds) new))
+    (λ w u none. elim (u none) [
+      | inl f ↦ inl (move w f)
+      | inr s ↦ inr (s.0, share-later deed deeds s.1)
+    ]) ws h
+
+step : (deed : Deed) (deeds : List Deed) (old new : List Forwarding) (w : Waiting) → (HasFate old w → Fates (deed ∷ deeds) new w)
+    → Fates deeds old w → Fates (deed ∷ deeds) new w
+step deed deeds old new w move (inl f) = move f
+step deed deeds old new w move (inr s) = inr (s.0, share-later deed deeds s.1)
+
+-- ---- the start
+
+first-awaits : (s : Stage) (n : ℕ) (rs : List Request) → is_first s ≡ true → StageAwaits s n rs
+first-awaits (ToListen host) n rs e = tt
+first-awaits Ordered n rs e = cc
+first-awaits (Listening l) n rs e = tt
+first-awaits ToRequest n rs e = tt
+first-awaits Requested n rs e = cc
+first-awaits (Live port) n rs e = tt
+first-awaits (Cancelling port) n rs e = cc
+
+first-outcome : (s : Stage) (n : ℕ) → is_first s ≡ true → outcome_at s n ≡ None
+first-outcome (ToListen host) n e = refl
+first-outcome Ordered n e = cc
+first-outcome (Listening l) n e = cc
+first-outcome ToRequest n e = refl
+first-outcome Requested n e = cc
+first-outcome (Live port) n e = cc
+first-outcome (Cancelling port) n e = cc
+
+record More (rs : List Request) (old new : List Forwarding) (serials : ℕ) : Type 0 where
+  numbered : is_numbered 0 new serials ≡ true
+  stages : All (Awaits rs) new
+  keeps : (f : Forwarding) → In f old → In f new
+
+none-more : (rs : List Request) (fs : List Forwarding) (serials : ℕ) → is_numbered 0 fs serials ≡ true → All (Awaits rs) fs → More rs fs fs serials
+none-more rs fs serials n h = record { numbered = n; stages = h; keeps = λ f k. k }
+
+one-more : (rs : List Request) (fs : List Forwarding) (serials : ℕ) (ends : Ends) (start : Option ℕ) (f : Forwarding)
+    → IsAskedFor ends serials start f → is_numbered 0 fs serials ≡ true → All (Awaits rs) fs → More rs fs (fs ++ f ∷ []) (serials + 1)
+one-more rs fs serials ends start f a n h = record {
+  numbered = numbered_more fs f serials a.serial_is n;
+  stages = All-push (Awaits rs) fs f h (first-awaits f.stage f.serial rs a.first);
+  keeps = λ g k. in-left g fs (f ∷ []) k;
+}
+
+opens-more : (b : Bool) (ends : Ends) (serials : ℕ) (start : Option ℕ) (rs : List Request) (old new : List Forwarding)
+    → is_numbered 0 old serials ≡ true → All (Awaits rs) old → Opens b ends serials start old new
+    → More rs old new (serials_after b serials)
+opens-more false ends serials start rs old new n h o =
+    subst (λ (fs : List Forwarding). More rs old fs serials) (sym o) (none-more rs old serials n h)
+opens-more true ends serials start rs old new n h o =
+    subst (λ (fs : List Forwarding). More rs old fs (serials + 1)) (sym o.2) (one-more rs old serials ends start o.0 o.1 n h)
+
+starts-more : (b gateway : Bool) (ask : StartAsk) (i : ℕ) (rs : List Request) (old new : Standing)
+    → is_numbered 0 old.all old.serials ≡ true → All (Awaits rs) old.all → StartsIf b gateway ask i old new
+    → More rs old.all new.all new.serials
+starts-more true gateway ask i rs old new n h s =
+    subst (λ (t : Standing). More rs old.all t.all t.serials) (sym s) (none-more rs old.all old.serials n h)
+starts-more false gateway ask i rs old new n h s =
+    subst (λ (m : ℕ). More rs old.all new.all m) (sym s.2.serials)
+    (opens-more _ s.0 old.serials (Some i) rs old.all new.all n h s.2.all)
+
+begins-more : (gateway : Bool) (asks : List StartAsk) (i : ℕ) (rs : List Request) (old new : Standing) → i ≤ length asks
+    → is_numbered 0 old.all old.serials ≡ true → All (Awaits rs) old.all → BeginsAt gateway asks i old new
+    → More rs old.all new.all new.serials
+begins-more gateway asks zero rs old new l n h b =
+    subst (λ (t : Standing). More rs old.all t.all t.serials) (sym b) (none-more rs old.all old.serials n h)
+begins-more gateway asks (suc i) rs old new l n h b =
+    let first = begins-more gateway asks i rs old b.0 (omega arith) n h b.1 in
+    let at = in-range asks i (omega arith) in
+    let starts = there-is (λ (ask : StartAsk). StartsIf (is_refused_alone ask) gateway ask i b.0 new) (slice_get asks i) at.0 at.1 b.2 in
+    let last = starts-more (is_refused_alone at.0) gateway at.0 i rs b.0 new first.numbered first.stages starts in
+    record { numbered = last.numbered; stages = last.stages; keeps = λ f k. last.keeps f (first.keeps f k) }
+
+kept-fates : (old new : List Forwarding) → ((f : Forwarding) → In f old → In f new) → Moves old new
+kept-fates old new keeps w h = (h.0, keeps h.0 h.1, h.2, h.3)
+
+after-start : (starts : Starts) (deeds : List Deed) (old new : Desk) → Tracks deeds old → BeginsWith starts old new
+    → Tracks (Begins starts ∷ deeds) new
+after-start starts deeds old new t b =
+    let m = begins-more starts.gateway starts.asks (length starts.asks) old.requests (standing_at old) (standing_at new)
+    (omega arith) t.numbered t.stages b.begins in
+    record {
+      numbered = m.numbered;
+      stages = subst (λ (rs : List Request). All (Awaits rs) new.all) (sym (ap (λ (d : Desk). d.requests) b.others)) m.stages;
+      fates = subst (λ (ws : List Waiting). All (Unsettled (Fates (Begins starts ∷ deeds) new.all)) ws)
+          (sym (ap (λ (d : Desk). d.waiting) b.others))
+          (moved (Begins starts) deeds old.all new.all old.waiting (kept-fates old.all new.all m.keeps) t.fates);
+    }
+
+-- ---- an ask
+
+abbrev Has : Bool → ℕ → List Forwarding → Type 0
+Has opening serial all = (f : Forwarding) × In f all × (f.serial ≡ serial) × Holds opening f
+
+record AskTracks (rs : List Request) (opening : Bool) (comes : Comes) (old new : List Forwarding) (serials : ℕ) : Type 0 where
+  numbered : is_numbered 0 new serials ≡ true
+  stages : All (Awaits rs) new
+  moves : Moves old new
+  waits : (serial : ℕ) → comes ≡ Later serial → Has opening serial new
+
+-- what is known as an ask comes
+record Asking (rs : List Request) (serials : ℕ) (fs : List Forwarding) : Type 0 where
+  numbered : is_numbered 0 fs serials ≡ true
+  stages : All (Awaits rs) fs
+
+stays : (rs : List Request) (serials : ℕ) (opening : Bool) (comes : Comes) (fs new : List Forwarding) → Asking rs serials fs → new ≡ fs
+    → ((serial : ℕ) → comes ≡ Later serial → Has opening serial fs) → AskTracks rs opening comes fs new (more_than serials fs new)
+stays rs serials opening comes fs new k same waits =
+    subst (λ (xs : List Forwarding). AskTracks rs opening comes fs xs (more_than serials fs xs)) (sym same)
+    (subst (λ (m : ℕ). AskTracks rs opening comes fs fs m) (same-many serials fs fs refl) (record {
+      numbered = k.numbered;
+      stages = k.stages;
+      moves = λ w h. h;
+      waits = waits;
+    }))
+
+never : (o : Outcome) (comes : Comes) (opening : Bool) (fs : List Forwarding) → comes ≡ Now o → (serial : ℕ) → comes ≡ Later serial
+    → Has opening serial fs
+never o comes opening fs e serial f = cc
+
+opens-none : (rs : List Request) (serials : ℕ) (comes : Comes) (ends : Ends) (fs new : List Forwarding) (b : Bool) → Asking rs serials fs
+    → comes ≡ (if b then Later serials else Now Refused) → Opens b ends serials None fs new
+    → AskTracks rs true comes fs new (more_than serials fs new)
+opens-none rs serials comes ends fs new false k e o = stays rs serials true comes fs new k o (never Refused comes true fs e)
+opens-none rs serials comes ends fs new true k e o =
+    let f = o.0 in
+    let m = one-more rs fs serials ends None f o.1 k.numbered k.stages in
+    subst (λ (xs : List Forwarding). AskTracks rs true comes fs xs (more_than serials fs xs)) (sym o.2)
+    (subst (λ (n : ℕ). AskTracks rs true comes fs (fs ++ f ∷ []) n) (one-many serials fs f) (record {
+      numbered = m.numbered;
+      stages = m.stages;
+      moves = kept-fates fs (fs ++ f ∷ []) m.keeps;
+      waits = λ serial is.
+          let same : serials ≡ serial = cc in
+          (f, in-last f fs, o.1.serial_is ∙ same, first-outcome f.stage f.listen_port o.1.first);
+    }))
+
+again : (comes : Comes) (fs : List Forwarding) (f : Forwarding) (o : Option Outcome) → outcome_of f ≡ o → comes ≡ as_first f o → In f fs
+    → (serial : ℕ) → comes ≡ Later serial → Has true serial fs
+again comes fs f None is e h serial later = let same : f.serial ≡ serial = cc in (f, h, same, is)
+again comes fs f (Some o) is e h serial later = cc
+
+opens-some : (rs : List Request) (serials : ℕ) (comes : Comes) (fs new : List Forwarding) (f : Forwarding) (b : Bool) → Asking rs serials fs
+    → In f fs → comes ≡ (if b then as_first f (outcome_of f) else Now Refused) → new ≡ fs
+    → AskTracks rs true comes fs new (more_than serials fs new)
+opens-some rs serials comes fs new f true k h e same = stays rs serials true comes fs new k same (again comes fs f (outcome_of f) refl e h)
+opens-some rs serials comes fs new f false k h e same = stays rs serials true comes fs new k same (never Refused comes true fs e)
+
+opens-by : (rs : List Request) (serials : ℕ) (comes : Comes) (ends : Ends) (fs new : List Forwarding) (o : Option Forwarding)
+    → standing ends fs ≡ o → Asking rs serials fs → comes ≡ opens_of serials ends fs o → Opens (is_new ends fs o) ends serials None fs new
+    → AskTracks rs true comes fs new (more_than serials fs new)
+opens-by rs serials comes ends fs new None is k e o =
+    opens-none rs serials comes ends fs new (nat_lt (how_many fs) MOST_FORWARDINGS) k e o
+opens-by rs serials comes ends fs new (Some f) is k e o =
+    opens-some rs serials comes fs new f (connects_to ends f) k (found-in (λ g. counts g && listens_at ends g) f fs is) e o
+
+close-if : (rs : List Request) (serial : ℕ) (f : Forwarding) (b : Bool) → Awaits rs f
+    → Awaits rs (if b then record f { stage = stage_after change.Close f.listen_port f.stage; closing = true } else f)
+close-if rs serial f true h = close-awaits f.stage f.listen_port f.serial rs h
+close-if rs serial f false h = h
+
+closed-closes : (f : Forwarding) → (changed change.Close f.serial f).closing ≡ true
+closed-closes f = rw (eq-eqb f.serial f.serial refl) refl
+
+closes-one : (rs : List Request) (serials : ℕ) (comes : Comes) (fs new : List Forwarding) (f : Forwarding) (b : Bool) → Asking rs serials fs
+    → In f fs → comes ≡ (if b then Now Refused else Later f.serial) → new ≡ after_close (if b then Now Refused else Later f.serial) fs
+    → AskTracks rs false comes fs new (more_than serials fs new)
+closes-one rs serials comes fs new f true k h e same = stays rs serials false comes fs new k same (never Refused comes false fs e)
+closes-one rs serials comes fs new f false k h e same =
+    let closed = map (changed change.Close f.serial) fs in
+    subst (λ (xs : List Forwarding). AskTracks rs false comes fs xs (more_than serials fs xs)) (sym same)
+    (subst (λ (m : ℕ). AskTracks rs false comes fs closed m)
+    (same-many serials fs closed (length-map fs (changed change.Close f.serial))) (record {
+      numbered = numbered-changed change.Close f.serial fs serials k.numbered;
+      stages = All-map (Awaits rs) (changed change.Close f.serial) fs
+          (All-weaker (Awaits rs) (λ (g : Forwarding). Awaits rs (changed change.Close f.serial g))
+          (λ g a. close-if rs f.serial g (g.serial == f.serial) a) fs k.stages);
+      moves = λ w fate. fate-changed change.Close f.serial fs w fate (λ is. said-holds change.Close w.opening fate.0 tt fate.3);
+      waits = λ serial later.
+          let its : f.serial ≡ serial = cc in (
+            changed change.Close f.serial f,
+            in-map (changed change.Close f.serial) f fs h,
+            changed-serial change.Close f.serial f ∙ its,
+            closed-closes f,
+          );
+    }))
+
+closes-by : (rs : List Request) (serials : ℕ) (comes : Comes) (ends : Ends) (fs new : List Forwarding) (o : Option Forwarding)
+    → standing ends fs ≡ o → Asking rs serials fs → comes ≡ closes_of o → new ≡ after_close (closes_of o) fs
+    → AskTracks rs false comes fs new (more_than serials fs new)
+closes-by rs serials comes ends fs new None is k e same = stays rs serials false comes fs new k same (never Refused comes false fs e)
+closes-by rs serials comes ends fs new (Some f) is k e same =
+    closes-one rs serials comes fs new f f.closing k (found-in (λ g. counts g && listens_at ends g) f fs is) e same
+
+comes-by : (opening : Bool) (rs : List Request) (serials : ℕ) (comes : Comes) (ends : Ends) (fs new : List Forwarding) → Asking rs serials fs
+    → comes ≡ comes_of_ends opening serials ends fs → EndsLeave opening serials ends fs new
+    → AskTracks rs opening comes fs new (more_than serials fs new)
+comes-by true rs serials comes ends fs new k e l = opens-by rs serials comes ends fs new (standing ends fs) refl k e l
+comes-by false rs serials comes ends fs new k e l = closes-by rs serials comes ends fs new (standing ends fs) refl k e l
+
+comes-if : (alone opening gateway : Bool) (ask : StartAsk) (rs : List Request) (serials : ℕ) (comes : Comes) (fs new : List Forwarding)
+    → Asking rs serials fs → ComesIf alone gateway opening ask serials fs new comes
+    → AskTracks rs opening comes fs new (more_than serials fs new)
+comes-if true opening gateway ask rs serials comes fs new k c = stays rs serials opening comes fs new k c.1 (never Refused comes opening fs c.0)
+comes-if false opening gateway ask rs serials comes fs new k c = comes-by opening rs serials comes c.0 fs new k c.2 c.3
+
+comes-unless : (away opening gateway : Bool) (ask : StartAsk) (rs : List Request) (serials : ℕ) (comes : Comes) (fs new : List Forwarding)
+    → Asking rs serials fs → ComesUnless away gateway opening ask serials fs new comes
+    → AskTracks rs opening comes fs new (more_than serials fs new)
+comes-unless true opening gateway ask rs serials comes fs new k c = stays rs serials opening comes fs new k c.1 (never Refused comes opening fs c.0)
+comes-unless false opening gateway ask rs serials comes fs new k c =
+    comes-if (is_refused_alone ask) opening gateway ask rs serials comes fs new k c
+
+waits-more : (deeds : List Deed) (comes : Comes) (client id : ℕ) (opening : Bool) (all : List Forwarding) (ws : List Waiting)
+    → ((serial : ℕ) → comes ≡ Later serial → Has opening serial all) → All (Unsettled (Fates deeds all)) ws
+    → All (Unsettled (Fates deeds all)) (asks_after comes client id opening ws)
+waits-more deeds (Now o) client id opening all ws waits h = h
+waits-more deeds (Later serial) client id opening all ws waits h =
+    All-push (Unsettled (Fates deeds all)) ws (waiting_for client id opening serial) h (λ none. inl (waits serial refl))
+
+after-ask : (client id : ℕ) (opening : Bool) (ask : StartAsk) (answer : HouseReply) (deeds : List Deed) (old new : Desk) → Tracks deeds old
+    → IsAsked client id opening ask answer old new → Tracks (Asks client id opening ask answer ∷ deeds) new
+after-ask client id opening ask answer deeds old new t a =
+    let deed : Deed = Asks client id opening ask answer in
+    let m = comes-unless (turns_away client id old.waiting) opening old.gateway ask old.requests old.serials a.came_to old.all new.all
+    (record { numbered = t.numbered; stages = t.stages }) a.comes in
+    record {
+      numbered = subst (λ (n : ℕ). is_numbered 0 new.all n ≡ true) (sym (ap (λ (d : Desk). d.serials) a.others)) m.numbered;
+      stages = subst (λ (rs : List Request). All (Awaits rs) new.all) (sym (ap (λ (d : Desk). d.requests) a.others)) m.stages;
+      fates = subst (λ (ws : List Waiting). All (Unsettled (Fates (deed ∷ deeds) new.all)) ws) (sym (ap (λ (d : Desk). d.waiting) a.others))
+          (waits-more (deed ∷ deeds) a.came_to client id opening new.all old.waiting m.waits
+          (moved deed deeds old.all new.all old.waiting m.moves t.fates));
+    }
+
+-- ---- an answer, the greeting, and a request
+
+after-answering : (client id : ℕ) (answer : HouseReply) (deeds : List Deed) (old new : Desk) → Tracks deeds old
+    → IsAnswered client id answer old new → Tracks (Answers client id answer ∷ deeds) new
+after-answering client id answer deeds old new t a =
+    let deed : Deed = Answers client id answer in
+    let at = position (is_waiting client id) old.waiting in
+    let left : Desk = record old { waiting = taken_at at old.waiting } in
+    let got : Tracks (deed ∷ deeds) left = record {
+      numbered = t.numbered;
+      stages = t.stages;
+      fates = moved deed deeds old.all old.all (taken_at at old.waiting) (λ w h. h)
+          (all-taken (Unsettled (Fates deeds old.all)) at old.waiting t.fates);
+    } in
+    subst (Tracks (deed ∷ deeds)) (sym a.others) got
+
+after-greeting : (deeds : List Deed) (old new : Desk) → Tracks deeds old → new ≡ greeting_said old → Tracks (Greets ∷ deeds) new
+after-greeting deeds old new t e =
+    let got : Tracks (Greets ∷ deeds) (greeting_said old) = record {
+      numbered = t.numbered;
+      stages = t.stages;
+      fates = moved Greets deeds old.all old.all old.waiting (λ w h. h) t.fates;
+    } in
+    subst (Tracks (Greets ∷ deeds)) (sym e) got
+
+awaits-if : (c : Change) (rs more : List Request) (f : Forwarding) (b : Bool)
+    → (b ≡ true → StageAwaits (stage_after c f.listen_port f.stage) f.serial more) → (b ≡ false → Awaits more f)
+    → Awaits more (if b then record f { stage = stage_after c f.listen_port f.stage; closing = closing_after c f.closing } else f)
+awaits-if c rs more f true h k = h refl
+awaits-if c rs more f false h k = k refl
+
+all-awaits : (c : Change) (serial : ℕ) (rs more : List Request) (fs : List Forwarding)
+    → ((f : Forwarding) → f.serial ≡ serial → Awaits rs f → StageAwaits (stage_after c f.listen_port f.stage) f.serial more)
+    → ((f : Forwarding) → (f.serial == serial) ≡ false → Awaits rs f → Awaits more f)
+    → All (Awaits rs) fs → All (Awaits more) (map (changed c serial) fs)
+all-awaits c serial rs more fs its others h =
+    All-map (Awaits more) (changed c serial) fs
+    (All-weaker (Awaits rs) (λ (f : Forwarding). Awaits more (changed c serial f))
+    (λ f a. awaits-if c rs more f (f.serial == serial) (λ is. its f (eqb-true f.serial serial is) a) (λ isnt. others f isnt a)) fs h)
+
+said-stages : (r : Request) (rs : List Request) (fs : List Forwarding) → All (Awaits rs) fs
+    → All (Awaits (rs ++ r ∷ [])) (after_saying r fs)
+said-stages (Listen serial) rs fs h = all-awaits change.Request serial rs (rs ++ Listen serial ∷ []) fs
+    (λ f is a. listen-awaits f.stage f.listen_port f.serial (rs ++ Listen serial ∷ [])
+    (subst (λ (n : ℕ). In (Listen n) (rs ++ Listen serial ∷ [])) (sym is) (in-last (Listen serial) rs))
+    (awaits-more f.stage f.serial rs (rs ++ Listen serial ∷ []) (λ x k. in-left x rs (Listen serial ∷ []) k) a))
+    (λ f isnt a. awaits-more f.stage f.serial rs (rs ++ Listen serial ∷ []) (λ x k. in-left x rs (Listen serial ∷ []) k) a) h
+said-stages (Cancel serial) rs fs h = all-awaits change.Cancel serial rs (rs ++ Cancel serial ∷ []) fs
+    (λ f is a. cancel-awaits f.stage f.listen_port f.serial (rs ++ Cancel serial ∷ [])
+    (subst (λ (n : ℕ). In (Cancel n) (rs ++ Cancel serial ∷ [])) (sym is) (in-last (Cancel serial) rs))
+    (awaits-more f.stage f.serial rs (rs ++ Cancel serial ∷ []) (λ x k. in-left x rs (Cancel serial ∷ []) k) a))
+    (λ f isnt a. awaits-more f.stage f.serial rs (rs ++ Cancel serial ∷ []) (λ x k. in-left x rs (Cancel serial ∷ []) k) a) h
+
+said-numbered : (r : Request) (fs : List Forwarding) (serials : ℕ) → is_numbered 0 fs serials ≡ true → is_numbered 0 (after_saying r fs) serials ≡ true
+said-numbered (Listen serial) fs serials h = numbered-changed change.Request serial fs serials h
+said-numbered (Cancel serial) fs serials h = numbered-changed change.Cancel serial fs serials h
+
+said-moves : (r : Request) (fs : List Forwarding) → Moves fs (after_saying r fs)
+said-moves (Listen serial) fs w fate = fate-changed change.Request serial fs w fate (λ is. said-holds change.Request w.opening fate.0 tt fate.3)
+said-moves (Cancel serial) fs w fate = fate-changed change.Cancel serial fs w fate (λ is. said-holds change.Cancel w.opening fate.0 tt fate.3)
+
+after-request : (f : Forwarding) (deeds : List Deed) (old new : Desk) → Tracks deeds old → new ≡ request_said f old
+    → Tracks (Requests f ∷ deeds) new
+after-request f deeds old new t e =
+    let got : Tracks (Requests f ∷ deeds) (request_said f old) = record {
+      numbered = said-numbered (request_of f) old.all old.serials t.numbered;
+      stages = said-stages (request_of f) old.requests old.all t.stages;
+      fates = moved (Requests f) deeds old.all (after_saying (request_of f) old.all) old.waiting (said-moves (request_of f) old.all) t.fates;
+    } in
+    subst (Tracks (Requests f ∷ deeds)) (sym e) got
+
+-- ---- a reply
+
+none-found-in : (p : Forwarding → Bool) (xs : List Forwarding) (x : Forwarding) → list_any p xs ≡ false → In x xs → p x ≡ false
+none-found-in p [] x e h = absurd h
+none-found-in p (y ∷ xs) x e (inl is) = subst (λ (z : Forwarding). p z ≡ false) is (or_parts (p y) (list_any p xs) e).0
+none-found-in p (y ∷ xs) x e (inr h) = none-found-in p xs x (or_parts (p y) (list_any p xs) e).1 h
+
+pass-if : (p : Forwarding → Bool) (y : Forwarding) (b : Bool) (o : Option Forwarding) → p y ≡ b → (if b then Some y else o) ≡ None
+    → (p y ≡ false) × (o ≡ None)
+pass-if p y true o e f = cc
+pass-if p y false o e f = (e, f)
+
+pub none-passes-in : (p : Forwarding → Bool) (xs : List Forwarding) (x : Forwarding) → find p xs ≡ None → In x xs → p x ≡ false
+none-passes-in p [] x e h = absurd h
+none-passes-in p (y ∷ xs) x e (inl is) =
+    subst (λ (z : Forwarding). p z ≡ false) is (pass-if p y (p y) (find p xs) refl e).0
+none-passes-in p (y ∷ xs) x e (inr h) = none-passes-in p xs x (pass-if p y (p y) (find p xs) refl e).1 h
+
+second-part : (a b : Bool) → a ≡ true → (a && b) ≡ false → b ≡ false
+second-part true b e f = f
+second-part false b e f = cc
+
+first-part : (a : Bool) → (a && true) ≡ false → a ≡ false
+first-part true e = cc
+first-part false e = refl
+
+pub and-second : (a b : Bool) → b ≡ false → (a && b) ≡ false
+and-second true b e = e
+and-second false b e = refl
+
+-- one that isn't had has no cancel
+unserved : (s : Stage) (n : ℕ) → outcome_at s n ≡ None → cancels_at s ≡ false
+unserved (ToListen host) n e = refl
+unserved Ordered n e = refl
+unserved (Listening l) n e = refl
+unserved ToRequest n e = refl
+unserved Requested n e = refl
+unserved (Live port) n e = refl
+unserved (Cancelling port) n e = cc
+
+-- with another serial
+not-its : (n serial : ℕ) (b : Bool) → (n ≡ serial → ⊥) → ((n == serial) && b) ≡ false
+not-its n serial b differ = elim (cases_Bool (n == serial)) [
+  | inl is ↦ absurd (differ (eqb-true n serial is))
+  | inr isnt ↦ rw isnt refl
+]
+
+all-by-in : (P : Forwarding → Type 0) (xs : List Forwarding) → ((x : Forwarding) → In x xs → P x) → All P xs
+all-by-in P [] f = All-nil P
+all-by-in P (x ∷ xs) f = All-cons P x xs (f x (inl refl)) (all-by-in P xs (λ y h. f y (inr h)))
+
+-- what is left, where the one with a serial that passes is removed
+all-left : (q : Forwarding → Bool) (serial : ℕ) (fs : List Forwarding) (serials : ℕ) (o : Option ℕ)
+    → position (λ f. (f.serial == serial) && q f) fs ≡ o → is_numbered 0 fs serials ≡ true
+    → All (λ f. ((f.serial == serial) && q f) ≡ false) (removed_at o fs)
+all-left q serial fs serials None e n =
+    all-by-in (λ (f : Forwarding). ((f.serial == serial) && q f) ≡ false) fs
+    (λ x h. none-found-in (λ f. (f.serial == serial) && q f) fs x (none-passes (λ f. (f.serial == serial) && q f) fs e) h)
+all-left q serial [] serials (Some i) e n = cc
+all-left q serial (y ∷ fs) serials (Some i) e n =
+    let first = position-Some (λ f. (f.serial == serial) && q f) (y ∷ fs) i y e in
+    let g = get_or (y ∷ fs) i y in
+    let is : g.serial ≡ serial = eqb-true g.serial serial (and_parts (g.serial == serial) (q g) first.1).0 in
+    all-by-in (λ (f : Forwarding). ((f.serial == serial) && q f) ≡ false) (remove (y ∷ fs) i)
+    (λ x h. not-its x.serial serial (q x) (λ same. removed-differs (y ∷ fs) i x y 0 serials n first.0 h (same ∙ sym is)))
+
+all-both : (P Q R : Forwarding → Type 0) (xs : List Forwarding) → ((x : Forwarding) → P x → Q x → R x) → All P xs → All Q xs → All R xs
+all-both P Q R xs f h k = λ i d lt. f (get_or xs i d) (h i d lt) (k i d lt)
+
+numbered-removed : (o : Option ℕ) (fs : List Forwarding) (serials : ℕ) → is_numbered 0 fs serials ≡ true
+    → is_numbered 0 (removed_at o fs) serials ≡ true
+numbered-removed None fs serials n = n
+numbered-removed (Some i) fs serials n = numbered-remove fs i serials n
+
+-- a forwarding that doesn't pass stays
+pub fate-left : (p : Forwarding → Bool) (fs : List Forwarding) (o : Option ℕ) (x : Forwarding) → position p fs ≡ o → p x ≡ false → In x fs
+    → In x (removed_at o fs)
+fate-left p fs None x e isnt h = h
+fate-left p [] (Some i) x e isnt h = absurd h
+fate-left p (y ∷ fs) (Some i) x e isnt h =
+    let first = position-Some p (y ∷ fs) i y e in
+    in-remove p x (y ∷ fs) i y first.0 first.1 isnt h
+
+record Replied (deeds : List Deed) (rs : List Request) (fs : List Forwarding) (serials : ℕ) (ws : List Waiting) : Type 0 where
+  numbered : is_numbered 0 fs serials ≡ true
+  stages : All (Awaits rs) fs
+  fates : All (Unsettled (Fates deeds fs)) ws
+
+serial-differs : (f : Forwarding) (n serial : ℕ) → f.serial ≡ n → (n == serial) ≡ false → f.serial ≡ serial → ⊥
+serial-differs f n serial is isnt same = both_ways (n == serial) isnt (eq-eqb n serial (sym is ∙ same))
+
+pub not-asked : (f : Forwarding) (serial : ℕ) → f.serial ≡ serial → is_asked serial f ≡ false → asks_at f.stage ≡ false
+not-asked f serial is e = second-part (f.serial == serial) (asks_at f.stage) (eq-eqb f.serial serial is) e
+
+-- a success makes what is asked for live
+opened : (deed : Deed) (deeds : List Deed) (port : Option ℕ) (serial at : ℕ) (fs : List Forwarding) (ws : List Waiting)
+    (o : Option Forwarding) → find (is_asked serial) fs ≡ o → All (Unsettled (Fates deeds fs)) ws
+    → All (Unsettled (Fates (deed ∷ deeds) (map (changed (change.Live port) serial) fs))) (opened_asks (live_in port o) serial at ws)
+opened deed deeds port serial at fs ws None e h =
+    moved deed deeds fs (map (changed (change.Live port) serial) fs) ws
+    (λ w fate. fate-changed (change.Live port) serial fs w fate
+    (λ is. live-holds port w.opening fate.0 (λ _. not-asked fate.0 serial is (none-passes-in (is_asked serial) fs fate.0 e fate.1)) fate.3)) h
+opened deed deeds port serial at fs ws (Some f) e h =
+    all-unsettled (Fates deeds fs) (Fates (deed ∷ deeds) (map (changed (change.Live port) serial) fs)) serial true at _ ws
+    (λ w other none fates. step deed deeds fs (map (changed (change.Live port) serial) fs) w
+    (λ fate. inl (fate-changed (change.Live port) serial fs w fate
+    (λ is. live-holds port w.opening fate.0
+    (λ opens. absurd (serial-differs fate.0 w.forwarding serial fate.2 (of-other serial true w opens other) is)) fate.3))) fates) h
+
+differs-listen : (n serial : ℕ) → (n == serial) ≡ false → Listen serial ≡ Listen n → ⊥
+differs-listen n serial e is = let same : n ≡ serial = cc in both_ways (n == serial) e (eq-eqb n serial same)
+
+differs-cancel : (n serial : ℕ) → (n == serial) ≡ false → Cancel serial ≡ Cancel n → ⊥
+differs-cancel n serial e is = let same : n ≡ serial = cc in both_ways (n == serial) e (eq-eqb n serial same)
+
+listen-cancel : (n m : ℕ) → Listen n ≡ Cancel m → ⊥
+listen-cancel n m e = cc
+
+cancel-listen : (n m : ℕ) → Cancel n ≡ Listen m → ⊥
+cancel-listen n m e = cc
+
+-- its own request isn't the one that is answered
+not-this : (n serial : ℕ) (b : Bool) → ((n == serial) && b) ≡ false → b ≡ true → (n == serial) ≡ false
+not-this n serial true e is = first-part (n == serial) e
+not-this n serial false e is = cc
+
+not-cancelled : (f : Forwarding) (serial : ℕ) → outcome_of f ≡ None → is_cancelled serial f ≡ false
+not-cancelled f serial none = and-second (f.serial == serial) (cancels_at f.stage) (unserved f.stage f.listen_port none)
+
+stays-uncancelled : (opening : Bool) (f : Forwarding) (w : Waiting) (serial : ℕ) → w.opening ≡ opening → f.serial ≡ w.forwarding
+    → Holds opening f → is_about serial false w ≡ false → is_cancelled serial f ≡ false
+stays-uncancelled true f w serial opens is holds other = not-cancelled f serial holds
+stays-uncancelled false f w serial opens is holds other = not-its f.serial serial (cancels_at f.stage)
+    (serial-differs f w.forwarding serial is (of-other serial false w opens other))
+
+stay-fate : (opening : Bool) (f : Forwarding) (w : Waiting) (serial : ℕ) → w.opening ≡ opening → f.serial ≡ w.forwarding
+    → f.serial ≡ serial → Holds opening f → is_about serial false w ≡ false
+    → Holds opening (record f { stage = stage_after change.Stay f.listen_port f.stage; closing = false })
+stay-fate true f w serial opens is its holds other = stay-holds f false holds
+stay-fate false f w serial opens is its holds other =
+    absurd (serial-differs f w.forwarding serial is (of-other serial false w opens other) its)
+
+replied : (success : Bool) (r : Request) (deeds : List Deed) (port : Option ℕ) (at serials : ℕ) (rs : List Request) (fs : List Forwarding)
+    (ws : List Waiting) → is_numbered 0 fs serials ≡ true → All (Awaits (r ∷ rs)) fs → All (Unsettled (Fates deeds fs)) ws
+    → Replied (Replies success port ∷ deeds) rs (replied_all success port (Some r) fs) serials (replied_asks success port (Some r) fs at ws)
+replied true (Listen serial) deeds port at serials rs fs ws n h k = record {
+  numbered = numbered-changed (change.Live port) serial fs serials n;
+  stages = all-awaits (change.Live port) serial (Listen serial ∷ rs) rs fs
+      (λ f is a. live-awaits f.stage port f.listen_port f.serial serial rs a)
+      (λ f isnt a. other-awaits f.stage f.serial (Listen serial) rs (λ _ e. differs-listen f.serial serial isnt e)
+      (λ _ e. listen-cancel serial f.serial e) a) h;
+  fates = opened (Replies true port) deeds port serial at fs ws (find (is_asked serial) fs) refl k;
+}
+replied false (Listen serial) deeds port at serials rs fs ws n h k =
+    let deed : Deed = Replies false port in
+    let o = position (is_asked serial) fs in
+    record {
+      numbered = numbered-removed o fs serials n;
+      stages = all-both (λ (f : Forwarding). is_asked serial f ≡ false) (Awaits (Listen serial ∷ rs)) (Awaits rs) (removed_at o fs)
+          (λ f isnt a. other-awaits f.stage f.serial (Listen serial) rs
+          (λ asks e. differs-listen f.serial serial (not-this f.serial serial (asks_at f.stage) isnt asks) e)
+          (λ _ e. listen-cancel serial f.serial e) a)
+          (all-left (λ f. asks_at f.stage) serial fs serials o refl n)
+          (all-removed (Awaits (Listen serial ∷ rs)) o fs h);
+      fates = all-unrefused (Fates deeds fs) (Fates (deed ∷ deeds) (removed_at o fs)) serial at ws
+          (λ w one two none fates. step deed deeds fs (removed_at o fs) w
+          (λ fate. inl (
+            fate.0,
+            fate-left (is_asked serial) fs o fate.0 refl
+                (not-its fate.0.serial serial (asks_at fate.0.stage)
+                (serial-differs fate.0 w.forwarding serial fate.2 (of-neither serial w one two))) fate.1,
+            fate.2,
+            fate.3,
+          )) fates) k;
+    }
+replied true (Cancel serial) deeds port at serials rs fs ws n h k =
+    let deed : Deed = Replies true port in
+    let o = position (is_cancelled serial) fs in
+    record {
+      numbered = numbered-removed o fs serials n;
+      stages = all-both (λ (f : Forwarding). is_cancelled serial f ≡ false) (Awaits (Cancel serial ∷ rs)) (Awaits rs) (removed_at o fs)
+          (λ f isnt a. other-awaits f.stage f.serial (Cancel serial) rs (λ _ e. cancel-listen serial f.serial e)
+          (λ cancels e. differs-cancel f.serial serial (not-this f.serial serial (cancels_at f.stage) isnt cancels) e) a)
+          (all-left (λ f. cancels_at f.stage) serial fs serials o refl n)
+          (all-removed (Awaits (Cancel serial ∷ rs)) o fs h);
+      fates = all-unsettled (Fates deeds fs) (Fates (deed ∷ deeds) (removed_at o fs)) serial false at Done ws
+          (λ w other none fates. step deed deeds fs (removed_at o fs) w
+          (λ fate. inl (
+            fate.0,
+            fate-left (is_cancelled serial) fs o fate.0 refl
+                (stays-uncancelled w.opening fate.0 w serial refl fate.2 fate.3 other) fate.1,
+            fate.2,
+            fate.3,
+          )) fates) k;
+    }
+replied false (Cancel serial) deeds port at serials rs fs ws n h k =
+    let deed : Deed = Replies false port in
+    let new = map (changed change.Stay serial) fs in
+    record {
+      numbered = numbered-changed change.Stay serial fs serials n;
+      stages = all-awaits change.Stay serial (Cancel serial ∷ rs) rs fs
+          (λ f is a. stay-awaits f.stage f.listen_port f.serial serial rs a)
+          (λ f isnt a. other-awaits f.stage f.serial (Cancel serial) rs (λ _ e. cancel-listen serial f.serial e)
+          (λ _ e. differs-cancel f.serial serial isnt e) a) h;
+      fates = all-unsettled (Fates deeds fs) (Fates (deed ∷ deeds) new) serial false at Refused ws
+          (λ w other none fates. step deed deeds fs new w
+          (λ fate. inl (fate-changed change.Stay serial fs w fate
+          (λ is. stay-fate w.opening fate.0 w serial refl fate.2 is fate.3 other))) fates) k;
+    }
+
+replied-by : (success : Bool) (port : Option ℕ) (deeds : List Deed) (old : Desk) (rs : List Request) → old.requests ≡ rs → Tracks deeds old
+    → Replied (Replies success port ∷ deeds) (drop 1 rs) (replied_all success port (first_of rs) old.all) old.serials
+    (replied_asks success port (first_of rs) old.all old.done old.waiting)
+replied-by success port deeds old [] e t = record {
+  numbered = t.numbered;
+  stages = subst (λ (rs : List Request). All (Awaits rs) old.all) e t.stages;
+  fates = moved (Replies success port) deeds old.all old.all old.waiting (λ w h. h) t.fates;
+}
+replied-by success port deeds old (r ∷ rs) e t =
+    replied success r deeds port old.done old.serials rs old.all old.waiting t.numbered
+    (subst (λ (qs : List Request). All (Awaits qs) old.all) e t.stages) t.fates
+
+after-reply : (success : Bool) (port : Option ℕ) (deeds : List Deed) (old new : Desk) → Tracks deeds old → new ≡ reply_heard success port old
+    → Tracks (Replies success port ∷ deeds) new
+after-reply success port deeds old new t e =
+    let r = replied-by success port deeds old old.requests refl t in
+    let got : Tracks (Replies success port ∷ deeds) (reply_heard success port old) =
+    record { numbered = r.numbered; stages = r.stages; fates = r.fates } in
+    subst (Tracks (Replies success port ∷ deeds)) (sym e) got
+
+-- ---- a listener is ordered
+
+pub same-place : (fs : List Forwarding) (i j : ℕ) (g : Forwarding) → position to_listen fs ≡ Some i → to_listen g ≡ true
+    → position to_listen (set fs i g) ≡ Some j → j ≡ i
+same-place fs i j g e is f =
+    let one = position-Some to_listen fs i g e in
+    let two = position-Some to_listen (set fs i g) j g f in
+    let inside : i < length fs = one.0 in
+    elim (cases_lt j i) [
+      | inl low ↦ (let same : get_or (set fs i g) j g ≡ get_or fs j g = grind (arith, common_steps) in
+          absurd (both_ways (to_listen (get_or fs j g)) (one.2 j low) (subst (λ (x : Forwarding). to_listen x ≡ true) same two.1)))
+      | inr high ↦ elim (cases_lt i j) [
+        | inl above ↦ (let its : get_or (set fs i g) i g ≡ g = grind (arith, common_steps) in
+            absurd (both_ways (to_listen g) (subst (λ (x : Forwarding). to_listen x ≡ false) its (two.2 i above)) is))
+        | inr below ↦ omega arith
+      ]
+    ]
+
+-- what a listener that was ordered leaves, where it got its number or none
+abbrev pub MadeOf : Option ℕ → ℕ → Forwarding → List Forwarding → List Forwarding → Type 0
+MadeOf None i f old new = new ≡ remove old i
+MadeOf (Some l) i f old new = new ≡ set old i (record f { stage = Listening l })
+
+pub made-of : (number : Option ℕ) (i j : ℕ) (f : Forwarding) (old middle new : List Forwarding) → j ≡ i
+    → middle ≡ set old i (record f { stage = Ordered }) → find to_listen middle ≡ Some (record f { stage = Ordered })
+    → position to_listen middle ≡ Some j → MadeAt number j middle new → MadeOf number i f old new
+made-of None i j f old middle new same e first at m =
+    m ∙ ap (λ (n : ℕ). remove middle n) same ∙ ap (λ (xs : List Forwarding). remove xs i) e ∙ remove-set old i (record f { stage = Ordered })
+made-of (Some l) i j f old middle new same e first at m =
+    let it = placed (λ (x : Forwarding). Unit {0}) to_listen middle j m.0 at m.1 (λ k d lt. tt) in
+    let its : record f { stage = Ordered } ≡ m.0 = same-one-found (record f { stage = Ordered }) m.0 (sym first ∙ it.2) in
+    m.2 ∙ ap (λ (x : Forwarding). set middle j (record x { stage = Listening l })) (sym its)
+    ∙ ap (λ (n : ℕ). set middle n (record f { stage = Listening l })) same
+    ∙ ap (λ (xs : List Forwarding). set xs i (record f { stage = Listening l })) e
+    ∙ set-set old i (record f { stage = Ordered }) (record f { stage = Listening l })
+
+-- an ask to close keeps its forwarding as that gets its listener
+made-fate : (opening : Bool) (deeds : List Deed) (l i : ℕ) (f x : Forwarding) (old : List Forwarding) (w : Waiting) → w.opening ≡ opening
+    → i < length old → is_about f.serial true w ≡ false → x.serial ≡ w.forwarding → Holds opening x → x ≡ f
+    → (y : Forwarding) × In y (set old i (record f { stage = Listening l })) × (y.serial ≡ w.forwarding) × Holds opening y
+made-fate true deeds l i f x old w opens inside other is holds same =
+    absurd (serial-differs x w.forwarding f.serial is (of-other f.serial true w opens other) (ap (λ (z : Forwarding). z.serial) same))
+made-fate false deeds l i f x old w opens inside other is holds same = (
+  record f { stage = Listening l },
+  in-set_new old i (record f { stage = Listening l }) inside,
+  ap (λ (z : Forwarding). z.serial) (sym same) ∙ is,
+  ap (λ (z : Forwarding). z.closing) (sym same) ∙ holds,
+)
+
+made : (number : Option ℕ) (deed : Deed) (deeds : List Deed) (rs : List Request) (serials at i : ℕ) (f : Forwarding) (old new : List Forwarding)
+    (ws : List Waiting) → position to_listen old ≡ Some i → f ≡ get_or old i f → MadeOf number i f old new
+    → is_numbered 0 old serials ≡ true → All (Awaits rs) old → All (Unsettled (Fates deeds old)) ws
+    → Replied (deed ∷ deeds) rs new serials (ordered_asks number f.serial at ws)
+made None deed deeds rs serials at i f old new ws first is m n h k =
+    let inside = (position-Some to_listen old i f first).0 in
+    subst (λ (xs : List Forwarding). Replied (deed ∷ deeds) rs xs serials (ordered_asks None f.serial at ws)) (sym m) (record {
+      numbered = numbered-remove old i serials n;
+      stages = all-remove (Awaits rs) old i h;
+      fates = all-unrefused (Fates deeds old) (Fates (deed ∷ deeds) (remove old i)) f.serial at ws
+          (λ w one two none fates. step deed deeds old (remove old i) w
+          (λ fate. inl (
+            fate.0,
+            in-remove (λ (x : Forwarding). x.serial == f.serial) fate.0 old i f inside
+                (eq-eqb (get_or old i f).serial f.serial (ap (λ (x : Forwarding). x.serial) (sym is)))
+                (ap (λ b. b == f.serial) fate.2 ∙ of-neither f.serial w one two) fate.1,
+            fate.2,
+            fate.3,
+          )) fates) k;
+    })
+made (Some l) deed deeds rs serials at i f old new ws first is m n h k =
+    let inside = (position-Some to_listen old i f first).0 in
+    let g : Forwarding = record f { stage = Listening l } in
+    subst (λ (xs : List Forwarding). Replied (deed ∷ deeds) rs xs serials (ordered_asks (Some l) f.serial at ws)) (sym m) (record {
+      numbered = numbered-first to_listen old i g f serials first is refl n;
+      stages = All-set (Awaits rs) old i g tt h;
+      fates = all-unsettled (Fates deeds old) (Fates (deed ∷ deeds) (set old i g)) f.serial true at Done ws
+          (λ w other none fates. step deed deeds old (set old i g) w
+          (λ fate. inl (elim (in-set fate.0 old i g f inside fate.1) [
+            | inl stays ↦ (fate.0, stays, fate.2, fate.3)
+            | inr its ↦ made-fate w.opening deeds l i f fate.0 old w refl inside other fate.2 fate.3 (its ∙ sym is)
+          ])) fates) k;
+    })
+
+after-listen : (host : List ℕ) (port : ℕ) (number : Option ℕ) (deeds : List Deed) (old new : Desk) → Tracks deeds old
+    → GetsListener host port number old new → Tracks (Listens host port number ∷ deeds) new
+after-listen host port number deeds old new t h =
+    let deed : Deed = Listens host port number in
+    let b = h.between in
+    let f = h.orders.ordered.0 in
+    let g : Forwarding = record f { stage = Ordered } in
+    let i = h.orders.place in
+    let m = h.makes.others in
+    let s = h.orders.others in
+    let first : find to_listen b.all ≡ Some g =
+    ap (λ (fs : List Forwarding). find to_listen fs) h.orders.ordered.2 ∙ first-ordered old.all i f h.orders.first in
+    let same : h.makes.place ≡ i = same-place old.all i h.makes.place g h.orders.first refl
+    (subst (λ (fs : List Forwarding). position to_listen fs ≡ Some h.makes.place) h.orders.ordered.2 h.makes.first) in
+    let waiting : new.waiting ≡ ordered_asks number f.serial b.done old.waiting = ap (λ (d : Desk). d.waiting) m
+    ∙ ap (λ (x : Option Forwarding). ordered_asks number (serial_of x) b.done b.waiting) first
+    ∙ ap (λ (ws : List Waiting). ordered_asks number f.serial b.done ws) (ap (λ (d : Desk). d.waiting) s) in
+    let r = made number deed deeds old.requests old.serials b.done i f old.all new.all old.waiting h.orders.first h.orders.ordered.1
+    (made-of number i h.makes.place f old.all b.all new.all same h.orders.ordered.2 first h.makes.first h.makes.made)
+    t.numbered t.stages t.fates in
+    record {
+      numbered = subst (λ (n : ℕ). is_numbered 0 new.all n ≡ true)
+          (sym (ap (λ (d : Desk). d.serials) m ∙ ap (λ (d : Desk). d.serials) s)) r.numbered;
+      stages = subst (λ (rs : List Request). All (Awaits rs) new.all)
+          (sym (ap (λ (d : Desk). d.requests) m ∙ ap (λ (d : Desk). d.requests) s)) r.stages;
+      fates = subst (λ (ws : List Waiting). All (Unsettled (Fates (deed ∷ deeds) new.all)) ws) (sym waiting) r.fates;
+    }
+
+-- ---- a listener is closed
+
+has-it : (l : ℕ) (s : Stage) (n : ℕ) → is_listener l (listener_at s) ≡ true → (outcome_at s n ≡ None → ⊥) × (listener_at s ≡ Some l)
+has-it l (ToListen host) n e = cc
+has-it l Ordered n e = cc
+has-it l (Listening k) n e = (λ none. cc, ap (λ x. Some x) (eqb-true k l e))
+has-it l ToRequest n e = cc
+has-it l Requested n e = cc
+has-it l (Live port) n e = cc
+has-it l (Cancelling port) n e = cc
+
+-- another with the same listener
+shares : (opening : Bool) (l : ℕ) (deeds : List Deed) (old : Desk) (serial : ℕ) (f : Forwarding) (w : Waiting) → w.opening ≡ opening
+    → Leave deeds old → Closing (λ x. In x old.all) serial l → In f old.all → f.serial ≡ w.forwarding → Holds opening f
+    → is_about serial false w ≡ false → has_listener l f ≡ true → (w.opening ≡ false) × ShareListener (Unlistens l ∷ deeds)
+shares true l deeds old serial f w opens left c here is holds other has =
+    absurd ((has-it l f.stage f.listen_port has).0 holds)
+shares false l deeds old serial f w opens left c here is holds other has = (
+  opens,
+  record {
+    later = Unlistens l ∷ [];
+    earlier = deeds;
+    were = refl;
+    desk = old;
+    left = left;
+    one = c.f;
+    other = f;
+    listener = l;
+    has_one = in-contains c.f old.all c.holds;
+    has_other = in-contains f old.all here;
+    differ = λ same. serial-differs f w.forwarding serial is (of-other serial false w opens other) (sym same ∙ c.serial_is);
+    listens = ap listener_at c.stage_is;
+    listens_too = (has-it l f.stage f.listen_port has).1;
+  },
+)
+
+all-in : (xs : List Forwarding) → All (λ x. In x xs) xs
+all-in xs = all-by-in (λ (x : Forwarding). In x xs) xs (λ x h. h)
+
+after-unlisten : (l : ℕ) (deeds : List Deed) (old new : Desk) → Leave deeds old → Tracks deeds old → EndsListener l old new
+    → Tracks (Unlistens l ∷ deeds) new
+after-unlisten l deeds old new left t h =
+    let deed : Deed = Unlistens l in
+    let keep : Forwarding → Bool = λ f. not (has_listener l f) in
+    let kept = filter keep old.all in
+    let c = next-closing (λ (x : Forwarding). In x old.all) old.waiting old.all h.serial l (all-in old.all) h.next in
+    let to : Desk = record old {
+      all = kept;
+      waiting = settled h.serial false old.done Done old.waiting;
+      done = counted old.done;
+    } in
+    let got : Tracks (deed ∷ deeds) to = record {
+      numbered = numbered-filter keep old.all old.serials t.numbered;
+      stages = All-filter keep (Awaits old.requests) old.all t.stages;
+      fates = all-unsettled (Fates deeds old.all) (Fates (deed ∷ deeds) kept) h.serial false old.done Done old.waiting
+          (λ w other none fates. step deed deeds old.all kept w
+          (λ fate. elim (cases_Bool (has_listener l fate.0)) [
+            | inl has ↦ inr (shares w.opening l deeds old h.serial fate.0 w refl left c fate.1 fate.2 fate.3 other has)
+            | inr lacks ↦ inl (fate.0, in-filter keep fate.0 old.all (rw lacks refl) fate.1, fate.2, fate.3)
+          ]) fates) t.fates;
+    } in
+    subst (Tracks (deed ∷ deeds)) (sym h.others) got
+
+-- ---- by all that happened
+
+after : (deed : Deed) (deeds : List Deed) (old new : Desk) → Leave deeds old → Tracks deeds old → Does deed old new → Tracks (deed ∷ deeds) new
+after (Begins starts) deeds old new left t d = after-start starts deeds old new t d
+after (Asks client id opening ask answer) deeds old new left t d = after-ask client id opening ask answer deeds old new t d
+after (Answers client id answer) deeds old new left t d = after-answering client id answer deeds old new t d
+after Greets deeds old new left t d = after-greeting deeds old new t d.1
+after (Requests f) deeds old new left t d = after-request f deeds old new t d.2
+after (Replies success port) deeds old new left t d = after-reply success port deeds old new t d
+after (Listens host port number) deeds old new left t d = after-listen host port number deeds old new t d
+after (Unlistens l) deeds old new left t d = after-unlisten l deeds old new left t d
+
+tracks-nothing : Tracks [] empty_desk
+tracks-nothing = record { numbered = refl; stages = All-nil (Awaits []); fates = All-nil (Unsettled (Fates [] [])) }
+
+pub tracks : (deeds : List Deed) (desk : Desk) → Leave deeds desk → Tracks deeds desk
+tracks [] desk left = subst (Tracks []) (sym left) tracks-nothing
+tracks (deed ∷ deeds) desk left = after deed deeds left.0 desk left.1 (tracks deeds left.0 left.1) left.2
+
+-- ---- at rest
+
+unsettled : (o : Option (ℕ × Outcome)) → is_settled o ≡ false → o ≡ None
+unsettled None e = refl
+unsettled (Some x) e = cc
+
+-- each has its fate
+all-fates : (deeds : List Deed) (all : List Forwarding) (ws : List Waiting) → All (Unsettled (Fates deeds all)) ws
+    → list_any has_outcome ws ≡ false → All (Fates deeds all) ws
+all-fates deeds all [] h e = All-nil (Fates deeds all)
+all-fates deeds all (w ∷ ws) h e =
+    let both = or_parts (has_outcome w) (list_any has_outcome ws) e in
+    All-cons (Fates deeds all) w ws (All-head (Unsettled (Fates deeds all)) w ws h (unsettled w.outcome both.0))
+    (all-fates deeds all ws (All-tail (Unsettled (Fates deeds all)) w ws h) both.1)
+
+-- none that asked for it waits where it has its listener
+owes-if : (opening : Bool) (fs : List Forwarding) (serials l : ℕ) (g f : Forwarding) (w : Waiting) → w.opening ≡ opening
+    → is_numbered 0 fs serials ≡ true → In g fs → g.stage ≡ Listening l → In f fs → f.serial ≡ w.forwarding → Holds opening f
+    → ((w.forwarding == g.serial) && opening) ≡ false
+owes-if true fs serials l g f w opens n here is there its holds =
+    not-its w.forwarding g.serial true (λ same.
+    let one : f ≡ g = one-serial fs f g 0 serials n there here (its ∙ same) in
+    let none : outcome_at (Listening l) g.listen_port ≡ None =
+    subst (λ (s : Stage). outcome_at s g.listen_port ≡ None) is (subst (λ (x : Forwarding). outcome_of x ≡ None) one holds) in cc)
+owes-if false fs serials l g f w opens n here is there its holds = and-second (w.forwarding == g.serial) false refl
+
+owes-one : (deeds : List Deed) (fs : List Forwarding) (serials l : ℕ) (g : Forwarding) (w : Waiting) → is_numbered 0 fs serials ≡ true → In g fs
+    → g.stage ≡ Listening l → Fates deeds fs w → ((w.forwarding == g.serial) && w.opening) ≡ false
+owes-one deeds fs serials l g w n here is (inl fate) = owes-if w.opening fs serials l g fate.0 w refl n here is fate.1 fate.2 fate.3
+owes-one deeds fs serials l g w n here is (inr s) = and-second (w.forwarding == g.serial) w.opening s.0
+
+owes-none : (deeds : List Deed) (fs : List Forwarding) (serials l : ℕ) (g : Forwarding) (ws : List Waiting) → is_numbered 0 fs serials ≡ true
+    → In g fs → g.stage ≡ Listening l → All (Fates deeds fs) ws → owes_opening g.serial ws ≡ false
+owes-none deeds fs serials l g [] n here is h = refl
+owes-none deeds fs serials l g (w ∷ ws) n here is h =
+    or_from ((w.forwarding == g.serial) && w.opening) (owes_opening g.serial ws)
+    (owes-one deeds fs serials l g w n here is (All-head (Fates deeds fs) w ws h))
+    (owes-none deeds fs serials l g ws n here is (All-tail (Fates deeds fs) w ws h))
+
+-- where there is nothing to order, none is to listen, and none with a listener closes
+abbrev pub Rests : Stage → Bool → Type 0
+Rests (ToListen host) closing = ⊥
+Rests Ordered closing = ⊥
+Rests (Listening l) closing = closing ≡ false
+Rests ToRequest closing = Unit {0}
+Rests Requested closing = Unit {0}
+Rests (Live port) closing = Unit {0}
+Rests (Cancelling port) closing = Unit {0}
+
+ends-none : (owes : Bool) (n l : ℕ) (P : Type 0) → owes ≡ false → (if owes then None else Some (want.Unlisten n l)) ≡ None → P
+ends-none true n l P e f = cc
+ends-none false n l P e f = cc
+
+ends-rest : (closing : Bool) (l serial : ℕ) (ws : List Waiting) (next : Option Want) → owes_opening serial ws ≡ false
+    → ends_at l closing serial ws next ≡ None → (closing ≡ false) × (next ≡ None)
+ends-rest true l serial ws next owes e = ends-none (owes_opening serial ws) serial l ((true ≡ false) × (next ≡ None)) owes e
+ends-rest false l serial ws next owes e = (refl, e)
+
+next-rest : (s : Stage) (closing : Bool) (serial : ℕ) (ws : List Waiting) (rs : List Request) (next : Option Want)
+    → ((l : ℕ) → s ≡ Listening l → owes_opening serial ws ≡ false) → StageAwaits s serial rs → next_at s closing serial ws next ≡ None
+    → Rests s closing × (next ≡ None)
+next-rest (ToListen host) closing serial ws rs next owes a e = cc
+next-rest Ordered closing serial ws rs next owes a e = absurd a
+next-rest (Listening l) closing serial ws rs next owes a e = ends-rest closing l serial ws next (owes l refl) e
+next-rest ToRequest closing serial ws rs next owes a e = (tt, e)
+next-rest Requested closing serial ws rs next owes a e = (tt, e)
+next-rest (Live port) closing serial ws rs next owes a e = (tt, e)
+next-rest (Cancelling port) closing serial ws rs next owes a e = (tt, e)
+
+pub all-rest : (deeds : List Deed) (all : List Forwarding) (serials : ℕ) (rs : List Request) (ws : List Waiting) (fs : List Forwarding)
+    → is_numbered 0 all serials ≡ true → All (Fates deeds all) ws → ((f : Forwarding) → In f fs → In f all) → All (Awaits rs) fs
+    → next_of ws fs ≡ None → (f : Forwarding) → In f fs → Rests f.stage f.closing
+all-rest deeds all serials rs ws [] n fates within h e f here = absurd here
+all-rest deeds all serials rs ws (g ∷ fs) n fates within h e f here =
+    let one = next-rest g.stage g.closing g.serial ws rs (next_of ws fs)
+    (λ l is. owes-none deeds all serials l g ws n (within g (inl refl)) is fates) (All-head (Awaits rs) g fs h) e in
+    elim here [
+      | inl same ↦ subst (λ (x : Forwarding). Rests x.stage x.closing) same one.0
+      | inr later ↦ all-rest deeds all serials rs ws fs n fates (λ x k. within x (inr k)) (All-tail (Awaits rs) g fs h) one.1 f later
+    ]
+
+-- what an ask then waits for
+waits-opening : (s : Stage) (n asked : ℕ) (closing : Bool) (rs : List Request) → outcome_at s asked ≡ None → Rests s closing
+    → requests_at s closing ≡ false → StageAwaits s n rs → In (Listen n) rs ⊎ In (Cancel n) rs
+waits-opening (ToListen host) n asked closing rs none rests says a = absurd rests
+waits-opening Ordered n asked closing rs none rests says a = absurd rests
+waits-opening (Listening l) n asked closing rs none rests says a = cc
+waits-opening ToRequest n asked closing rs none rests says a = cc
+waits-opening Requested n asked closing rs none rests says a = inl a
+waits-opening (Live port) n asked closing rs none rests says a = cc
+waits-opening (Cancelling port) n asked closing rs none rests says a = cc
+
+waits-closing : (s : Stage) (n : ℕ) (closing : Bool) (rs : List Request) → closing ≡ true → Rests s closing
+    → requests_at s closing ≡ false → StageAwaits s n rs → In (Listen n) rs ⊎ In (Cancel n) rs
+waits-closing (ToListen host) n closing rs closes rests says a = absurd rests
+waits-closing Ordered n closing rs closes rests says a = absurd rests
+waits-closing (Listening l) n closing rs closes rests says a = absurd (both_ways closing rests closes)
+waits-closing ToRequest n closing rs closes rests says a = cc
+waits-closing Requested n closing rs closes rests says a = inl a
+waits-closing (Live port) n closing rs closes rests says a = absurd (both_ways closing says closes)
+waits-closing (Cancelling port) n closing rs closes rests says a = inr a
+
+waits-for : (opening : Bool) (f : Forwarding) (rs : List Request) → Holds opening f → Rests f.stage f.closing
+    → has_request f ≡ false → Awaits rs f → In (Listen f.serial) rs ⊎ In (Cancel f.serial) rs
+waits-for true f rs holds rests says a = waits-opening f.stage f.serial f.listen_port f.closing rs holds rests says a
+waits-for false f rs holds rests says a = waits-closing f.stage f.serial f.closing rs holds rests says a
+
+awaits-one : (d : Desk) (w : Waiting) (f : Forwarding) → f.serial ≡ w.forwarding
+    → In (Listen f.serial) d.requests ⊎ In (Cancel f.serial) d.requests → AwaitsReply d.requests w
+awaits-one d w f is (inl h) = inl (subst (λ (n : ℕ). Contains d.requests (Listen n)) is (in-contains (Listen f.serial) d.requests h))
+awaits-one d w f is (inr h) = inr (subst (λ (n : ℕ). Contains d.requests (Cancel n)) is (in-contains (Cancel f.serial) d.requests h))
+
+pub fates-at-rest : (deeds : List Deed) (d : Desk) → Tracks deeds d → IsAtRest d → All (Fates deeds d.all) d.waiting
+fates-at-rest deeds d t rest =
+    all-fates deeds d.all d.waiting t.fates (not-true (list_any has_outcome d.waiting) rest.answers)
+
+awaits-by : (deeds : List Deed) (d : Desk) (w : Waiting) → Tracks deeds d → IsAtRest d → Fates deeds d.all w
+    → AwaitsReply d.requests w ⊎ ((w.opening ≡ false) × ShareListener deeds)
+awaits-by deeds d w t rest (inr s) = inr s
+awaits-by deeds d w t rest (inl fate) = inl (awaits-one d w fate.0 fate.2 (waits-for w.opening fate.0 d.requests fate.3
+    (all-rest deeds d.all d.serials d.requests d.waiting d.all t.numbered (fates-at-rest deeds d t rest) (λ f h. h) t.stages rest.orders
+    fate.0 fate.1)
+    (none-passes-in has_request d.all fate.0 rest.says fate.1)
+    (in-all (Awaits d.requests) fate.0 d.all t.stages fate.1)))
+
+pub each-awaits : EachAwaits
+each-awaits deeds d left rest =
+    let t = tracks deeds d left in
+    All-weaker (Fates deeds d.all) (λ (w : Waiting). AwaitsReply d.requests w ⊎ ((w.opening ≡ false) × ShareListener deeds))
+    (λ w fates. awaits-by deeds d w t rest fates) d.waiting (fates-at-rest deeds d t rest)

@@ -1,0 +1,309 @@
+-- Why asks get their replies and answers, by what happened before.
+use Rattle.std.specs.Prelude.{◌≡◌, ◌≢◌, ◌⊎◌, ◌≤◌, ℕ, Bool, true, false, ◌==◌, ◌&&◌, List, [], ◌∷◌, ◌++◌, drop, find, Option, Some, None}
+use Rattle.std.specs.List.{All, list_any, Contains}
+use Rattle.mux_outside.specs.declared.house.HouseReply.{HouseReply}
+use Rattle.mux_outside.specs.declared.house.HouseReply.TheVariants as given
+use Rattle.mux_outside.specs.declared.start_ask.StartAsk.{StartAsk}
+use Rattle.house_forward.specs.Asks.{turns_away}
+use Rattle.house_forward.specs.Deeds.{Deed, Does, Leave}
+use Rattle.house_forward.specs.Deeds.{Begins, Asks, Answers, Greets, Requests, Replies, Listens, Unlistens}
+use Rattle.house_forward.specs.Desk.{Desk}
+use Rattle.house_forward.specs.Forwardings.{granted, bound_to, request_of, outcome_of, reply_to, standing, connects_to, how_many, has_request, next_of, listener_of}
+use Rattle.house_forward.specs.Quiet.{answers_none}
+use Rattle.house_forward.specs.Rules.{AreEnds, is_refused_alone, kind_of, listen_host, listens_here, connects_there}
+use Rattle.house_forward.specs.declared.asks.Asked.TheVariants.{Now}
+use Rattle.house_forward.specs.declared.asks.Outcome.{Outcome}
+use Rattle.house_forward.specs.declared.asks.Outcome.TheVariants.{Done, Refused}
+use Rattle.house_forward.specs.declared.asks.Waiting.{Waiting}
+use Rattle.house_forward.specs.declared.forwarding.Forwarding.{Forwarding}
+use Rattle.house_forward.specs.declared.forwarding.Request.{Request}
+use Rattle.house_forward.specs.declared.forwarding.Request.TheVariants.{Listen, Cancel}
+use Rattle.house_forward.specs.declared.forwarding.Stage.{Stage}
+use Rattle.house_forward.specs.declared.forwarding.Stage.TheVariants.{ToListen, Ordered, Listening, ToRequest, Requested, Live, Cancelling}
+use Rattle.house_forward.specs.declared.rules.Ends.{Ends}
+use Rattle.house_forward.specs.declared.rules.TheConstants.{MOST_FORWARDINGS}
+
+-- ---- what happened
+
+-- whether a listen host of none means all addresses: the latest start says it
+abbrev pub gateway_in : List Deed → Bool
+gateway_in [] = false
+gateway_in (Begins starts ∷ deeds) = starts.gateway
+gateway_in (Asks client id opening ask reply ∷ deeds) = gateway_in deeds
+gateway_in (Answers client id reply ∷ deeds) = gateway_in deeds
+gateway_in (Greets ∷ deeds) = gateway_in deeds
+gateway_in (Requests f ∷ deeds) = gateway_in deeds
+gateway_in (Replies success port ∷ deeds) = gateway_in deeds
+gateway_in (Listens host port number ∷ deeds) = gateway_in deeds
+gateway_in (Unlistens l ∷ deeds) = gateway_in deeds
+
+-- the forwardings whose requests were said and have no reply yet, as they were then: a reply of the
+-- server is to the first
+abbrev pub unanswered : List Deed → List Forwarding
+unanswered [] = []
+unanswered (Begins starts ∷ deeds) = unanswered deeds
+unanswered (Asks client id opening ask reply ∷ deeds) = unanswered deeds
+unanswered (Answers client id reply ∷ deeds) = unanswered deeds
+unanswered (Greets ∷ deeds) = unanswered deeds
+unanswered (Requests f ∷ deeds) = unanswered deeds ++ f ∷ []
+unanswered (Replies success port ∷ deeds) = drop 1 (unanswered deeds)
+unanswered (Listens host port number ∷ deeds) = unanswered deeds
+unanswered (Unlistens l ∷ deeds) = unanswered deeds
+
+-- whether this listener is closed
+abbrev pub closes : ℕ → Deed → Bool
+closes l (Begins starts) = false
+closes l (Asks client id opening ask reply) = false
+closes l (Answers client id reply) = false
+closes l Greets = false
+closes l (Requests f) = false
+closes l (Replies success port) = false
+closes l (Listens host port number) = false
+closes l (Unlistens k) = l == k
+
+-- whether this is the answer to a client's ask with this id
+abbrev pub answers : ℕ → ℕ → Deed → Bool
+answers client id (Begins starts) = false
+answers client id (Asks c i opening ask reply) = false
+answers client id (Answers c i reply) = (client == c) && (id == i)
+answers client id Greets = false
+answers client id (Requests f) = false
+answers client id (Replies success port) = false
+answers client id (Listens host port number) = false
+answers client id (Unlistens l) = false
+
+-- ---- a forwarding
+
+-- both are one forwarding, at two times
+pub record AreOne (f g : Forwarding) : Type 0 where
+  pub serial : f.serial ≡ g.serial
+  pub kind : f.kind ≡ g.kind
+  pub listens : f.listen_host ≡ g.listen_host
+  pub listen_port : f.listen_port ≡ g.listen_port
+  pub connects : f.connect_host ≡ g.connect_host
+  pub connect_port : f.connect_port ≡ g.connect_port
+
+-- an ask is for this forwarding: it listens where the ask says; and one to open is connected where
+-- the ask says, if that is said when it is asked for
+pub record IsFor (gateway opening : Bool) (ask : StartAsk) (f : Forwarding) : Type 0 where
+  pub kind : kind_of ask.kind ≡ Some f.kind
+  pub listens : f.listen_host ≡ listen_host f.kind gateway ask.listen_host
+  pub listen_port : f.listen_port ≡ ask.listen_port
+  pub connects : opening ≡ true → connects_there f.kind ≡ true
+      → (f.connect_host ≡ ask.connect_host) × (f.connect_port ≡ ask.connect_port)
+
+-- a listener was made at this host and port, and was not closed since
+pub record ListensSince (host : List ℕ) (port l : ℕ) (deeds : List Deed) : Type 0 where
+  pub later : List Deed
+  pub earlier : List Deed
+  pub were : deeds ≡ later ++ Listens host port (Some l) ∷ earlier
+  pub open_yet : list_any (closes l) later ≡ false
+
+-- the first request that has no reply is this one, for this forwarding, which the server is to
+-- listen for
+pub record IsNext (what : ℕ → Request) (f : Forwarding) (deeds : List Deed) : Type 0 where
+  pub first : Forwarding
+  pub others : List Forwarding
+  pub were : unanswered deeds ≡ first ∷ others
+  pub is : AreOne f first
+  pub asks : request_of first ≡ what first.serial
+  pub there : listens_here f.kind ≡ false
+
+-- the server said that it listens for it on this port: it granted the request to listen
+pub record IsGranted (f : Forwarding) (port : ℕ) (deeds : List Deed) : Type 0 where
+  pub chosen : Option ℕ
+  pub later : List Deed
+  pub earlier : List Deed
+  pub were : deeds ≡ later ++ Replies true chosen ∷ earlier
+  pub next : IsNext Listen f earlier
+  pub bound : port ≡ bound_to f.listen_port chosen
+
+-- it is served: it has a listener, or the server listens for it
+abbrev pub ServesAt : Stage → Forwarding → List Deed → Type 0
+ServesAt (ToListen host) f deeds = ⊥
+ServesAt Ordered f deeds = ⊥
+ServesAt (Listening l) f deeds =
+    (listens_here f.kind ≡ true) × ListensSince f.listen_host f.listen_port l deeds
+ServesAt ToRequest f deeds = ⊥
+ServesAt Requested f deeds = ⊥
+ServesAt (Live port) f deeds = (listens_here f.kind ≡ false) × IsGranted f port deeds
+ServesAt (Cancelling port) f deeds = (listens_here f.kind ≡ false) × IsGranted f port deeds
+
+-- ---- what an ask gets at once
+
+-- Done, or a port
+abbrev pub IsGrant : HouseReply → Type 0
+IsGrant given.Done = Unit {0}
+IsGrant (given.Port port) = Unit {0}
+IsGrant given.Refused = ⊥
+IsGrant given.Later = ⊥
+
+-- an ask to open that gets Done or a port at once: the very forwarding that it asks for is there, and
+-- has a listener or is live; it gets the port where the server was to choose one
+pub record IsServed (opening : Bool) (ask : StartAsk) (reply : HouseReply) (all : List Forwarding)
+    (deeds : List Deed) : Type 0 where
+  pub opens : opening ≡ true
+  pub forwarding : Forwarding
+  pub outcome : Outcome
+  pub stands : Contains all forwarding
+  pub is_for : IsFor (gateway_in deeds) true ask forwarding
+  pub serves : ServesAt forwarding.stage forwarding deeds
+  pub comes : outcome_of forwarding ≡ Some outcome
+  pub replies : reply ≡ reply_to (Now outcome)
+
+-- each that does
+abbrev pub EachServed : Type 0
+EachServed = (client id : ℕ) (opening : Bool) (ask : StartAsk) (reply : HouseReply) (deeds : List Deed)
+    (old new : Desk) → Leave deeds old → Does (Asks client id opening ask reply) old new → IsGrant reply
+    → IsServed opening ask reply old.all deeds
+
+-- ---- what an ask comes to later
+
+-- where its listener was made, those that asked for it get Done; where none could be, all that asked
+-- are refused
+abbrev pub MadeBy : Option ℕ → Bool → Outcome → Type 0
+MadeBy None opening outcome = outcome ≡ Refused
+MadeBy (Some l) true outcome = outcome ≡ Done
+MadeBy (Some l) false outcome = ⊥
+
+-- a success makes it live, with the port where the server was to choose one, or ends it; a failure
+-- refuses it to all that asked, or lets it live
+abbrev pub RepliedBy : Bool → Option ℕ → List Deed → Bool → Forwarding → Outcome → Type 0
+RepliedBy true port earlier true f outcome = IsNext Listen f earlier
+    × (outcome ≡ granted f.listen_port (bound_to f.listen_port port))
+RepliedBy true port earlier false f outcome = IsNext Cancel f earlier × (outcome ≡ Done)
+RepliedBy false port earlier true f outcome = IsNext Listen f earlier × (outcome ≡ Refused)
+RepliedBy false port earlier false f outcome =
+    (what : ℕ → Request) × IsNext what f earlier × (outcome ≡ Refused)
+
+-- as its listener was closed, those that asked for that get Done
+abbrev pub ClosedBy : Bool → Outcome → Type 0
+ClosedBy true outcome = ⊥
+ClosedBy false outcome = outcome ≡ Done
+
+-- those that asked to open or to close it came to this by this deed, behind the earlier ones
+abbrev pub CameBy : Deed → List Deed → Bool → Forwarding → Outcome → Type 0
+CameBy (Begins starts) earlier opening f outcome = ⊥
+CameBy (Asks client id opens ask reply) earlier opening f outcome = ⊥
+CameBy (Answers client id reply) earlier opening f outcome = ⊥
+CameBy Greets earlier opening f outcome = ⊥
+CameBy (Requests g) earlier opening f outcome = ⊥
+CameBy (Replies success port) earlier opening f outcome =
+    RepliedBy success port earlier opening f outcome
+CameBy (Listens host port number) earlier opening f outcome = (host ≡ f.listen_host)
+    × (port ≡ f.listen_port) × (listens_here f.kind ≡ true) × MadeBy number opening outcome
+CameBy (Unlistens l) earlier opening f outcome = (listens_here f.kind ≡ true)
+    × ListensSince f.listen_host f.listen_port l earlier × ClosedBy opening outcome
+
+-- an answer: its ask had none yet, and came to this by what happened since, to the forwarding that it
+-- is for
+pub record HasCause (client id : ℕ) (reply : HouseReply) (deeds : List Deed) : Type 0 where
+  pub opening : Bool
+  pub ask : StartAsk
+  pub forwarding : Forwarding
+  pub outcome : Outcome
+  pub later : List Deed
+  pub deed : Deed
+  pub between : List Deed
+  pub earlier : List Deed
+  pub were : deeds ≡ later ++ deed ∷ (between ++ Asks client id opening ask given.Later ∷ earlier)
+  pub open_yet : list_any (answers client id) (later ++ deed ∷ between) ≡ false
+  pub is_for : IsFor (gateway_in earlier) opening ask forwarding
+  pub came : CameBy deed (between ++ Asks client id opening ask given.Later ∷ earlier) opening
+      forwarding outcome
+  pub replies : reply ≡ reply_to (Now outcome)
+
+-- each has its cause
+abbrev pub EachAnswer : Type 0
+EachAnswer = (client id : ℕ) (reply : HouseReply) (deeds : List Deed) (old new : Desk) → Leave deeds old
+    → Does (Answers client id reply) old new → HasCause client id reply deeds
+
+-- ---- what is closed
+
+-- a client asked to close it, and waits for that
+pub record WasToClose (f : Forwarding) (deeds : List Deed) : Type 0 where
+  pub client : ℕ
+  pub id : ℕ
+  pub ask : StartAsk
+  pub later : List Deed
+  pub earlier : List Deed
+  pub were : deeds ≡ later ++ Asks client id false ask given.Later ∷ earlier
+  pub is_for : IsFor (gateway_in earlier) false ask f
+
+-- a listener that is closed is that of a forwarding that a client asked to close
+pub record EndsAsked (l : ℕ) (deeds : List Deed) : Type 0 where
+  pub forwarding : Forwarding
+  pub serves : ListensSince forwarding.listen_host forwarding.listen_port l deeds
+  pub asked : WasToClose forwarding deeds
+
+abbrev pub EachUnlisten : Type 0
+EachUnlisten = (l : ℕ) (deeds : List Deed) (old new : Desk) → Leave deeds old
+    → Does (Unlistens l) old new → EndsAsked l deeds
+
+-- a cancel is said for a forwarding that is live and that a client asked to close
+pub record CancelsAsked (f : Forwarding) (deeds : List Deed) : Type 0 where
+  pub serves : ServesAt f.stage f deeds
+  pub asked : WasToClose f deeds
+
+abbrev pub EachCancel : Type 0
+EachCancel = (f : Forwarding) (deeds : List Deed) (old new : Desk) → Leave deeds old
+    → Does (Requests f) old new → request_of f ≡ Cancel f.serial → CancelsAsked f deeds
+
+-- ---- what is refused at once
+
+-- an ask is refused at once: its client has an open ask with its id, or as many asks wait as may; or it
+-- is refused whatever stands; one to open, where the forwarding that listens there connects elsewhere,
+-- or none does and as many are asked or live as may be; one to close, where none listens there, or one
+-- that closes already
+pub data IsRefused (client id : ℕ) (opening : Bool) (ask : StartAsk) (d : Desk) : Type 0 where
+  TurnedAway : turns_away client id d.waiting ≡ true → IsRefused client id opening ask d
+  RefusedAlone : is_refused_alone ask ≡ true → IsRefused client id opening ask d
+  ConnectsElsewhere : (ends : Ends) (f : Forwarding) → opening ≡ true → AreEnds d.gateway ask ends
+      → standing ends d.all ≡ Some f → connects_to ends f ≡ false → IsRefused client id opening ask d
+  NoRoom : (ends : Ends) → opening ≡ true → AreEnds d.gateway ask ends → standing ends d.all ≡ None
+      → MOST_FORWARDINGS ≤ how_many d.all → IsRefused client id opening ask d
+  NoneThere : (ends : Ends) → opening ≡ false → AreEnds d.gateway ask ends → standing ends d.all ≡ None
+      → IsRefused client id opening ask d
+  ClosesAlready : (ends : Ends) (f : Forwarding) → opening ≡ false → AreEnds d.gateway ask ends
+      → standing ends d.all ≡ Some f → f.closing ≡ true → IsRefused client id opening ask d
+
+-- each has one of these causes
+abbrev pub EachRefused : Type 0
+EachRefused = (client id : ℕ) (opening : Bool) (ask : StartAsk) (old new : Desk)
+    → Does (Asks client id opening ask given.Refused) old new → IsRefused client id opening ask old
+
+-- ---- at rest
+
+-- there is no request to say, no listener to order or to close, and no answer to give
+pub record IsAtRest (d : Desk) : Type 0 where
+  pub says : find has_request d.all ≡ None
+  pub orders : next_of d.waiting d.all ≡ None
+  pub answers : answers_none d.waiting ≡ true
+
+-- two forwardings had listeners of one number at one time
+pub record ShareListener (deeds : List Deed) : Type 0 where
+  pub later : List Deed
+  pub earlier : List Deed
+  pub were : deeds ≡ later ++ earlier
+  pub desk : Desk
+  pub left : Leave earlier desk
+  pub one : Forwarding
+  pub other : Forwarding
+  pub listener : ℕ
+  pub has_one : Contains desk.all one
+  pub has_other : Contains desk.all other
+  pub differ : one.serial ≢ other.serial
+  pub listens : listener_of one ≡ Some listener
+  pub listens_too : listener_of other ≡ Some listener
+
+-- the request to listen for the forwarding that an ask waits for, or its cancel, was said and has no
+-- reply yet
+abbrev pub AwaitsReply : List Request → Waiting → Type 0
+AwaitsReply requests w =
+    Contains requests (Listen w.forwarding) ⊎ Contains requests (Cancel w.forwarding)
+
+-- at rest each ask that waits awaits a reply of the server, but one to close where two shared a
+-- listener
+abbrev pub EachAwaits : Type 0
+EachAwaits = (deeds : List Deed) (d : Desk) → Leave deeds d → IsAtRest d
+    → All (λ w. AwaitsReply d.requests w ⊎ ((w.opening ≡ false) × ShareListener deeds)) d.waiting

@@ -1,0 +1,42 @@
+-- What comes of the forwardings that are asked for at the start.
+use Rattle.std.specs.Prelude.{◌≡◌, ◌⊎◌, ℕ, true, List, [], ◌∷◌, ◌++◌, slice_get, Option, Some}
+use Rattle.mux_outside.specs.declared.start_ask.StartAsk.{StartAsk}
+use Rattle.mux_outside.specs.declared.starts.Starts.{Starts}
+use Rattle.house_forward.specs.Causes.{AreOne, IsFor, IsAtRest}
+use Rattle.house_forward.specs.Deeds.{Deed, Leave}
+use Rattle.house_forward.specs.Deeds.{Begins, Requests, Listens}
+use Rattle.house_forward.specs.Desk.{Desk, empty_desk, standing_at}
+use Rattle.house_forward.specs.Forwardings.{Begins as BeginsAt, Standing, opens_of, standing, request_of}
+use Rattle.house_forward.specs.Rules.{AreEnds, is_refused_alone}
+use Rattle.house_forward.specs.declared.asks.Asked.TheVariants.{Now}
+use Rattle.house_forward.specs.declared.asks.Outcome.TheVariants.{Refused}
+use Rattle.house_forward.specs.declared.forwarding.Forwarding.{Forwarding}
+use Rattle.house_forward.specs.declared.forwarding.Request.TheVariants.{Listen}
+use Rattle.house_forward.specs.declared.rules.Ends.{Ends}
+
+-- its listener was ordered, where it is to listen; or its request to listen was said
+pub data HasBegun (f : Forwarding) (deeds : List Deed) : Type 0 where
+  WasOrdered : (number : Option ℕ) (later earlier : List Deed)
+      → deeds ≡ later ++ Listens f.listen_host f.listen_port number ∷ earlier → HasBegun f deeds
+  WasRequested : (first : Forwarding) (later earlier : List Deed)
+      → deeds ≡ later ++ Requests first ∷ earlier → AreOne f first
+      → request_of first ≡ Listen first.serial → HasBegun f deeds
+
+-- the ask at a place of the start was refused: whatever stands, or for those before it
+pub record WasRefused (starts : Starts) (i : ℕ) (ask : StartAsk) : Type 0 where
+  pub stood : Standing
+  pub before : BeginsAt starts.gateway starts.asks i (standing_at empty_desk) stood
+  pub cause : (is_refused_alone ask ≡ true) ⊎ ((ends : Ends) × AreEnds starts.gateway ask ends
+      × (opens_of stood.serials ends stood.all (standing ends stood.all) ≡ Now Refused))
+
+-- the forwarding that it is for has begun
+pub record WasServed (starts : Starts) (ask : StartAsk) (deeds : List Deed) : Type 0 where
+  pub forwarding : Forwarding
+  pub is_for : IsFor starts.gateway true ask forwarding
+  pub begun : HasBegun forwarding deeds
+
+-- of a house that began with these forwardings: at rest each was refused or has begun
+abbrev pub EachStart : Type 0
+EachStart = (starts : Starts) (later : List Deed) (d : Desk) → Leave (later ++ Begins starts ∷ []) d → IsAtRest d
+    → (i : ℕ) (ask : StartAsk) → slice_get starts.asks i ≡ Some ask
+    → WasRefused starts i ask ⊎ WasServed starts ask (later ++ Begins starts ∷ [])
