@@ -1,3 +1,4 @@
+mod Intrusion
 mod Orders
 mod Pieces
 mod Sayings
