@@ -52,11 +52,7 @@ pub struct Lines {
 
 /// What a file holds that no line includes, or the refusal of a failed read at its line 0: the
 /// memory for it is taken before the read.
-fn first_found<F: Files>(
-    alloc: Global,
-    path: &[u8],
-    files: &mut F,
-) -> Result<Found, ResolveError>
+fn first_found<F: Files>(alloc: Global, path: &[u8], files: &mut F) -> Result<Found, ResolveError>
     ensures found { (told : Told) → TellsFiles (F.told files.old) told
         → IfOk result (λ found. IsFound found (told.content path.now)) }
     ensures cause { HasFilesCause result (F.faults files.old) (F.faults files.new) }
