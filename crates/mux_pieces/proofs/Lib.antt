@@ -1,3 +1,4 @@
+mod Cuts
 mod Intrusion
 mod Orders
 mod Pieces

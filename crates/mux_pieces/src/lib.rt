@@ -7,5 +7,6 @@ mod laws;
 mod worked;
 
 pub use laws::{
-    bytes_make_items, items_make_rows, journals_go_on_alike, parts_give_alike, sayings_are_of_bytes,
+    bytes_make_items, bytes_make_rows, cuts_make_no_difference, items_make_rows,
+    journals_go_on_alike, parts_give_alike, sayings_are_of_bytes,
 };
