@@ -1,8 +1,8 @@
 -- Which commands a line runs, and where a fault comes from.
-use Rattle.std.proofs.Common.{◌≡◌, ◌≤◌, ℕ, Bool, true, false, List, [], take, Option, Some, None, Result, Ok, Err, refl, sym, ap, subst, ◌∙◌, arith}
+use Rattle.std.proofs.Common.{◌≡◌, ℕ, Bool, true, false, List, [], take, Option, Some, None, Result, Ok, Err, refl, sym, ap, subst, ◌∙◌}
+use Rattle.std.specs.Prelude.{OnOk, OnErr}
 use Rattle.std.specs.List.{list_all}
 use Rattle.std.proofs.lemmas.List.{append-nil}
-use Rattle.mux_outside.specs.Counts.{Rose}
 use Rattle.conf_rules.specs.declared.criterion.Criterion.{Criterion}
 use Rattle.conf_rules.specs.declared.causes.Cause.{Cause}
 use Rattle.conf_rules.specs.declared.causes.Cause.TheVariants as causes
@@ -25,7 +25,8 @@ use Rattle.conf_reader.specs.Blocks.{Blocks}
 use Rattle.conf_fold.specs.declared.fold.Fold.{Fold}
 use Rattle.conf_reader.specs.declared.errors.LineError.{LineError}
 use Rattle.conf_reader.specs.declared.errors.LineError.TheVariants as line_errors
-use Rattle.conf_reader.specs.Results.{Refuses, is_line_fault}
+use Rattle.conf_reader.specs.Results.{Refuses, is_line_fault, refused_at}
+use Rattle.conf_rules.specs.Results.{as_error}
 use Rattle.conf_fold.specs.Results.{RanUnless, breaks_line, breaks_off, FailsInLine, FailsAt, HasLineCause, HasRunCause, FailsLine}
 use Rattle.conf_fold.specs.Stands.{Stands, IsNext, next_row, entry_so_far, view_of}
 use Rattle.conf_fold.proofs.SeenLemmas.{view-same}
@@ -109,7 +110,7 @@ refused-quiet : (told : Told) (pass : Pass) (rows : List Row) (active : Bool) (c
 refused-quiet told pass rows true c = refl
 refused-quiet told pass rows false c = refl
 
-some-broken : (old new : Commands) (commands : List Bytes) → new ≡ old → RanSome old new commands
+pub some-broken : (old new : Commands) (commands : List Bytes) → new ≡ old → RanSome old new commands
 some-broken old new commands k = record { done = []; others = commands; parts = refl; ran = k ∙ none-behind old }
 
 -- a line that says nothing that can be read runs nothing
@@ -170,23 +171,10 @@ breaks-placed e file number resolve_errors.OutOfMemory r h = refl
 breaks-placed line_errors.OutOfMemory file number (resolve_errors.At f n c) r h = absurd cc
 breaks-placed (line_errors.Refused cause) file number (resolve_errors.At f n c) r h = let same : c ≡ cause = cc in ap is_fault same ∙ h
 
-risen : (before now : ℕ) → Rose before now → before ≤ now
-risen before now r = r.later
-
 placed-cause : (c : Cause) (file : Bytes) (number before now : ℕ) → HasLineCause {A = Unit {0}} (Err (line_errors.Refused c)) before now → HasRunCause {A = Unit {0}} (Err (resolve_errors.At file number c)) before now
 placed-cause causes.RunFault file number before now h = h
 placed-cause causes.ReadFault file number before now h = h
 placed-cause c file number before now h = h
-
-lost-cause : (c : Cause) (before now : ℕ) → HasLineCause {A = Unit {0}} (Err (line_errors.Refused c)) before now → before ≤ now
-lost-cause causes.RunFault before now h = risen before now h
-lost-cause causes.ReadFault before now h = absurd h
-lost-cause c before now h = omega (arith, h)
-
-pub cause-placed : (e : LineError) (file : Bytes) (number before now : ℕ) (d : ResolveError) → Refuses e file number d → HasLineCause {A = Unit {0}} (Err e) before now → HasRunCause {A = Unit {0}} (Err d) before now
-cause-placed line_errors.OutOfMemory file number before now d r h = rw r (let k : now ≡ before = h in omega (arith, k))
-cause-placed (line_errors.Refused c) file number before now resolve_errors.OutOfMemory r h = lost-cause c before now h
-cause-placed (line_errors.Refused c) file number before now (resolve_errors.At f n d) r h = subst (λ x. HasRunCause {A = Unit {0}} (Err x) before now) (sym r) (placed-cause c file number before now h)
 
 -- where no fault is, the count stays
 pub no-cause : (e : LineError) (before now : ℕ) → is_line_fault e ≡ false → now ≡ before → HasLineCause {A = Unit {0}} (Err e) before now
@@ -194,3 +182,38 @@ no-cause line_errors.OutOfMemory before now f h = h
 no-cause (line_errors.Refused causes.RunFault) before now f h = absurd cc
 no-cause (line_errors.Refused causes.ReadFault) before now f h = absurd cc
 no-cause (line_errors.Refused c) before now f h = h
+
+-- a refusal that is no fault leaves the count
+pub plain-placed : (e : LineError) (file : Bytes) (number before now : ℕ) (d : ResolveError) → is_line_fault e ≡ false → now ≡ before → Refuses e file number d → HasRunCause {A = Unit {0}} (Err d) before now
+plain-placed e file number before now resolve_errors.OutOfMemory plain same r = same
+plain-placed line_errors.OutOfMemory file number before now (resolve_errors.At f n d) plain same r = absurd cc
+plain-placed (line_errors.Refused c) file number before now (resolve_errors.At f n d) plain same r = subst (λ x. HasRunCause {A = Unit {0}} (Err x) before now) (sym r) (placed-cause c file number before now (no-cause (line_errors.Refused c) before now plain same))
+
+-- ---- what came of a line, with its place
+
+-- what was returned, told at a place
+abbrev pub Placed : Result (Unit {0}) LineError → Bytes → ℕ → Result (Unit {0}) ResolveError
+Placed taken file number = as_error (λ e. refused_at e file number) taken
+
+pub placed-ran : (taken : Result (Unit {0}) LineError) (file : Bytes) (number : ℕ) (old new : Commands) (commands : List Bytes) → RanUnless (breaks_line taken) old new commands → RanUnless (breaks_off (Placed taken file number)) old new commands
+placed-ran (Ok x) file number old new commands h = h
+placed-ran (Err line_errors.OutOfMemory) file number old new commands h = h
+placed-ran (Err (line_errors.Refused c)) file number old new commands h = h
+
+pub placed-fails : (taken : Result (Unit {0}) LineError) (file : Bytes) (number : ℕ) (old new : Commands) (commands : List Bytes) → FailsInLine taken old new commands → FailsAt file number (Placed taken file number) old new commands
+placed-fails (Ok x) file number old new commands h = tt
+placed-fails (Err line_errors.OutOfMemory) file number old new commands h = tt
+placed-fails (Err (line_errors.Refused c)) file number old new commands h = placed-failed c file number old new commands h
+
+pub placed-run : (taken : Result (Unit {0}) LineError) (file : Bytes) (number before now : ℕ) → HasLineCause taken before now → HasRunCause (Placed taken file number) before now
+placed-run (Ok x) file number before now h = h
+placed-run (Err line_errors.OutOfMemory) file number before now h = h
+placed-run (Err (line_errors.Refused c)) file number before now h = placed-cause c file number before now h
+
+pub placed-ok : (taken : Result (Unit {0}) LineError) (file : Bytes) (number : ℕ) (fact : Type 0) → OnOk taken fact → OnOk (Placed taken file number) fact
+placed-ok (Ok x) file number fact h = h
+placed-ok (Err e) file number fact h = tt
+
+pub placed-err : (taken : Result (Unit {0}) LineError) (file : Bytes) (number : ℕ) (fact : Type 0) → OnErr taken fact → OnErr (Placed taken file number) fact
+placed-err (Ok x) file number fact h = tt
+placed-err (Err e) file number fact h = h

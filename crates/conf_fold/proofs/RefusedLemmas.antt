@@ -19,6 +19,9 @@ use Rattle.conf_reader.specs.declared.errors.LineError.{LineError}
 use Rattle.conf_reader.specs.declared.errors.LineError.TheVariants as line_errors
 use Rattle.conf_rules.specs.Diagnostics.{is_fault}
 use Rattle.conf_fold.specs.Results.{Evaluated}
+use Rattle.conf_reader.specs.Results.{refused_at}
+use Rattle.conf_reader.proofs.RefusalLemmas.{refuses-at}
+use Rattle.conf_rules.specs.Results.{as_error}
 use Rattle.conf_reader.specs.Blocks.{Blocks, IsLine}
 use Rattle.conf_fold.specs.Stands.{open_applies, collects_here, IsBefore, EachBefore, collects, collected, InFirst, InSecond, InPass, Stands, IsAgain, IsNext, next_row, FoldsEntry, setting, host_so_far, block_name, view_of, entry_so_far, entered, own_mark, does_count, noted, if_counts}
 use Rattle.conf_fold.proofs.EntryLemmas.{entry-same}
@@ -60,6 +63,12 @@ placed-refusal told pass rows blocks l place line (line_errors.Refused c) (resol
     let same : cause ≡ c = cc in
     let at : resolve_errors.At line.file line.number c ≡ resolve_errors.At file number cause = ap (λ x. resolve_errors.At x line.number c) is.file ∙ ap (λ x. resolve_errors.At l.file x c) is.number ∙ sym r in
     ap (Rattle.conf_rules.specs.Resolution.refusal_at line) (f (sym (ap is_fault same) ∙ fault)) ∙ ap (λ x. Some x) at
+
+-- the same of what came of a line
+pub placed-folds : (told : Told) (pass : Pass) (rows : List Row) (blocks : Blocks) (l : ConfLine) (place : ℕ) (line : Line) (taken : Result (Unit {0}) LineError) (new : Fold)
+    → IsLine l blocks line → FoldsEntry told pass rows blocks l place line taken new → Rattle.conf_fold.specs.Stands.Folds told pass rows blocks l place line (as_error (λ e. refused_at e l.file l.number) taken) new
+placed-folds told pass rows blocks l place line (Ok x) new is f = f
+placed-folds told pass rows blocks l place line (Err e) new is f = placed-refusal told pass rows blocks l place line e (refused_at e l.file l.number) new is (refuses-at e l.file l.number (refused_at e l.file l.number) refl) f
 
 -- ---- how many marks there are
 

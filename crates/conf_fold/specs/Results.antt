@@ -1,5 +1,5 @@
 -- What the calls of this crate returned, and which commands they ran.
-use Rattle.std.specs.Prelude.{◌≡◌, ◌≤◌, ℕ, Bool, true, false, Option, Result, Ok, Err, List}
+use Rattle.std.specs.Prelude.{◌≡◌, ℕ, Bool, true, false, Option, Result, Ok, Err, List}
 use Rattle.std.specs.Bool.{MatchBool}
 use Rattle.mux_outside.specs.Counts.{Rose}
 use Rattle.conf_rules.specs.declared.causes.Cause.{Cause}
@@ -64,17 +64,17 @@ FailsAt file number result old new commands = Unit {0}
 
 -- ---- faults
 
--- the runner's fault comes only where its count rose, and every other answer leaves it
+-- the runner's fault comes only where its count rose, and every other answer leaves it, want of
+-- memory too
 abbrev pub HasLineCause : {A : Type 0} → Result A LineError → ℕ → ℕ → Type 0
 HasLineCause (Err (line_errors.Refused causes.RunFault)) before now = Rose before now
 HasLineCause (Err (line_errors.Refused causes.ReadFault)) before now = ⊥
 HasLineCause result before now = now ≡ before
 
--- The runner's fault comes only where its count rose, and no fault of files comes. Every other
--- answer leaves the count, but want of memory, before which the runner may have failed.
+-- the same of a refusal with its place, and no fault of files comes
 abbrev pub HasRunCause : {A : Type 0} → Result A ResolveError → ℕ → ℕ → Type 0
 HasRunCause (Ok x) before now = now ≡ before
-HasRunCause (Err OutOfMemory) before now = before ≤ now
+HasRunCause (Err OutOfMemory) before now = now ≡ before
 HasRunCause (Err (At file line causes.RunFault)) before now = Rose before now
 HasRunCause (Err (At file line causes.ReadFault)) before now = ⊥
 HasRunCause (Err (At file line cause)) before now = now ≡ before

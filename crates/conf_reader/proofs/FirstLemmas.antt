@@ -21,7 +21,10 @@ use Rattle.conf_reader.proofs.RefusalLemmas.{moved, moves-refused}
 use Rattle.conf_rules.specs.declared.causes.ResolveError.{ResolveError}
 use Rattle.conf_rules.specs.declared.causes.ResolveError.TheVariants as errors
 use Rattle.conf_reader.specs.declared.errors.LineError.TheVariants as line_errors
+use Rattle.conf_reader.specs.declared.files.Found.{Found}
 use Rattle.conf_reader.specs.declared.files.Found.TheVariants.{TooLarge}
+use Rattle.conf_reader.specs.Looking.{FirstFails}
+use Rattle.conf_rules.specs.Diagnostics.{is_fault}
 use Rattle.conf_reader.specs.Results.{Refuses}
 
 -- a file that is there and not too large
@@ -158,3 +161,8 @@ pub lift-moves : {A : Type 0} (told : Told) (place : ℕ) (blocks : Blocks) (r :
 lift-moves told place blocks r n (Ok b) m = ap (λ o. o ++ firsts_left told (place + length o) (drop r.next_first r.firsts.items)) m
 lift-moves told place blocks r n (Err errors.OutOfMemory) m = tt
 lift-moves told place blocks r n (Err (errors.At file number cause)) m = λ fault. lift-first told place blocks r file number cause (m fault)
+
+-- a failed read refuses none of the lines that are left
+pub fails-moved : (before : List Line) (path : Bytes) (e : ResolveError) (failed now : Option (List Bytes)) → FirstFails {A = Found} path (Err e) failed now → moved before [] e
+fails-moved before path errors.OutOfMemory failed now fails = tt
+fails-moved before path (errors.At file line cause) failed now fails = λ quiet. absurd (let same : cause ≡ causes.ReadFault = cc in let loud : is_fault cause ≡ true = ap is_fault same in let k : true ≡ false = sym loud ∙ quiet in cc)

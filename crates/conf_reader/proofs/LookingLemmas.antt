@@ -7,7 +7,6 @@ use Rattle.std.specs.Str.{bytes_eq}
 use Rattle.std.proofs.lemmas.List.Folds.{list_all-append}
 use Rattle.std.proofs.lemmas.Slice.Eq.{bytes_eq-Decides}
 use Rattle.std.proofs.Math.ListN.{drop_of_length-le}
-use Rattle.conf_rules.specs.declared.causes.Cause.{Cause}
 use Rattle.conf_rules.specs.declared.causes.Cause.TheVariants as causes
 use Rattle.conf_rules.specs.declared.causes.ResolveError.{ResolveError}
 use Rattle.conf_rules.specs.declared.causes.ResolveError.TheVariants as errors
@@ -21,15 +20,16 @@ use Rattle.conf_rules.specs.Includes.{Source, paths_of, globbed}
 use Rattle.conf_rules.specs.Looks.{folders_of, looks_of, looks_along, looks_in, looks_at}
 use Rattle.conf_reader.specs.declared.errors.LineError.{LineError}
 use Rattle.conf_reader.specs.declared.errors.LineError.TheVariants as line_errors
+use Rattle.conf_reader.specs.declared.files.Found.{Found}
 use Rattle.conf_reader.specs.declared.line.ConfLine.{ConfLine}
 use Rattle.conf_reader.specs.declared.open_file.OpenFile.{OpenFile}
 use Rattle.conf_reader.specs.declared.open_file.Said.{Said}
 use Rattle.conf_reader.specs.declared.reader.FirstFile.{FirstFile}
 use Rattle.conf_reader.specs.declared.reader.Lines.{Lines}
 use Rattle.conf_reader.specs.declared.stack.OpenFiles.{OpenFiles}
-use Rattle.conf_reader.specs.Results.{Refuses}
+use Rattle.conf_reader.specs.Results.{refused_at}
 use Rattle.conf_reader.specs.Left.{source_of, IsSettled, GivenBy, gone, include_of, named_as, named_by}
-use Rattle.conf_reader.specs.Looking.{FailsAmong, LineFails, Test, passes_in, passes, firsts_pass, all_pass, line_passes, TellsFailed, LooksOn}
+use Rattle.conf_reader.specs.Looking.{FailsAmong, FirstFails, LineFails, Test, passes_in, passes, firsts_pass, all_pass, line_passes, TellsFailed, LooksOn}
 use Rattle.conf_reader.proofs.OpenLemmas.{drop-at}
 
 -- ---- lists
@@ -73,7 +73,7 @@ all-next p (x ∷ xs) (suc i) e = all-next p xs i e
 
 -- the value doesn't matter
 pub tells-err : (A B : Type 0) (test : Test) (e : ResolveError) (before now : Option (List Bytes)) → TellsFailed {A = A} test (Err e) before now → TellsFailed {A = B} test (Err e) before now
-tells-err A B test errors.OutOfMemory before now h = tt
+tells-err A B test errors.OutOfMemory before now h = h
 tells-err A B test (errors.At file number causes.ReadFault) before now h = h
 tells-err A B test (errors.At file number cause) before now h = h
 
@@ -82,23 +82,17 @@ pub tells-on : (A B : Type 0) (test : Test) (e : ResolveError) (before mid now :
 tells-on A B test e before mid now same h = subst (λ b. TellsFailed {A = B} test (Err e) b now) same (tells-err A B test e mid now h)
 
 -- a failed read that is told at a place where its path may be
-pub tells-at : (A : Type 0) (test : Test) (file : Bytes) (number : ℕ) (paths : List Bytes) (e : ResolveError) (before now : Option (List Bytes)) → Refuses (line_errors.Refused causes.ReadFault) file number e → FailsAmong paths before now → list_all (test file number) paths ≡ true
+pub tells-at : (A : Type 0) (test : Test) (file : Bytes) (number : ℕ) (paths : List Bytes) (e : ResolveError) (before now : Option (List Bytes)) → e ≡ errors.At file number causes.ReadFault → FailsAmong paths before now → list_all (test file number) paths ≡ true
     → TellsFailed {A = A} test (Err e) before now
-tells-at A test file number paths errors.OutOfMemory before now r fails all = tt
-tells-at A test file number paths (errors.At f l c) before now r fails all =
+tells-at A test file number paths e before now r fails all =
     subst (λ x. TellsFailed {A = A} test (Err x) before now) (sym r) (record { path = fails.path; is = fails.is; passes = one-passes (test file number) paths fails.path all fails.among })
 
-refused-quiet : (A : Type 0) (test : Test) (file : Bytes) (number : ℕ) (cause : Cause) (e : ResolveError) (before now : Option (List Bytes)) → Refuses (line_errors.Refused cause) file number e → TellsFailed {A = A} test (Err (errors.At file number cause)) before now
-    → TellsFailed {A = A} test (Err e) before now
-refused-quiet A test file number cause errors.OutOfMemory before now r h = tt
-refused-quiet A test file number cause (errors.At f l c) before now r h = subst (λ x. TellsFailed {A = A} test (Err x) before now) (sym r) h
-
 -- the same of a line's error
-pub tells-line : (A B : Type 0) (test : Test) (file : Bytes) (number : ℕ) (paths : List Bytes) (le : LineError) (e : ResolveError) (before now : Option (List Bytes)) → Refuses le file number e → LineFails {A = B} paths (Err le) before now → list_all (test file number) paths ≡ true
+pub tells-line : (A B : Type 0) (test : Test) (file : Bytes) (number : ℕ) (paths : List Bytes) (le : LineError) (e : ResolveError) (before now : Option (List Bytes)) → e ≡ refused_at le file number → LineFails {A = B} paths (Err le) before now → list_all (test file number) paths ≡ true
     → TellsFailed {A = A} test (Err e) before now
-tells-line A B test file number paths line_errors.OutOfMemory e before now r fails all = subst (λ x. TellsFailed {A = A} test (Err x) before now) (sym r) tt
+tells-line A B test file number paths line_errors.OutOfMemory e before now r fails all = subst (λ x. TellsFailed {A = A} test (Err x) before now) (sym r) fails
 tells-line A B test file number paths (line_errors.Refused causes.ReadFault) e before now r fails all = tells-at A test file number paths e before now r fails all
-tells-line A B test file number paths (line_errors.Refused cause) e before now r fails all = refused-quiet A test file number cause e before now r fails
+tells-line A B test file number paths (line_errors.Refused cause) e before now r fails all = subst (λ x. TellsFailed {A = A} test (Err x) before now) (sym r) fails
 
 -- ---- one file
 
@@ -199,7 +193,7 @@ entered-passes test told o below f g new top more is include none names h =
     all-both p below (new ∷ []) (subst (λ fs. list_all p fs ≡ true) (sym more) all) (both (p new) true (begun-passes test told source new none names) refl)
 
 -- a failed read of the path that is opened next
-pub top-tells : (A : Type 0) (test : Test) (told : Told) (o : OpenFiles) (f : OpenFile) (path : Bytes) (e : ResolveError) (before now : Option (List Bytes)) → o.top ≡ Some f → f.include ≡ None → slice_get f.named f.next ≡ Some path → Refuses (line_errors.Refused causes.ReadFault) f.path (f.number - 1) e
+pub top-tells : (A : Type 0) (test : Test) (told : Told) (o : OpenFiles) (f : OpenFile) (path : Bytes) (e : ResolveError) (before now : Option (List Bytes)) → o.top ≡ Some f → f.include ≡ None → slice_get f.named f.next ≡ Some path → e ≡ errors.At f.path (f.number - 1) causes.ReadFault
     → FailsAmong (path ∷ []) before now → passes test told o ≡ true → TellsFailed {A = A} test (Err e) before now
 top-tells A test told o f path e before now top include named r fails h =
     tells-at A test f.path (f.number - 1) (path ∷ []) e before now r fails (path-passes test told (source_of o.system) f path include named (top-passes test told o f top h))
@@ -222,7 +216,7 @@ named-looks test told o n f rest paths top include named is h =
     changed-passes test told o o.below.items (option_map (named_as paths) o.top) f (named_as paths f) top now refl (found-passes test told (source_of o.system) f rest paths include named) h in
     subst (λ (x : OpenFiles). passes test told x ≡ true) (sym is) all
 
-pub include-tells : (A B : Type 0) (test : Test) (told : Told) (o : OpenFiles) (f : OpenFile) (rest given : Bytes) (le : LineError) (e : ResolveError) (before now : Option (List Bytes)) → o.top ≡ Some f → f.include ≡ Some rest → given ≡ rest → Refuses le f.path (f.number - 1) e
+pub include-tells : (A B : Type 0) (test : Test) (told : Told) (o : OpenFiles) (f : OpenFile) (rest given : Bytes) (le : LineError) (e : ResolveError) (before now : Option (List Bytes)) → o.top ≡ Some f → f.include ≡ Some rest → given ≡ rest → e ≡ refused_at le f.path (f.number - 1)
     → LineFails {A = A} (looks_in (source_of o.system) told (words_of given)) (Err le) before now → passes test told o ≡ true → TellsFailed {A = B} test (Err e) before now
 include-tells A B test told o f rest given le e before now top include same r fails h =
     let source = source_of o.system in
@@ -237,10 +231,13 @@ first-passes test (g ∷ gs) zero f e h = let same : g ≡ f = cc in subst (λ (
 first-passes test (g ∷ gs) (suc i) f e h = first-passes test gs i f e (both-right (test g.path 0 g.path) (firsts_pass test gs) h)
 
 -- a failed read of a first file
-pub first-tells : (A : Type 0) (test : Test) (told : Told) (r : Lines) (f : FirstFile) (e : ResolveError) (before now : Option (List Bytes)) → slice_get r.firsts.items r.next_first ≡ Some f → Refuses (line_errors.Refused causes.ReadFault) f.path 0 e → FailsAmong (f.path ∷ []) before now
+pub first-tells : (A : Type 0) (test : Test) (told : Told) (r : Lines) (f : FirstFile) (path : Bytes) (e : ResolveError) (before now : Option (List Bytes)) → slice_get r.firsts.items r.next_first ≡ Some f → path ≡ f.path → FirstFails {A = Found} path (Err e) before now
     → all_pass test told r ≡ true → TellsFailed {A = A} test (Err e) before now
-first-tells A test told r f e before now named refused fails h =
-    tells-at A test f.path 0 (f.path ∷ []) e before now refused fails (both (test f.path 0 f.path) true (first-passes test r.firsts.items r.next_first f named (both-right (passes test told r.open_files) (firsts_pass test r.firsts.items) h)) refl)
+first-tells A test told r f path errors.OutOfMemory before now named same fails h = fails
+first-tells A test told r f path (errors.At file line cause) before now named same fails h =
+    let passes_it : test f.path 0 f.path ≡ true = first-passes test r.firsts.items r.next_first f named (both-right (passes test told r.open_files) (firsts_pass test r.firsts.items) h) in
+    let here : test path 0 path ≡ true = rw same passes_it in
+    tells-at A test path 0 (path ∷ []) (errors.At file line cause) before now fails.0 fails.1 (both (test path 0 path) true here refl)
 
 -- ---- readers
 

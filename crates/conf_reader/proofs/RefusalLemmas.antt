@@ -7,10 +7,11 @@ use Rattle.conf_rules.specs.declared.causes.Cause.{Cause}
 use Rattle.conf_rules.specs.declared.causes.Cause.TheVariants as causes
 use Rattle.conf_rules.specs.declared.causes.ResolveError.{ResolveError}
 use Rattle.conf_rules.specs.declared.causes.ResolveError.TheVariants as errors
+use Rattle.conf_reader.specs.declared.errors.LineError.{LineError}
 use Rattle.conf_reader.specs.declared.errors.LineError.TheVariants as line_errors
 use Rattle.conf_reader.specs.declared.files.Found.{Found}
 use Rattle.conf_reader.specs.declared.files.Found.TheVariants.{Nothing, TooLarge, Holds}
-use Rattle.conf_reader.specs.Results.{Refuses}
+use Rattle.conf_reader.specs.Results.{Refuses, refused_at}
 use Rattle.conf_rules.specs.Texts.{Bytes}
 use Rattle.conf_rules.specs.Told.{Told}
 use Rattle.conf_rules.specs.Includes.{Source, file_at, file_of}
@@ -83,6 +84,11 @@ refused-as before f g m n c d r file number cause = record { line = r.line; rest
 -- an error that is this refusal
 abbrev pub moved : List Line → List Line → ResolveError → Type 0
 moved before after e = Moves {A = Unit {0}} before after (Err e)
+
+-- a refusal that wants no memory is one
+pub refuses-at : (le : LineError) (file : Bytes) (number : ℕ) (e : ResolveError) → e ≡ refused_at le file number → Refuses le file number e
+refuses-at line_errors.OutOfMemory file number e r = r
+refuses-at (line_errors.Refused cause) file number e r = subst (λ x. Refuses (line_errors.Refused cause) file number x) (sym r) refl
 
 pub moves-refused : (before after : List Line) (file : Bytes) (number : ℕ) (cause : Cause) (e : ResolveError) → Refuses (line_errors.Refused cause) file number e → RefusesFirst before file number cause → moved before after e
 moves-refused before after file number cause errors.OutOfMemory r first = tt

@@ -8,6 +8,8 @@ use Rattle.std.proofs.Math.ListN.{drop_of_length-le}
 use Rattle.mux_outside.specs.declared.reading.Reading.{Reading}
 use Rattle.conf_rules.specs.declared.causes.LexError.{LexError}
 use Rattle.conf_rules.specs.declared.causes.ResolveError.{ResolveError}
+use Rattle.conf_rules.specs.declared.causes.ResolveError.TheVariants as errors
+use Rattle.conf_reader.specs.declared.files.Found.{Found}
 use Rattle.conf_rules.specs.declared.causes.TokenError.{TokenError}
 use Rattle.conf_rules.specs.declared.asked.ConfigFrom.{ConfigFrom}
 use Rattle.conf_rules.specs.declared.asked.ConfigFrom.TheVariants.{Standard, Nothing, File}
@@ -26,8 +28,8 @@ use Rattle.conf_reader.specs.declared.stack.OpenFiles.{OpenFiles}
 use Rattle.conf_reader.specs.declared.reader.FirstFile.{FirstFile}
 use Rattle.conf_reader.specs.declared.reader.Lines.{Lines}
 use Rattle.conf_reader.specs.Firsts.{firsts_of}
-use Rattle.conf_reader.specs.Left.{source_of, stack, IsSettled, HeadIs, Names, heading_of, gone, include_of, named_as, named_by}
-use Rattle.conf_reader.specs.ToRead.{names_left, file_reads, files_read, open_reads, first_reads, all_read, reading_of, ReadsTo, ReadsSome, Notes, LineNotes}
+use Rattle.conf_reader.specs.Left.{source_of, IsSettled, HeadIs, Names, heading_of, gone, include_of, named_as, named_by}
+use Rattle.conf_reader.specs.ToRead.{names_left, file_reads, files_read, open_reads, first_reads, all_read, reading_of, ReadsTo, ReadsSome, Notes, NotesFirst, LineNotes}
 use Rattle.conf_reader.specs.Reads.{IsOver}
 use Rattle.conf_reader.specs.declared.line.ConfLine.{ConfLine}
 use Rattle.conf_reader.proofs.OpenLemmas.{drop-at}
@@ -334,6 +336,11 @@ names-at t f path fact top at n = subst (λ p. IfSome p fact) at (subst (λ x. N
 -- a path that was read, behind which the call fails
 pub fails-behind : (path : Bytes) (before rest : List Bytes) (readings now : Option (List Reading)) → before ≡ path ∷ rest → now ≡ option_map (λ rs. rs ++ reading_of path ∷ []) readings → ReadsSome before readings now
 fails-behind path before rest readings now e n = (rest, one-read path before rest readings now e n)
+
+-- a first file's read, or the memory for it, failed
+pub first-fails : (path given : Bytes) (before rest : List Bytes) (e : ResolveError) (readings now : Option (List Reading)) → given ≡ path → before ≡ path ∷ rest → NotesFirst {A = Found} given (Err e) readings now → ReadsSome before readings now
+first-fails path given before rest errors.OutOfMemory readings now same is n = none-read before readings now n
+first-fails path given before rest (errors.At file line cause) readings now same is n = fails-behind path before rest readings now is (subst (λ p. now ≡ option_map (λ rs. rs ++ reading_of p ∷ []) readings) same n)
 
 pub first-each : (r : Lines) (fact : FirstFile → Type 0) → ((f : FirstFile) → slice_get r.firsts.items r.next_first ≡ Some f → fact f) → IfSome (slice_get r.firsts.items r.next_first) fact
 first-each r fact h = by (slice_get r.firsts.items r.next_first) refl

@@ -30,7 +30,7 @@ use Rattle.conf_reader.specs.declared.stack.Stand.TheVariants as stands
 use Rattle.conf_reader.specs.declared.files.Found.{Found}
 use Rattle.conf_reader.specs.declared.files.Found.TheVariants.{Nothing, TooLarge, Holds}
 use Rattle.conf_reader.specs.declared.errors.LineError.TheVariants as line_errors
-use Rattle.conf_reader.specs.Results.{Refuses}
+use Rattle.conf_reader.specs.Results.{Refuses, refused_at}
 use Rattle.conf_reader.specs.Blocks.{Blocks, or_none, IsLine, open_behind}
 
 -- the source of files
@@ -164,6 +164,11 @@ StandOf old new stands.End = (new ≡ old) × (new.top ≡ None)
 abbrev pub RefusesTop : Option OpenFile → Cause → ResolveError → Type 0
 RefusesTop None cause error = Unit {0}
 RefusesTop (Some f) cause error = Refuses (line_errors.Refused cause) f.path (f.number - 1) error
+
+-- the refusal at the line that an open file read last, whatever memory there is
+abbrev pub GivesUp : Option OpenFile → LineError → ResolveError → Type 0
+GivesUp top error refusal =
+    IfSome top (λ f. refusal ≡ refused_at error f.path (f.number - 1))
 
 -- a refusal of the file that an open file opens next
 abbrev pub RefusesNext : Option OpenFile → Cause → ResolveError → Type 0

@@ -46,6 +46,13 @@ LineFails paths (Err (line_errors.Refused causes.ReadFault)) before now =
     FailsAmong paths before now
 LineFails paths result before now = now ≡ before
 
+-- the same of a file that no line includes: the refusal is told at its line 0
+abbrev pub FirstFails : {A : Type 0} → Bytes → Result A ResolveError → Option (List Bytes)
+    → Option (List Bytes) → Type 0
+FirstFails path (Err (At file line cause)) before now =
+    (At file line cause ≡ At path 0 causes.ReadFault) × FailsAmong (path ∷ []) before now
+FirstFails path result before now = now ≡ before
+
 -- ---- where a failed read is told
 
 -- whether a failed read may be told in a file, at a line's number, of a path
@@ -87,11 +94,12 @@ pub record FailsAt (test : Test) (file : Bytes) (number : ℕ) (before now : Opt
   pub is : now ≡ option_map (λ failed. failed ++ path ∷ []) before
   pub passes : test file number path ≡ true
 
--- a failed read is told where its path may be, and no other answer comes behind one
+-- a failed read is told where its path may be, and no other answer comes behind one, nor does want
+-- of memory
 abbrev pub TellsFailed : {A : Type 0} → Test → Result A ResolveError → Option (List Bytes)
     → Option (List Bytes) → Type 0
 TellsFailed test (Ok x) before now = now ≡ before
-TellsFailed test (Err OutOfMemory) before now = Unit {0}
+TellsFailed test (Err OutOfMemory) before now = now ≡ before
 TellsFailed test (Err (At file number causes.ReadFault)) before now =
     FailsAt test file number before now
 TellsFailed test (Err (At file number cause)) before now = now ≡ before

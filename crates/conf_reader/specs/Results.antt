@@ -1,5 +1,5 @@
 -- What the calls of this crate returned.
-use Rattle.std.specs.Prelude.{◌≡◌, ◌≤◌, ℕ, Bool, true, false, Result, Ok, Err}
+use Rattle.std.specs.Prelude.{◌≡◌, ℕ, Bool, true, false, Result, Ok, Err}
 use Rattle.std.specs.Bool.{MatchBool}
 use Rattle.mux_outside.specs.declared.file_error.FileError.{FileError}
 use Rattle.mux_outside.specs.declared.file_error.FileError.TheVariants as file_errors
@@ -77,18 +77,23 @@ Refuses line_errors.OutOfMemory file line error = error ≡ OutOfMemory
 Refuses (line_errors.Refused cause) file line OutOfMemory = Unit {0}
 Refuses (line_errors.Refused cause) file line (At f l c) = At f l c ≡ At file line cause
 
--- A read fault comes only where the count of faults rose, and every other answer leaves it, but
--- want of memory, before which a read may have failed.
+-- the same where the path of the file is given away for it, which wants no memory
+abbrev pub refused_at : LineError → Bytes → ℕ → ResolveError
+refused_at line_errors.OutOfMemory file line = OutOfMemory
+refused_at (line_errors.Refused cause) file line = At file line cause
+
+-- a read fault comes only where the count of faults rose, and every other answer leaves it, want of
+-- memory too
 abbrev pub HasReadCause : {A : Type 0} → Result A ResolveError → ℕ → ℕ → Type 0
 HasReadCause (Ok x) before now = now ≡ before
-HasReadCause (Err OutOfMemory) before now = before ≤ now
+HasReadCause (Err OutOfMemory) before now = now ≡ before
 HasReadCause (Err (At file line cause)) before now =
     MatchBool (is_fault cause) (Rose before now) (now ≡ before)
 
 -- the same of a refusal, whose fault is one of reading
 abbrev pub HasFilesCause : {A : Type 0} → Result A ResolveError → ℕ → ℕ → Type 0
 HasFilesCause (Ok x) before now = now ≡ before
-HasFilesCause (Err OutOfMemory) before now = before ≤ now
+HasFilesCause (Err OutOfMemory) before now = now ≡ before
 HasFilesCause (Err (At file line cause)) before now = IsFilesCause cause before now
 
 -- whether a refusal tells that a command failed to run

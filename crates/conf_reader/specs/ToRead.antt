@@ -4,6 +4,7 @@ use Rattle.std.specs.Option.{option_map}
 use Rattle.mux_outside.specs.declared.pairs.Pair.{Pair}
 use Rattle.mux_outside.specs.declared.reading.Reading.{Reading}
 use Rattle.conf_rules.specs.declared.causes.ResolveError.{ResolveError}
+use Rattle.conf_rules.specs.declared.causes.ResolveError.TheVariants.{OutOfMemory}
 use Rattle.conf_rules.specs.Texts.{Bytes}
 use Rattle.conf_rules.specs.Heads.{lines_of}
 use Rattle.conf_rules.specs.Words.{words_of}
@@ -60,6 +61,12 @@ all_read told r =
 -- a call of `read`: it asks for one byte more than a file may have
 abbrev pub reading_of : Bytes → Reading
 reading_of path = record { path = path; most = size_limit + 1 }
+
+-- one path was read, unless memory was wanting
+abbrev pub NotesFirst : {A : Type 0} → Bytes → Result A ResolveError → Option (List Reading)
+    → Option (List Reading) → Type 0
+NotesFirst path (Err OutOfMemory) readings now = now ≡ readings
+NotesFirst path result readings now = now ≡ option_map (λ rs. rs ++ reading_of path ∷ []) readings
 
 -- the first of these paths were read, in their order, and these are left
 pub record ReadsTo (before left : List Bytes) (readings now : Option (List Reading)) : Type 0 where

@@ -1,6 +1,6 @@
 ghost use Rattle.std.specs.Prelude.{◌≡◌};
 ghost use Rattle.conf_reader.specs.declared.errors.LineError.TheVariants as line_errors;
-ghost use Rattle.conf_reader.specs.Results.{of_lex, of_value, of_match, of_eval, of_token, of_file, Refuses};
+ghost use Rattle.conf_reader.specs.Results.{of_lex, of_value, of_match, of_eval, of_token, of_file, Refuses, refused_at};
 
 use conf_match::EvalError;
 use conf_rules::{Cause, LexError, MatchError, ResolveError, TokenError, ValueError};
@@ -100,5 +100,15 @@ pub fn refuse(alloc: Global, file: &[u8], line: u64, error: LineError) -> Resolv
             Ok(file) => ResolveError::At { file, line, cause },
             Err(_) => ResolveError::OutOfMemory,
         },
+    }
+}
+
+/// The refusal of a line of a file whose path is given away for it; it takes no memory.
+pub fn refuse_in(file: Text, line: u64, error: LineError) -> ResolveError
+    ensures { result ≡ refused_at error file line }
+{
+    match error {
+        LineError::OutOfMemory => ResolveError::OutOfMemory,
+        LineError::Refused(cause) => ResolveError::At { file, line, cause },
     }
 }

@@ -1,10 +1,9 @@
 //! The files that the last line includes.
 
-ghost use Rattle.std.specs.Prelude.{◌≡◌, ◌-◌, IfSome, IsSome, OnOk};
+ghost use Rattle.std.specs.Prelude.{◌≡◌, OnOk};
 ghost use Rattle.std.specs.Option.{option_copied, option_and_then, option_map};
 ghost use Rattle.conf_tokens.specs.Known.{known};
 
-use crate::errors::{LineError, refuse};
 use crate::paths::named_paths;
 use crate::stack::OpenFiles;
 use conf_rules::ResolveError;
@@ -14,7 +13,7 @@ use ssh_fields::{Text, Texts};
 impl OpenFiles {
     ghost use Rattle.conf_reader.specs.Left.{IsReady, IsGiven, named_as};
     ghost use Rattle.conf_reader.specs.Moving.{KeepsBounds, ExpandsOver};
-    ghost use Rattle.conf_reader.specs.Results.{Refuses, HasFilesCause};
+    ghost use Rattle.conf_reader.specs.Results.{HasFilesCause};
     ghost use Rattle.conf_reader.specs.Looking.{ExpandsLooks};
     ghost use Rattle.conf_reader.specs.ToRead.{ExpandNotes};
 
@@ -37,20 +36,6 @@ impl OpenFiles {
             None => None,
             Some(top) => top.include.as_ref(),
         }
-    }
-
-    /// The refusal of the files that the last line names.
-    pub fn include_refusal(&self, error: LineError) -> ResolveError
-        requires some { IsSome self.now.top }
-        ensures { IfSome self.now.top (λ f. Refuses error f.path (f.number - 1) result) }
-    {
-        let Some(top) = &self.top else { unreachable!() };
-        refuse(
-            self.alloc,
-            top.path.as_bytes(),
-            top.number.saturating_sub(1),
-            error,
-        )
     }
 
     /// Finds the files that the last line includes.
@@ -89,7 +74,7 @@ impl OpenFiles {
                 self.name(paths);
                 Ok(())
             }
-            Err(e) => Err(self.include_refusal(e)),
+            Err(e) => Err(self.give_up(e)),
         }
     }
 }

@@ -4,8 +4,13 @@ ghost use Rattle.std.specs.Bool.{MatchBool};
 ghost use Rattle.std.specs.List.{list_all};
 ghost use Rattle.conf_rules.specs.Told.{Told};
 ghost use Rattle.conf_reader.specs.Blocks.{Blocks};
+ghost use Rattle.conf_reader.specs.Known.{TellsFiles};
+ghost use Rattle.conf_reader.specs.Left.{IsFound};
+ghost use Rattle.conf_reader.specs.Looking.{FirstFails};
+ghost use Rattle.conf_reader.specs.Results.{HasFilesCause};
+ghost use Rattle.conf_reader.specs.ToRead.{NotesFirst};
 
-use crate::errors::{LineError, refuse};
+use crate::errors::{LineError, refuse, refuse_in};
 use crate::files::{Found, read_file};
 use crate::line::ConfLine;
 use crate::open_file::OpenFile;
@@ -45,11 +50,29 @@ pub struct Lines {
     pub read: u64,
 }
 
+/// What a file holds that no line includes, or the refusal of a failed read at its line 0: the
+/// memory for it is taken before the read.
+fn first_found<F: Files>(alloc: Global, path: &[u8], files: &mut F) -> Result<Found, ResolveError>
+    ensures found { (told : Told) → TellsFiles (F.told files.old) told
+        → IfOk result (λ found. IsFound found (told.content path.now)) }
+    ensures cause { HasFilesCause result (F.faults files.old) (F.faults files.new) }
+    ensures failed { FirstFails path.now result (F.failed files.old) (F.failed files.new) }
+    ensures noted { NotesFirst path.now result (F.readings files.old) (F.readings files.new) }
+    ensures told { F.told files.new ≡ F.told files.old }
+{
+    let given = Text::copy(alloc, path)?;
+    match read_file(path, files) {
+        Ok(found) => Ok(found),
+        Err(FileError::Failed) => Err(refuse_in(given, 0, LineError::Refused(Cause::ReadFault))),
+        Err(FileError::OutOfMemory) => Err(ResolveError::OutOfMemory),
+    }
+}
+
 impl Lines {
     ghost use Rattle.conf_reader.specs.declared.errors.LineError.TheVariants as line_errors;
     ghost use Rattle.conf_reader.specs.Left.{left, IsReady, is_plain_first, BeginsWith, IsLacking};
     ghost use Rattle.conf_reader.specs.Moving.{IsAtLine, Settles, KeepsBounds, AllMove};
-    ghost use Rattle.conf_reader.specs.Results.{Refuses, HasFilesCause};
+    ghost use Rattle.conf_reader.specs.Results.{Refuses};
     ghost use Rattle.conf_reader.specs.Looking.{KeepsLooks, AllLook};
     ghost use Rattle.conf_reader.specs.ToRead.{AllNote, all_read};
 
@@ -167,21 +190,19 @@ impl Lines {
             return Ok(false);
         };
         let required = first.required;
-        match read_file(first.path.as_bytes(), files) {
-            Ok(Found::Nothing) => {
+        match first_found(self.alloc, first.path.as_bytes(), files)? {
+            Found::Nothing => {
                 if required {
                     return Err(self.file_refusal(Cause::NoFile));
                 }
                 self.pass();
                 Ok(true)
             }
-            Ok(Found::TooLarge) => Err(self.file_refusal(Cause::TooLarge)),
-            Ok(Found::Holds(text)) => {
+            Found::TooLarge => Err(self.file_refusal(Cause::TooLarge)),
+            Found::Holds(text) => {
                 self.begin(text)?;
                 Ok(true)
             }
-            Err(FileError::Failed) => Err(self.file_refusal(Cause::ReadFault)),
-            Err(FileError::OutOfMemory) => Err(ResolveError::OutOfMemory),
         }
     }
 

@@ -4,7 +4,7 @@ ghost use Rattle.conf_rules.specs.Sources.{depth_limit, size_limit};
 ghost use Rattle.conf_rules.specs.Told.{Told};
 ghost use Rattle.conf_reader.specs.Blocks.{Blocks};
 
-use crate::errors::{LineError, refuse};
+use crate::errors::{LineError, refuse, refuse_in};
 use crate::files::{Found, read_file};
 use crate::open_file::OpenFile;
 use conf_rules::{Cause, MAX_DEPTH, ResolveError};
@@ -36,7 +36,7 @@ pub enum Stand {
 }
 
 impl OpenFiles {
-    ghost use Rattle.conf_reader.specs.Left.{open_left, IsReady, IsSettled, work, Moves, Names, RefusesTop, RefusesNext, StandOf, IsFound};
+    ghost use Rattle.conf_reader.specs.Left.{open_left, IsReady, IsSettled, work, Moves, Names, RefusesTop, RefusesNext, GivesUp, StandOf, IsFound};
     ghost use Rattle.conf_reader.specs.Moving.{NamesPath, Settles, KeepsLeft, KeepsBounds, MovesOver};
     ghost use Rattle.conf_reader.specs.Results.{HasFilesCause, is_fault_at};
     ghost use Rattle.conf_reader.specs.Looking.{KeepsLooks, MovesLooks};
@@ -138,6 +138,18 @@ impl OpenFiles {
         )
     }
 
+    /// The refusal of the line that the last file read, with which the reading ends: the file is
+    /// given up for it, and it takes no memory.
+    pub fn give_up(&mut self, error: LineError) -> ResolveError
+        requires some { IsSome self.old.top }
+        ensures { GivesUp self.old.top error result }
+    {
+        let Some(top) = self.top.take() else {
+            unreachable!()
+        };
+        refuse_in(top.path, top.number.saturating_sub(1), error)
+    }
+
     /// The refusal of the file that is opened next.
     pub fn too_large(&self) -> ResolveError
         requires some { IsSome self.now.top }
@@ -220,7 +232,7 @@ impl OpenFiles {
                     self.open(found)?;
                     Ok(Stand::Moved)
                 }
-                Err(FileError::Failed) => Err(self.refusal(Cause::ReadFault)),
+                Err(FileError::Failed) => Err(self.give_up(LineError::Refused(Cause::ReadFault))),
                 Err(FileError::OutOfMemory) => Err(ResolveError::OutOfMemory),
             },
             None => {

@@ -1,5 +1,5 @@
 -- Where a command's fault comes from.
-use Rattle.std.proofs.Common.{◌≡◌, ℕ, Err, refl, subst, arith}
+use Rattle.std.proofs.Common.{◌≡◌, ℕ, Err, refl, subst}
 use Rattle.conf_rules.specs.declared.causes.Cause.TheVariants as causes
 use Rattle.conf_rules.specs.declared.causes.ResolveError.{ResolveError}
 use Rattle.conf_rules.specs.declared.causes.ResolveError.TheVariants as errors
@@ -7,7 +7,7 @@ use Rattle.conf_fold.specs.Results.{HasRunCause}
 use Rattle.conf_resolve.specs.Causes.{HasCauses}
 
 line-causes : (e : ResolveError) (files before now : ℕ) → HasRunCause {A = Unit {0}} (Err e) before now → HasCauses {A = Unit {0}} (Err e) files files before now
-line-causes errors.OutOfMemory files before now h = (omega arith, h)
+line-causes errors.OutOfMemory files before now h = (refl, h)
 line-causes (errors.At file line causes.RunFault) files before now h = (refl, h)
 line-causes (errors.At file line causes.ReadFault) files before now h = absurd h
 line-causes (errors.At file line cause) files before now h = (refl, h)

@@ -143,13 +143,13 @@ second-stands told mid r before now failed failed-mid failed-now none b same f =
 -- ---- where no read failed
 
 pub none-fails : (e : ResolveError) (failed now : FailedPaths) → now ≡ failed → NoneFails {A = Unit {0}} (Err e) failed now
-none-fails errors.OutOfMemory failed now same = tt
+none-fails errors.OutOfMemory failed now same = same
 none-fails (errors.At file number causes.ReadFault) failed now same = tt
 none-fails (errors.At file number cause) failed now same = same
 
 -- what the reader tells
 pub none-told : (test : Test) (e : ResolveError) (failed mid now : FailedPaths) → mid ≡ failed → TellsFailed {A = Option ConfLine} test (Err e) mid now → NoneFails {A = Unit {0}} (Err e) failed now
-none-told test errors.OutOfMemory failed mid now same tells = tt
+none-told test errors.OutOfMemory failed mid now same tells = tells ∙ same
 none-told test (errors.At file number causes.ReadFault) failed mid now same tells = tt
 none-told test (errors.At file number cause) failed mid now same tells = tells ∙ same
 

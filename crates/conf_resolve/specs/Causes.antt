@@ -1,17 +1,16 @@
 -- Where the faults of a resolution come from.
-use Rattle.std.specs.Prelude.{◌≡◌, ◌≤◌, ℕ, Result, Ok, Err}
+use Rattle.std.specs.Prelude.{◌≡◌, ℕ, Result, Ok, Err}
 use Rattle.mux_outside.specs.Counts.{Rose}
 use Rattle.conf_rules.specs.declared.causes.Cause.TheVariants as causes
 use Rattle.conf_rules.specs.declared.causes.ResolveError.{ResolveError}
 use Rattle.conf_rules.specs.declared.causes.ResolveError.TheVariants.{At, OutOfMemory}
 
--- A read fault comes only where the count of the files' faults rose, and a run fault only where the
--- runner's did; every other answer leaves both counts, but want of memory, before which one may
--- have risen.
+-- a read fault comes only where the count of the files' faults rose, and a run fault only where the
+-- runner's did; every other answer leaves both counts, want of memory too
 abbrev pub HasCauses : {A : Type 0} → Result A ResolveError → ℕ → ℕ → ℕ → ℕ → Type 0
 HasCauses (Ok x) files files_now runner runner_now = (files_now ≡ files) × (runner_now ≡ runner)
-HasCauses (Err OutOfMemory) files files_now runner runner_now = (files ≤ files_now)
-    × (runner ≤ runner_now)
+HasCauses (Err OutOfMemory) files files_now runner runner_now = (files_now ≡ files)
+    × (runner_now ≡ runner)
 HasCauses (Err (At file line causes.ReadFault)) files files_now runner runner_now =
     Rose files files_now × (runner_now ≡ runner)
 HasCauses (Err (At file line causes.RunFault)) files files_now runner runner_now =

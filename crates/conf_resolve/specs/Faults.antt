@@ -74,8 +74,8 @@ FaultStands told all (At file number causes.RunFault) before now failed failed_n
     RunFails all file number before now
 FaultStands told all e before now failed failed_now = Unit {0}
 
--- no read failed, unless one is told, or memory was wanting
+-- no read failed, unless one is told
 abbrev pub NoneFails : {A : Type 0} → Result A ResolveError → FailedPaths → FailedPaths → Type 0
-NoneFails (Err OutOfMemory) failed now = Unit {0}
+NoneFails (Err OutOfMemory) failed now = now ≡ failed
 NoneFails (Err (At file number causes.ReadFault)) failed now = Unit {0}
 NoneFails result failed now = now ≡ failed

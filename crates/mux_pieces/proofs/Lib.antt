@@ -1,3 +1,5 @@
+mod Cuts
+mod Intrusion
 mod Orders
 mod Pieces
 mod Sayings

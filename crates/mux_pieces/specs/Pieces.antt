@@ -37,6 +37,32 @@ ItemsMakeRows =
     → log_of_journal (by_lists policy pid picks replies) marks
     ≡ log_of_journal (by_lists policy pid picks replies) others
 
+-- ---- journals that differ only in their cuts
+
+-- a mark behind others: a piece of the stream that gave the piece right before joins it, and a wait
+-- is left out
+abbrev pub joined_to : List Mark → Mark → List Mark
+joined_to (Gets s a ∷ before) (Gets t b) = elim (s == t) [
+  | true ↦ Gets s (a ++ b) ∷ before
+  | false ↦ Gets t b ∷ Gets s a ∷ before
+]
+joined_to before (Waits waiting want streams listens) = before
+joined_to before mark = mark ∷ before
+
+-- a journal without its waits, and with no cut between pieces that come one after another
+abbrev pub uncut : List Mark → List Mark
+uncut [] = []
+uncut (mark ∷ before) = joined_to (uncut before) mark
+
+-- journals that are the same but for waits and cuts make the same rows, with the same picks and
+-- replies
+abbrev pub CutsMakeNoDifference : Type 0
+CutsMakeNoDifference =
+    (policy : Policy) (pid : ℕ) (picks : List ℕ) (replies : List HouseReply)
+    (marks others : List Mark) → uncut marks ≡ uncut others
+    → log_of_journal (by_lists policy pid picks replies) marks
+    ≡ log_of_journal (by_lists policy pid picks replies) others
+
 -- ---- what is said is said by all bytes of a stream
 
 -- an item that this client says

@@ -1,4 +1,4 @@
-ghost use Rattle.mux_pieces.specs.Pieces.{PartsGiveAlike, JournalsGoOnAlike, ItemsMakeRows, SayingsAreOfBytes, HeardIsOfBytes, BytesMakeItems, BytesMakeRows};
+ghost use Rattle.mux_pieces.specs.Pieces.{PartsGiveAlike, JournalsGoOnAlike, CutsMakeNoDifference, ItemsMakeRows, SayingsAreOfBytes, HeardIsOfBytes, BytesMakeItems, BytesMakeRows};
 
 /// A piece that comes in two parts, with a wait between, gives the items that it gives as a whole.
 pub fn parts_give_alike()
@@ -9,6 +9,12 @@ pub fn parts_give_alike()
 /// same mark.
 pub fn journals_go_on_alike()
     ensures { JournalsGoOnAlike }
+{}
+
+/// Journals that are the same but for waits and for where the pieces of a stream are cut make the
+/// same rows, with the same picks and replies.
+pub fn cuts_make_no_difference()
+    ensures { CutsMakeNoDifference }
 {}
 
 /// The same items make the same rows, with the same picks and replies.

@@ -37,7 +37,7 @@ use Rattle.ssh_mux.proofs.MisreadLemmas.{some-ran}
 
 -- of a configuration that is refused
 pub refused-cause : (e : ResolveError) (f f' r r' : ℕ) → HasCauses {A = List Given} (Err e) f f' r r' → EndCause (shown (refused_as e)) f f' r r'
-refused-cause OutOfMemory f f' r r' h = h
+refused-cause OutOfMemory f f' r r' h = (omega (arith, h.0), omega (arith, h.1))
 refused-cause (At file line ReadFault) f f' r r' h = h
 refused-cause (At file line RunFault) f f' r r' h = h
 refused-cause (At file line cause) f f' r r' h = h

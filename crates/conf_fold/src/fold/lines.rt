@@ -7,7 +7,8 @@ ghost use Rattle.conf_rules.specs.Rows.{word_in, but_none};
 ghost use Rattle.conf_tokens.specs.Seen.{seen};
 ghost use Rattle.conf_tokens.specs.Known.{known};
 ghost use Rattle.conf_fold.specs.Entries.{entry_fits};
-ghost use Rattle.conf_reader.specs.Results.{Refuses, is_line_fault};
+ghost use Rattle.conf_reader.specs.Results.{Refuses, is_line_fault, refused_at};
+ghost use Rattle.conf_rules.specs.Results.{as_error};
 ghost use Rattle.conf_fold.specs.Results.{Evaluated, GivesLine, RanUnless, breaks_line, breaks_off, FailsInLine, FailsAt, HasLineCause, HasRunCause};
 ghost use Rattle.conf_fold.specs.Stands.{OnNext, WhereTold, FoldsEntry, Folds, next_row, setting, view_of, entry_so_far};
 ghost use Rattle.conf_rules.specs.declared.key.Key.TheVariants as keys;
@@ -19,7 +20,24 @@ use conf_reader::{ConfLine, LineError, refuse};
 use conf_rules::{Criteria, Entry, Key, ResolveError};
 use conf_tokens::View;
 use mux_outside::{Facts, Runner};
+use ssh_fields::Text;
 use std::alloc::Global;
+
+/// What came of a line; an error is told at its file, whose path is given away for it, and its
+/// number. It takes no memory.
+fn placed(taken: Result<(), LineError>, file: Text, number: u64) -> Result<(), ResolveError>
+    ensures { result ≡ as_error (λ e. refused_at e file number) taken }
+{
+    match taken {
+        Ok(()) => Ok(()),
+        Err(LineError::OutOfMemory) => Err(ResolveError::OutOfMemory),
+        Err(LineError::Refused(cause)) => Err(ResolveError::At {
+            file,
+            line: number,
+            cause,
+        }),
+    }
+}
 
 /// Whether criteria hold; an error is one of a line.
 fn evaluate<R: Runner>(
@@ -178,7 +196,8 @@ impl Fold {
     /// Takes one line of a file, behind those taken so far: `opens` where it is the first of its
     /// reading of the file, which lies at most as deep as files are open. A refusal is that of the
     /// line; settings stay. Criteria of an active Match line are evaluated here, and the runner's
-    /// fault comes only where its count rose.
+    /// fault comes only where its count rose, and always there: the memory for a refusal is taken
+    /// before a command is run.
     pub fn line<R: Runner>(
         &mut self,
         line: &ConfLine,
@@ -207,10 +226,10 @@ impl Fold {
             Ok(entry) => entry,
             Err(e) => return Err(self.refused(line, e)),
         };
-        match self.take(entry, line, facts, runner) {
-            Ok(()) => Ok(()),
-            Err(e) => Err(self.refused(line, e)),
-        }
+        let Ok(file) = Text::copy(self.alloc, line.file.as_bytes()) else {
+            return Err(ResolveError::OutOfMemory);
+        };
+        placed(self.take(entry, line, facts, runner), file, line.number)
     }
 
     /// What a line says behind those given so far.

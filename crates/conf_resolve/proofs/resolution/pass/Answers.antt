@@ -163,7 +163,7 @@ returns-in_err-line-2-clause-fault g c = λ told asked facts tells status pass r
 pub returns-in_err-reader-clause-failed : goal.returns-in_err-reader-clause-failed
 returns-in_err-reader-clause-failed g c = λ told asked facts tells status.
     let p = err_from_is_err_and c.from_residual.result c.from_residual.ensures.1 in
-    rw (p.1, p.2) tt
+    rw (p.1, p.2) refl
 
 pub returns-in_err-line-clause-failed : goal.returns-in_err-line-clause-failed
 returns-in_err-line-clause-failed g c = λ told asked facts tells status.

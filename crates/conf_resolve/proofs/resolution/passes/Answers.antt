@@ -84,7 +84,7 @@ returns-in_err-pass-clause-failed g c = λ told asked facts tells status.
 pub returns-in_err-second-clause-failed : goal.returns-in_err-second-clause-failed
 returns-in_err-second-clause-failed g c = λ told asked facts tells status.
     let p = err_from_is_err_and c.from_residual-in_err-second.result c.from_residual-in_err-second.ensures.1 in
-    rw (p.1, p.2) tt
+    rw (p.1, p.2) (c.in_ok-pass.ensures.failed told asked facts tells status)
 
 pub returns-then-branch-clause-failed : goal.returns-then-branch-clause-failed
 returns-then-branch-clause-failed g c = λ told asked facts tells status.

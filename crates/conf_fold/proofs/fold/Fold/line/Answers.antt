@@ -1,7 +1,8 @@
-use Rattle.std.proofs.Common.{Err, refl}
-use Rattle.conf_fold.specs.Results.{breaks_line, breaks_off}
-use Rattle.conf_fold.proofs.RefusedLemmas.{entry-refused, placed-refusal}
-use Rattle.conf_fold.proofs.RanLemmas.{ran-weaker, refused-ran, breaks-placed, never-failed, failed-placed, cause-placed, no-cause}
+use Rattle.std.proofs.Common.{◌≡◌, ◌∙◌, Err, ap, refl, subst, sym}
+use Rattle.conf_fold.specs.Results.{breaks_line, breaks_off, FailsAt}
+use Rattle.conf_fold.specs.Stands.{Folds, next_row}
+use Rattle.conf_fold.proofs.RefusedLemmas.{entry-refused, placed-refusal, placed-folds}
+use Rattle.conf_fold.proofs.RanLemmas.{ran-weaker, refused-ran, breaks-placed, never-failed, plain-placed, placed-fails, some-broken, Placed}
 use Rattle.conf_fold.proofs.fold.Fold.line.Goals as goal
 
 pub returns-in-Err-clause-folds : goal.returns-in-Err-clause-folds
@@ -18,27 +19,23 @@ returns-in-Err-clause-failed g c = λ told pass rows blocks place l facts status
     never-failed c.in-Err.e _ _ c.refused.result _ _ _ c.in-Err.ensures.plain c.refused.ensures
 
 pub returns-in-Err-clause-cause : goal.returns-in-Err-clause-cause
-returns-in-Err-clause-cause g c = cause-placed c.in-Err.e _ _ _ _ c.refused.result c.refused.ensures (no-cause c.in-Err.e _ _ c.in-Err.ensures.plain refl)
+returns-in-Err-clause-cause g c = plain-placed c.in-Err.e _ _ _ _ c.refused.result c.in-Err.ensures.plain refl c.refused.ensures
 
-pub returns-in-Ok-take-clause-folds : goal.returns-in-Ok-take-clause-folds
-returns-in-Ok-take-clause-folds g c = λ told pass rows blocks place l facts status s n. c.in-Ok-take.ensures.folds told pass rows blocks place l facts status s n c.in-Ok.ensures.read
+pub returns-in_default-clause-ran : goal.returns-in_default-clause-ran
+returns-in_default-clause-ran g c = λ told pass rows blocks place l facts status s n. some-broken _ _ _ refl
 
-pub returns-in-Ok-take-clause-ran : goal.returns-in-Ok-take-clause-ran
-returns-in-Ok-take-clause-ran g c = λ told pass rows blocks place l facts status s n. c.in-Ok-take.ensures.ran told pass rows blocks place l facts status s n c.in-Ok.ensures.read
+pub returns-clause-folds : goal.returns-clause-folds
+returns-clause-folds g c = λ told pass rows blocks place l facts status s n.
+    let given = c.args.line.now in
+    let file : c.in-Ok-copy.file ≡ given.file = c.in-Ok-copy.ensures ∙ c.as_bytes.ensures in
+    let is : c.placed.result ≡ Placed c.take.result given.file given.number = c.placed.ensures ∙ ap (λ f. Placed c.take.result f given.number) file in
+    subst (λ r. Folds told pass rows blocks given place l r c.take.new.self) (sym is)
+    (placed-folds told pass rows blocks given place l c.take.result c.take.new.self n.is_line (c.take.ensures.folds told pass rows blocks place l facts status s n c.in-Ok.ensures.read))
 
-pub returns-in-Err-take-clause-folds : goal.returns-in-Err-take-clause-folds
-returns-in-Err-take-clause-folds g c = λ told pass rows blocks place l facts status s n.
-    placed-refusal told pass rows blocks c.args.line.now place l _ _ _ n.is_line c.refused-in-Err-take.ensures (c.in-Err-take.ensures.folds told pass rows blocks place l facts status s n c.in-Ok.ensures.read)
-
-pub returns-in-Err-take-clause-ran : goal.returns-in-Err-take-clause-ran
-returns-in-Err-take-clause-ran g c = λ told pass rows blocks place l facts status s n.
-    ran-weaker (breaks_line {A = Unit {0}} (Err c.in-Err-take.e)) (breaks_off {A = Unit {0}} (Err c.refused-in-Err-take.result)) _ _ _ (breaks-placed c.in-Err-take.e _ _ c.refused-in-Err-take.result c.refused-in-Err-take.ensures)
-    (c.in-Err-take.ensures.ran told pass rows blocks place l facts status s n c.in-Ok.ensures.read)
-
-pub returns-in-Err-take-clause-failed : goal.returns-in-Err-take-clause-failed
-returns-in-Err-take-clause-failed g c = λ told pass rows blocks place l facts status s n.
-    failed-placed c.in-Err-take.e _ _ c.refused-in-Err-take.result _ _ _ c.refused-in-Err-take.ensures
-    (c.in-Err-take.ensures.failed told pass rows blocks place l facts status s n c.in-Ok.ensures.read)
-
-pub returns-in-Err-take-clause-cause : goal.returns-in-Err-take-clause-cause
-returns-in-Err-take-clause-cause g c = cause-placed c.in-Err-take.e _ _ _ _ c.refused-in-Err-take.result c.refused-in-Err-take.ensures c.in-Err-take.ensures.cause
+pub returns-clause-failed : goal.returns-clause-failed
+returns-clause-failed g c = λ told pass rows blocks place l facts status s n.
+    let given = c.args.line.now in
+    let file : c.in-Ok-copy.file ≡ given.file = c.in-Ok-copy.ensures ∙ c.as_bytes.ensures in
+    let is : c.placed.result ≡ Placed c.take.result given.file given.number = c.placed.ensures ∙ ap (λ f. Placed c.take.result f given.number) file in
+    subst (λ r. FailsAt given.file given.number r (g.R.Runner.ran c.args.runner.now) (g.R.Runner.ran c.take.new.runner) (next_row told pass rows place l).ran) (sym is)
+    (placed-fails c.take.result given.file given.number _ _ _ (c.take.ensures.failed told pass rows blocks place l facts status s n c.in-Ok.ensures.read))

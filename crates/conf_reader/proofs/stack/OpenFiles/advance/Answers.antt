@@ -6,7 +6,6 @@ use Rattle.conf_reader.proofs.RefusalLemmas.{ready-top, none-left, one-left-path
 use Rattle.conf_reader.specs.Looking.{FailsAmong}
 use Rattle.conf_reader.proofs.LookingLemmas.{top-tells}
 use Rattle.conf_reader.specs.Left.{IsFound}
-use Rattle.conf_reader.specs.ToRead.{open_reads, reading_of, ReadsSome}
 use Rattle.conf_reader.proofs.ToReadLemmas.{fails-behind, names-at, none-read, one-read, path-first, stays-read}
 use Rattle.conf_reader.proofs.stack.OpenFiles.advance.Goals as goal
 
@@ -33,7 +32,7 @@ returns-in-Err-Failed-clause-looks g c = λ told test h.
     let f = c.in-Some.top in
     let named : slice_get f.named f.next ≡ Some c.in-Some-next_path.path.now = sym c.in-Some-next_path.ensures in
     let fails : FailsAmong (c.in-Some-next_path.path.now ∷ []) (g.F.Files.failed c.args.files.now) (g.F.Files.failed c.read_file.new.files) = subst (λ p. FailsAmong (p ∷ []) (g.F.Files.failed c.args.files.now) (g.F.Files.failed c.read_file.new.files)) c.as_bytes.ensures (rw c.in-Err-Failed.field-0-is at c.in-Err-Failed.ensures.failed) in
-    (top-tells Stand test told c.args.self.now f c.in-Some-next_path.path.now c.refusal.result _ _ c.in-Some.is (ready-top c.args.self.now f c.requires.ready c.in-Some.is) named (rw c.in-Some.is at c.refusal.ensures) fails h, tt)
+    (top-tells Stand test told c.args.self.now f c.in-Some-next_path.path.now c.give_up.result _ _ c.in-Some.is (ready-top c.args.self.now f c.requires.ready c.in-Some.is) named (rw c.in-Some.is at c.give_up.ensures) fails h, tt)
 
 pub returns-in_default-clause-noted : goal.returns-in_default-clause-noted
 returns-in_default-clause-noted g c = λ told tells. stays-read _ _ _ _ refl refl

@@ -1,8 +1,9 @@
-use Rattle.std.proofs.Common.{◌∙◌, ℕ, List, sym, ap, refl}
+use Rattle.std.proofs.Common.{◌∙◌, ◌-◌, ℕ, List, sym, ap}
 use Rattle.std.specs.Option.{option_map}
 use Rattle.conf_reader.specs.declared.stack.OpenFiles.{OpenFiles}
 use Rattle.conf_reader.specs.Left.{open_left, named_as}
 use Rattle.conf_reader.proofs.ExpandLemmas.{names-left, include-refused, top-include}
+use Rattle.conf_reader.proofs.RefusalLemmas.{refuses-at}
 use Rattle.conf_reader.proofs.LookingLemmas.{named-looks, include-tells}
 use Rattle.conf_reader.specs.ToRead.{open_reads}
 use Rattle.conf_reader.proofs.ToReadLemmas.{named-reads, none-read, stays-read}
@@ -18,8 +19,8 @@ returns-in-Ok-clause-moves g c = λ told place blocks tells facts original.
 pub returns-in-Err-clause-moves : goal.returns-in-Err-clause-moves
 returns-in-Err-clause-moves g c = λ told place blocks tells facts original.
     let t = top-include c.args.self.now.top c.in-Some.rest.now c.in-Some.ensures in
-    include-refused told place blocks c.args.self.now t.0 c.in-Some.rest.now c.in-Err.e c.include_refusal.result t.1.0 t.1.1
-    (rw c.as_bytes.ensures at (c.in-Err.ensures.found told tells facts original)) (rw t.1.0 at c.include_refusal.ensures)
+    include-refused told place blocks c.args.self.now t.0 c.in-Some.rest.now c.in-Err.e c.give_up.result t.1.0 t.1.1
+    (rw c.as_bytes.ensures at (c.in-Err.ensures.found told tells facts original)) (refuses-at c.in-Err.e t.0.path (t.0.number - 1) c.give_up.result (rw t.1.0 at c.give_up.ensures))
 
 pub returns-in-Ok-clause-looks : goal.returns-in-Ok-clause-looks
 returns-in-Ok-clause-looks g c = λ told test tells facts original h.
@@ -29,7 +30,7 @@ returns-in-Ok-clause-looks g c = λ told test tells facts original h.
 pub returns-in-Err-clause-looks : goal.returns-in-Err-clause-looks
 returns-in-Err-clause-looks g c = λ told test tells facts original h.
     let t = top-include c.args.self.now.top c.in-Some.rest.now c.in-Some.ensures in
-    (include-tells (List (List ℕ)) (Unit {0}) test told c.args.self.now t.0 c.in-Some.rest.now c.as_bytes.result.now c.in-Err.e c.include_refusal.result _ _ t.1.0 t.1.1 c.as_bytes.ensures (rw t.1.0 at c.include_refusal.ensures) (c.in-Err.ensures.failed told tells facts original) h, tt)
+    (include-tells (List (List ℕ)) (Unit {0}) test told c.args.self.now t.0 c.in-Some.rest.now c.as_bytes.result.now c.in-Err.e c.give_up.result _ _ t.1.0 t.1.1 c.as_bytes.ensures (rw t.1.0 at c.give_up.ensures) (c.in-Err.ensures.failed told tells facts original) h, tt)
 
 pub returns-in-Ok-clause-noted : goal.returns-in-Ok-clause-noted
 returns-in-Ok-clause-noted g c = λ told tells facts original.
