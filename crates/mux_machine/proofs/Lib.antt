@@ -1,5 +1,6 @@
 pub mod Heeded
 mod Asking
+mod Bounded
 mod Closes
 mod Comes
 mod Endings

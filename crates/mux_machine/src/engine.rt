@@ -4,6 +4,7 @@ ghost use Rattle.client_teardown.specs.declared.farewell.TheConstants.{FAREWELL_
 ghost use Rattle.mux_history.specs.declared.limits.TheConstants.{MAX_CLIENTS as TheMost};
 ghost use Rattle.mux_clients.specs.Asked.{HandsAsks, Heeds};
 ghost use Rattle.mux_clients.specs.Starved.{HearsSome, OneIs};
+ghost use Rattle.mux_machine.specs.Bounds.{QueuesShort};
 ghost use Rattle.mux_machine.specs.Events.{EndsBy, Keeps, Tells, went_of};
 ghost use Rattle.mux_machine.specs.Moves.{AnsweredAt, GainsAt, HeardAt, LosesAt};
 ghost use Rattle.mux_machine.specs.Ready.{IsReady};
@@ -127,6 +128,7 @@ impl Engine {
         ensures keeps { OnOk result (Keeps e.entry self.old self.new) }
         ensures ends { OnOk result ((mark : TheMark) → Tells e.entry mark
             → EndsBy e.entry self.old self.new mark) }
+        ensures bounded { OnOk result (QueuesShort self.new) }
         ensures went { IfOk result (λ went. went ≡ went_of self.new.ended) }
         ensures starved { self.old.starved ≡ true → IsErr result }
         ensures err { OnErr result (self.new.starved ≡ true) }

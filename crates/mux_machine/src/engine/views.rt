@@ -10,6 +10,8 @@ ghost use Rattle.mux_history.specs.Rows.{losses};
 ghost use Rattle.mux_history.specs.Log.{open_matters};
 ghost use Rattle.mux_history.specs.Pending.{pending};
 ghost use Rattle.mux_history.specs.Promises.{listens, has_output};
+ghost use Rattle.mux_history.specs.Journal.{IsLawful};
+ghost use Rattle.mux_machine.specs.Bounds.{QueueShort};
 ghost use Rattle.mux_machine.specs.Stands.{Closes, GoesAlone, IsFirst, Stands, log, not_closed};
 ghost use Rattle.mux_machine.specs.State.{closed_by, first_of, queue_in, rest_in, taken, waiting_in};
 
@@ -28,6 +30,10 @@ impl Engine {
             → among stream closed ≡ false → (picks : List ℕ) (replies : List TheReply)
             → result.now ≡ pending stream
             (log self.now (picked ++ picks) (given ++ replies) marks) }
+        ensures bounded { (picked : List ℕ) (given : List TheReply) (marks : List TheMark)
+            (closed : List ℕ) → Stands picked given self.now marks closed → IsLawful marks
+            → among stream closed ≡ false
+            → QueueShort picked given self.now marks stream result.now }
     {
         // Named first: what a name holds is known to be bytes.
         let bytes = self.do_queue_of(stream);

@@ -5,6 +5,7 @@ use Rattle.mux_machine.proofs.Fed.{ends-shown, goes-shown}
 use Rattle.mux_machine.proofs.Stepped.{over-stays}
 use Rattle.mux_clients.proofs.Heeding.{asked_none_some}
 use Rattle.mux_clients.proofs.Starved.{on-err}
+use Rattle.mux_machine.proofs.Bounded.{short}
 use Rattle.mux_machine.proofs.Starved.{cut-alone, cut-shown}
 use Rattle.mux_machine.proofs.engine.Engine.event.Goals as goal
 
@@ -31,3 +32,9 @@ returns-then-self-clause-cut g c = λ mark t. cut-alone g.H.House.may (g.H.House
 
 pub returns-in_err-step-clause-cut : goal.returns-in_err-step-clause-cut
 returns-in_err-step-clause-cut g c = on-err c.from_residual.result (λ mark t. cut-shown g.H.House.may (g.H.House.told c.args.house.now) (g.H.House.told c.step.new.house) (state_of c.self.inside) c.args.self.now mark c.self.view_is (c.in_err-step.ensures.cut mark t))
+
+pub returns-in-Some-clause-bounded : goal.returns-in-Some-clause-bounded
+returns-in-Some-clause-bounded g c = short _
+
+pub returns-clause-bounded : goal.returns-clause-bounded
+returns-clause-bounded g c = short _
