@@ -8,7 +8,7 @@ use Rattle.std.proofs.lemmas.List.Folds.{list_any-append}
 use Rattle.ssh_fields.specs.Fields.{AreBytes}
 use Rattle.mux_outside.specs.HouseCalls.{End, Failed, Got, HandsOn, HouseCall, Joined, Turns, Writable, calls_of, happening_of}
 use Rattle.mux_outside.specs.House.{IsNewTo, Known, OwnTurnFits, Quiet, known_after_own_turn}
-use Rattle.mux_outside.specs.OwnStreams.{end_one, is_one, is_own, is_silent, new_stream, numbers_of, with_end}
+use Rattle.mux_outside.specs.OwnStreams.{is_one, is_own, is_silent, new_stream, numbers_of, with_end}
 use Rattle.mux_outside.specs.Seen.{Seen, seen_after_turn}
 use Rattle.mux_outside.specs.Streams.{among, without}
 use Rattle.mux_outside.specs.Wire.{IsNewOwn, OwnFits, TurnFits}
@@ -42,10 +42,11 @@ use Rattle.mux_engine.proofs.Called.{calling}
 use Rattle.mux_engine.proofs.Lists.{among-last, among-other-last, or-last, true-false}
 use Rattle.mux_engine.proofs.Marks.{serve-alone, serve-on}
 use Rattle.mux_engine.proofs.OwnMarks.{test-same}
+use Rattle.mux_engine.proofs.Owns.{among-one, end-numbers}
 use Rattle.mux_engine.proofs.OwnTurns.{client-frees, offered-again, own-ends, own-failed, own-frees, own-gets, own-joins}
 use Rattle.mux_engine.proofs.Told.{tells-none, told-none}
 use Rattle.mux_engine.proofs.Turned.{EventAt, event-cut, event-ends, event-goes}
-use Rattle.mux_engine.proofs.Waits.{Offered, among-one, seen-waiting, wait-mark, waited}
+use Rattle.mux_engine.proofs.Waits.{Offered, seen-waiting, wait-mark, waited}
 use Rattle.mux_engine.proofs.WireTurns.{client-number, event-at, now-waiting, of-turn}
 
 -- ---- what holds at a wait, and what is known of its answer
@@ -387,18 +388,7 @@ own-noted {May} {Rest} {before} {policy} {pid} {start} {seen} {given} {todo} {s}
     (subst (λ (l : List ℕ). Serving May Rest before (noted told known calls) policy pid start seen l failed' given todo s) (sym h)
     (subst (λ (l : List ℕ). Serving May Rest before (noted told known calls) policy pid start seen (held_heard o held) l given todo s) (sym i) v))
 
--- a change that keeps the numbers
-end-number : (k : ℕ) (o : OwnStream) → (end_one k o).number ≡ o.number
-end-number k o = by_test (o.number == k)
-  where
-    by_test : (c : Bool) → (cond c (record o { ended = true }) o).number ≡ o.number
-    by_test true = refl
-    by_test false = refl
-
-end-numbers : (k : ℕ) (own : List OwnStream) → numbers_of (with_end k own) ≡ numbers_of own
-end-numbers k [] = refl
-end-numbers k (o ∷ own) = ap (λ n. n ∷ numbers_of (with_end k own)) (end-number k o) ∙ ap (λ l. o.number ∷ l) (end-numbers k own)
-
+-- a stream that gives no more keeps its number
 end-one : (k t : ℕ) (own : List OwnStream) → is_one t (with_end k own) ≡ is_one t own
 end-one k t own = sym (among-one t (with_end k own)) ∙ (ap (among t) (end-numbers k own) ∙ among-one t own)
 

@@ -9,7 +9,7 @@ use Rattle.mux_outside.specs.Streams.{among}
 use Rattle.mux_engine.specs.Owned.{left_of}
 use Rattle.mux_engine.specs.Sides.{Housed}
 use Rattle.mux_engine.proofs.Lists.{among-last, test-other, true-false}
-use Rattle.mux_engine.proofs.Waits.{among-one}
+use Rattle.mux_engine.proofs.Owns.{among-one}
 
 after-push : (k x : ℕ) (failed : List ℕ) → among x (failed ++ k ∷ []) ≡ (among x failed || ((k == x) || false))
 after-push k x failed = among-last k x failed

@@ -17,6 +17,7 @@ use Rattle.mux_engine.specs.Sides.{Housed}
 use Rattle.mux_engine.proofs.Closed.{was-among}
 use Rattle.mux_engine.proofs.Lists.{among-last, among-other-last, or-last, test-other, true-false, without-other}
 use Rattle.mux_engine.proofs.OwnMarks.{test-same}
+use Rattle.mux_engine.proofs.Owns.{less-numbers, same-numbers}
 
 -- ---- lists of streams
 
@@ -35,10 +36,6 @@ one-more : (t n : ℕ) (own : List OwnStream) → is_one t own ≡ true → is_o
 one-more t n own e = one-last t n own ∙ ap (λ b. b || ((n == t) || false)) e
 
 -- a change that keeps the numbers
-same-numbers : (f : OwnStream → OwnStream) → ((s : OwnStream) → (f s).number ≡ s.number) → (own : List OwnStream) → numbers_of (map f own) ≡ numbers_of own
-same-numbers f h [] = refl
-same-numbers f h (s ∷ own) = ap (λ n. n ∷ numbers_of (map f own)) (h s) ∙ ap (λ l. s.number ∷ l) (same-numbers f h own)
-
 same-one : (f : OwnStream → OwnStream) → ((s : OwnStream) → (f s).number ≡ s.number) → (t : ℕ) (own : List OwnStream) → is_one t (map f own) ≡ is_one t own
 same-one f h t [] = refl
 same-one f h t (s ∷ own) = ap (λ n. (n == t) || is_one t (map f own)) (h s) ∙ ap (λ b. (s.number == t) || b) (same-one f h t own)
@@ -56,14 +53,6 @@ finish-number t s = by_test (s.number == t)
     by_test : (c : Bool) → (cond c (record s { finished = true }) s).number ≡ s.number
     by_test true = refl
     by_test false = refl
-
-less-numbers : (k : ℕ) (own : List OwnStream) → without k (numbers_of own) ≡ numbers_of (without_stream k own)
-less-numbers k [] = refl
-less-numbers k (s ∷ own) = by_test (s.number == k) (less-numbers k own)
-  where
-    by_test : (b : Bool) → without k (numbers_of own) ≡ numbers_of (without_stream k own) → cond (not b) (s.number ∷ without k (numbers_of own)) (without k (numbers_of own)) ≡ numbers_of (cond (not b) (s ∷ without_stream k own) (without_stream k own))
-    by_test true ih = ih
-    by_test false ih = ap (λ l. s.number ∷ l) ih
 
 one-less : (k t : ℕ) (own : List OwnStream) → is_one t (without_stream k own) ≡ true → (is_one t own ≡ true) × (k ≢ t)
 one-less k t [] h = true-false (sym h)

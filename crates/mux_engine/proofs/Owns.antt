@@ -50,7 +50,7 @@ IsPlain (House mark) = Unit {0}
 
 -- ---- numbers
 
-same-numbers : (f : OwnStream → OwnStream) → ((s : OwnStream) → (f s).number ≡ s.number) → (own : List OwnStream) → numbers_of (map f own) ≡ numbers_of own
+pub same-numbers : (f : OwnStream → OwnStream) → ((s : OwnStream) → (f s).number ≡ s.number) → (own : List OwnStream) → numbers_of (map f own) ≡ numbers_of own
 same-numbers f h [] = refl
 same-numbers f h (s ∷ own) = ap (λ n. n ∷ numbers_of (map f own)) (h s) ∙ ap (λ l. s.number ∷ l) (same-numbers f h own)
 
@@ -83,9 +83,10 @@ less-numbers k (s ∷ own) = by_test (s.number == k) (less-numbers k own)
     by_test true ih = ih
     by_test false ih = ap (λ l. s.number ∷ l) ih
 
-among-number : (t : ℕ) (own : List OwnStream) → among t (numbers_of own) ≡ is_one t own
-among-number t [] = refl
-among-number t (o ∷ own) = ap (λ b. (o.number == t) || b) (among-number t own)
+-- the number of a stream
+pub among-one : (t : ℕ) (own : List OwnStream) → among t (numbers_of own) ≡ is_one t own
+among-one t [] = refl
+among-one t (o ∷ own) = ap (λ b. (o.number == t) || b) (among-one t own)
 
 -- with one stream more, and with one less
 pub streams-more : (seen : Seen) (journal : List Mark) (k : ℕ) → HasPlaces seen journal → is_own k ≡ true → filter is_own (seen.streams ++ k ∷ []) ≡ numbers_of (seen.own ++ new_stream k ∷ [])
@@ -102,19 +103,19 @@ streams-client seen journal k p client =
 -- with a number of the master's own it is one of its streams
 pub own-open : (seen : Seen) (journal : List Mark) → HasPlaces seen journal → (t : ℕ) → is_own t ≡ true → among t seen.streams ≡ true → is_one t seen.own ≡ true
 own-open seen journal p t own found =
-    sym (among-number t seen.own) ∙ (ap (among t) (sym p.streams) ∙ (among-filter is_own t seen.streams ∙ (ap (λ b. b && among t seen.streams) own ∙ found)))
+    sym (among-one t seen.own) ∙ (ap (among t) (sym p.streams) ∙ (among-filter is_own t seen.streams ∙ (ap (λ b. b && among t seen.streams) own ∙ found)))
 
 -- with another it is none
 pub own-apart : (seen : Seen) (journal : List Mark) → HasPlaces seen journal → (t : ℕ) → among t seen.streams ≡ false → is_one t seen.own ≡ false
 own-apart seen journal p t shut =
-    sym (among-number t seen.own) ∙ (ap (among t) (sym p.streams) ∙ (among-filter is_own t seen.streams ∙ (ap (λ b. is_own t && b) shut ∙ and-none (is_own t))))
+    sym (among-one t seen.own) ∙ (ap (among t) (sym p.streams) ∙ (among-filter is_own t seen.streams ∙ (ap (λ b. is_own t && b) shut ∙ and-none (is_own t))))
   where
     and-none : (b : Bool) → (b && false) ≡ false
     and-none true = refl
     and-none false = refl
 
 pub client-apart : (seen : Seen) (journal : List Mark) → HasPlaces seen journal → (t : ℕ) → is_own t ≡ false → is_one t seen.own ≡ false
-client-apart seen journal p t client = sym (among-number t seen.own) ∙ (ap (among t) (sym p.streams) ∙ (among-filter is_own t seen.streams ∙ ap (λ b. b && among t seen.streams) client))
+client-apart seen journal p t client = sym (among-one t seen.own) ∙ (ap (among t) (sym p.streams) ∙ (among-filter is_own t seen.streams ∙ ap (λ b. b && among t seen.streams) client))
 
 -- ---- marks
 

@@ -38,7 +38,7 @@ use Rattle.mux_engine.proofs.Called.{calls-none}
 use Rattle.mux_engine.proofs.Closed.{both-tests}
 use Rattle.mux_engine.proofs.Lists.{among-filter, among-open, and-first, and-second, not-own-stream, open-here, true-false}
 use Rattle.mux_engine.proofs.Marks.{log-is, serve-alone}
-use Rattle.mux_engine.proofs.Owns.{owns-as}
+use Rattle.mux_engine.proofs.Owns.{among-one, owns-as}
 use Rattle.mux_engine.proofs.Places.{open-own, placed-still, stream-open}
 use Rattle.mux_engine.proofs.Quiet.{askers-more, notes-none}
 use Rattle.mux_engine.proofs.Silent.{waits-alike}
@@ -74,11 +74,6 @@ failed-has t (Ends k ∷ j) f = failed-has t j f
 failed-has t (Frees k ∷ j) f = failed-has t j f
 failed-has t (Joins l k ∷ j) f = failed-has t j f
 failed-has t (House m ∷ j) f = failed-has t j f
-
--- the numbers of streams
-pub among-one : (t : ℕ) (own : List OwnStream) → among t (numbers_of own) ≡ is_one t own
-among-one t [] = refl
-among-one t (o ∷ own) = ap (λ b. (o.number == t) || b) (among-one t own)
 
 none-left : (xs : List ℕ) → ((t : ℕ) → among t xs ≡ true → is_own t ≡ true) → not_own xs ≡ []
 none-left [] h = refl
