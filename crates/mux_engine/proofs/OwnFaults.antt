@@ -21,7 +21,6 @@ use Rattle.mux_outside.specs.declared.turn.Turn.TheVariants as turn
 use Rattle.mux_outside.specs.declared.turn.Want.{Want}
 use Rattle.mux_outside.specs.declared.turn.Wrote.{Wrote}
 use Rattle.mux_outside.specs.declared.turn.Wrote.TheVariants as wrote
-use Rattle.mux_engine.specs.Orders.{IsMade}
 use Rattle.mux_engine.specs.OwnFaults.{OrderCounted, OwnCounted, is_unmade, unmade_in}
 use Rattle.mux_engine.proofs.Asks.{EachAsked}
 
@@ -47,10 +46,6 @@ own-then a b c m n o v w = let f : m ≤ n = v.later in let g : n ≤ o = w.late
     both (inl x) (inl y) f g = inl (omega (arith, x, y))
     both (inl x) (inr y) f g = inr y
     both (inr x) y f g = inr (omega (arith, x, g))
-
--- the wire is the one before
-pub own-wire : {V : Type 0} (seen : V → Seen) (faults : V → ℕ) (old new : V) → new ≡ old → OwnCounted (seen old).told (seen new).told (faults old) (faults new)
-own-wire seen faults old new e = own-still (seen old).told (seen new).told (faults old) (faults new) (ap (λ w. (seen w).told) e) (same-later (faults old) (faults new) (ap faults e))
 
 -- ---- marks that are told
 
@@ -170,23 +165,3 @@ own-ordered {E} r order number old mid new m n o same f e g = elim (order-step o
     by_note : (r : Result (Unit {0}) E) → new ≡ seen_after_note r (HouseOrder order number) mid → Rose m n → OwnCounted old.told new.told m o
     by_note (Ok x) e rose = own-rose old.told new.told (House (HouseOrder order number)) m o (ap (λ (x : Seen). x.told) e ∙ ap (λ (t : Option (List Mark)). option_map (λ l. l ++ House (HouseOrder order number) ∷ []) t) same) (subst (λ (j : ℕ). Rose m j) (sym g) rose)
     by_note (Err x) e rose = own-still old.told new.told m o (ap (λ (x : Seen). x.told) e ∙ same) (let l : m ≤ n = rose.later in omega (arith, l, g))
-
-abbrev number-of : {E : Type 0} → Result (Option ℕ) E → Option ℕ
-number-of (Ok number) = number
-number-of (Err e) = None
-
-made-is : {E : Type 0} (r : Result (Option ℕ) E) (a b : Option ℕ) → r ≡ Ok a → r ≡ Ok b → a ≡ b
-made-is r a b e f = sym (ap number-of e) ∙ ap number-of f
-
--- the number of what a call made, by what the call counted
-pub listen-counted : {E : Type 0} (made : Result ℕ FileError) (result : Result (Option ℕ) E) (number : Option ℕ) (host : List ℕ) (port m n : ℕ) → IsMade made result → result ≡ Ok number → HasCause made m n → OrderCounted (Listen host port) number m n
-listen-counted (Ok k) result number host port m n is e f = subst (λ (o : Option ℕ). OrderCounted (Listen host port) o m n) (made-is result (Some k) number is e) f
-listen-counted (Err Failed) result number host port m n is e f = subst (λ (o : Option ℕ). OrderCounted (Listen host port) o m n) (made-is result None number is e) f
-listen-counted (Err OutOfMemory) (Ok x) number host port m n is e f = absurd (let z : false ≡ true = is in cc)
-listen-counted (Err OutOfMemory) (Err x) number host port m n is e f = absurd (cc)
-
-pub connect-counted : {E : Type 0} (made : Result ℕ FileError) (result : Result (Option ℕ) E) (number : Option ℕ) (host : List ℕ) (port m n : ℕ) → IsMade made result → result ≡ Ok number → HasCause made m n → OrderCounted (Connect host port) number m n
-connect-counted (Ok k) result number host port m n is e f = subst (λ (o : Option ℕ). OrderCounted (Connect host port) o m n) (made-is result (Some k) number is e) f
-connect-counted (Err Failed) result number host port m n is e f = subst (λ (o : Option ℕ). OrderCounted (Connect host port) o m n) (made-is result None number is e) f
-connect-counted (Err OutOfMemory) (Ok x) number host port m n is e f = absurd (let z : false ≡ true = is in cc)
-connect-counted (Err OutOfMemory) (Err x) number host port m n is e f = absurd (cc)
