@@ -7,7 +7,7 @@ ghost use Rattle.house_forward.specs.Connects.{OneConnectEach};
 ghost use Rattle.house_forward.specs.Laws.{EachRelays, EachKeeps, EachRests};
 ghost use Rattle.house_forward.specs.Streaming.{EachHasItsStream};
 ghost use Rattle.house_forward.specs.Opening.{OneOpenAtMost, OpensGoRight};
-ghost use Rattle.house_forward.specs.Numbers.{ChannelsDiffer, StreamsAreTheirs, StreamsDiffer};
+ghost use Rattle.house_forward.specs.Numbers.{ChannelsDiffer, EachIsNew, StreamsAreTheirs, StreamsDiffer};
 
 /// Of each relay that the house has, or had: what is sent in its channel was read from its socket
 /// before, behind the dialog, in order; what its socket takes are the replies to the dialog, and then
@@ -25,10 +25,11 @@ pub fn relays_of_a_quiet_house_rest()
 
 /// Channel numbers and streams are each one's own: no two relays of the house have the same channel
 /// number; and its relays have exactly the streams that were joined or connected and not closed since,
-/// of which no two are the same, if each came with a number that no open one had.
+/// of which no two are the same, since each came with a number that no open one had.
 pub fn each_relay_has_its_own_channel_and_stream()
     ensures channels { ChannelsDiffer }
     ensures streams { StreamsAreTheirs }
+    ensures new { EachIsNew }
     ensures apart { StreamsDiffer }
 {}
 
@@ -57,16 +58,14 @@ pub fn each_close_has_its_cause()
 {}
 
 /// An OPEN of the server is confirmed only behind the Writable of the stream that a Connect to its end
-/// made; and it is refused only where such a Connect got no number, or that stream failed, if each stream
-/// came with a number that no open one had.
+/// made; and it is refused only where such a Connect got no number, or that stream failed.
 pub fn each_open_is_answered_by_its_socket()
     ensures confirms { ConfirmsConnected }
     ensures refuses { RefusesUnconnected }
 {}
 
 /// What a relay read are the bytes that its stream gave since that was joined or connected, all of them
-/// and in order; and as many bytes as it has as taken its stream took since, if each stream came with a
-/// number that no open one had.
+/// and in order; and as many bytes as it has as taken its stream took since.
 pub fn each_relay_has_what_its_stream_gave()
     ensures { EachHasItsStream }
 {}
