@@ -35,16 +35,16 @@ pub fn each_relay_has_its_own_channel_and_stream()
 
 /// Of each OPEN of forwarded-tcpip that it takes, which is one at whose address and port the server
 /// listens for a forwarding, the house orders one Connect, to where that forwarding connects, in the
-/// order of the OPENs; it orders none besides.
+/// order of the OPENs, or has it still to order; it orders none besides.
 pub fn each_open_that_is_taken_is_connected_once()
     ensures { OneConnectEach }
 {}
 
-/// No more OPENs are said than sockets were joined, those that are still to be said counted too: a
-/// socket has one at most. Each is an OPEN of direct-tcpip with a window of 2,097,152 bytes and messages
-/// of 32,768 at most, to where the forwarding connects at whose listener its socket was joined, or, where
-/// that is a dynamic one, to the end that its dialog asked for.
-pub fn each_joined_socket_is_opened_once_at_most()
+/// No more OPENs are said than sockets were joined before, those that are still to be said counted too.
+/// Each is an OPEN of direct-tcpip with a window of 2,097,152 bytes and messages of 32,768 at most, to
+/// where the forwarding connects at whose listener its socket was joined, or, where that is a dynamic one,
+/// to the end that its dialog asked for.
+pub fn opens_are_for_joined_sockets()
     ensures count { OneOpenAtMost }
     ensures goes { OpensGoRight }
 {}
