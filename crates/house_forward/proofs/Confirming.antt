@@ -31,7 +31,7 @@ use Rattle.house_forward.specs.Heard.{heard_of}
 use Rattle.house_forward.specs.Links.{IsJoined, IsJoinedAt, after_saying, relay_after}
 use Rattle.house_forward.specs.Lives.{Life, Course, GoesBy, Reaches, Follows, SaysBy, first_course}
 use Rattle.house_forward.specs.Lives.{has_stream, is_stream, are_full}
-use Rattle.house_forward.specs.Numbers.{BringsNew, open_streams, number_of}
+use Rattle.house_forward.specs.Numbers.{open_streams, number_of}
 use Rattle.house_forward.specs.Said.{framed, said_by, confirmed, not_connected, payload_if}
 use Rattle.house_forward.specs.declared.forwarding.Forwarding.{Forwarding}
 use Rattle.house_forward.specs.declared.link.Step.{Step}
@@ -227,113 +227,106 @@ none-more calls call to h = record {
       ∙ append_assoc h.before (Marks (HouseOrder (order.Connect to.0 to.1) None) ∷ h.behind) (call ∷ []);
 }
 
-abbrev IsLost : List HouseCall → Place → Type 0
-IsLost calls to = HasNoNumber calls to ⊎ ((t : ℕ) × HasHappened calls to t (Failed t))
+abbrev Lost : List HouseCall → Place → Type 0
+Lost calls to = HasNoNumber calls to ⊎ ((t : ℕ) × HasHappened calls to t (Failed t))
 
--- where this is so
-abbrev Lost : Type 0 → List HouseCall → Place → Type 0
-Lost A calls to = A → IsLost calls to
+abbrev Shut : Line → List HouseCall → Place → Type 0
+Shut (Dialing dialog) calls to = Unit {0}
+Shut (Asked host port version) calls to = Unit {0}
+Shut (Opened version) calls to = Unit {0}
+Shut (Offered remote window maximum) calls to = Lost calls to
+Shut (Live live) calls to = Unit {0}
+Shut Over calls to = Unit {0}
 
-abbrev Shut : Type 0 → Line → List HouseCall → Place → Type 0
-Shut A (Dialing dialog) calls to = Unit {0}
-Shut A (Asked host port version) calls to = Unit {0}
-Shut A (Opened version) calls to = Unit {0}
-Shut A (Offered remote window maximum) calls to = Lost A calls to
-Shut A (Live live) calls to = Unit {0}
-Shut A Over calls to = Unit {0}
+abbrev At : List HouseCall → Place → Line → Socket → Type 0
+At calls to line socket.Unmade = Unit {0}
+At calls to line (socket.Connecting t) = Made calls to t
+At calls to line (socket.Open t) = HasHappened calls to t (Writable t)
+At calls to line (socket.Failed t) = HasHappened calls to t (Failed t)
+At calls to line (socket.Surplus t) = ⊥
+At calls to line socket.Closed = Shut line calls to
 
-abbrev At : Type 0 → List HouseCall → Place → Line → Socket → Type 0
-At A calls to line socket.Unmade = Unit {0}
-At A calls to line (socket.Connecting t) = Made calls to t
-At A calls to line (socket.Open t) = HasHappened calls to t (Writable t)
-At A calls to line (socket.Failed t) = HasHappened calls to t (Failed t)
-At A calls to line (socket.Surplus t) = ⊥
-At A calls to line socket.Closed = Shut A line calls to
+abbrev WiredTo : Option Place → List HouseCall → Bool → Line → Socket → Type 0
+WiredTo None calls dials line s = offer line ≡ false
+WiredTo (Some to) calls dials line s = (dials ≡ false) × At calls to line s
 
-abbrev WiredTo : Type 0 → Option Place → List HouseCall → Bool → Line → Socket → Type 0
-WiredTo A None calls dials line s = offer line ≡ false
-WiredTo A (Some to) calls dials line s = (dials ≡ false) × At A calls to line s
+abbrev Wired : List HouseCall → Life → Type 0
+Wired calls l = WiredTo l.to calls l.dials l.relay.line l.relay.socket
 
-abbrev Wired : Type 0 → List HouseCall → Life → Type 0
-Wired A calls l = WiredTo A l.to calls l.dials l.relay.line l.relay.socket
+lost-more : (calls : List HouseCall) (call : HouseCall) (to : Place) → Lost calls to → Lost (calls ++ call ∷ []) to
+lost-more calls call to (inl h) = inl (none-more calls call to h)
+lost-more calls call to (inr h) = inr (h.0, happened-more calls call to h.0 (Failed h.0) h.1)
 
-lost-more : (A : Type 0) (calls : List HouseCall) (call : HouseCall) (to : Place) → Lost A calls to → Lost A (calls ++ call ∷ []) to
-lost-more A calls call to h = λ x. now (h x)
-  where
-    now : IsLost calls to → IsLost (calls ++ call ∷ []) to
-    now (inl h) = inl (none-more calls call to h)
-    now (inr h) = inr (h.0, happened-more calls call to h.0 (Failed h.0) h.1)
+shut-more : (calls : List HouseCall) (call : HouseCall) (to : Place) (line : Line) → Shut line calls to → Shut line (calls ++ call ∷ []) to
+shut-more calls call to (Dialing dialog) h = tt
+shut-more calls call to (Asked host port version) h = tt
+shut-more calls call to (Opened version) h = tt
+shut-more calls call to (Offered remote window maximum) h = lost-more calls call to h
+shut-more calls call to (Live live) h = tt
+shut-more calls call to Over h = tt
 
-shut-more : (A : Type 0) (calls : List HouseCall) (call : HouseCall) (to : Place) (line : Line) → Shut A line calls to → Shut A line (calls ++ call ∷ []) to
-shut-more A calls call to (Dialing dialog) h = tt
-shut-more A calls call to (Asked host port version) h = tt
-shut-more A calls call to (Opened version) h = tt
-shut-more A calls call to (Offered remote window maximum) h = lost-more A calls call to h
-shut-more A calls call to (Live live) h = tt
-shut-more A calls call to Over h = tt
+at-more : (calls : List HouseCall) (call : HouseCall) (to : Place) (line : Line) (s : Socket) → At calls to line s
+    → At (calls ++ call ∷ []) to line s
+at-more calls call to line socket.Unmade h = tt
+at-more calls call to line (socket.Connecting t) h = made-more calls call to t h
+at-more calls call to line (socket.Open t) h = happened-more calls call to t (Writable t) h
+at-more calls call to line (socket.Failed t) h = happened-more calls call to t (Failed t) h
+at-more calls call to line (socket.Surplus t) h = absurd h
+at-more calls call to line socket.Closed h = shut-more calls call to line h
 
-at-more : (A : Type 0) (calls : List HouseCall) (call : HouseCall) (to : Place) (line : Line) (s : Socket) → At A calls to line s
-    → At A (calls ++ call ∷ []) to line s
-at-more A calls call to line socket.Unmade h = tt
-at-more A calls call to line (socket.Connecting t) h = made-more calls call to t h
-at-more A calls call to line (socket.Open t) h = happened-more calls call to t (Writable t) h
-at-more A calls call to line (socket.Failed t) h = happened-more calls call to t (Failed t) h
-at-more A calls call to line (socket.Surplus t) h = absurd h
-at-more A calls call to line socket.Closed h = shut-more A calls call to line h
+wired-more : (calls : List HouseCall) (call : HouseCall) (o : Option Place) (dials : Bool) (line : Line) (s : Socket)
+    → WiredTo o calls dials line s → WiredTo o (calls ++ call ∷ []) dials line s
+wired-more calls call None dials line s h = h
+wired-more calls call (Some to) dials line s h = (h.0, at-more calls call to line s h.1)
 
-wired-more : (A : Type 0) (calls : List HouseCall) (call : HouseCall) (o : Option Place) (dials : Bool) (line : Line) (s : Socket)
-    → WiredTo A o calls dials line s → WiredTo A o (calls ++ call ∷ []) dials line s
-wired-more A calls call None dials line s h = h
-wired-more A calls call (Some to) dials line s h = (h.0, at-more A calls call to line s h.1)
+shut-none : (calls : List HouseCall) (to : Place) (line : Line) → offer line ≡ false → Shut line calls to
+shut-none calls to (Dialing dialog) e = tt
+shut-none calls to (Asked host port version) e = tt
+shut-none calls to (Opened version) e = tt
+shut-none calls to (Offered remote window maximum) e = cc
+shut-none calls to (Live live) e = tt
+shut-none calls to Over e = tt
 
-shut-none : (A : Type 0) (calls : List HouseCall) (to : Place) (line : Line) → offer line ≡ false → Shut A line calls to
-shut-none A calls to (Dialing dialog) e = tt
-shut-none A calls to (Asked host port version) e = tt
-shut-none A calls to (Opened version) e = tt
-shut-none A calls to (Offered remote window maximum) e = cc
-shut-none A calls to (Live live) e = tt
-shut-none A calls to Over e = tt
+shut-sets : (calls : List HouseCall) (to : Place) (old new : Line) → Sets old new → Shut old calls to → Shut new calls to
+shut-sets calls to old new (inl e) h = shut-none calls to new e
+shut-sets calls to old new (inr e) h = subst (λ (line : Line). Shut line calls to) (sym e) h
 
-shut-sets : (A : Type 0) (calls : List HouseCall) (to : Place) (old new : Line) → Sets old new → Shut A old calls to → Shut A new calls to
-shut-sets A calls to old new (inl e) h = shut-none A calls to new e
-shut-sets A calls to old new (inr e) h = subst (λ (line : Line). Shut A line calls to) (sym e) h
-
-at-sets : (A : Type 0) (calls : List HouseCall) (to : Place) (old new : Line) (s : Socket) → Sets old new → At A calls to old s → At A calls to new s
-at-sets A calls to old new socket.Unmade e h = tt
-at-sets A calls to old new (socket.Connecting t) e h = h
-at-sets A calls to old new (socket.Open t) e h = h
-at-sets A calls to old new (socket.Failed t) e h = h
-at-sets A calls to old new (socket.Surplus t) e h = h
-at-sets A calls to old new socket.Closed e h = shut-sets A calls to old new e h
+at-sets : (calls : List HouseCall) (to : Place) (old new : Line) (s : Socket) → Sets old new → At calls to old s → At calls to new s
+at-sets calls to old new socket.Unmade e h = tt
+at-sets calls to old new (socket.Connecting t) e h = h
+at-sets calls to old new (socket.Open t) e h = h
+at-sets calls to old new (socket.Failed t) e h = h
+at-sets calls to old new (socket.Surplus t) e h = h
+at-sets calls to old new socket.Closed e h = shut-sets calls to old new e h
 
 none-sets : (old new : Line) → Sets old new → offer old ≡ false → offer new ≡ false
 none-sets old new (inl e) h = e
 none-sets old new (inr e) h = ap offer e ∙ h
 
-wired-sets : (A : Type 0) (calls : List HouseCall) (o : Option Place) (dials : Bool) (old new : Line) (s : Socket) → Sets old new
-    → WiredTo A o calls dials old s → WiredTo A o calls dials new s
-wired-sets A calls None dials old new s e h = none-sets old new e h
-wired-sets A calls (Some to) dials old new s e h = (h.0, at-sets A calls to old new s e h.1)
+wired-sets : (calls : List HouseCall) (o : Option Place) (dials : Bool) (old new : Line) (s : Socket) → Sets old new
+    → WiredTo o calls dials old s → WiredTo o calls dials new s
+wired-sets calls None dials old new s e h = none-sets old new e h
+wired-sets calls (Some to) dials old new s e h = (h.0, at-sets calls to old new s e h.1)
 
 -- ---- all steps
 
-wired-on : (A : Type 0) (calls : List HouseCall) (so : Relay → Relay → Type 0) (act : Act) (a b : Life) → GoesBy so act a b
-    → Sets a.relay.line b.relay.line → b.relay.socket ≡ a.relay.socket → Wired A calls a → Wired A calls b
-wired-on A calls so act a b h sets same p =
-    subst (λ (o : Option Place). WiredTo A o calls b.dials b.relay.line b.relay.socket) (sym h.to)
-    (subst (λ (d : Bool). WiredTo A a.to calls d b.relay.line b.relay.socket) (sym h.dials)
-    (subst (λ (s : Socket). WiredTo A a.to calls a.dials b.relay.line s) (sym same)
-    (wired-sets A calls a.to a.dials a.relay.line b.relay.line a.relay.socket sets p)))
+wired-on : (calls : List HouseCall) (so : Relay → Relay → Type 0) (act : Act) (a b : Life) → GoesBy so act a b
+    → Sets a.relay.line b.relay.line → b.relay.socket ≡ a.relay.socket → Wired calls a → Wired calls b
+wired-on calls so act a b h sets same p =
+    subst (λ (o : Option Place). WiredTo o calls b.dials b.relay.line b.relay.socket) (sym h.to)
+    (subst (λ (d : Bool). WiredTo a.to calls d b.relay.line b.relay.socket) (sym h.dials)
+    (subst (λ (s : Socket). WiredTo a.to calls a.dials b.relay.line s) (sym same)
+    (wired-sets calls a.to a.dials a.relay.line b.relay.line a.relay.socket sets p)))
 
-gets-wired : (A : Type 0) (calls : List HouseCall) (free : Bool) (bytes : List ℕ) (o : Option Place) (a b : Life) → Sound a
-    → DialsIn a.relay.line free bytes a.relay b.relay → WiredTo A o calls a.dials a.relay.line a.relay.socket
-    → WiredTo A o calls a.dials b.relay.line b.relay.socket
-gets-wired A calls free bytes None a b s h p =
+gets-wired : (calls : List HouseCall) (free : Bool) (bytes : List ℕ) (o : Option Place) (a b : Life) → Sound a
+    → DialsIn a.relay.line free bytes a.relay b.relay → WiredTo o calls a.dials a.relay.line a.relay.socket
+    → WiredTo o calls a.dials b.relay.line b.relay.socket
+gets-wired calls free bytes None a b s h p =
     none-sets a.relay.line b.relay.line (gets-sets a.relay.line free bytes a b refl s h) p
-gets-wired A calls free bytes (Some to) a b s h p = (
+gets-wired calls free bytes (Some to) a b s h p = (
   p.0,
-  subst (λ (k : Socket). At A calls to b.relay.line k) (sym (gets-socket a.relay.line free bytes a b refl s p.0 h))
-      (at-sets A calls to a.relay.line b.relay.line a.relay.socket (gets-sets a.relay.line free bytes a b refl s h) p.1),
+  subst (λ (k : Socket). At calls to b.relay.line k) (sym (gets-socket a.relay.line free bytes a b refl s p.0 h))
+      (at-sets calls to a.relay.line b.relay.line a.relay.socket (gets-sets a.relay.line free bytes a b refl s h) p.1),
 )
 
 -- its stream is this one
@@ -353,37 +346,37 @@ turned : (calls : List HouseCall) (call : HouseCall) (to : Place) (t n : ℕ) (s
 turned calls call to t n so e f h =
     subst (λ (c : HouseCall). HasHappened (calls ++ c ∷ []) to n (so n)) (ap (λ (k : ℕ). Turns (so k)) f ∙ sym e) (happens calls to n (so n) h)
 
-writable-at : (A : Type 0) (calls : List HouseCall) (call : HouseCall) (to : Place) (t : ℕ) (own : Option OwnStream) (line : Line) (s : Socket)
-    → call ≡ Turns (Writable t) → is_stream t own ≡ true → stream_of s ≡ number_of own → At A calls to line s
-    → At A (calls ++ call ∷ []) to line (connected s)
-writable-at A calls call to t own line socket.Unmade e is same h = tt
-writable-at A calls call to t own line (socket.Connecting n) e is same h =
+writable-at : (calls : List HouseCall) (call : HouseCall) (to : Place) (t : ℕ) (own : Option OwnStream) (line : Line) (s : Socket)
+    → call ≡ Turns (Writable t) → is_stream t own ≡ true → stream_of s ≡ number_of own → At calls to line s
+    → At (calls ++ call ∷ []) to line (connected s)
+writable-at calls call to t own line socket.Unmade e is same h = tt
+writable-at calls call to t own line (socket.Connecting n) e is same h =
     turned calls call to t n (λ k. Writable k) e (its-number t n own is same) h
-writable-at A calls call to t own line (socket.Open n) e is same h = at-more A calls call to line (socket.Open n) h
-writable-at A calls call to t own line (socket.Failed n) e is same h = at-more A calls call to line (socket.Failed n) h
-writable-at A calls call to t own line (socket.Surplus n) e is same h = absurd h
-writable-at A calls call to t own line socket.Closed e is same h = shut-more A calls call to line h
+writable-at calls call to t own line (socket.Open n) e is same h = at-more calls call to line (socket.Open n) h
+writable-at calls call to t own line (socket.Failed n) e is same h = at-more calls call to line (socket.Failed n) h
+writable-at calls call to t own line (socket.Surplus n) e is same h = absurd h
+writable-at calls call to t own line socket.Closed e is same h = shut-more calls call to line h
 
-failed-at : (A : Type 0) (calls : List HouseCall) (call : HouseCall) (to : Place) (t : ℕ) (own : Option OwnStream) (line : Line) (s : Socket)
-    → call ≡ Turns (Failed t) → is_stream t own ≡ true → stream_of s ≡ number_of own → At A calls to line s
-    → At A (calls ++ call ∷ []) to line (failing s)
-failed-at A calls call to t own line socket.Unmade e is same h = tt
-failed-at A calls call to t own line (socket.Connecting n) e is same h =
+failed-at : (calls : List HouseCall) (call : HouseCall) (to : Place) (t : ℕ) (own : Option OwnStream) (line : Line) (s : Socket)
+    → call ≡ Turns (Failed t) → is_stream t own ≡ true → stream_of s ≡ number_of own → At calls to line s
+    → At (calls ++ call ∷ []) to line (failing s)
+failed-at calls call to t own line socket.Unmade e is same h = tt
+failed-at calls call to t own line (socket.Connecting n) e is same h =
     turned calls call to t n (λ k. Failed k) e (its-number t n own is same) h
-failed-at A calls call to t own line (socket.Open n) e is same h =
+failed-at calls call to t own line (socket.Open n) e is same h =
     turned calls call to t n (λ k. Failed k) e (its-number t n own is same) (made-of calls to n (Writable n) h)
-failed-at A calls call to t own line (socket.Failed n) e is same h = at-more A calls call to line (socket.Failed n) h
-failed-at A calls call to t own line (socket.Surplus n) e is same h = absurd h
-failed-at A calls call to t own line socket.Closed e is same h = shut-more A calls call to line h
+failed-at calls call to t own line (socket.Failed n) e is same h = at-more calls call to line (socket.Failed n) h
+failed-at calls call to t own line (socket.Surplus n) e is same h = absurd h
+failed-at calls call to t own line socket.Closed e is same h = shut-more calls call to line h
 
-broken-lost : (A : Type 0) (calls : List HouseCall) (call : HouseCall) (to : Place) (t : ℕ) (own : Option OwnStream) (line : Line) (s : Socket)
-    → is_broken s ≡ true → is_stream t own ≡ true → stream_of s ≡ number_of own → At A calls to line s → IsLost (calls ++ call ∷ []) to
-broken-lost A calls call to t own line socket.Unmade e is same h = cc
-broken-lost A calls call to t own line (socket.Connecting n) e is same h = cc
-broken-lost A calls call to t own line (socket.Open n) e is same h = cc
-broken-lost A calls call to t own line (socket.Failed n) e is same h = inr (n, happened-more calls call to n (Failed n) h)
-broken-lost A calls call to t own line (socket.Surplus n) e is same h = absurd h
-broken-lost A calls call to t own line socket.Closed e is same h = absurd (no-stream t own is same)
+broken-lost : (calls : List HouseCall) (call : HouseCall) (to : Place) (t : ℕ) (own : Option OwnStream) (line : Line) (s : Socket)
+    → is_broken s ≡ true → is_stream t own ≡ true → stream_of s ≡ number_of own → At calls to line s → Lost (calls ++ call ∷ []) to
+broken-lost calls call to t own line socket.Unmade e is same h = cc
+broken-lost calls call to t own line (socket.Connecting n) e is same h = cc
+broken-lost calls call to t own line (socket.Open n) e is same h = cc
+broken-lost calls call to t own line (socket.Failed n) e is same h = inr (n, happened-more calls call to n (Failed n) h)
+broken-lost calls call to t own line (socket.Surplus n) e is same h = absurd h
+broken-lost calls call to t own line socket.Closed e is same h = absurd (no-stream t own is same)
 
 offered-broken : (r : Relay) (remote window maximum : ℕ) → is_done (with-line (Offered remote window maximum) r) ≡ true → is_broken r.socket ≡ true
 offered-broken r remote window maximum h = by (is_broken r.socket) h
@@ -392,57 +385,57 @@ offered-broken r remote window maximum h = by (is_broken r.socket) h
     by true h = refl
     by false h = cc
 
-shut-at : (A : Type 0) (calls : List HouseCall) (call : HouseCall) (to : Place) (t : ℕ) (own : Option OwnStream) (line : Line) (r : Relay)
-    → (A → is_done (with-line line r) ≡ true) → is_stream t own ≡ true → stream_of r.socket ≡ number_of own → At A calls to line r.socket
-    → Shut A line (calls ++ call ∷ []) to
-shut-at A calls call to t own (Dialing dialog) r done is same h = tt
-shut-at A calls call to t own (Asked host port version) r done is same h = tt
-shut-at A calls call to t own (Opened version) r done is same h = tt
-shut-at A calls call to t own (Offered remote window maximum) r done is same h =
-    λ x. broken-lost A calls call to t own (Offered remote window maximum) r.socket (offered-broken r remote window maximum (done x)) is same h
-shut-at A calls call to t own (Live live) r done is same h = tt
-shut-at A calls call to t own Over r done is same h = tt
+shut-at : (calls : List HouseCall) (call : HouseCall) (to : Place) (t : ℕ) (own : Option OwnStream) (line : Line) (r : Relay)
+    → is_done (with-line line r) ≡ true → is_stream t own ≡ true → stream_of r.socket ≡ number_of own → At calls to line r.socket
+    → Shut line (calls ++ call ∷ []) to
+shut-at calls call to t own (Dialing dialog) r done is same h = tt
+shut-at calls call to t own (Asked host port version) r done is same h = tt
+shut-at calls call to t own (Opened version) r done is same h = tt
+shut-at calls call to t own (Offered remote window maximum) r done is same h =
+    broken-lost calls call to t own (Offered remote window maximum) r.socket (offered-broken r remote window maximum done) is same h
+shut-at calls call to t own (Live live) r done is same h = tt
+shut-at calls call to t own Over r done is same h = tt
 
-step-at : (A : Type 0) (calls : List HouseCall) (call : HouseCall) (old : Course) (to : Place) (s : Step) (t : ℕ) (a : Life) → Orders call s t → Sound a
-    → (A → Apart (open_streams old.lives)) → MayStep s old a → has_stream t a ≡ true → At A calls to a.relay.line a.relay.socket
-    → At A (calls ++ call ∷ []) to a.relay.line (relay_after s a.relay).socket
-step-at A calls call old to (step.Pause b) t a ord sa apart may is h = at-more A calls call to a.relay.line a.relay.socket h
-step-at A calls call old to step.Finish t a ord sa apart may is h = at-more A calls call to a.relay.line a.relay.socket h
-step-at A calls call old to step.End t a ord sa apart may is h = at-more A calls call to a.relay.line a.relay.socket h
-step-at A calls call old to step.Close t a ord sa apart may is h =
-    shut-at A calls call to t a.own a.relay.line a.relay (λ x. may (apart x)) is sa.stream h
-step-at A calls call old to step.Writable t a ord sa apart may is h =
-    writable-at A calls call to t a.own a.relay.line a.relay.socket ord is sa.stream h
-step-at A calls call old to step.Failed t a ord sa apart may is h =
-    failed-at A calls call to t a.own a.relay.line a.relay.socket ord is sa.stream h
+step-at : (calls : List HouseCall) (call : HouseCall) (old : Course) (to : Place) (s : Step) (t : ℕ) (a : Life) → Orders call s t → Sound a
+    → Apart (open_streams old.lives) → MayStep s old a → has_stream t a ≡ true → At calls to a.relay.line a.relay.socket
+    → At (calls ++ call ∷ []) to a.relay.line (relay_after s a.relay).socket
+step-at calls call old to (step.Pause b) t a ord sa apart may is h = at-more calls call to a.relay.line a.relay.socket h
+step-at calls call old to step.Finish t a ord sa apart may is h = at-more calls call to a.relay.line a.relay.socket h
+step-at calls call old to step.End t a ord sa apart may is h = at-more calls call to a.relay.line a.relay.socket h
+step-at calls call old to step.Close t a ord sa apart may is h =
+    shut-at calls call to t a.own a.relay.line a.relay (may apart) is sa.stream h
+step-at calls call old to step.Writable t a ord sa apart may is h =
+    writable-at calls call to t a.own a.relay.line a.relay.socket ord is sa.stream h
+step-at calls call old to step.Failed t a ord sa apart may is h =
+    failed-at calls call to t a.own a.relay.line a.relay.socket ord is sa.stream h
 
-step-wired : (A : Type 0) (calls : List HouseCall) (call : HouseCall) (old : Course) (o : Option Place) (s : Step) (t : ℕ) (a : Life) → Orders call s t
-    → Sound a → (A → Apart (open_streams old.lives)) → MayStep s old a → has_stream t a ≡ true
-    → WiredTo A o calls a.dials a.relay.line a.relay.socket
-    → WiredTo A o (calls ++ call ∷ []) a.dials a.relay.line (relay_after s a.relay).socket
-step-wired A calls call old None s t a ord sa apart may is h = h
-step-wired A calls call old (Some to) s t a ord sa apart may is h = (h.0, step-at A calls call old to s t a ord sa apart may is h.1)
+step-wired : (calls : List HouseCall) (call : HouseCall) (old : Course) (o : Option Place) (s : Step) (t : ℕ) (a : Life) → Orders call s t
+    → Sound a → Apart (open_streams old.lives) → MayStep s old a → has_stream t a ≡ true
+    → WiredTo o calls a.dials a.relay.line a.relay.socket
+    → WiredTo o (calls ++ call ∷ []) a.dials a.relay.line (relay_after s a.relay).socket
+step-wired calls call old None s t a ord sa apart may is h = h
+step-wired calls call old (Some to) s t a ord sa apart may is h = (h.0, step-at calls call old to s t a ord sa apart may is h.1)
 
-shut-lost : (A : Type 0) (calls : List HouseCall) (to : Place) (line : Line) → Lost A calls to → Shut A line calls to
-shut-lost A calls to (Dialing dialog) h = tt
-shut-lost A calls to (Asked host port version) h = tt
-shut-lost A calls to (Opened version) h = tt
-shut-lost A calls to (Offered remote window maximum) h = h
-shut-lost A calls to (Live live) h = tt
-shut-lost A calls to Over h = tt
+shut-lost : (calls : List HouseCall) (to : Place) (line : Line) → Lost calls to → Shut line calls to
+shut-lost calls to (Dialing dialog) h = tt
+shut-lost calls to (Asked host port version) h = tt
+shut-lost calls to (Opened version) h = tt
+shut-lost calls to (Offered remote window maximum) h = h
+shut-lost calls to (Live live) h = tt
+shut-lost calls to Over h = tt
 
-made-at : (A : Type 0) (calls : List HouseCall) (number : Option ℕ) (to : Place) (line : Line)
-    → At A (calls ++ Marks (HouseOrder (order.Connect to.0 to.1) number) ∷ []) to line (made_as number)
-made-at A calls None to line = shut-lost A _ to line (λ x. inl (record { before = calls; behind = []; are = refl }))
-made-at A calls (Some t) to line = record { before = calls; behind = []; are = refl }
+made-at : (calls : List HouseCall) (number : Option ℕ) (to : Place) (line : Line)
+    → At (calls ++ Marks (HouseOrder (order.Connect to.0 to.1) number) ∷ []) to line (made_as number)
+made-at calls None to line = shut-lost _ to line (inl (record { before = calls; behind = []; are = refl }))
+made-at calls (Some t) to line = record { before = calls; behind = []; are = refl }
 
-makes-wired : (A : Type 0) (calls : List HouseCall) (to : Place) (number : Option ℕ) (o : Option Place) (dials : Bool) (line : Line) (s : Socket) → o ≡ Some to
-    → WiredTo A o calls dials line s
-    → WiredTo A o (calls ++ Marks (HouseOrder (order.Connect to.0 to.1) number) ∷ []) dials line (made_as number)
-makes-wired A calls to number None dials line s e h = cc
-makes-wired A calls to number (Some there) dials line s e h =
-    subst (λ (p : Place). WiredTo A (Some p) (calls ++ Marks (HouseOrder (order.Connect to.0 to.1) number) ∷ []) dials line (made_as number))
-    (the to there (sym e)) (h.0, made-at A calls number to line)
+makes-wired : (calls : List HouseCall) (to : Place) (number : Option ℕ) (o : Option Place) (dials : Bool) (line : Line) (s : Socket) → o ≡ Some to
+    → WiredTo o calls dials line s
+    → WiredTo o (calls ++ Marks (HouseOrder (order.Connect to.0 to.1) number) ∷ []) dials line (made_as number)
+makes-wired calls to number None dials line s e h = cc
+makes-wired calls to number (Some there) dials line s e h =
+    subst (λ (p : Place). WiredTo (Some p) (calls ++ Marks (HouseOrder (order.Connect to.0 to.1) number) ∷ []) dials line (made_as number))
+    (the to there (sym e)) (h.0, made-at calls number to line)
   where
     the : (x y : Place) → Some x ≡ Some y → x ≡ y
     the x y e = cc
@@ -458,30 +451,30 @@ joined-none true crowded o t r h = ap (λ (x : Relay). offer x.line) h
 joined-none false crowded None t r h = ap (λ (x : Relay). offer x.line) h
 joined-none false crowded (Some f) t r h = joined-at f.kind crowded f t r h
 
-wired : (A : Type 0) (before : List HouseCall) (call : HouseCall) (old : Course) → (A → Apart (open_streams old.lives))
-    → Passes call old (Wired A before) (Wired A (before ++ call ∷ []))
-wired A before call old apart = record {
-  stays = λ a p u. wired-more A before call a.to a.dials a.relay.line a.relay.socket p;
-  hears = λ m a b s p h. wired-on A before _ _ a b h
+wired : (before : List HouseCall) (call : HouseCall) (old : Course) → Apart (open_streams old.lives)
+    → Passes call old (Wired before) (Wired (before ++ call ∷ []))
+wired before call old apart = record {
+  stays = λ a p u. wired-more before call a.to a.dials a.relay.line a.relay.socket p;
+  hears = λ m a b s p h. wired-on before _ _ a b h
       (subst (λ (r : Relay). Sets a.relay.line r.line) (sym h.relay.0) (heard m a.relay))
       (ap (λ (r : Relay). r.socket) h.relay.0 ∙ (stays-heard m a.relay).socket_is) p;
   offers = λ f number remote window maximum. (refl, tt);
-  says = λ bytes e a b s p is h. wired-more A before call b.to b.dials b.relay.line b.relay.socket (wired-on A before _ _ a b h.1
+  says = λ bytes e a b s p is h. wired-more before call b.to b.dials b.relay.line b.relay.socket (wired-on before _ _ a b h.1
       (inl (ap (λ (r : Relay). offer r.line) h.1.relay.0 ∙ said a.relay.line a.relay is))
       (ap (λ (r : Relay). r.socket) h.1.relay.0 ∙ (stays-after (says_of a.relay) a.relay).socket_is) p);
-  gets = λ t bytes e a b s s' p is h. wired-more A before call b.to b.dials b.relay.line b.relay.socket
-      (subst (λ (o : Option Place). WiredTo A o before b.dials b.relay.line b.relay.socket) (sym h.to)
-      (subst (λ (d : Bool). WiredTo A a.to before d b.relay.line b.relay.socket) (sym h.dials)
-      (gets-wired A before (not (are_full old.lives)) bytes a.to a b s h.relay.0 p)));
-  takes = λ t n e a b s p is h. wired-more A before call b.to b.dials b.relay.line b.relay.socket (wired-on A before _ _ a b h
+  gets = λ t bytes e a b s s' p is h. wired-more before call b.to b.dials b.relay.line b.relay.socket
+      (subst (λ (o : Option Place). WiredTo o before b.dials b.relay.line b.relay.socket) (sym h.to)
+      (subst (λ (d : Bool). WiredTo a.to before d b.relay.line b.relay.socket) (sym h.dials)
+      (gets-wired before (not (are_full old.lives)) bytes a.to a b s h.relay.0 p)));
+  takes = λ t n e a b s p is h. wired-more before call b.to b.dials b.relay.line b.relay.socket (wired-on before _ _ a b h
       (subst (λ (r : Relay). Sets a.relay.line r.line) (sym h.relay.0) (in-live _ a.relay.line (λ live. refl)))
       (ap (λ (r : Relay). r.socket) h.relay.0) p);
   steps = λ s t ord a sa may p is.
-      subst (λ (line : Line). WiredTo A a.to (before ++ call ∷ []) a.dials line (relay_after s a.relay).socket) (sym (line-step s a.relay))
-      (step-wired A before call old a.to s t a ord sa apart may is p);
+      subst (λ (line : Line). WiredTo a.to (before ++ call ∷ []) a.dials line (relay_after s a.relay).socket) (sym (line-step s a.relay))
+      (step-wired before call old a.to s t a ord sa apart may is p);
   makes = λ host port number e a s p is there.
-      subst (λ (c : HouseCall). WiredTo A a.to (before ++ c ∷ []) a.dials a.relay.line (made_as number)) (sym e)
-      (makes-wired A before (host, port) number a.to a.dials a.relay.line a.relay.socket there p);
+      subst (λ (c : HouseCall). WiredTo a.to (before ++ c ∷ []) a.dials a.relay.line (made_as number)) (sym e)
+      (makes-wired before (host, port) number a.to a.dials a.relay.line a.relay.socket there p);
   joins = λ l t e r h. joined-none _ _ _ t r h;
 }
 
@@ -537,22 +530,22 @@ answers (Live live) r e =
 answers Over r e = cc
 
 -- the one that says it
-record Speaker (A : Type 0) (calls : List HouseCall) (lives : List Life) (bytes : List ℕ) : Type 0 where
+record Speaker (calls : List HouseCall) (lives : List Life) (bytes : List ℕ) : Type 0 where
   before : List Life
   life : Life
   behind : List Life
   were : lives ≡ before ++ life ∷ behind
   sounds : Sound life
-  wired_so : Wired A calls life
+  wired_so : Wired calls life
   says : bytes ≡ framed (said_by life.relay)
   answers_so : Answers life.relay
 
-speaker : (A : Type 0) (calls : List HouseCall) (b : Bool) (o : Option Forwarding) (bytes : List ℕ) (old new : Course) → SaysBy b o bytes old new
-    → Each Sound old.lives → Each (Wired A calls) old.lives
-    → ((is_confirmation bytes ≡ false) × (is_failure bytes ≡ false)) ⊎ Speaker A calls old.lives bytes
-speaker A calls false o bytes old new h s p = inl (ap is_confirmation h.0, ap is_failure h.0)
-speaker A calls true (Some f) bytes old new h s p = inl (ap is_confirmation h.0, ap is_failure h.0)
-speaker A calls true None bytes old new h s p =
+speaker : (calls : List HouseCall) (b : Bool) (o : Option Forwarding) (bytes : List ℕ) (old new : Course) → SaysBy b o bytes old new
+    → Each Sound old.lives → Each (Wired calls) old.lives
+    → ((is_confirmation bytes ≡ false) × (is_failure bytes ≡ false)) ⊎ Speaker calls old.lives bytes
+speaker calls false o bytes old new h s p = inl (ap is_confirmation h.0, ap is_failure h.0)
+speaker calls true (Some f) bytes old new h s p = inl (ap is_confirmation h.0, ap is_failure h.0)
+speaker calls true None bytes old new h s p =
     let one = h.1 in
     inr (record {
       before = one.before;
@@ -560,20 +553,20 @@ speaker A calls true None bytes old new h s p =
       behind = one.behind;
       were = one.were;
       sounds = (each-back Sound one.before (one.life ∷ one.behind) (subst (Each Sound) one.were s)).0;
-      wired_so = (each-back (Wired A calls) one.before (one.life ∷ one.behind) (subst (Each (Wired A calls)) one.were p)).0;
+      wired_so = (each-back (Wired calls) one.before (one.life ∷ one.behind) (subst (Each (Wired calls)) one.were p)).0;
       says = one.goes.0;
       answers_so = answers one.life.relay.line one.life.relay one.is;
     })
 
-record There (A : Type 0) (calls : List HouseCall) (l : Life) : Type 0 where
+record There (calls : List HouseCall) (l : Life) : Type 0 where
   to : Place
   is : l.to ≡ Some to
-  at : At A calls to l.relay.line l.relay.socket
+  at : At calls to l.relay.line l.relay.socket
 
-there : (A : Type 0) (calls : List HouseCall) (o : Option Place) (l : Life) → l.to ≡ o → offer l.relay.line ≡ true
-    → WiredTo A o calls l.dials l.relay.line l.relay.socket → There A calls l
-there A calls None l e is h = absurd (both_ways (offer l.relay.line) h is)
-there A calls (Some to) l e is h = record { to = to; is = e; at = h.1 }
+there : (calls : List HouseCall) (o : Option Place) (l : Life) → l.to ≡ o → offer l.relay.line ≡ true
+    → WiredTo o calls l.dials l.relay.line l.relay.socket → There calls l
+there calls None l e is h = absurd (both_ways (offer l.relay.line) h is)
+there calls (Some to) l e is h = record { to = to; is = e; at = h.1 }
 
 number-its : (n : ℕ) (own : Option OwnStream) → Some n ≡ number_of own → IsStream own n
 number-its n None e = tt
@@ -583,13 +576,13 @@ none-its : (n : ℕ) (own : Option OwnStream) → None ≡ number_of own → IsS
 none-its n None e = tt
 none-its n (Some own) e = cc
 
-confirmation : (A : Type 0) (calls : List HouseCall) (lives : List Life) (bytes : List ℕ) → is_confirmation bytes ≡ true → (x : Speaker A calls lives bytes)
+confirmation : (calls : List HouseCall) (lives : List Life) (bytes : List ℕ) → is_confirmation bytes ≡ true → (x : Speaker calls lives bytes)
     → Answers x.life.relay → IsConfirmationOf calls lives bytes
-confirmation A calls lives bytes is x (inl none) = absurd (both_ways (is_confirmation bytes) (ap is_confirmation x.says ∙ none.confirms_none) is)
-confirmation A calls lives bytes is x (inr (inr d)) =
+confirmation calls lives bytes is x (inl none) = absurd (both_ways (is_confirmation bytes) (ap is_confirmation x.says ∙ none.confirms_none) is)
+confirmation calls lives bytes is x (inr (inr d)) =
     absurd (both_ways (is_confirmation bytes) (ap is_confirmation x.says ∙ ap (λ (p : List ℕ). is_confirmation (framed p)) d.3.words) is)
-confirmation A calls lives bytes is x (inr (inl c)) =
-    let where_to = there A calls x.life.to x.life refl (ap offer c.3.line) x.wired_so in
+confirmation calls lives bytes is x (inr (inl c)) =
+    let where_to = there calls x.life.to x.life refl (ap offer c.3.line) x.wired_so in
     record {
       life = x.life;
       remote = c.0;
@@ -606,30 +599,28 @@ confirmation A calls lives bytes is x (inr (inl c)) =
       };
       says = x.says ∙ ap framed c.3.words;
       its = number-its c.3.stream x.life.own (sym (ap stream_of c.3.socket_is) ∙ x.sounds.stream);
-      writable = subst (λ (s : Socket). At A calls where_to.to x.life.relay.line s) c.3.socket_is where_to.at;
+      writable = subst (λ (s : Socket). At calls where_to.to x.life.relay.line s) c.3.socket_is where_to.at;
     }
 
-lost-since : (A : Type 0) → A → (calls : List HouseCall) (l : Life) (to : Place) (remote window maximum : ℕ) (s : Socket) → is_broken s ≡ true
-    → stream_of s ≡ number_of l.own → At A calls to (Offered remote window maximum) s → HasNoNumber calls to ⊎ HasFailedSince calls l to
-lost-since A x calls l to remote window maximum socket.Unmade e same h = cc
-lost-since A x calls l to remote window maximum (socket.Connecting n) e same h = cc
-lost-since A x calls l to remote window maximum (socket.Open n) e same h = cc
-lost-since A x calls l to remote window maximum (socket.Failed n) e same h =
+lost-since : (calls : List HouseCall) (l : Life) (to : Place) (remote window maximum : ℕ) (s : Socket) → is_broken s ≡ true
+    → stream_of s ≡ number_of l.own → At calls to (Offered remote window maximum) s → HasNoNumber calls to ⊎ HasFailedSince calls l to
+lost-since calls l to remote window maximum socket.Unmade e same h = cc
+lost-since calls l to remote window maximum (socket.Connecting n) e same h = cc
+lost-since calls l to remote window maximum (socket.Open n) e same h = cc
+lost-since calls l to remote window maximum (socket.Failed n) e same h =
     inr (record { stream = n; its = number-its n l.own same; failed = h })
-lost-since A x calls l to remote window maximum (socket.Surplus n) e same h = absurd h
-lost-since A x calls l to remote window maximum socket.Closed e same h = now (h x)
-  where
-    now : IsLost calls to → HasNoNumber calls to ⊎ HasFailedSince calls l to
-    now (inl h) = inl h
-    now (inr h) = inr (record { stream = h.0; its = none-its h.0 l.own same; failed = h.1 })
+lost-since calls l to remote window maximum (socket.Surplus n) e same h = absurd h
+lost-since calls l to remote window maximum socket.Closed e same (inl h) = inl h
+lost-since calls l to remote window maximum socket.Closed e same (inr h) =
+    inr (record { stream = h.0; its = none-its h.0 l.own same; failed = h.1 })
 
-failure : (A : Type 0) → A → (calls : List HouseCall) (lives : List Life) (bytes : List ℕ) → is_failure bytes ≡ true → (x : Speaker A calls lives bytes)
+failure : (calls : List HouseCall) (lives : List Life) (bytes : List ℕ) → is_failure bytes ≡ true → (x : Speaker calls lives bytes)
     → Answers x.life.relay → IsFailureOf calls lives bytes
-failure A so calls lives bytes is x (inl none) = absurd (both_ways (is_failure bytes) (ap is_failure x.says ∙ none.fails_none) is)
-failure A so calls lives bytes is x (inr (inl c)) =
+failure calls lives bytes is x (inl none) = absurd (both_ways (is_failure bytes) (ap is_failure x.says ∙ none.fails_none) is)
+failure calls lives bytes is x (inr (inl c)) =
     absurd (both_ways (is_failure bytes) (ap is_failure x.says ∙ ap (λ (p : List ℕ). is_failure (framed p)) c.3.words) is)
-failure A so calls lives bytes is x (inr (inr d)) =
-    let where_to = there A calls x.life.to x.life refl (ap offer d.3.line) x.wired_so in
+failure calls lives bytes is x (inr (inr d)) =
+    let where_to = there calls x.life.to x.life refl (ap offer d.3.line) x.wired_so in
     record {
       life = x.life;
       remote = d.0;
@@ -644,29 +635,29 @@ failure A so calls lives bytes is x (inr (inr d)) =
         there = where_to.is;
       };
       says = x.says ∙ ap framed d.3.words;
-      cause = lost-since A so calls x.life where_to.to d.0 d.1 d.2 x.life.relay.socket d.3.broken x.sounds.stream
-          (subst (λ (line : Line). At A calls where_to.to line x.life.relay.socket) d.3.line where_to.at);
+      cause = lost-since calls x.life where_to.to d.0 d.1 d.2 x.life.relay.socket d.3.broken x.sounds.stream
+          (subst (λ (line : Line). At calls where_to.to line x.life.relay.socket) d.3.line where_to.at);
     }
 
-speaks : (A : Type 0) (calls : List HouseCall) (course next : Course) (bytes : List ℕ) → (A → BringsNew [] calls)
-    → Reaches first_course calls course → Follows (Marks (HouseSaid bytes)) course next
-    → ((is_confirmation bytes ≡ false) × (is_failure bytes ≡ false)) ⊎ Speaker A calls course.lives bytes
-speaks A calls course next bytes brings reached h =
-    speaker A calls course.desk.greeted (find has_request course.desk.all) bytes course next h (all-sound calls course reached).lives
-    (pass-all A (Wired A) (wired A) calls course brings reached)
+speaks : (calls : List HouseCall) (course next : Course) (bytes : List ℕ) → Reaches first_course calls course
+    → Follows (Marks (HouseSaid bytes)) course next
+    → ((is_confirmation bytes ≡ false) × (is_failure bytes ≡ false)) ⊎ Speaker calls course.lives bytes
+speaks calls course next bytes reached h =
+    speaker calls course.desk.greeted (find has_request course.desk.all) bytes course next h (all-sound calls course reached).lives
+    (pass-all Wired wired calls course reached)
 
 pub confirms-connected : ConfirmsConnected
-confirms-connected calls course next bytes reached h is = by (speaks ⊥ calls course next bytes (λ x. absurd x) reached h)
+confirms-connected calls course next bytes reached h is = by (speaks calls course next bytes reached h)
   where
-    by : ((is_confirmation bytes ≡ false) × (is_failure bytes ≡ false)) ⊎ Speaker ⊥ calls course.lives bytes
+    by : ((is_confirmation bytes ≡ false) × (is_failure bytes ≡ false)) ⊎ Speaker calls course.lives bytes
         → IsConfirmationOf calls course.lives bytes
     by (inl none) = absurd (both_ways (is_confirmation bytes) none.0 is)
-    by (inr x) = confirmation ⊥ calls course.lives bytes is x x.answers_so
+    by (inr x) = confirmation calls course.lives bytes is x x.answers_so
 
 pub refuses-unconnected : RefusesUnconnected
-refuses-unconnected calls course next bytes brings reached h is = by (speaks (Unit {0}) calls course next bytes (λ x. brings) reached h)
+refuses-unconnected calls course next bytes reached h is = by (speaks calls course next bytes reached h)
   where
-    by : ((is_confirmation bytes ≡ false) × (is_failure bytes ≡ false)) ⊎ Speaker (Unit {0}) calls course.lives bytes
+    by : ((is_confirmation bytes ≡ false) × (is_failure bytes ≡ false)) ⊎ Speaker calls course.lives bytes
         → IsFailureOf calls course.lives bytes
     by (inl none) = absurd (both_ways (is_failure bytes) none.1 is)
-    by (inr x) = failure (Unit {0}) tt calls course.lives bytes is x x.answers_so
+    by (inr x) = failure calls course.lives bytes is x x.answers_so

@@ -2,12 +2,13 @@
 use Rattle.std.proofs.Common.{◌≡◌, ◌∙◌, refl, sym, ap, subst, arith, ℕ, suc, ◌+◌, ◌<◌, ◌^◌, Bool, true, false, cond, List, [], ◌∷◌, ◌++◌, set, take, drop, map, Option, Some, None, inl, inr}
 use Rattle.std.specs.Prelude.{◌==◌, ◌&&◌, ◌||◌, ◌≤◌, not, length, find, is_some, IfSome}
 use Rattle.std.specs.List.{list_any, position, cons_option}
-use Rattle.std.proofs.lemmas.Bool.{both_ways, or_parts, and_parts}
+use Rattle.std.proofs.lemmas.Bool.{both_ways, or_parts, or_from, and_parts}
+use Rattle.std.proofs.lemmas.List.Quantifiers.{position-Some}
 use Rattle.std.proofs.lemmas.List.Elements.{All-append}
 use Rattle.conn_messages.specs.declared.message.Message.{Message}
 use Rattle.mux_outside.specs.HouseCalls.{HouseCall, Begins, Marks, Hears as HearsBytes, Turns, Joined, Got, End, Writable, Failed}
 use Rattle.mux_outside.specs.HouseCalls.{Takes as TakesBytes}
-use Rattle.mux_outside.specs.OwnStreams.{is_silent, new_stream}
+use Rattle.mux_outside.specs.OwnStreams.{is_one, is_silent, new_stream}
 use Rattle.mux_outside.specs.declared.order.Order.{Order}
 use Rattle.mux_outside.specs.declared.order.Order.TheVariants as order
 use Rattle.mux_outside.specs.declared.own_streams.OwnStream.{OwnStream}
@@ -23,6 +24,7 @@ use Rattle.house_forward.specs.Desk.{Desk, greeting_said, request_said}
 use Rattle.house_forward.specs.Forwardings.{has_request, has_listener}
 use Rattle.house_forward.specs.Going.{GoesAt, LeavesAt, Gets, GetsOn, TakesOf, TakesOn, SaysOn, HearsOn, Obeys, AwaitsAt, MakesAt, MayBeFirst, swept}
 use Rattle.house_forward.specs.Links.{has_saying, has_order, is_of, is_offered, is_awaited, link_after, streams_of, Offers, Joins, has_number, is_number, own_of, is_full, is_crowded, dials, ConnectsAt, made_stream, OrdersIn, IsJoined}
+use Rattle.house_forward.specs.Links as linking
 use Rattle.house_forward.specs.Lives.{Course, Held, LinksGo, GoesFurther, DeskGoes, OnDesk, TakesFurther, StandsFor, Follows, taken_in, with_desk}
 use Rattle.house_forward.specs.Lives.{HearsAt, OffersOne, SaysIn, SaysBy, GivesOrder, JoinsOne, OrdersSocket, MakesOne, held, are_full, are_crowded, is_unmade, IsEndOf}
 use Rattle.house_forward.specs.Lives.{Life, Listens, Speaks, GoesBy, IsLife, IsSocketOf, AreLives, IsCourse, IsAllowed, StepsBy, Reaches, first_course, with_lives, left_in, has_channel, has_words, has_stream, is_stream, stepped, made_life}
@@ -39,10 +41,11 @@ use Rattle.house_forward.specs.declared.saying.TheConstants.{GREETING}
 use Rattle.proxy_frames.specs.State.{FramerState}
 use Rattle.house_forward.proofs.Changes.{first-is}
 use Rattle.house_forward.proofs.Fresh.{offered, joined}
-use Rattle.house_forward.proofs.Lists.{none-passes}
+use Rattle.house_forward.proofs.Lists.{none-passes, kept-set}
 use Rattle.house_forward.proofs.Living as living
 use Rattle.house_forward.proofs.Matching.{at-first, splits, both-append, none-lives, goes-one, sweeps, all-step, all-more, full-same, crowded-same, none-awaited, one-place}
 use Rattle.house_forward.proofs.Queues.{rests-first}
+use Rattle.house_forward.proofs.Streams.{lacks-one}
 
 -- ---- the course of other links
 
@@ -349,6 +352,29 @@ made-at number before x behind links new (Some j) were none is e h =
     (ap (λ (ls : List Link). ls ++ drop (suc j) links) same.front ∙ ap (λ (ls : List Link). before ++ ls) same.back)
     ∙ ap (λ (z : Link). (before ++ behind) ++ made-link number z ∷ []) same.one
 
+-- its number is none that is there
+made-fresh : (o number : Option ℕ) (links new : List Link) → MakesAt o number links new
+    → IfSome number (λ t. is_one t (streams_of links) ≡ false)
+made-fresh None number links new h = absurd h
+made-fresh (Some j) number links new h = h.3
+
+each-some : (o : Option ℕ) (P Q : ℕ → Type 0) → ((t : ℕ) → P t → Q t) → IfSome o P → IfSome o Q
+each-some None P Q f h = tt
+each-some (Some t) P Q f h = f t h
+
+offered-none : (s : Stream) → linking.offers s ≡ true → own_of s ≡ None
+offered-none (Offered host port) e = refl
+offered-none Awaited e = refl
+offered-none (Made own) e = cc
+offered-none Gone e = refl
+
+-- no link has the number of a stream that is none of theirs
+numbers-none : (t : ℕ) (ls : List Link) → is_one t (streams_of ls) ≡ false → list_any (has_number t) ls ≡ false
+numbers-none t [] e = refl
+numbers-none t (l ∷ ls) e =
+    let both = lacks-one l.stream (streams_of ls) t e in
+    or_from (has_number t l) (list_any (has_number t) ls) both.0 (numbers-none t ls both.1)
+
 -- it is made, or couldn't be
 pub makes : (host : List ℕ) (port : ℕ) (number : Option ℕ) (old middle new : Held) → OrdersSocket host port old middle
     → new ≡ record middle { links = new.links } → MakesAt (position is_awaited middle.links) number middle.links new.links
@@ -365,6 +391,10 @@ makes host port number old middle new its others h = λ most course is.
     (its.ordered.2 ∙ at.are y) (none-awaited most s.first before s.front) refl refl h in
     let found = first-is is_offered old.links i x its.first its.ordered.1 in
     let there = subst (λ (f : Option Link). IfSome f (λ l. ConnectsAt host port l.stream)) found its.there in
+    let streams : streams_of middle.links ≡ streams_of old.links =
+    ap streams_of its.ordered.2 ∙ kept-set (λ (l : Link). own_of l.stream) old.links i (record x { stream = Awaited }) x
+    (position-Some is_offered old.links i x its.first).0
+    (sym (offered-none x.stream at.is) ∙ ap (λ (l : Link). own_of l.stream) its.ordered.1) in
     let lives = (s.first ++ s.last) ++ made_life number s.life ∷ [] in
     let last = (before ++ behind) ++ made-link number y ∷ [] in
     let same : new ≡ record old { links = last } =
@@ -377,6 +407,9 @@ makes host port number old middle new its others h = λ most course is.
         others = none-lives most is_unmade is_offered (living.is-unmade most) s.first before s.front at.none;
         is = living.is-unmade most s.life x s.is ∙ at.is;
         there = ends-there host port x.stream s.life.to there s.is.end;
+        fresh = each-some number _ _ (λ t new. none-lives most (has_stream t) (has_number t) (living.has-number t most) course.lives
+            old.links is.lives (numbers-none t old.links (subst (λ (ss : List OwnStream). is_one t ss ≡ false) streams new)))
+            (made-fresh (position is_awaited middle.links) number middle.links new.links h);
         were = s.were;
         are = refl;
       },
@@ -445,6 +478,8 @@ joins l t old new framer stage desk h = λ most course is.
           (subst (λ (b : Bool). IsJoined (is_full old) b f t h.relay) (sym (crowded-same most course.lives old is.lives)) h.joined);
       free = none-lives most (has_channel h.relay.number) (λ l. l.relay.number == h.relay.number)
           (living.has-channel h.relay.number most) course.lives old is.lives h.free;
+      fresh = none-lives most (has_stream t) (has_number t) (living.has-number t most) course.lives old is.lives
+          (numbers-none t old h.fresh);
       more = refl;
     } in (
       record course { lives = course.lives ++ life ∷ [] },

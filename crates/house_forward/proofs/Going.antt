@@ -1,13 +1,14 @@
 -- How the relays go on.
-use Rattle.std.proofs.Common.{◌≡◌, ◌∙◌, refl, ap, ℕ, true, List, [], ◌∷◌, ◌++◌, get_or, set, Option, Some, None}
+use Rattle.std.proofs.Common.{◌≡◌, ◌∙◌, refl, ap, ℕ, true, List, [], ◌∷◌, ◌++◌, get_or, set, Option, Some, None, false}
 use Rattle.std.specs.Prelude.{Result, Ok, Err, OnOk, IfSome, is_some, find}
 use Rattle.std.specs.List.{remove}
+use Rattle.mux_outside.specs.OwnStreams.{is_one}
 use Rattle.mux_outside.specs.declared.order.Order.{Order}
 use Rattle.house_relay.specs.Steps.{made_as}
 use Rattle.house_relay.specs.declared.relay.Relay.{Relay}
 use Rattle.house_relay.specs.declared.relay.Saying.{Saying}
 use Rattle.house_forward.specs.Going.{GoesAt, LeavesAt, AwaitsAt, MakesAt, Obeys, swept}
-use Rattle.house_forward.specs.Links.{has_order, IsOrderOf, made_stream, obeyed}
+use Rattle.house_forward.specs.Links.{streams_of, has_order, IsOrderOf, made_stream, obeyed}
 use Rattle.house_forward.specs.Said.{framed, payload_of, payload_if}
 use Rattle.house_forward.specs.declared.link.Link.{Link}
 use Rattle.house_forward.specs.declared.link.Stream.{Stream}
@@ -61,6 +62,10 @@ link-of y r s e f = ap (λ (z : Relay). record y { relay = z }) e ∙ ap (λ (z 
 
 pub makes-at : (o : Option ℕ) (i : ℕ) (number : Option ℕ) (ls : List Link) (x y : Link) → o ≡ Some i → x ≡ get_or ls i x
     → y.stream ≡ made_stream number → y.relay ≡ record x.relay { socket = made_as number }
-    → MakesAt o number ls (remove ls i ++ y ∷ [])
-makes-at o i number ls x y e at stream relay =
-    rw e (x, at, ap (λ (z : Link). remove ls i ++ z ∷ []) (link-of y (record x.relay { socket = made_as number }) (made_stream number) relay stream))
+    → IfSome number (λ t. is_one t (streams_of ls) ≡ false) → MakesAt o number ls (remove ls i ++ y ∷ [])
+makes-at o i number ls x y e at stream relay free = rw e (
+  x,
+  at,
+  ap (λ (z : Link). remove ls i ++ z ∷ []) (link-of y (record x.relay { socket = made_as number }) (made_stream number) relay stream),
+  free,
+)

@@ -34,7 +34,7 @@ use Rattle.house_forward.specs.Heard.{heard_of}
 use Rattle.house_forward.specs.Links.{after_saying, relay_after}
 use Rattle.house_forward.specs.Lives.{Life, Course, GoesBy, Speaks, Listens, StepsBy, MakesOne, Reaches, Follows, SaysBy, MarksIn, OrdersIn, TurnsTo, first_course, with_heard}
 use Rattle.house_forward.specs.Lives.{has_channel, has_stream, is_stream, has_words, unmade, are_full, own_after, own_made, stepped, made_life, kept_in}
-use Rattle.house_forward.specs.Numbers.{ChannelsDiffer, StreamsAreTheirs, StreamsDiffer, BringsNew, channels_of, open_streams, number_of, open_after, made_by, closed_by, without_closed}
+use Rattle.house_forward.specs.Numbers.{ChannelsDiffer, StreamsAreTheirs, StreamsDiffer, EachIsNew, BringsNew, channels_of, open_streams, number_of, open_after, made_by, closed_by, without_closed}
 use Rattle.house_forward.specs.declared.forwarding.Forwarding.{Forwarding}
 use Rattle.house_forward.specs.declared.link.Step.{Step}
 use Rattle.house_forward.specs.declared.link.Step.TheVariants as step
@@ -493,6 +493,71 @@ apart-after (call ∷ calls) there new h =
     apart-after calls (after call there) new.1
     (apart-with (made_by call) (closed_by call) there new.0 (apart-without (closed_by call) there h))
 
+-- ---- each has a new number
+
+none-among : (t : ℕ) (own : Option OwnStream) (rest : List ℕ) → is_stream t own ≡ false → among t rest ≡ false
+    → among t (cons_option (number_of own) rest) ≡ false
+none-among t None rest e h = h
+none-among t (Some own) rest e h = or_from (own.number == t) (among t rest) e h
+
+among-none : (t : ℕ) (ls : List Life) → list_any (has_stream t) ls ≡ false → among t (open_streams ls) ≡ false
+among-none t [] e = refl
+among-none t (l ∷ ls) e =
+    let both = or_parts (has_stream t l) (list_any (has_stream t) ls) e in
+    none-among t l.own (open_streams ls) both.0 (among-none t ls both.1)
+
+made-new : (number : Option ℕ) (ls : List Life) → IfSome number (λ t. list_any (has_stream t) ls ≡ false)
+    → IfSome number (λ t. among t (open_streams ls) ≡ false)
+made-new None ls h = tt
+made-new (Some t) ls h = among-none t ls h
+
+abbrev pub IsNew : HouseCall → Course → Type 0
+IsNew call old = IfSome (made_by call) (λ t. among t (open_streams old.lives) ≡ false)
+
+new-order : (o : Order) (number : Option ℕ) (old new : Course) → OrdersIn o number old new → IsNew (Marks (HouseOrder o number)) old
+new-order (order.Listen host port) number old new h = tt
+new-order (order.Connect host port) number old new h = made-new number old.lives h.fresh
+new-order (order.Unlisten l) number old new h = tt
+new-order (order.Pause t) number old new h = tt
+new-order (order.Resume t) number old new h = tt
+new-order (order.Finish t) number old new h = tt
+new-order (order.Close t) number old new h = tt
+
+new-mark : (mark : HouseMark) (old new : Course) → MarksIn mark old new → IsNew (Marks mark) old
+new-mark HouseIn old new h = tt
+new-mark (HouseSaid bytes) old new h = tt
+new-mark (HouseTook size) old new h = tt
+new-mark (HouseAsked client id opening ask reply) old new h = tt
+new-mark (HouseAnswer client id reply) old new h = tt
+new-mark (HouseOrder o number) old new h = new-order o number old new h
+
+new-turn : (happening : Happening) (old : Course) (new : List Life) → TurnsTo happening old.desk.all old.lives new
+    → IsNew (Turns happening) old
+new-turn (Joined l t) old new h = among-none t old.lives h.fresh
+new-turn (Got t bytes) old new h = tt
+new-turn (End t) old new h = tt
+new-turn (Writable t) old new h = tt
+new-turn (Failed t) old new h = tt
+
+pub new-follow : (call : HouseCall) (old new : Course) → Follows call old new → IsNew call old
+new-follow (Begins starts) old new h = tt
+new-follow (Marks mark) old new h = new-mark mark old new h
+new-follow (HearsBytes bytes) old new h = tt
+new-follow (Turns happening) old new h = new-turn happening old h.0 h.1
+new-follow (TakesBytes t n) old new h = tt
+
+new-reach : (calls : List HouseCall) (old new : Course) → Reaches old calls new → All Sound old → BringsNew (open_streams old.lives) calls
+new-reach [] old new h s = tt
+new-reach (call ∷ calls) old new h s = (
+  new-follow call old h.0 h.1,
+  subst (λ ns. BringsNew ns calls) (streams-follow call old h.0 h.1 s)
+      (new-reach calls h.0 new h.2 (follow-sound call old h.0 h.1 s)),
+)
+
+pub each-is-new : EachIsNew
+each-is-new calls course h = new-reach calls first_course course h (record { lives = tt; past = tt })
+
 pub streams-differ : StreamsDiffer
-streams-differ calls course new h =
-    pairs (open_streams course.lives) (subst Apart (sym (streams-are-theirs calls course h)) (apart-after calls [] new tt))
+streams-differ calls course h =
+    pairs (open_streams course.lives)
+    (subst Apart (sym (streams-are-theirs calls course h)) (apart-after calls [] (each-is-new calls course h) tt))

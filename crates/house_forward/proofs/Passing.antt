@@ -21,13 +21,13 @@ use Rattle.house_forward.specs.Going.{GetsOn, TakesOn}
 use Rattle.house_forward.specs.Links.{IsJoined}
 use Rattle.house_forward.specs.Lives.{Life, Course, GoesBy, One, OneAtMost, MakesOne, IsAllowed, StepsBy, Speaks, Listens, Reaches, Follows, SaysBy, MarksIn, OrdersIn, TurnsTo, first_course, with_heard}
 use Rattle.house_forward.specs.Lives.{has_stream, is_stream, has_channel, has_words, is_unmade, are_full, are_crowded, stepped, made_life}
-use Rattle.house_forward.specs.Numbers.{number_of, open_streams, BringsNew}
+use Rattle.house_forward.specs.Numbers.{number_of, open_streams}
 use Rattle.house_forward.specs.declared.forwarding.Forwarding.{Forwarding}
 use Rattle.house_forward.specs.declared.link.Step.{Step}
 use Rattle.house_forward.specs.declared.link.Step.TheVariants as step
 use Rattle.house_forward.proofs.Differing.{Apart}
 use Rattle.house_forward.proofs.Frames.{Heeds, frames}
-use Rattle.house_forward.proofs.Owning.{streams-follow, apart-after}
+use Rattle.house_forward.proofs.Owning.{streams-follow, apart-after, new-follow}
 use Rattle.house_forward.proofs.Sound.{Each, All, Sound, each-append, each-front, each-back, each-kept, joined_life, offered_life, step_of, sound-gets, follow-sound}
 
 -- ---- each has a stream of its own
@@ -341,28 +341,24 @@ pass-follow (TakesBytes t n) old new P Q k h s all =
 
 -- ---- from the first call on
 
-pub pass-reach : (A : Type 0) (P : List HouseCall → Life → Type 0)
-    → ((before : List HouseCall) (call : HouseCall) (old : Course) → (A → Apart (open_streams old.lives))
+pub pass-reach : (P : List HouseCall → Life → Type 0)
+    → ((before : List HouseCall) (call : HouseCall) (old : Course) → Apart (open_streams old.lives)
     → Passes call old (P before) (P (before ++ call ∷ [])))
-    → (calls before : List HouseCall) (old new : Course) → (A → BringsNew (open_streams old.lives) calls)
-    → (A → Apart (open_streams old.lives)) → Reaches old calls new → All Sound old → Each (P before) old.lives
-    → Each (P (before ++ calls)) new.lives
-pass-reach A P k [] before old new brings apart h s all =
+    → (calls before : List HouseCall) (old new : Course) → Apart (open_streams old.lives) → Reaches old calls new → All Sound old → Each (P before) old.lives → Each (P (before ++ calls)) new.lives
+pass-reach P k [] before old new apart h s all =
     subst (λ (cs : List HouseCall). Each (P cs) new.lives) (sym (append-nil before))
     (subst (λ (c : Course). Each (P before) c.lives) (sym h) all)
-pass-reach A P k (call ∷ calls) before old new brings apart h s all =
+pass-reach P k (call ∷ calls) before old new apart h s all =
     let same = streams-follow call old h.0 h.1 s in
-    let rest = pass-reach A P k calls (before ++ call ∷ []) h.0 new
-    (λ x. subst (λ (ns : List ℕ). BringsNew ns calls) (sym same) (brings x).1)
-    (λ x. subst Apart (sym same) (apart-after (call ∷ []) (open_streams old.lives) ((brings x).0, tt) (apart x)))
+    let rest = pass-reach P k calls (before ++ call ∷ []) h.0 new
+    (subst Apart (sym same) (apart-after (call ∷ []) (open_streams old.lives) (new-follow call old h.0 h.1, tt) apart))
     h.2 (follow-sound call old h.0 h.1 s)
     (pass-follow call old h.0 (P before) (P (before ++ call ∷ [])) (k before call old apart) h.1 s all) in
     subst (λ (cs : List HouseCall). Each (P cs) new.lives) (append_assoc before (call ∷ []) calls) rest
 
 -- of each relay behind the calls
-pub pass-all : (A : Type 0) (P : List HouseCall → Life → Type 0)
-    → ((before : List HouseCall) (call : HouseCall) (old : Course) → (A → Apart (open_streams old.lives))
+pub pass-all : (P : List HouseCall → Life → Type 0)
+    → ((before : List HouseCall) (call : HouseCall) (old : Course) → Apart (open_streams old.lives)
     → Passes call old (P before) (P (before ++ call ∷ [])))
-    → (calls : List HouseCall) (course : Course) → (A → BringsNew [] calls) → Reaches first_course calls course → Each (P calls) course.lives
-pass-all A P k calls course brings h =
-    pass-reach A P k calls [] first_course course brings (λ x. tt) h (record { lives = tt; past = tt }) tt
+    → (calls : List HouseCall) (course : Course) → Reaches first_course calls course → Each (P calls) course.lives
+pass-all P k calls course h = pass-reach P k calls [] first_course course tt h (record { lives = tt; past = tt }) tt

@@ -265,10 +265,10 @@ makes-fed calls host port (Some t) None s acts is none h =
 
 -- ---- all steps
 
-fed : (before : List HouseCall) (call : HouseCall) (old : Course) → (Unit {0} → Apart (open_streams old.lives))
+fed : (before : List HouseCall) (call : HouseCall) (old : Course) → Apart (open_streams old.lives)
     → Passes call old (Fed before) (Fed (before ++ call ∷ []))
 fed before call old apart = record {
-  stays = λ a p u. fed-more before call a.own a.relay.socket a.acts (untouched call old a (apart tt) u) p;
+  stays = λ a p u. fed-more before call a.own a.relay.socket a.acts (untouched call old a apart u) p;
   hears = λ m a b s p h. fed-on before _ _ a b h (ap (λ (r : Relay). r.socket) h.relay.0 ∙ (stays-heard m a.relay).socket_is)
       (read-heard m a.relay a.acts) (none-heard m a.relay a.acts) p;
   offers = λ f number remote window maximum. λ is. record { reads = refl; takes = refl };
@@ -308,4 +308,4 @@ all-of calls (l ∷ ls) h =
     (all-of calls ls h.1)
 
 pub each-has-its-stream : EachHasItsStream
-each-has-its-stream calls course brings h = all-of calls course.lives (pass-all (Unit {0}) Fed fed calls course (λ x. brings) h)
+each-has-its-stream calls course h = all-of calls course.lives (pass-all Fed fed calls course h)

@@ -24,7 +24,7 @@ behind-one : (o : Option OwnStream) (ss : List OwnStream) (t : ℕ) → is_one t
 behind-one None ss t n = n
 behind-one (Some own) ss t n = or_right (own.number == t) _ n
 
-lacks-one : (s : Stream) (ss : List OwnStream) (t : ℕ) → is_one t (cons_option (own_of s) ss) ≡ false
+pub lacks-one : (s : Stream) (ss : List OwnStream) (t : ℕ) → is_one t (cons_option (own_of s) ss) ≡ false
     → (numbered t s ≡ false) × (is_one t ss ≡ false)
 lacks-one (Offered host port) ss t e = (refl, e)
 lacks-one Awaited ss t e = (refl, e)

@@ -1,5 +1,5 @@
 -- The answers that the house says to the server's OPENs.
-use Rattle.std.specs.Prelude.{◌≡◌, ◌⊎◌, ◌==◌, ℕ, Bool, true, List, [], ◌∷◌, ◌++◌, get_or, Some, None}
+use Rattle.std.specs.Prelude.{◌≡◌, ◌⊎◌, ◌==◌, ℕ, Bool, true, List, ◌∷◌, ◌++◌, get_or, Some, None}
 use Rattle.ssh_grammar.specs.declared.numbers.TheConstants.{CHANNEL_OPEN_CONFIRMATION, CHANNEL_OPEN_FAILURE}
 use Rattle.mux_outside.specs.HouseCalls.{HouseCall, Happening, Marks, Turns, Writable, Failed}
 use Rattle.mux_outside.specs.declared.house_mark.HouseMark.TheVariants.{HouseSaid, HouseOrder}
@@ -8,7 +8,6 @@ use Rattle.house_relay.specs.declared.line.Line.TheVariants.{Offered}
 use Rattle.house_forward.specs.Closing.{IsStream}
 use Rattle.house_forward.specs.Connects.{Place}
 use Rattle.house_forward.specs.Lives.{Life, Course, Follows, Reaches, first_course}
-use Rattle.house_forward.specs.Numbers.{BringsNew}
 use Rattle.house_forward.specs.Said.{framed, confirmed, not_connected}
 
 -- whether what is said is an OPEN_CONFIRMATION, or an OPEN_FAILURE: its payload begins behind the
@@ -78,9 +77,8 @@ pub record IsFailureOf (calls : List HouseCall) (lives : List Life) (bytes : Lis
   pub says : bytes ≡ framed (not_connected remote)
   pub cause : HasNoNumber calls to ⊎ HasFailedSince calls life to
 
--- where each stream that is brought has a new number
 abbrev pub RefusesUnconnected : Type 0
 RefusesUnconnected = (calls : List HouseCall) (course next : Course) (bytes : List ℕ)
-    → BringsNew [] calls → Reaches first_course calls course
+    → Reaches first_course calls course
     → Follows (Marks (HouseSaid bytes)) course next → is_failure bytes ≡ true
     → IsFailureOf calls course.lives bytes

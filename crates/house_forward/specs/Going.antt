@@ -1,5 +1,5 @@
 -- How the relays go on: a call changes one of them, and it is known which and how.
-use Rattle.std.specs.Prelude.{◌≡◌, ◌+◌, ◌<◌, ◌^◌, ℕ, Bool, List, [], ◌∷◌, ◌++◌, get_or, set, find, Option, Some, None}
+use Rattle.std.specs.Prelude.{◌≡◌, ◌+◌, ◌<◌, ◌^◌, ℕ, Bool, List, [], ◌∷◌, ◌++◌, get_or, set, find, IfSome, false, Option, Some, None}
 use Rattle.std.specs.List.{position, remove}
 use Rattle.conn_messages.specs.declared.message.Message.{Message}
 use Rattle.house_relay.specs.Acts.{Act, Reads, Takes, Other}
@@ -9,9 +9,10 @@ use Rattle.house_relay.specs.Relay.{GoesOn, MayRead, said_act}
 use Rattle.house_relay.specs.Steps.{Dials, taken_of, made_as}
 use Rattle.house_relay.specs.declared.relay.Relay.{Relay}
 use Rattle.house_relay.specs.declared.relay.Saying.{Saying}
+use Rattle.mux_outside.specs.OwnStreams.{is_one}
 use Rattle.mux_outside.specs.declared.order.Order.{Order}
 use Rattle.house_forward.specs.Heard.{heard_of, act_heard}
-use Rattle.house_forward.specs.Links.{is_left, after_saying, has_order, IsOrderOf, obeyed, made_stream}
+use Rattle.house_forward.specs.Links.{streams_of, is_left, after_saying, has_order, IsOrderOf, obeyed, made_stream}
 use Rattle.house_forward.specs.declared.link.Link.{Link}
 use Rattle.house_forward.specs.declared.link.Stream.TheVariants.{Awaited}
 
@@ -100,4 +101,4 @@ MakesAt (Some i) number old new = (l : Link) × (l ≡ get_or old i l)
     × (new ≡ remove old i ++ record {
       relay = record l.relay { socket = made_as number };
       stream = made_stream number;
-    } ∷ [])
+    } ∷ []) × IfSome number (λ t. is_one t (streams_of old) ≡ false)

@@ -295,4 +295,5 @@ pub record Joins (f : Option Forwarding) (t : ℕ) (old new : List Link) : Type 
   pub relay : Relay
   pub joined : IsJoined (is_full old) (is_crowded old) f t relay
   pub free : is_number_of relay.number old ≡ false
+  pub fresh : is_one t (streams_of old) ≡ false
   pub more : new ≡ old ++ record { relay = relay; stream = Made (new_stream t) } ∷ []

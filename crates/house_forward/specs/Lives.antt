@@ -207,12 +207,13 @@ stepped step t l = if has_stream t l then record l {
   acts = act_of step ∷ l.acts;
 } else l
 
--- one relay more, for a socket that is joined at the listener of a forwarding: for an end that this
--- names or a dialog will, or for none
+-- one relay more, for a socket that is joined at the listener of a forwarding, with a stream that no
+-- other has: for an end that this names or a dialog will, or for none
 pub record JoinsOne (f : Option Forwarding) (t : ℕ) (old new : List Life) : Type 0 where
   pub relay : Relay
   pub joined : IsJoined (are_full old) (are_crowded old) f t relay
   pub free : list_any (has_channel relay.number) old ≡ false
+  pub fresh : list_any (has_stream t) old ≡ false
   pub more : new ≡ old ++ record {
     relay = relay;
     own = Some (new_stream t);
@@ -390,8 +391,8 @@ made_life number l = record l {
   acts = Other ∷ l.acts;
 }
 
--- the first socket that is to be made, which is to be connected there, is made, or couldn't be: it
--- is the last from now on
+-- the first socket that is to be made, which is to be connected there, is made, with a stream that no
+-- other has, or couldn't be: it is the last from now on
 pub record MakesOne (host : List ℕ) (port : ℕ) (number : Option ℕ) (old new : Course) : Type 0 where
   pub before : List Life
   pub life : Life
@@ -399,6 +400,7 @@ pub record MakesOne (host : List ℕ) (port : ℕ) (number : Option ℕ) (old ne
   pub others : list_any is_unmade before ≡ false
   pub is : is_unmade life ≡ true
   pub there : life.to ≡ Some (host, port)
+  pub fresh : IfSome number (λ t. list_any (has_stream t) old.lives ≡ false)
   pub were : old.lives ≡ before ++ life ∷ behind
   pub are : new ≡ record old { lives = (before ++ behind) ++ made_life number life ∷ [] }
 

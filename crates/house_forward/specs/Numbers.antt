@@ -107,12 +107,17 @@ BringsNew there [] = Unit {0}
 BringsNew there (call ∷ calls) = IfSome (made_by call) (λ t. among t there ≡ false)
     × BringsNew (without_closed (closed_by call) there ++ option_to_list (made_by call)) calls
 
+-- of the calls that lead to a course
+abbrev pub EachIsNew : Type 0
+EachIsNew = (calls : List HouseCall) (course : Course) → Reaches first_course calls course
+    → BringsNew [] calls
+
 -- the relays have exactly the streams that are open by the calls, each one of its own, in their order
 abbrev pub StreamsAreTheirs : Type 0
 StreamsAreTheirs = (calls : List HouseCall) (course : Course) → Reaches first_course calls course
     → open_streams course.lives ≡ open_after [] calls
 
--- where each stream that is brought has a new number, no two relays have the same stream
+-- no two relays have the same stream
 abbrev pub StreamsDiffer : Type 0
-StreamsDiffer = (calls : List HouseCall) (course : Course) → BringsNew [] calls
-    → Reaches first_course calls course → AllPairs (λ a b. a ≢ b) (open_streams course.lives)
+StreamsDiffer = (calls : List HouseCall) (course : Course) → Reaches first_course calls course
+    → AllPairs (λ a b. a ≢ b) (open_streams course.lives)

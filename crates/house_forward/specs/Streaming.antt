@@ -5,7 +5,7 @@ use Rattle.mux_outside.specs.HouseCalls.{HouseCall, Happening, Begins, Marks, He
 use Rattle.mux_outside.specs.HouseCalls.{Joined, Got, End, Writable, Failed}
 use Rattle.house_relay.specs.Acts.{Act, read, taken}
 use Rattle.house_forward.specs.Lives.{Course, Reaches, first_course}
-use Rattle.house_forward.specs.Numbers.{BringsNew, made_by}
+use Rattle.house_forward.specs.Numbers.{made_by}
 
 abbrev pub got_turn : ℕ → Happening → List ℕ
 got_turn s (Joined l t) = []
@@ -48,8 +48,7 @@ pub record IsOf (calls : List HouseCall) (t : ℕ) (acts : List Act) : Type 0 wh
   pub reads : read acts ≡ got_in t since
   pub takes : taken acts ≡ took_in t since
 
--- where each stream that is brought has a new number, this is so of each relay and its stream
+-- this is so of each relay and its stream
 abbrev pub EachHasItsStream : Type 0
-EachHasItsStream = (calls : List HouseCall) (course : Course) → BringsNew [] calls
-    → Reaches first_course calls course
+EachHasItsStream = (calls : List HouseCall) (course : Course) → Reaches first_course calls course
     → All (λ l. IfSome l.own (λ own. IsOf calls own.number l.acts)) course.lives

@@ -7,7 +7,7 @@ ghost use Rattle.house_forward.specs.Connects.{OneConnectEach};
 ghost use Rattle.house_forward.specs.Deeds.{EachHappens};
 ghost use Rattle.house_forward.specs.Greeting.{EachGreets};
 ghost use Rattle.house_forward.specs.Laws.{EachRelays, EachKeeps, EachRests};
-ghost use Rattle.house_forward.specs.Numbers.{ChannelsDiffer, StreamsAreTheirs, StreamsDiffer};
+ghost use Rattle.house_forward.specs.Numbers.{ChannelsDiffer, EachIsNew, StreamsAreTheirs, StreamsDiffer};
 ghost use Rattle.house_forward.specs.Opening.{OneOpenAtMost, OpensGoRight};
 ghost use Rattle.house_forward.specs.Starting.{EachStart};
 ghost use Rattle.house_forward.specs.Streaming.{EachHasItsStream};
@@ -28,25 +28,26 @@ pub fn relays_of_a_quiet_house_rest()
 
 /// Channel numbers and streams are each one's own: no two relays of the house have the same channel
 /// number; and its relays have exactly the streams that were joined or connected and not closed since,
-/// of which no two are the same, if each came with a number that no open one had.
+/// of which no two are the same, since each came with a number that no open one had.
 pub fn each_relay_has_its_own_channel_and_stream()
     ensures channels { ChannelsDiffer }
     ensures streams { StreamsAreTheirs }
+    ensures new { EachIsNew }
     ensures apart { StreamsDiffer }
 {}
 
 /// Of each OPEN of forwarded-tcpip that it takes, which is one at whose address and port the server
 /// listens for a forwarding, the house orders one Connect, to where that forwarding connects, in the
-/// order of the OPENs; it orders none besides.
+/// order of the OPENs, or has it still to order; it orders none besides.
 pub fn each_open_that_is_taken_is_connected_once()
     ensures { OneConnectEach }
 {}
 
-/// No more OPENs are said than sockets were joined, those that are still to be said counted too: a
-/// socket has one at most. Each is an OPEN of direct-tcpip with a window of 2,097,152 bytes and messages
-/// of 32,768 at most, to where the forwarding connects at whose listener its socket was joined, or, where
-/// that is a dynamic one, to the end that its dialog asked for.
-pub fn each_joined_socket_is_opened_once_at_most()
+/// No more OPENs are said than sockets were joined before, those that are still to be said counted too.
+/// Each is an OPEN of direct-tcpip with a window of 2,097,152 bytes and messages of 32,768 at most, to
+/// where the forwarding connects at whose listener its socket was joined, or, where that is a dynamic one,
+/// to the end that its dialog asked for.
+pub fn opens_are_for_joined_sockets()
     ensures count { OneOpenAtMost }
     ensures goes { OpensGoRight }
 {}
@@ -60,16 +61,14 @@ pub fn each_close_has_its_cause()
 {}
 
 /// An OPEN of the server is confirmed only behind the Writable of the stream that a Connect to its end
-/// made; and it is refused only where such a Connect got no number, or that stream failed, if each stream
-/// came with a number that no open one had.
+/// made; and it is refused only where such a Connect got no number, or that stream failed.
 pub fn each_open_is_answered_by_its_socket()
     ensures confirms { ConfirmsConnected }
     ensures refuses { RefusesUnconnected }
 {}
 
 /// What a relay read are the bytes that its stream gave since that was joined or connected, all of them
-/// and in order; and as many bytes as it has as taken its stream took since, if each stream came with a
-/// number that no open one had.
+/// and in order; and as many bytes as it has as taken its stream took since.
 pub fn each_relay_has_what_its_stream_gave()
     ensures { EachHasItsStream }
 {}

@@ -41,4 +41,4 @@ pub returns-clause-makes : goal.returns-clause-makes
 returns-clause-makes c =
     let ls = c.args.self.now.all.items in
     rw (c.push_reserved.ensures.items, c.remove-link.ensures.items)
-    (makes-at (position is_awaited ls) c.in-Some.i c.args.stream ls c.remove-link.result c.made.new.self (sym c.in-Some.ensures) c.remove-link.ensures.value c.made.ensures.stream c.made.ensures.relay)
+    (makes-at (position is_awaited ls) c.in-Some.i c.args.stream ls c.remove-link.result c.made.new.self (sym c.in-Some.ensures) c.remove-link.ensures.value c.made.ensures.stream c.made.ensures.relay c.requires.free)
