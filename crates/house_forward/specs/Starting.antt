@@ -1,5 +1,5 @@
 -- What comes of the forwardings that are asked for at the start.
-use Rattle.std.specs.Prelude.{◌≡◌, ◌⊎◌, ℕ, true, List, [], ◌∷◌, ◌++◌, slice_get, Option, Some}
+use Rattle.std.specs.Prelude.{◌≡◌, ◌⊎◌, ◌≤◌, ℕ, true, List, [], ◌∷◌, ◌++◌, slice_get, Option, Some, None}
 use Rattle.mux_outside.specs.declared.start_ask.StartAsk.{StartAsk}
 use Rattle.mux_outside.specs.declared.starts.Starts.{Starts}
 use Rattle.house_forward.specs.Causes.{AreOne, IsFor, IsAtRest}
@@ -29,6 +29,11 @@ pub record WasRefused (starts : Starts) (i : ℕ) (ask : StartAsk) : Type 0 wher
   pub cause : (is_refused_alone ask ≡ true) ⊎ ((ends : Ends) × AreEnds starts.gateway ask ends
       × (opens_of stood.serials ends stood.all (standing ends stood.all) ≡ Now Refused))
 
+-- one is told as refused: this one, or one that was refused before it
+abbrev pub IsTold : Option ℕ → ℕ → Type 0
+IsTold None i = ⊥
+IsTold (Some first) i = first ≤ i
+
 -- the forwarding that it is for has begun
 pub record WasServed (starts : Starts) (ask : StartAsk) (deeds : List Deed) : Type 0 where
   pub forwarding : Forwarding
@@ -39,4 +44,4 @@ pub record WasServed (starts : Starts) (ask : StartAsk) (deeds : List Deed) : Ty
 abbrev pub EachStart : Type 0
 EachStart = (starts : Starts) (later : List Deed) (d : Desk) → Leave (later ++ Begins starts ∷ []) d → IsAtRest d
     → (i : ℕ) (ask : StartAsk) → slice_get starts.asks i ≡ Some ask
-    → WasRefused starts i ask ⊎ WasServed starts ask (later ++ Begins starts ∷ [])
+    → (WasRefused starts i ask × IsTold d.refused i) ⊎ WasServed starts ask (later ++ Begins starts ∷ [])
