@@ -1,5 +1,6 @@
 -- What comes of the forwardings that are asked for at the start.
 use Rattle.std.specs.Prelude.{◌≡◌, ◌⊎◌, ◌≤◌, ℕ, true, List, [], ◌∷◌, ◌++◌, slice_get, Option, Some, None}
+use Rattle.mux_outside.specs.HouseCalls.{HouseCall}
 use Rattle.mux_outside.specs.declared.start_ask.StartAsk.{StartAsk}
 use Rattle.mux_outside.specs.declared.starts.Starts.{Starts}
 use Rattle.house_forward.specs.Causes.{AreOne, IsFor, IsAtRest}
@@ -7,6 +8,8 @@ use Rattle.house_forward.specs.Deeds.{Deed, Leave}
 use Rattle.house_forward.specs.Deeds.{Begins, Requests, Listens}
 use Rattle.house_forward.specs.Desk.{Desk, empty_desk, standing_at}
 use Rattle.house_forward.specs.Forwardings.{Begins as BeginsAt, Standing, opens_of, standing, request_of}
+use Rattle.house_forward.specs.Lives.{Held, HasLived}
+use Rattle.house_forward.specs.Quiet.{quiet_of}
 use Rattle.house_forward.specs.Rules.{AreEnds, is_refused_alone}
 use Rattle.house_forward.specs.declared.asks.Asked.TheVariants.{Now}
 use Rattle.house_forward.specs.declared.asks.Outcome.TheVariants.{Refused}
@@ -45,3 +48,9 @@ abbrev pub EachStart : Type 0
 EachStart = (starts : Starts) (later : List Deed) (d : Desk) → Leave (later ++ Begins starts ∷ []) d → IsAtRest d
     → (i : ℕ) (ask : StartAsk) → slice_get starts.asks i ≡ Some ask
     → (WasRefused starts i ask × IsTold d.refused i) ⊎ WasServed starts ask (later ++ Begins starts ∷ [])
+
+-- a house that has nothing to say, to order and to answer is at rest
+abbrev pub EachQuiet : Type 0
+EachQuiet = (calls : List HouseCall) (h : Held) (lived : HasLived calls h)
+    → quiet_of h.desk.greeted h.desk.all h.links h.desk.waiting ≡ record { says = true; orders = true; answers = true }
+    → IsAtRest lived.course.desk

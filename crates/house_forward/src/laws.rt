@@ -5,7 +5,7 @@ ghost use Rattle.house_forward.specs.Causes.{EachServed, EachRefused, EachAnswer
 ghost use Rattle.house_forward.specs.Deeds.{EachHappens};
 ghost use Rattle.house_forward.specs.Greeting.{EachGreets};
 ghost use Rattle.house_forward.specs.Laws.{EachRelays, EachKeeps, EachRests};
-ghost use Rattle.house_forward.specs.Starting.{EachStart};
+ghost use Rattle.house_forward.specs.Starting.{EachQuiet, EachStart};
 
 /// Of each relay that the house has, or had: what is sent in its channel was read from its socket
 /// before, behind the dialog, in order; what its socket takes are the replies to the dialog, and then
@@ -69,4 +69,10 @@ pub fn at_rest_asks_wait_for_the_server()
 /// before it is told as refused, or its listener was ordered, or its request to listen was said.
 pub fn at_rest_each_forwarding_of_the_start_has_begun()
     ensures { EachStart }
+{}
+
+/// A house that has nothing to say, nothing to order and nothing to answer has no request to say, no
+/// listener to order or to close and no answer to give.
+pub fn a_quiet_house_is_at_rest()
+    ensures { EachQuiet }
 {}
