@@ -126,6 +126,7 @@ as-found old deeds ask answer comes ends f (Some o) g are is connects out e =
       stands = has.0;
       is_for = subst (λ (b : Bool). IsFor b true ask f) g.knows.gateway (is-for old.gateway true ask ends f f are (itself f)
           (and_parts (counts f) (listens_at ends f) at.1).1 (λ _. connects));
+      counts_yet = (and_parts (counts f) (listens_at ends f) at.1).0;
       serves = serves-at f.stage (g.knows.home f.serial) f f.listen_port o deeds at.0.same out at.0.stage;
       comes = out;
       replies = g.answers ∙ ap reply_to e;
@@ -222,7 +223,7 @@ made-reply (Some l) p P e = absurd e
 replied-reply : (success : Bool) (port : Option ℕ) (earlier : List Deed) (f : Forwarding) (p : ℕ) (P : Type 0)
     → RepliedBy success port earlier false f (Port p) → P
 replied-reply true port earlier f p P h = let e = h.1 in cc
-replied-reply false port earlier f p P h = let e = h.2 in cc
+replied-reply false port earlier f p P h = let e = h.1 in cc
 
 no-port : (deed : Deed) (earlier : List Deed) (f : Forwarding) (p : ℕ) (P : Type 0) → CameBy deed earlier false f (Port p) → P
 no-port (Begins starts) earlier f p P h = absurd h

@@ -691,7 +691,7 @@ next-is home serials deeds what g gs e a is =
 refused-either : (a : Forwarding) (deeds : List Deed) (port : Option ℕ) → IsNext Listen a deeds → (opening : Bool)
     → CameBy (Replies false port) deeds opening a Refused
 refused-either a deeds port next true = (next, refl)
-refused-either a deeds port next false = (Listen, next, refl)
+refused-either a deeds port next false = (inl next, refl)
 
 opened : (home : ℕ → Forwarding) (serials : ℕ) (deeds : List Deed) (port : Option ℕ) (serial at : ℕ) (fs : List Forwarding)
     (ws : List Waiting) (o : Option Forwarding) → find (is_asked serial) fs ≡ o → IsNext Listen (home serial) deeds
@@ -762,7 +762,7 @@ replied false (Cancel serial) home serials deeds port at fs ws g gs e a is (inr 
       all = all-changed home serials (deed ∷ deeds) change.Stay serial fs
           (λ f its one k. steady-stage change.Stay f.listen_port f.stage (home f.serial) (deed ∷ deeds) tt k)
           (λ f its k c. cc) (all-later home serials deed deeds fs (λ l. refl) all);
-      waiting = all-settled home serials deed deeds (λ c i. refl) serial false at Refused ws (Cancel, next, refl) h;
+      waiting = all-settled home serials deed deeds (λ c i. refl) serial false at Refused ws (inr next, refl) h;
     }
 
 pub request-is : (s : Stage) (serial : ℕ) → (request_at s serial ≡ Listen serial) ⊎ (request_at s serial ≡ Cancel serial)

@@ -11,11 +11,12 @@ use Rattle.house_forward.specs.Causes.{AreOne, IsFor, IsAtRest}
 use Rattle.house_forward.specs.Deeds.{Deed, Does, Leave}
 use Rattle.house_forward.specs.Deeds.{Begins, Asks, Answers, Greets, Requests, Replies, Listens, Unlistens}
 use Rattle.house_forward.specs.Desk.{Desk, empty_desk, standing_at}
-use Rattle.house_forward.specs.Forwardings.{Begins as BeginsAt, StartsIf, Standing, Opens, is_first, has_request, requests_at, request_of, after_saying, changed, stage_after, closing_after, standing, counts, how_many, listens_at, connects_to, opens_of, after_close, is_new, EndsLeave, ComesIf, ComesUnless, is_asked, asks_at, is_cancelled, cancels_at, replied_all, removed_at, first_of, to_listen, is_numbered, has_listener, is_listener, listener_at}
+use Rattle.house_forward.specs.Forwardings.{first_refused, refused_if, replied_refused, made_refused, start_of, Begins as BeginsAt, StartsIf, Standing, Opens, is_first, has_request, requests_at, request_of, after_saying, changed, stage_after, closing_after, standing, counts, how_many, listens_at, connects_to, opens_of, after_close, is_new, EndsLeave, ComesIf, ComesUnless, is_asked, asks_at, is_cancelled, cancels_at, replied_all, removed_at, first_of, to_listen, is_numbered, has_listener, is_listener, listener_at}
 use Rattle.house_forward.specs.Rules.{AreEnds, is_refused_alone}
-use Rattle.house_forward.specs.Starting.{HasBegun, WasOrdered, WasRequested, WasRefused, WasServed, EachStart}
+use Rattle.house_forward.specs.Starting.{HasBegun, WasOrdered, WasRequested, WasRefused, WasServed, IsTold, EachStart}
 use Rattle.house_forward.specs.declared.asks.Asked.{Asked as Comes}
 use Rattle.house_forward.specs.declared.asks.Asked.TheVariants.{Now, Later}
+use Rattle.house_forward.specs.declared.asks.Outcome.TheVariants.{Done, Port, Refused}
 use Rattle.house_forward.specs.declared.forwarding.Change.{Change}
 use Rattle.house_forward.specs.declared.forwarding.Change.TheVariants as change
 use Rattle.house_forward.specs.declared.forwarding.Forwarding.{Forwarding}
@@ -39,16 +40,55 @@ pub record Pending (starts : Starts) (ask : StartAsk) (all : List Forwarding) : 
   first : is_first f.stage ≡ true
   is_for : IsFor starts.gateway true ask f
 
+-- one that was refused, and is told or one before it
+abbrev pub Fails : Starts → ℕ → StartAsk → Option ℕ → Type 0
+Fails starts i ask refused = WasRefused starts i ask × IsTold refused i
+
+-- only those before are told
+abbrev IsLow : Option ℕ → ℕ → Type 0
+IsLow None i = Unit {0}
+IsLow (Some first) i = first < i
+
+told-first : (refused : Option ℕ) (i : ℕ) → IsLow refused i → IsTold (first_refused refused (Some i)) i
+told-first None i low = omega arith
+told-first (Some first) i low = omega (arith, low)
+
+low-first : (refused : Option ℕ) (i : ℕ) → IsLow refused i → IsLow (first_refused refused (Some i)) (suc i)
+low-first None i low = omega arith
+low-first (Some first) i low = omega (arith, low)
+
+low-more : (refused : Option ℕ) (i : ℕ) → IsLow refused i → IsLow refused (suc i)
+low-more None i low = tt
+low-more (Some first) i low = omega (arith, low)
+
+told-still : (refused more : Option ℕ) (i : ℕ) → IsTold refused i → IsTold (first_refused refused more) i
+told-still None more i told = absurd told
+told-still (Some first) more i told = told
+
+told-if : (comes : Comes) (i j : ℕ) (refused : Option ℕ) → IsTold refused j → IsTold (refused_if comes i refused) j
+told-if (Now Done) i j refused told = told
+told-if (Now (Port port)) i j refused told = told
+told-if (Now Refused) i j refused told = told-still refused (Some i) j told
+told-if (Later serial) i j refused told = told
+
+low-if : (comes : Comes) (i : ℕ) (refused : Option ℕ) → IsLow refused i → IsLow (refused_if comes i refused) (suc i)
+low-if (Now Done) i refused low = low-more refused i low
+low-if (Now (Port port)) i refused low = low-more refused i low
+low-if (Now Refused) i refused low = low-first refused i low
+low-if (Later serial) i refused low = low-more refused i low
+
 -- of so many
 pub record StartsOn (starts : Starts) (i : ℕ) (now : Standing) : Type 0 where
   firsts : (f : Forwarding) → In f now.all → is_first f.stage ≡ true
-  fates : (j : ℕ) (ask : StartAsk) → j < i → slice_get starts.asks j ≡ Some ask → WasRefused starts j ask ⊎ Pending starts ask now.all
+  fates : (j : ℕ) (ask : StartAsk) → j < i → slice_get starts.asks j ≡ Some ask
+      → Fails starts j ask now.refused ⊎ Pending starts ask now.all
+  low : IsLow now.refused i
 
 -- one that is asked for, by those before it
-record One (starts : Starts) (i : ℕ) (ask : StartAsk) (old new : List Forwarding) : Type 0 where
+record One (starts : Starts) (i : ℕ) (ask : StartAsk) (refused : Option ℕ) (old new : List Forwarding) : Type 0 where
   keeps : (f : Forwarding) → In f old → In f new
   firsts : (f : Forwarding) → In f new → is_first f.stage ≡ true
-  fate : WasRefused starts i ask ⊎ Pending starts ask new
+  fate : Fails starts i ask refused ⊎ Pending starts ask new
 
 pushed-first : (fs : List Forwarding) (g : Forwarding) → ((f : Forwarding) → In f fs → is_first f.stage ≡ true) → is_first g.stage ≡ true
     → (f : Forwarding) → In f (fs ++ g ∷ []) → is_first f.stage ≡ true
@@ -57,16 +97,16 @@ pushed-first [] g h e f (inr no_more) = absurd no_more
 pushed-first (x ∷ fs) g h e f (inl is) = h f (inl is)
 pushed-first (x ∷ fs) g h e f (inr later) = pushed-first fs g (λ y k. h y (inr k)) e f later
 
-same-all : (starts : Starts) (i : ℕ) (ask : StartAsk) (old new : List Forwarding) → ((f : Forwarding) → In f old → is_first f.stage ≡ true)
-    → new ≡ old → WasRefused starts i ask ⊎ Pending starts ask old → One starts i ask old new
-same-all starts i ask old new firsts e fate =
-    subst (λ (fs : List Forwarding). One starts i ask old fs) (sym e) (record { keeps = λ f h. h; firsts = firsts; fate = fate })
+same-all : (starts : Starts) (i : ℕ) (ask : StartAsk) (r : Option ℕ) (old new : List Forwarding) → ((f : Forwarding) → In f old → is_first f.stage ≡ true)
+    → new ≡ old → Fails starts i ask r ⊎ Pending starts ask old → One starts i ask r old new
+same-all starts i ask r old new firsts e fate =
+    subst (λ (fs : List Forwarding). One starts i ask r old fs) (sym e) (record { keeps = λ f h. h; firsts = firsts; fate = fate })
 
 room-if : (starts : Starts) (i : ℕ) (ask : StartAsk) (ends : Ends) (old new : Standing) (b : Bool)
     → ((f : Forwarding) → In f old.all → is_first f.stage ≡ true) → AreEnds starts.gateway ask ends
-    → Opens b ends old.serials (Some i) old.all new.all → (b ≡ false → WasRefused starts i ask) → One starts i ask old.all new.all
+    → Opens b ends old.serials (Some i) old.all new.all → (b ≡ false → Fails starts i ask new.refused) → One starts i ask new.refused old.all new.all
 room-if starts i ask ends old new true firsts are o refused =
-    subst (λ (fs : List Forwarding). One starts i ask old.all fs) (sym o.2) (record {
+    subst (λ (fs : List Forwarding). One starts i ask new.refused old.all fs) (sym o.2) (record {
       keeps = λ f h. in-left f old.all (o.0 ∷ []) h;
       firsts = pushed-first old.all o.0 firsts o.1.first;
       fate = inr (record {
@@ -76,14 +116,14 @@ room-if starts i ask ends old new true firsts are o refused =
         is_for = new-is-for starts.gateway true ask ends old.serials (Some i) o.0 are o.1;
       });
     })
-room-if starts i ask ends old new false firsts are o refused = same-all starts i ask old.all new.all firsts o (inl (refused refl))
+room-if starts i ask ends old new false firsts are o refused = same-all starts i ask new.refused old.all new.all firsts o (inl (refused refl))
 
-connects-if : (starts : Starts) (i : ℕ) (ask : StartAsk) (ends : Ends) (f : Forwarding) (old : Standing) (b : Bool) → connects_to ends f ≡ b
+connects-if : (starts : Starts) (i : ℕ) (ask : StartAsk) (ends : Ends) (f : Forwarding) (old : Standing) (r : Option ℕ) (b : Bool) → connects_to ends f ≡ b
     → ((g : Forwarding) → In g old.all → is_first g.stage ≡ true) → AreEnds starts.gateway ask ends → In f old.all
-    → listens_at ends f ≡ true → (b ≡ false → WasRefused starts i ask) → WasRefused starts i ask ⊎ Pending starts ask old.all
-connects-if starts i ask ends f old true to firsts are here listens refused =
+    → listens_at ends f ≡ true → (b ≡ false → Fails starts i ask r) → Fails starts i ask r ⊎ Pending starts ask old.all
+connects-if starts i ask ends f old r true to firsts are here listens refused =
     inr (record { f = f; here = here; first = firsts f here; is_for = is-for starts.gateway true ask ends f f are (itself f) listens (λ _. to) })
-connects-if starts i ask ends f old false to firsts are here listens refused = inl (refused refl)
+connects-if starts i ask ends f old r false to firsts are here listens refused = inl (refused refl)
 
 passes-found : (p : Forwarding → Bool) (x : Forwarding) (xs : List Forwarding) → find p xs ≡ Some x → p x ≡ true
 passes-found p x xs e = (found (λ (y : Forwarding). Unit {0}) p xs x e (λ k d lt. tt)).1
@@ -91,38 +131,65 @@ passes-found p x xs e = (found (λ (y : Forwarding). Unit {0}) p xs x e (λ k d 
 opens-by : (starts : Starts) (i : ℕ) (ask : StartAsk) (ends : Ends) (old new : Standing) (o : Option Forwarding) → standing ends old.all ≡ o
     → BeginsAt starts.gateway starts.asks i (standing_at empty_desk) old → ((f : Forwarding) → In f old.all → is_first f.stage ≡ true)
     → AreEnds starts.gateway ask ends → Opens (is_new ends old.all o) ends old.serials (Some i) old.all new.all
-    → One starts i ask old.all new.all
-opens-by starts i ask ends old new None is before firsts are opens =
-    room-if starts i ask ends old new (nat_lt (how_many old.all) MOST_FORWARDINGS) firsts are opens (λ full. record {
-      stood = old;
-      before = before;
-      cause = inr (ends, are, ap (λ o. opens_of old.serials ends old.all o) is ∙ rw full refl);
-    })
-opens-by starts i ask ends old new (Some f) is before firsts are opens =
+    → (opens_of old.serials ends old.all o ≡ Now Refused → IsTold new.refused i) → One starts i ask new.refused old.all new.all
+opens-by starts i ask ends old new None is before firsts are opens told =
+    room-if starts i ask ends old new (nat_lt (how_many old.all) MOST_FORWARDINGS) firsts are opens (λ full. (
+      record {
+        stood = old;
+        before = before;
+        cause = inr (ends, are, ap (λ o. opens_of old.serials ends old.all o) is ∙ rw full refl);
+      },
+      told (rw full refl),
+    ))
+opens-by starts i ask ends old new (Some f) is before firsts are opens told =
     let test : Forwarding → Bool = λ g. counts g && listens_at ends g in
     let here = found-in test f old.all is in
     let passes = passes-found test f old.all is in
-    same-all starts i ask old.all new.all firsts opens
-    (connects-if starts i ask ends f old (connects_to ends f) refl firsts are here (and_parts (counts f) (listens_at ends f) passes).1
-    (λ elsewhere. record {
-      stood = old;
-      before = before;
-      cause = inr (ends, are, ap (λ o. opens_of old.serials ends old.all o) is ∙ rw elsewhere refl);
-    }))
+    same-all starts i ask new.refused old.all new.all firsts opens
+    (connects-if starts i ask ends f old new.refused (connects_to ends f) refl firsts are here (and_parts (counts f) (listens_at ends f) passes).1
+    (λ elsewhere. (
+      record {
+        stood = old;
+        before = before;
+        cause = inr (ends, are, ap (λ o. opens_of old.serials ends old.all o) is ∙ rw elsewhere refl);
+      },
+      told (rw elsewhere refl),
+    )))
 
 starts-one : (b : Bool) (starts : Starts) (i : ℕ) (ask : StartAsk) (old new : Standing) → is_refused_alone ask ≡ b
     → BeginsAt starts.gateway starts.asks i (standing_at empty_desk) old → ((f : Forwarding) → In f old.all → is_first f.stage ≡ true)
-    → StartsIf b starts.gateway ask i old new → One starts i ask old.all new.all
-starts-one true starts i ask old new e before firsts s =
-    same-all starts i ask old.all new.all firsts (ap (λ (t : Standing). t.all) s)
-    (inl (record { stood = old; before = before; cause = inl e }))
-starts-one false starts i ask old new e before firsts s =
+    → IsLow old.refused i → StartsIf b starts.gateway ask i old new → One starts i ask new.refused old.all new.all
+starts-one true starts i ask old new e before firsts low s =
+    same-all starts i ask new.refused old.all new.all firsts (ap (λ (t : Standing). t.all) s)
+    (inl (
+      record { stood = old; before = before; cause = inl e },
+      subst (λ (o : Option ℕ). IsTold o i) (sym (ap (λ (t : Standing). t.refused) s)) (told-first old.refused i low),
+    ))
+starts-one false starts i ask old new e before firsts low s =
     opens-by starts i ask s.0 old new (standing s.0 old.all) refl before firsts s.1 s.2.all
+    (λ is. subst (λ (o : Option ℕ). IsTold o i) (sym (s.2.refused ∙ ap (λ (c : Comes). refused_if c i old.refused) is))
+    (told-first old.refused i low))
 
-keeps-fate : (starts : Starts) (j : ℕ) (ask : StartAsk) (old new : List Forwarding) → ((f : Forwarding) → In f old → In f new)
-    → WasRefused starts j ask ⊎ Pending starts ask old → WasRefused starts j ask ⊎ Pending starts ask new
-keeps-fate starts j ask old new keeps (inl r) = inl r
-keeps-fate starts j ask old new keeps (inr p) = inr (record { f = p.f; here = keeps p.f p.here; first = p.first; is_for = p.is_for })
+keeps-fate : (starts : Starts) (j : ℕ) (ask : StartAsk) (r more : Option ℕ) (old new : List Forwarding)
+    → ((f : Forwarding) → In f old → In f new) → (IsTold r j → IsTold more j)
+    → Fails starts j ask r ⊎ Pending starts ask old → Fails starts j ask more ⊎ Pending starts ask new
+keeps-fate starts j ask r more old new keeps tells (inl f) = inl (f.0, tells f.1)
+keeps-fate starts j ask r more old new keeps tells (inr p) = inr (record { f = p.f; here = keeps p.f p.here; first = p.first; is_for = p.is_for })
+
+-- who is told after one more
+tells-one : (b gateway : Bool) (ask : StartAsk) (i j : ℕ) (old new : Standing) → StartsIf b gateway ask i old new
+    → IsTold old.refused j → IsTold new.refused j
+tells-one true gateway ask i j old new s told =
+    subst (λ (o : Option ℕ). IsTold o j) (sym (ap (λ (t : Standing). t.refused) s)) (told-still old.refused (Some i) j told)
+tells-one false gateway ask i j old new s told =
+    subst (λ (o : Option ℕ). IsTold o j) (sym s.2.refused) (told-if _ i j old.refused told)
+
+low-one : (b gateway : Bool) (ask : StartAsk) (i : ℕ) (old new : Standing) → StartsIf b gateway ask i old new
+    → IsLow old.refused i → IsLow new.refused (suc i)
+low-one true gateway ask i old new s low =
+    subst (λ (o : Option ℕ). IsLow o (suc i)) (sym (ap (λ (t : Standing). t.refused) s)) (low-first old.refused i low)
+low-one false gateway ask i old new s low =
+    subst (λ (o : Option ℕ). IsLow o (suc i)) (sym s.2.refused) (low-if _ i old.refused low)
 
 same-some : (a b : StartAsk) (o : Option StartAsk) → o ≡ Some a → o ≡ Some b → a ≡ b
 same-some a b o e f = let both : Some a ≡ Some b = sym e ∙ f in cc
@@ -130,21 +197,23 @@ same-some a b o e f = let both : Some a ≡ Some b = sym e ∙ f in cc
 pub begins : (starts : Starts) (i : ℕ) (now : Standing) → i ≤ length starts.asks
     → BeginsAt starts.gateway starts.asks i (standing_at empty_desk) now → StartsOn starts i now
 begins starts zero now l b =
-    subst (λ (t : Standing). StartsOn starts 0 t) (sym b) (record { firsts = λ f h. absurd h; fates = λ j ask lt is. absurd (omega arith) })
+    subst (λ (t : Standing). StartsOn starts 0 t) (sym b) (record { firsts = λ f h. absurd h; fates = λ j ask lt is. absurd (omega arith); low = tt })
 begins starts (suc i) now l b =
     let first = begins starts i b.0 (omega arith) b.1 in
     let at = in-range starts.asks i (omega arith) in
     let s = there-is (λ (ask : StartAsk). StartsIf (is_refused_alone ask) starts.gateway ask i b.0 now) (slice_get starts.asks i) at.0 at.1 b.2 in
-    let one = starts-one (is_refused_alone at.0) starts i at.0 b.0 now refl b.1 first.firsts s in
+    let one = starts-one (is_refused_alone at.0) starts i at.0 b.0 now refl b.1 first.firsts first.low s in
     record {
       firsts = one.firsts;
       fates = λ j ask lt is. elim (cases_lt j i) [
-        | inl below ↦ keeps-fate starts j ask b.0.all now.all one.keeps (first.fates j ask below is)
+        | inl below ↦ keeps-fate starts j ask b.0.refused now.refused b.0.all now.all one.keeps
+            (tells-one (is_refused_alone at.0) starts.gateway at.0 i j b.0 now s) (first.fates j ask below is)
         | inr last ↦ (let same : j ≡ i = omega arith in
             let its : at.0 ≡ ask = same-some at.0 ask (slice_get starts.asks i) at.1 (ap (λ k. slice_get starts.asks k) (sym same) ∙ is) in
-            subst (λ (k : ℕ). WasRefused starts k ask ⊎ Pending starts ask now.all) (sym same)
-            (subst (λ (a : StartAsk). WasRefused starts i a ⊎ Pending starts a now.all) its one.fate))
+            subst (λ (k : ℕ). Fails starts k ask now.refused ⊎ Pending starts ask now.all) (sym same)
+            (subst (λ (a : StartAsk). Fails starts i a now.refused ⊎ Pending starts a now.all) its one.fate))
       ];
+      low = low-one (is_refused_alone at.0) starts.gateway at.0 i b.0 now s first.low;
     }
 
 -- ---- what happens then
@@ -384,9 +453,50 @@ goes starts ask (Unlistens l) deeds old new t d p =
     (pending-in starts ask old.all (filter keep old.all) p
     (in-filter keep p.f old.all (ap not (first-lacks l p.f.stage p.first)) p.here)))
 
+-- who is told stays
+told-begins : (gateway : Bool) (asks : List StartAsk) (i j : ℕ) (old new : Standing) → i ≤ length asks → BeginsAt gateway asks i old new
+    → IsTold old.refused j → IsTold new.refused j
+told-begins gateway asks zero j old new l begins told = subst (λ (t : Standing). IsTold t.refused j) (sym begins) told
+told-begins gateway asks (suc i) j old new l begins told =
+    let first = told-begins gateway asks i j old begins.0 (omega arith) begins.1 told in
+    let at = in-range asks i (omega arith) in
+    let s = there-is (λ (ask : StartAsk). StartsIf (is_refused_alone ask) gateway ask i begins.0 new) (slice_get asks i) at.0 at.1 begins.2 in
+    tells-one (is_refused_alone at.0) gateway at.0 i j begins.0 new s first
+
+told-reply : (success : Bool) (o : Option Request) (fs : List Forwarding) (refused : Option ℕ) (j : ℕ) → IsTold refused j
+    → IsTold (replied_refused success o fs refused) j
+told-reply true None fs refused j told = told
+told-reply false None fs refused j told = told
+told-reply true (Some (Listen serial)) fs refused j told = told
+told-reply false (Some (Listen serial)) fs refused j told = told-still refused (start_of (find (is_asked serial) fs)) j told
+told-reply true (Some (Cancel serial)) fs refused j told = told
+told-reply false (Some (Cancel serial)) fs refused j told = told
+
+told-made : (number : Option ℕ) (o : Option Forwarding) (refused : Option ℕ) (j : ℕ) → IsTold refused j
+    → IsTold (made_refused number o refused) j
+told-made None o refused j told = told-still refused (start_of o) j told
+told-made (Some l) o refused j told = told
+
+told-goes : (deed : Deed) (old new : Desk) (j : ℕ) → Does deed old new → IsTold old.refused j → IsTold new.refused j
+told-goes (Begins more) old new j d told =
+    told-begins more.gateway more.asks (length more.asks) j (standing_at old) (standing_at new) (omega arith) d.begins told
+told-goes (Asks client id opening what answer) old new j d told =
+    subst (λ (o : Option ℕ). IsTold o j) (sym (ap (λ (x : Desk). x.refused) d.others)) told
+told-goes (Answers client id answer) old new j d told = subst (λ (o : Option ℕ). IsTold o j) (sym (ap (λ (x : Desk). x.refused) d.others)) told
+told-goes Greets old new j d told = subst (λ (o : Option ℕ). IsTold o j) (sym (ap (λ (x : Desk). x.refused) d.1)) told
+told-goes (Requests g) old new j d told = subst (λ (o : Option ℕ). IsTold o j) (sym (ap (λ (x : Desk). x.refused) d.2)) told
+told-goes (Replies success port) old new j d told =
+    subst (λ (o : Option ℕ). IsTold o j) (sym (ap (λ (x : Desk). x.refused) d))
+    (told-reply success (first_of old.requests) old.all old.refused j told)
+told-goes (Listens host port number) old new j d told =
+    subst (λ (o : Option ℕ). IsTold o j) (sym (ap (λ (x : Desk). x.refused) d.makes.others))
+    (told-made number (find to_listen d.between.all) d.between.refused j
+    (subst (λ (o : Option ℕ). IsTold o j) (sym (ap (λ (x : Desk). x.refused) d.orders.others)) told))
+told-goes (Unlistens l) old new j d told = subst (λ (o : Option ℕ). IsTold o j) (sym (ap (λ (x : Desk). x.refused) d.others)) told
+
 fate-goes : (starts : Starts) (ask : StartAsk) (i : ℕ) (deed : Deed) (deeds : List Deed) (old new : Desk) → Tracks deeds old → Does deed old new
-    → WasRefused starts i ask ⊎ Fate starts ask deeds old.all → WasRefused starts i ask ⊎ Fate starts ask (deed ∷ deeds) new.all
-fate-goes starts ask i deed deeds old new t d (inl r) = inl r
+    → Fails starts i ask old.refused ⊎ Fate starts ask deeds old.all → Fails starts i ask new.refused ⊎ Fate starts ask (deed ∷ deeds) new.all
+fate-goes starts ask i deed deeds old new t d (inl f) = inl (f.0, told-goes deed old new i d f.1)
 fate-goes starts ask i deed deeds old new t d (inr (inl p)) = inr (goes starts ask deed deeds old new t d p)
 fate-goes starts ask i deed deeds old new t d (inr (inr s)) = inr (inr (served-later starts ask deed deeds s))
 
@@ -395,18 +505,18 @@ within [] i ask e = cc
 within (x ∷ asks) zero ask e = omega arith
 within (x ∷ asks) (suc i) ask e = let rest = within asks i ask e in omega (arith, rest)
 
-or-pending : (starts : Starts) (ask : StartAsk) (i : ℕ) (deeds : List Deed) (all : List Forwarding)
-    → WasRefused starts i ask ⊎ Pending starts ask all → WasRefused starts i ask ⊎ Fate starts ask deeds all
-or-pending starts ask i deeds all (inl r) = inl r
-or-pending starts ask i deeds all (inr p) = inr (inl p)
+or-pending : (starts : Starts) (ask : StartAsk) (i : ℕ) (r : Option ℕ) (deeds : List Deed) (all : List Forwarding)
+    → Fails starts i ask r ⊎ Pending starts ask all → Fails starts i ask r ⊎ Fate starts ask deeds all
+or-pending starts ask i r deeds all (inl f) = inl f
+or-pending starts ask i r deeds all (inr p) = inr (inl p)
 
 fates : (starts : Starts) (later : List Deed) (d : Desk) → Leave (later ++ Begins starts ∷ []) d → (i : ℕ) (ask : StartAsk)
-    → slice_get starts.asks i ≡ Some ask → WasRefused starts i ask ⊎ Fate starts ask (later ++ Begins starts ∷ []) d.all
+    → slice_get starts.asks i ≡ Some ask → Fails starts i ask d.refused ⊎ Fate starts ask (later ++ Begins starts ∷ []) d.all
 fates starts [] d left i ask is =
     let from : BeginsAt starts.gateway starts.asks (length starts.asks) (standing_at empty_desk) (standing_at d) =
     subst (λ (x : Desk). BeginsAt starts.gateway starts.asks (length starts.asks) (standing_at x) (standing_at d)) left.1 left.2.begins in
     let on = begins starts (length starts.asks) (standing_at d) (omega arith) from in
-    or-pending starts ask i (Begins starts ∷ []) d.all (on.fates i ask (within starts.asks i ask is) is)
+    or-pending starts ask i d.refused (Begins starts ∷ []) d.all (on.fates i ask (within starts.asks i ask is) is)
 fates starts (deed ∷ later) d left i ask is =
     fate-goes starts ask i deed (later ++ Begins starts ∷ []) left.0 d (tracks (later ++ Begins starts ∷ []) left.0 left.1) left.2
     (fates starts later left.0 left.1 i ask is)
@@ -423,11 +533,11 @@ begun-at (Live port) closing P e rests says = cc
 begun-at (Cancelling port) closing P e rests says = cc
 
 settle : (starts : Starts) (ask : StartAsk) (i : ℕ) (deeds : List Deed) (d : Desk) → Tracks deeds d → IsAtRest d
-    → WasRefused starts i ask ⊎ Fate starts ask deeds d.all → WasRefused starts i ask ⊎ WasServed starts ask deeds
+    → Fails starts i ask d.refused ⊎ Fate starts ask deeds d.all → Fails starts i ask d.refused ⊎ WasServed starts ask deeds
 settle starts ask i deeds d t rest (inl r) = inl r
 settle starts ask i deeds d t rest (inr (inr s)) = inr s
 settle starts ask i deeds d t rest (inr (inl p)) =
-    begun-at p.f.stage p.f.closing (WasRefused starts i ask ⊎ WasServed starts ask deeds) p.first
+    begun-at p.f.stage p.f.closing (Fails starts i ask d.refused ⊎ WasServed starts ask deeds) p.first
     (all-rest deeds d.all d.serials d.requests d.waiting d.all t.numbered (fates-at-rest deeds d t rest) (λ f h. h) t.stages rest.orders
     p.f p.here)
     (none-passes-in has_request d.all p.f rest.says p.here)

@@ -8,7 +8,7 @@ use Rattle.house_forward.specs.Asks.{turns_away}
 use Rattle.house_forward.specs.Deeds.{Deed, Does, Leave}
 use Rattle.house_forward.specs.Deeds.{Begins, Asks, Answers, Greets, Requests, Replies, Listens, Unlistens}
 use Rattle.house_forward.specs.Desk.{Desk}
-use Rattle.house_forward.specs.Forwardings.{granted, bound_to, request_of, outcome_of, reply_to, standing, connects_to, how_many, has_request, next_of, listener_of}
+use Rattle.house_forward.specs.Forwardings.{granted, bound_to, request_of, outcome_of, reply_to, standing, connects_to, how_many, has_request, next_of, listener_of, counts}
 use Rattle.house_forward.specs.Quiet.{answers_none}
 use Rattle.house_forward.specs.Rules.{AreEnds, is_refused_alone, kind_of, listen_host, listens_here, connects_there}
 use Rattle.house_forward.specs.declared.asks.Asked.TheVariants.{Now}
@@ -138,8 +138,8 @@ IsGrant (given.Port port) = Unit {0}
 IsGrant given.Refused = ⊥
 IsGrant given.Later = ⊥
 
--- an ask to open that gets Done or a port at once: the very forwarding that it asks for is there, and
--- has a listener or is live; it gets the port where the server was to choose one
+-- an ask to open that gets Done or a port at once: the very forwarding that it asks for is there, has a
+-- listener that isn't to be closed or is live, and gives the port where the server was to choose one
 pub record IsServed (opening : Bool) (ask : StartAsk) (reply : HouseReply) (all : List Forwarding)
     (deeds : List Deed) : Type 0 where
   pub opens : opening ≡ true
@@ -147,6 +147,7 @@ pub record IsServed (opening : Bool) (ask : StartAsk) (reply : HouseReply) (all 
   pub outcome : Outcome
   pub stands : Contains all forwarding
   pub is_for : IsFor (gateway_in deeds) true ask forwarding
+  pub counts_yet : counts forwarding ≡ true
   pub serves : ServesAt forwarding.stage forwarding deeds
   pub comes : outcome_of forwarding ≡ Some outcome
   pub replies : reply ≡ reply_to (Now outcome)
@@ -174,7 +175,7 @@ RepliedBy true port earlier true f outcome = IsNext Listen f earlier
 RepliedBy true port earlier false f outcome = IsNext Cancel f earlier × (outcome ≡ Done)
 RepliedBy false port earlier true f outcome = IsNext Listen f earlier × (outcome ≡ Refused)
 RepliedBy false port earlier false f outcome =
-    (what : ℕ → Request) × IsNext what f earlier × (outcome ≡ Refused)
+    (IsNext Listen f earlier ⊎ IsNext Cancel f earlier) × (outcome ≡ Refused)
 
 -- as its listener was closed, those that asked for that get Done
 abbrev pub ClosedBy : Bool → Outcome → Type 0
@@ -220,7 +221,7 @@ EachAnswer = (client id : ℕ) (reply : HouseReply) (deeds : List Deed) (old new
 
 -- ---- what is closed
 
--- a client asked to close it, and waits for that
+-- a client asked to close it, and was to get its answer later
 pub record WasToClose (f : Forwarding) (deeds : List Deed) : Type 0 where
   pub client : ℕ
   pub id : ℕ

@@ -1,5 +1,6 @@
 -- What comes of the forwardings that are asked for at the start.
-use Rattle.std.specs.Prelude.{◌≡◌, ◌⊎◌, ℕ, true, List, [], ◌∷◌, ◌++◌, slice_get, Option, Some}
+use Rattle.std.specs.Prelude.{◌≡◌, ◌⊎◌, ◌≤◌, ℕ, true, List, [], ◌∷◌, ◌++◌, slice_get, Option, Some, None}
+use Rattle.mux_outside.specs.HouseCalls.{HouseCall}
 use Rattle.mux_outside.specs.declared.start_ask.StartAsk.{StartAsk}
 use Rattle.mux_outside.specs.declared.starts.Starts.{Starts}
 use Rattle.house_forward.specs.Causes.{AreOne, IsFor, IsAtRest}
@@ -7,6 +8,8 @@ use Rattle.house_forward.specs.Deeds.{Deed, Leave}
 use Rattle.house_forward.specs.Deeds.{Begins, Requests, Listens}
 use Rattle.house_forward.specs.Desk.{Desk, empty_desk, standing_at}
 use Rattle.house_forward.specs.Forwardings.{Begins as BeginsAt, Standing, opens_of, standing, request_of}
+use Rattle.house_forward.specs.Lives.{Held, HasLived}
+use Rattle.house_forward.specs.Quiet.{quiet_of}
 use Rattle.house_forward.specs.Rules.{AreEnds, is_refused_alone}
 use Rattle.house_forward.specs.declared.asks.Asked.TheVariants.{Now}
 use Rattle.house_forward.specs.declared.asks.Outcome.TheVariants.{Refused}
@@ -29,6 +32,11 @@ pub record WasRefused (starts : Starts) (i : ℕ) (ask : StartAsk) : Type 0 wher
   pub cause : (is_refused_alone ask ≡ true) ⊎ ((ends : Ends) × AreEnds starts.gateway ask ends
       × (opens_of stood.serials ends stood.all (standing ends stood.all) ≡ Now Refused))
 
+-- one is told as refused: this one, or one that was refused before it
+abbrev pub IsTold : Option ℕ → ℕ → Type 0
+IsTold None i = ⊥
+IsTold (Some first) i = first ≤ i
+
 -- the forwarding that it is for has begun
 pub record WasServed (starts : Starts) (ask : StartAsk) (deeds : List Deed) : Type 0 where
   pub forwarding : Forwarding
@@ -39,4 +47,10 @@ pub record WasServed (starts : Starts) (ask : StartAsk) (deeds : List Deed) : Ty
 abbrev pub EachStart : Type 0
 EachStart = (starts : Starts) (later : List Deed) (d : Desk) → Leave (later ++ Begins starts ∷ []) d → IsAtRest d
     → (i : ℕ) (ask : StartAsk) → slice_get starts.asks i ≡ Some ask
-    → WasRefused starts i ask ⊎ WasServed starts ask (later ++ Begins starts ∷ [])
+    → (WasRefused starts i ask × IsTold d.refused i) ⊎ WasServed starts ask (later ++ Begins starts ∷ [])
+
+-- a house that has nothing to say, to order and to answer is at rest
+abbrev pub EachQuiet : Type 0
+EachQuiet = (calls : List HouseCall) (h : Held) (lived : HasLived calls h)
+    → quiet_of h.desk.greeted h.desk.all h.links h.desk.waiting ≡ record { says = true; orders = true; answers = true }
+    → IsAtRest lived.course.desk

@@ -1,4 +1,5 @@
-//! What holds of the house, whatever calls were made: each function's contract is the law.
+//! What holds of the house, whatever calls were made: of its relays, its forwardings, its requests to
+//! the server and its asks. Each function's contract is the law.
 
 ghost use Rattle.house_forward.specs.Causes.{EachServed, EachRefused, EachAnswer, EachUnlisten, EachCancel, EachAwaits};
 ghost use Rattle.house_forward.specs.Closing.{ClosesHaveCause};
@@ -9,7 +10,7 @@ ghost use Rattle.house_forward.specs.Greeting.{EachGreets};
 ghost use Rattle.house_forward.specs.Laws.{EachRelays, EachKeeps, EachRests};
 ghost use Rattle.house_forward.specs.Numbers.{ChannelsDiffer, EachIsNew, StreamsAreTheirs, StreamsDiffer};
 ghost use Rattle.house_forward.specs.Opening.{OneOpenAtMost, OpensGoRight};
-ghost use Rattle.house_forward.specs.Starting.{EachStart};
+ghost use Rattle.house_forward.specs.Starting.{EachQuiet, EachStart};
 ghost use Rattle.house_forward.specs.Streaming.{EachHasItsStream};
 
 /// Of each relay that the house has, or had: what is sent in its channel was read from its socket
@@ -84,10 +85,11 @@ pub fn calls_make_things_happen()
 /// port at once asks for a forwarding that is there: it has a listener that was made at its host and
 /// port and was not closed since, or the server granted its request, and it gets the port where the
 /// server was to choose one. One that is refused at once is refused for one of the causes that there
-/// are. An answer comes by what happened to the forwarding since the ask: Done
-/// as its listener was made, or as the server granted its request, and then with the port where the
-/// server was to choose one; to one to close as its listener was closed, or as the server granted its
-/// cancel; Refused as no listener could be made, or as the server refused the request or the cancel.
+/// are. An answer is to an ask that had none yet, and comes by what happened to its forwarding since:
+/// to one to open Done as its listener was made, or as the server granted its request, and then with
+/// the port where the server was to choose one; to one to close Done as its listener was closed, or as
+/// the server granted its cancel; to either Refused as no listener could be made, or as the server
+/// refused the request; and to one to close as the server refused the cancel.
 pub fn every_reply_has_its_cause()
     ensures served { EachServed }
     ensures refused { EachRefused }
@@ -116,8 +118,14 @@ pub fn at_rest_asks_wait_for_the_server()
 {}
 
 /// Of a house that began with forwardings: where there is no request to say, no listener to order or
-/// to close and no answer to give, each of them was refused as it was asked for, or its listener was
-/// ordered, or its request to listen was said.
+/// to close and no answer to give, each of them was refused as it was asked for, and then it or one
+/// before it is told as refused, or its listener was ordered, or its request to listen was said.
 pub fn at_rest_each_forwarding_of_the_start_has_begun()
     ensures { EachStart }
+{}
+
+/// A house that has nothing to say, nothing to order and nothing to answer has no request to say, no
+/// listener to order or to close and no answer to give.
+pub fn a_quiet_house_is_at_rest()
+    ensures { EachQuiet }
 {}
