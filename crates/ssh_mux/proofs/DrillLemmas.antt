@@ -8,7 +8,7 @@ use Rattle.mux_history.specs.Policy.{any_policy}
 use Rattle.mux_outside.specs.declared.mark.Mark.{Mark}
 use Rattle.mux_outside.specs.declared.mark.Opening.{Opening}
 use Rattle.mux_outside.specs.declared.turn.Tally.{Tally}
-use Rattle.mux_outside.specs.Seen.{Calls}
+use Rattle.mux_outside.specs.Seen.{Calls, Seen}
 use Rattle.ssh_mux.specs.declared.ending.Ending.{Ending}
 use Rattle.ssh_mux.specs.declared.ending.Ending.TheVariants as endings
 use Rattle.ssh_mux.specs.declared.status.Status.{Status}
@@ -72,18 +72,18 @@ handed-ends text (Err ending) before now h = absurd h
 
 -- ---- what was served, and the summary
 
-module _ (words : List Bytes) (turns : ℕ) (openings openings' : Option (List Opening)) (start told : Option (List Mark)) (tally : Tally) (out out' : Option (List ℕ)) where
+module _ (words : List Bytes) (turns : ℕ) (openings openings' : Option (List Opening)) (start : Option (List Mark)) (seen : Seen) (tally : Tally) (out out' : Option (List ℕ)) where
   abbrev Shared : Result Status Ending → Type 0
-  Shared result = Shares RefusesAll NoneRests AnyCalls AnyCalls any_policy 0 turns None None start told None result
+  Shared result = Shares RefusesAll NoneRests AnyCalls AnyCalls any_policy 0 turns None None start seen None result
 
   abbrev Ran : Result Status Ending → Type 0
-  Ran result = IsShared RefusesAll NoneRests AnyCalls AnyCalls any_policy 0 turns None None start told None result
+  Ran result = IsShared RefusesAll NoneRests AnyCalls AnyCalls any_policy 0 turns None None start seen None result
 
   -- of a run that ended well
-  summed-run : (due : Status) (result : Result Status Ending) → Ran (Ok due) → HandsOver result (drill_text tally) out out' → RunsDrill turns start told tally result out out'
+  summed-run : (due : Status) (result : Result Status Ending) → Ran (Ok due) → HandsOver result (drill_text tally) out out' → RunsDrill turns start seen tally result out out'
   summed-run due result h d = record { answer = h.answer; run = h.run; ends = subst (λ e. SumsUp e tally result out out') h.is_told d }
 
-  summed-shared : (due : Status) (result : Result Status Ending) → Ran (Ok due) → HandsOver result (drill_text tally) out out' → DrillShares turns start told tally result out out'
+  summed-shared : (due : Status) (result : Result Status Ending) → Ran (Ok due) → HandsOver result (drill_text tally) out out' → DrillShares turns start seen tally result out out'
   summed-shared due (Ok status) h d = summed-run due (Ok status) h d
   summed-shared due (Err endings.NotOpened) h d = absurd d
   summed-shared due (Err endings.NoMemory) h d = inr (summed-run due (Err endings.NoMemory) h d)
@@ -98,26 +98,26 @@ module _ (words : List Bytes) (turns : ℕ) (openings openings' : Option (List O
     on (Err endings.NoMemory) d o = inr o
     on (Err ending) d o = absurd d
 
-  pub summed-goes : (due : Status) (result : Result Status Ending) → EndsMaster (Ok due) → OpensAt [] (drill_transport words) due openings openings' → Shared (Ok due) → HandsOver result (drill_text tally) out out' → DrillGoes words turns result openings openings' start told tally out out'
+  pub summed-goes : (due : Status) (result : Result Status Ending) → EndsMaster (Ok due) → OpensAt [] (drill_transport words) due openings openings' → Shared (Ok due) → HandsOver result (drill_text tally) out out' → DrillGoes words turns result openings openings' start seen tally out out'
   summed-goes due result is o h d = record { ends = handed-ends (drill_text tally) result out out' d; opened = summed-opened due result is d o; shared = summed-shared due result h d }
 
 -- of one that ended badly
-module _ (words : List Bytes) (turns : ℕ) (openings openings' : Option (List Opening)) (start told : Option (List Mark)) (tally : Tally) (out : Option (List ℕ)) where
+module _ (words : List Bytes) (turns : ℕ) (openings openings' : Option (List Opening)) (start : Option (List Mark)) (seen : Seen) (tally : Tally) (out : Option (List ℕ)) where
   -- no forwarding of a start is refused
   drilled : (meant : Ending) → EndsMaster (Err meant) → StartCause (status_of (shown meant)) None → EndsDrill (Err meant)
   drilled endings.StartRefused e r = absurd cc
   drilled meant e r = e
 
-  unsummed-run : (meant : Ending) → IsShared RefusesAll NoneRests AnyCalls AnyCalls any_policy 0 turns None None start told None (Err meant) → RunsDrill turns start told tally (Err meant) out out
+  unsummed-run : (meant : Ending) → IsShared RefusesAll NoneRests AnyCalls AnyCalls any_policy 0 turns None None start seen None (Err meant) → RunsDrill turns start seen tally (Err meant) out out
   unsummed-run meant h = record { answer = h.answer; run = h.run; ends = subst (λ e. SumsUp e tally (Err meant) out out) h.is_told (refl, refl) }
 
-  unsummed-shared : (meant : Ending) → Shares RefusesAll NoneRests AnyCalls AnyCalls any_policy 0 turns None None start told None (Err meant) → DrillShares turns start told tally (Err meant) out out
+  unsummed-shared : (meant : Ending) → Shares RefusesAll NoneRests AnyCalls AnyCalls any_policy 0 turns None None start seen None (Err meant) → DrillShares turns start seen tally (Err meant) out out
   unsummed-shared endings.NotOpened h = (h, refl)
   unsummed-shared endings.NoMemory (inl h) = inl (h, refl)
   unsummed-shared endings.NoMemory (inr h) = inr (unsummed-run endings.NoMemory h)
   unsummed-shared meant h = unsummed-run meant h
 
-  pub unsummed-goes : (meant : Ending) → EndsMaster (Err meant) → StartCause (status_of (shown meant)) None → OpensAt [] (drill_transport words) (status_of (shown meant)) openings openings' → Shares RefusesAll NoneRests AnyCalls AnyCalls any_policy 0 turns None None start told None (Err meant) → DrillGoes words turns (Err meant) openings openings' start told tally out out
+  pub unsummed-goes : (meant : Ending) → EndsMaster (Err meant) → StartCause (status_of (shown meant)) None → OpensAt [] (drill_transport words) (status_of (shown meant)) openings openings' → Shares RefusesAll NoneRests AnyCalls AnyCalls any_policy 0 turns None None start seen None (Err meant) → DrillGoes words turns (Err meant) openings openings' start seen tally out out
   unsummed-goes meant e r o h = record { ends = drilled meant e r; opened = o; shared = unsummed-shared meant h }
 
 pub summed-cause : (text : Bytes) (result : Result Status Ending) (before now : Option (List ℕ)) (s s' c c' : ℕ) → HandsOver result text before now → WireCause (so_far result) s s' c c'
@@ -158,43 +158,43 @@ unwritten-end tally endings.NoMemory (Ok due) out out' h = h
 unwritten-end tally meant (Ok due) out out' h = absurd h
 unwritten-end tally meant (Err ending) out out' h = h.1
 
-unwritten : (turns : ℕ) (start told : Option (List Mark)) (tally : Tally) (meant : Ending) (out out' : Option (List ℕ)) → DrillShares turns start told tally (Err meant) out out' → out' ≡ out
-unwritten turns start told tally endings.NotOpened out out' h = h.1
-unwritten turns start told tally endings.NoMemory out out' (inl h) = h.1
-unwritten turns start told tally endings.NoMemory out out' (inr h) = unwritten-end tally endings.NoMemory (told_as h.answer) out out' h.ends
-unwritten turns start told tally meant out out' h = unwritten-end tally meant (told_as h.answer) out out' h.ends
+unwritten : (turns : ℕ) (start : Option (List Mark)) (seen : Seen) (tally : Tally) (meant : Ending) (out out' : Option (List ℕ)) → DrillShares turns start seen tally (Err meant) out out' → out' ≡ out
+unwritten turns start seen tally endings.NotOpened out out' h = h.1
+unwritten turns start seen tally endings.NoMemory out out' (inl h) = h.1
+unwritten turns start seen tally endings.NoMemory out out' (inr h) = unwritten-end tally endings.NoMemory (told_as h.answer) out out' h.ends
+unwritten turns start seen tally meant out out' h = unwritten-end tally meant (told_as h.answer) out out' h.ends
 
-drill-takes-from : (seed clients messages turns : ℕ) (start told : Option (List Mark)) (tally : Tally) (result : Result Status Ending) (out out' : Option (List ℕ)) → EndsDrill result → DrillShares turns start told tally result out out' → OutTakes (so_far result) (Certain (Drills seed clients messages)) out out'
-drill-takes-from seed clients messages turns start told tally (Ok statuses.Done) out out' e h = tt
-drill-takes-from seed clients messages turns start told tally (Ok statuses.Write) out out' e h = tt
-drill-takes-from seed clients messages turns start told tally (Ok status) out out' e h = absurd cc
-drill-takes-from seed clients messages turns start told tally (Err meant) out out' e h =
-    subst (λ o. OutTakes (status_of (shown meant)) (Certain (Drills seed clients messages)) out o) (sym (unwritten turns start told tally meant out out' h)) (quiet-out (status_of (shown meant)) (Certain (Drills seed clients messages)) out (loud (shown meant)))
+drill-takes-from : (seed clients messages turns : ℕ) (start : Option (List Mark)) (seen : Seen) (tally : Tally) (result : Result Status Ending) (out out' : Option (List ℕ)) → EndsDrill result → DrillShares turns start seen tally result out out' → OutTakes (so_far result) (Certain (Drills seed clients messages)) out out'
+drill-takes-from seed clients messages turns start seen tally (Ok statuses.Done) out out' e h = tt
+drill-takes-from seed clients messages turns start seen tally (Ok statuses.Write) out out' e h = tt
+drill-takes-from seed clients messages turns start seen tally (Ok status) out out' e h = absurd cc
+drill-takes-from seed clients messages turns start seen tally (Err meant) out out' e h =
+    subst (λ o. OutTakes (status_of (shown meant)) (Certain (Drills seed clients messages)) out o) (sym (unwritten turns start seen tally meant out out' h)) (quiet-out (status_of (shown meant)) (Certain (Drills seed clients messages)) out (loud (shown meant)))
 
-pub drill-takes : (seed clients messages : ℕ) (words : List Bytes) (turns : ℕ) (result : Result Status Ending) (openings openings' : Option (List Opening)) (start told : Option (List Mark)) (tally : Tally) (out out' : Option (List ℕ)) → DrillGoes words turns result openings openings' start told tally out out' → OutTakes (so_far result) (Certain (Drills seed clients messages)) out out'
-drill-takes seed clients messages words turns result openings openings' start told tally out out' h = drill-takes-from seed clients messages turns start told tally result out out' h.ends h.shared
+pub drill-takes : (seed clients messages : ℕ) (words : List Bytes) (turns : ℕ) (result : Result Status Ending) (openings openings' : Option (List Opening)) (start : Option (List Mark)) (seen : Seen) (tally : Tally) (out out' : Option (List ℕ)) → DrillGoes words turns result openings openings' start seen tally out out' → OutTakes (so_far result) (Certain (Drills seed clients messages)) out out'
+drill-takes seed clients messages words turns result openings openings' start seen tally out out' h = drill-takes-from seed clients messages turns start seen tally result out out' h.ends h.shared
 
 -- ---- an ending that came before
 
-pub still-drill : (k : Known) (meant : Ending) (words : List Bytes) (turns : ℕ) (openings : Option (List Opening)) (start : Option (List Mark)) (tally : Tally) (out : Option (List ℕ)) → IsRefused k (shown meant) → OnTrue (drills k) (DrillGoes words turns (Err meant) openings openings start start tally out out)
-still-drill (Certain (Ends due)) meant words turns openings start tally out h = tt
-still-drill (Certain (Writes text)) meant words turns openings start tally out h = tt
-still-drill (Certain (Opens control transport os ls)) meant words turns openings start tally out h = tt
-still-drill Listing meant words turns openings start tally out h = tt
-still-drill (Certain (Joins control asked what)) meant words turns openings start tally out h = tt
-still-drill (Client asked what) meant words turns openings start tally out h = tt
-still-drill (Master transport os ls) meant words turns openings start tally out h = tt
-still-drill (Certain (Drills seed clients messages)) endings.NoMemory words turns openings start tally out h =
+pub still-drill : (k : Known) (meant : Ending) (words : List Bytes) (turns : ℕ) (openings : Option (List Opening)) (seen : Seen) (tally : Tally) (out : Option (List ℕ)) → IsRefused k (shown meant) → OnTrue (drills k) (DrillGoes words turns (Err meant) openings openings seen.told seen tally out out)
+still-drill (Certain (Ends due)) meant words turns openings seen tally out h = tt
+still-drill (Certain (Writes text)) meant words turns openings seen tally out h = tt
+still-drill (Certain (Opens control transport os ls)) meant words turns openings seen tally out h = tt
+still-drill Listing meant words turns openings seen tally out h = tt
+still-drill (Certain (Joins control asked what)) meant words turns openings seen tally out h = tt
+still-drill (Client asked what) meant words turns openings seen tally out h = tt
+still-drill (Master transport os ls) meant words turns openings seen tally out h = tt
+still-drill (Certain (Drills seed clients messages)) endings.NoMemory words turns openings seen tally out h =
     record { ends = refl; opened = inl refl; shared = inl (record { same_wire = refl; same_house = refl }, refl) }
-still-drill (Certain (Drills seed clients messages)) (endings.BadLine file line ReadFault) words turns openings start tally out h = absurd cc
-still-drill (Certain (Drills seed clients messages)) (endings.BadLine file line RunFault) words turns openings start tally out h = absurd cc
-still-drill (Certain (Drills seed clients messages)) meant words turns openings start tally out h = absurd h
+still-drill (Certain (Drills seed clients messages)) (endings.BadLine file line ReadFault) words turns openings seen tally out h = absurd cc
+still-drill (Certain (Drills seed clients messages)) (endings.BadLine file line RunFault) words turns openings seen tally out h = absurd cc
+still-drill (Certain (Drills seed clients messages)) meant words turns openings seen tally out h = absurd h
 
 -- ---- with its line
 
-module _ (words : List Bytes) (turns : ℕ) (openings openings' : Option (List Opening)) (start told : Option (List Mark)) (tally : Tally) (out out' : Option (List ℕ)) where
+module _ (words : List Bytes) (turns : ℕ) (openings openings' : Option (List Opening)) (start : Option (List Mark)) (seen : Seen) (tally : Tally) (out out' : Option (List ℕ)) where
   abbrev Went : Result Status Ending → Type 0
-  Went result = DrillGoes words turns result openings openings' start told tally out out'
+  Went result = DrillGoes words turns result openings openings' start seen tally out out'
 
   -- without one
   well-told : (status : Status) (end : Result Status Ending) (err : Option (List ℕ)) (f : ℕ) → SumsUp end tally (Ok status) out out' → DrillTells end tally status out out' err err f f
@@ -203,7 +203,7 @@ module _ (words : List Bytes) (turns : ℕ) (openings openings' : Option (List O
   well-told status (Ok due) err f h = absurd h
   well-told status (Err ending) err f h = let e = h.0 in absurd cc
 
-  well-run : (status : Status) (err : Option (List ℕ)) (f : ℕ) → RunsDrill turns start told tally (Ok status) out out' → IsDrilled turns start told tally status out out' err err f f
+  well-run : (status : Status) (err : Option (List ℕ)) (f : ℕ) → RunsDrill turns start seen tally (Ok status) out out' → IsDrilled turns start seen tally status out out' err err f f
   well-run status err f h = record { answer = h.answer; run = h.run; ends = well-told status (told_as h.answer) err f h.ends }
 
   -- a status without a line is neither that of want of memory nor that of sockets that aren't open
@@ -214,42 +214,42 @@ module _ (words : List Bytes) (turns : ℕ) (openings openings' : Option (List O
   silent-end status (Err ending) h = let e = h.0 in absurd cc
 
   abbrev Served : Status → Option (List ℕ) → ℕ → Type 0
-  Served status err f = DrillServes turns start told tally status out out' err err f f
+  Served status err f = DrillServes turns start seen tally status out out' err err f f
 
-  well-served : (status : Status) (err : Option (List ℕ)) (f : ℕ) → (status ≡ statuses.Done) ⊎ (status ≡ statuses.Write) → IsDrilled turns start told tally status out out' err err f f → Served status err f
-  well-served status err f (inl e) h = subst (λ x. Served x err f) (sym e) (subst (λ x. IsDrilled turns start told tally x out out' err err f f) e h)
-  well-served status err f (inr e) h = subst (λ x. Served x err f) (sym e) (subst (λ x. IsDrilled turns start told tally x out out' err err f f) e h)
+  well-served : (status : Status) (err : Option (List ℕ)) (f : ℕ) → (status ≡ statuses.Done) ⊎ (status ≡ statuses.Write) → IsDrilled turns start seen tally status out out' err err f f → Served status err f
+  well-served status err f (inl e) h = subst (λ x. Served x err f) (sym e) (subst (λ x. IsDrilled turns start seen tally x out out' err err f f) e h)
+  well-served status err f (inr e) h = subst (λ x. Served x err f) (sym e) (subst (λ x. IsDrilled turns start seen tally x out out' err err f f) e h)
 
-  well-goes : (status : Status) (err : Option (List ℕ)) (f : ℕ) → Went (Ok status) → IsDrill words turns status openings openings' start told tally out out' err err f f
+  well-goes : (status : Status) (err : Option (List ℕ)) (f : ℕ) → Went (Ok status) → IsDrill words turns status openings openings' start seen tally out out' err err f f
   well-goes status err f h = record {
     opened = h.opened;
     served = well-served status err f (silent-end status (told_as h.shared.answer) h.shared.ends) (well-run status err f h.shared);
   }
 
-  pub drill_well : (drilled : Bool) (status : Status) (err : Option (List ℕ)) (f : ℕ) → OnTrue drilled (Went (Ok status)) → OnTrue drilled (IsDrill words turns status openings openings' start told tally out out' err err f f)
+  pub drill_well : (drilled : Bool) (status : Status) (err : Option (List ℕ)) (f : ℕ) → OnTrue drilled (Went (Ok status)) → OnTrue drilled (IsDrill words turns status openings openings' start seen tally out out' err err f f)
   drill_well true status err f h = well-goes status err f h
   drill_well false status err f h = tt
 
 -- with one
-module _ (words : List Bytes) (turns : ℕ) (openings openings' : Option (List Opening)) (start told : Option (List Mark)) (tally : Tally) (out out' : Option (List ℕ)) (err err' : Option (List ℕ)) (f f' : ℕ) where
+module _ (words : List Bytes) (turns : ℕ) (openings openings' : Option (List Opening)) (start : Option (List Mark)) (seen : Seen) (tally : Tally) (out out' : Option (List ℕ)) (err err' : Option (List ℕ)) (f f' : ℕ) where
   abbrev Told : Status → Type 0
-  Told status = DrillServes turns start told tally status out out' err err' f f'
+  Told status = DrillServes turns start seen tally status out out' err err' f f'
 
   bad-told : (meant : Ending) (status : Status) (end : Result Status Ending) → (meant ≡ endings.NoMemory → status ≡ statuses.Memory) → SumsUp end tally (Err meant) out out' → Reports status (shown meant) err err' f f' → DrillTells end tally status out out' err err' f f'
   bad-told endings.NoMemory status (Ok due) is h r = subst (λ x. DrillTells (Ok due) tally x out out' err err' f f') (sym (is refl)) (h, subst (λ x. Reports x (shown endings.NoMemory) err err' f f') (is refl) r)
   bad-told meant status (Ok due) is h r = absurd h
   bad-told meant status (Err ending) is h r = let same : meant ≡ ending = (let e = h.0 in cc) in (h.1, subst (λ m. Reports status (shown m) err err' f f') same r)
 
-  bad-run : (meant : Ending) (status : Status) → (meant ≡ endings.NoMemory → status ≡ statuses.Memory) → RunsDrill turns start told tally (Err meant) out out' → Reports status (shown meant) err err' f f' → IsDrilled turns start told tally status out out' err err' f f'
+  bad-run : (meant : Ending) (status : Status) → (meant ≡ endings.NoMemory → status ≡ statuses.Memory) → RunsDrill turns start seen tally (Err meant) out out' → Reports status (shown meant) err err' f f' → IsDrilled turns start seen tally status out out' err err' f f'
   bad-run meant status is h r = record { answer = h.answer; run = h.run; ends = bad-told meant status (told_as h.answer) is h.ends r }
 
-  memory-told : (meant : Ending) → DrillShares turns start told tally (Err meant) out out' → Reports statuses.Memory (shown meant) err err' f f' → Told statuses.Memory
+  memory-told : (meant : Ending) → DrillShares turns start seen tally (Err meant) out out' → Reports statuses.Memory (shown meant) err err' f f' → Told statuses.Memory
   memory-told endings.NotOpened h r = inl h
   memory-told endings.NoMemory (inl h) r = inl h
   memory-told endings.NoMemory (inr h) r = inr (bad-run endings.NoMemory statuses.Memory (λ e. refl) h r)
   memory-told meant h r = inr (bad-run meant statuses.Memory (λ e. refl) h r)
 
-  own-told : (meant : Ending) → EndsDrill (Err meant) → DrillShares turns start told tally (Err meant) out out' → Reports (status_of (shown meant)) (shown meant) err err' f f' → Told (status_of (shown meant))
+  own-told : (meant : Ending) → EndsDrill (Err meant) → DrillShares turns start seen tally (Err meant) out out' → Reports (status_of (shown meant)) (shown meant) err err' f f' → Told (status_of (shown meant))
   own-told endings.NotOpened e h r = h
   own-told endings.NoMemory e h r = memory-told endings.NoMemory h r
   own-told endings.TransportFailed e h r = bad-run endings.TransportFailed statuses.Transport (λ x. absurd cc) h r
@@ -262,9 +262,9 @@ module _ (words : List Bytes) (turns : ℕ) (openings openings' : Option (List O
   memory-opened status h = inr h
 
   abbrev Drilled : Status → Type 0
-  Drilled status = IsDrill words turns status openings openings' start told tally out out' err err' f f'
+  Drilled status = IsDrill words turns status openings openings' start seen tally out out' err err' f f'
 
-  bad-goes : (meant : Ending) (status : Status) → (status ≡ statuses.Memory) ⊎ (status ≡ status_of (shown meant)) → DrillGoes words turns (Err meant) openings openings' start told tally out out' → Reports status (shown meant) err err' f f' → Drilled status
+  bad-goes : (meant : Ending) (status : Status) → (status ≡ statuses.Memory) ⊎ (status ≡ status_of (shown meant)) → DrillGoes words turns (Err meant) openings openings' start seen tally out out' → Reports status (shown meant) err err' f f' → Drilled status
   bad-goes meant status (inl e) h r = subst Drilled (sym e) (record {
     opened = memory-opened (status_of (shown meant)) h.opened;
     served = memory-told meant h.shared (subst (λ x. Reports x (shown meant) err err' f f') e r);
@@ -274,6 +274,6 @@ module _ (words : List Bytes) (turns : ℕ) (openings openings' : Option (List O
     served = own-told meant h.ends h.shared (subst (λ x. Reports x (shown meant) err err' f f') e r);
   })
 
-  pub drill_after : (drilled : Bool) (meant : Ending) (status : Status) → Reports status (shown meant) err err' f f' → OnTrue drilled (DrillGoes words turns (Err meant) openings openings' start told tally out out') → OnTrue drilled (Drilled status)
+  pub drill_after : (drilled : Bool) (meant : Ending) (status : Status) → Reports status (shown meant) err err' f f' → OnTrue drilled (DrillGoes words turns (Err meant) openings openings' start seen tally out out') → OnTrue drilled (Drilled status)
   drill_after true meant status r h = bad-goes meant status (reported status (shown meant) err err' f f' r) h r
   drill_after false meant status r h = tt

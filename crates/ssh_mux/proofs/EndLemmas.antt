@@ -15,7 +15,7 @@ use Rattle.mux_outside.specs.declared.mark.Opening.{Opening}
 use Rattle.mux_outside.specs.declared.starts.Starts.{Starts}
 use Rattle.mux_history.specs.declared.ended.Ended.TheVariants as answers
 use Rattle.mux_history.specs.Policy.{Policy}
-use Rattle.mux_outside.specs.Seen.{Calls}
+use Rattle.mux_outside.specs.Seen.{Calls, Seen}
 use Rattle.ssh_mux.specs.declared.ending.Ending.{Ending as MeantEnding}
 use Rattle.ssh_mux.specs.declared.ending.Ending.TheVariants as endings
 use Rattle.ssh_mux.specs.declared.status.Status.{Status}
@@ -135,15 +135,15 @@ unopened (Master transport os ls) status before now h = inr h
 pub opened_after : (k : Known) (status : Status) (ending : Ending) (b n : Option (List ℕ)) (f f' : ℕ) (before now : Option (List Opening)) → Reports status ending b n f f' → OpensOnce k (status_of ending) before now → OpensOnce k status before now
 opened_after k status ending b n f f' before now r h = carried (λ s. OpensOnce k s before now) status ending (reported status ending b n f f' r) (unopened k (status_of ending) before now h) h
 
-module _ (May : HouseReply → Type 0) (Rest : Resting) (stands stands' : List HouseCall → Type 0) (policy : Policy) (pid turns : ℕ) (before now : Option (List HouseMark)) (start told : Option (List Mark)) (refused : Option ℕ) (b n : Option (List ℕ)) (f f' : ℕ) where
+module _ (May : HouseReply → Type 0) (Rest : Resting) (stands stands' : List HouseCall → Type 0) (policy : Policy) (pid turns : ℕ) (before now : Option (List HouseMark)) (start : Option (List Mark)) (seen : Seen) (refused : Option ℕ) (b n : Option (List ℕ)) (f f' : ℕ) where
   abbrev Served : Status → Type 0
-  Served status = Serves May Rest stands stands' policy pid turns before now start told refused status b n f f'
+  Served status = Serves May Rest stands stands' policy pid turns before now start seen refused status b n f f'
 
   abbrev Shared : Result Status MeantEnding → Type 0
-  Shared result = Shares May Rest stands stands' policy pid turns before now start told refused result
+  Shared result = Shares May Rest stands stands' policy pid turns before now start seen refused result
 
   -- an end with the line that was handed over
-  with-line : (meant : MeantEnding) (status : Status) → IsShared May Rest stands stands' policy pid turns before now start told refused (Err meant) → Reports status (shown meant) b n f f' → IsServed May Rest stands stands' policy pid turns before now start told refused status b n f f'
+  with-line : (meant : MeantEnding) (status : Status) → IsShared May Rest stands stands' policy pid turns before now start seen refused (Err meant) → Reports status (shown meant) b n f f' → IsServed May Rest stands stands' policy pid turns before now start seen refused status b n f f'
   with-line meant status h r = record { answer = h.answer; run = h.run; line = subst (λ x. TellsEnd x status b n f f') h.is_told r }
 
   memory-serves : (meant : MeantEnding) → Shared (Err meant) → Reports statuses.Memory (shown meant) b n f f' → Served statuses.Memory
@@ -153,7 +153,7 @@ module _ (May : HouseReply → Type 0) (Rest : Resting) (stands stands' : List H
   memory-serves meant h r = inr (with-line meant statuses.Memory h r)
 
   -- no run ends as words and configurations do
-  none-ends : (meant : MeantEnding) → ends_sharing meant ≡ false → IsShared May Rest stands stands' policy pid turns before now start told refused (Err meant) → ⊥
+  none-ends : (meant : MeantEnding) → ends_sharing meant ≡ false → IsShared May Rest stands stands' policy pid turns before now start seen refused (Err meant) → ⊥
   none-ends meant e h = by_end h.answer h.is_told
     where
       by_end : (x : Rattle.mux_history.specs.declared.ended.Ended.Ended) → Err meant ≡ told_as x → ⊥
@@ -180,28 +180,28 @@ module _ (May : HouseReply → Type 0) (Rest : Resting) (stands stands' : List H
   own-serves endings.MasterRefused h r = absurd (none-ends endings.MasterRefused refl h)
   own-serves endings.MasterBroke h r = absurd (none-ends endings.MasterBroke refl h)
 
-module _ (May : HouseReply → Type 0) (Rest : Starts → Resting) (stands : List HouseCall → Type 0) (by : Option Told) (policy : Policy) (pid turns : ℕ) (before now : Option (List HouseMark)) (start told : Option (List Mark)) (refused : Option ℕ) (b n : Option (List ℕ)) (f f' : ℕ) where
+module _ (May : HouseReply → Type 0) (Rest : Starts → Resting) (stands : List HouseCall → Type 0) (by : Option Told) (policy : Policy) (pid turns : ℕ) (before now : Option (List HouseMark)) (start : Option (List Mark)) (seen : Seen) (refused : Option ℕ) (b n : Option (List ℕ)) (f f' : ℕ) where
   abbrev ServedSo : Status → Type 0
-  ServedSo status = Begun by (λ starts. Serves May (Rest starts) (BeganWith starts) stands policy pid turns before now start told refused status b n f f')
+  ServedSo status = Begun by (λ starts. Serves May (Rest starts) (BeganWith starts) stands policy pid turns before now start seen refused status b n f f')
 
   abbrev SharedSo : Result Status MeantEnding → Type 0
-  SharedSo result = Begun by (λ starts. Shares May (Rest starts) (BeganWith starts) stands policy pid turns before now start told refused result)
+  SharedSo result = Begun by (λ starts. Shares May (Rest starts) (BeganWith starts) stands policy pid turns before now start seen refused result)
 
   -- a wire that wasn't touched is served by nobody
-  memory-by : (opened shares drilled asked : Bool) (meant : MeantEnding) → OnTrue (opened && shares) (SharedSo (Err meant)) → OnFalse ((opened && (shares || drilled)) || (opened && asked)) (told ≡ start) → OnFalse (opened && shares) (now ≡ before) → Reports statuses.Memory (shown meant) b n f f' → OnTrue shares (ServedSo statuses.Memory)
+  memory-by : (opened shares drilled asked : Bool) (meant : MeantEnding) → OnTrue (opened && shares) (SharedSo (Err meant)) → OnFalse ((opened && (shares || drilled)) || (opened && asked)) (seen.told ≡ start) → OnFalse (opened && shares) (now ≡ before) → Reports statuses.Memory (shown meant) b n f f' → OnTrue shares (ServedSo statuses.Memory)
   memory-by opened false drilled asked meant h w g r = tt
-  memory-by true true drilled asked meant h w g r = record { starts = h.starts; due = h.due; so = memory-serves May (Rest h.starts) (BeganWith h.starts) stands policy pid turns before now start told refused b n f f' meant h.so r }
-  memory-by false true drilled asked meant h w g r = some-begun by (λ starts. Serves May (Rest starts) (BeganWith starts) stands policy pid turns before now start told refused statuses.Memory b n f f') (λ starts. inl (record { same_wire = w; same_house = g }))
+  memory-by true true drilled asked meant h w g r = record { starts = h.starts; due = h.due; so = memory-serves May (Rest h.starts) (BeganWith h.starts) stands policy pid turns before now start seen refused b n f f' meant h.so r }
+  memory-by false true drilled asked meant h w g r = some-begun by (λ starts. Serves May (Rest starts) (BeganWith starts) stands policy pid turns before now start seen refused statuses.Memory b n f f') (λ starts. inl (record { same_wire = w; same_house = g }))
 
   own-by : (b' : Bool) (meant : MeantEnding) → OnTrue b' (SharedSo (Err meant)) → Reports (status_of (shown meant)) (shown meant) b n f f' → OnTrue b' (ServedSo (status_of (shown meant)))
   own-by false meant h r = tt
-  own-by true meant h r = record { starts = h.starts; due = h.due; so = own-serves May (Rest h.starts) (BeganWith h.starts) stands policy pid turns before now start told refused b n f f' meant h.so r }
+  own-by true meant h r = record { starts = h.starts; due = h.due; so = own-serves May (Rest h.starts) (BeganWith h.starts) stands policy pid turns before now start seen refused b n f f' meant h.so r }
 
-  shared-by : (k : Known) (status : Status) (meant : MeantEnding) → (status ≡ statuses.Memory) ⊎ (status ≡ status_of (shown meant)) → Reports status (shown meant) b n f f' → OnTrue (may_share k (status_of (shown meant))) (SharedSo (Err meant)) → OnFalse (reaches k (status_of (shown meant))) (told ≡ start) → OnFalse (may_share k (status_of (shown meant))) (now ≡ before) → OnTrue (may_share k status) (ServedSo status)
+  shared-by : (k : Known) (status : Status) (meant : MeantEnding) → (status ≡ statuses.Memory) ⊎ (status ≡ status_of (shown meant)) → Reports status (shown meant) b n f f' → OnTrue (may_share k (status_of (shown meant))) (SharedSo (Err meant)) → OnFalse (reaches k (status_of (shown meant))) (seen.told ≡ start) → OnFalse (may_share k (status_of (shown meant))) (now ≡ before) → OnTrue (may_share k status) (ServedSo status)
   shared-by k status meant (inl e) r h w g = subst (λ s. OnTrue (may_share k s) (ServedSo s)) (sym e) (memory-by (may_open (status_of (shown meant))) (opens k) (drills k) (asks k) meant h w g (subst (λ s. Reports s (shown meant) b n f f') e r))
   shared-by k status meant (inr e) r h w g = subst (λ s. OnTrue (may_share k s) (ServedSo s)) (sym e) (own-by (may_share k (status_of (shown meant))) meant h (subst (λ s. Reports s (shown meant) b n f f') e r))
 
-  pub shared_after : (k : Known) (status : Status) (meant : MeantEnding) → Reports status (shown meant) b n f f' → OnTrue (may_share k (status_of (shown meant))) (SharedSo (Err meant)) → OnFalse (reaches k (status_of (shown meant))) (told ≡ start) → OnFalse (may_share k (status_of (shown meant))) (now ≡ before) → OnTrue (may_share k status) (ServedSo status)
+  pub shared_after : (k : Known) (status : Status) (meant : MeantEnding) → Reports status (shown meant) b n f f' → OnTrue (may_share k (status_of (shown meant))) (SharedSo (Err meant)) → OnFalse (reaches k (status_of (shown meant))) (seen.told ≡ start) → OnFalse (may_share k (status_of (shown meant))) (now ≡ before) → OnTrue (may_share k status) (ServedSo status)
   shared_after k status meant r h w g = shared-by k status meant (reported status (shown meant) b n f f' r) r h w g
 
 -- an end without a line
@@ -215,15 +215,15 @@ done-is status (answers.StartRefused index) t = absurd cc
 done-is status answers.Spent t = absurd cc
 done-is status answers.OutOfMemory t = absurd cc
 
-shared-well-now : (May : HouseReply → Type 0) (Rest : Resting) (stands stands' : List HouseCall → Type 0) (policy : Policy) (pid turns : ℕ) (before now : Option (List HouseMark)) (start told : Option (List Mark)) (refused : Option ℕ) (b : Option (List ℕ)) (f : ℕ) (status : Status) → IsShared May Rest stands stands' policy pid turns before now start told refused (Ok status) → Serves May Rest stands stands' policy pid turns before now start told refused status b b f f
-shared-well-now May Rest stands stands' policy pid turns before now start told refused b f status h =
+shared-well-now : (May : HouseReply → Type 0) (Rest : Resting) (stands stands' : List HouseCall → Type 0) (policy : Policy) (pid turns : ℕ) (before now : Option (List HouseMark)) (start : Option (List Mark)) (seen : Seen) (refused : Option ℕ) (b : Option (List ℕ)) (f : ℕ) (status : Status) → IsShared May Rest stands stands' policy pid turns before now start seen refused (Ok status) → Serves May Rest stands stands' policy pid turns before now start seen refused status b b f f
+shared-well-now May Rest stands stands' policy pid turns before now start seen refused b f status h =
     let e : status ≡ statuses.Done = done-is status h.answer h.is_told in
-    subst (λ s. Serves May Rest stands stands' policy pid turns before now start told refused s b b f f) (sym e)
+    subst (λ s. Serves May Rest stands stands' policy pid turns before now start seen refused s b b f f) (sym e)
     (record { answer = h.answer; run = h.run; line = subst (λ x. TellsEnd x statuses.Done b b f f) (ap (λ (s : Status). Ok s) (sym e) ∙ h.is_told) (refl, refl) })
 
-pub shared_well : (May : HouseReply → Type 0) (Rest : Starts → Resting) (stands : List HouseCall → Type 0) (by : Option Told) (policy : Policy) (pid turns : ℕ) (before now : Option (List HouseMark)) (start told : Option (List Mark)) (refused : Option ℕ) (b : Option (List ℕ)) (f : ℕ) (shares : Bool) (status : Status) → OnTrue shares (Begun by (λ starts. IsShared May (Rest starts) (BeganWith starts) stands policy pid turns before now start told refused (Ok status))) → OnTrue shares (Begun by (λ starts. Serves May (Rest starts) (BeganWith starts) stands policy pid turns before now start told refused status b b f f))
-shared_well May Rest stands by policy pid turns before now start told refused b f false status h = tt
-shared_well May Rest stands by policy pid turns before now start told refused b f true status h = record { starts = h.starts; due = h.due; so = shared-well-now May (Rest h.starts) (BeganWith h.starts) stands policy pid turns before now start told refused b f status h.so }
+pub shared_well : (May : HouseReply → Type 0) (Rest : Starts → Resting) (stands : List HouseCall → Type 0) (by : Option Told) (policy : Policy) (pid turns : ℕ) (before now : Option (List HouseMark)) (start : Option (List Mark)) (seen : Seen) (refused : Option ℕ) (b : Option (List ℕ)) (f : ℕ) (shares : Bool) (status : Status) → OnTrue shares (Begun by (λ starts. IsShared May (Rest starts) (BeganWith starts) stands policy pid turns before now start seen refused (Ok status))) → OnTrue shares (Begun by (λ starts. Serves May (Rest starts) (BeganWith starts) stands policy pid turns before now start seen refused status b b f f))
+shared_well May Rest stands by policy pid turns before now start seen refused b f false status h = tt
+shared_well May Rest stands by policy pid turns before now start seen refused b f true status h = record { starts = h.starts; due = h.due; so = shared-well-now May (Rest h.starts) (BeganWith h.starts) stands policy pid turns before now start seen refused b f status h.so }
 
 pub calls_after : (turns : ℕ) (status : Status) (ending : Ending) (b n : Option (List ℕ)) (f f' : ℕ) (old calls : Calls) → Reports status ending b n f f' → CallsEnd turns (status_of ending) old calls → CallsEnd turns status old calls
 calls_after turns status ending b n f f' old calls r h = carried (λ s. CallsEnd turns s old calls) status ending (reported status ending b n f f' r) (record { few = h.few; wants = h.wants; starved = λ ne. refl; late = h.late }) h

@@ -1,5 +1,5 @@
 -- Which files are read, from what a resolution read.
-use Rattle.std.proofs.Common.{◌≡◌, ℕ, List, [], Option, Some, None, Result, Ok, Err, refl, sym, ap, subst}
+use Rattle.std.proofs.Common.{◌≡◌, ℕ, List, Option, Some, None, Ok, Err, refl, sym, ap, subst}
 use Rattle.conf_command.specs.declared.reader.WordsError.{WordsError}
 use Rattle.conf_command.specs.declared.reader.WordsError.TheVariants as words_errors
 use Rattle.conf_command.specs.Results.{Fails}

@@ -10,7 +10,7 @@ use Rattle.mux_history.specs.declared.ended.Ended.{Ended}
 use Rattle.mux_history.specs.declared.ended.Ended.TheVariants as ends
 use Rattle.mux_history.specs.Policy.{Policy}
 use Rattle.mux_outside.specs.HouseCalls.{HouseCall}
-use Rattle.mux_outside.specs.Seen.{Calls}
+use Rattle.mux_outside.specs.Seen.{Calls, Seen}
 use Rattle.mux_outside.specs.Wire.{SameFaults}
 use Rattle.mux_outside.specs.declared.house.HouseReply.{HouseReply}
 use Rattle.mux_outside.specs.declared.house_mark.HouseMark.{HouseMark}
@@ -32,9 +32,9 @@ use Rattle.ssh_mux.proofs.StillLemmas.{follows, loud, on_true, quiet-count, serv
 
 -- ---- how a run that was served ends
 
-pub shares_end : (May : HouseReply → Type 0) (Rest : Resting) (stands stands' : List HouseCall → Type 0) (policy : Policy) (pid turns : ℕ) (before now : Option (List HouseMark)) (start told : Option (List Mark)) (refused : Option ℕ) (result : Result Status Ending) (ended : Ended) → result ≡ told_as ended → IsRun May Rest.rests stands stands' Rest.present policy pid turns before now start told refused ended → Shares May Rest stands stands' policy pid turns before now start told refused result
-shares_end May Rest stands stands' policy pid turns before now start told refused result ended e run = subst (λ r. Shares May Rest stands stands' policy pid turns before now start told refused r) (sym e) (by_end ended run) where
-  by_end : (x : Ended) → IsRun May Rest.rests stands stands' Rest.present policy pid turns before now start told refused x → Shares May Rest stands stands' policy pid turns before now start told refused (told_as x)
+pub shares_end : (May : HouseReply → Type 0) (Rest : Resting) (stands stands' : List HouseCall → Type 0) (policy : Policy) (pid turns : ℕ) (before now : Option (List HouseMark)) (start : Option (List Mark)) (seen : Seen) (refused : Option ℕ) (result : Result Status Ending) (ended : Ended) → result ≡ told_as ended → IsRun May Rest.rests stands stands' Rest.present policy pid turns before now start seen refused ended → Shares May Rest stands stands' policy pid turns before now start seen refused result
+shares_end May Rest stands stands' policy pid turns before now start seen refused result ended e run = subst (λ r. Shares May Rest stands stands' policy pid turns before now start seen refused r) (sym e) (by_end ended run) where
+  by_end : (x : Ended) → IsRun May Rest.rests stands stands' Rest.present policy pid turns before now start seen refused x → Shares May Rest stands stands' policy pid turns before now start seen refused (told_as x)
   by_end ends.OutOfMemory run = inr (record { answer = ends.OutOfMemory; is_told = refl; run = run })
   by_end ends.ServerEnd run = record { answer = ends.ServerEnd; is_told = refl; run = run }
   by_end ends.Disconnected run = record { answer = ends.Disconnected; is_told = refl; run = run }

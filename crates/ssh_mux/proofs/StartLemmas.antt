@@ -1,6 +1,6 @@
 -- What a house begins with, from settings to what is told, and what is so of it then.
-use Rattle.std.proofs.Common.{◌≡◌, ◌⊎◌, inl, inr, ℕ, Bool, List, [], ◌∷◌, Option, Some, None, Result, Ok, Err, refl, ap, sym, subst}
-use Rattle.std.specs.Prelude.{◌++◌, flat_map, if◌then◌else◌, IsTrue}
+use Rattle.std.proofs.Common.{◌≡◌, inl, inr, ℕ, Bool, List, [], ◌∷◌, Option, Some, None, Result, Ok, Err, refl, ap, sym, subst}
+use Rattle.std.specs.Prelude.{◌++◌, flat_map, if◌then◌else◌}
 use Rattle.std.specs.List.{slice_get}
 use Rattle.conf_options.specs.Kept.{Given, Keeps}
 use Rattle.conf_output.specs.Shown.{first_value}
@@ -14,13 +14,14 @@ use Rattle.conf_rules.specs.Resolution.{all_rows}
 use Rattle.conf_rules.specs.Rows.{Row, given, value, values, values_among}
 use Rattle.conf_rules.specs.Told.{Told}
 use Rattle.mux_engine.specs.Run.{IsRun, Rested, RestedAt}
-use Rattle.mux_engine.specs.Sides.{Resting, RestsOf}
+use Rattle.mux_engine.specs.Sides.{AtWaits, Resting, RestsOf}
 use Rattle.mux_history.specs.Log.{Setting}
 use Rattle.mux_history.specs.Policy.{Policy}
 use Rattle.mux_history.specs.Settings.{by_lists}
 use Rattle.mux_history.specs.declared.ended.Ended.{Ended}
-use Rattle.mux_outside.specs.House.{Quiet}
+use Rattle.mux_outside.specs.House.{Known, Quiet}
 use Rattle.mux_outside.specs.HouseCalls.{Begins, HouseCall}
+use Rattle.mux_outside.specs.Seen.{Seen}
 use Rattle.mux_outside.specs.declared.facts.Facts.{Facts}
 use Rattle.mux_outside.specs.declared.house.HouseReply.{HouseReply}
 use Rattle.mux_outside.specs.declared.house_mark.HouseMark.{HouseMark}
@@ -29,6 +30,7 @@ use Rattle.mux_outside.specs.declared.mark.Mark.TheVariants.{Waits}
 use Rattle.mux_outside.specs.declared.pairs.Pair.{Pair}
 use Rattle.mux_outside.specs.declared.starts.Starts.{Starts}
 use Rattle.mux_outside.specs.declared.statuses.CommandStatus.{CommandStatus}
+use Rattle.mux_outside.specs.declared.own_streams.OwnStream.{OwnStream}
 use Rattle.mux_outside.specs.declared.turn.Want.{Want}
 use Rattle.ssh_mux.specs.declared.ending.Ending.{Ending}
 use Rattle.ssh_mux.specs.declared.ending.Ending.TheVariants as endings
@@ -38,7 +40,7 @@ use Rattle.ssh_mux.specs.Outcomes.{machine}
 use Rattle.ssh_mux.specs.Places.{told_over}
 use Rattle.ssh_mux.specs.Asks.{forward_kind}
 use Rattle.ssh_mux.specs.Sharing.{IsShared, Shares}
-use Rattle.ssh_mux.specs.Starts.{BeganWith, Begun, BegunRests, MustsAs, SettledFor, StartsAs, must_for, starts_due, starts_for, value_starts}
+use Rattle.ssh_mux.specs.Starts.{BeganWith, BegunRests, MustsAs, SettledFor, StartsAs, must_for, starts_due, starts_for, value_starts}
 use Rattle.ssh_mux.proofs.RefusalLemmas.{Promise, kept}
 
 -- the settings of a resolution
@@ -81,16 +83,16 @@ starts-told (Some told) settings s = same-starts (all_rows told) settings s
 
 -- ---- a run with a house that has begun
 
-rested-at : (R R' : Want → Option (List HouseMark) → List HouseCall → Type 0) → ((want : Want) (now : Option (List HouseMark)) (calls : List HouseCall) → R want now calls → R' want now calls) → (setting : Setting) (before : Option (List HouseMark)) (journal : List Mark) (mark : Mark) → RestedAt R setting before journal mark → RestedAt R' setting before journal mark
-rested-at R R' f setting before journal (Waits waiting want streams listens) h = f _ _ _ h
+rested-at : (R R' : AtWaits) → ((want : Want) (now : Option (List HouseMark)) (calls : List HouseCall) (ls : List ℕ) (os : List OwnStream) → R want now calls ls os → R' want now calls ls os) → (setting : Setting) (before : Option (List HouseMark)) (journal : List Mark) (mark : Mark) → RestedAt R setting before journal mark → RestedAt R' setting before journal mark
+rested-at R R' f setting before journal (Waits waiting want streams listens) h = f _ _ _ _ _ h
 rested-at R R' f setting before journal mark h = tt
 
-rested : (R R' : Want → Option (List HouseMark) → List HouseCall → Type 0) → ((want : Want) (now : Option (List HouseMark)) (calls : List HouseCall) → R want now calls → R' want now calls) → (setting : Setting) (before : Option (List HouseMark)) (journal : List Mark) → Rested R setting before journal → Rested R' setting before journal
+rested : (R R' : AtWaits) → ((want : Want) (now : Option (List HouseMark)) (calls : List HouseCall) (ls : List ℕ) (os : List OwnStream) → R want now calls ls os → R' want now calls ls os) → (setting : Setting) (before : Option (List HouseMark)) (journal : List Mark) → Rested R setting before journal → Rested R' setting before journal
 rested R R' f setting before [] h = tt
 rested R R' f setting before (mark ∷ journal) h = (rested-at R R' f setting before journal mark h.0, rested R R' f setting before journal h.1)
 
-module _ (May : HouseReply → Type 0) (R R' : Want → Option (List HouseMark) → List HouseCall → Type 0) (stands begun stands' : List HouseCall → Type 0) (present : Bool) (policy : Policy) (pid turns : ℕ) (before now : Option (List HouseMark)) (start told : Option (List Mark)) (refused : Option ℕ) (rests : (want : Want) (now : Option (List HouseMark)) (calls : List HouseCall) → R want now calls → R' want now calls) (stood : (calls : List HouseCall) → begun calls → stands calls) where
-  run-of : (answer : Ended) → IsRun May R stands stands' present policy pid turns before now start told refused answer → IsRun May R' begun stands' present policy pid turns before now start told refused answer
+module _ (May : HouseReply → Type 0) (R R' : AtWaits) (stands begun stands' : List HouseCall → Type 0) (present : Bool) (policy : Policy) (pid turns : ℕ) (before now : Option (List HouseMark)) (start : Option (List Mark)) (seen : Seen) (refused : Option ℕ) (rests : (want : Want) (now : Option (List HouseMark)) (calls : List HouseCall) (ls : List ℕ) (os : List OwnStream) → R want now calls ls os → R' want now calls ls os) (stood : (calls : List HouseCall) → begun calls → stands calls) where
+  run-of : (answer : Ended) → IsRun May R stands stands' present policy pid turns before now start seen refused answer → IsRun May R' begun stands' present policy pid turns before now start seen refused answer
   run-of answer h = record {
     journal = h.journal;
     picks = h.picks;
@@ -101,6 +103,8 @@ module _ (May : HouseReply → Type 0) (R R' : Want → Option (List HouseMark) 
     may = h.may;
     written = h.written;
     open_streams = h.open_streams;
+    own_streams = h.own_streams;
+    places = h.places;
     is_log = h.is_log;
     whole = h.whole;
     fresh = h.fresh;
@@ -123,27 +127,27 @@ module _ (May : HouseReply → Type 0) (R R' : Want → Option (List HouseMark) 
     ends = h.ends;
   }
 
-module _ {T : Type 0} (told_by : T → Option (List HouseMark)) (quiet : T → Quiet) (must_be : T → Bool) (refused_by : T → Option ℕ) (stands : T → List HouseCall → Type 0) (present : Bool) (first : T) (starts : Starts) (begun : stands first (Begins starts ∷ [])) (May : HouseReply → Type 0) (stands' : List HouseCall → Type 0) (policy : Policy) (pid turns : ℕ) (before now : Option (List HouseMark)) (start told : Option (List Mark)) (refused : Option ℕ) where
+module _ {T : Type 0} (told_by : T → Option (List HouseMark)) (known_by : T → Known) (quiet : T → Quiet) (must_be : T → Bool) (refused_by : T → Option ℕ) (stands : T → List HouseCall → Type 0) (present : Bool) (first : T) (starts : Starts) (begun : stands first (Begins starts ∷ [])) (May : HouseReply → Type 0) (stands' : List HouseCall → Type 0) (policy : Policy) (pid turns : ℕ) (before now : Option (List HouseMark)) (start : Option (List Mark)) (seen : Seen) (refused : Option ℕ) where
   abbrev First : Resting
-  First = RestsOf told_by quiet must_be refused_by stands present first
+  First = RestsOf told_by known_by quiet must_be refused_by stands present first
 
   abbrev Second : Resting
-  Second = BegunRests told_by quiet must_be refused_by stands present starts
+  Second = BegunRests told_by known_by quiet must_be refused_by stands present starts
 
-  at-rest : (want : Want) (now : Option (List HouseMark)) (calls : List HouseCall) → First.rests want now calls → Second.rests want now calls
-  at-rest want now calls h = λ p. let r = h p in let x = r.1 in (r.0, (x.0, x.1, x.2 (Begins starts ∷ []) begun))
+  at-rest : (want : Want) (now : Option (List HouseMark)) (calls : List HouseCall) (ls : List ℕ) (os : List OwnStream) → First.rests want now calls ls os → Second.rests want now calls ls os
+  at-rest want now calls ls os h = λ p. let r = h p in let x = r.1 in (r.0, (x.0, x.1, x.2 (Begins starts ∷ []) begun, x.3))
 
   stood-for : (calls : List HouseCall) → BeganWith starts calls → stands first calls
   stood-for calls e = subst (stands first) (sym e) begun
 
-  shared-begun : (result : Result Status Ending) → IsShared May First (stands first) stands' policy pid turns before now start told refused result → IsShared May Second (BeganWith starts) stands' policy pid turns before now start told refused result
+  shared-begun : (result : Result Status Ending) → IsShared May First (stands first) stands' policy pid turns before now start seen refused result → IsShared May Second (BeganWith starts) stands' policy pid turns before now start seen refused result
   shared-begun result h = record {
     answer = h.answer;
     is_told = h.is_told;
-    run = run-of May First.rests Second.rests (stands first) (BeganWith starts) stands' present policy pid turns before now start told refused at-rest stood-for h.answer h.run;
+    run = run-of May First.rests Second.rests (stands first) (BeganWith starts) stands' present policy pid turns before now start seen refused at-rest stood-for h.answer h.run;
   }
 
-  pub shares-begun : (result : Result Status Ending) → Shares May First (stands first) stands' policy pid turns before now start told refused result → Shares May Second (BeganWith starts) stands' policy pid turns before now start told refused result
+  pub shares-begun : (result : Result Status Ending) → Shares May First (stands first) stands' policy pid turns before now start seen refused result → Shares May Second (BeganWith starts) stands' policy pid turns before now start seen refused result
   shares-begun (Err endings.NotOpened) h = h
   shares-begun (Err endings.NoMemory) (inl h) = inl h
   shares-begun (Err endings.NoMemory) (inr h) = inr (shared-begun (Err endings.NoMemory) h)

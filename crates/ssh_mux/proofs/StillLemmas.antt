@@ -12,10 +12,9 @@ use Rattle.conf_rules.specs.Told.{Told}
 use Rattle.mux_engine.specs.Sides.{Resting}
 use Rattle.mux_history.specs.Policy.{Policy}
 use Rattle.mux_outside.specs.HouseCalls.{HouseCall}
-use Rattle.mux_outside.specs.Seen.{Calls}
+use Rattle.mux_outside.specs.Seen.{Calls, Seen}
 use Rattle.mux_outside.specs.declared.house.HouseReply.{HouseReply}
 use Rattle.mux_outside.specs.declared.house_mark.HouseMark.{HouseMark}
-use Rattle.mux_outside.specs.declared.mark.Mark.{Mark}
 use Rattle.mux_outside.specs.declared.mark.Opening.{Opening}
 use Rattle.mux_outside.specs.declared.starts.Starts.{Starts}
 use Rattle.ssh_mux.specs.declared.ending.Ending.{Ending as MeantEnding}
@@ -221,12 +220,12 @@ pub some-begun : (by : Option Told) (So : Starts → Type 0) → ((starts : Star
 some-begun None So h = let none : Starts = record { asks = []; gateway = false; must = false } in record { starts = none; due = tt; so = h none }
 some-begun (Some told) So h = record { starts = starts_due (all_rows told); due = refl; so = h (starts_due (all_rows told)) }
 
-pub still-shared : (k : Known) (meant : MeantEnding) (May : HouseReply → Type 0) (Rest : Starts → Resting) (stands : List HouseCall → Type 0) (by : Option Told) (policy : Policy) (pid turns : ℕ) (told : Option (List HouseMark)) (start : Option (List Mark)) (refused : Option ℕ) → IsRefused k (shown meant) → OnTrue (may_share k (status_of (shown meant))) (Begun by (λ starts. Shares May (Rest starts) (BeganWith starts) stands policy pid turns told told start start refused (Err meant)))
-still-shared k meant May Rest stands by policy pid turns told start refused h = on (unshared k (shown meant) h) where
-  on : Unshared k (shown meant) → OnTrue (may_share k (status_of (shown meant))) (Begun by (λ starts. Shares May (Rest starts) (BeganWith starts) stands policy pid turns told told start start refused (Err meant)))
-  on (inl e) = not_true (may_share k (status_of (shown meant))) (Begun by (λ starts. Shares May (Rest starts) (BeganWith starts) stands policy pid turns told told start start refused (Err meant))) e
-  on (inr e) = on_true (may_share k (status_of (shown meant))) (Begun by (λ starts. Shares May (Rest starts) (BeganWith starts) stands policy pid turns told told start start refused (Err meant)))
-      (subst (λ m. Begun by (λ starts. Shares May (Rest starts) (BeganWith starts) stands policy pid turns told told start start refused (Err m))) (sym (only-memory meant e)) (some-begun by (λ starts. Shares May (Rest starts) (BeganWith starts) stands policy pid turns told told start start refused (Err endings.NoMemory)) (λ starts. inl (record { same_wire = refl; same_house = refl }))))
+pub still-shared : (k : Known) (meant : MeantEnding) (May : HouseReply → Type 0) (Rest : Starts → Resting) (stands : List HouseCall → Type 0) (by : Option Told) (policy : Policy) (pid turns : ℕ) (told : Option (List HouseMark)) (seen : Seen) (refused : Option ℕ) → IsRefused k (shown meant) → OnTrue (may_share k (status_of (shown meant))) (Begun by (λ starts. Shares May (Rest starts) (BeganWith starts) stands policy pid turns told told seen.told seen refused (Err meant)))
+still-shared k meant May Rest stands by policy pid turns told seen refused h = on (unshared k (shown meant) h) where
+  on : Unshared k (shown meant) → OnTrue (may_share k (status_of (shown meant))) (Begun by (λ starts. Shares May (Rest starts) (BeganWith starts) stands policy pid turns told told seen.told seen refused (Err meant)))
+  on (inl e) = not_true (may_share k (status_of (shown meant))) (Begun by (λ starts. Shares May (Rest starts) (BeganWith starts) stands policy pid turns told told seen.told seen refused (Err meant))) e
+  on (inr e) = on_true (may_share k (status_of (shown meant))) (Begun by (λ starts. Shares May (Rest starts) (BeganWith starts) stands policy pid turns told told seen.told seen refused (Err meant)))
+      (subst (λ m. Begun by (λ starts. Shares May (Rest starts) (BeganWith starts) stands policy pid turns told told seen.told seen refused (Err m))) (sym (only-memory meant e)) (some-begun by (λ starts. Shares May (Rest starts) (BeganWith starts) stands policy pid turns told told seen.told seen refused (Err endings.NoMemory)) (λ starts. inl (record { same_wire = refl; same_house = refl }))))
 
 -- there may be no memory for anything
 pub starved-due : (k : Known) → IsRefused k ends.NoMemory

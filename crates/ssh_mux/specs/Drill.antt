@@ -7,7 +7,9 @@ use Rattle.mux_engine.specs.Run.{IsRun}
 use Rattle.mux_engine.specs.Sides.{Resting, RestsOf}
 use Rattle.mux_history.specs.declared.ended.Ended.{Ended}
 use Rattle.mux_history.specs.Policy.{any_policy}
+use Rattle.mux_outside.specs.House.{nothing_known}
 use Rattle.mux_outside.specs.HouseCalls.{HouseCall}
+use Rattle.mux_outside.specs.Seen.{Seen}
 use Rattle.mux_outside.specs.declared.file_error.FileError.TheVariants.{Failed}
 use Rattle.mux_outside.specs.declared.house.HouseReply.{HouseReply}
 use Rattle.mux_outside.specs.declared.house.HouseReply.TheVariants.{Refused}
@@ -56,7 +58,7 @@ RefusesAll reply = reply ≡ Refused
 
 -- it has no house, so none waits
 abbrev pub NoneRests : Resting
-NoneRests = RestsOf {T = NoHouse} (λ house. None)
+NoneRests = RestsOf {T = NoHouse} (λ house. None) (λ house. nothing_known false)
     (λ house. record { says = true; orders = true; answers = true }) (λ house. false)
     (λ house. None) (λ house calls. Unit {0}) false (record {})
 
@@ -80,38 +82,39 @@ DrillTells (Err ending) tally status out out' err err' faults faults' =
     (out' ≡ out) × Reports status (shown ending) err err' faults faults'
 
 -- A run that keeps its promises, for clients that are permitted anything and are told process id 0,
--- and what was written of its end; `start` and `told` are what the wire tells.
-pub record IsDrilled (turns : ℕ) (start told : Option (List Mark)) (tally : Tally) (status : Status)
+-- and what was written of its end; `start` is what the wire told before, and `seen` is seen of it in
+-- the end.
+pub record IsDrilled (turns : ℕ) (start : Option (List Mark)) (seen : Seen) (tally : Tally) (status : Status)
     (out out' err err' : Option (List ℕ)) (faults faults' : ℕ) : Type 0 where
   pub answer : Ended
   pub run :
       IsRun RefusesAll NoneRests.rests AnyCalls AnyCalls false any_policy 0 turns None None start
-      told None answer
+      seen None answer
   pub ends : DrillTells (told_as answer) tally status out out' err err' faults faults'
 
 -- nothing is served, and no summary is written
 abbrev pub IsUndrilled :
-    Option (List Mark) → Option (List Mark) → Option (List ℕ) → Option (List ℕ) → Type 0
-IsUndrilled start told out out' = IsUnserved None None start told × (out' ≡ out)
+    Option (List Mark) → Seen → Option (List ℕ) → Option (List ℕ) → Type 0
+IsUndrilled start seen out out' = IsUnserved None None start seen × (out' ≡ out)
 
 -- where the wire wasn't opened nothing is served
-abbrev pub DrillServes : ℕ → Option (List Mark) → Option (List Mark) → Tally → Status
+abbrev pub DrillServes : ℕ → Option (List Mark) → Seen → Tally → Status
     → Option (List ℕ) → Option (List ℕ) → Option (List ℕ) → Option (List ℕ) → ℕ → ℕ → Type 0
-DrillServes turns start told tally Open out out' err err' faults faults' =
-    IsUndrilled start told out out'
-DrillServes turns start told tally Memory out out' err err' faults faults' =
-    IsUndrilled start told out out'
-    ⊎ IsDrilled turns start told tally Memory out out' err err' faults faults'
-DrillServes turns start told tally status out out' err err' faults faults' =
-    IsDrilled turns start told tally status out out' err err' faults faults'
+DrillServes turns start seen tally Open out out' err err' faults faults' =
+    IsUndrilled start seen out out'
+DrillServes turns start seen tally Memory out out' err err' faults faults' =
+    IsUndrilled start seen out out'
+    ⊎ IsDrilled turns start seen tally Memory out out' err err' faults faults'
+DrillServes turns start seen tally status out out' err err' faults faults' =
+    IsDrilled turns start seen tally status out out' err err' faults faults'
 
 -- A drill: its wire was opened once, with an empty control path and its words for a transport, but
 -- for want of memory. It was served, and its end was told.
 pub record IsDrill (words : List Bytes) (turns : ℕ) (status : Status)
-    (openings openings' : Option (List Opening)) (start told : Option (List Mark)) (tally : Tally)
+    (openings openings' : Option (List Opening)) (start : Option (List Mark)) (seen : Seen) (tally : Tally)
     (out out' err err' : Option (List ℕ)) (faults faults' : ℕ) : Type 0 where
   pub opened : OpensAt [] (drill_transport words) status openings openings'
-  pub served : DrillServes turns start told tally status out out' err err' faults faults'
+  pub served : DrillServes turns start seen tally status out out' err err' faults faults'
 
 -- ---- before a line is written
 
@@ -133,29 +136,29 @@ SumsUp (Ok due) tally result out out' = HandsOver result (drill_text tally) out 
 SumsUp (Err ending) tally result out out' = (result ≡ Err ending) × (out' ≡ out)
 
 -- a run that keeps its promises, and what was handed over of its end
-pub record RunsDrill (turns : ℕ) (start told : Option (List Mark)) (tally : Tally)
+pub record RunsDrill (turns : ℕ) (start : Option (List Mark)) (seen : Seen) (tally : Tally)
     (result : Result Status MeantEnding) (out out' : Option (List ℕ)) : Type 0 where
   pub answer : Ended
   pub run :
       IsRun RefusesAll NoneRests.rests AnyCalls AnyCalls false any_policy 0 turns None None start
-      told None answer
+      seen None answer
   pub ends : SumsUp (told_as answer) tally result out out'
 
 -- where the wire wasn't opened nothing is served
-abbrev pub DrillShares : ℕ → Option (List Mark) → Option (List Mark) → Tally
+abbrev pub DrillShares : ℕ → Option (List Mark) → Seen → Tally
     → Result Status MeantEnding → Option (List ℕ) → Option (List ℕ) → Type 0
-DrillShares turns start told tally (Err endings.NotOpened) out out' =
-    IsUndrilled start told out out'
-DrillShares turns start told tally (Err endings.NoMemory) out out' =
-    IsUndrilled start told out out'
-    ⊎ RunsDrill turns start told tally (Err endings.NoMemory) out out'
-DrillShares turns start told tally result out out' =
-    RunsDrill turns start told tally result out out'
+DrillShares turns start seen tally (Err endings.NotOpened) out out' =
+    IsUndrilled start seen out out'
+DrillShares turns start seen tally (Err endings.NoMemory) out out' =
+    IsUndrilled start seen out out'
+    ⊎ RunsDrill turns start seen tally (Err endings.NoMemory) out out'
+DrillShares turns start seen tally result out out' =
+    RunsDrill turns start seen tally result out out'
 
 -- how a drill went
 pub record DrillGoes (words : List Bytes) (turns : ℕ) (result : Result Status MeantEnding)
-    (openings openings' : Option (List Opening)) (start told : Option (List Mark)) (tally : Tally)
+    (openings openings' : Option (List Opening)) (start : Option (List Mark)) (seen : Seen) (tally : Tally)
     (out out' : Option (List ℕ)) : Type 0 where
   pub ends : EndsDrill result
   pub opened : OpensAt [] (drill_transport words) (so_far result) openings openings'
-  pub shared : DrillShares turns start told tally result out out'
+  pub shared : DrillShares turns start seen tally result out out'

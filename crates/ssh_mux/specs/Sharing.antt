@@ -17,7 +17,7 @@ use Rattle.mux_outside.specs.declared.house_mark.HouseMark.{HouseMark}
 use Rattle.mux_outside.specs.declared.mark.Mark.{Mark}
 use Rattle.mux_outside.specs.declared.mark.Opening.{Opening}
 use Rattle.mux_outside.specs.declared.starts.Starts.{Starts}
-use Rattle.mux_outside.specs.Seen.{Calls}
+use Rattle.mux_outside.specs.Seen.{Calls, Seen}
 use Rattle.mux_outside.specs.Wire.{SameFaults, SomeFault}
 use Rattle.ssh_mux.specs.declared.ending.Ending.{Ending as MeantEnding}
 use Rattle.ssh_mux.specs.declared.ending.Ending.TheVariants as endings
@@ -95,50 +95,51 @@ told_as ends.Spent = Err endings.TurnsSpent
 told_as ends.OutOfMemory = Err endings.NoMemory
 
 -- nothing is served: the wire and the house tell what they told before
-pub record IsUnserved (before now : Option (List HouseMark)) (start told : Option (List Mark)) :
+pub record IsUnserved (before now : Option (List HouseMark)) (start : Option (List Mark)) (seen : Seen) :
     Type 0 where
-  pub same_wire : told ≡ start
+  pub same_wire : seen.told ≡ start
   pub same_house : now ≡ before
 
 -- a run that keeps its promises, and its very end; `Rest` is whether a house is present, and what
 -- is so of it right before a wait; `stands` and `stands'` are the calls that it stands for before
--- and behind the run; `before` and `now` are what the house tells, `start` and `told` what the wire
--- does; `refused` is the forwarding of the start that was refused, if none may be
+-- and behind the run; `before` and `now` are what the house tells, `start` what the wire did, and
+-- `seen` what is seen of it in the end; `refused` is the forwarding of the start that was refused, if
+-- none may be
 pub record IsShared (May : HouseReply → Type 0) (Rest : Resting)
     (stands stands' : List HouseCall → Type 0) (policy : Policy) (pid turns : ℕ)
-    (before now : Option (List HouseMark)) (start told : Option (List Mark))
+    (before now : Option (List HouseMark)) (start : Option (List Mark)) (seen : Seen)
     (refused : Option ℕ) (result : Result Status MeantEnding) : Type 0 where
   pub answer : Ended
   pub is_told : result ≡ told_as answer
-  pub run : IsRun May Rest.rests stands stands' Rest.present policy pid turns before now start told
+  pub run : IsRun May Rest.rests stands stands' Rest.present policy pid turns before now start seen
       refused answer
 
 -- where the sockets weren't opened nothing is served
 abbrev pub Shares : (HouseReply → Type 0) → Resting → (List HouseCall → Type 0)
     → (List HouseCall → Type 0) → Policy → ℕ → ℕ
-    → Option (List HouseMark) → Option (List HouseMark) → Option (List Mark) → Option (List Mark)
+    → Option (List HouseMark) → Option (List HouseMark) → Option (List Mark) → Seen
     → Option ℕ → Result Status MeantEnding → Type 0
-Shares May Rest stands stands' policy pid turns before now start told refused
+Shares May Rest stands stands' policy pid turns before now start seen refused
     (Err endings.NotOpened) =
-    IsUnserved before now start told
-Shares May Rest stands stands' policy pid turns before now start told refused
+    IsUnserved before now start seen
+Shares May Rest stands stands' policy pid turns before now start seen refused
     (Err endings.NoMemory) =
-    IsUnserved before now start told
-    ⊎ IsShared May Rest stands stands' policy pid turns before now start told refused
+    IsUnserved before now start seen
+    ⊎ IsShared May Rest stands stands' policy pid turns before now start seen refused
     (Err endings.NoMemory)
-Shares May Rest stands stands' policy pid turns before now start told refused result =
-    IsShared May Rest stands stands' policy pid turns before now start told refused result
+Shares May Rest stands stands' policy pid turns before now start seen refused result =
+    IsShared May Rest stands stands' policy pid turns before now start seen refused result
 
 -- the same of what comes of words: only a master serves, with a house that begins as is due by what
 -- is told of files and commands
 abbrev pub SharesFor : (HouseReply → Type 0) → (Starts → Resting) → (List HouseCall → Type 0)
     → Known → Option Told → ℕ → ℕ
-    → Option (List HouseMark) → Option (List HouseMark) → Option (List Mark) → Option (List Mark)
+    → Option (List HouseMark) → Option (List HouseMark) → Option (List Mark) → Seen
     → Option ℕ → Result Status MeantEnding → Type 0
-SharesFor May Rest stands known by pid turns before now start told refused result =
+SharesFor May Rest stands known by pid turns before now start seen refused result =
     OnTrue (may_share known (so_far result))
     (Begun by (λ starts. Shares May (Rest starts) (BeganWith starts) stands (policy_in known) pid
-    turns before now start told refused result))
+    turns before now start seen refused result))
 
 -- the line of an end was handed over, if it has one; there may be no memory for it
 abbrev pub TellsEnd :
@@ -150,43 +151,43 @@ TellsEnd (Err ending) status err err' faults faults' =
 -- a run that keeps its promises, and the line of its very end
 pub record IsServed (May : HouseReply → Type 0) (Rest : Resting)
     (stands stands' : List HouseCall → Type 0) (policy : Policy) (pid turns : ℕ)
-    (before now : Option (List HouseMark)) (start told : Option (List Mark))
+    (before now : Option (List HouseMark)) (start : Option (List Mark)) (seen : Seen)
     (refused : Option ℕ) (status : Status) (err err' : Option (List ℕ)) (faults faults' : ℕ) :
     Type 0 where
   pub answer : Ended
-  pub run : IsRun May Rest.rests stands stands' Rest.present policy pid turns before now start told
+  pub run : IsRun May Rest.rests stands stands' Rest.present policy pid turns before now start seen
       refused answer
   pub line : TellsEnd (told_as answer) status err err' faults faults'
 
 -- the same of the program: where its sockets weren't opened nothing is served
 abbrev pub Serves : (HouseReply → Type 0) → Resting → (List HouseCall → Type 0)
     → (List HouseCall → Type 0) → Policy → ℕ → ℕ
-    → Option (List HouseMark) → Option (List HouseMark) → Option (List Mark) → Option (List Mark)
+    → Option (List HouseMark) → Option (List HouseMark) → Option (List Mark) → Seen
     → Option ℕ → Status → Option (List ℕ) → Option (List ℕ) → ℕ → ℕ → Type 0
-Serves May Rest stands stands' policy pid turns before now start told refused Open err err'
+Serves May Rest stands stands' policy pid turns before now start seen refused Open err err'
     faults faults' =
-    IsUnserved before now start told
-Serves May Rest stands stands' policy pid turns before now start told refused Memory err err'
+    IsUnserved before now start seen
+Serves May Rest stands stands' policy pid turns before now start seen refused Memory err err'
     faults faults' =
-    IsUnserved before now start told
-    ⊎ IsServed May Rest stands stands' policy pid turns before now start told refused Memory err
+    IsUnserved before now start seen
+    ⊎ IsServed May Rest stands stands' policy pid turns before now start seen refused Memory err
     err' faults faults'
-Serves May Rest stands stands' policy pid turns before now start told refused status err err'
+Serves May Rest stands stands' policy pid turns before now start seen refused status err err'
     faults faults' =
-    IsServed May Rest stands stands' policy pid turns before now start told refused status err err'
+    IsServed May Rest stands stands' policy pid turns before now start seen refused status err err'
     faults faults'
 
 -- the same of what comes of words: only a master serves, with a house that begins as is due by what
 -- is told of files and commands
 abbrev pub ServesFor : (HouseReply → Type 0) → (Starts → Resting) → (List HouseCall → Type 0)
     → Known → Option Told → ℕ → ℕ
-    → Option (List HouseMark) → Option (List HouseMark) → Option (List Mark) → Option (List Mark)
+    → Option (List HouseMark) → Option (List HouseMark) → Option (List Mark) → Seen
     → Option ℕ → Status → Option (List ℕ) → Option (List ℕ) → ℕ → ℕ → Type 0
-ServesFor May Rest stands known by pid turns before now start told refused status err err' faults
+ServesFor May Rest stands known by pid turns before now start seen refused status err err' faults
     faults' =
     OnTrue (may_share known status)
     (Begun by (λ starts. Serves May (Rest starts) (BeganWith starts) stands (policy_in known) pid
-    turns before now start told refused status err err' faults faults'))
+    turns before now start seen refused status err err' faults faults'))
 
 -- the process id that clients are told: 0 where none is known
 abbrev pub pid_of : Option ℕ → ℕ

@@ -14,8 +14,8 @@ use Rattle.conf_rules.specs.Listing.{is_set}
 use Rattle.conf_rules.specs.Resolution.{all_rows}
 use Rattle.conf_rules.specs.Rows.{Row, given, value, values, values_among}
 use Rattle.conf_rules.specs.Told.{Told}
-use Rattle.mux_engine.specs.Sides.{HouseWaits, Resting}
-use Rattle.mux_outside.specs.House.{Quiet}
+use Rattle.mux_engine.specs.Sides.{HouseWaits, Knows, Resting}
+use Rattle.mux_outside.specs.House.{Known, Quiet}
 use Rattle.mux_outside.specs.HouseCalls.{Begins, HouseCall}
 use Rattle.mux_outside.specs.declared.house_mark.HouseMark.{HouseMark}
 use Rattle.mux_outside.specs.declared.start_ask.StartAsk.{StartAsk}
@@ -121,16 +121,18 @@ pub record Begun (by : Option Told) (So : Starts → Type 0) : Type 0 where
 abbrev pub BeganWith : Starts → List HouseCall → Type 0
 BeganWith starts calls = calls ≡ Begins starts ∷ []
 
--- there is a house that has told this and is as it is right before a wait, and that stands for its
--- beginning and these calls behind it, unless none is present
-abbrev pub BegunRests : {T : Type 0} → (T → Option (List HouseMark)) → (T → Quiet)
+-- there is a house that has told this, knows these listeners and streams and is as it is right
+-- before a wait, and that stands for its beginning and these calls behind it, unless none is present
+abbrev pub BegunRests : {T : Type 0} → (T → Option (List HouseMark)) → (T → Known)
+    → (T → Quiet)
     → (T → Bool) → (T → Option ℕ) → (T → List HouseCall → Type 0) → Bool → Starts → Resting
-BegunRests {T} told quiet must refused stands present starts = record {
+BegunRests {T} told known quiet must refused stands present starts = record {
   present = present;
-  rests = λ want now calls. IsTrue present
+  rests = λ want now calls listeners own. IsTrue present
       → (house : T)
       × (HouseWaits want (quiet house) (must house) (refused house) × (told house ≡ now)
-      × stands house (Begins starts ∷ calls));
+      × stands house (Begins starts ∷ calls)
+      × Knows (known house) listeners own);
 }
 
 -- ---- ExitOnForwardFailure

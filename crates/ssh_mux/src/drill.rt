@@ -31,7 +31,7 @@ pub fn drill<W: Wire, S: Sink>(
     turns: u64,
 ) -> Result<Status, Ending>
     ensures goes { DrillGoes words.now turns result (W.openings wire.old) (W.openings wire.new)
-        (W.seen wire.old).told (W.seen wire.new).told (W.tally wire.new)
+        (W.seen wire.old).told (W.seen wire.new) (W.tally wire.new)
         (S.told out.old) (S.told out.new) }
     ensures joinings { W.joinings wire.new ≡ W.joinings wire.old }
     ensures cause { WireCause (so_far result) (W.server_faults wire.old) (W.server_faults wire.new)
@@ -61,7 +61,7 @@ fn serve_drill<W: Wire>(
     ensures opened { OpensAt [] (drill_transport words.now) (so_far result)
         (W.openings wire.old) (W.openings wire.new) }
     ensures served { Shares RefusesAll NoneRests AnyCalls AnyCalls any_policy 0 turns None None
-        (W.seen wire.old).told (W.seen wire.new).told None result }
+        (W.seen wire.old).told (W.seen wire.new) None result }
     ensures start { StartCause (so_far result) None }
     ensures joinings { W.joinings wire.new ≡ W.joinings wire.old }
     ensures cause { WireCause (so_far result) (W.server_faults wire.old) (W.server_faults wire.new)

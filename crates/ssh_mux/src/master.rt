@@ -71,10 +71,10 @@ pub fn share<W: Wire, F: Files, R: Runner, H: House>(
         (commands.Master asked.now transport.now opens.now listens.now)) (so_far result))
         (Begun (told_over (machine (F.told files.old) (R.told runner.old) facts.now) asked.now)
         (λ starts. Shares H.may
-        (BegunRests H.told H.quiet H.must H.refused H.stands (H.known house.old).present starts)
+        (BegunRests H.told H.known H.quiet H.must H.refused H.stands (H.known house.old).present starts)
         (BeganWith starts)
         (H.stands house.new) (the_policy_of opens.now listens.now) (pid_of facts.now.pid) turns
-        (H.told house.old) (H.told house.new) (W.seen wire.old).told (W.seen wire.new).told
+        (H.told house.old) (H.told house.new) (W.seen wire.old).told (W.seen wire.new)
         (refused_if (H.known house.old).present (H.must house.new) (H.refused house.new))
         result)) }
     ensures start { OnTrue (may_share
@@ -264,10 +264,10 @@ fn begin_and_serve<W: Wire, H: House>(
         (W.openings wire.old) (W.openings wire.new) }
     ensures joinings { W.joinings wire.new ≡ W.joinings wire.old }
     ensures served { Shares H.may
-        (BegunRests H.told H.quiet H.must H.refused H.stands (H.known house.old).present
+        (BegunRests H.told H.known H.quiet H.must H.refused H.stands (H.known house.old).present
         (starts_for found.now.settings)) (BeganWith (starts_for found.now.settings))
         (H.stands house.new) policy pid turns (H.told house.old) (H.told house.new)
-        (W.seen wire.old).told (W.seen wire.new).told
+        (W.seen wire.old).told (W.seen wire.new)
         (refused_if (H.known house.old).present (H.must house.new) (H.refused house.new)) result }
     ensures start { StartCause (so_far result)
         (refused_if (H.known house.old).present (H.must house.new) (H.refused house.new)) }
@@ -312,9 +312,9 @@ pub fn open_and_serve<W: Wire, H: House>(
         (W.openings wire.old) (W.openings wire.new) }
     ensures joinings { W.joinings wire.new ≡ W.joinings wire.old }
     ensures served { Shares H.may
-        (RestsOf H.told H.quiet H.must H.refused H.stands (H.known house.old).present house.old)
+        (RestsOf H.told H.known H.quiet H.must H.refused H.stands (H.known house.old).present house.old)
         (H.stands house.old) (H.stands house.new) policy pid turns (H.told house.old)
-        (H.told house.new) (W.seen wire.old).told (W.seen wire.new).told
+        (H.told house.new) (W.seen wire.old).told (W.seen wire.new)
         (refused_if (H.known house.old).present (H.must house.new) (H.refused house.new)) result }
     ensures start { StartCause (so_far result)
         (refused_if (H.known house.old).present (H.must house.new) (H.refused house.new)) }

@@ -84,12 +84,12 @@ pub fn run<W: Wire, F: Files, R: Runner, S: Sink, H: House>(
         (known_of (F.told files.old) (R.told runner.old) facts.now words.now)
         result (W.joinings wire.old) (W.joinings wire.new) }
     ensures shared { ServesFor H.may
-        (BegunRests H.told H.quiet H.must H.refused H.stands (H.known house.old).present)
+        (BegunRests H.told H.known H.quiet H.must H.refused H.stands (H.known house.old).present)
         (H.stands house.new)
         (known_of (F.told files.old) (R.told runner.old) facts.now words.now)
         (told_for (machine (F.told files.old) (R.told runner.old) facts.now) words.now)
         (pid_of facts.now.pid) turns (H.told house.old) (H.told house.new)
-        (W.seen wire.old).told (W.seen wire.new).told
+        (W.seen wire.old).told (W.seen wire.new)
         (refused_if (H.known house.old).present (H.must house.new) (H.refused house.new)) result
         (S.told err.old) (S.told err.new) (S.faults err.old) (S.faults err.new) }
     ensures start { OnTrue (may_share
@@ -129,7 +129,7 @@ pub fn run<W: Wire, F: Files, R: Runner, S: Sink, H: House>(
     ensures drill { OnTrue
         (drills (known_of (F.told files.old) (R.told runner.old) facts.now words.now))
         (IsDrill words.now turns result (W.openings wire.old) (W.openings wire.new)
-        (W.seen wire.old).told (W.seen wire.new).told (W.tally wire.new)
+        (W.seen wire.old).told (W.seen wire.new) (W.tally wire.new)
         (S.told out.old) (S.told out.new) (S.told err.old) (S.told err.new)
         (S.faults err.old) (S.faults err.new)) }
     ensures leaves { Leaves
@@ -186,12 +186,12 @@ fn obey<W: Wire, F: Files, R: Runner, S: Sink, H: House>(
         (known_of (F.told files.old) (R.told runner.old) facts.now words.now)
         (so_far result) (W.joinings wire.old) (W.joinings wire.new) }
     ensures shared { SharesFor H.may
-        (BegunRests H.told H.quiet H.must H.refused H.stands (H.known house.old).present)
+        (BegunRests H.told H.known H.quiet H.must H.refused H.stands (H.known house.old).present)
         (H.stands house.new)
         (known_of (F.told files.old) (R.told runner.old) facts.now words.now)
         (told_for (machine (F.told files.old) (R.told runner.old) facts.now) words.now)
         (pid_of facts.now.pid) turns (H.told house.old) (H.told house.new)
-        (W.seen wire.old).told (W.seen wire.new).told
+        (W.seen wire.old).told (W.seen wire.new)
         (refused_if (H.known house.old).present (H.must house.new) (H.refused house.new)) result }
     ensures start { OnTrue (may_share
         (known_of (F.told files.old) (R.told runner.old) facts.now words.now)
@@ -231,7 +231,7 @@ fn obey<W: Wire, F: Files, R: Runner, S: Sink, H: House>(
     ensures drill { OnTrue
         (drills (known_of (F.told files.old) (R.told runner.old) facts.now words.now))
         (DrillGoes words.now turns result (W.openings wire.old) (W.openings wire.new)
-        (W.seen wire.old).told (W.seen wire.new).told (W.tally wire.new)
+        (W.seen wire.old).told (W.seen wire.new) (W.tally wire.new)
         (S.told out.old) (S.told out.new)) }
     ensures leaves { Leaves
         (known_of (F.told files.old) (R.told runner.old) facts.now words.now)

@@ -1,8 +1,6 @@
 use Rattle.std.proofs.Common.{inl, refl}
 use Rattle.std.proofs.lemmas.Result.{err_from_is_err_and}
-use Rattle.ssh_mux.specs.Drill.{drill_text}
-use Rattle.ssh_mux.proofs.PutLemmas.{handed-puts, quiet-puts}
-use Rattle.ssh_mux.proofs.StillLemmas.{loud}
+use Rattle.ssh_mux.proofs.PutLemmas.{handed-puts}
 use Rattle.ssh_mux.proofs.drill.sum_up.Goals as goal
 
 pub returns-in_err-text-clause-once : goal.returns-in_err-text-clause-once

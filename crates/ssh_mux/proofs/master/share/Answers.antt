@@ -13,7 +13,7 @@ use Rattle.ssh_mux.proofs.CauseLemmas.{shared-cause, all-ran}
 use Rattle.ssh_mux.proofs.ReadLemmas.{all-read}
 use Rattle.ssh_mux.proofs.SharingLemmas.{pid_is, master-comes, master-opens, master-opened, master-shares, master-idle, master-waits}
 use Rattle.ssh_mux.proofs.StartLemmas.{musts-told, starts-told}
-use Rattle.ssh_mux.proofs.StillLemmas.{still-must, on_false, on_true, not_false, still-due, still-opened, still-shared, still-wire, still-calls, still-idle, still-waits, starved-due, still-start, unshared-waits, where_false}
+use Rattle.ssh_mux.proofs.StillLemmas.{still-must, on_false, on_true, not_false, still-due, still-opened, still-shared, still-wire, still-calls, still-idle, starved-due, still-start, unshared-waits, where_false}
 use Rattle.ssh_mux.proofs.master.share.Goals as goal
 
 pub returns-in_err-found-clause-exact : goal.returns-in_err-found-clause-exact
@@ -47,7 +47,7 @@ pub returns-clause-opened : goal.returns-clause-opened
 returns-clause-opened g c = master-opened _ _ _ _ _ _ _ _ (c.in_ok-found.ensures.exact _ _ _) (master-opens _ c.begin_and_serve.ensures.ends) c.begin_and_serve.ensures.opened
 
 pub returns-clause-served : goal.returns-clause-served
-returns-clause-served g c = on_true _ (Begun (told_over (machine (g.F.Files.told c.args.files.now) (g.R.Runner.told c.args.runner.now) c.args.facts.now) c.args.asked.now) (λ starts. Shares g.H.House.may (BegunRests g.H.House.told g.H.House.quiet g.H.House.must g.H.House.refused g.H.House.stands (g.H.House.known c.args.house.now).present starts) (BeganWith starts) (g.H.House.stands c.begin_and_serve.new.house) (policy_of c.args.opens.now c.args.listens.now) (pid_of c.args.facts.now.pid) c.args.turns (g.H.House.told c.args.house.now) (g.H.House.told c.begin_and_serve.new.house) (g.W.Wire.seen c.args.wire.now).told (g.W.Wire.seen c.begin_and_serve.new.wire).told (refused_if (g.H.House.known c.args.house.now).present (g.H.House.must c.begin_and_serve.new.house) (g.H.House.refused c.begin_and_serve.new.house)) c.begin_and_serve.result)) (record { starts = _; due = starts-told _ _ c.in_ok-found.ensures.settled; so = rw (c.in_ok-policy.ensures.exact, c.unwrap_or-pid.ensures ∙ pid_is c.args.facts.now.pid) at c.begin_and_serve.ensures.served })
+returns-clause-served g c = on_true _ (Begun (told_over (machine (g.F.Files.told c.args.files.now) (g.R.Runner.told c.args.runner.now) c.args.facts.now) c.args.asked.now) (λ starts. Shares g.H.House.may (BegunRests g.H.House.told g.H.House.known g.H.House.quiet g.H.House.must g.H.House.refused g.H.House.stands (g.H.House.known c.args.house.now).present starts) (BeganWith starts) (g.H.House.stands c.begin_and_serve.new.house) (policy_of c.args.opens.now c.args.listens.now) (pid_of c.args.facts.now.pid) c.args.turns (g.H.House.told c.args.house.now) (g.H.House.told c.begin_and_serve.new.house) (g.W.Wire.seen c.args.wire.now).told (g.W.Wire.seen c.begin_and_serve.new.wire) (refused_if (g.H.House.known c.args.house.now).present (g.H.House.must c.begin_and_serve.new.house) (g.H.House.refused c.begin_and_serve.new.house)) c.begin_and_serve.result)) (record { starts = _; due = starts-told _ _ c.in_ok-found.ensures.settled; so = rw (c.in_ok-policy.ensures.exact, c.unwrap_or-pid.ensures ∙ pid_is c.args.facts.now.pid) at c.begin_and_serve.ensures.served })
 
 pub returns-clause-wire_cause : goal.returns-clause-wire_cause
 returns-clause-wire_cause g c = on_true _ _ c.begin_and_serve.ensures.cause
@@ -74,7 +74,7 @@ pub returns-in_err-policy-clause-opened : goal.returns-in_err-policy-clause-open
 returns-in_err-policy-clause-opened g c = let p = err_from_is_err_and c.from_residual-in_err-policy.result c.from_residual-in_err-policy.ensures.1 in let e = c.in_err-policy.ensures.err in rw (p.1, p.2, e) (still-opened (of_command (machine (g.F.Files.told c.args.files.now) (g.R.Runner.told c.args.runner.now) c.args.facts.now) (commands.Master c.args.asked.now c.args.transport.now c.args.opens.now c.args.listens.now)) ends.NoMemory (g.W.Wire.openings c.args.wire.now) (starved-due (of_command (machine (g.F.Files.told c.args.files.now) (g.R.Runner.told c.args.runner.now) c.args.facts.now) (commands.Master c.args.asked.now c.args.transport.now c.args.opens.now c.args.listens.now))))
 
 pub returns-in_err-policy-clause-served : goal.returns-in_err-policy-clause-served
-returns-in_err-policy-clause-served g c = let p = err_from_is_err_and c.from_residual-in_err-policy.result c.from_residual-in_err-policy.ensures.1 in let e = c.in_err-policy.ensures.err in rw (p.1, p.2, e) (still-shared (of_command (machine (g.F.Files.told c.args.files.now) (g.R.Runner.told c.args.runner.now) c.args.facts.now) (commands.Master c.args.asked.now c.args.transport.now c.args.opens.now c.args.listens.now)) endings.NoMemory g.H.House.may (BegunRests g.H.House.told g.H.House.quiet g.H.House.must g.H.House.refused g.H.House.stands (g.H.House.known c.args.house.now).present) (g.H.House.stands c.args.house.now) (told_over (machine (g.F.Files.told c.args.files.now) (g.R.Runner.told c.args.runner.now) c.args.facts.now) c.args.asked.now) (policy_of c.args.opens.now c.args.listens.now) (pid_of c.args.facts.now.pid) c.args.turns (g.H.House.told c.args.house.now) (g.W.Wire.seen c.args.wire.now).told (refused_if (g.H.House.known c.args.house.now).present (g.H.House.must c.args.house.now) (g.H.House.refused c.args.house.now)) (starved-due (of_command (machine (g.F.Files.told c.args.files.now) (g.R.Runner.told c.args.runner.now) c.args.facts.now) (commands.Master c.args.asked.now c.args.transport.now c.args.opens.now c.args.listens.now))))
+returns-in_err-policy-clause-served g c = let p = err_from_is_err_and c.from_residual-in_err-policy.result c.from_residual-in_err-policy.ensures.1 in let e = c.in_err-policy.ensures.err in rw (p.1, p.2, e) (still-shared (of_command (machine (g.F.Files.told c.args.files.now) (g.R.Runner.told c.args.runner.now) c.args.facts.now) (commands.Master c.args.asked.now c.args.transport.now c.args.opens.now c.args.listens.now)) endings.NoMemory g.H.House.may (BegunRests g.H.House.told g.H.House.known g.H.House.quiet g.H.House.must g.H.House.refused g.H.House.stands (g.H.House.known c.args.house.now).present) (g.H.House.stands c.args.house.now) (told_over (machine (g.F.Files.told c.args.files.now) (g.R.Runner.told c.args.runner.now) c.args.facts.now) c.args.asked.now) (policy_of c.args.opens.now c.args.listens.now) (pid_of c.args.facts.now.pid) c.args.turns (g.H.House.told c.args.house.now) (g.W.Wire.seen c.args.wire.now) (refused_if (g.H.House.known c.args.house.now).present (g.H.House.must c.args.house.now) (g.H.House.refused c.args.house.now)) (starved-due (of_command (machine (g.F.Files.told c.args.files.now) (g.R.Runner.told c.args.runner.now) c.args.facts.now) (commands.Master c.args.asked.now c.args.transport.now c.args.opens.now c.args.listens.now))))
 
 pub returns-in_err-policy-clause-wire_cause : goal.returns-in_err-policy-clause-wire_cause
 returns-in_err-policy-clause-wire_cause g c = let p = err_from_is_err_and c.from_residual-in_err-policy.result c.from_residual-in_err-policy.ensures.1 in let e = c.in_err-policy.ensures.err in rw (p.1, p.2, e) (still-wire (of_command (machine (g.F.Files.told c.args.files.now) (g.R.Runner.told c.args.runner.now) c.args.facts.now) (commands.Master c.args.asked.now c.args.transport.now c.args.opens.now c.args.listens.now)) ends.NoMemory (g.W.Wire.server_faults c.args.wire.now) (g.W.Wire.server_faults c.args.wire.now) (g.W.Wire.client_faults c.args.wire.now) (g.W.Wire.client_faults c.args.wire.now) (starved-due (of_command (machine (g.F.Files.told c.args.files.now) (g.R.Runner.told c.args.runner.now) c.args.facts.now) (commands.Master c.args.asked.now c.args.transport.now c.args.opens.now c.args.listens.now))))

@@ -16,7 +16,7 @@ use Rattle.ssh_mux.proofs.PolicyLemmas.{are-permitted, with-policy}
 use Rattle.ssh_mux.proofs.RefusalLemmas.{list-looks, list-shut, list-undrilled, master-looks, master-quiet, master-undrilled}
 use Rattle.ssh_mux.proofs.SharingLemmas.{none-opened, none-taken, none-counted}
 use Rattle.ssh_mux.proofs.MisreadLemmas.{of-drill, of-read, for-read, misread, misread-runs, misread-cause, drilled-runs}
-use Rattle.ssh_mux.proofs.StillLemmas.{on_false, not_false, not_true, shut, loud, quiet-out, quiet-count, still-due, still-opened, still-shared, still-caused, still-calls, still-idle, still-waited, shut-all, for-master, on_true, or-else, else-or, untouched, follows, refused-waits, still-must, still-start, unopened-waits, where_false}
+use Rattle.ssh_mux.proofs.StillLemmas.{on_false, not_false, not_true, shut, loud, quiet-out, quiet-count, still-due, still-opened, still-shared, still-caused, still-calls, still-idle, shut-all, for-master, on_true, or-else, else-or, untouched, follows, refused-waits, still-must, still-start, unopened-waits, where_false}
 use Rattle.ssh_mux.proofs.PlaceLemmas.{client-told, misread-place, list-told, master-told}
 use Rattle.ssh_mux.proofs.PutLemmas.{client-unprinted, quiet-puts, unprinted}
 use Rattle.ssh_mux.proofs.ReadLemmas.{drilled-reads, misread-reads}
@@ -84,7 +84,7 @@ pub returns-in-Master-clause-opened : goal.returns-in-Master-clause-opened
 returns-in-Master-clause-opened g c = rw (of-read _ _ _ (rw c.in-Master.is at c.in_ok-command.ensures.exact)) c.share.ensures.opened
 
 pub returns-in-Master-clause-shared : goal.returns-in-Master-clause-shared
-returns-in-Master-clause-shared g c = rw (of-read _ _ _ (rw c.in-Master.is at c.in_ok-command.ensures.exact), master-told _ _ _ _ _ _ (rw c.in-Master.is at c.in_ok-command.ensures.exact)) (with-policy (machine (g.F.Files.told c.args.files.now) (g.R.Runner.told c.args.runner.now) c.args.facts.now) c.in-Master.asked c.in-Master.transport c.in-Master.opens c.in-Master.listens (so_far c.share.result) (λ p. Begun (told_over (machine (g.F.Files.told c.args.files.now) (g.R.Runner.told c.args.runner.now) c.args.facts.now) c.in-Master.asked) (λ starts. Shares g.H.House.may (BegunRests g.H.House.told g.H.House.quiet g.H.House.must g.H.House.refused g.H.House.stands (g.H.House.known c.args.house.now).present starts) (BeganWith starts) (g.H.House.stands c.share.new.house) p (pid_of c.args.facts.now.pid) c.args.turns (g.H.House.told c.args.house.now) (g.H.House.told c.share.new.house) (g.W.Wire.seen c.args.wire.now).told (g.W.Wire.seen c.share.new.wire).told (refused_if (g.H.House.known c.args.house.now).present (g.H.House.must c.share.new.house) (g.H.House.refused c.share.new.house)) c.share.result)) c.share.ensures.served)
+returns-in-Master-clause-shared g c = rw (of-read _ _ _ (rw c.in-Master.is at c.in_ok-command.ensures.exact), master-told _ _ _ _ _ _ (rw c.in-Master.is at c.in_ok-command.ensures.exact)) (with-policy (machine (g.F.Files.told c.args.files.now) (g.R.Runner.told c.args.runner.now) c.args.facts.now) c.in-Master.asked c.in-Master.transport c.in-Master.opens c.in-Master.listens (so_far c.share.result) (λ p. Begun (told_over (machine (g.F.Files.told c.args.files.now) (g.R.Runner.told c.args.runner.now) c.args.facts.now) c.in-Master.asked) (λ starts. Shares g.H.House.may (BegunRests g.H.House.told g.H.House.known g.H.House.quiet g.H.House.must g.H.House.refused g.H.House.stands (g.H.House.known c.args.house.now).present starts) (BeganWith starts) (g.H.House.stands c.share.new.house) p (pid_of c.args.facts.now.pid) c.args.turns (g.H.House.told c.args.house.now) (g.H.House.told c.share.new.house) (g.W.Wire.seen c.args.wire.now).told (g.W.Wire.seen c.share.new.wire) (refused_if (g.H.House.known c.args.house.now).present (g.H.House.must c.share.new.house) (g.H.House.refused c.share.new.house)) c.share.result)) c.share.ensures.served)
 
 pub returns-in-Master-clause-wire_cause : goal.returns-in-Master-clause-wire_cause
 returns-in-Master-clause-wire_cause g c = rw (of-read _ _ _ (rw c.in-Master.is at c.in_ok-command.ensures.exact)) (for-master (may_open (so_far c.share.result)) (opens (of_command (machine (g.F.Files.told c.args.files.now) (g.R.Runner.told c.args.runner.now) c.args.facts.now) (commands.Master c.in-Master.asked c.in-Master.transport c.in-Master.opens c.in-Master.listens))) (drills (of_command (machine (g.F.Files.told c.args.files.now) (g.R.Runner.told c.args.runner.now) c.args.facts.now) (commands.Master c.in-Master.asked c.in-Master.transport c.in-Master.opens c.in-Master.listens))) (WireCause (so_far c.share.result) (g.W.Wire.server_faults c.args.wire.now) (g.W.Wire.server_faults c.share.new.wire) (g.W.Wire.client_faults c.args.wire.now) (g.W.Wire.client_faults c.share.new.wire)) (master-undrilled (machine (g.F.Files.told c.args.files.now) (g.R.Runner.told c.args.runner.now) c.args.facts.now) c.in-Master.asked c.in-Master.transport c.in-Master.opens c.in-Master.listens) c.share.ensures.wire_cause)
