@@ -84,8 +84,8 @@ DrillTells (Err ending) tally status out out' err err' faults faults' =
 -- A run that keeps its promises, for clients that are permitted anything and are told process id 0,
 -- and what was written of its end; `start` is what the wire told before, and `seen` is seen of it in
 -- the end.
-pub record IsDrilled (turns : ℕ) (start : Option (List Mark)) (seen : Seen) (tally : Tally) (status : Status)
-    (out out' err err' : Option (List ℕ)) (faults faults' : ℕ) : Type 0 where
+pub record IsDrilled (turns : ℕ) (start : Option (List Mark)) (seen : Seen) (tally : Tally)
+    (status : Status) (out out' err err' : Option (List ℕ)) (faults faults' : ℕ) : Type 0 where
   pub answer : Ended
   pub run :
       IsRun RefusesAll NoneRests.rests AnyCalls AnyCalls false any_policy 0 turns None None start
@@ -111,8 +111,8 @@ DrillServes turns start seen tally status out out' err err' faults faults' =
 -- A drill: its wire was opened once, with an empty control path and its words for a transport, but
 -- for want of memory. It was served, and its end was told.
 pub record IsDrill (words : List Bytes) (turns : ℕ) (status : Status)
-    (openings openings' : Option (List Opening)) (start : Option (List Mark)) (seen : Seen) (tally : Tally)
-    (out out' err err' : Option (List ℕ)) (faults faults' : ℕ) : Type 0 where
+    (openings openings' : Option (List Opening)) (start : Option (List Mark)) (seen : Seen)
+    (tally : Tally) (out out' err err' : Option (List ℕ)) (faults faults' : ℕ) : Type 0 where
   pub opened : OpensAt [] (drill_transport words) status openings openings'
   pub served : DrillServes turns start seen tally status out out' err err' faults faults'
 
@@ -157,8 +157,8 @@ DrillShares turns start seen tally result out out' =
 
 -- how a drill went
 pub record DrillGoes (words : List Bytes) (turns : ℕ) (result : Result Status MeantEnding)
-    (openings openings' : Option (List Opening)) (start : Option (List Mark)) (seen : Seen) (tally : Tally)
-    (out out' : Option (List ℕ)) : Type 0 where
+    (openings openings' : Option (List Opening)) (start : Option (List Mark)) (seen : Seen)
+    (tally : Tally) (out out' : Option (List ℕ)) : Type 0 where
   pub ends : EndsDrill result
   pub opened : OpensAt [] (drill_transport words) (so_far result) openings openings'
   pub shared : DrillShares turns start seen tally result out out'

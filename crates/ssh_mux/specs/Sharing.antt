@@ -95,8 +95,8 @@ told_as ends.Spent = Err endings.TurnsSpent
 told_as ends.OutOfMemory = Err endings.NoMemory
 
 -- nothing is served: the wire and the house tell what they told before
-pub record IsUnserved (before now : Option (List HouseMark)) (start : Option (List Mark)) (seen : Seen) :
-    Type 0 where
+pub record IsUnserved (before now : Option (List HouseMark)) (start : Option (List Mark))
+    (seen : Seen) : Type 0 where
   pub same_wire : seen.told ≡ start
   pub same_house : now ≡ before
 
