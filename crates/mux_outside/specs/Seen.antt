@@ -1,9 +1,10 @@
 -- What is seen of a wire, how often it was called, and what each call leaves of both.
-use Rattle.std.specs.Prelude.{ℕ, Bool, true, false, if◌then◌else◌, ◌==◌, List, [], ◌∷◌, ◌++◌, Result, Ok, Err, Option}
+use Rattle.std.specs.Prelude.{ℕ, Bool, true, false, not, if◌then◌else◌, ◌&&◌, ◌==◌, List, [], ◌∷◌, ◌++◌, Result, Ok, Err, Option}
 use Rattle.std.specs.Option.{option_map}
 use Rattle.mux_outside.specs.Counts.{counted}
 use Rattle.mux_outside.specs.Streams.{without}
-use Rattle.mux_outside.specs.OwnStreams.{new_stream, with_pause, with_finish, without_stream}
+use Rattle.mux_outside.specs.Calls.{calls_after}
+use Rattle.mux_outside.specs.OwnStreams.{is_own, new_stream, with_pause, with_finish, without_stream}
 use Rattle.mux_outside.specs.Wire.{wait_marks, open_after, blocked_after, last_after, own_after, last_own_after, write_marks, blocked_after_write}
 use Rattle.mux_outside.specs.declared.file_error.FileError.{FileError}
 use Rattle.mux_outside.specs.declared.turn.Want.{Want}
@@ -31,12 +32,18 @@ pub record Seen : Type 0 where
   pub own : List OwnStream
   pub last_own : ℕ
 
--- how often `wait` was called; how many calls of `wait` and `write` found no memory; and how many
--- came behind one that found none
+-- how often `open` was called, but for want of memory, and `wait`; how many calls of `wait` and `write`
+-- found no memory; how many came behind one that found none; and how often `wait` gave a client that
+-- came, a piece of the server or of a client, and the server's end
 pub record Calls : Type 0 where
+  pub opens : ℕ
   pub waits : ℕ
   pub wants : ℕ
   pub late : ℕ
+  pub accepts : ℕ
+  pub server_pieces : ℕ
+  pub client_pieces : ℕ
+  pub server_ends : ℕ
 
 -- ---- what is seen
 
@@ -128,7 +135,20 @@ seen_after_finish stream seen = record seen { own = with_finish stream seen.own 
 
 -- nothing was called
 abbrev pub no_calls : Calls
-no_calls = record { waits = 0; wants = 0; late = 0 }
+no_calls = record {
+  opens = 0;
+  waits = 0;
+  wants = 0;
+  late = 0;
+  accepts = 0;
+  server_pieces = 0;
+  client_pieces = 0;
+  server_ends = 0;
+}
+
+-- after a call of open
+abbrev pub calls_after_open : Result (Unit {0}) FileError → Calls → Calls
+calls_after_open answer calls = record calls { opens = calls_after answer calls.opens }
 
 -- how many calls came behind one that found no memory, after one call more
 abbrev pub late_after : Calls → ℕ
@@ -158,10 +178,58 @@ is_starved_write (Took n) = false
 is_starved_write Later = false
 is_starved_write FailedWrite = false
 
--- after a call of wait, which is counted
+-- whether a client came
+abbrev pub is_accept : Turn → Bool
+is_accept (Accepted k) = true
+is_accept (Got t) = false
+is_accept (End t) = false
+is_accept (Writable t) = false
+is_accept (Failed t) = false
+is_accept (Joined l t) = false
+is_accept NoMemory = false
+
+-- whether the server's stream gave a piece
+abbrev pub is_server_piece : Turn → Bool
+is_server_piece (Got t) = t == 0
+is_server_piece (Accepted k) = false
+is_server_piece (End t) = false
+is_server_piece (Writable t) = false
+is_server_piece (Failed t) = false
+is_server_piece (Joined l t) = false
+is_server_piece NoMemory = false
+
+-- whether a client's stream gave a piece
+abbrev pub is_client_piece : Turn → Bool
+is_client_piece (Got t) = not (t == 0) && not (is_own t)
+is_client_piece (Accepted k) = false
+is_client_piece (End t) = false
+is_client_piece (Writable t) = false
+is_client_piece (Failed t) = false
+is_client_piece (Joined l t) = false
+is_client_piece NoMemory = false
+
+-- whether the server's stream ended
+abbrev pub is_server_end : Turn → Bool
+is_server_end (End t) = t == 0
+is_server_end (Accepted k) = false
+is_server_end (Got t) = false
+is_server_end (Writable t) = false
+is_server_end (Failed t) = false
+is_server_end (Joined l t) = false
+is_server_end NoMemory = false
+
+-- a count after a turn: one more where it is one of those that are counted
+abbrev pub counted_if : Bool → ℕ → ℕ
+counted_if is_one count = if is_one then counted count else count
+
+-- after a call of wait, which is counted, and so is what it gave
 abbrev pub calls_after_wait : Turn → Calls → Calls
 calls_after_wait turn calls = record (calls_after_one (is_starved turn) calls) {
   waits = counted calls.waits;
+  accepts = counted_if (is_accept turn) calls.accepts;
+  server_pieces = counted_if (is_server_piece turn) calls.server_pieces;
+  client_pieces = counted_if (is_client_piece turn) calls.client_pieces;
+  server_ends = counted_if (is_server_end turn) calls.server_ends;
 }
 
 -- after a call of write

@@ -1,6 +1,6 @@
 -- What a wire in memory keeps of its calls.
 use Rattle.std.specs.Prelude.{◌≡◌, ◌<◌, ◌≤◌, ◌⊎◌, ℕ, Bool, true, false, List, [], ◌++◌, Some, Result, Ok, Err}
-use Rattle.mux_outside.specs.Seen.{Calls, Seen, no_calls, calls_after_wait, calls_after_write}
+use Rattle.mux_outside.specs.Seen.{Calls, Seen, no_calls, calls_after_open, calls_after_wait, calls_after_write}
 use Rattle.mux_outside.specs.Seen.{seen_after_open, seen_after_join, seen_after_turn, seen_after_write, seen_after_close}
 use Rattle.mux_outside.specs.Counts.{HasCause}
 use Rattle.mux_outside.specs.Script.{Standing}
@@ -85,7 +85,7 @@ pub record LogsOpening (answer : Result (Unit {0}) FileError) (control transport
   pub openings : new.openings ≡ old.openings ++ openings_of answer control transport
   pub joinings : new.joinings ≡ old.joinings
   pub seen : seen_in new ≡ seen_after_open answer (seen_in old)
-  pub calls : new.calls ≡ old.calls
+  pub calls : new.calls ≡ calls_after_open answer old.calls
   pub cause : OpenFaults answer old.server_faults new.server_faults
       old.client_faults new.client_faults
   pub own : new.own_faults ≡ old.own_faults

@@ -1,16 +1,23 @@
 ghost use Rattle.std.specs.Prelude.{◌≡◌};
+ghost use Rattle.mux_outside.specs.Counts.{counted as count_after};
 ghost use Rattle.mux_outside.specs.Seen.{no_calls, calls_after_one, calls_after_wait, calls_after_write};
 
 use crate::counts::counted;
+use crate::own_streams::is_own;
 use crate::turn::{Turn, Wrote};
 use std::marker::Model;
 
-/// How often a wire was called, and how often it found no memory.
+/// How often a wire was called, how often it found no memory, and how often it gave what.
 #[derive(Debug, Drop)]
 pub struct CallCounts {
+    opens: u64,
     waits: u64,
     wants: u64,
     late: u64,
+    accepts: u64,
+    server_pieces: u64,
+    client_pieces: u64,
+    server_ends: u64,
 }
 
 impl Model for CallCounts {
@@ -18,7 +25,16 @@ impl Model for CallCounts {
 
     ghost Value = { TheCalls };
 
-    ghost view = { λ c. record { waits = c.waits; wants = c.wants; late = c.late } };
+    ghost view = { λ c. record {
+      opens = c.opens;
+      waits = c.waits;
+      wants = c.wants;
+      late = c.late;
+      accepts = c.accepts;
+      server_pieces = c.server_pieces;
+      client_pieces = c.client_pieces;
+      server_ends = c.server_ends;
+    } };
 }
 
 impl CallCounts {
@@ -27,10 +43,22 @@ impl CallCounts {
         ensures { result ≡ no_calls }
     {
         CallCounts {
+            opens: 0,
             waits: 0,
             wants: 0,
             late: 0,
+            accepts: 0,
+            server_pieces: 0,
+            client_pieces: 0,
+            server_ends: 0,
         }
+    }
+
+    /// Counts a call of `open` that didn't want memory.
+    pub fn opened(&mut self)
+        ensures { self.new ≡ record self.old { opens = count_after self.old.opens } }
+    {
+        self.opens = counted(self.opens);
     }
 
     /// Counts a call of `wait` that gave this turn.
@@ -39,6 +67,15 @@ impl CallCounts {
     {
         self.called(turn == Turn::NoMemory);
         self.waits = counted(self.waits);
+        match turn {
+            Turn::Accepted(_) => self.accepts = counted(self.accepts),
+            Turn::Got(0) => self.server_pieces = counted(self.server_pieces),
+            Turn::Got(stream) if !is_own(stream) => {
+                self.client_pieces = counted(self.client_pieces);
+            }
+            Turn::End(0) => self.server_ends = counted(self.server_ends),
+            _ => {}
+        }
     }
 
     /// Counts a call of `write` that gave this answer.

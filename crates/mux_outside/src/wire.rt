@@ -12,7 +12,7 @@ ghost use Rattle.mux_outside.specs.Wire.{OwnFits, OwnTurnFaults, OwnWroteFaults,
 ghost use Rattle.mux_outside.specs.Seen.{seen_after_note, seen_after_listen, seen_after_connect, seen_after_unlisten, seen_after_pause, seen_after_finish};
 ghost use Rattle.mux_outside.specs.Wire.{openings_of, OpenFaults, joinings_of, JoinFaults, TurnFits, TurnFaults, WroteFits, WroteFaults};
 ghost use Rattle.mux_outside.specs.Seen.{Seen as TheSeen, seen_after_open, seen_after_join, seen_after_turn, seen_after_write, seen_after_close};
-ghost use Rattle.mux_outside.specs.Seen.{Calls as TheCalls, calls_after_wait, calls_after_write};
+ghost use Rattle.mux_outside.specs.Seen.{Calls as TheCalls, calls_after_open, calls_after_wait, calls_after_write};
 
 use crate::file_error::FileError;
 use crate::house_mark::HouseMark;
@@ -34,7 +34,7 @@ pub trait Wire {
     /// What is seen of it: its marks, where they are told, its streams and its clients.
     ghost seen: { Self → TheSeen };
 
-    /// How often it was called, and how often it found no memory.
+    /// How often it was called, how often it found no memory, and how often it gave what.
     ghost calls: { Self → TheCalls };
 
     /// How often the server's stream failed.
@@ -56,7 +56,7 @@ pub trait Wire {
             (openings self.old) }
         ensures joinings { joinings self.new ≡ joinings self.old }
         ensures seen { seen self.new ≡ seen_after_open result (seen self.old) }
-        ensures calls { calls self.new ≡ calls self.old }
+        ensures calls { calls self.new ≡ calls_after_open result (calls self.old) }
         ensures cause { OpenFaults result (server_faults self.old) (server_faults self.new)
             (client_faults self.old) (client_faults self.new) }
         ensures own { own_faults self.new ≡ own_faults self.old };

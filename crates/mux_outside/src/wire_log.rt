@@ -192,6 +192,7 @@ impl WireLog {
         if self.openings.push(opening).is_err() {
             return Err(FileError::OutOfMemory);
         }
+        self.calls.opened();
         if !opens {
             self.server_faults = raised(self.server_faults);
             return Err(FileError::Failed);

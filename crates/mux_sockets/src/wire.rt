@@ -1,5 +1,5 @@
 ghost use Rattle.std.specs.Prelude.{◌≡◌, ◌≢◌, ◌<◌, ◌+◌, ◌++◌, ◌∷◌, ◌&&◌, not, ℕ, List, [], length, false, true, IfSome, IsErr, IsNone, IsSome, IsSomeAnd, IsTrue, IsUtf8, None, OnErr, OnOk, nat_eq, option_map};
-ghost use Rattle.mux_outside.specs.Seen.{no_calls, seen_after_connect, seen_after_finish, seen_after_join, seen_after_listen, seen_after_open, seen_after_pause};
+ghost use Rattle.mux_outside.specs.Seen.{calls_after_open, no_calls, seen_after_connect, seen_after_finish, seen_after_join, seen_after_listen, seen_after_open, seen_after_pause};
 ghost use Rattle.mux_outside.specs.Streams.{among};
 ghost use Rattle.mux_outside.specs.Tally.{no_tally};
 ghost use Rattle.mux_outside.specs.Wire.{JoinFaults, OpenFaults, TurnFits, TurnFaults, open_after, blocked_after, last_after};
@@ -368,14 +368,18 @@ impl<R: Files + Net + Processes + Clock + Clone + Drop> Wire for RealWire<R> {
             ≡ seen_after_open result
             (untold self.old.streams self.old.blocked self.old.listening self.old.last
             self.old.listeners self.old.own self.old.last_own) }
-        ensures calls { self.new.calls ≡ self.old.calls }
+        ensures calls { self.new.calls ≡ calls_after_open result self.old.calls }
         ensures cause { OpenFaults result self.old.server_faults self.new.server_faults
             self.old.client_faults self.new.client_faults }
         ensures own_faults { self.new.own_faults ≡ self.old.own_faults }
     {
         let mut streams = Streams::new(self.alloc);
         streams.push(0)?;
-        match Sockets::open(&self.rt, self.alloc, control, transport) {
+        let opened = Sockets::open(&self.rt, self.alloc, control, transport);
+        if !matches!(opened, Err(Fault::Memory)) {
+            self.calls.opened();
+        }
+        match opened {
             Ok(sockets) => {
                 self.sockets = Some(sockets);
                 self.streams = streams;
