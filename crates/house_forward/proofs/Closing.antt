@@ -545,42 +545,42 @@ gets-right calls t bytes old before a b s p is Over e h = same-gets calls bytes 
 
 -- ---- one is joined
 
-surplus-caused : (calls : List HouseCall) (t : ℕ) (r : Relay) → IsSurplus t r → HasNoChannel calls (Some (new_stream t))
-    → Caused calls (joined_life t r)
-surplus-caused calls t r e none = record {
+surplus-caused : (calls : List HouseCall) (joins t : ℕ) (r : Relay) → IsSurplus t r → HasNoChannel calls (Some (new_stream t))
+    → Caused calls (joined_life joins t r)
+surplus-caused calls joins t r e none = record {
   broken = subst (λ (x : Relay). Cause calls (Some (new_stream t)) [] x.socket) (sym e) none;
-  over = subst (λ (x : Relay). OverRight x.line x.socket (joined_life t r).dials []) (sym e) (λ whole. cc);
+  over = subst (λ (x : Relay). OverRight x.line x.socket (joined_life joins t r).dials []) (sym e) (λ whole. cc);
 }
 
-asked-caused : (calls : List HouseCall) (t : ℕ) (r : Relay) (host : List ℕ) (port : ℕ)
-    → r ≡ fresh_relay r.number (Asked host port None) (socket.Open t) → Caused calls (joined_life t r)
-asked-caused calls t r host port e = record {
+asked-caused : (calls : List HouseCall) (joins t : ℕ) (r : Relay) (host : List ℕ) (port : ℕ)
+    → r ≡ fresh_relay r.number (Asked host port None) (socket.Open t) → Caused calls (joined_life joins t r)
+asked-caused calls joins t r host port e = record {
   broken = subst (λ (x : Relay). Cause calls (Some (new_stream t)) [] x.socket) (sym e) tt;
-  over = subst (λ (x : Relay). OverRight x.line x.socket (joined_life t r).dials []) (sym e) tt;
+  over = subst (λ (x : Relay). OverRight x.line x.socket (joined_life joins t r).dials []) (sym e) tt;
 }
 
-dialed-caused : (calls : List HouseCall) (t : ℕ) (r : Relay) (crowded : Bool) → (crowded ≡ true → HasNoChannel calls (Some (new_stream t)))
-    → IsDialed crowded t r → Caused calls (joined_life t r)
-dialed-caused calls t r true none h = surplus-caused calls t r h (none refl)
-dialed-caused calls t r false none h = record {
+dialed-caused : (calls : List HouseCall) (joins t : ℕ) (r : Relay) (crowded : Bool) → (crowded ≡ true → HasNoChannel calls (Some (new_stream t)))
+    → IsDialed crowded t r → Caused calls (joined_life joins t r)
+dialed-caused calls joins t r true none h = surplus-caused calls joins t r h (none refl)
+dialed-caused calls joins t r false none h = record {
   broken = subst (λ (x : Relay). Cause calls (Some (new_stream t)) [] x.socket) (sym h) tt;
-  over = subst (λ (x : Relay). OverRight x.line x.socket (joined_life t r).dials []) (sym h) tt;
+  over = subst (λ (x : Relay). OverRight x.line x.socket (joined_life joins t r).dials []) (sym h) tt;
 }
 
-joined-at : (calls : List HouseCall) (t : ℕ) (r : Relay) (f : Forwarding) (kind : Kind) (crowded : Bool)
-    → (crowded ≡ true → HasNoChannel calls (Some (new_stream t))) → IsJoinedAt kind crowded f t r → Caused calls (joined_life t r)
-joined-at calls t r f Local crowded none h = asked-caused calls t r f.connect_host f.connect_port h
-joined-at calls t r f Remote crowded none h = asked-caused calls t r f.connect_host f.connect_port h
-joined-at calls t r f Dynamic crowded none h = dialed-caused calls t r crowded none h
+joined-at : (calls : List HouseCall) (joins t : ℕ) (r : Relay) (f : Forwarding) (kind : Kind) (crowded : Bool)
+    → (crowded ≡ true → HasNoChannel calls (Some (new_stream t))) → IsJoinedAt kind crowded f t r → Caused calls (joined_life joins t r)
+joined-at calls joins t r f Local crowded none h = asked-caused calls joins t r f.connect_host f.connect_port h
+joined-at calls joins t r f Remote crowded none h = asked-caused calls joins t r f.connect_host f.connect_port h
+joined-at calls joins t r f Dynamic crowded none h = dialed-caused calls joins t r crowded none h
 
-joined-caused : (calls : List HouseCall) (l t : ℕ) (course : Course) → IsBefore calls (Turns (Joined l t)) course
+joined-caused : (calls : List HouseCall) (joins l t : ℕ) (course : Course) → IsBefore calls (Turns (Joined l t)) course
     → (full crowded : Bool) (o : Option Forwarding) → are_full course.lives ≡ full → are_crowded course.lives ≡ crowded
-    → find (has_listener l) course.desk.all ≡ o → (r : Relay) → IsJoined full crowded o t r → Caused calls (joined_life t r)
-joined-caused calls l t course before true crowded o e f g r h = surplus-caused calls t r h
+    → find (has_listener l) course.desk.all ≡ o → (r : Relay) → IsJoined full crowded o t r → Caused calls (joined_life joins t r)
+joined-caused calls joins l t course before true crowded o e f g r h = surplus-caused calls joins t r h
     (inl (record { listener = l; stream = t; course = course; joined = before; its = refl; cause = inl e }))
-joined-caused calls l t course before false crowded None e f g r h = surplus-caused calls t r h
+joined-caused calls joins l t course before false crowded None e f g r h = surplus-caused calls joins t r h
     (inl (record { listener = l; stream = t; course = course; joined = before; its = refl; cause = inr (inr g) }))
-joined-caused calls l t course before false crowded (Some x) e f g r h = joined-at calls t r x x.kind crowded
+joined-caused calls joins l t course before false crowded (Some x) e f g r h = joined-at calls joins t r x x.kind crowded
     (λ is. inl (record { listener = l; stream = t; course = course; joined = before; its = refl; cause = inr (inl (f ∙ is)) })) h
 
 -- ---- all steps
@@ -633,7 +633,7 @@ caused calls = record {
     over = right-socket a.relay.line a.relay.socket (made_as number) a.dials (Other ∷ a.acts) (λ e. unmade-whole a.relay.socket is)
         (hears-other a.relay.line a.relay.socket a.dials a.acts p.over);
   };
-  joins = λ l t old now r h. joined-caused calls l t old now (are_full old.lives) (are_crowded old.lives) (find (has_listener l) old.desk.all)
+  joins = λ l t old now r h. joined-caused calls old.joins l t old now (are_full old.lives) (are_crowded old.lives) (find (has_listener l) old.desk.all)
       refl refl refl r h;
   offers = λ f number remote window maximum. record { broken = tt; over = tt };
 }

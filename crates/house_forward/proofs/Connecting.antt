@@ -204,20 +204,20 @@ due-marks (HouseAsked client id opening ask reply) old new h s = sym (ap (λ (c 
 due-marks (HouseAnswer client id reply) old new h s = sym (ap (λ (c : Course). still_to_connect c.lives) h.2)
 due-marks (HouseOrder o number) old new h s = due-orders o number old new h s
 
-due-joined : (t : ℕ) (r : Relay) → stream_of r.socket ≡ Some t → due (joined_life t r) ≡ None
-due-joined t r e = not-due (joined_life t r) (streamed r.socket t e)
+due-joined : (joins t : ℕ) (r : Relay) → stream_of r.socket ≡ Some t → due (joined_life joins t r) ≡ None
+due-joined joins t r e = not-due (joined_life joins t r) (streamed r.socket t e)
 
-due-turns : (happening : Happening) (fs : List Forwarding) (old new : List Life) → TurnsTo happening fs old new → Each Sound old
+due-turns : (happening : Happening) (joins : ℕ) (fs : List Forwarding) (old new : List Life) → TurnsTo happening joins fs old new → Each Sound old
     → still_to_connect new ≡ still_to_connect old
-due-turns (Joined l t) fs old new h s =
+due-turns (Joined l t) joins fs old new h s =
     ap still_to_connect h.more
-    ∙ pick-none due old [] (joined_life t h.relay) (due-joined t h.relay (joined _ _ (find (has_listener l) fs) t h.relay h.joined).stream)
+    ∙ pick-none due old [] (joined_life joins t h.relay) (due-joined joins t h.relay (joined _ _ (find (has_listener l) fs) t h.relay h.joined).stream)
     ∙ ap still_to_connect (append-nil old)
-due-turns (Got t bytes) fs old new h s =
+due-turns (Got t bytes) joins fs old new h s =
     most-picks due Sound (has_stream t) _ old new (λ a b x is goes. due-gets (not (are_full old)) bytes t a b x is goes) s h
-due-turns (End t) fs old new h s = ap still_to_connect h ∙ steps-due step.End t old s
-due-turns (Writable t) fs old new h s = ap still_to_connect h ∙ steps-due step.Writable t old s
-due-turns (Failed t) fs old new h s = ap still_to_connect h ∙ steps-due step.Failed t old s
+due-turns (End t) joins fs old new h s = ap still_to_connect h ∙ steps-due step.End t old s
+due-turns (Writable t) joins fs old new h s = ap still_to_connect h ∙ steps-due step.Writable t old s
+due-turns (Failed t) joins fs old new h s = ap still_to_connect h ∙ steps-due step.Failed t old s
 
 -- more connects, and no more taken
 connected-more : (connects more : List Place) (old new : List Life) (taken : List Place)
@@ -236,7 +236,7 @@ due-follow (HearsBytes bytes) old new h connects taken s owes =
     ∙ ap (λ ps. ps ++ still_to_connect new.lives) (sym (append-nil connects))
 due-follow (Turns happening) old new h connects taken s owes =
     connected-more connects [] old.lives new.lives taken
-    (sym (ap (λ (c : Course). still_to_connect c.lives) h.2 ∙ due-turns happening old.desk.all old.lives h.0 h.1 s.lives)) owes
+    (sym (ap (λ (c : Course). still_to_connect c.lives) h.2 ∙ due-turns happening old.joins old.desk.all old.lives h.0 h.1 s.lives)) owes
 due-follow (TakesBytes t n) old new h connects taken s owes =
     connected-more connects [] old.lives new.lives taken
     (sym (ap (λ (c : Course). still_to_connect c.lives) h.2

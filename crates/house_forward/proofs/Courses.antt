@@ -130,7 +130,7 @@ pub offers : (to : Forwarding) (remote window maximum : ℕ) (old new : List Lin
 offers to remote window maximum old new h = λ framer stage desk most course is.
     let relay = fresh_relay h.number (OfServer remote window maximum) socket.Unmade in
     let link : Link = record { relay = relay; stream = h.stream } in
-    let life : Life = record { relay = relay; own = None; dials = false; to = Some (to.connect_host, to.connect_port); acts = [] } in
+    let life : Life = record { relay = relay; own = None; dials = false; joined = None; to = Some (to.connect_host, to.connect_port); acts = [] } in
     let its : IsLife most life link = record {
       relay_is = refl;
       own_is = connects-own to.connect_host to.connect_port h.stream h.connects;
@@ -462,7 +462,7 @@ joins l t old new framer stage desk h = λ most course is.
     let begins = joined (is_full old) (is_crowded old) f t h.relay h.joined in
     let none = begins.none in
     let link : Link = record { relay = h.relay; stream = Made (new_stream t) } in
-    let life : Life = record { relay = h.relay; own = Some (new_stream t); dials = dials h.relay.line; to = None; acts = [] } in
+    let life : Life = record { relay = h.relay; own = Some (new_stream t); dials = dials h.relay.line; joined = Some course.joins; to = None; acts = [] } in
     let its : IsLife most life link = record {
       relay_is = refl;
       own_is = refl;
@@ -472,7 +472,7 @@ joins l t old new framer stage desk h = λ most course is.
       owed = omega (arith, none);
       few = omega arith;
     } in
-    let one : JoinsOne f t course.lives (course.lives ++ life ∷ []) = record {
+    let one : JoinsOne f t course.joins course.lives (course.lives ++ life ∷ []) = record {
       relay = h.relay;
       joined = subst (λ (b : Bool). IsJoined b (are_crowded course.lives) f t h.relay) (sym (full-same most course.lives old is.lives))
           (subst (λ (b : Bool). IsJoined (is_full old) b f t h.relay) (sym (crowded-same most course.lives old is.lives)) h.joined);
@@ -481,16 +481,23 @@ joins l t old new framer stage desk h = λ most course is.
       fresh = none-lives most (has_stream t) (has_number t) (living.has-number t most) course.lives old is.lives
           (numbers-none t old h.fresh);
       more = refl;
-    } in (
-      record course { lives = course.lives ++ life ∷ [] },
+    } in
+    let went = with-links most most course old (old ++ link ∷ []) framer stage desk is (course.lives ++ life ∷ [])
+    (both-append most course.lives (life ∷ []) old (link ∷ []) is.lives (its, tt)) in
+    let more : Course = record course { lives = course.lives ++ life ∷ []; joins = course.joins + 1 } in (
+      more,
       (
         course.lives ++ life ∷ [],
-        subst (λ (d : Desk). JoinsOne (find (has_listener l) d.all) t course.lives (course.lives ++ life ∷ [])) (sym is.desk_is) one,
+        subst (λ (d : Desk). JoinsOne (find (has_listener l) d.all) t course.joins course.lives (course.lives ++ life ∷ [])) (sym is.desk_is) one,
         refl,
       ),
-      of-same most (record course { lives = course.lives ++ life ∷ [] }) framer stage desk (old ++ link ∷ []) new h.more
-          (with-links most most course old (old ++ link ∷ []) framer stage desk is (course.lives ++ life ∷ [])
-          (both-append most course.lives (life ∷ []) old (link ∷ []) is.lives (its, tt))),
+      of-same most more framer stage desk (old ++ link ∷ []) new h.more (record {
+        lives = went.lives;
+        past = went.past;
+        framer_is = went.framer_is;
+        stage_is = went.stage_is;
+        desk_is = went.desk_is;
+      }),
     )
 
 silent-later : (o : Option OwnStream) (ss : List OwnStream) (t : ℕ) → is_silent t (cons_option o ss) ≡ false → is_silent t ss ≡ false

@@ -4,11 +4,13 @@ use Rattle.std.specs.Prelude.{not, filter, find, is_some, IfSome}
 use Rattle.std.specs.List.{position}
 use Rattle.std.proofs.lemmas.Bool.{false≢true}
 use Rattle.proxy_frames.specs.State.{FramerState}
+use Rattle.mux_outside.specs.House.{Known, NumberFits}
+use Rattle.mux_outside.specs.Streams.{among}
 use Rattle.mux_outside.specs.declared.house.HouseReply.{HouseReply}
 use Rattle.house_forward.specs.Asks.{answer_of, after_answer, settled, counted}
 use Rattle.house_forward.specs.Desk.{Desk, desk_of, Answers, greeting_said, request_said, OrdersListener, MakesListener, EndsListener}
 use Rattle.house_forward.specs.Forwardings.{is_first_to_listen, is_ordered_first, ListensFor, Orders, Leaves, has_request, request_of, after_saying}
-use Rattle.house_forward.specs.Forwardings.{next_of, to_listen, OrderedAt, MadeAt, has_listener, made_refused, order_asks, order_done, ordered_asks, ordered_done, serial_of}
+use Rattle.house_forward.specs.Forwardings.{next_of, to_listen, listeners_of, OrderedAt, MadeAt, has_listener, made_refused, order_asks, order_done, ordered_asks, ordered_done, serial_of}
 use Rattle.house_forward.specs.Lives.{Held, DeskGoes, GoesFurther, SaysIn, held, held_of}
 use Rattle.house_forward.specs.Said.{framed, request_payload}
 use Rattle.house_forward.specs.declared.asks.Asks.{Asks}
@@ -125,19 +127,20 @@ orders-listener texts port relays framer stage gateway greeted fs asks fs' asks'
 
 makes-by : (o : Option ℕ) (number : Option ℕ) (relays : Relays) (framer : FramerState) (stage : Stage) (gateway greeted : Bool) (fs : Forwardings) (asks : Asks)
     (fs' : Forwardings) (asks' : Asks) → position to_listen fs.all.items ≡ o → is_ordered_first (find to_listen fs.all.items) ≡ true
-    → IfSome o (λ i. MadeAt number i fs.all.items fs'.all.items)
+    → IfSome number (λ l. among l (listeners_of fs.all.items) ≡ false) → IfSome o (λ i. MadeAt number i fs.all.items fs'.all.items)
     → asks'.waiting.items ≡ ordered_asks number (serial_of (find to_listen fs.all.items)) asks.done asks.waiting.items
     → asks'.done ≡ ordered_done number asks.done → fs'.serials ≡ fs.serials → fs'.requests ≡ fs.requests
     → fs'.refused ≡ made_refused number (find to_listen fs.all.items) fs.refused
     → DeskGoes (MakesListener number) (held_of relays framer stage gateway greeted fs asks) (held_of relays framer stage gateway greeted fs' asks')
-makes-by None number relays framer stage gateway greeted fs asks fs' asks' e is leaves waiting done serials requests refused =
+makes-by None number relays framer stage gateway greeted fs asks fs' asks' e is new leaves waiting done serials requests refused =
     absurd (none-waits fs.all.items e is)
-makes-by (Some i) number relays framer stage gateway greeted fs asks fs' asks' e is leaves waiting done serials requests refused =
+makes-by (Some i) number relays framer stage gateway greeted fs asks fs' asks' e is new leaves waiting done serials requests refused =
     let old = desk_of gateway greeted fs asks in (
       refl,
       record {
         place = i;
         first = e;
+        fresh = new;
         made = leaves;
         others = same-desks (desk_of gateway greeted fs' asks') (record old {
           all = fs'.all.items;
@@ -148,16 +151,22 @@ makes-by (Some i) number relays framer stage gateway greeted fs asks fs' asks' e
       },
     )
 
+-- a number that fits is that of no other listener
+pub fits-fresh : (number : Option ℕ) (known : Known) → NumberFits number known → IfSome number (λ l. among l known.listeners ≡ false)
+fits-fresh None known h = tt
+fits-fresh (Some l) known h = h.no_listener
+
 -- it is made, or couldn't be
 pub makes-listener : (number : Option ℕ) (relays : Relays) (framer : FramerState) (stage : Stage) (gateway greeted : Bool) (fs : Forwardings) (asks : Asks)
     (fs' : Forwardings) (asks' : Asks) → is_ordered_first (find to_listen fs.all.items) ≡ true
+    → IfSome number (λ l. among l (listeners_of fs.all.items) ≡ false)
     → IfSome (position to_listen fs.all.items) (λ i. MadeAt number i fs.all.items fs'.all.items)
     → asks'.waiting.items ≡ ordered_asks number (serial_of (find to_listen fs.all.items)) asks.done asks.waiting.items
     → asks'.done ≡ ordered_done number asks.done → fs'.serials ≡ fs.serials → fs'.requests ≡ fs.requests
     → fs'.refused ≡ made_refused number (find to_listen fs.all.items) fs.refused
     → DeskGoes (MakesListener number) (held_of relays framer stage gateway greeted fs asks) (held_of relays framer stage gateway greeted fs' asks')
-makes-listener number relays framer stage gateway greeted fs asks fs' asks' is leaves waiting done serials requests refused =
-    makes-by (position to_listen fs.all.items) number relays framer stage gateway greeted fs asks fs' asks' refl is leaves waiting done serials requests refused
+makes-listener number relays framer stage gateway greeted fs asks fs' asks' is new leaves waiting done serials requests refused =
+    makes-by (position to_listen fs.all.items) number relays framer stage gateway greeted fs asks fs' asks' refl is new leaves waiting done serials requests refused
 
 -- ---- asks
 

@@ -31,34 +31,34 @@ use Rattle.house_forward.proofs.Sound.{Each, All, Sound, KeptSound, Both, with-s
 
 -- ---- where an OPEN is to be said, it is for what was joined
 
-abbrev RightFor : List HouseCall → Option OwnStream → List ℕ → ℕ → Option ℕ → Type 0
-RightFor calls own host port None = IsJoinedFor calls own (ConnectsTo host port)
-RightFor calls own host port (Some version) = IsJoinedFor calls own IsDynamic
+abbrev RightFor : List HouseCall → Option OwnStream → Option ℕ → List ℕ → ℕ → Option ℕ → Type 0
+RightFor calls own nth host port None = IsJoinedFor calls own nth (ConnectsTo host port)
+RightFor calls own nth host port (Some version) = IsJoinedFor calls own nth IsDynamic
 
-abbrev Right : List HouseCall → Option OwnStream → Line → Type 0
-Right calls own (Dialing dialog) = IsJoinedFor calls own IsDynamic
-Right calls own (Asked host port version) = RightFor calls own host port version
-Right calls own (Opened version) = Unit {0}
-Right calls own (Offered remote window maximum) = Unit {0}
-Right calls own (Live live) = Unit {0}
-Right calls own Over = Unit {0}
+abbrev Right : List HouseCall → Option OwnStream → Option ℕ → Line → Type 0
+Right calls own nth (Dialing dialog) = IsJoinedFor calls own nth IsDynamic
+Right calls own nth (Asked host port version) = RightFor calls own nth host port version
+Right calls own nth (Opened version) = Unit {0}
+Right calls own nth (Offered remote window maximum) = Unit {0}
+Right calls own nth (Live live) = Unit {0}
+Right calls own nth Over = Unit {0}
 
 record Aimed (calls : List HouseCall) (l : Life) : Type 0 where
-  right : Right calls l.own l.relay.line
+  right : Right calls l.own l.joined l.relay.line
   unmade_none : is_unmade l ≡ true → may_open l.relay.line ≡ false
 
-none-right : (calls : List HouseCall) (own : Option OwnStream) (line : Line) → may_open line ≡ false → Right calls own line
-none-right calls own (Dialing dialog) e = cc
-none-right calls own (Asked host port version) e = cc
-none-right calls own (Opened version) e = tt
-none-right calls own (Offered remote window maximum) e = tt
-none-right calls own (Live live) e = tt
-none-right calls own Over e = tt
+none-right : (calls : List HouseCall) (own : Option OwnStream) (nth : Option ℕ) (line : Line) → may_open line ≡ false → Right calls own nth line
+none-right calls own nth (Dialing dialog) e = cc
+none-right calls own nth (Asked host port version) e = cc
+none-right calls own nth (Opened version) e = tt
+none-right calls own nth (Offered remote window maximum) e = tt
+none-right calls own nth (Live live) e = tt
+none-right calls own nth Over e = tt
 
-settles-right : (calls : List HouseCall) (own : Option OwnStream) (old new : Line) → Settles old new → Right calls own old
-    → Right calls own new
-settles-right calls own old new (inl e) h = none-right calls own new e
-settles-right calls own old new (inr e) h = subst (Right calls own) (sym e) h
+settles-right : (calls : List HouseCall) (own : Option OwnStream) (nth : Option ℕ) (old new : Line) → Settles old new → Right calls own nth old
+    → Right calls own nth new
+settles-right calls own nth old new (inl e) h = none-right calls own nth new e
+settles-right calls own nth old new (inr e) h = subst (Right calls own nth) (sym e) h
 
 settles-none : (old new : Line) → Settles old new → may_open old ≡ false → may_open new ≡ false
 settles-none old new (inl e) h = e
@@ -68,8 +68,9 @@ settles-none old new (inr e) h = ap may_open e ∙ h
 aimed-on : (calls : List HouseCall) (so : Relay → Relay → Type 0) (act : Act) (a b : Life) → GoesBy so act a b
     → Settles a.relay.line b.relay.line → b.relay.socket ≡ a.relay.socket → Aimed calls a → Aimed calls b
 aimed-on calls so act a b h settles same p = record {
-  right = subst (λ (own : Option OwnStream). Right calls own b.relay.line) (sym h.own)
-      (settles-right calls a.own a.relay.line b.relay.line settles p.right);
+  right = subst (λ (own : Option OwnStream). Right calls own b.joined b.relay.line) (sym h.own)
+      (subst (λ (nth : Option ℕ). Right calls a.own nth b.relay.line) (sym h.joined)
+      (settles-right calls a.own a.joined a.relay.line b.relay.line settles p.right));
   unmade_none = λ e. settles-none a.relay.line b.relay.line settles (p.unmade_none (ap unmade (sym same) ∙ e));
 }
 
@@ -82,110 +83,113 @@ its-after step.Close (Some own) n h = tt
 its-after step.Writable (Some own) n h = h
 its-after step.Failed (Some own) n h = h
 
-joined-after : (calls : List HouseCall) (s : Step) (own : Option OwnStream) (so : Forwarding → Type 0) → IsJoinedFor calls own so
-    → IsJoinedFor calls (own_after s own) so
-joined-after calls s own so h = record {
+joined-after : (calls : List HouseCall) (s : Step) (own : Option OwnStream) (nth : Option ℕ) (so : Forwarding → Type 0) → IsJoinedFor calls own nth so
+    → IsJoinedFor calls (own_after s own) nth so
+joined-after calls s own nth so h = record {
   listener = h.listener;
   stream = h.stream;
   course = h.course;
   forwarding = h.forwarding;
   joined = h.joined;
+  which = h.which;
   found = h.found;
   its = its-after s own h.stream h.its;
   right = h.right;
 }
 
-asked-after : (calls : List HouseCall) (s : Step) (own : Option OwnStream) (host : List ℕ) (port : ℕ) (version : Option ℕ)
-    → RightFor calls own host port version → RightFor calls (own_after s own) host port version
-asked-after calls s own host port None h = joined-after calls s own (ConnectsTo host port) h
-asked-after calls s own host port (Some version) h = joined-after calls s own IsDynamic h
+asked-after : (calls : List HouseCall) (s : Step) (own : Option OwnStream) (nth : Option ℕ) (host : List ℕ) (port : ℕ) (version : Option ℕ)
+    → RightFor calls own nth host port version → RightFor calls (own_after s own) nth host port version
+asked-after calls s own nth host port None h = joined-after calls s own nth (ConnectsTo host port) h
+asked-after calls s own nth host port (Some version) h = joined-after calls s own nth IsDynamic h
 
-right-after : (calls : List HouseCall) (s : Step) (own : Option OwnStream) (line : Line) → Right calls own line
-    → Right calls (own_after s own) line
-right-after calls s own (Dialing dialog) h = joined-after calls s own IsDynamic h
-right-after calls s own (Asked host port version) h = asked-after calls s own host port version h
-right-after calls s own (Opened version) h = tt
-right-after calls s own (Offered remote window maximum) h = tt
-right-after calls s own (Live live) h = tt
-right-after calls s own Over h = tt
+right-after : (calls : List HouseCall) (s : Step) (own : Option OwnStream) (nth : Option ℕ) (line : Line) → Right calls own nth line
+    → Right calls (own_after s own) nth line
+right-after calls s own nth (Dialing dialog) h = joined-after calls s own nth IsDynamic h
+right-after calls s own nth (Asked host port version) h = asked-after calls s own nth host port version h
+right-after calls s own nth (Opened version) h = tt
+right-after calls s own nth (Offered remote window maximum) h = tt
+right-after calls s own nth (Live live) h = tt
+right-after calls s own nth Over h = tt
 
 -- ---- its socket gives bytes
 
-asked-dialed : (calls : List HouseCall) (own : Option OwnStream) (host : List ℕ) (port : ℕ) (version : Option ℕ) (dials : Bool)
-    (acts : List Act) → LineStands (Asked host port version) dials acts → dials ≡ true → IsJoinedFor calls own IsDynamic
-    → RightFor calls own host port version
-asked-dialed calls own host port None dials acts stands e h = absurd (both_ways dials stands.waits e)
-asked-dialed calls own host port (Some version) dials acts stands e h = h
+asked-dialed : (calls : List HouseCall) (own : Option OwnStream) (nth : Option ℕ) (host : List ℕ) (port : ℕ) (version : Option ℕ) (dials : Bool)
+    (acts : List Act) → LineStands (Asked host port version) dials acts → dials ≡ true → IsJoinedFor calls own nth IsDynamic
+    → RightFor calls own nth host port version
+asked-dialed calls own nth host port None dials acts stands e h = absurd (both_ways dials stands.waits e)
+asked-dialed calls own nth host port (Some version) dials acts stands e h = h
 
-dialed-right : (calls : List HouseCall) (own : Option OwnStream) (line : Line) (dials : Bool) (acts : List Act)
-    → LineStands line dials acts → dials ≡ true → IsJoinedFor calls own IsDynamic → Right calls own line
-dialed-right calls own (Dialing dialog) dials acts stands e h = h
-dialed-right calls own (Asked host port version) dials acts stands e h = asked-dialed calls own host port version dials acts stands e h
-dialed-right calls own (Opened version) dials acts stands e h = tt
-dialed-right calls own (Offered remote window maximum) dials acts stands e h = tt
-dialed-right calls own (Live live) dials acts stands e h = tt
-dialed-right calls own Over dials acts stands e h = tt
+dialed-right : (calls : List HouseCall) (own : Option OwnStream) (nth : Option ℕ) (line : Line) (dials : Bool) (acts : List Act)
+    → LineStands line dials acts → dials ≡ true → IsJoinedFor calls own nth IsDynamic → Right calls own nth line
+dialed-right calls own nth (Dialing dialog) dials acts stands e h = h
+dialed-right calls own nth (Asked host port version) dials acts stands e h = asked-dialed calls own nth host port version dials acts stands e h
+dialed-right calls own nth (Opened version) dials acts stands e h = tt
+dialed-right calls own nth (Offered remote window maximum) dials acts stands e h = tt
+dialed-right calls own nth (Live live) dials acts stands e h = tt
+dialed-right calls own nth Over dials acts stands e h = tt
 
 gets-right : (calls : List HouseCall) (line : Line) (free : Bool) (bytes : List ℕ) (a b : Life) → a.relay.line ≡ line
-    → DialsIn line free bytes a.relay b.relay → Sound a → Sound b → b.dials ≡ a.dials → Right calls a.own line
-    → Right calls a.own b.relay.line
+    → DialsIn line free bytes a.relay b.relay → Sound a → Sound b → b.dials ≡ a.dials → Right calls a.own a.joined line
+    → Right calls a.own a.joined b.relay.line
 gets-right calls (Dialing dialog) free bytes a b e h s s' same right =
     let its : LineStands (Dialing dialog) a.dials a.acts = subst (λ (x : Line). LineStands x a.dials a.acts) e s.stands.line in
-    dialed-right calls a.own b.relay.line b.dials b.acts s'.stands.line (same ∙ its.socks) right
-gets-right calls (Asked host port version) free bytes a b e h s s' same right = subst (Right calls a.own) (sym (h.0 ∙ e)) right
-gets-right calls (Opened version) free bytes a b e h s s' same right = subst (Right calls a.own) (sym (h.0 ∙ e)) right
-gets-right calls (Offered remote window maximum) free bytes a b e h s s' same right = subst (Right calls a.own) (sym (h.0 ∙ e)) right
-gets-right calls (Live live) free bytes a b e h s s' same right = subst (Right calls a.own) (sym (h.0 ∙ e)) right
-gets-right calls Over free bytes a b e h s s' same right = subst (Right calls a.own) (sym (h.0 ∙ e)) right
+    dialed-right calls a.own a.joined b.relay.line b.dials b.acts s'.stands.line (same ∙ its.socks) right
+gets-right calls (Asked host port version) free bytes a b e h s s' same right = subst (Right calls a.own a.joined) (sym (h.0 ∙ e)) right
+gets-right calls (Opened version) free bytes a b e h s s' same right = subst (Right calls a.own a.joined) (sym (h.0 ∙ e)) right
+gets-right calls (Offered remote window maximum) free bytes a b e h s s' same right = subst (Right calls a.own a.joined) (sym (h.0 ∙ e)) right
+gets-right calls (Live live) free bytes a b e h s s' same right = subst (Right calls a.own a.joined) (sym (h.0 ∙ e)) right
+gets-right calls Over free bytes a b e h s s' same right = subst (Right calls a.own a.joined) (sym (h.0 ∙ e)) right
 
 -- ---- one is joined
 
-surplus-right : (calls : List HouseCall) (t : ℕ) (r : Relay) → IsSurplus t r → Right calls (Some (new_stream t)) r.line
-surplus-right calls t r h = none-right calls (Some (new_stream t)) r.line (ap (λ (x : Relay). may_open x.line) h)
+surplus-right : (calls : List HouseCall) (joins t : ℕ) (r : Relay) → IsSurplus t r → Right calls (Some (new_stream t)) (Some joins) r.line
+surplus-right calls joins t r h = none-right calls (Some (new_stream t)) (Some joins) r.line (ap (λ (x : Relay). may_open x.line) h)
 
-record JoinedThere (calls : List HouseCall) (l t : ℕ) (f : Forwarding) : Type 0 where
+record JoinedThere (calls : List HouseCall) (joins l t : ℕ) (f : Forwarding) : Type 0 where
   course : Course
+  which : joins ≡ course.joins
   joined : IsBefore calls (Turns (Joined l t)) course
   found : find (has_listener l) course.desk.all ≡ Some f
 
-joined-for : (calls : List HouseCall) (l t : ℕ) (f : Forwarding) (so : Forwarding → Type 0) → JoinedThere calls l t f → so f
-    → IsJoinedFor calls (Some (new_stream t)) so
-joined-for calls l t f so h right = record {
+joined-for : (calls : List HouseCall) (joins l t : ℕ) (f : Forwarding) (so : Forwarding → Type 0) → JoinedThere calls joins l t f → so f
+    → IsJoinedFor calls (Some (new_stream t)) (Some joins) so
+joined-for calls joins l t f so h right = record {
   listener = l;
   stream = t;
   course = h.course;
   forwarding = f;
   joined = h.joined;
+  which = ap (λ n. Some n) h.which;
   found = h.found;
   its = refl;
   right = right;
 }
 
-plain-right : (calls : List HouseCall) (l t : ℕ) (f : Forwarding) (r : Relay) → JoinedThere calls l t f → IsPlain f.kind
-    → r ≡ fresh_relay r.number (Asked f.connect_host f.connect_port None) (socket.Open t) → Right calls (Some (new_stream t)) r.line
-plain-right calls l t f r there plain e =
-    subst (Right calls (Some (new_stream t))) (sym (ap (λ (x : Relay). x.line) e))
-    (joined-for calls l t f (ConnectsTo f.connect_host f.connect_port) there (record { plain = plain; to_host = refl; to_port = refl }))
+plain-right : (calls : List HouseCall) (joins l t : ℕ) (f : Forwarding) (r : Relay) → JoinedThere calls joins l t f → IsPlain f.kind
+    → r ≡ fresh_relay r.number (Asked f.connect_host f.connect_port None) (socket.Open t) → Right calls (Some (new_stream t)) (Some joins) r.line
+plain-right calls joins l t f r there plain e =
+    subst (Right calls (Some (new_stream t)) (Some joins)) (sym (ap (λ (x : Relay). x.line) e))
+    (joined-for calls joins l t f (ConnectsTo f.connect_host f.connect_port) there (record { plain = plain; to_host = refl; to_port = refl }))
 
-dynamic-right : (calls : List HouseCall) (l t : ℕ) (f : Forwarding) (crowded : Bool) (r : Relay) → JoinedThere calls l t f → IsDynamic f
-    → DialsFor crowded t r → Right calls (Some (new_stream t)) r.line
-dynamic-right calls l t f true r there dynamic h = surplus-right calls t r h
-dynamic-right calls l t f false r there dynamic h =
-    subst (Right calls (Some (new_stream t))) (sym (ap (λ (x : Relay). x.line) h)) (joined-for calls l t f IsDynamic there dynamic)
+dynamic-right : (calls : List HouseCall) (joins l t : ℕ) (f : Forwarding) (crowded : Bool) (r : Relay) → JoinedThere calls joins l t f → IsDynamic f
+    → DialsFor crowded t r → Right calls (Some (new_stream t)) (Some joins) r.line
+dynamic-right calls joins l t f true r there dynamic h = surplus-right calls joins t r h
+dynamic-right calls joins l t f false r there dynamic h =
+    subst (Right calls (Some (new_stream t)) (Some joins)) (sym (ap (λ (x : Relay). x.line) h)) (joined-for calls joins l t f IsDynamic there dynamic)
 
-joined-at : (calls : List HouseCall) (l t : ℕ) (f : Forwarding) (kind : Kind) (crowded : Bool) (r : Relay) → JoinedThere calls l t f
-    → f.kind ≡ kind → IsJoinedAt kind crowded f t r → Right calls (Some (new_stream t)) r.line
-joined-at calls l t f Local crowded r there e h = plain-right calls l t f r there (subst IsPlain (sym e) tt) h
-joined-at calls l t f Remote crowded r there e h = plain-right calls l t f r there (subst IsPlain (sym e) tt) h
-joined-at calls l t f Dynamic crowded r there e h = dynamic-right calls l t f crowded r there e h
+joined-at : (calls : List HouseCall) (joins l t : ℕ) (f : Forwarding) (kind : Kind) (crowded : Bool) (r : Relay) → JoinedThere calls joins l t f
+    → f.kind ≡ kind → IsJoinedAt kind crowded f t r → Right calls (Some (new_stream t)) (Some joins) r.line
+joined-at calls joins l t f Local crowded r there e h = plain-right calls joins l t f r there (subst IsPlain (sym e) tt) h
+joined-at calls joins l t f Remote crowded r there e h = plain-right calls joins l t f r there (subst IsPlain (sym e) tt) h
+joined-at calls joins l t f Dynamic crowded r there e h = dynamic-right calls joins l t f crowded r there e h
 
 joined-right : (calls : List HouseCall) (l t : ℕ) (full crowded : Bool) (o : Option Forwarding) (course : Course) (r : Relay)
     → IsBefore calls (Turns (Joined l t)) course → find (has_listener l) course.desk.all ≡ o → IsJoined full crowded o t r
-    → Right calls (Some (new_stream t)) r.line
-joined-right calls l t true crowded o course r before e h = surplus-right calls t r h
-joined-right calls l t false crowded None course r before e h = surplus-right calls t r h
+    → Right calls (Some (new_stream t)) (Some course.joins) r.line
+joined-right calls l t true crowded o course r before e h = surplus-right calls course.joins t r h
+joined-right calls l t false crowded None course r before e h = surplus-right calls course.joins t r h
 joined-right calls l t false crowded (Some f) course r before e h =
-    joined-at calls l t f f.kind crowded r (record { course = course; joined = before; found = e }) refl h
+    joined-at calls course.joins l t f f.kind crowded r (record { course = course; which = refl; joined = before; found = e }) refl h
 
 -- ---- all steps
 
@@ -200,27 +204,28 @@ aimed : (calls : List HouseCall) → KeptSound (IsBefore calls) (Aimed calls)
 aimed calls = record {
   says = λ bytes a b s p is h. (
       let none = ap (λ (r : Relay). may_open r.line) h.1.relay.0 ∙ (spoken a.relay is).settled in
-      record { right = none-right calls b.own b.relay.line none; unmade_none = λ e. none }
+      record { right = none-right calls b.own b.joined b.relay.line none; unmade_none = λ e. none }
       );
   hears = λ m a b s p h. aimed-on calls _ _ a b h (settles-hears m a b h)
       (ap (λ (r : Relay). r.socket) h.relay.0 ∙ (stays-heard m a.relay).socket_is) p;
   gets = λ t bytes old now a b s s' p is h. record {
-    right = subst (λ (own : Option OwnStream). Right calls own b.relay.line) (sym h.own)
-        (gets-right calls a.relay.line (not (are_full old.lives)) bytes a b refl h.relay.0 s s' h.dials p.right);
+    right = subst (λ (own : Option OwnStream). Right calls own b.joined b.relay.line) (sym h.own)
+        (subst (λ (nth : Option ℕ). Right calls a.own nth b.relay.line) (sym h.joined)
+        (gets-right calls a.relay.line (not (are_full old.lives)) bytes a b refl h.relay.0 s s' h.dials p.right));
     unmade_none = not-unmade b (owned t b.own b.relay.socket (ap (is_stream t) h.own ∙ is) s'.stream);
   };
   takes = λ t n a b s p is h. aimed-on calls _ _ a b h (settles-takes n a b h) (ap (λ (r : Relay). r.socket) h.relay.0) p;
   steps = λ s t call old now causes a sounds p is. record {
-    right = subst (Right calls (own_after s a.own)) (sym (line-step s a.relay)) (right-after calls s a.own a.relay.line p.right);
+    right = subst (Right calls (own_after s a.own) a.joined) (sym (line-step s a.relay)) (right-after calls s a.own a.joined a.relay.line p.right);
     unmade_none = not-unmade (step_of s a) (step-made s a.relay (owned t a.own a.relay.socket is sounds.stream));
   };
   makes = λ host port number old now a s p is. record {
-    right = none-right calls (made_life number a).own a.relay.line (p.unmade_none is);
+    right = none-right calls (made_life number a).own a.joined a.relay.line (p.unmade_none is);
     unmade_none = not-unmade (made_life number a) (made-none number a);
   };
   joins = λ l t old now r h. record {
     right = joined-right calls l t (are_full old.lives) (are_crowded old.lives) (find (has_listener l) old.desk.all) old r now refl h;
-    unmade_none = not-unmade (joined_life t r)
+    unmade_none = not-unmade (joined_life old.joins t r)
         (streamed r.socket t (joined (are_full old.lives) (are_crowded old.lives) (find (has_listener l) old.desk.all) t r h).stream);
   };
   offers = λ f number remote window maximum. record { right = tt; unmade_none = λ e. refl };
@@ -235,7 +240,7 @@ all-aimed calls course h =
 -- ---- what is said
 
 goes-to : (calls : List HouseCall) (l : Life) (host : List ℕ) (port : ℕ) (version : Option ℕ) → LineStands (Asked host port version) l.dials l.acts
-    → RightFor calls l.own host port version → IsJoinedFor calls l.own (ConnectsTo host port) ⊎ IsDialed calls l host port
+    → RightFor calls l.own l.joined host port version → IsJoinedFor calls l.own l.joined (ConnectsTo host port) ⊎ IsDialed calls l host port
 goes-to calls l host port None stands h = inl h
 goes-to calls l host port (Some version) stands h = inr (record { joined = h; asks = stands.waits.2 })
 
@@ -255,7 +260,7 @@ says-right calls lives before l behind bytes were p is e (inr x) = record {
   were = were;
   says = e ∙ ap framed x.3.words;
   goes = goes-to calls l x.0 x.1 x.2 (subst (λ (line : Line). LineStands line l.dials l.acts) x.3.asked p.0.stands.line)
-      (subst (Right calls l.own) x.3.asked p.1.right);
+      (subst (Right calls l.own l.joined) x.3.asked p.1.right);
 }
 
 opens-right : (calls : List HouseCall) (b : Bool) (o : Option Forwarding) (bytes : List ℕ) (old new : Course)

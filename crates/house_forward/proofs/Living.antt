@@ -96,6 +96,7 @@ onward so act least most life link r is goes on socket owed few = record {
     relay = subst (λ (z : Relay). so z r) (sym is.relay_is) goes;
     own = refl;
     dials = refl;
+    joined = refl;
     to = refl;
     acts = ap (λ (z : Relay). act z ∷ life.acts) (sym is.relay_is);
   };

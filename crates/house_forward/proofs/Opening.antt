@@ -377,18 +377,18 @@ marks-count (HouseAnswer client id reply) old new h =
     let all = same-count old new (ap (λ (c : Course). c.lives) h.2) in omega (arith, all)
 marks-count (HouseOrder o number) old new h = let all = orders-count o number old new h in omega (arith, all)
 
-turns-count : (happening : Happening) (fs : List Forwarding) (old new : List Life) → TurnsTo happening fs old new
+turns-count : (happening : Happening) (joins : ℕ) (fs : List Forwarding) (old new : List Life) → TurnsTo happening joins fs old new
     → count new ≤ joins_by_turn happening + count old
-turns-count (Joined l t) fs old new h =
-    let more = count-append old (joined_life t h.relay ∷ []) in
+turns-count (Joined l t) joins fs old new h =
+    let more = count-append old (joined_life joins t h.relay ∷ []) in
     let most = one-most (may_open h.relay.line) in
     let are = ap count h.more in
     omega (arith, more, most, are)
-turns-count (Got t bytes) fs old new h =
+turns-count (Got t bytes) joins fs old new h =
     let less = count-most (has_stream t) _ old new (λ a b is goes. gets-one (not (are_full old)) bytes a b goes) h in omega (arith, less)
-turns-count (End t) fs old new h = let are = ap count h in let same = count-stepped step.End t old in omega (arith, are, same)
-turns-count (Writable t) fs old new h = let are = ap count h in let same = count-stepped step.Writable t old in omega (arith, are, same)
-turns-count (Failed t) fs old new h = let are = ap count h in let same = count-stepped step.Failed t old in omega (arith, are, same)
+turns-count (End t) joins fs old new h = let are = ap count h in let same = count-stepped step.End t old in omega (arith, are, same)
+turns-count (Writable t) joins fs old new h = let are = ap count h in let same = count-stepped step.Writable t old in omega (arith, are, same)
+turns-count (Failed t) joins fs old new h = let are = ap count h in let same = count-stepped step.Failed t old in omega (arith, are, same)
 
 follow-count : (call : HouseCall) (old new : Course) → Follows call old new → All Sound old
     → opens_by call + count new.lives ≤ joins_by call + count old.lives
@@ -399,7 +399,7 @@ follow-count (HearsBytes bytes) old new h s =
     (record { lives = s.lives; past = s.past }) (omega arith) in
     omega (arith, all)
 follow-count (Turns happening) old new h s =
-    let all = turns-count happening old.desk.all old.lives h.0 h.1 in
+    let all = turns-count happening old.joins old.desk.all old.lives h.0 h.1 in
     let are = ap (λ (c : Course). count c.lives) h.2 in
     omega (arith, all, are)
 follow-count (TakesBytes t n) old new h s =

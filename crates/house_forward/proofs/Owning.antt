@@ -272,14 +272,14 @@ channels-mark (HouseAsked client id opening ask reply) old new h a = subst (λ (
 channels-mark (HouseAnswer client id reply) old new h a = subst (λ (c : Course). ChannelsApart c.lives) (sym h.2) a
 channels-mark (HouseOrder o number) old new h a = channels-order o number old new h a
 
-channels-turn : (happening : Happening) (fs : List Forwarding) (old new : List Life) → TurnsTo happening fs old new → ChannelsApart old
+channels-turn : (happening : Happening) (joins : ℕ) (fs : List Forwarding) (old new : List Life) → TurnsTo happening joins fs old new → ChannelsApart old
     → ChannelsApart new
-channels-turn (Joined l t) fs old new h a = subst ChannelsApart (sym h.more) (one-more old (joined_life t h.relay) h.free a)
-channels-turn (Got t bytes) fs old new h a =
+channels-turn (Joined l t) joins fs old new h a = subst ChannelsApart (sym h.more) (one-more old (joined_life joins t h.relay) h.free a)
+channels-turn (Got t bytes) joins fs old new h a =
     subst Apart (sym (most-maps channel (has_stream t) _ old new (gets-same (not (are_full old)) bytes) h)) a
-channels-turn (End t) fs old new h a = subst ChannelsApart (sym h) (subst Apart (sym (stepped-same step.End t old)) a)
-channels-turn (Writable t) fs old new h a = subst ChannelsApart (sym h) (subst Apart (sym (stepped-same step.Writable t old)) a)
-channels-turn (Failed t) fs old new h a = subst ChannelsApart (sym h) (subst Apart (sym (stepped-same step.Failed t old)) a)
+channels-turn (End t) joins fs old new h a = subst ChannelsApart (sym h) (subst Apart (sym (stepped-same step.End t old)) a)
+channels-turn (Writable t) joins fs old new h a = subst ChannelsApart (sym h) (subst Apart (sym (stepped-same step.Writable t old)) a)
+channels-turn (Failed t) joins fs old new h a = subst ChannelsApart (sym h) (subst Apart (sym (stepped-same step.Failed t old)) a)
 
 channels-follow : (call : HouseCall) (old new : Course) → Follows call old new → All Sound old → ChannelsApart old.lives
     → ChannelsApart new.lives
@@ -289,7 +289,7 @@ channels-follow (HearsBytes bytes) old new h s a =
     frames (λ ls taken. ChannelsApart ls) heeds-channels h.0 (with_heard bytes old) new [] h.1
     (record { lives = s.lives; past = s.past }) a
 channels-follow (Turns happening) old new h s a =
-    subst (λ (c : Course). ChannelsApart c.lives) (sym h.2) (channels-turn happening old.desk.all old.lives h.0 h.1 a)
+    subst (λ (c : Course). ChannelsApart c.lives) (sym h.2) (channels-turn happening old.joins old.desk.all old.lives h.0 h.1 a)
 channels-follow (TakesBytes t n) old new h s a =
     subst (λ (c : Course). ChannelsApart c.lives) (sym h.2)
     (subst Apart (sym (most-maps channel (has_stream t) (GoesBy (TakesOn n) (Takes n)) old.lives h.0 (takes-same n) h.1)) a)
@@ -440,14 +440,14 @@ streams-mark (HouseAsked client id opening ask reply) old new h s = more _ _ (ap
 streams-mark (HouseAnswer client id reply) old new h s = more _ _ (ap (λ (c : Course). open_streams c.lives) h.2)
 streams-mark (HouseOrder o number) old new h s = streams-order o number old new h s
 
-streams-turn : (happening : Happening) (fs : List Forwarding) (old new : List Life) → TurnsTo happening fs old new → Each Sound old
+streams-turn : (happening : Happening) (joins : ℕ) (fs : List Forwarding) (old new : List Life) → TurnsTo happening joins fs old new → Each Sound old
     → open_streams new ≡ after (Turns happening) (open_streams old)
-streams-turn (Joined l t) fs old new h s = ap open_streams h.more ∙ pick-push stream old (joined_life t h.relay)
-streams-turn (Got t bytes) fs old new h s =
+streams-turn (Joined l t) joins fs old new h s = ap open_streams h.more ∙ pick-push stream old (joined_life joins t h.relay)
+streams-turn (Got t bytes) joins fs old new h s =
     more _ _ (most-picks stream Sound (has_stream t) _ old new (λ a b x is goes. goes-same _ _ a b goes) s h)
-streams-turn (End t) fs old new h s = more _ _ (ap open_streams h ∙ step-streams step.End tt t old s)
-streams-turn (Writable t) fs old new h s = more _ _ (ap open_streams h ∙ step-streams step.Writable tt t old s)
-streams-turn (Failed t) fs old new h s = more _ _ (ap open_streams h ∙ step-streams step.Failed tt t old s)
+streams-turn (End t) joins fs old new h s = more _ _ (ap open_streams h ∙ step-streams step.End tt t old s)
+streams-turn (Writable t) joins fs old new h s = more _ _ (ap open_streams h ∙ step-streams step.Writable tt t old s)
+streams-turn (Failed t) joins fs old new h s = more _ _ (ap open_streams h ∙ step-streams step.Failed tt t old s)
 
 pub streams-follow : (call : HouseCall) (old new : Course) → Follows call old new → All Sound old
     → open_streams new.lives ≡ after call (open_streams old.lives)
@@ -457,7 +457,7 @@ streams-follow (HearsBytes bytes) old new h s =
     more _ _ (frames (λ ls taken. open_streams ls ≡ open_streams old.lives) (heeds-streams (open_streams old.lives)) h.0 (with_heard bytes old) new []
     h.1 (record { lives = s.lives; past = s.past }) refl)
 streams-follow (Turns happening) old new h s =
-    ap (λ (c : Course). open_streams c.lives) h.2 ∙ streams-turn happening old.desk.all old.lives h.0 h.1 s.lives
+    ap (λ (c : Course). open_streams c.lives) h.2 ∙ streams-turn happening old.joins old.desk.all old.lives h.0 h.1 s.lives
 streams-follow (TakesBytes t n) old new h s =
     more _ _ (ap (λ (c : Course). open_streams c.lives) h.2
     ∙ most-picks stream Sound (has_stream t) (GoesBy (TakesOn n) (Takes n)) old.lives h.0 (λ a b x is goes. goes-same _ _ a b goes) s.lives h.1)
@@ -531,7 +531,7 @@ new-mark (HouseAsked client id opening ask reply) old new h = tt
 new-mark (HouseAnswer client id reply) old new h = tt
 new-mark (HouseOrder o number) old new h = new-order o number old new h
 
-new-turn : (happening : Happening) (old : Course) (new : List Life) → TurnsTo happening old.desk.all old.lives new
+new-turn : (happening : Happening) (old : Course) (new : List Life) → TurnsTo happening old.joins old.desk.all old.lives new
     → IsNew (Turns happening) old
 new-turn (Joined l t) old new h = among-none t old.lives h.fresh
 new-turn (Got t bytes) old new h = tt

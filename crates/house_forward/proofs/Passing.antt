@@ -148,7 +148,7 @@ pub record Passes (call : HouseCall) (old : Course) (P Q : Life → Type 0) : Ty
   pub makes : (host : List ℕ) (port : ℕ) (number : Option ℕ) → call ≡ Marks (HouseOrder (order.Connect host port) number)
       → (a : Life) → Sound a → P a → is_unmade a ≡ true → a.to ≡ Some (host, port) → Q (made_life number a)
   pub joins : (l t : ℕ) → call ≡ Turns (Joined l t) → (r : Relay)
-      → IsJoined (are_full old.lives) (are_crowded old.lives) (find (has_listener l) old.desk.all) t r → Q (joined_life t r)
+      → IsJoined (are_full old.lives) (are_crowded old.lives) (find (has_listener l) old.desk.all) t r → Q (joined_life old.joins t r)
 
 both-of : (P Q : Life → Type 0) (ls : List Life) → Each P ls → Each Q ls → Each (λ a. P a × Q a) ls
 both-of P Q [] h k = tt
@@ -297,9 +297,9 @@ pass-marks (HouseAnswer client id reply) old new P Q k h s all =
 pass-marks (HouseOrder o number) old new P Q k h s all = pass-orders o number old new P Q k h s all
 
 pass-turns : (happening : Happening) (old : Course) (new : List Life) (P Q : Life → Type 0) → Passes (Turns happening) old P Q
-    → TurnsTo happening old.desk.all old.lives new → Each Sound old.lives → Each P old.lives → Each Q new
+    → TurnsTo happening old.joins old.desk.all old.lives new → Each Sound old.lives → Each P old.lives → Each Q new
 pass-turns (Joined l t) old new P Q k h s all = subst (Each Q) (sym h.more)
-    (each-append Q old.lives (joined_life t h.relay ∷ []) (each-map P Q old.lives (λ a p. k.stays a p tt) all)
+    (each-append Q old.lives (joined_life old.joins t h.relay ∷ []) (each-map P Q old.lives (λ a p. k.stays a p tt) all)
     (k.joins l t refl h.relay h.joined, tt))
 pass-turns (Got t bytes) old new P Q k h s all =
     pass-most P Q t (GoesBy (GetsOn (not (are_full old.lives)) bytes) (Reads bytes)) old.lives new h s all (λ a p other. k.stays a p other)

@@ -61,14 +61,22 @@ each-back P (x ∷ xs) ys h = each-back P xs ys h.1
 
 -- ---- what one is as it begins, and behind a step of its stream
 
-abbrev pub joined_life : ℕ → Relay → Life
-joined_life t r = record { relay = r; own = Some (new_stream t); dials = dials r.line; to = None; acts = [] }
+abbrev pub joined_life : ℕ → ℕ → Relay → Life
+joined_life joins t r = record {
+  relay = r;
+  own = Some (new_stream t);
+  dials = dials r.line;
+  joined = Some joins;
+  to = None;
+  acts = [];
+}
 
 abbrev pub offered_life : Forwarding → ℕ → ℕ → ℕ → ℕ → Life
 offered_life f number remote window maximum = record {
   relay = fresh_relay number (OfServer remote window maximum) socket.Unmade;
   own = None;
   dials = false;
+  joined = None;
   to = Some (f.connect_host, f.connect_port);
   acts = [];
 }
@@ -102,7 +110,7 @@ pub record Kept (Now : HouseCall → Course → Type 0) (P : Life → Type 0) : 
       → Now (Marks (HouseOrder (order.Connect host port) number)) old → (a : Life) → P a → is_unmade a ≡ true
       → P (made_life number a)
   pub joins : (l t : ℕ) (old : Course) → Now (Turns (Joined l t)) old → (r : Relay)
-      → IsJoined (are_full old.lives) (are_crowded old.lives) (find (has_listener l) old.desk.all) t r → P (joined_life t r)
+      → IsJoined (are_full old.lives) (are_crowded old.lives) (find (has_listener l) old.desk.all) t r → P (joined_life old.joins t r)
   pub offers : (f : Forwarding) (number remote window maximum : ℕ) → P (offered_life f number remote window maximum)
 
 -- ---- it holds of all by one
@@ -285,9 +293,9 @@ all-marks Now P k (HouseAnswer client id reply) old new now h all = subst (All P
 all-marks Now P k (HouseOrder o number) old new now h all = all-orders Now P k o number old new now h all
 
 each-turn : (Now : HouseCall → Course → Type 0) (P : Life → Type 0) → Kept Now P → (happening : Happening) (old : Course) (new : List Life)
-    → Now (Turns happening) old → TurnsTo happening old.desk.all old.lives new → Each P old.lives → Each P new
+    → Now (Turns happening) old → TurnsTo happening old.joins old.desk.all old.lives new → Each P old.lives → Each P new
 each-turn Now P k (Joined l t) old new now h all = subst (Each P) (sym h.more)
-    (each-append P old.lives (joined_life t h.relay ∷ []) all (k.joins l t old now h.relay h.joined, tt))
+    (each-append P old.lives (joined_life old.joins t h.relay ∷ []) all (k.joins l t old now h.relay h.joined, tt))
 each-turn Now P k (Got t bytes) old new now h all =
     each-most P (has_stream t) (GoesBy (GetsOn (not (are_full old.lives)) bytes) (Reads bytes)) old.lives new
     (λ a b p is goes. k.gets t bytes old now a b p is goes) h all
@@ -382,8 +390,9 @@ sound-makes number a h = record {
   stream = own-make number;
 }
 
-pub sound-joins : (full crowded : Bool) (f : Option Forwarding) (t : ℕ) (r : Relay) → IsJoined full crowded f t r → Sound (joined_life t r)
-sound-joins full crowded f t r h =
+pub sound-joins : (full crowded : Bool) (f : Option Forwarding) (joins t : ℕ) (r : Relay) → IsJoined full crowded f t r
+    → Sound (joined_life joins t r)
+sound-joins full crowded f joins t r h =
     let begins = joined full crowded f t r h in record { stands = begins.stands; stream = begins.stream }
 
 pub sound-offers : (f : Forwarding) (number remote window maximum : ℕ) → Sound (offered_life f number remote window maximum)
@@ -404,7 +413,7 @@ pub record KeptSound (Now : HouseCall → Course → Type 0) (P : Life → Type 
       → Now (Marks (HouseOrder (order.Connect host port) number)) old → (a : Life) → Sound a → P a → is_unmade a ≡ true
       → P (made_life number a)
   pub joins : (l t : ℕ) (old : Course) → Now (Turns (Joined l t)) old → (r : Relay)
-      → IsJoined (are_full old.lives) (are_crowded old.lives) (find (has_listener l) old.desk.all) t r → P (joined_life t r)
+      → IsJoined (are_full old.lives) (are_crowded old.lives) (find (has_listener l) old.desk.all) t r → P (joined_life old.joins t r)
   pub offers : (f : Forwarding) (number remote window maximum : ℕ) → P (offered_life f number remote window maximum)
 
 abbrev pub Both : (Life → Type 0) → Life → Type 0
@@ -422,7 +431,7 @@ with-sound Now P k = record {
   steps = λ s t call old now causes a p is. (sound-steps s t a p.0 is, k.steps s t call old now causes a p.0 p.1 is);
   makes = λ host port number old now a p is. (sound-makes number a p.0, k.makes host port number old now a p.0 p.1 is);
   joins = λ l t old now r h.
-      (sound-joins (are_full old.lives) (are_crowded old.lives) (find (has_listener l) old.desk.all) t r h, k.joins l t old now r h);
+      (sound-joins (are_full old.lives) (are_crowded old.lives) (find (has_listener l) old.desk.all) old.joins t r h, k.joins l t old now r h);
   offers = λ f number remote window maximum.
       (sound-offers f number remote window maximum, k.offers f number remote window maximum);
 }
@@ -438,7 +447,7 @@ sound = record {
   takes = λ t n a b s is h. sound-takes n a b s h;
   steps = λ s t call old now causes a h is. sound-steps s t a h is;
   makes = λ host port number old now a h is. sound-makes number a h;
-  joins = λ l t old now r h. sound-joins (are_full old.lives) (are_crowded old.lives) (find (has_listener l) old.desk.all) t r h;
+  joins = λ l t old now r h. sound-joins (are_full old.lives) (are_crowded old.lives) (find (has_listener l) old.desk.all) old.joins t r h;
   offers = λ f number remote window maximum. sound-offers f number remote window maximum;
 }
 

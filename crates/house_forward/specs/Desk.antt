@@ -2,13 +2,14 @@
 -- server and the asks.
 use Rattle.std.specs.Prelude.{◌≡◌, ◌+◌, ◌-◌, ℕ, Bool, true, false, not, List, [], ◌∷◌, ◌++◌, drop, length, filter, find, IfSome, Option, Some, None}
 use Rattle.std.specs.List.{position}
+use Rattle.mux_outside.specs.Streams.{among}
 use Rattle.mux_outside.specs.declared.house.HouseReply.{HouseReply}
 use Rattle.mux_outside.specs.declared.start_ask.StartAsk.{StartAsk}
 use Rattle.mux_outside.specs.declared.starts.Starts.{Starts}
 use Rattle.house_forward.specs.Asks.{turns_away, answer_of, after_answer, settled, counted}
 use Rattle.house_forward.specs.Forwardings.{Begins, Standing, what_stands, ComesUnless, reply_to, asks_after, request_of, after_saying}
 use Rattle.house_forward.specs.Forwardings.{first_of, replied_all, replied_asks, replied_done, replied_refused}
-use Rattle.house_forward.specs.Forwardings.{next_of, to_listen, OrderedAt, MadeAt, has_listener, made_refused, ordered_asks, ordered_done, serial_of}
+use Rattle.house_forward.specs.Forwardings.{next_of, to_listen, listeners_of, OrderedAt, MadeAt, has_listener, made_refused, ordered_asks, ordered_done, serial_of}
 use Rattle.house_forward.specs.declared.asks.Asked.{Asked}
 use Rattle.house_forward.specs.declared.asks.Asks.{Asks}
 use Rattle.house_forward.specs.declared.asks.Outcome.TheVariants.{Done}
@@ -131,10 +132,12 @@ pub record OrdersListener (host : List ℕ) (port : ℕ) (old new : Desk) : Type
   pub ordered : OrderedAt place old.all new.all
   pub others : new ≡ record old { all = new.all }
 
--- it is made, or couldn't be: those that asked for it come to that
+-- it is made, with a number that no other listener has, or couldn't be: those that asked for it come to
+-- that
 pub record MakesListener (number : Option ℕ) (old new : Desk) : Type 0 where
   pub place : ℕ
   pub first : position to_listen old.all ≡ Some place
+  pub fresh : IfSome number (λ l. among l (listeners_of old.all) ≡ false)
   pub made : MadeAt number place old.all new.all
   pub others : new ≡ record old {
     all = new.all;

@@ -58,20 +58,23 @@ use Rattle.house_forward.specs.declared.relays.Relays.{Relays}
 use Rattle.house_forward.specs.declared.rules.TheConstants.{MOST_CHANNELS, MOST_DIALOGS}
 use Rattle.house_forward.specs.declared.saying.TheConstants.{GREETING}
 
--- a relay; its stream, while it is open; whether it began with a dialog; where its socket is to be
--- connected, if the server opened it; and what happened in it, the newest first
+-- a relay; its stream, while it is open; whether it began with a dialog; which of the sockets that were
+-- joined is its own, if one is, by how many were joined before; where its socket is to be connected, if
+-- the server opened it; and what happened in it, the newest first
 pub record Life : Type 0 where
   pub relay : Relay
   pub own : Option OwnStream
   pub dials : Bool
+  pub joined : Option ℕ
   pub to : Option (List ℕ × ℕ)
   pub acts : List Act
 
--- the relays that there are, and those of which nothing is left; what was heard and isn't read yet;
--- how it is read; and what the house has besides
+-- the relays that there are, and those of which nothing is left; how many sockets were joined; what was
+-- heard and isn't read yet; how it is read; and what the house has besides
 pub record Course : Type 0 where
   pub lives : List Life
   pub past : List Life
+  pub joins : ℕ
   pub framer : FramerState
   pub stage : Stage
   pub desk : Desk
@@ -81,6 +84,7 @@ abbrev pub first_course : Course
 first_course = record {
   lives = [];
   past = [];
+  joins = 0;
   framer = new_framer framing.Control;
   stage = Control;
   desk = empty_desk;
@@ -145,6 +149,7 @@ pub record GoesBy (so : Relay → Relay → Type 0) (act : Act) (old new : Life)
   pub relay : so old.relay new.relay
   pub own : new.own ≡ old.own
   pub dials : new.dials ≡ old.dials
+  pub joined : new.joined ≡ old.joined
   pub to : new.to ≡ old.to
   pub acts : new.acts ≡ act ∷ old.acts
 
@@ -207,9 +212,9 @@ stepped step t l = if has_stream t l then record l {
   acts = act_of step ∷ l.acts;
 } else l
 
--- one relay more, for a socket that is joined at the listener of a forwarding, with a stream that no
--- other has: for an end that this names or a dialog will, or for none
-pub record JoinsOne (f : Option Forwarding) (t : ℕ) (old new : List Life) : Type 0 where
+-- one relay more, for a socket that is joined at the listener of a forwarding, behind so many others, with
+-- a stream that no other has: for an end that this names or a dialog will, or for none
+pub record JoinsOne (f : Option Forwarding) (t joins : ℕ) (old new : List Life) : Type 0 where
   pub relay : Relay
   pub joined : IsJoined (are_full old) (are_crowded old) f t relay
   pub free : list_any (has_channel relay.number) old ≡ false
@@ -218,18 +223,27 @@ pub record JoinsOne (f : Option Forwarding) (t : ℕ) (old new : List Life) : Ty
     relay = relay;
     own = Some (new_stream t);
     dials = dials relay.line;
+    joined = Some joins;
     to = None;
     acts = [];
   } ∷ []
 
--- what happened to a listener or a stream
-abbrev pub TurnsTo : Happening → List Forwarding → List Life → List Life → Type 0
-TurnsTo (Joined l t) all old new = JoinsOne (find (has_listener l) all) t old new
-TurnsTo (Got t bytes) all old new =
+-- what happened to a listener or a stream, behind so many sockets that were joined
+abbrev pub TurnsTo : Happening → ℕ → List Forwarding → List Life → List Life → Type 0
+TurnsTo (Joined l t) joins all old new = JoinsOne (find (has_listener l) all) t joins old new
+TurnsTo (Got t bytes) joins all old new =
     OneAtMost (has_stream t) (GoesBy (GetsOn (not (are_full old)) bytes) (Reads bytes)) old new
-TurnsTo (End t) all old new = new ≡ map (stepped step.End t) old
-TurnsTo (Writable t) all old new = new ≡ map (stepped step.Writable t) old
-TurnsTo (Failed t) all old new = new ≡ map (stepped step.Failed t) old
+TurnsTo (End t) joins all old new = new ≡ map (stepped step.End t) old
+TurnsTo (Writable t) joins all old new = new ≡ map (stepped step.Writable t) old
+TurnsTo (Failed t) joins all old new = new ≡ map (stepped step.Failed t) old
+
+-- how many sockets were joined then
+abbrev pub joins_after : Happening → ℕ → ℕ
+joins_after (Joined l t) joins = joins + 1
+joins_after (Got t bytes) joins = joins
+joins_after (End t) joins = joins
+joins_after (Writable t) joins = joins
+joins_after (Failed t) joins = joins
 
 -- ---- what is said
 
@@ -274,6 +288,7 @@ pub record OffersOne (f : Forwarding) (remote window maximum : ℕ) (old new : C
       relay = fresh_relay number (OfServer remote window maximum) socket.Unmade;
       own = None;
       dials = false;
+      joined = None;
       to = Some (f.connect_host, f.connect_port);
       acts = [];
     } ∷ [];
@@ -431,7 +446,8 @@ Follows (Marks mark) old new = MarksIn mark old new
 Follows (HearsBytes bytes) old new =
     (contents : List (List ℕ)) × HearsFrames contents (with_heard bytes old) new
 Follows (Turns happening) old new = (lives : List Life)
-    × TurnsTo happening old.desk.all old.lives lives × (new ≡ record old { lives = lives })
+    × TurnsTo happening old.joins old.desk.all old.lives lives
+    × (new ≡ record old { lives = lives; joins = joins_after happening old.joins })
 Follows (TakesBytes t n) old new = (lives : List Life)
     × OneAtMost (has_stream t) (GoesBy (TakesOn n) (Takes n)) old.lives lives
     × (new ≡ record old { lives = lives })

@@ -89,15 +89,16 @@ pub record IsBefore (calls : List HouseCall) (call : HouseCall) (course : Course
   pub are : calls ≡ before ++ call ∷ behind
   pub reached : Reaches first_course before course
 
--- a socket was joined at the listener of a forwarding of which this is so, and it is this stream,
+-- this socket was joined at the listener of a forwarding of which this is so, and it is this stream,
 -- while that is open
-pub record IsJoinedFor (calls : List HouseCall) (own : Option OwnStream)
+pub record IsJoinedFor (calls : List HouseCall) (own : Option OwnStream) (socket : Option ℕ)
     (so : Forwarding → Type 0) : Type 0 where
   pub listener : ℕ
   pub stream : ℕ
   pub course : Course
   pub forwarding : Forwarding
   pub joined : IsBefore calls (Turns (Joined listener stream)) course
+  pub which : socket ≡ Some course.joins
   pub found : find (has_listener listener) course.desk.all ≡ Some forwarding
   pub its : IfSome own (λ o. o.number ≡ stream)
   pub right : so forwarding
@@ -119,7 +120,7 @@ IsDynamic f = f.kind ≡ Dynamic
 
 -- the dialog of a socket that was joined at a dynamic forwarding asked for this end
 pub record IsDialed (calls : List HouseCall) (l : Life) (host : List ℕ) (port : ℕ) : Type 0 where
-  pub joined : IsJoinedFor calls l.own IsDynamic
+  pub joined : IsJoinedFor calls l.own l.joined IsDynamic
   pub asks : outcome_in (read l.acts) ≡ Connects host port
 
 -- what is said is the OPEN of direct-tcpip of one of the relays, to where the forwarding connects at
@@ -132,7 +133,8 @@ pub record IsOpenOf (calls : List HouseCall) (lives : List Life) (bytes : List �
   pub port : ℕ
   pub were : lives ≡ before ++ life ∷ behind
   pub says : bytes ≡ framed (direct life.relay.number host port)
-  pub goes : IsJoinedFor calls life.own (ConnectsTo host port) ⊎ IsDialed calls life host port
+  pub goes : IsJoinedFor calls life.own life.joined (ConnectsTo host port)
+      ⊎ IsDialed calls life host port
 
 -- each OPEN that is said behind these calls
 abbrev pub OpensGoRight : Type 0
