@@ -8,11 +8,11 @@ use Rattle.mux_outside.specs.declared.house.HouseReply.{HouseReply}
 use Rattle.mux_outside.specs.declared.house.HouseReply.TheVariants as given
 use Rattle.mux_outside.specs.declared.start_ask.StartAsk.{StartAsk}
 use Rattle.house_forward.specs.Asks.{earlier, earlier_at, earliest, has_outcome, is_settled, stamp_of, reply_in, reply_of, answer_in, turns_away}
-use Rattle.house_forward.specs.Causes.{answers, gateway_in, AreOne, IsFor, IsNext, IsGranted, ListensSince, ServesAt, IsGrant, IsServed, EachServed, CameBy, MadeBy, RepliedBy, HasCause, EachAnswer, WasToClose, EachUnlisten, EachCancel}
+use Rattle.house_forward.specs.Causes.{answers, AreOne, IsFor, IsNext, IsGranted, ListensSince, ServesAt, IsGrant, IsServed, EachServed, CameBy, MadeBy, RepliedBy, HasCause, EachAnswer}
 use Rattle.house_forward.specs.Deeds.{Deed}
 use Rattle.house_forward.specs.Deeds.{Begins, Asks, Answers, Greets, Requests, Replies, Listens, Unlistens}
 use Rattle.house_forward.specs.Desk.{Desk}
-use Rattle.house_forward.specs.Forwardings.{ComesIf, ComesUnless, comes_of_ends, opens_of, closes_of, as_first, standing, counts, how_many, listens_at, connects_to, outcome_of, outcome_at, reply_to, has_request, requests_at, request_at, bound_to}
+use Rattle.house_forward.specs.Forwardings.{ComesIf, ComesUnless, comes_of_ends, opens_of, closes_of, as_first, standing, counts, how_many, listens_at, connects_to, outcome_of, outcome_at, reply_to, bound_to}
 use Rattle.house_forward.specs.Rules.{AreEnds, is_refused_alone, listens_here, connects_there, listen_host}
 use Rattle.house_forward.specs.declared.asks.Asked.{Asked as Comes}
 use Rattle.house_forward.specs.declared.asks.Asked.TheVariants.{Now, Later}
@@ -21,12 +21,12 @@ use Rattle.house_forward.specs.declared.asks.Outcome.TheVariants.{Done, Port, Re
 use Rattle.house_forward.specs.declared.asks.Waiting.{Waiting}
 use Rattle.house_forward.specs.declared.forwarding.Forwarding.{Forwarding}
 use Rattle.house_forward.specs.declared.forwarding.Request.{Request}
-use Rattle.house_forward.specs.declared.forwarding.Request.TheVariants.{Listen, Cancel}
+use Rattle.house_forward.specs.declared.forwarding.Request.TheVariants.{Listen}
 use Rattle.house_forward.specs.declared.forwarding.Stage.{Stage}
 use Rattle.house_forward.specs.declared.forwarding.Stage.TheVariants.{ToListen, Ordered, Listening, ToRequest, Requested, Live, Cancelling}
 use Rattle.house_forward.specs.declared.rules.Ends.{Ends}
 use Rattle.house_forward.specs.declared.rules.TheConstants.{MOST_FORWARDINGS}
-use Rattle.house_forward.proofs.Causing.{Knows, knows, found, itself, is-for, closing-of, there-is}
+use Rattle.house_forward.proofs.Causing.{Knows, knows, found, itself, is-for, there-is}
 use Rattle.house_forward.proofs.Serving.{StageFits, Stands, Came, CameIf, Waits}
 
 -- ---- one forwarding at two times
@@ -48,7 +48,7 @@ one-next what a f deeds one n = record {
   there = ap listens_here (sym one.kind) ∙ n.there;
 }
 
-one-granted : (a f : Forwarding) (port : ℕ) (deeds : List Deed) → AreOne a f → IsGranted a port deeds → IsGranted f port deeds
+pub one-granted : (a f : Forwarding) (port : ℕ) (deeds : List Deed) → AreOne a f → IsGranted a port deeds → IsGranted f port deeds
 one-granted a f port deeds one g = record {
   chosen = g.chosen;
   later = g.later;
@@ -58,12 +58,12 @@ one-granted a f port deeds one g = record {
   bound = g.bound ∙ ap (λ n. bound_to n g.chosen) one.listen_port;
 }
 
-one-listens : (a f : Forwarding) (l : ℕ) (deeds : List Deed) → AreOne a f → ListensSince a.listen_host a.listen_port l deeds
+pub one-listens : (a f : Forwarding) (l : ℕ) (deeds : List Deed) → AreOne a f → ListensSince a.listen_host a.listen_port l deeds
     → ListensSince f.listen_host f.listen_port l deeds
 one-listens a f l deeds one h = subst (λ (p : ℕ). ListensSince f.listen_host p l deeds) one.listen_port
     (subst (λ (x : List ℕ). ListensSince x a.listen_port l deeds) one.listens h)
 
-one-is-for : (gateway opening : Bool) (ask : StartAsk) (a f : Forwarding) → AreOne a f → IsFor gateway opening ask a
+pub one-is-for : (gateway opening : Bool) (ask : StartAsk) (a f : Forwarding) → AreOne a f → IsFor gateway opening ask a
     → IsFor gateway opening ask f
 one-is-for gateway opening ask a f one h = record {
   kind = h.kind ∙ ap (λ k. Some k) one.kind;
@@ -72,17 +72,6 @@ one-is-for gateway opening ask a f one h = record {
   connects = λ o there.
       let both = h.connects o (ap connects_there one.kind ∙ there) in
       (sym one.connects ∙ both.0, sym one.connect_port ∙ both.1);
-}
-
-one-to-close : (a f : Forwarding) (deeds : List Deed) → AreOne a f → WasToClose a deeds → WasToClose f deeds
-one-to-close a f deeds one h = record {
-  client = h.client;
-  id = h.id;
-  ask = h.ask;
-  later = h.later;
-  earlier = h.earlier;
-  were = h.were;
-  is_for = one-is-for (gateway_in h.earlier) false h.ask a f one h.is_for;
 }
 
 serves-at : (s : Stage) (a f : Forwarding) (asked : ℕ) (o : Outcome) (deeds : List Deed) → AreOne a f → outcome_at s asked ≡ Some o
@@ -195,7 +184,7 @@ each-served client id opening ask answer deeds old new left a grants =
 -- ---- later
 
 -- the earliest is one of them, and came to something
-abbrev Picks : (Waiting → Type 0) → Waiting → Type 0
+abbrev pub Picks : (Waiting → Type 0) → Waiting → Type 0
 Picks P w = P w × (has_outcome w ≡ true)
 
 pick-if : (P : Waiting → Type 0) (b : Bool) (v f : Waiting) → Picks P v → Picks P f
@@ -209,7 +198,7 @@ picks P None a v e h k = k
 picks P (Some o) None v e h k = (h, ap is_settled e)
 picks P (Some o) (Some f) v e h k = pick-if P (nat_lt o.0 (stamp_of f.outcome)) v f (h, ap is_settled e) k
 
-picked : (P : Waiting → Type 0) (ws : List Waiting) (a : Option Waiting) (w : Waiting) → fold earlier a ws ≡ Some w → IfSome a (Picks P)
+pub picked : (P : Waiting → Type 0) (ws : List Waiting) (a : Option Waiting) (w : Waiting) → fold earlier a ws ≡ Some w → IfSome a (Picks P)
     → All P ws → Picks P w
 picked P [] a w e k h = there-is (Picks P) a w e k
 picked P (v ∷ ws) a w e k h =
@@ -266,7 +255,7 @@ caused-by home serials deeds w (Some o) e some h =
           ∙ tells came.deed (came.older ++ ask ∷ h.earlier) w.opening (home w.forwarding) o.0 o.1 came.by;
     }
 
-same-answer : (a b : ℕ × ℕ × HouseReply) → Some a ≡ Some b → a ≡ b
+pub same-answer : (a b : ℕ × ℕ × HouseReply) → Some a ≡ Some b → a ≡ b
 same-answer a b e = cc
 
 answers-by : (o : Option Waiting) (client id : ℕ) (answer : HouseReply) (deeds : List Deed)
@@ -289,34 +278,3 @@ each-answer client id answer deeds old new left a =
     let k = knows deeds old left in
     answers-by (earliest old.waiting) client id answer deeds a.answer
     (if-earliest old.waiting (earliest old.waiting) deeds k.home old.serials refl k.waiting)
-
--- ---- what is closed
-
-pub each-unlisten : EachUnlisten
-each-unlisten l deeds old new left h =
-    let k = knows deeds old left in
-    let c = closing-of l deeds old k h.serial h.next in
-    let fits : StageFits (Listening l) (k.home c.f.serial) deeds =
-    subst (λ (s : Stage). StageFits s (k.home c.f.serial) deeds) c.stage_is c.holds.stage in
-    record { forwarding = k.home c.f.serial; serves = fits.1; asked = c.holds.closing c.closing_is }
-
-cancels-by : (s : Stage) (a f : Forwarding) (closing : Bool) (deeds : List Deed) → AreOne a f → requests_at s closing ≡ true
-    → request_at s f.serial ≡ Cancel f.serial → StageFits s a deeds → ServesAt s f deeds × (closing ≡ true)
-cancels-by (ToListen host) a f closing deeds one e r h = cc
-cancels-by Ordered a f closing deeds one e r h = cc
-cancels-by (Listening l) a f closing deeds one e r h = cc
-cancels-by ToRequest a f closing deeds one e r h = cc
-cancels-by Requested a f closing deeds one e r h = cc
-cancels-by (Live p) a f closing deeds one e r h =
-    ((ap listens_here (sym one.kind) ∙ h.0, one-granted a f p deeds one h.1), e)
-cancels-by (Cancelling p) a f closing deeds one e r h = cc
-
-pub each-cancel : EachCancel
-each-cancel f deeds old new left h e =
-    let k = knows deeds old left in
-    let at = found (Stands k.home old.serials deeds) has_request old.all f h.1 k.all in
-    let both = cancels-by f.stage (k.home f.serial) f f.closing deeds at.0.same at.1 e at.0.stage in
-    record {
-      serves = both.0;
-      asked = one-to-close (k.home f.serial) f deeds at.0.same (at.0.closing both.1);
-    }

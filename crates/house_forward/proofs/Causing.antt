@@ -13,7 +13,7 @@ use Rattle.mux_outside.specs.declared.house.HouseReply.{HouseReply}
 use Rattle.mux_outside.specs.declared.start_ask.StartAsk.{StartAsk}
 use Rattle.mux_outside.specs.declared.starts.Starts.{Starts}
 use Rattle.house_forward.specs.Asks.{has_open, turns_away, settled, counted, owes_opening, after_answer, taken_at, is_waiting, waiting_for}
-use Rattle.house_forward.specs.Causes.{gateway_in, unanswered, AreOne, IsFor, IsNext, IsGranted, CameBy, WasToClose}
+use Rattle.house_forward.specs.Causes.{gateway_in, unanswered, AreOne, IsFor, IsNext, IsGranted, CameBy}
 use Rattle.house_forward.specs.Deeds.{Deed, Does, Leave}
 use Rattle.house_forward.specs.Deeds.{Begins, Asks, Answers, Greets, Requests, Replies, Listens, Unlistens}
 use Rattle.house_forward.specs.Desk.{Desk, empty_desk, BeginsWith, IsAsked, Answers as IsAnswered, greeting_said, request_said, reply_heard, GetsListener, EndsListener, standing_at}
@@ -142,10 +142,6 @@ asked-stage (Cancelling port) a deeds here first e f = cc
 pub itself : (f : Forwarding) → AreOne f f
 itself f = record { serial = refl; kind = refl; listens = refl; listen_port = refl; connects = refl; connect_port = refl }
 
-not-closing : (b : Bool) (P : Type 0) → b ≡ false → b ≡ true → P
-not-closing true P e f = cc
-not-closing false P e f = cc
-
 new-stands : (home : ℕ → Forwarding) (serials : ℕ) (deeds : List Deed) (ends : Ends) (start : Option ℕ) (f : Forwarding)
     → IsAskedFor ends serials start f → Stands (with_one serials f home) (serials + 1) deeds f
 new-stands home serials deeds ends start f a =
@@ -156,7 +152,6 @@ new-stands home serials deeds ends start f a =
       same = subst (λ (g : Forwarding). AreOne g f) (sym to) (itself f);
       stage = subst (λ (g : Forwarding). StageFits f.stage g deeds) (sym to)
           (asked-stage f.stage f deeds (listens_here ends.kind) a.first a.here (ap listens_here a.kind_is));
-      closing = λ c. not-closing f.closing (WasToClose (with_one serials f home f.serial) deeds) a.open_yet c;
     }
 
 one-more : (home : ℕ → Forwarding) (serials : ℕ) (deeds : List Deed) (ends : Ends) (start : Option ℕ) (f : Forwarding) (fs : List Forwarding)
@@ -328,13 +323,6 @@ record Leaves (home : ℕ → Forwarding) (serials : ℕ) (deeds : List Deed) (g
   grown : Grown home serials deeds fs more
   waits : (serial : ℕ) → comes ≡ Later serial → WaitsFor grown.to more gateway opening ask serial
 
--- what is known as an ask comes: what stands then, and why one that closes is asked for
-record Asking (home : ℕ → Forwarding) (serials : ℕ) (deeds : List Deed) (gateway opening : Bool) (ask : StartAsk) (comes : Comes)
-    (fs : List Forwarding) : Type 0 where
-  all : All (Stands home serials deeds) fs
-  closes : (serial : ℕ) → comes ≡ Later serial → opening ≡ false → (a : Forwarding) → IsFor gateway false ask a
-      → WasToClose a deeds
-
 abbrev pub more_than : ℕ → List Forwarding → List Forwarding → ℕ
 more_than serials old new = serials + (length new - length old)
 
@@ -348,12 +336,12 @@ never : (o : Outcome) (comes : Comes) (serial : ℕ) (P : Type 0) → comes ≡ 
 never o comes serial P e f = cc
 
 now : (home : ℕ → Forwarding) (serials : ℕ) (deeds : List Deed) (gateway opening : Bool) (ask : StartAsk) (comes : Comes)
-    (o : Outcome) (fs new : List Forwarding) → Asking home serials deeds gateway opening ask comes fs → comes ≡ Now o → new ≡ fs
+    (o : Outcome) (fs new : List Forwarding) → All (Stands home serials deeds) fs → comes ≡ Now o → new ≡ fs
     → Leaves home serials deeds gateway opening ask comes new (more_than serials fs new)
 now home serials deeds gateway opening ask comes o fs new k e same =
     let grown : Grown home serials deeds new (more_than serials fs new) =
     subst (λ (m : ℕ). Grown home serials deeds new m) (same-many serials fs new (ap (λ (xs : List Forwarding). length xs) same))
-    (subst (λ (xs : List Forwarding). Grown home serials deeds xs serials) (sym same) (as-many home serials deeds fs k.all)) in
+    (subst (λ (xs : List Forwarding). Grown home serials deeds xs serials) (sym same) (as-many home serials deeds fs k)) in
     record {
       grown = grown;
       waits = λ serial is. never o comes serial (WaitsFor grown.to (more_than serials fs new) gateway opening ask serial) e is;
@@ -361,12 +349,12 @@ now home serials deeds gateway opening ask comes o fs new k e same =
 
 -- one more
 new-one : (home : ℕ → Forwarding) (serials : ℕ) (deeds : List Deed) (gateway : Bool) (ask : StartAsk) (comes : Comes) (ends : Ends)
-    (fs new : List Forwarding) (f : Forwarding) → Asking home serials deeds gateway true ask comes fs → AreEnds gateway ask ends
+    (fs new : List Forwarding) (f : Forwarding) → All (Stands home serials deeds) fs → AreEnds gateway ask ends
     → comes ≡ Later serials → IsAskedFor ends serials None f → new ≡ fs ++ f ∷ []
     → Leaves home serials deeds gateway true ask comes new (more_than serials fs new)
 unfolding one-more
 new-one home serials deeds gateway ask comes ends fs new f k are e a more =
-    let g = one-more home serials deeds ends None f fs a k.all in
+    let g = one-more home serials deeds ends None f fs a k in
     let to = with_one serials f home in
     let here : to serials ≡ f = one-new serials f home in
     let got : Leaves home serials deeds gateway true ask comes (fs ++ f ∷ []) (serials + 1) = record {
@@ -394,7 +382,7 @@ same-one home serials deeds gateway opening ask ends f are s listens connects = 
 }
 
 as-found : (home : ℕ → Forwarding) (serials : ℕ) (deeds : List Deed) (gateway : Bool) (ask : StartAsk) (comes : Comes)
-    (fs new : List Forwarding) (f : Forwarding) (o : Option Outcome) → Asking home serials deeds gateway true ask comes fs
+    (fs new : List Forwarding) (f : Forwarding) (o : Option Outcome) → All (Stands home serials deeds) fs
     → comes ≡ as_first f o → new ≡ fs → WaitsFor home serials gateway true ask f.serial
     → Leaves home serials deeds gateway true ask comes new (more_than serials fs new)
 unfolding as-many
@@ -402,7 +390,7 @@ as-found home serials deeds gateway ask comes fs new f (Some o) k e same w =
     now home serials deeds gateway true ask comes o fs new k e same
 as-found home serials deeds gateway ask comes fs new f None k e same w =
     let got : Leaves home serials deeds gateway true ask comes fs serials = record {
-      grown = as-many home serials deeds fs k.all;
+      grown = as-many home serials deeds fs k;
       waits = λ serial is.
           let its : f.serial ≡ serial = cc in
           subst (λ (n : ℕ). WaitsFor home serials gateway true ask n) its w;
@@ -411,7 +399,7 @@ as-found home serials deeds gateway ask comes fs new f None k e same w =
     (subst (λ (m : ℕ). Leaves home serials deeds gateway true ask comes fs m) (same-many serials fs fs refl) got)
 
 opens-none : (home : ℕ → Forwarding) (serials : ℕ) (deeds : List Deed) (gateway : Bool) (ask : StartAsk) (comes : Comes) (ends : Ends)
-    (fs new : List Forwarding) (b : Bool) → Asking home serials deeds gateway true ask comes fs → AreEnds gateway ask ends
+    (fs new : List Forwarding) (b : Bool) → All (Stands home serials deeds) fs → AreEnds gateway ask ends
     → comes ≡ (if b then Later serials else Now Refused) → Opens b ends serials None fs new
     → Leaves home serials deeds gateway true ask comes new (more_than serials fs new)
 opens-none home serials deeds gateway ask comes ends fs new true k are e o =
@@ -420,7 +408,7 @@ opens-none home serials deeds gateway ask comes ends fs new false k are e o =
     now home serials deeds gateway true ask comes Refused fs new k e o
 
 opens-some : (home : ℕ → Forwarding) (serials : ℕ) (deeds : List Deed) (gateway : Bool) (ask : StartAsk) (comes : Comes)
-    (fs new : List Forwarding) (f : Forwarding) (b : Bool) → Asking home serials deeds gateway true ask comes fs
+    (fs new : List Forwarding) (f : Forwarding) (b : Bool) → All (Stands home serials deeds) fs
     → comes ≡ (if b then as_first f (outcome_of f) else Now Refused) → new ≡ fs
     → (b ≡ true → WaitsFor home serials gateway true ask f.serial)
     → Leaves home serials deeds gateway true ask comes new (more_than serials fs new)
@@ -430,20 +418,20 @@ opens-some home serials deeds gateway ask comes fs new f false k e same w =
     now home serials deeds gateway true ask comes Refused fs new k e same
 
 opens-by : (home : ℕ → Forwarding) (serials : ℕ) (deeds : List Deed) (gateway : Bool) (ask : StartAsk) (comes : Comes) (ends : Ends)
-    (fs new : List Forwarding) (o : Option Forwarding) → standing ends fs ≡ o → Asking home serials deeds gateway true ask comes fs
+    (fs new : List Forwarding) (o : Option Forwarding) → standing ends fs ≡ o → All (Stands home serials deeds) fs
     → AreEnds gateway ask ends → comes ≡ opens_of serials ends fs o → Opens (is_new ends fs o) ends serials None fs new
     → Leaves home serials deeds gateway true ask comes new (more_than serials fs new)
 opens-by home serials deeds gateway ask comes ends fs new None is k are e o =
     opens-none home serials deeds gateway ask comes ends fs new (nat_lt (how_many fs) MOST_FORWARDINGS) k are e o
 opens-by home serials deeds gateway ask comes ends fs new (Some f) is k are e o =
-    let at = found (Stands home serials deeds) (λ g. counts g && listens_at ends g) fs f is k.all in
+    let at = found (Stands home serials deeds) (λ g. counts g && listens_at ends g) fs f is k in
     let listens = (and_parts (counts f) (listens_at ends f) at.1).1 in
     opens-some home serials deeds gateway ask comes fs new f (connects_to ends f) k e o
     (λ there. same-one home serials deeds gateway true ask ends f are at.0 listens (λ _. there))
 
 -- one closes
 closes-one : (home : ℕ → Forwarding) (serials : ℕ) (deeds : List Deed) (gateway : Bool) (ask : StartAsk) (comes : Comes)
-    (fs new : List Forwarding) (f : Forwarding) (b : Bool) → Asking home serials deeds gateway false ask comes fs
+    (fs new : List Forwarding) (f : Forwarding) (b : Bool) → All (Stands home serials deeds) fs
     → comes ≡ (if b then Now Refused else Later f.serial) → new ≡ after_close (if b then Now Refused else Later f.serial) fs
     → WaitsFor home serials gateway false ask f.serial
     → Leaves home serials deeds gateway false ask comes new (more_than serials fs new)
@@ -453,8 +441,7 @@ closes-one home serials deeds gateway ask comes fs new f true k e same w =
 closes-one home serials deeds gateway ask comes fs new f false k e same w =
     let all : All (Stands home serials deeds) (map (changed change.Close f.serial) fs) =
     all-changed home serials deeds change.Close f.serial fs
-    (λ g is one h. steady-stage change.Close g.listen_port g.stage (home g.serial) deeds tt h)
-    (λ g is h c. subst (λ (n : ℕ). WasToClose (home n) deeds) (sym is) (k.closes f.serial e refl (home f.serial) w.is_for)) k.all in
+    (λ g is one h. steady-stage change.Close g.listen_port g.stage (home g.serial) deeds tt h) k in
     let closed = map (changed change.Close f.serial) fs in
     let got : Leaves home serials deeds gateway false ask comes closed serials = record {
       grown = as-many home serials deeds closed all;
@@ -467,19 +454,19 @@ closes-one home serials deeds gateway ask comes fs new f false k e same w =
     (same-many serials fs closed (length-map fs (changed change.Close f.serial))) got)
 
 closes-by : (home : ℕ → Forwarding) (serials : ℕ) (deeds : List Deed) (gateway : Bool) (ask : StartAsk) (comes : Comes) (ends : Ends)
-    (fs new : List Forwarding) (o : Option Forwarding) → standing ends fs ≡ o → Asking home serials deeds gateway false ask comes fs
+    (fs new : List Forwarding) (o : Option Forwarding) → standing ends fs ≡ o → All (Stands home serials deeds) fs
     → AreEnds gateway ask ends → comes ≡ closes_of o → new ≡ after_close (closes_of o) fs
     → Leaves home serials deeds gateway false ask comes new (more_than serials fs new)
 closes-by home serials deeds gateway ask comes ends fs new None is k are e same =
     now home serials deeds gateway false ask comes Refused fs new k e same
 closes-by home serials deeds gateway ask comes ends fs new (Some f) is k are e same =
-    let at = found (Stands home serials deeds) (λ g. counts g && listens_at ends g) fs f is k.all in
+    let at = found (Stands home serials deeds) (λ g. counts g && listens_at ends g) fs f is k in
     let listens = (and_parts (counts f) (listens_at ends f) at.1).1 in
     closes-one home serials deeds gateway ask comes fs new f f.closing k e same
     (same-one home serials deeds gateway false ask ends f are at.0 listens (λ o. cc))
 
 comes-by : (opening : Bool) (home : ℕ → Forwarding) (serials : ℕ) (deeds : List Deed) (gateway : Bool) (ask : StartAsk) (comes : Comes)
-    (ends : Ends) (fs new : List Forwarding) → Asking home serials deeds gateway opening ask comes fs → AreEnds gateway ask ends
+    (ends : Ends) (fs new : List Forwarding) → All (Stands home serials deeds) fs → AreEnds gateway ask ends
     → comes ≡ comes_of_ends opening serials ends fs → EndsLeave opening serials ends fs new
     → Leaves home serials deeds gateway opening ask comes new (more_than serials fs new)
 comes-by true home serials deeds gateway ask comes ends fs new k are e l =
@@ -488,7 +475,7 @@ comes-by false home serials deeds gateway ask comes ends fs new k are e l =
     closes-by home serials deeds gateway ask comes ends fs new (standing ends fs) refl k are e l
 
 comes-if : (alone opening : Bool) (home : ℕ → Forwarding) (serials : ℕ) (deeds : List Deed) (gateway : Bool) (ask : StartAsk) (comes : Comes)
-    (fs new : List Forwarding) → Asking home serials deeds gateway opening ask comes fs
+    (fs new : List Forwarding) → All (Stands home serials deeds) fs
     → ComesIf alone gateway opening ask serials fs new comes
     → Leaves home serials deeds gateway opening ask comes new (more_than serials fs new)
 comes-if true opening home serials deeds gateway ask comes fs new k c =
@@ -497,7 +484,7 @@ comes-if false opening home serials deeds gateway ask comes fs new k c =
     comes-by opening home serials deeds gateway ask comes c.0 fs new k c.1 c.2 c.3
 
 comes-unless : (away opening : Bool) (home : ℕ → Forwarding) (serials : ℕ) (deeds : List Deed) (gateway : Bool) (ask : StartAsk) (comes : Comes)
-    (fs new : List Forwarding) → Asking home serials deeds gateway opening ask comes fs
+    (fs new : List Forwarding) → All (Stands home serials deeds) fs
     → ComesUnless away gateway opening ask serials fs new comes
     → Leaves home serials deeds gateway opening ask comes new (more_than serials fs new)
 comes-unless true opening home serials deeds gateway ask comes fs new k c =
@@ -540,30 +527,13 @@ apart-asked client id opening ask comes gateway serials fs new ws true e c h =
 apart-asked client id opening ask comes gateway serials fs new ws false e c h =
     apart-came comes client id opening ws (or_parts (has_open client id ws) (nat_le MOST_ASKS (length ws)) e).0 h
 
-to-close : (client id : ℕ) (opening : Bool) (ask : StartAsk) (answer : HouseReply) (comes : Comes) (deeds : List Deed) (gateway : Bool)
-    (serial : ℕ) (a : Forwarding) → answer ≡ reply_to comes → gateway ≡ gateway_in deeds → comes ≡ Later serial → opening ≡ false
-    → IsFor gateway false ask a → WasToClose a (Asks client id opening ask answer ∷ deeds)
-to-close client id opening ask answer comes deeds gateway serial a e same later closing is = record {
-  client = client;
-  id = id;
-  ask = ask;
-  later = [];
-  earlier = deeds;
-  were = ap (λ b. Asks client id b ask answer ∷ deeds) closing
-      ∙ ap (λ r. Asks client id false ask r ∷ deeds) (e ∙ ap reply_to later);
-  is_for = subst (λ (b : Bool). IsFor b false ask a) same is;
-}
-
 after-ask : (client id : ℕ) (opening : Bool) (ask : StartAsk) (answer : HouseReply) (deeds : List Deed) (old new : Desk) → Knows deeds old
     → IsAsked client id opening ask answer old new → Knows (Asks client id opening ask answer ∷ deeds) new
 after-ask client id opening ask answer deeds old new k a =
     let deed : Deed = Asks client id opening ask answer in
     let more = more_than old.serials old.all new.all in
-    let left = comes-unless _ opening k.home old.serials (deed ∷ deeds) old.gateway ask a.came_to old.all new.all (record {
-      all = all-later k.home old.serials deed deeds old.all (λ l. refl) k.all;
-      closes = λ serial later closing g is. to-close client id opening ask answer a.came_to deeds old.gateway serial g a.replies
-          k.gateway later closing is;
-    }) a.comes in
+    let left = comes-unless _ opening k.home old.serials (deed ∷ deeds) old.gateway ask a.came_to old.all new.all
+    (all-later k.home old.serials deed deeds old.all (λ l. refl) k.all) a.comes in
     let g = left.grown in
     let serials : more ≡ new.serials = sym (ap (λ (d : Desk). d.serials) a.others) in
     record {
@@ -641,9 +611,9 @@ asks-there (Cancelling port) a deeds closing e h = cc
 said-all : (r : Request) (home : ℕ → Forwarding) (serials : ℕ) (deeds : List Deed) (fs : List Forwarding)
     → All (Stands home serials deeds) fs → All (Stands home serials deeds) (after_saying r fs)
 said-all (Listen serial) home serials deeds fs h = all-changed home serials deeds change.Request serial fs
-    (λ g is one k. steady-stage change.Request g.listen_port g.stage (home g.serial) deeds tt k) (λ g is k c. k c) h
+    (λ g is one k. steady-stage change.Request g.listen_port g.stage (home g.serial) deeds tt k) h
 said-all (Cancel serial) home serials deeds fs h = all-changed home serials deeds change.Cancel serial fs
-    (λ g is one k. steady-stage change.Cancel g.listen_port g.stage (home g.serial) deeds tt k) (λ g is k c. k c) h
+    (λ g is one k. steady-stage change.Cancel g.listen_port g.stage (home g.serial) deeds tt k) h
 
 after-request : (f : Forwarding) (deeds : List Deed) (old new : Desk) → Knows deeds old → find has_request old.all ≡ Some f
     → new ≡ request_said f old → Knows (Requests f ∷ deeds) new
@@ -726,7 +696,7 @@ replied true (Listen serial) home serials deeds port at fs ws g gs e a is (inl w
             next = subst (λ (n : ℕ). IsNext Listen (home n) deeds) (sym its) next;
             bound = ap (λ n. bound_to n port) (sym one.listen_port);
           }) k)
-          (λ f its k c. k c) (all-later home serials deed deeds fs (λ l. refl) all);
+          (all-later home serials deed deeds fs (λ l. refl) all);
       waiting = opened home serials deeds port serial at fs ws (find (is_asked serial) fs) refl next all h;
     }
 replied true (Listen serial) home serials deeds port at fs ws g gs e a is (inr which) all h = cc
@@ -761,7 +731,7 @@ replied false (Cancel serial) home serials deeds port at fs ws g gs e a is (inr 
     record {
       all = all-changed home serials (deed ∷ deeds) change.Stay serial fs
           (λ f its one k. steady-stage change.Stay f.listen_port f.stage (home f.serial) (deed ∷ deeds) tt k)
-          (λ f its k c. cc) (all-later home serials deed deeds fs (λ l. refl) all);
+          (all-later home serials deed deeds fs (λ l. refl) all);
       waiting = all-settled home serials deed deeds (λ c i. refl) serial false at Refused ws (inr next, refl) h;
     }
 
@@ -872,7 +842,7 @@ made-all home serials host port deeds (Some l) fs new f i o e m =
         were = ap (λ h. Listens h port (Some l) ∷ deeds) host_is ∙ ap (λ p. Listens a.listen_host p (Some l) ∷ deeds) port_is;
         open_yet = refl;
       },
-    ) at.0.closing at.0) all)
+    ) at.0) all)
 
 made-waiting : (home : ℕ → Forwarding) (serials : ℕ) (host : List ℕ) (port : ℕ) (deeds : List Deed) (number : Option ℕ) (fs : List Forwarding)
     (f : Forwarding) (at : ℕ) (ws : List Waiting) → Ordering home serials host port deeds fs f → All (Waits home serials deeds) ws
@@ -893,7 +863,7 @@ after-listen host port number deeds old new k h =
     let at = placed (Stands k.home old.serials deeds) to_listen old.all i f h.orders.first h.orders.ordered.1 k.all in
     let ends = there-is (λ (x : Forwarding). (host ≡ x.listen_host) × (port ≡ x.listen_port)) (find to_listen old.all) f at.2 h.orders.there in
     let here = listens-there f.stage (k.home f.serial) deeds at.1 at.0.stage in
-    let one = restaged k.home old.serials deeds f Ordered f.closing here at.0.closing at.0 in
+    let one = restaged k.home old.serials deeds f Ordered f.closing here at.0 in
     let all : All (Stands k.home old.serials deeds) b.all = subst (All (Stands k.home old.serials deeds)) (sym h.orders.ordered.2)
     (All-set (Stands k.home old.serials deeds) old.all i g one k.all) in
     let first : find to_listen b.all ≡ Some g =

@@ -618,7 +618,7 @@ takes t n old new framer stage desk h = takes-by t n old new framer stage desk (
 
 -- ---- over the calls
 
-reaches-more : (calls : List HouseCall) (call : HouseCall) (a b c : Course) → Reaches a calls b → Follows call b c
+pub reaches-more : (calls : List HouseCall) (call : HouseCall) (a b c : Course) → Reaches a calls b → Follows call b c
     → Reaches a (calls ++ call ∷ []) c
 reaches-more [] call a b c e f = (c, subst (λ (z : Course). Follows call z c) e f, refl)
 reaches-more (first ∷ calls) call a b c h f = (h.0, h.1, reaches-more calls call h.0 b c h.2 f)

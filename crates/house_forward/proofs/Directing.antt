@@ -31,11 +31,11 @@ use Rattle.house_forward.proofs.Sound.{Each, All, Sound, KeptSound, Both, with-s
 
 -- ---- where an OPEN is to be said, it is for what was joined
 
-abbrev RightFor : List HouseCall → Option OwnStream → Option ℕ → List ℕ → ℕ → Option ℕ → Type 0
+abbrev pub RightFor : List HouseCall → Option OwnStream → Option ℕ → List ℕ → ℕ → Option ℕ → Type 0
 RightFor calls own nth host port None = IsJoinedFor calls own nth (ConnectsTo host port)
 RightFor calls own nth host port (Some version) = IsJoinedFor calls own nth IsDynamic
 
-abbrev Right : List HouseCall → Option OwnStream → Option ℕ → Line → Type 0
+abbrev pub Right : List HouseCall → Option OwnStream → Option ℕ → Line → Type 0
 Right calls own nth (Dialing dialog) = IsJoinedFor calls own nth IsDynamic
 Right calls own nth (Asked host port version) = RightFor calls own nth host port version
 Right calls own nth (Opened version) = Unit {0}
@@ -43,9 +43,9 @@ Right calls own nth (Offered remote window maximum) = Unit {0}
 Right calls own nth (Live live) = Unit {0}
 Right calls own nth Over = Unit {0}
 
-record Aimed (calls : List HouseCall) (l : Life) : Type 0 where
-  right : Right calls l.own l.joined l.relay.line
-  unmade_none : is_unmade l ≡ true → may_open l.relay.line ≡ false
+pub record Aimed (calls : List HouseCall) (l : Life) : Type 0 where
+  pub right : Right calls l.own l.joined l.relay.line
+  pub unmade_none : is_unmade l ≡ true → may_open l.relay.line ≡ false
 
 none-right : (calls : List HouseCall) (own : Option OwnStream) (nth : Option ℕ) (line : Line) → may_open line ≡ false → Right calls own nth line
 none-right calls own nth (Dialing dialog) e = cc
@@ -231,7 +231,7 @@ aimed calls = record {
   offers = λ f number remote window maximum. record { right = tt; unmade_none = λ e. refl };
 }
 
-all-aimed : (calls : List HouseCall) (course : Course) → Reaches first_course calls course → All (Both (Aimed calls)) course
+pub all-aimed : (calls : List HouseCall) (course : Course) → Reaches first_course calls course → All (Both (Aimed calls)) course
 all-aimed calls course h =
     all-reach (IsBefore calls) (Both (Aimed calls)) (with-sound (IsBefore calls) (Aimed calls) (aimed calls)) calls first_course course
     (λ before call behind mid e r. record { before = before; behind = behind; are = e; reached = r }) h

@@ -84,7 +84,7 @@ waits-if : (b : Bool) (x y : Forwarding) → to_listen x ≡ to_listen y → to_
 waits-if true x y e = e
 waits-if false x y e = refl
 
-changed-listener : (c : Change) (serial : ℕ) (f : Forwarding) → listener_of (changed c serial f) ≡ listener_of f
+pub changed-listener : (c : Change) (serial : ℕ) (f : Forwarding) → listener_of (changed c serial f) ≡ listener_of f
 changed-listener c serial f = listener-if (f.serial == serial) _ f (stage-listener c f.listen_port f.stage)
 
 changed-waits : (c : Change) (serial : ℕ) (f : Forwarding) → to_listen (changed c serial f) ≡ to_listen f
@@ -194,11 +194,11 @@ listeners-without l (f ∷ fs) =
 
 -- ---- which order is next
 
-among-more : (o : Option ℕ) (l : ℕ) (ls : List ℕ) → among l ls ≡ true → among l (cons_option o ls) ≡ true
+pub among-more : (o : Option ℕ) (l : ℕ) (ls : List ℕ) → among l ls ≡ true → among l (cons_option o ls) ≡ true
 among-more None l ls e = e
 among-more (Some k) l ls e = or_right (k == l) _ e
 
-among-first : (l : ℕ) (ls : List ℕ) → among l (l ∷ ls) ≡ true
+pub among-first : (l : ℕ) (ls : List ℕ) → among l (l ∷ ls) ≡ true
 among-first l ls = or_left _ _ (eq-eqb l l refl)
 
 -- a listener that is to be closed is that of a forwarding, which takes room for one mark

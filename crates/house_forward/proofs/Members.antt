@@ -3,7 +3,7 @@ use Rattle.std.proofs.Common.{◌≡◌, ◌∙◌, refl, sym, ap, subst, arith,
 use Rattle.std.specs.Prelude.{◌⊎◌, find, if◌then◌else◌}
 use Rattle.std.specs.List.{All, Contains, remove}
 use Rattle.std.proofs.lemmas.Bool.{both_ways}
-use Rattle.std.proofs.lemmas.List.Elements.{All-head, All-tail}
+use Rattle.std.proofs.lemmas.List.Elements.{All-nil, All-cons, All-head, All-tail}
 
 abbrev pub In : {X : Type 0} → X → List X → Type 0
 In x [] = ⊥
@@ -81,6 +81,56 @@ module _ {X : Type 0} where
   pub found-in : (p : X → Bool) (x : X) (xs : List X) → find p xs ≡ Some x → In x xs
   found-in p x [] e = cc
   found-in p x (y ∷ xs) e = found-in-if p x y xs (p y) (find p xs) e (found-in p x xs)
+
+  -- ---- what is in a list that changed was in it, or is new
+
+  pub out-map : {Y : Type 0} (f : X → Y) (y : Y) (xs : List X) → In y (map f xs) → (x : X) × In x xs × (f x ≡ y)
+  out-map f y [] h = absurd h
+  out-map f y (x ∷ xs) (inl e) = (x, inl refl, e)
+  out-map f y (x ∷ xs) (inr h) = let at = out-map f y xs h in (at.0, inr at.1, at.2)
+
+  out-if : (p : X → Bool) (x y : X) (xs : List X) (b : Bool) → p y ≡ b → In x (if b then y ∷ xs else xs)
+      → ((y ≡ x) × (p y ≡ true)) ⊎ In x xs
+  out-if p x y xs true e (inl is) = inl (is, e)
+  out-if p x y xs true e (inr h) = inr h
+  out-if p x y xs false e h = inr h
+
+  pub out-filter : (p : X → Bool) (x : X) (xs : List X) → In x (filter p xs) → In x xs × (p x ≡ true)
+  out-filter p x [] h = absurd h
+  out-filter p x (y ∷ xs) h = elim (out-if p x y (filter p xs) (p y) refl h) [
+    | inl is ↦ (inl is.0, ap p (sym is.0) ∙ is.1)
+    | inr later ↦ (let rest = out-filter p x xs later in (inr rest.0, rest.1))
+  ]
+
+  pub out-remove : (x : X) (xs : List X) (i : ℕ) → In x (remove xs i) → In x xs
+  out-remove x [] zero h = absurd h
+  out-remove x [] (suc i) h = absurd h
+  out-remove x (y ∷ xs) zero h = inr h
+  out-remove x (y ∷ xs) (suc i) (inl e) = inl e
+  out-remove x (y ∷ xs) (suc i) (inr h) = inr (out-remove x xs i h)
+
+  pub out-set : (x : X) (xs : List X) (i : ℕ) (y : X) → In x (set xs i y) → In x xs ⊎ (y ≡ x)
+  out-set x [] i y h = absurd h
+  out-set x (z ∷ xs) zero y (inl e) = inr e
+  out-set x (z ∷ xs) zero y (inr h) = inl (inr h)
+  out-set x (z ∷ xs) (suc i) y (inl e) = inl (inl e)
+  out-set x (z ∷ xs) (suc i) y (inr h) = elim (out-set x xs i y h) [
+    | inl in_it ↦ inl (inr in_it)
+    | inr is ↦ inr is
+  ]
+
+  pub out-last : (x y : X) (a : List X) → In x (a ++ y ∷ []) → In x a ⊎ (y ≡ x)
+  out-last x y [] (inl e) = inr e
+  out-last x y [] (inr h) = absurd h
+  out-last x y (z ∷ a) (inl e) = inl (inl e)
+  out-last x y (z ∷ a) (inr h) = elim (out-last x y a h) [
+    | inl in_it ↦ inl (inr in_it)
+    | inr is ↦ inr is
+  ]
+
+  pub all-in : (P : X → Type 0) (xs : List X) → ((x : X) → In x xs → P x) → All P xs
+  all-in P [] f = All-nil P
+  all-in P (x ∷ xs) f = All-cons P x xs (f x (inl refl)) (all-in P xs (λ y h. f y (inr h)))
 
   pub set-set : (xs : List X) (i : ℕ) (a b : X) → set (set xs i a) i b ≡ set xs i b
   set-set [] i a b = refl

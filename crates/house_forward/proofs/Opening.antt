@@ -39,7 +39,7 @@ use Rattle.house_forward.proofs.Sound.{All, Sound, follow-sound, offered_life, j
 abbrev opens : Line → ℕ
 opens line = cond (may_open line) 1 0
 
-one-most : (b : Bool) → cond b 1 0 ≤ 1
+pub one-most : (b : Bool) → cond b 1 0 ≤ 1
 one-most true = omega arith
 one-most false = omega arith
 
@@ -127,7 +127,7 @@ gets-line Over free bytes old new e h = let same = ap opens (h.0 ∙ e) in omega
 
 -- ---- what is said
 
-abbrev opening : List ℕ → ℕ
+abbrev pub opening : List ℕ → ℕ
 opening bytes = if is_open bytes then 1 else 0
 
 abbrev with-line : Line → Relay → Relay
@@ -214,7 +214,7 @@ spoken r e = spoken-in r.line r e
 
 -- ---- how many there are
 
-abbrev one : Life → ℕ
+abbrev pub one : Life → ℕ
 one l = opens l.relay.line
 
 abbrev count : List Life → ℕ
@@ -272,13 +272,13 @@ count-stepped s t (l ∷ ls) =
     let rest = count-stepped s t ls in
     omega (arith, its, rest)
 
-hears-one : (m : Message) (a b : Life) → Listens m a b → one b ≤ one a
+pub hears-one : (m : Message) (a b : Life) → Listens m a b → one b ≤ one a
 hears-one m a b h = settled-most a.relay.line b.relay.line (settles-hears m a b h)
 
-takes-one : (n : ℕ) (a b : Life) → GoesBy (TakesOn n) (Takes n) a b → one b ≤ one a
+pub takes-one : (n : ℕ) (a b : Life) → GoesBy (TakesOn n) (Takes n) a b → one b ≤ one a
 takes-one n a b h = settled-most a.relay.line b.relay.line (settles-takes n a b h)
 
-gets-one : (free : Bool) (bytes : List ℕ) (a b : Life) → GoesBy (GetsOn free bytes) (Reads bytes) a b → one b ≤ one a
+pub gets-one : (free : Bool) (bytes : List ℕ) (a b : Life) → GoesBy (GetsOn free bytes) (Reads bytes) a b → one b ≤ one a
 gets-one free bytes a b h = gets-line a.relay.line free bytes a.relay b.relay refl h.relay.0
 
 says-after : (r : Relay) → Spoken r → opening (framed (said_by r)) + opens (after_saying (says_of r) r).line ≤ opens r.line
@@ -300,7 +300,7 @@ says-after r h = by h.either
         let its = none in
         omega (arith, asked, most, its)
 
-says-one : (bytes : List ℕ) (a b : Life) → has_words a ≡ true → Speaks bytes a b → opening bytes + one b ≤ one a
+pub says-one : (bytes : List ℕ) (a b : Life) → has_words a ≡ true → Speaks bytes a b → opening bytes + one b ≤ one a
 says-one bytes a b is h =
     let its = says-after a.relay (spoken a.relay is) in
     let said = ap opening h.0 in

@@ -50,7 +50,7 @@ differs : (n : ℕ) (ns : List ℕ) (j d : ℕ) → among n ns ≡ false → j <
 differs n ns j d none l =
     λ e. both_ways (among n ns) none (one-passes (λ s. s == n) ns j d l (eq-eqb (get_or ns j d) n (sym e)))
 
-pairs : (ns : List ℕ) → Apart ns → AllPairs (λ a b. a ≢ b) ns
+pub pairs : (ns : List ℕ) → Apart ns → AllPairs (λ a b. a ≢ b) ns
 pairs [] h i j d l k = absurd (omega arith)
 pairs (n ∷ ns) h zero zero d l k = absurd (omega arith)
 pairs (n ∷ ns) h zero (suc j) d l k = differs n ns j d h.0 (omega arith)

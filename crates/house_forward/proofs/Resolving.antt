@@ -11,11 +11,11 @@ use Rattle.mux_outside.specs.declared.house.HouseReply.{HouseReply}
 use Rattle.mux_outside.specs.declared.start_ask.StartAsk.{StartAsk}
 use Rattle.mux_outside.specs.declared.starts.Starts.{Starts}
 use Rattle.house_forward.specs.Asks.{settled, counted, is_about, owes_opening, has_outcome, is_settled, is_waiting, taken_at, waiting_for, turns_away}
-use Rattle.house_forward.specs.Causes.{ShareListener, IsAtRest, AwaitsReply, EachAwaits}
+use Rattle.house_forward.specs.Causes.{IsAtRest, AwaitsReply, EachAwaits, ListenersDiffer}
 use Rattle.house_forward.specs.Deeds.{Deed, Does, Leave}
 use Rattle.house_forward.specs.Deeds.{Begins, Asks, Answers, Greets, Requests, Replies, Listens, Unlistens}
 use Rattle.house_forward.specs.Desk.{Desk, empty_desk, BeginsWith, IsAsked, Answers as IsAnswered, greeting_said, request_said, reply_heard, GetsListener, EndsListener, standing_at}
-use Rattle.house_forward.specs.Forwardings.{Begins as BeginsAt, StartsIf, Standing, Opens, serials_after, IsAskedFor, is_first, has_request, requests_at, request_of, after_saying, changed, stage_after, closing_after, standing, counts, how_many, listens_at, connects_to, as_first, outcome_of, outcome_at, opens_of, closes_of, comes_of_ends, after_close, is_new, EndsLeave, ComesIf, ComesUnless, asks_after, is_asked, asks_at, is_cancelled, cancels_at, live_in, opened_asks, replied_all, replied_asks, removed_at, first_of, to_listen, MadeAt, ordered_asks, serial_of, is_numbered, next_of, next_at, ends_at, has_listener, is_listener, listener_at}
+use Rattle.house_forward.specs.Forwardings.{Begins as BeginsAt, StartsIf, Standing, Opens, serials_after, IsAskedFor, is_first, has_request, requests_at, request_of, after_saying, changed, stage_after, closing_after, standing, counts, how_many, listens_at, connects_to, as_first, outcome_of, outcome_at, opens_of, closes_of, comes_of_ends, after_close, is_new, EndsLeave, ComesIf, ComesUnless, asks_after, is_asked, asks_at, is_cancelled, cancels_at, live_in, opened_asks, replied_all, replied_asks, removed_at, first_of, to_listen, MadeAt, ordered_asks, serial_of, is_numbered, next_of, next_at, ends_at, has_listener, is_listener, listener_of, listener_at, listeners_of}
 use Rattle.house_forward.specs.Rules.{is_refused_alone}
 use Rattle.house_forward.specs.declared.asks.Asked.{Asked as Comes}
 use Rattle.house_forward.specs.declared.asks.Asked.TheVariants.{Now, Later}
@@ -34,10 +34,12 @@ use Rattle.house_forward.specs.declared.forwardings.Want.TheVariants as want
 use Rattle.house_forward.specs.declared.rules.Ends.{Ends}
 use Rattle.house_forward.specs.declared.rules.TheConstants.{MOST_FORWARDINGS}
 use Rattle.house_forward.proofs.Causing.{placed, all-remove, all-removed, all-taken, in-range, there-is, same-many, one-many, more_than, first-ordered, same-one-found, Closing, next-closing}
+use Rattle.house_forward.proofs.Listeners.{one-each, apart-listeners}
 use Rattle.house_forward.proofs.Lists.{none-passes}
-use Rattle.house_forward.proofs.Members.{In, in-left, in-last, in-map, in-filter, in-remove, in-set, in-set_new, in-all, in-contains, found-in, set-set, remove-set}
+use Rattle.house_forward.proofs.Members.{In, in-left, in-last, in-map, in-filter, in-remove, in-set, in-set_new, in-all, in-contains, found-in, all-in, set-set, remove-set}
 use Rattle.house_forward.proofs.Numbered.{numbered_more, numbered-remove, numbered-filter, numbered-first, numbered-changed}
-use Rattle.house_forward.proofs.Tracking.{Holds, HasFate, Fates, Unsettled, StageAwaits, Awaits, Tracks, share-later, removed-differs, one-serial, all-unsettled, all-unrefused, of-other, of-neither, changed-serial, fate-changed, said-holds, live-holds, stay-holds, awaits-more, listen-awaits, cancel-awaits, close-awaits, live-awaits, stay-awaits, other-awaits}
+use Rattle.house_forward.proofs.Owning.{pairs}
+use Rattle.house_forward.proofs.Tracking.{Holds, HasFate, Unsettled, StageAwaits, Awaits, Tracks, removed-differs, one-serial, all-unsettled, all-unrefused, of-other, of-neither, changed-serial, fate-changed, said-holds, live-holds, stay-holds, awaits-more, listen-awaits, cancel-awaits, close-awaits, live-awaits, stay-awaits, other-awaits}
 
 -- ---- fates go on
 
@@ -45,19 +47,10 @@ abbrev Moves : List Forwarding → List Forwarding → Type 0
 Moves old new = (w : Waiting) → HasFate old w → HasFate new w
 
 -- as nothing comes to something
-moved : (deed : Deed) (deeds : List Deed) (old new : List Forwarding) (ws : List Waiting) → Moves old new
-    → All (Unsettled (Fates deeds old)) ws → All (Unsettled (Fates (deed ∷ deeds) new)) ws
-moved deed deeds old new ws move h =
-    All-weaker (Unsettled (Fates deeds old)) (Unsettled (Fates (deed ∷ deeds) new))
-    (λ w u none. elim (u none) [
-      | inl f ↦ inl (move w f)
-      | inr s ↦ inr (s.0, share-later deed deeds s.1)
-    ]) ws h
-
-step : (deed : Deed) (deeds : List Deed) (old new : List Forwarding) (w : Waiting) → (HasFate old w → Fates (deed ∷ deeds) new w)
-    → Fates deeds old w → Fates (deed ∷ deeds) new w
-step deed deeds old new w move (inl f) = move f
-step deed deeds old new w move (inr s) = inr (s.0, share-later deed deeds s.1)
+moved : (old new : List Forwarding) (ws : List Waiting) → Moves old new → All (Unsettled (HasFate old)) ws
+    → All (Unsettled (HasFate new)) ws
+moved old new ws move h =
+    All-weaker (Unsettled (HasFate old)) (Unsettled (HasFate new)) (λ w u none. move w (u none)) ws h
 
 -- ---- the start
 
@@ -127,17 +120,17 @@ begins-more gateway asks (suc i) rs old new l n h b =
 kept-fates : (old new : List Forwarding) → ((f : Forwarding) → In f old → In f new) → Moves old new
 kept-fates old new keeps w h = (h.0, keeps h.0 h.1, h.2, h.3)
 
-after-start : (starts : Starts) (deeds : List Deed) (old new : Desk) → Tracks deeds old → BeginsWith starts old new
-    → Tracks (Begins starts ∷ deeds) new
-after-start starts deeds old new t b =
+after-start : (starts : Starts) (old new : Desk) → Tracks old → BeginsWith starts old new
+    → Tracks new
+after-start starts old new t b =
     let m = begins-more starts.gateway starts.asks (length starts.asks) old.requests (standing_at old) (standing_at new)
     (omega arith) t.numbered t.stages b.begins in
     record {
       numbered = m.numbered;
       stages = subst (λ (rs : List Request). All (Awaits rs) new.all) (sym (ap (λ (d : Desk). d.requests) b.others)) m.stages;
-      fates = subst (λ (ws : List Waiting). All (Unsettled (Fates (Begins starts ∷ deeds) new.all)) ws)
+      fates = subst (λ (ws : List Waiting). All (Unsettled (HasFate new.all)) ws)
           (sym (ap (λ (d : Desk). d.waiting) b.others))
-          (moved (Begins starts) deeds old.all new.all old.waiting (kept-fates old.all new.all m.keeps) t.fates);
+          (moved old.all new.all old.waiting (kept-fates old.all new.all m.keeps) t.fates);
     }
 
 -- ---- an ask
@@ -264,51 +257,49 @@ comes-unless true opening gateway ask rs serials comes fs new k c = stays rs ser
 comes-unless false opening gateway ask rs serials comes fs new k c =
     comes-if (is_refused_alone ask) opening gateway ask rs serials comes fs new k c
 
-waits-more : (deeds : List Deed) (comes : Comes) (client id : ℕ) (opening : Bool) (all : List Forwarding) (ws : List Waiting)
-    → ((serial : ℕ) → comes ≡ Later serial → Has opening serial all) → All (Unsettled (Fates deeds all)) ws
-    → All (Unsettled (Fates deeds all)) (asks_after comes client id opening ws)
-waits-more deeds (Now o) client id opening all ws waits h = h
-waits-more deeds (Later serial) client id opening all ws waits h =
-    All-push (Unsettled (Fates deeds all)) ws (waiting_for client id opening serial) h (λ none. inl (waits serial refl))
+waits-more : (comes : Comes) (client id : ℕ) (opening : Bool) (all : List Forwarding) (ws : List Waiting)
+    → ((serial : ℕ) → comes ≡ Later serial → Has opening serial all) → All (Unsettled (HasFate all)) ws
+    → All (Unsettled (HasFate all)) (asks_after comes client id opening ws)
+waits-more (Now o) client id opening all ws waits h = h
+waits-more (Later serial) client id opening all ws waits h =
+    All-push (Unsettled (HasFate all)) ws (waiting_for client id opening serial) h (λ none. waits serial refl)
 
-after-ask : (client id : ℕ) (opening : Bool) (ask : StartAsk) (answer : HouseReply) (deeds : List Deed) (old new : Desk) → Tracks deeds old
-    → IsAsked client id opening ask answer old new → Tracks (Asks client id opening ask answer ∷ deeds) new
-after-ask client id opening ask answer deeds old new t a =
-    let deed : Deed = Asks client id opening ask answer in
+after-ask : (client id : ℕ) (opening : Bool) (ask : StartAsk) (answer : HouseReply) (old new : Desk) → Tracks old
+    → IsAsked client id opening ask answer old new → Tracks new
+after-ask client id opening ask answer old new t a =
     let m = comes-unless (turns_away client id old.waiting) opening old.gateway ask old.requests old.serials a.came_to old.all new.all
     (record { numbered = t.numbered; stages = t.stages }) a.comes in
     record {
       numbered = subst (λ (n : ℕ). is_numbered 0 new.all n ≡ true) (sym (ap (λ (d : Desk). d.serials) a.others)) m.numbered;
       stages = subst (λ (rs : List Request). All (Awaits rs) new.all) (sym (ap (λ (d : Desk). d.requests) a.others)) m.stages;
-      fates = subst (λ (ws : List Waiting). All (Unsettled (Fates (deed ∷ deeds) new.all)) ws) (sym (ap (λ (d : Desk). d.waiting) a.others))
-          (waits-more (deed ∷ deeds) a.came_to client id opening new.all old.waiting m.waits
-          (moved deed deeds old.all new.all old.waiting m.moves t.fates));
+      fates = subst (λ (ws : List Waiting). All (Unsettled (HasFate new.all)) ws) (sym (ap (λ (d : Desk). d.waiting) a.others))
+          (waits-more a.came_to client id opening new.all old.waiting m.waits
+          (moved old.all new.all old.waiting m.moves t.fates));
     }
 
 -- ---- an answer, the greeting, and a request
 
-after-answering : (client id : ℕ) (answer : HouseReply) (deeds : List Deed) (old new : Desk) → Tracks deeds old
-    → IsAnswered client id answer old new → Tracks (Answers client id answer ∷ deeds) new
-after-answering client id answer deeds old new t a =
-    let deed : Deed = Answers client id answer in
+after-answering : (client id : ℕ) (answer : HouseReply) (old new : Desk) → Tracks old
+    → IsAnswered client id answer old new → Tracks new
+after-answering client id answer old new t a =
     let at = position (is_waiting client id) old.waiting in
     let left : Desk = record old { waiting = taken_at at old.waiting } in
-    let got : Tracks (deed ∷ deeds) left = record {
+    let got : Tracks left = record {
       numbered = t.numbered;
       stages = t.stages;
-      fates = moved deed deeds old.all old.all (taken_at at old.waiting) (λ w h. h)
-          (all-taken (Unsettled (Fates deeds old.all)) at old.waiting t.fates);
+      fates = moved old.all old.all (taken_at at old.waiting) (λ w h. h)
+          (all-taken (Unsettled (HasFate old.all)) at old.waiting t.fates);
     } in
-    subst (Tracks (deed ∷ deeds)) (sym a.others) got
+    subst (λ (d : Desk). Tracks d) (sym a.others) got
 
-after-greeting : (deeds : List Deed) (old new : Desk) → Tracks deeds old → new ≡ greeting_said old → Tracks (Greets ∷ deeds) new
-after-greeting deeds old new t e =
-    let got : Tracks (Greets ∷ deeds) (greeting_said old) = record {
+after-greeting : (old new : Desk) → Tracks old → new ≡ greeting_said old → Tracks new
+after-greeting old new t e =
+    let got : Tracks (greeting_said old) = record {
       numbered = t.numbered;
       stages = t.stages;
-      fates = moved Greets deeds old.all old.all old.waiting (λ w h. h) t.fates;
+      fates = moved old.all old.all old.waiting (λ w h. h) t.fates;
     } in
-    subst (Tracks (Greets ∷ deeds)) (sym e) got
+    subst (λ (d : Desk). Tracks d) (sym e) got
 
 awaits-if : (c : Change) (rs more : List Request) (f : Forwarding) (b : Bool)
     → (b ≡ true → StageAwaits (stage_after c f.listen_port f.stage) f.serial more) → (b ≡ false → Awaits more f)
@@ -346,15 +337,15 @@ said-moves : (r : Request) (fs : List Forwarding) → Moves fs (after_saying r f
 said-moves (Listen serial) fs w fate = fate-changed change.Request serial fs w fate (λ is. said-holds change.Request w.opening fate.0 tt fate.3)
 said-moves (Cancel serial) fs w fate = fate-changed change.Cancel serial fs w fate (λ is. said-holds change.Cancel w.opening fate.0 tt fate.3)
 
-after-request : (f : Forwarding) (deeds : List Deed) (old new : Desk) → Tracks deeds old → new ≡ request_said f old
-    → Tracks (Requests f ∷ deeds) new
-after-request f deeds old new t e =
-    let got : Tracks (Requests f ∷ deeds) (request_said f old) = record {
+after-request : (f : Forwarding) (old new : Desk) → Tracks old → new ≡ request_said f old
+    → Tracks new
+after-request f old new t e =
+    let got : Tracks (request_said f old) = record {
       numbered = said-numbered (request_of f) old.all old.serials t.numbered;
       stages = said-stages (request_of f) old.requests old.all t.stages;
-      fates = moved (Requests f) deeds old.all (after_saying (request_of f) old.all) old.waiting (said-moves (request_of f) old.all) t.fates;
+      fates = moved old.all (after_saying (request_of f) old.all) old.waiting (said-moves (request_of f) old.all) t.fates;
     } in
-    subst (Tracks (Requests f ∷ deeds)) (sym e) got
+    subst (λ (d : Desk). Tracks d) (sym e) got
 
 -- ---- a reply
 
@@ -403,23 +394,19 @@ not-its n serial b differ = elim (cases_Bool (n == serial)) [
   | inr isnt ↦ rw isnt refl
 ]
 
-all-by-in : (P : Forwarding → Type 0) (xs : List Forwarding) → ((x : Forwarding) → In x xs → P x) → All P xs
-all-by-in P [] f = All-nil P
-all-by-in P (x ∷ xs) f = All-cons P x xs (f x (inl refl)) (all-by-in P xs (λ y h. f y (inr h)))
-
 -- what is left, where the one with a serial that passes is removed
-all-left : (q : Forwarding → Bool) (serial : ℕ) (fs : List Forwarding) (serials : ℕ) (o : Option ℕ)
+pub all-left : (q : Forwarding → Bool) (serial : ℕ) (fs : List Forwarding) (serials : ℕ) (o : Option ℕ)
     → position (λ f. (f.serial == serial) && q f) fs ≡ o → is_numbered 0 fs serials ≡ true
     → All (λ f. ((f.serial == serial) && q f) ≡ false) (removed_at o fs)
 all-left q serial fs serials None e n =
-    all-by-in (λ (f : Forwarding). ((f.serial == serial) && q f) ≡ false) fs
+    all-in (λ (f : Forwarding). ((f.serial == serial) && q f) ≡ false) fs
     (λ x h. none-found-in (λ f. (f.serial == serial) && q f) fs x (none-passes (λ f. (f.serial == serial) && q f) fs e) h)
 all-left q serial [] serials (Some i) e n = cc
 all-left q serial (y ∷ fs) serials (Some i) e n =
     let first = position-Some (λ f. (f.serial == serial) && q f) (y ∷ fs) i y e in
     let g = get_or (y ∷ fs) i y in
     let is : g.serial ≡ serial = eqb-true g.serial serial (and_parts (g.serial == serial) (q g) first.1).0 in
-    all-by-in (λ (f : Forwarding). ((f.serial == serial) && q f) ≡ false) (remove (y ∷ fs) i)
+    all-in (λ (f : Forwarding). ((f.serial == serial) && q f) ≡ false) (remove (y ∷ fs) i)
     (λ x h. not-its x.serial serial (q x) (λ same. removed-differs (y ∷ fs) i x y 0 serials n first.0 h (same ∙ sym is)))
 
 all-both : (P Q R : Forwarding → Type 0) (xs : List Forwarding) → ((x : Forwarding) → P x → Q x → R x) → All P xs → All Q xs → All R xs
@@ -439,10 +426,10 @@ fate-left p (y ∷ fs) (Some i) x e isnt h =
     let first = position-Some p (y ∷ fs) i y e in
     in-remove p x (y ∷ fs) i y first.0 first.1 isnt h
 
-record Replied (deeds : List Deed) (rs : List Request) (fs : List Forwarding) (serials : ℕ) (ws : List Waiting) : Type 0 where
+record Replied (rs : List Request) (fs : List Forwarding) (serials : ℕ) (ws : List Waiting) : Type 0 where
   numbered : is_numbered 0 fs serials ≡ true
   stages : All (Awaits rs) fs
-  fates : All (Unsettled (Fates deeds fs)) ws
+  fates : All (Unsettled (HasFate fs)) ws
 
 serial-differs : (f : Forwarding) (n serial : ℕ) → f.serial ≡ n → (n == serial) ≡ false → f.serial ≡ serial → ⊥
 serial-differs f n serial is isnt same = both_ways (n == serial) isnt (eq-eqb n serial (sym is ∙ same))
@@ -451,19 +438,18 @@ pub not-asked : (f : Forwarding) (serial : ℕ) → f.serial ≡ serial → is_a
 not-asked f serial is e = second-part (f.serial == serial) (asks_at f.stage) (eq-eqb f.serial serial is) e
 
 -- a success makes what is asked for live
-opened : (deed : Deed) (deeds : List Deed) (port : Option ℕ) (serial at : ℕ) (fs : List Forwarding) (ws : List Waiting)
-    (o : Option Forwarding) → find (is_asked serial) fs ≡ o → All (Unsettled (Fates deeds fs)) ws
-    → All (Unsettled (Fates (deed ∷ deeds) (map (changed (change.Live port) serial) fs))) (opened_asks (live_in port o) serial at ws)
-opened deed deeds port serial at fs ws None e h =
-    moved deed deeds fs (map (changed (change.Live port) serial) fs) ws
+opened : (port : Option ℕ) (serial at : ℕ) (fs : List Forwarding) (ws : List Waiting)
+    (o : Option Forwarding) → find (is_asked serial) fs ≡ o → All (Unsettled (HasFate fs)) ws
+    → All (Unsettled (HasFate (map (changed (change.Live port) serial) fs))) (opened_asks (live_in port o) serial at ws)
+opened port serial at fs ws None e h =
+    moved fs (map (changed (change.Live port) serial) fs) ws
     (λ w fate. fate-changed (change.Live port) serial fs w fate
     (λ is. live-holds port w.opening fate.0 (λ _. not-asked fate.0 serial is (none-passes-in (is_asked serial) fs fate.0 e fate.1)) fate.3)) h
-opened deed deeds port serial at fs ws (Some f) e h =
-    all-unsettled (Fates deeds fs) (Fates (deed ∷ deeds) (map (changed (change.Live port) serial) fs)) serial true at _ ws
-    (λ w other none fates. step deed deeds fs (map (changed (change.Live port) serial) fs) w
-    (λ fate. inl (fate-changed (change.Live port) serial fs w fate
+opened port serial at fs ws (Some f) e h =
+    all-unsettled (HasFate fs) (HasFate (map (changed (change.Live port) serial) fs)) serial true at _ ws
+    (λ w other none fate. fate-changed (change.Live port) serial fs w fate
     (λ is. live-holds port w.opening fate.0
-    (λ opens. absurd (serial-differs fate.0 w.forwarding serial fate.2 (of-other serial true w opens other) is)) fate.3))) fates) h
+    (λ opens. absurd (serial-differs fate.0 w.forwarding serial fate.2 (of-other serial true w opens other) is)) fate.3)) h
 
 differs-listen : (n serial : ℕ) → (n == serial) ≡ false → Listen serial ≡ Listen n → ⊥
 differs-listen n serial e is = let same : n ≡ serial = cc in both_ways (n == serial) e (eq-eqb n serial same)
@@ -498,19 +484,18 @@ stay-fate true f w serial opens is its holds other = stay-holds f false holds
 stay-fate false f w serial opens is its holds other =
     absurd (serial-differs f w.forwarding serial is (of-other serial false w opens other) its)
 
-replied : (success : Bool) (r : Request) (deeds : List Deed) (port : Option ℕ) (at serials : ℕ) (rs : List Request) (fs : List Forwarding)
-    (ws : List Waiting) → is_numbered 0 fs serials ≡ true → All (Awaits (r ∷ rs)) fs → All (Unsettled (Fates deeds fs)) ws
-    → Replied (Replies success port ∷ deeds) rs (replied_all success port (Some r) fs) serials (replied_asks success port (Some r) fs at ws)
-replied true (Listen serial) deeds port at serials rs fs ws n h k = record {
+replied : (success : Bool) (r : Request) (port : Option ℕ) (at serials : ℕ) (rs : List Request) (fs : List Forwarding)
+    (ws : List Waiting) → is_numbered 0 fs serials ≡ true → All (Awaits (r ∷ rs)) fs → All (Unsettled (HasFate fs)) ws
+    → Replied rs (replied_all success port (Some r) fs) serials (replied_asks success port (Some r) fs at ws)
+replied true (Listen serial) port at serials rs fs ws n h k = record {
   numbered = numbered-changed (change.Live port) serial fs serials n;
   stages = all-awaits (change.Live port) serial (Listen serial ∷ rs) rs fs
       (λ f is a. live-awaits f.stage port f.listen_port f.serial serial rs a)
       (λ f isnt a. other-awaits f.stage f.serial (Listen serial) rs (λ _ e. differs-listen f.serial serial isnt e)
       (λ _ e. listen-cancel serial f.serial e) a) h;
-  fates = opened (Replies true port) deeds port serial at fs ws (find (is_asked serial) fs) refl k;
+  fates = opened port serial at fs ws (find (is_asked serial) fs) refl k;
 }
-replied false (Listen serial) deeds port at serials rs fs ws n h k =
-    let deed : Deed = Replies false port in
+replied false (Listen serial) port at serials rs fs ws n h k =
     let o = position (is_asked serial) fs in
     record {
       numbered = numbered-removed o fs serials n;
@@ -520,19 +505,17 @@ replied false (Listen serial) deeds port at serials rs fs ws n h k =
           (λ _ e. listen-cancel serial f.serial e) a)
           (all-left (λ f. asks_at f.stage) serial fs serials o refl n)
           (all-removed (Awaits (Listen serial ∷ rs)) o fs h);
-      fates = all-unrefused (Fates deeds fs) (Fates (deed ∷ deeds) (removed_at o fs)) serial at ws
-          (λ w one two none fates. step deed deeds fs (removed_at o fs) w
-          (λ fate. inl (
+      fates = all-unrefused (HasFate fs) (HasFate (removed_at o fs)) serial at ws
+          (λ w one two none fate. (
             fate.0,
             fate-left (is_asked serial) fs o fate.0 refl
                 (not-its fate.0.serial serial (asks_at fate.0.stage)
                 (serial-differs fate.0 w.forwarding serial fate.2 (of-neither serial w one two))) fate.1,
             fate.2,
             fate.3,
-          )) fates) k;
+          )) k;
     }
-replied true (Cancel serial) deeds port at serials rs fs ws n h k =
-    let deed : Deed = Replies true port in
+replied true (Cancel serial) port at serials rs fs ws n h k =
     let o = position (is_cancelled serial) fs in
     record {
       numbered = numbered-removed o fs serials n;
@@ -541,18 +524,16 @@ replied true (Cancel serial) deeds port at serials rs fs ws n h k =
           (λ cancels e. differs-cancel f.serial serial (not-this f.serial serial (cancels_at f.stage) isnt cancels) e) a)
           (all-left (λ f. cancels_at f.stage) serial fs serials o refl n)
           (all-removed (Awaits (Cancel serial ∷ rs)) o fs h);
-      fates = all-unsettled (Fates deeds fs) (Fates (deed ∷ deeds) (removed_at o fs)) serial false at Done ws
-          (λ w other none fates. step deed deeds fs (removed_at o fs) w
-          (λ fate. inl (
+      fates = all-unsettled (HasFate fs) (HasFate (removed_at o fs)) serial false at Done ws
+          (λ w other none fate. (
             fate.0,
             fate-left (is_cancelled serial) fs o fate.0 refl
                 (stays-uncancelled w.opening fate.0 w serial refl fate.2 fate.3 other) fate.1,
             fate.2,
             fate.3,
-          )) fates) k;
+          )) k;
     }
-replied false (Cancel serial) deeds port at serials rs fs ws n h k =
-    let deed : Deed = Replies false port in
+replied false (Cancel serial) port at serials rs fs ws n h k =
     let new = map (changed change.Stay serial) fs in
     record {
       numbered = numbered-changed change.Stay serial fs serials n;
@@ -560,31 +541,30 @@ replied false (Cancel serial) deeds port at serials rs fs ws n h k =
           (λ f is a. stay-awaits f.stage f.listen_port f.serial serial rs a)
           (λ f isnt a. other-awaits f.stage f.serial (Cancel serial) rs (λ _ e. cancel-listen serial f.serial e)
           (λ _ e. differs-cancel f.serial serial isnt e) a) h;
-      fates = all-unsettled (Fates deeds fs) (Fates (deed ∷ deeds) new) serial false at Refused ws
-          (λ w other none fates. step deed deeds fs new w
-          (λ fate. inl (fate-changed change.Stay serial fs w fate
-          (λ is. stay-fate w.opening fate.0 w serial refl fate.2 is fate.3 other))) fates) k;
+      fates = all-unsettled (HasFate fs) (HasFate new) serial false at Refused ws
+          (λ w other none fate. fate-changed change.Stay serial fs w fate
+          (λ is. stay-fate w.opening fate.0 w serial refl fate.2 is fate.3 other)) k;
     }
 
-replied-by : (success : Bool) (port : Option ℕ) (deeds : List Deed) (old : Desk) (rs : List Request) → old.requests ≡ rs → Tracks deeds old
-    → Replied (Replies success port ∷ deeds) (drop 1 rs) (replied_all success port (first_of rs) old.all) old.serials
+replied-by : (success : Bool) (port : Option ℕ) (old : Desk) (rs : List Request) → old.requests ≡ rs → Tracks old
+    → Replied (drop 1 rs) (replied_all success port (first_of rs) old.all) old.serials
     (replied_asks success port (first_of rs) old.all old.done old.waiting)
-replied-by success port deeds old [] e t = record {
+replied-by success port old [] e t = record {
   numbered = t.numbered;
   stages = subst (λ (rs : List Request). All (Awaits rs) old.all) e t.stages;
-  fates = moved (Replies success port) deeds old.all old.all old.waiting (λ w h. h) t.fates;
+  fates = moved old.all old.all old.waiting (λ w h. h) t.fates;
 }
-replied-by success port deeds old (r ∷ rs) e t =
-    replied success r deeds port old.done old.serials rs old.all old.waiting t.numbered
+replied-by success port old (r ∷ rs) e t =
+    replied success r port old.done old.serials rs old.all old.waiting t.numbered
     (subst (λ (qs : List Request). All (Awaits qs) old.all) e t.stages) t.fates
 
-after-reply : (success : Bool) (port : Option ℕ) (deeds : List Deed) (old new : Desk) → Tracks deeds old → new ≡ reply_heard success port old
-    → Tracks (Replies success port ∷ deeds) new
-after-reply success port deeds old new t e =
-    let r = replied-by success port deeds old old.requests refl t in
-    let got : Tracks (Replies success port ∷ deeds) (reply_heard success port old) =
+after-reply : (success : Bool) (port : Option ℕ) (old new : Desk) → Tracks old → new ≡ reply_heard success port old
+    → Tracks new
+after-reply success port old new t e =
+    let r = replied-by success port old old.requests refl t in
+    let got : Tracks (reply_heard success port old) =
     record { numbered = r.numbered; stages = r.stages; fates = r.fates } in
-    subst (Tracks (Replies success port ∷ deeds)) (sym e) got
+    subst (λ (d : Desk). Tracks d) (sym e) got
 
 -- ---- a listener is ordered
 
@@ -623,56 +603,53 @@ made-of (Some l) i j f old middle new same e first at m =
     ∙ set-set old i (record f { stage = Ordered }) (record f { stage = Listening l })
 
 -- an ask to close keeps its forwarding as that gets its listener
-made-fate : (opening : Bool) (deeds : List Deed) (l i : ℕ) (f x : Forwarding) (old : List Forwarding) (w : Waiting) → w.opening ≡ opening
+made-fate : (opening : Bool) (l i : ℕ) (f x : Forwarding) (old : List Forwarding) (w : Waiting) → w.opening ≡ opening
     → i < length old → is_about f.serial true w ≡ false → x.serial ≡ w.forwarding → Holds opening x → x ≡ f
     → (y : Forwarding) × In y (set old i (record f { stage = Listening l })) × (y.serial ≡ w.forwarding) × Holds opening y
-made-fate true deeds l i f x old w opens inside other is holds same =
+made-fate true l i f x old w opens inside other is holds same =
     absurd (serial-differs x w.forwarding f.serial is (of-other f.serial true w opens other) (ap (λ (z : Forwarding). z.serial) same))
-made-fate false deeds l i f x old w opens inside other is holds same = (
+made-fate false l i f x old w opens inside other is holds same = (
   record f { stage = Listening l },
   in-set_new old i (record f { stage = Listening l }) inside,
   ap (λ (z : Forwarding). z.serial) (sym same) ∙ is,
   ap (λ (z : Forwarding). z.closing) (sym same) ∙ holds,
 )
 
-made : (number : Option ℕ) (deed : Deed) (deeds : List Deed) (rs : List Request) (serials at i : ℕ) (f : Forwarding) (old new : List Forwarding)
+made : (number : Option ℕ) (rs : List Request) (serials at i : ℕ) (f : Forwarding) (old new : List Forwarding)
     (ws : List Waiting) → position to_listen old ≡ Some i → f ≡ get_or old i f → MadeOf number i f old new
-    → is_numbered 0 old serials ≡ true → All (Awaits rs) old → All (Unsettled (Fates deeds old)) ws
-    → Replied (deed ∷ deeds) rs new serials (ordered_asks number f.serial at ws)
-made None deed deeds rs serials at i f old new ws first is m n h k =
+    → is_numbered 0 old serials ≡ true → All (Awaits rs) old → All (Unsettled (HasFate old)) ws
+    → Replied rs new serials (ordered_asks number f.serial at ws)
+made None rs serials at i f old new ws first is m n h k =
     let inside = (position-Some to_listen old i f first).0 in
-    subst (λ (xs : List Forwarding). Replied (deed ∷ deeds) rs xs serials (ordered_asks None f.serial at ws)) (sym m) (record {
+    subst (λ (xs : List Forwarding). Replied rs xs serials (ordered_asks None f.serial at ws)) (sym m) (record {
       numbered = numbered-remove old i serials n;
       stages = all-remove (Awaits rs) old i h;
-      fates = all-unrefused (Fates deeds old) (Fates (deed ∷ deeds) (remove old i)) f.serial at ws
-          (λ w one two none fates. step deed deeds old (remove old i) w
-          (λ fate. inl (
+      fates = all-unrefused (HasFate old) (HasFate (remove old i)) f.serial at ws
+          (λ w one two none fate. (
             fate.0,
             in-remove (λ (x : Forwarding). x.serial == f.serial) fate.0 old i f inside
                 (eq-eqb (get_or old i f).serial f.serial (ap (λ (x : Forwarding). x.serial) (sym is)))
                 (ap (λ b. b == f.serial) fate.2 ∙ of-neither f.serial w one two) fate.1,
             fate.2,
             fate.3,
-          )) fates) k;
+          )) k;
     })
-made (Some l) deed deeds rs serials at i f old new ws first is m n h k =
+made (Some l) rs serials at i f old new ws first is m n h k =
     let inside = (position-Some to_listen old i f first).0 in
     let g : Forwarding = record f { stage = Listening l } in
-    subst (λ (xs : List Forwarding). Replied (deed ∷ deeds) rs xs serials (ordered_asks (Some l) f.serial at ws)) (sym m) (record {
+    subst (λ (xs : List Forwarding). Replied rs xs serials (ordered_asks (Some l) f.serial at ws)) (sym m) (record {
       numbered = numbered-first to_listen old i g f serials first is refl n;
       stages = All-set (Awaits rs) old i g tt h;
-      fates = all-unsettled (Fates deeds old) (Fates (deed ∷ deeds) (set old i g)) f.serial true at Done ws
-          (λ w other none fates. step deed deeds old (set old i g) w
-          (λ fate. inl (elim (in-set fate.0 old i g f inside fate.1) [
+      fates = all-unsettled (HasFate old) (HasFate (set old i g)) f.serial true at Done ws
+          (λ w other none fate. elim (in-set fate.0 old i g f inside fate.1) [
             | inl stays ↦ (fate.0, stays, fate.2, fate.3)
-            | inr its ↦ made-fate w.opening deeds l i f fate.0 old w refl inside other fate.2 fate.3 (its ∙ sym is)
-          ])) fates) k;
+            | inr its ↦ made-fate w.opening l i f fate.0 old w refl inside other fate.2 fate.3 (its ∙ sym is)
+          ]) k;
     })
 
-after-listen : (host : List ℕ) (port : ℕ) (number : Option ℕ) (deeds : List Deed) (old new : Desk) → Tracks deeds old
-    → GetsListener host port number old new → Tracks (Listens host port number ∷ deeds) new
-after-listen host port number deeds old new t h =
-    let deed : Deed = Listens host port number in
+after-listen : (host : List ℕ) (port : ℕ) (number : Option ℕ) (old new : Desk) → Tracks old
+    → GetsListener host port number old new → Tracks new
+after-listen host port number old new t h =
     let b = h.between in
     let f = h.orders.ordered.0 in
     let g : Forwarding = record f { stage = Ordered } in
@@ -686,7 +663,7 @@ after-listen host port number deeds old new t h =
     let waiting : new.waiting ≡ ordered_asks number f.serial b.done old.waiting = ap (λ (d : Desk). d.waiting) m
     ∙ ap (λ (x : Option Forwarding). ordered_asks number (serial_of x) b.done b.waiting) first
     ∙ ap (λ (ws : List Waiting). ordered_asks number f.serial b.done ws) (ap (λ (d : Desk). d.waiting) s) in
-    let r = made number deed deeds old.requests old.serials b.done i f old.all new.all old.waiting h.orders.first h.orders.ordered.1
+    let r = made number old.requests old.serials b.done i f old.all new.all old.waiting h.orders.first h.orders.ordered.1
     (made-of number i h.makes.place f old.all b.all new.all same h.orders.ordered.2 first h.makes.first h.makes.made)
     t.numbered t.stages t.fates in
     record {
@@ -694,7 +671,7 @@ after-listen host port number deeds old new t h =
           (sym (ap (λ (d : Desk). d.serials) m ∙ ap (λ (d : Desk). d.serials) s)) r.numbered;
       stages = subst (λ (rs : List Request). All (Awaits rs) new.all)
           (sym (ap (λ (d : Desk). d.requests) m ∙ ap (λ (d : Desk). d.requests) s)) r.stages;
-      fates = subst (λ (ws : List Waiting). All (Unsettled (Fates (deed ∷ deeds) new.all)) ws) (sym waiting) r.fates;
+      fates = subst (λ (ws : List Waiting). All (Unsettled (HasFate new.all)) ws) (sym waiting) r.fates;
     }
 
 -- ---- a listener is closed
@@ -708,76 +685,71 @@ has-it l Requested n e = cc
 has-it l (Live port) n e = cc
 has-it l (Cancelling port) n e = cc
 
--- another with the same listener
-shares : (opening : Bool) (l : ℕ) (deeds : List Deed) (old : Desk) (serial : ℕ) (f : Forwarding) (w : Waiting) → w.opening ≡ opening
-    → Leave deeds old → Closing (λ x. In x old.all) serial l → In f old.all → f.serial ≡ w.forwarding → Holds opening f
-    → is_about serial false w ≡ false → has_listener l f ≡ true → (w.opening ≡ false) × ShareListener (Unlistens l ∷ deeds)
-shares true l deeds old serial f w opens left c here is holds other has =
-    absurd ((has-it l f.stage f.listen_port has).0 holds)
-shares false l deeds old serial f w opens left c here is holds other has = (
-  opens,
-  record {
-    later = Unlistens l ∷ [];
-    earlier = deeds;
-    were = refl;
-    desk = old;
-    left = left;
-    one = c.f;
-    other = f;
-    listener = l;
-    has_one = in-contains c.f old.all c.holds;
-    has_other = in-contains f old.all here;
-    differ = λ same. serial-differs f w.forwarding serial is (of-other serial false w opens other) (sym same ∙ c.serial_is);
-    listens = ap listener_at c.stage_is;
-    listens_too = (has-it l f.stage f.listen_port has).1;
-  },
-)
+-- one that an ask waits for has another listener, or none
+lacks-it : (opening : Bool) (l : ℕ) (all : List Forwarding) (serial : ℕ) (f : Forwarding) (w : Waiting) → w.opening ≡ opening
+    → ((k : ℕ) (x y : Forwarding) → In x all → In y all → listener_of x ≡ Some k → listener_of y ≡ Some k → x.serial ≡ y.serial)
+    → Closing (λ x. In x all) serial l → In f all → f.serial ≡ w.forwarding → Holds opening f → is_about serial false w ≡ false
+    → has_listener l f ≡ false
+lacks-it true l all serial f w opens one c here is holds other = elim (cases_Bool (has_listener l f)) [
+  | inl has ↦ absurd ((has-it l f.stage f.listen_port has).0 holds)
+  | inr lacks ↦ lacks
+]
+lacks-it false l all serial f w opens one c here is holds other = elim (cases_Bool (has_listener l f)) [
+  | inl has ↦ absurd (serial-differs f w.forwarding serial is (of-other serial false w opens other)
+      (one l f c.f here c.holds (has-it l f.stage f.listen_port has).1 (ap listener_at c.stage_is) ∙ c.serial_is))
+  | inr lacks ↦ lacks
+]
 
-all-in : (xs : List Forwarding) → All (λ x. In x xs) xs
-all-in xs = all-by-in (λ (x : Forwarding). In x xs) xs (λ x h. h)
-
-after-unlisten : (l : ℕ) (deeds : List Deed) (old new : Desk) → Leave deeds old → Tracks deeds old → EndsListener l old new
-    → Tracks (Unlistens l ∷ deeds) new
+after-unlisten : (l : ℕ) (deeds : List Deed) (old new : Desk) → Leave deeds old → Tracks old → EndsListener l old new
+    → Tracks new
 after-unlisten l deeds old new left t h =
-    let deed : Deed = Unlistens l in
+    let one = one-each deeds old left in
     let keep : Forwarding → Bool = λ f. not (has_listener l f) in
     let kept = filter keep old.all in
-    let c = next-closing (λ (x : Forwarding). In x old.all) old.waiting old.all h.serial l (all-in old.all) h.next in
+    let c = next-closing (λ (x : Forwarding). In x old.all) old.waiting old.all h.serial l (all-in (λ (x : Forwarding). In x old.all) old.all (λ x k. k)) h.next in
     let to : Desk = record old {
       all = kept;
       waiting = settled h.serial false old.done Done old.waiting;
       done = counted old.done;
     } in
-    let got : Tracks (deed ∷ deeds) to = record {
+    let got : Tracks to = record {
       numbered = numbered-filter keep old.all old.serials t.numbered;
       stages = All-filter keep (Awaits old.requests) old.all t.stages;
-      fates = all-unsettled (Fates deeds old.all) (Fates (deed ∷ deeds) kept) h.serial false old.done Done old.waiting
-          (λ w other none fates. step deed deeds old.all kept w
-          (λ fate. elim (cases_Bool (has_listener l fate.0)) [
-            | inl has ↦ inr (shares w.opening l deeds old h.serial fate.0 w refl left c fate.1 fate.2 fate.3 other has)
-            | inr lacks ↦ inl (fate.0, in-filter keep fate.0 old.all (rw lacks refl) fate.1, fate.2, fate.3)
-          ]) fates) t.fates;
+      fates = all-unsettled (HasFate old.all) (HasFate kept) h.serial false old.done Done old.waiting
+          (λ w other none fate. (
+            fate.0,
+            in-filter keep fate.0 old.all
+                (rw (lacks-it w.opening l old.all h.serial fate.0 w refl one c fate.1 fate.2 fate.3 other) refl) fate.1,
+            fate.2,
+            fate.3,
+          )) t.fates;
     } in
-    subst (Tracks (deed ∷ deeds)) (sym h.others) got
+    subst (λ (d : Desk). Tracks d) (sym h.others) got
 
 -- ---- by all that happened
 
-after : (deed : Deed) (deeds : List Deed) (old new : Desk) → Leave deeds old → Tracks deeds old → Does deed old new → Tracks (deed ∷ deeds) new
-after (Begins starts) deeds old new left t d = after-start starts deeds old new t d
-after (Asks client id opening ask answer) deeds old new left t d = after-ask client id opening ask answer deeds old new t d
-after (Answers client id answer) deeds old new left t d = after-answering client id answer deeds old new t d
-after Greets deeds old new left t d = after-greeting deeds old new t d.1
-after (Requests f) deeds old new left t d = after-request f deeds old new t d.2
-after (Replies success port) deeds old new left t d = after-reply success port deeds old new t d
-after (Listens host port number) deeds old new left t d = after-listen host port number deeds old new t d
+after : (deed : Deed) (deeds : List Deed) (old new : Desk) → Leave deeds old → Tracks old → Does deed old new → Tracks new
+after (Begins starts) deeds old new left t d = after-start starts old new t d
+after (Asks client id opening ask answer) deeds old new left t d = after-ask client id opening ask answer old new t d
+after (Answers client id answer) deeds old new left t d = after-answering client id answer old new t d
+after Greets deeds old new left t d = after-greeting old new t d.1
+after (Requests f) deeds old new left t d = after-request f old new t d.2
+after (Replies success port) deeds old new left t d = after-reply success port old new t d
+after (Listens host port number) deeds old new left t d = after-listen host port number old new t d
 after (Unlistens l) deeds old new left t d = after-unlisten l deeds old new left t d
 
-tracks-nothing : Tracks [] empty_desk
-tracks-nothing = record { numbered = refl; stages = All-nil (Awaits []); fates = All-nil (Unsettled (Fates [] [])) }
+tracks-nothing : Tracks empty_desk
+tracks-nothing = record { numbered = refl; stages = All-nil (Awaits []); fates = All-nil (Unsettled (HasFate [])) }
 
-pub tracks : (deeds : List Deed) (desk : Desk) → Leave deeds desk → Tracks deeds desk
-tracks [] desk left = subst (Tracks []) (sym left) tracks-nothing
+pub tracks : (deeds : List Deed) (desk : Desk) → Leave deeds desk → Tracks desk
+tracks [] desk left = subst (λ (d : Desk). Tracks d) (sym left) tracks-nothing
 tracks (deed ∷ deeds) desk left = after deed deeds left.0 desk left.1 (tracks deeds left.0 left.1) left.2
+
+-- ---- their listeners
+
+pub listeners-differ : ListenersDiffer
+listeners-differ deeds d left =
+    pairs (listeners_of d.all) (apart-listeners d.all 0 d.serials (tracks deeds d left).numbered (one-each deeds d left))
 
 -- ---- at rest
 
@@ -786,13 +758,13 @@ unsettled None e = refl
 unsettled (Some x) e = cc
 
 -- each has its fate
-all-fates : (deeds : List Deed) (all : List Forwarding) (ws : List Waiting) → All (Unsettled (Fates deeds all)) ws
-    → list_any has_outcome ws ≡ false → All (Fates deeds all) ws
-all-fates deeds all [] h e = All-nil (Fates deeds all)
-all-fates deeds all (w ∷ ws) h e =
+all-fates : (all : List Forwarding) (ws : List Waiting) → All (Unsettled (HasFate all)) ws
+    → list_any has_outcome ws ≡ false → All (HasFate all) ws
+all-fates all [] h e = All-nil (HasFate all)
+all-fates all (w ∷ ws) h e =
     let both = or_parts (has_outcome w) (list_any has_outcome ws) e in
-    All-cons (Fates deeds all) w ws (All-head (Unsettled (Fates deeds all)) w ws h (unsettled w.outcome both.0))
-    (all-fates deeds all ws (All-tail (Unsettled (Fates deeds all)) w ws h) both.1)
+    All-cons (HasFate all) w ws (All-head (Unsettled (HasFate all)) w ws h (unsettled w.outcome both.0))
+    (all-fates all ws (All-tail (Unsettled (HasFate all)) w ws h) both.1)
 
 -- none that asked for it waits where it has its listener
 owes-if : (opening : Bool) (fs : List Forwarding) (serials l : ℕ) (g f : Forwarding) (w : Waiting) → w.opening ≡ opening
@@ -805,18 +777,17 @@ owes-if true fs serials l g f w opens n here is there its holds =
     subst (λ (s : Stage). outcome_at s g.listen_port ≡ None) is (subst (λ (x : Forwarding). outcome_of x ≡ None) one holds) in cc)
 owes-if false fs serials l g f w opens n here is there its holds = and-second (w.forwarding == g.serial) false refl
 
-owes-one : (deeds : List Deed) (fs : List Forwarding) (serials l : ℕ) (g : Forwarding) (w : Waiting) → is_numbered 0 fs serials ≡ true → In g fs
-    → g.stage ≡ Listening l → Fates deeds fs w → ((w.forwarding == g.serial) && w.opening) ≡ false
-owes-one deeds fs serials l g w n here is (inl fate) = owes-if w.opening fs serials l g fate.0 w refl n here is fate.1 fate.2 fate.3
-owes-one deeds fs serials l g w n here is (inr s) = and-second (w.forwarding == g.serial) w.opening s.0
+owes-one : (fs : List Forwarding) (serials l : ℕ) (g : Forwarding) (w : Waiting) → is_numbered 0 fs serials ≡ true → In g fs
+    → g.stage ≡ Listening l → HasFate fs w → ((w.forwarding == g.serial) && w.opening) ≡ false
+owes-one fs serials l g w n here is fate = owes-if w.opening fs serials l g fate.0 w refl n here is fate.1 fate.2 fate.3
 
-owes-none : (deeds : List Deed) (fs : List Forwarding) (serials l : ℕ) (g : Forwarding) (ws : List Waiting) → is_numbered 0 fs serials ≡ true
-    → In g fs → g.stage ≡ Listening l → All (Fates deeds fs) ws → owes_opening g.serial ws ≡ false
-owes-none deeds fs serials l g [] n here is h = refl
-owes-none deeds fs serials l g (w ∷ ws) n here is h =
+owes-none : (fs : List Forwarding) (serials l : ℕ) (g : Forwarding) (ws : List Waiting) → is_numbered 0 fs serials ≡ true
+    → In g fs → g.stage ≡ Listening l → All (HasFate fs) ws → owes_opening g.serial ws ≡ false
+owes-none fs serials l g [] n here is h = refl
+owes-none fs serials l g (w ∷ ws) n here is h =
     or_from ((w.forwarding == g.serial) && w.opening) (owes_opening g.serial ws)
-    (owes-one deeds fs serials l g w n here is (All-head (Fates deeds fs) w ws h))
-    (owes-none deeds fs serials l g ws n here is (All-tail (Fates deeds fs) w ws h))
+    (owes-one fs serials l g w n here is (All-head (HasFate fs) w ws h))
+    (owes-none fs serials l g ws n here is (All-tail (HasFate fs) w ws h))
 
 -- where there is nothing to order, none is to listen, and none with a listener closes
 abbrev pub Rests : Stage → Bool → Type 0
@@ -848,16 +819,16 @@ next-rest Requested closing serial ws rs next owes a e = (tt, e)
 next-rest (Live port) closing serial ws rs next owes a e = (tt, e)
 next-rest (Cancelling port) closing serial ws rs next owes a e = (tt, e)
 
-pub all-rest : (deeds : List Deed) (all : List Forwarding) (serials : ℕ) (rs : List Request) (ws : List Waiting) (fs : List Forwarding)
-    → is_numbered 0 all serials ≡ true → All (Fates deeds all) ws → ((f : Forwarding) → In f fs → In f all) → All (Awaits rs) fs
+pub all-rest : (all : List Forwarding) (serials : ℕ) (rs : List Request) (ws : List Waiting) (fs : List Forwarding)
+    → is_numbered 0 all serials ≡ true → All (HasFate all) ws → ((f : Forwarding) → In f fs → In f all) → All (Awaits rs) fs
     → next_of ws fs ≡ None → (f : Forwarding) → In f fs → Rests f.stage f.closing
-all-rest deeds all serials rs ws [] n fates within h e f here = absurd here
-all-rest deeds all serials rs ws (g ∷ fs) n fates within h e f here =
+all-rest all serials rs ws [] n fates within h e f here = absurd here
+all-rest all serials rs ws (g ∷ fs) n fates within h e f here =
     let one = next-rest g.stage g.closing g.serial ws rs (next_of ws fs)
-    (λ l is. owes-none deeds all serials l g ws n (within g (inl refl)) is fates) (All-head (Awaits rs) g fs h) e in
+    (λ l is. owes-none all serials l g ws n (within g (inl refl)) is fates) (All-head (Awaits rs) g fs h) e in
     elim here [
       | inl same ↦ subst (λ (x : Forwarding). Rests x.stage x.closing) same one.0
-      | inr later ↦ all-rest deeds all serials rs ws fs n fates (λ x k. within x (inr k)) (All-tail (Awaits rs) g fs h) one.1 f later
+      | inr later ↦ all-rest all serials rs ws fs n fates (λ x k. within x (inr k)) (All-tail (Awaits rs) g fs h) one.1 f later
     ]
 
 -- what an ask then waits for
@@ -891,21 +862,18 @@ awaits-one : (d : Desk) (w : Waiting) (f : Forwarding) → f.serial ≡ w.forwar
 awaits-one d w f is (inl h) = inl (subst (λ (n : ℕ). Contains d.requests (Listen n)) is (in-contains (Listen f.serial) d.requests h))
 awaits-one d w f is (inr h) = inr (subst (λ (n : ℕ). Contains d.requests (Cancel n)) is (in-contains (Cancel f.serial) d.requests h))
 
-pub fates-at-rest : (deeds : List Deed) (d : Desk) → Tracks deeds d → IsAtRest d → All (Fates deeds d.all) d.waiting
-fates-at-rest deeds d t rest =
-    all-fates deeds d.all d.waiting t.fates (not-true (list_any has_outcome d.waiting) rest.answers)
+pub fates-at-rest : (d : Desk) → Tracks d → IsAtRest d → All (HasFate d.all) d.waiting
+fates-at-rest d t rest =
+    all-fates d.all d.waiting t.fates (not-true (list_any has_outcome d.waiting) rest.answers)
 
-awaits-by : (deeds : List Deed) (d : Desk) (w : Waiting) → Tracks deeds d → IsAtRest d → Fates deeds d.all w
-    → AwaitsReply d.requests w ⊎ ((w.opening ≡ false) × ShareListener deeds)
-awaits-by deeds d w t rest (inr s) = inr s
-awaits-by deeds d w t rest (inl fate) = inl (awaits-one d w fate.0 fate.2 (waits-for w.opening fate.0 d.requests fate.3
-    (all-rest deeds d.all d.serials d.requests d.waiting d.all t.numbered (fates-at-rest deeds d t rest) (λ f h. h) t.stages rest.orders
+awaits-by : (d : Desk) (w : Waiting) → Tracks d → IsAtRest d → HasFate d.all w → AwaitsReply d.requests w
+awaits-by d w t rest fate = awaits-one d w fate.0 fate.2 (waits-for w.opening fate.0 d.requests fate.3
+    (all-rest d.all d.serials d.requests d.waiting d.all t.numbered (fates-at-rest d t rest) (λ f h. h) t.stages rest.orders
     fate.0 fate.1)
     (none-passes-in has_request d.all fate.0 rest.says fate.1)
-    (in-all (Awaits d.requests) fate.0 d.all t.stages fate.1)))
+    (in-all (Awaits d.requests) fate.0 d.all t.stages fate.1))
 
 pub each-awaits : EachAwaits
 each-awaits deeds d left rest =
     let t = tracks deeds d left in
-    All-weaker (Fates deeds d.all) (λ (w : Waiting). AwaitsReply d.requests w ⊎ ((w.opening ≡ false) × ShareListener deeds))
-    (λ w fates. awaits-by deeds d w t rest fates) d.waiting (fates-at-rest deeds d t rest)
+    All-weaker (HasFate d.all) (AwaitsReply d.requests) (λ w fate. awaits-by d w t rest fate) d.waiting (fates-at-rest d t rest)

@@ -7,7 +7,7 @@ use Rattle.std.proofs.lemmas.List.Elements.{All-weaker, All-map}
 use Rattle.mux_outside.specs.declared.house.HouseReply.TheVariants as given
 use Rattle.mux_outside.specs.declared.start_ask.StartAsk.{StartAsk}
 use Rattle.house_forward.specs.Asks.{settled, settle_one, settled_at, refused, is_about, same, counted}
-use Rattle.house_forward.specs.Causes.{answers, gateway_in, closes, AreOne, IsFor, ListensSince, IsGranted, CameBy, WasToClose}
+use Rattle.house_forward.specs.Causes.{answers, gateway_in, closes, AreOne, IsFor, ListensSince, IsGranted, CameBy}
 use Rattle.house_forward.specs.Deeds.{Deed}
 use Rattle.house_forward.specs.Deeds.{Asks}
 use Rattle.house_forward.specs.Forwardings.{changed, stage_after, closing_after}
@@ -38,7 +38,6 @@ pub record Stands (home : ℕ → Forwarding) (serials : ℕ) (deeds : List Deed
   pub below : f.serial < serials
   pub same : AreOne (home f.serial) f
   pub stage : StageFits f.stage (home f.serial) deeds
-  pub closing : f.closing ≡ true → WasToClose (home f.serial) deeds
 
 -- a forwarding whose request was said
 pub record Asked (home : ℕ → Forwarding) (serials : ℕ) (g : Forwarding) : Type 0 where
@@ -92,17 +91,6 @@ granted-later deed a port deeds h = record {
   bound = h.bound;
 }
 
-pub to-close-later : (deed : Deed) (a : Forwarding) (deeds : List Deed) → WasToClose a deeds → WasToClose a (deed ∷ deeds)
-to-close-later deed a deeds h = record {
-  client = h.client;
-  id = h.id;
-  ask = h.ask;
-  later = deed ∷ h.later;
-  earlier = h.earlier;
-  were = ap (λ ds. deed ∷ ds) h.were;
-  is_for = h.is_for;
-}
-
 -- its listener isn't the one that is closed
 abbrev pub Lets : Stage → Deed → Type 0
 Lets s deed = (l : ℕ) → s ≡ Listening l → closes l deed ≡ false
@@ -124,7 +112,6 @@ stands-later home serials deed deeds f lets h = record {
   below = h.below;
   same = h.same;
   stage = stage-later f.stage (home f.serial) deed deeds lets h.stage;
-  closing = λ c. to-close-later deed (home f.serial) deeds (h.closing c);
 }
 
 pub all-later : (home : ℕ → Forwarding) (serials : ℕ) (deed : Deed) (deeds : List Deed) (fs : List Forwarding)
@@ -177,7 +164,6 @@ stands-grown home to serials more deeds f less keeps h =
       below = omega (arith, below, less);
       same = subst (λ (a : Forwarding). AreOne a f) e h.same;
       stage = subst (λ (a : Forwarding). StageFits f.stage a deeds) e h.stage;
-      closing = λ c. subst (λ (a : Forwarding). WasToClose a deeds) e (h.closing c);
     }
 
 pub asked-grown : (home to : ℕ → Forwarding) (serials more : ℕ) (g : Forwarding) → serials ≤ more → Keeps home to serials
@@ -210,9 +196,9 @@ waits-grown home to serials more deeds w less keeps h =
 -- ---- a forwarding goes on
 
 pub restaged : (home : ℕ → Forwarding) (serials : ℕ) (deeds : List Deed) (f : Forwarding) (s : Stage) (c : Bool)
-    → StageFits s (home f.serial) deeds → (c ≡ true → WasToClose (home f.serial) deeds) → Stands home serials deeds f
+    → StageFits s (home f.serial) deeds → Stands home serials deeds f
     → Stands home serials deeds (record f { stage = s; closing = c })
-restaged home serials deeds f s c fits close h = record {
+restaged home serials deeds f s c fits h = record {
   below = h.below;
   same = record {
     serial = h.same.serial;
@@ -223,34 +209,29 @@ restaged home serials deeds f s c fits close h = record {
     connect_port = h.same.connect_port;
   };
   stage = fits;
-  closing = close;
 }
 
 changed-if : (home : ℕ → Forwarding) (serials : ℕ) (deeds : List Deed) (c : Change) (serial : ℕ) (f : Forwarding) (b : Bool)
     → (f.serial == serial) ≡ b
     → (f.serial ≡ serial → StageFits f.stage (home f.serial) deeds → StageFits (stage_after c f.listen_port f.stage) (home f.serial) deeds)
-    → (f.serial ≡ serial → (f.closing ≡ true → WasToClose (home f.serial) deeds) → closing_after c f.closing ≡ true → WasToClose (home f.serial) deeds)
     → Stands home serials deeds f → Stands home serials deeds (if b then record f {
       stage = stage_after c f.listen_port f.stage;
       closing = closing_after c f.closing;
     } else f)
-changed-if home serials deeds c serial f true e fits close h =
+changed-if home serials deeds c serial f true e fits h =
     let is = eqb-true f.serial serial e in
-    restaged home serials deeds f (stage_after c f.listen_port f.stage) (closing_after c f.closing) (fits is h.stage)
-    (close is h.closing) h
-changed-if home serials deeds c serial f false e fits close h = h
+    restaged home serials deeds f (stage_after c f.listen_port f.stage) (closing_after c f.closing) (fits is h.stage) h
+changed-if home serials deeds c serial f false e fits h = h
 
 -- the one with a serial changes
 pub all-changed : (home : ℕ → Forwarding) (serials : ℕ) (deeds : List Deed) (c : Change) (serial : ℕ) (fs : List Forwarding)
     → ((f : Forwarding) → f.serial ≡ serial → AreOne (home f.serial) f → StageFits f.stage (home f.serial) deeds
     → StageFits (stage_after c f.listen_port f.stage) (home f.serial) deeds)
-    → ((f : Forwarding) → f.serial ≡ serial → (f.closing ≡ true → WasToClose (home f.serial) deeds)
-    → closing_after c f.closing ≡ true → WasToClose (home f.serial) deeds)
     → All (Stands home serials deeds) fs → All (Stands home serials deeds) (map (changed c serial) fs)
-all-changed home serials deeds c serial fs fits close h =
+all-changed home serials deeds c serial fs fits h =
     All-map (Stands home serials deeds) (changed c serial) fs
     (All-weaker (Stands home serials deeds) (λ (f : Forwarding). Stands home serials deeds (changed c serial f))
-    (λ f s. changed-if home serials deeds c serial f (f.serial == serial) refl (λ is. fits f is s.same) (close f) s) fs h)
+    (λ f s. changed-if home serials deeds c serial f (f.serial == serial) refl (λ is. fits f is s.same) s) fs h)
 
 -- all changes but that a forwarding gets live
 abbrev pub IsSteady : Change → Type 0

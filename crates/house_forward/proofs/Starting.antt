@@ -420,7 +420,7 @@ first-lacks l Requested e = cc
 first-lacks l (Live port) e = cc
 first-lacks l (Cancelling port) e = cc
 
-goes : (starts : Starts) (ask : StartAsk) (deed : Deed) (deeds : List Deed) (old new : Desk) → Tracks deeds old → Does deed old new
+goes : (starts : Starts) (ask : StartAsk) (deed : Deed) (deeds : List Deed) (old new : Desk) → Tracks old → Does deed old new
     → Pending starts ask old.all → Fate starts ask (deed ∷ deeds) new.all
 goes starts ask (Begins more) deeds old new t d p =
     inl (pending-in starts ask old.all new.all p
@@ -494,7 +494,7 @@ told-goes (Listens host port number) old new j d told =
     (subst (λ (o : Option ℕ). IsTold o j) (sym (ap (λ (x : Desk). x.refused) d.orders.others)) told))
 told-goes (Unlistens l) old new j d told = subst (λ (o : Option ℕ). IsTold o j) (sym (ap (λ (x : Desk). x.refused) d.others)) told
 
-fate-goes : (starts : Starts) (ask : StartAsk) (i : ℕ) (deed : Deed) (deeds : List Deed) (old new : Desk) → Tracks deeds old → Does deed old new
+fate-goes : (starts : Starts) (ask : StartAsk) (i : ℕ) (deed : Deed) (deeds : List Deed) (old new : Desk) → Tracks old → Does deed old new
     → Fails starts i ask old.refused ⊎ Fate starts ask deeds old.all → Fails starts i ask new.refused ⊎ Fate starts ask (deed ∷ deeds) new.all
 fate-goes starts ask i deed deeds old new t d (inl f) = inl (f.0, told-goes deed old new i d f.1)
 fate-goes starts ask i deed deeds old new t d (inr (inl p)) = inr (goes starts ask deed deeds old new t d p)
@@ -532,13 +532,13 @@ begun-at Requested closing P e rests says = cc
 begun-at (Live port) closing P e rests says = cc
 begun-at (Cancelling port) closing P e rests says = cc
 
-settle : (starts : Starts) (ask : StartAsk) (i : ℕ) (deeds : List Deed) (d : Desk) → Tracks deeds d → IsAtRest d
+settle : (starts : Starts) (ask : StartAsk) (i : ℕ) (deeds : List Deed) (d : Desk) → Tracks d → IsAtRest d
     → Fails starts i ask d.refused ⊎ Fate starts ask deeds d.all → Fails starts i ask d.refused ⊎ WasServed starts ask deeds
 settle starts ask i deeds d t rest (inl r) = inl r
 settle starts ask i deeds d t rest (inr (inr s)) = inr s
 settle starts ask i deeds d t rest (inr (inl p)) =
     begun-at p.f.stage p.f.closing (Fails starts i ask d.refused ⊎ WasServed starts ask deeds) p.first
-    (all-rest deeds d.all d.serials d.requests d.waiting d.all t.numbered (fates-at-rest deeds d t rest) (λ f h. h) t.stages rest.orders
+    (all-rest d.all d.serials d.requests d.waiting d.all t.numbered (fates-at-rest d t rest) (λ f h. h) t.stages rest.orders
     p.f p.here)
     (none-passes-in has_request d.all p.f rest.says p.here)
 

@@ -1,12 +1,10 @@
 -- Each ask that came to nothing yet has its forwarding, and each request that was said is unanswered.
 use Rattle.std.proofs.Common.{◌≡◌, ◌∙◌, refl, sym, ap, subst, arith, ℕ, zero, suc, ◌+◌, ◌<◌, ◌≤◌, Bool, true, false, List, [], ◌∷◌, length, get_or, map, Option, Some, None, inl, inr}
-use Rattle.std.specs.Prelude.{◌⊎◌, ◌==◌, ◌&&◌, nat_le, if◌then◌else◌}
+use Rattle.std.specs.Prelude.{◌==◌, ◌&&◌, nat_le, if◌then◌else◌}
 use Rattle.std.specs.List.{All, remove}
 use Rattle.std.proofs.lemmas.Bool.{and_parts, both_ways, eqb-true, leb-true}
 use Rattle.std.proofs.lemmas.List.Elements.{All-weaker, All-map}
 use Rattle.house_forward.specs.Asks.{settled, settle_one, settled_at, is_about, same, counted, refused}
-use Rattle.house_forward.specs.Causes.{ShareListener}
-use Rattle.house_forward.specs.Deeds.{Deed}
 use Rattle.house_forward.specs.Desk.{Desk}
 use Rattle.house_forward.specs.Forwardings.{is_numbered, changed, stage_after, closing_after, outcome_of, outcome_at, asks_at, cancels_at}
 use Rattle.house_forward.specs.declared.asks.Outcome.{Outcome}
@@ -32,9 +30,6 @@ Holds false f = f.closing ≡ true
 abbrev pub HasFate : List Forwarding → Waiting → Type 0
 HasFate all w = (f : Forwarding) × In f all × (f.serial ≡ w.forwarding) × Holds w.opening f
 
-abbrev pub Fates : List Deed → List Forwarding → Waiting → Type 0
-Fates deeds all w = HasFate all w ⊎ ((w.opening ≡ false) × ShareListener deeds)
-
 abbrev pub Unsettled : (Waiting → Type 0) → Waiting → Type 0
 Unsettled P w = w.outcome ≡ None → P w
 
@@ -51,27 +46,10 @@ StageAwaits (Cancelling port) n rs = In (Cancel n) rs
 abbrev pub Awaits : List Request → Forwarding → Type 0
 Awaits rs f = StageAwaits f.stage f.serial rs
 
-pub record Tracks (deeds : List Deed) (d : Desk) : Type 0 where
+pub record Tracks (d : Desk) : Type 0 where
   pub numbered : is_numbered 0 d.all d.serials ≡ true
   pub stages : All (Awaits d.requests) d.all
-  pub fates : All (Unsettled (Fates deeds d.all)) d.waiting
-
-pub share-later : (deed : Deed) (deeds : List Deed) → ShareListener deeds → ShareListener (deed ∷ deeds)
-share-later deed deeds s = record {
-  later = deed ∷ s.later;
-  earlier = s.earlier;
-  were = ap (λ ds. deed ∷ ds) s.were;
-  desk = s.desk;
-  left = s.left;
-  one = s.one;
-  other = s.other;
-  listener = s.listener;
-  has_one = s.has_one;
-  has_other = s.has_other;
-  differ = s.differ;
-  listens = s.listens;
-  listens_too = s.listens_too;
-}
+  pub fates : All (Unsettled (HasFate d.all)) d.waiting
 
 -- ---- serials
 

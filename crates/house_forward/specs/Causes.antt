@@ -1,14 +1,14 @@
 -- Why asks get their replies and answers, by what happened before.
 use Rattle.std.specs.Prelude.{◌≡◌, ◌≢◌, ◌⊎◌, ◌≤◌, ℕ, Bool, true, false, ◌==◌, ◌&&◌, List, [], ◌∷◌, ◌++◌, drop, find, Option, Some, None}
-use Rattle.std.specs.List.{All, list_any, Contains}
+use Rattle.std.specs.List.{All, AllPairs, list_any, Contains}
 use Rattle.mux_outside.specs.declared.house.HouseReply.{HouseReply}
 use Rattle.mux_outside.specs.declared.house.HouseReply.TheVariants as given
 use Rattle.mux_outside.specs.declared.start_ask.StartAsk.{StartAsk}
-use Rattle.house_forward.specs.Asks.{turns_away}
+use Rattle.house_forward.specs.Asks.{turns_away, waiting_for}
 use Rattle.house_forward.specs.Deeds.{Deed, Does, Leave}
 use Rattle.house_forward.specs.Deeds.{Begins, Asks, Answers, Greets, Requests, Replies, Listens, Unlistens}
 use Rattle.house_forward.specs.Desk.{Desk}
-use Rattle.house_forward.specs.Forwardings.{granted, bound_to, request_of, outcome_of, reply_to, standing, connects_to, how_many, has_request, next_of, listener_of, counts}
+use Rattle.house_forward.specs.Forwardings.{granted, bound_to, request_of, outcome_of, reply_to, standing, connects_to, how_many, has_request, next_of, listener_of, listeners_of, counts}
 use Rattle.house_forward.specs.Quiet.{answers_none}
 use Rattle.house_forward.specs.Rules.{AreEnds, is_refused_alone, kind_of, listen_host, listens_here, connects_there}
 use Rattle.house_forward.specs.declared.asks.Asked.TheVariants.{Now}
@@ -221,34 +221,47 @@ EachAnswer = (client id : ℕ) (reply : HouseReply) (deeds : List Deed) (old new
 
 -- ---- what is closed
 
--- a client asked to close it, and was to get its answer later
-pub record WasToClose (f : Forwarding) (deeds : List Deed) : Type 0 where
+-- a client asked to close it, and was to get its answer later; it has none yet: its ask waits, and came
+-- to nothing
+pub record WaitsToClose (f : Forwarding) (waiting : List Waiting) (deeds : List Deed) : Type 0 where
   pub client : ℕ
   pub id : ℕ
   pub ask : StartAsk
   pub later : List Deed
   pub earlier : List Deed
   pub were : deeds ≡ later ++ Asks client id false ask given.Later ∷ earlier
+  pub open_yet : list_any (answers client id) later ≡ false
   pub is_for : IsFor (gateway_in earlier) false ask f
+  pub waits : Contains waiting (waiting_for client id false f.serial)
 
--- a listener that is closed is that of a forwarding that a client asked to close
-pub record EndsAsked (l : ℕ) (deeds : List Deed) : Type 0 where
+-- an ask that came to this, as that many had come to something
+abbrev pub come_to : ℕ → Outcome → Waiting → Waiting
+come_to at outcome w = record w { outcome = Some (at, outcome) }
+
+-- a listener that is closed is that of a forwarding that a client asked to close, and that ask has no
+-- answer yet: it comes to Done now
+pub record EndsAsked (l : ℕ) (deeds : List Deed) (old new : Desk) : Type 0 where
   pub forwarding : Forwarding
+  pub stands : Contains old.all forwarding
+  pub listens : listener_of forwarding ≡ Some l
   pub serves : ListensSince forwarding.listen_host forwarding.listen_port l deeds
-  pub asked : WasToClose forwarding deeds
+  pub asked : WaitsToClose forwarding old.waiting deeds
+  pub comes : Contains new.waiting
+      (come_to old.done Done (waiting_for asked.client asked.id false forwarding.serial))
 
 abbrev pub EachUnlisten : Type 0
 EachUnlisten = (l : ℕ) (deeds : List Deed) (old new : Desk) → Leave deeds old
-    → Does (Unlistens l) old new → EndsAsked l deeds
+    → Does (Unlistens l) old new → EndsAsked l deeds old new
 
--- a cancel is said for a forwarding that is live and that a client asked to close
-pub record CancelsAsked (f : Forwarding) (deeds : List Deed) : Type 0 where
+-- a cancel is said for a forwarding that is live and that a client asked to close, and that ask has no
+-- answer yet
+pub record CancelsAsked (f : Forwarding) (waiting : List Waiting) (deeds : List Deed) : Type 0 where
   pub serves : ServesAt f.stage f deeds
-  pub asked : WasToClose f deeds
+  pub asked : WaitsToClose f waiting deeds
 
 abbrev pub EachCancel : Type 0
 EachCancel = (f : Forwarding) (deeds : List Deed) (old new : Desk) → Leave deeds old
-    → Does (Requests f) old new → request_of f ≡ Cancel f.serial → CancelsAsked f deeds
+    → Does (Requests f) old new → request_of f ≡ Cancel f.serial → CancelsAsked f old.waiting deeds
 
 -- ---- what is refused at once
 
@@ -281,30 +294,18 @@ pub record IsAtRest (d : Desk) : Type 0 where
   pub orders : next_of d.waiting d.all ≡ None
   pub answers : answers_none d.waiting ≡ true
 
--- two forwardings had listeners of one number at one time
-pub record ShareListener (deeds : List Deed) : Type 0 where
-  pub later : List Deed
-  pub earlier : List Deed
-  pub were : deeds ≡ later ++ earlier
-  pub desk : Desk
-  pub left : Leave earlier desk
-  pub one : Forwarding
-  pub other : Forwarding
-  pub listener : ℕ
-  pub has_one : Contains desk.all one
-  pub has_other : Contains desk.all other
-  pub differ : one.serial ≢ other.serial
-  pub listens : listener_of one ≡ Some listener
-  pub listens_too : listener_of other ≡ Some listener
-
 -- the request to listen for the forwarding that an ask waits for, or its cancel, was said and has no
 -- reply yet
 abbrev pub AwaitsReply : List Request → Waiting → Type 0
 AwaitsReply requests w =
     Contains requests (Listen w.forwarding) ⊎ Contains requests (Cancel w.forwarding)
 
--- at rest each ask that waits awaits a reply of the server, but one to close where two shared a
--- listener
+-- at rest each ask that waits awaits a reply of the server
 abbrev pub EachAwaits : Type 0
-EachAwaits = (deeds : List Deed) (d : Desk) → Leave deeds d → IsAtRest d
-    → All (λ w. AwaitsReply d.requests w ⊎ ((w.opening ≡ false) × ShareListener deeds)) d.waiting
+EachAwaits = (deeds : List Deed) (d : Desk) → Leave deeds d → IsAtRest d → All (AwaitsReply d.requests) d.waiting
+
+-- ---- listeners
+
+-- no two forwardings have the same
+abbrev pub ListenersDiffer : Type 0
+ListenersDiffer = (deeds : List Deed) (d : Desk) → Leave deeds d → AllPairs (λ a b. a ≢ b) (listeners_of d.all)

@@ -1,5 +1,6 @@
 -- The OPENs that the house says, by the calls: for which sockets, and to where.
-use Rattle.std.specs.Prelude.{◌≡◌, ◌⊎◌, ◌≤◌, ◌+◌, ◌==◌, ℕ, Bool, true, false, if◌then◌else◌, List, [], ◌∷◌, ◌++◌, length, filter, find, get_or, IfSome, Option, Some}
+use Rattle.std.specs.Prelude.{◌≡◌, ◌≢◌, ◌⊎◌, ◌≤◌, ◌<◌, ◌+◌, ◌==◌, ℕ, Bool, true, false, if◌then◌else◌, List, [], ◌∷◌, ◌++◌, length, map, filter, find, get_or, IfSome, Option, Some, None}
+use Rattle.std.specs.List.{All, AllPairs}
 use Rattle.ssh_grammar.specs.declared.numbers.TheConstants.{CHANNEL_OPEN}
 use Rattle.socks_dialog.specs.declared.outcome.Outcome.TheVariants.{Connects}
 use Rattle.mux_outside.specs.HouseCalls.{HouseCall, Happening, Begins, Marks, Hears, Turns, Takes}
@@ -10,8 +11,8 @@ use Rattle.mux_outside.specs.declared.own_streams.OwnStream.{OwnStream}
 use Rattle.house_relay.specs.Acts.{read, outcome_in}
 use Rattle.house_relay.specs.declared.line.Line.{Line}
 use Rattle.house_relay.specs.declared.line.Line.TheVariants.{Dialing, Asked, Opened, Offered, Live, Over}
-use Rattle.house_forward.specs.Forwardings.{has_listener}
-use Rattle.house_forward.specs.Lives.{Life, Course, Follows, Reaches, first_course}
+use Rattle.house_forward.specs.Forwardings.{has_listener, has_request}
+use Rattle.house_forward.specs.Lives.{Life, Course, Follows, MarksIn, SaysBy, Reaches, first_course}
 use Rattle.house_forward.specs.Said.{framed, direct}
 use Rattle.house_forward.specs.declared.forwarding.Forwarding.{Forwarding}
 use Rattle.house_forward.specs.declared.rules.Kind.{Kind}
@@ -79,6 +80,65 @@ still_to_open lives = length (filter (λ l. may_open l.relay.line) lives)
 abbrev pub OneOpenAtMost : Type 0
 OneOpenAtMost = (calls : List HouseCall) (course : Course) → Reaches first_course calls course
     → opens_in calls + still_to_open course.lives ≤ joins_in calls
+
+-- ---- of which sockets
+
+-- of which socket the OPEN is that is said, if one is: that of the relay that says it
+abbrev pub opener_by : (greeted : Bool) (first : Option Forwarding) (bytes : List ℕ)
+    (old new : Course) → SaysBy greeted first bytes old new → List (Option ℕ)
+opener_by false first bytes old new says = []
+opener_by true (Some f) bytes old new says = []
+opener_by true None bytes old new says = if is_open bytes then says.1.life.joined ∷ [] else []
+
+abbrev pub opener_marked : (mark : HouseMark) (old new : Course) → MarksIn mark old new → List (Option ℕ)
+opener_marked HouseIn old new marks = []
+opener_marked (HouseSaid bytes) old new marks =
+    opener_by old.desk.greeted (find has_request old.desk.all) bytes old new marks
+opener_marked (HouseTook size) old new marks = []
+opener_marked (HouseAsked client id opening ask reply) old new marks = []
+opener_marked (HouseAnswer client id reply) old new marks = []
+opener_marked (HouseOrder order number) old new marks = []
+
+abbrev pub opener_of : (call : HouseCall) (old new : Course) → Follows call old new → List (Option ℕ)
+opener_of (Begins starts) old new follows = []
+opener_of (Marks mark) old new follows = opener_marked mark old new follows
+opener_of (Hears bytes) old new follows = []
+opener_of (Turns happening) old new follows = []
+opener_of (Takes t n) old new follows = []
+
+-- of which sockets the OPENs are that are said in these calls, in their order
+abbrev pub openers_in : (calls : List HouseCall) (old new : Course) → Reaches old calls new
+    → List (Option ℕ)
+openers_in [] old new reaches = []
+openers_in (call ∷ calls) old new reaches =
+    opener_of call old reaches.0 reaches.1 ++ openers_in calls reaches.0 new reaches.2
+
+-- and of which those are that are still to be said
+abbrev pub openers_left : List Life → List (Option ℕ)
+openers_left lives = map (λ l. l.joined) (filter (λ l. may_open l.relay.line) lives)
+
+-- each OPEN that is said is told so
+abbrev pub EachIsTold : Type 0
+EachIsTold = (calls : List HouseCall) (course : Course) (reaches : Reaches first_course calls course)
+    → length (openers_in calls first_course course reaches) ≡ opens_in calls
+
+-- it is one of those that were joined
+pub record IsOneJoined (calls : List HouseCall) (socket : Option ℕ) : Type 0 where
+  pub number : ℕ
+  pub is : socket ≡ Some number
+  pub joined : number < joins_in calls
+
+-- each OPEN that is said, or still to be, is of a socket that was joined
+abbrev pub EachWasJoined : Type 0
+EachWasJoined = (calls : List HouseCall) (course : Course) (reaches : Reaches first_course calls course)
+    → All (IsOneJoined calls)
+    (openers_in calls first_course course reaches ++ openers_left course.lives)
+
+-- and no two are of one
+abbrev pub OneOpenEach : Type 0
+OneOpenEach = (calls : List HouseCall) (course : Course) (reaches : Reaches first_course calls course)
+    → AllPairs (λ a b. a ≢ b)
+    (openers_in calls first_course course reaches ++ openers_left course.lives)
 
 -- ---- for what, and to where
 

@@ -1,7 +1,7 @@
 //! What holds of the house, whatever calls were made: of its relays, its forwardings, its requests to
 //! the server and its asks. Each function's contract is the law.
 
-ghost use Rattle.house_forward.specs.Causes.{EachServed, EachRefused, EachAnswer, EachUnlisten, EachCancel, EachAwaits};
+ghost use Rattle.house_forward.specs.Causes.{EachServed, EachRefused, EachAnswer, EachUnlisten, EachCancel, EachAwaits, ListenersDiffer};
 ghost use Rattle.house_forward.specs.Closing.{ClosesHaveCause};
 ghost use Rattle.house_forward.specs.Confirming.{ConfirmsConnected, RefusesUnconnected};
 ghost use Rattle.house_forward.specs.Connects.{OneConnectEach};
@@ -9,7 +9,7 @@ ghost use Rattle.house_forward.specs.Deeds.{EachHappens};
 ghost use Rattle.house_forward.specs.Greeting.{EachGreets};
 ghost use Rattle.house_forward.specs.Laws.{EachRelays, EachKeeps, EachRests};
 ghost use Rattle.house_forward.specs.Numbers.{ChannelsDiffer, EachIsNew, StreamsAreTheirs, StreamsDiffer};
-ghost use Rattle.house_forward.specs.Opening.{OneOpenAtMost, OpensGoRight};
+ghost use Rattle.house_forward.specs.Opening.{EachIsTold, EachWasJoined, OneOpenAtMost, OneOpenEach, OpensGoRight};
 ghost use Rattle.house_forward.specs.Starting.{EachQuiet, EachStart};
 ghost use Rattle.house_forward.specs.Streaming.{EachHasItsStream};
 
@@ -44,12 +44,16 @@ pub fn each_open_that_is_taken_is_connected_once()
     ensures { OneConnectEach }
 {}
 
-/// No more OPENs are said than sockets were joined before, those that are still to be said counted too.
-/// Each is an OPEN of direct-tcpip with a window of 2,097,152 bytes and messages of 32,768 at most, to
-/// where the forwarding connects at whose listener its socket was joined, or, where that is a dynamic one,
-/// to the end that its dialog asked for.
+/// Each OPEN that is said is that of a socket that was joined before, and no two are of one socket, those
+/// that are still to be said counted too: so they are no more than the sockets. Each is an OPEN of
+/// direct-tcpip with a window of 2,097,152 bytes and messages of 32,768 at most, to where the forwarding
+/// connects at whose listener its socket was joined, or, where that is a dynamic one, to the end that
+/// its dialog asked for.
 pub fn opens_are_for_joined_sockets()
     ensures count { OneOpenAtMost }
+    ensures told { EachIsTold }
+    ensures joined { EachWasJoined }
+    ensures once { OneOpenEach }
     ensures goes { OpensGoRight }
 {}
 
@@ -96,7 +100,9 @@ pub fn every_reply_has_its_cause()
     ensures answers { EachAnswer }
 {}
 
-/// A listener is closed, and a cancel is said, only for a forwarding that a client asked to close.
+/// A listener is closed, and a cancel is said, only for a forwarding that a client asked to close; and
+/// its ask has no answer yet then: it waits, and came to nothing. As the listener is closed it comes to
+/// Done.
 pub fn what_is_closed_was_asked_to_close()
     ensures listeners { EachUnlisten }
     ensures cancels { EachCancel }
@@ -109,10 +115,14 @@ pub fn the_greeting_is_said_once_and_first()
     ensures { EachGreets }
 {}
 
+/// No two forwardings have the same listener, since each came with a number that none had.
+pub fn each_forwarding_has_its_own_listener()
+    ensures { ListenersDiffer }
+{}
+
 /// Where there is no request to say, no listener to order or to close and no answer to give, each ask
 /// that has no answer yet waits for the server: the request to listen for its forwarding, or the
-/// cancel, was said and has no reply yet. Of an ask to close this supposes that no two forwardings had
-/// listeners of one number at one time.
+/// cancel, was said and has no reply yet.
 pub fn at_rest_asks_wait_for_the_server()
     ensures { EachAwaits }
 {}

@@ -1,4 +1,4 @@
-use Rattle.house_forward.proofs.Caused.{each-unlisten, each-cancel}
+use Rattle.house_forward.proofs.Ending.{each-unlisten, each-cancel}
 use Rattle.house_forward.proofs.laws.what_is_closed_was_asked_to_close.Goals as goal
 
 pub returns : goal.returns

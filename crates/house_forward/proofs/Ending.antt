@@ -1,0 +1,127 @@
+-- What is closed was asked to close, and the ask has no answer yet.
+use Rattle.std.proofs.Common.{◌≡◌, ◌∙◌, sym, ap, subst, ℕ, Bool, true, false, List, ◌∷◌, ◌++◌, Option, None}
+use Rattle.std.specs.List.{Contains}
+use Rattle.std.proofs.lemmas.Bool.{and_from, eq-eqb}
+use Rattle.mux_outside.specs.declared.house.HouseReply.TheVariants as given
+use Rattle.house_forward.specs.Asks.{settled, settle_one, settled_at, is_about, same, waiting_for}
+use Rattle.house_forward.specs.Causes.{gateway_in, AreOne, IsFor, ServesAt, WaitsToClose, EachUnlisten, EachCancel, come_to}
+use Rattle.house_forward.specs.Deeds.{Deed}
+use Rattle.house_forward.specs.Deeds.{Asks}
+use Rattle.house_forward.specs.Desk.{Desk}
+use Rattle.house_forward.specs.Forwardings.{has_request, requests_at, request_at, listener_at}
+use Rattle.house_forward.specs.Rules.{listens_here}
+use Rattle.house_forward.specs.declared.asks.Outcome.{Outcome}
+use Rattle.house_forward.specs.declared.asks.Outcome.TheVariants.{Done}
+use Rattle.house_forward.specs.declared.asks.Waiting.{Waiting}
+use Rattle.house_forward.specs.declared.forwarding.Forwarding.{Forwarding}
+use Rattle.house_forward.specs.declared.forwarding.Request.TheVariants.{Cancel}
+use Rattle.house_forward.specs.declared.forwarding.Stage.{Stage}
+use Rattle.house_forward.specs.declared.forwarding.Stage.TheVariants.{ToListen, Ordered, Listening, ToRequest, Requested, Live, Cancelling}
+use Rattle.house_forward.proofs.Caused.{one-is-for, one-granted, one-listens}
+use Rattle.house_forward.proofs.Causing.{knows, found, next-closing}
+use Rattle.house_forward.proofs.Members.{In, in-map, in-all, in-contains, all-in, found-in}
+use Rattle.house_forward.proofs.Serving.{StageFits, Stands, Waits}
+use Rattle.house_forward.proofs.Wanting.{IsCloser, wants}
+
+-- ---- its ask
+
+is-waiting-for : (n : ℕ) (w : Waiting) → IsCloser n w → w ≡ waiting_for w.client w.id false n
+is-waiting-for n w c =
+    ap (λ (b : Bool). record w { opening = b }) c.closes
+    ∙ ap (λ (o : Option (ℕ × Outcome)). record w { opening = false; outcome = o }) c.open_yet
+    ∙ ap (λ (m : ℕ). record w { opening = false; outcome = None; forwarding = m }) c.of_it
+
+-- it waits, and has no answer yet
+waits-to-close : (home : ℕ → Forwarding) (serials : ℕ) (deeds : List Deed) (ws : List Waiting) (n : ℕ) (w : Waiting) → In w ws
+    → IsCloser n w → Waits home serials deeds w → (home n).serial ≡ n → WaitsToClose (home n) ws deeds
+waits-to-close home serials deeds ws n w here c h is = record {
+  client = w.client;
+  id = w.id;
+  ask = h.ask;
+  later = h.later;
+  earlier = h.earlier;
+  were = h.were ∙ ap (λ (b : Bool). h.later ++ Asks w.client w.id b h.ask given.Later ∷ h.earlier) c.closes;
+  open_yet = h.open_yet;
+  is_for = subst (λ (m : ℕ). IsFor (gateway_in h.earlier) false h.ask (home m)) c.of_it
+      (subst (λ (b : Bool). IsFor (gateway_in h.earlier) b h.ask (home w.forwarding)) c.closes h.is_for);
+  waits = subst (Contains ws) (is-waiting-for n w c ∙ ap (λ (m : ℕ). waiting_for w.client w.id false m) (sym is)) (in-contains w ws here);
+}
+
+one-waits : (a f : Forwarding) (ws : List Waiting) (deeds : List Deed) → AreOne a f → WaitsToClose a ws deeds → WaitsToClose f ws deeds
+one-waits a f ws deeds one h = record {
+  client = h.client;
+  id = h.id;
+  ask = h.ask;
+  later = h.later;
+  earlier = h.earlier;
+  were = h.were;
+  open_yet = h.open_yet;
+  is_for = one-is-for (gateway_in h.earlier) false h.ask a f one h.is_for;
+  waits = subst (λ (m : ℕ). Contains ws (waiting_for h.client h.id false m)) one.serial h.waits;
+}
+
+-- ---- a listener
+
+is-its : (n : ℕ) (w : Waiting) → IsCloser n w → is_about n false w ≡ true
+is-its n w c = and_from _ _ (eq-eqb w.forwarding n c.of_it) (ap (λ b. same b false) c.closes)
+
+settled-one : (n at : ℕ) (o : Outcome) (w : Waiting) → IsCloser n w → settle_one n false at o w ≡ come_to at o w
+settled-one n at o w c = rw (is-its n w c) (ap (λ (x : Option (ℕ × Outcome)). record w { outcome = settled_at at o x }) c.open_yet)
+
+-- it comes to this
+comes-to : (n at : ℕ) (o : Outcome) (w : Waiting) (ws : List Waiting) → In w ws → IsCloser n w
+    → Contains (settled n false at o ws) (come_to at o (waiting_for w.client w.id false n))
+comes-to n at o w ws here c =
+    subst (Contains (settled n false at o ws)) (settled-one n at o w c ∙ ap (come_to at o) (is-waiting-for n w c))
+    (in-contains (settle_one n false at o w) (settled n false at o ws) (in-map (settle_one n false at o) w ws here))
+
+pub each-unlisten : EachUnlisten
+unfolding waits-to-close one-waits
+each-unlisten l deeds old new left h =
+    let k = knows deeds old left in
+    let c = next-closing (λ (x : Forwarding). In x old.all) old.waiting old.all h.serial l
+    (all-in (λ (x : Forwarding). In x old.all) old.all (λ x here. here)) h.next in
+    let n = c.f.serial in
+    let at = in-all (Stands k.home old.serials deeds) c.f old.all k.all c.holds in
+    let fits : StageFits (Listening l) (k.home n) deeds = subst (λ (s : Stage). StageFits s (k.home n) deeds) c.stage_is at.stage in
+    let ask = (wants deeds old left).closers c.f c.holds c.closing_is in
+    let w = ask.0 in
+    let its = in-all (Waits k.home old.serials deeds) w old.waiting k.waiting ask.1 in
+    let f = c.f in
+    record {
+      forwarding = f;
+      stands = in-contains f old.all c.holds;
+      listens = ap listener_at c.stage_is;
+      serves = one-listens (k.home n) f l deeds at.same fits.1;
+      asked = one-waits (k.home n) f old.waiting deeds at.same
+          (waits-to-close k.home old.serials deeds old.waiting n w ask.1 ask.2 its at.same.serial);
+      comes = subst (λ (ws : List Waiting). Contains ws (come_to old.done Done (waiting_for w.client w.id false n)))
+          (ap (λ (m : ℕ). settled m false old.done Done old.waiting) c.serial_is ∙ sym (ap (λ (d : Desk). d.waiting) h.others))
+          (comes-to n old.done Done w old.waiting ask.1 ask.2);
+    }
+
+-- ---- a cancel
+
+cancels-by : (s : Stage) (a f : Forwarding) (closing : Bool) (deeds : List Deed) → AreOne a f → requests_at s closing ≡ true
+    → request_at s f.serial ≡ Cancel f.serial → StageFits s a deeds → ServesAt s f deeds × (closing ≡ true)
+cancels-by (ToListen host) a f closing deeds one e r h = cc
+cancels-by Ordered a f closing deeds one e r h = cc
+cancels-by (Listening l) a f closing deeds one e r h = cc
+cancels-by ToRequest a f closing deeds one e r h = cc
+cancels-by Requested a f closing deeds one e r h = cc
+cancels-by (Live p) a f closing deeds one e r h =
+    ((ap listens_here (sym one.kind) ∙ h.0, one-granted a f p deeds one h.1), e)
+cancels-by (Cancelling p) a f closing deeds one e r h = cc
+
+pub each-cancel : EachCancel
+each-cancel f deeds old new left h e =
+    let k = knows deeds old left in
+    let at = found (Stands k.home old.serials deeds) has_request old.all f h.1 k.all in
+    let both = cancels-by f.stage (k.home f.serial) f f.closing deeds at.0.same at.1 e at.0.stage in
+    let ask = (wants deeds old left).closers f (found-in has_request f old.all h.1) both.1 in
+    let its = in-all (Waits k.home old.serials deeds) ask.0 old.waiting k.waiting ask.1 in
+    record {
+      serves = both.0;
+      asked = one-waits (k.home f.serial) f old.waiting deeds at.0.same
+          (waits-to-close k.home old.serials deeds old.waiting f.serial ask.0 ask.1 ask.2 its at.0.same.serial);
+    }

@@ -1,0 +1,615 @@
+-- Of each socket that was joined one OPEN is said at most.
+use Rattle.std.proofs.Common.{◌≡◌, ◌≢◌, ◌∙◌, refl, sym, ap, subst, inl, inr, arith, ℕ, zero, suc, ◌+◌, ◌<◌, ◌≤◌, Bool, true, false, cond, List, [], ◌∷◌, ◌++◌, append_assoc, length, length-append, get_or, map, filter, Option, Some, None}
+use Rattle.std.specs.Prelude.{◌==◌, not, nat_le, if◌then◌else◌, find, Result, Ok, Err}
+use Rattle.std.specs.List.{All, AllPairs}
+use Rattle.std.proofs.lemmas.Bool.{cases_Bool, cases_lt, eq-eqb, eqb-true, le-leb, leb-true}
+use Rattle.std.proofs.lemmas.List.Elements.{All-nil, All-cons, All-head, All-tail, All-append, All-weaker}
+use Rattle.ssh_fields.specs.Fields.{take_u32}
+use Rattle.ssh_grammar.specs.Frames.{Frame}
+use Rattle.ssh_grammar.specs.Messages.{Message as Told}
+use Rattle.ssh_grammar.specs.ReadMessage.{read_message as reading}
+use Rattle.ssh_grammar.specs.declared.fault.Bad.{Bad}
+use Rattle.conn_messages.specs.declared.message.Message.{Message}
+use Rattle.conn_messages.specs.declared.message.Message.TheVariants as message
+use Rattle.conn_messages.specs.declared.message.Opens.{Opens}
+use Rattle.conn_messages.specs.declared.message.Opens.TheVariants as opens
+use Rattle.mux_outside.specs.HouseCalls.{HouseCall, Happening, Begins, Marks, Hears as HearsBytes, Turns, Takes as TakesBytes}
+use Rattle.mux_outside.specs.HouseCalls.{Joined, Got, End, Writable, Failed}
+use Rattle.mux_outside.specs.declared.house_mark.HouseMark.{HouseMark}
+use Rattle.mux_outside.specs.declared.house_mark.HouseMark.TheVariants.{HouseIn, HouseSaid, HouseTook, HouseAsked, HouseAnswer, HouseOrder}
+use Rattle.mux_outside.specs.declared.order.Order.{Order}
+use Rattle.mux_outside.specs.declared.order.Order.TheVariants as order
+use Rattle.mux_outside.specs.declared.own_streams.OwnStream.{OwnStream}
+use Rattle.house_relay.specs.Acts.{Takes}
+use Rattle.house_relay.specs.Steps.{is_gone}
+use Rattle.house_relay.specs.declared.line.Line.{Line}
+use Rattle.house_relay.specs.declared.line.Line.TheVariants.{Dialing, Asked, Opened, Offered, Live, Over}
+use Rattle.house_forward.specs.Forwardings.{has_request, served_at}
+use Rattle.house_forward.specs.Going.{TakesOn}
+use Rattle.house_forward.specs.Lives.{Life, Course, GoesBy, One, OneAtMost, Speaks, Listens, StepsBy, MakesOne, Reaches, Follows, SaysBy, MarksIn, OrdersIn, TurnsTo, first_course, with_heard}
+use Rattle.house_forward.specs.Lives.{HearsAt, HearsOpen, OpensFor, HearsMessage, HearsReading, HearsFrame, HearsFrames, cut_off, is_grant}
+use Rattle.house_forward.specs.Lives.{joins_after, has_channel, has_stream, has_words, are_full, stepped, made_life, kept_in}
+use Rattle.house_forward.specs.Opening.{EachIsTold, EachWasJoined, OneOpenEach, IsOneJoined, IsJoinedFor, is_open, may_open, opens_by, opens_in, joins_by, joins_by_turn, joins_in, opener_by, opener_marked, opener_of, openers_in, openers_left}
+use Rattle.house_forward.specs.declared.forwarding.Forwarding.{Forwarding}
+use Rattle.house_forward.specs.declared.holdings.Stage.{Stage}
+use Rattle.house_forward.specs.declared.holdings.Stage.TheVariants.{Control, Proxy}
+use Rattle.house_forward.specs.declared.link.Step.{Step}
+use Rattle.house_forward.specs.declared.link.Step.TheVariants as step
+use Rattle.house_forward.proofs.Courses.{reaches-more}
+use Rattle.house_forward.proofs.Directing.{Aimed, Right, all-aimed}
+use Rattle.house_forward.proofs.Frames.{Heeds, frames}
+use Rattle.house_forward.proofs.Opening.{one, opening, hears-one, takes-one, gets-one, says-one, line-step}
+use Rattle.house_forward.proofs.Sound.{Each, All as OfAll, Sound, Both, each-back, follow-sound, offered_life, joined_life, step_of}
+
+-- ---- how often a socket is in a list
+
+abbrev hit : ℕ → Option ℕ → ℕ
+hit n None = 0
+hit n (Some k) = cond (k == n) 1 0
+
+abbrev times : ℕ → List (Option ℕ) → ℕ
+times n [] = 0
+times n (o ∷ os) = hit n o + times n os
+
+times-append : (n : ℕ) (xs ys : List (Option ℕ)) → times n (xs ++ ys) ≡ times n xs + times n ys
+times-append n [] ys = omega arith
+times-append n (x ∷ xs) ys = let rest = times-append n xs ys in omega (arith, rest)
+
+hit-its : (k : ℕ) → hit k (Some k) ≡ 1
+hit-its k = ap {B = ℕ} (λ (b : Bool). cond b 1 0) (eq-eqb k k refl)
+
+times-at : (k : ℕ) (os : List (Option ℕ)) (j : ℕ) (d : Option ℕ) → j < length os → get_or os j d ≡ Some k → 1 ≤ times k os
+times-at k [] j d l e = absurd (omega arith)
+times-at k (o ∷ os) zero d l e = let its = ap (hit k) e ∙ hit-its k in omega (arith, its)
+times-at k (o ∷ os) (suc j) d l e = let rest = times-at k os j d (omega arith) e in omega (arith, rest)
+
+abbrev IsSome : Option ℕ → Type 0
+IsSome o = (n : ℕ) × (o ≡ Some n)
+
+none-later : (o : Option ℕ) (os : List (Option ℕ)) (j : ℕ) (d : Option ℕ) → IsSome o → ((n : ℕ) → times n (o ∷ os) ≤ 1) → j < length os
+    → o ≢ get_or os j d
+none-later o os j d is most l = λ same.
+    let k = is.0 in
+    let its = ap (hit k) is.1 ∙ hit-its k in
+    let all = most k in
+    let there = times-at k os j d l (sym same ∙ is.1) in
+    omega (arith, its, all, there)
+
+rest-most : (o : Option ℕ) (os : List (Option ℕ)) → ((n : ℕ) → times n (o ∷ os) ≤ 1) → (n : ℕ) → times n os ≤ 1
+rest-most o os most n = let all = most n in omega (arith, all)
+
+-- where each is there once at most, no two are the same
+differ : (os : List (Option ℕ)) → All IsSome os → ((n : ℕ) → times n os ≤ 1) → AllPairs (λ a b. a ≢ b) os
+differ [] are most i j d l k = absurd (omega arith)
+differ (o ∷ os) are most zero zero d l k = absurd (omega arith)
+differ (o ∷ os) are most zero (suc j) d l k = none-later o os j d (All-head IsSome o os are) most (omega arith)
+differ (o ∷ os) are most (suc i) zero d l k = absurd (omega arith)
+differ (o ∷ os) are most (suc i) (suc j) d l k =
+    differ os (All-tail IsSome o os are) (rest-most o os most) i j d (omega arith) (omega arith)
+
+-- ---- of the relays for which an OPEN is to be said
+
+abbrev weigh : ℕ → Life → ℕ
+weigh n l = cond (may_open l.relay.line) (hit n l.joined) 0
+
+abbrev total : ℕ → List Life → ℕ
+total n [] = 0
+total n (l ∷ ls) = weigh n l + total n ls
+
+total-append : (n : ℕ) (xs ys : List Life) → total n (xs ++ ys) ≡ total n xs + total n ys
+total-append n [] ys = omega arith
+total-append n (x ∷ xs) ys = let rest = total-append n xs ys in omega (arith, rest)
+
+left-if : (n : ℕ) (b : Bool) (l : Life) (ls : List Life)
+    → times n (map (λ (x : Life). x.joined) (cond b (l ∷ ls) ls)) ≡ cond b (hit n l.joined) 0 + times n (map (λ (x : Life). x.joined) ls)
+left-if n true l ls = refl
+left-if n false l ls = omega arith
+
+-- those that are left weigh what is in the list
+left-total : (n : ℕ) (ls : List Life) → times n (openers_left ls) ≡ total n ls
+left-total n [] = refl
+left-total n (l ∷ ls) =
+    let rest = left-total n ls in
+    let all = left-if n (may_open l.relay.line) l (filter (λ (x : Life). may_open x.relay.line) ls) in
+    omega (arith, rest, all)
+
+less-if : (x y : Bool) (h : ℕ) → cond {A = ℕ} x 1 0 ≤ cond y 1 0 → cond x h 0 ≤ cond y h 0
+less-if true true h l = omega arith
+less-if true false h l = absurd (omega (arith, l))
+less-if false true h l = omega arith
+less-if false false h l = omega arith
+
+says-if : (o x y : Bool) (h : ℕ) → cond {A = ℕ} o 1 0 + cond x 1 0 ≤ cond y 1 0 → cond o h 0 + cond x h 0 ≤ cond y h 0
+says-if true true y h l = absurd (two-in y l)
+  where
+    two-in : (b : Bool) → 1 + 1 ≤ cond {A = ℕ} b 1 0 → ⊥
+    two-in true k = omega (arith, k)
+    two-in false k = omega (arith, k)
+says-if true false true h l = omega arith
+says-if true false false h l = absurd (omega (arith, l))
+says-if false x y h l = let its = less-if x y h (omega (arith, l)) in omega (arith, its)
+
+weighs-less : (n : ℕ) (a b : Life) → b.joined ≡ a.joined → one b ≤ one a → weigh n b ≤ weigh n a
+weighs-less n a b e l =
+    let same = ap (λ (o : Option ℕ). cond (may_open b.relay.line) (hit n o) 0) e in
+    let its = less-if (may_open b.relay.line) (may_open a.relay.line) (hit n a.joined) l in
+    omega (arith, same, its)
+
+weighs-said : (n : ℕ) (bytes : List ℕ) (a b : Life) → b.joined ≡ a.joined → opening bytes + one b ≤ one a
+    → cond (is_open bytes) (hit n a.joined) 0 + weigh n b ≤ weigh n a
+weighs-said n bytes a b e l =
+    let same = ap (λ (o : Option ℕ). cond (may_open b.relay.line) (hit n o) 0) e in
+    let its = says-if (is_open bytes) (may_open b.relay.line) (may_open a.relay.line) (hit n a.joined) l in
+    omega (arith, same, its)
+
+total-one : (n : ℕ) (which : Life → Bool) (so : Life → Life → Type 0) (old new : List Life) (h : One which so old new) (k : ℕ)
+    → k + weigh n h.next ≤ weigh n h.life → k + total n new ≤ total n old
+total-one n which so old new h k its =
+    let were = ap (total n) h.were in
+    let are = ap (total n) h.are in
+    let a = total-append n h.before (h.life ∷ h.behind) in
+    let b = total-append n h.before (h.next ∷ h.behind) in
+    omega (arith, its, were, are, a, b)
+
+total-most : (n : ℕ) (which : Life → Bool) (so : Life → Life → Type 0) (old new : List Life)
+    → ((a b : Life) → so a b → weigh n b ≤ weigh n a) → OneAtMost which so old new → total n new ≤ total n old
+total-most n which so old new less (inl h) =
+    let its = less h.life h.next h.goes in
+    let all = total-one n which so old new h 0 (omega (arith, its)) in
+    omega (arith, all)
+total-most n which so old new less (inr h) = let same = ap (total n) h.1 in omega (arith, same)
+
+kept-if : (n : ℕ) (b : Bool) (l : Life) (ls more : List Life) → total n more ≤ total n ls
+    → total n (if b then ls else l ∷ more) ≤ weigh n l + total n ls
+kept-if n true l ls more h = omega arith
+kept-if n false l ls more h = omega (arith, h)
+
+total-kept : (n : ℕ) (ls : List Life) → total n (kept_in ls) ≤ total n ls
+total-kept n [] = omega arith
+total-kept n (l ∷ ls) = kept-if n (is_gone l.relay) l ls (kept_in ls) (total-kept n ls)
+
+stepped-one : (n : ℕ) (s : Step) (b : Bool) (l : Life) → weigh n (if b then step_of s l else l) ≡ weigh n l
+stepped-one n s true l = ap (λ (line : Line). cond (may_open line) (hit n l.joined) 0) (line-step s l.relay)
+stepped-one n s false l = refl
+
+total-stepped : (n : ℕ) (s : Step) (t : ℕ) (ls : List Life) → total n (map (stepped s t) ls) ≡ total n ls
+total-stepped n s t [] = refl
+total-stepped n s t (l ∷ ls) =
+    let its = stepped-one n s (has_stream t l) l in
+    let rest = total-stepped n s t ls in
+    omega (arith, its, rest)
+
+heeds : (n most : ℕ) → Heeds (λ ls taken. total n ls ≤ most)
+heeds n most = record {
+  hears = λ number m old new taken sounds h goes. (
+      let less = total-most n (has_channel number) (Listens m) old new (λ a b on. weighs-less n a b on.joined (hears-one m a b on)) (inl goes) in
+      let kept = total-kept n new in
+      omega (arith, h, less, kept)
+      );
+  offers = λ f number remote window maximum old taken free h. (
+      let more = total-append n old (offered_life f number remote window maximum ∷ []) in
+      omega (arith, h, more)
+      );
+}
+
+-- ---- by the calls
+
+said-if : (n : ℕ) (b : Bool) (o : Option ℕ) → times n (cond b (o ∷ []) []) ≡ cond b (hit n o) 0
+said-if n true o = omega arith
+said-if n false o = refl
+
+says-total : (n : ℕ) (b : Bool) (o : Option Forwarding) (bytes : List ℕ) (old new : Course) (h : SaysBy b o bytes old new)
+    → times n (opener_by b o bytes old new h) + total n new.lives ≤ total n old.lives
+says-total n false o bytes old new h = let same = ap (λ (c : Course). total n c.lives) h.1 in omega (arith, same)
+says-total n true (Some f) bytes old new h = let same = ap (λ (c : Course). total n c.lives) h.1 in omega (arith, same)
+says-total n true None bytes old new h =
+    let goes = h.1.goes in
+    let a = h.1.life in
+    let its = weighs-said n bytes a h.1.next goes.1.joined (says-one bytes a h.1.next h.1.is goes) in
+    let less = total-one n has_words (Speaks bytes) old.lives h.0 h.1 (cond (is_open bytes) (hit n a.joined) 0) its in
+    let told = said-if n (is_open bytes) a.joined in
+    let kept = total-kept n h.0 in
+    let are = ap (λ (c : Course). total n c.lives) h.2 in
+    omega (arith, less, told, kept, are)
+
+steps-total : (n : ℕ) (o : Order) (s : Step) (t : ℕ) (old new : Course) → StepsBy o s t old new → total n new.lives ≤ total n old.lives
+steps-total n o s t old new h =
+    let same = total-stepped n s t old.lives in
+    let kept = total-kept n (map (stepped s t) old.lives) in
+    let are = ap (λ (c : Course). total n c.lives) h.1 in
+    omega (arith, same, kept, are)
+
+makes-total : (n : ℕ) (host : List ℕ) (port : ℕ) (number : Option ℕ) (old new : Course) → MakesOne host port number old new
+    → total n new.lives ≤ total n old.lives
+makes-total n host port number old new h =
+    let were = ap (total n) h.were in
+    let are = ap (λ (c : Course). total n c.lives) h.are in
+    let a = total-append n h.before (h.life ∷ h.behind) in
+    let b = total-append n (h.before ++ h.behind) (made_life number h.life ∷ []) in
+    let c = total-append n h.before h.behind in
+    omega (arith, were, are, a, b, c)
+
+same-total : (n : ℕ) (old new : Course) → new.lives ≡ old.lives → total n new.lives ≤ total n old.lives
+same-total n old new e = let same = ap (total n) e in omega (arith, same)
+
+orders-total : (n : ℕ) (o : Order) (number : Option ℕ) (old new : Course) → OrdersIn o number old new → total n new.lives ≤ total n old.lives
+orders-total n (order.Listen host port) number old new h = same-total n old new (ap (λ (c : Course). c.lives) h.2)
+orders-total n (order.Connect host port) number old new h = makes-total n host port number old new h
+orders-total n (order.Unlisten l) number old new h = same-total n old new (ap (λ (c : Course). c.lives) h.2)
+orders-total n (order.Pause t) number old new h = steps-total n (order.Pause t) (step.Pause true) t old new h
+orders-total n (order.Resume t) number old new h = steps-total n (order.Resume t) (step.Pause false) t old new h
+orders-total n (order.Finish t) number old new h = steps-total n (order.Finish t) step.Finish t old new h
+orders-total n (order.Close t) number old new h = steps-total n (order.Close t) step.Close t old new h
+
+marks-total : (n : ℕ) (mark : HouseMark) (old new : Course) (h : MarksIn mark old new)
+    → times n (opener_marked mark old new h) + total n new.lives ≤ total n old.lives
+marks-total n HouseIn old new h = let all = same-total n old new (ap (λ (c : Course). c.lives) h) in omega (arith, all)
+marks-total n (HouseSaid bytes) old new h = says-total n old.desk.greeted (find has_request old.desk.all) bytes old new h
+marks-total n (HouseTook size) old new h = let all = same-total n old new (ap (λ (c : Course). c.lives) h) in omega (arith, all)
+marks-total n (HouseAsked client id opening ask reply) old new h =
+    let all = same-total n old new (ap (λ (c : Course). c.lives) h.2) in omega (arith, all)
+marks-total n (HouseAnswer client id reply) old new h =
+    let all = same-total n old new (ap (λ (c : Course). c.lives) h.2) in omega (arith, all)
+marks-total n (HouseOrder o number) old new h = let all = orders-total n o number old new h in omega (arith, all)
+
+-- ---- how many were joined
+
+joins-at : (n : ℕ) (m : Message) (old new : Course) → HearsAt n m old new → new.joins ≡ old.joins
+joins-at n m old new (inl h) = ap (λ (c : Course). c.joins) h.2
+joins-at n m old new (inr h) = ap (λ (c : Course). c.joins) h.1
+
+joins-opens : (o : Option Forwarding) (remote window maximum : ℕ) (old new : Course) → OpensFor o remote window maximum old new
+    → new.joins ≡ old.joins
+joins-opens None remote window maximum old new h = ap (λ (c : Course). c.joins) h
+joins-opens (Some f) remote window maximum old new h = ap (λ (c : Course). c.joins) h.more
+
+joins-open : (what : Opens) (remote window maximum : ℕ) (old new : Course) → HearsOpen what remote window maximum old new
+    → new.joins ≡ old.joins
+joins-open (opens.Forwarded address port) remote window maximum old new h =
+    joins-opens (find (served_at address.now port) old.desk.all) remote window maximum old new h
+joins-open opens.Session remote window maximum old new h = ap (λ (c : Course). c.joins) h
+joins-open (opens.Direct host port) remote window maximum old new h = ap (λ (c : Course). c.joins) h
+joins-open (opens.DirectPath path) remote window maximum old new h = ap (λ (c : Course). c.joins) h
+joins-open (opens.ForwardedPath path) remote window maximum old new h = ap (λ (c : Course). c.joins) h
+joins-open opens.Other remote window maximum old new h = ap (λ (c : Course). c.joins) h
+
+joins-message : (m : Message) (old new : Course) → HearsMessage m old new → new.joins ≡ old.joins
+joins-message (message.Transport number rest) old new h = ap (λ (c : Course). c.joins) h
+joins-message (message.GlobalRequest name want rest what) old new h = ap (λ (c : Course). c.joins) h
+joins-message (message.RequestSuccess rest) old new h = ap (λ (c : Course). c.joins) h
+joins-message message.RequestFailure old new h = ap (λ (c : Course). c.joins) h
+joins-message (message.Open kind sender window maximum rest what) old new h = joins-open what sender window maximum old new h
+joins-message (message.Confirmation recipient sender window maximum rest) old new h = joins-at recipient (message.Confirmation recipient sender window maximum rest) old new h
+joins-message (message.OpenFailure recipient reason text language) old new h = joins-at recipient (message.OpenFailure recipient reason text language) old new h
+joins-message (message.Adjust recipient add) old new h = joins-at recipient (message.Adjust recipient add) old new h
+joins-message (message.Data recipient bytes) old new h = joins-at recipient (message.Data recipient bytes) old new h
+joins-message (message.Extended recipient code bytes) old new h = joins-at recipient (message.Extended recipient code bytes) old new h
+joins-message (message.Eof recipient) old new h = joins-at recipient (message.Eof recipient) old new h
+joins-message (message.Close recipient) old new h = joins-at recipient (message.Close recipient) old new h
+joins-message (message.Request recipient kind want rest) old new h = joins-at recipient (message.Request recipient kind want rest) old new h
+joins-message (message.Success recipient) old new h = joins-at recipient (message.Success recipient) old new h
+joins-message (message.Failure recipient) old new h = joins-at recipient (message.Failure recipient) old new h
+
+joins-reading : (r : Result Told Bad) (old new : Course) → HearsReading r old new → new.joins ≡ old.joins
+joins-reading (Err bad) old new h = ap (λ (c : Course). c.joins) h
+joins-reading (Ok said) old new h = joins-message h.0 old new h.2
+
+either-joins : (b : Bool) (a old : Course) → a.joins ≡ old.joins → (if b then a else old).joins ≡ old.joins
+either-joins true a old e = e
+either-joins false a old e = refl
+
+joins-frame : (stage : Stage) (content : List ℕ) (old new : Course) → HearsFrame stage content old new → new.joins ≡ old.joins
+joins-frame Control content old new h =
+    ap (λ (c : Course). c.joins) h ∙ either-joins (is_grant (take_u32 content)) _ old refl
+joins-frame Proxy content old new h = joins-reading (reading content) old new h
+
+joins-frames : (contents : List (List ℕ)) (old new : Course) → HearsFrames contents old new → new.joins ≡ old.joins
+joins-frames [] old new h = ap (λ (c : Course). c.joins) h.1
+joins-frames (content ∷ more) old new h =
+    joins-frames more h.2.0 new h.2.2 ∙ joins-frame old.stage content (cut_off (Frame content h.0) old) h.2.0 h.2.1
+
+joins-says : (b : Bool) (o : Option Forwarding) (bytes : List ℕ) (old new : Course) → SaysBy b o bytes old new → new.joins ≡ old.joins
+joins-says false o bytes old new h = ap (λ (c : Course). c.joins) h.1
+joins-says true (Some f) bytes old new h = ap (λ (c : Course). c.joins) h.1
+joins-says true None bytes old new h = ap (λ (c : Course). c.joins) h.2
+
+joins-order : (o : Order) (number : Option ℕ) (old new : Course) → OrdersIn o number old new → new.joins ≡ old.joins
+joins-order (order.Listen host port) number old new h = ap (λ (c : Course). c.joins) h.2
+joins-order (order.Connect host port) number old new h = ap (λ (c : Course). c.joins) h.are
+joins-order (order.Unlisten l) number old new h = ap (λ (c : Course). c.joins) h.2
+joins-order (order.Pause t) number old new h = ap (λ (c : Course). c.joins) h.1
+joins-order (order.Resume t) number old new h = ap (λ (c : Course). c.joins) h.1
+joins-order (order.Finish t) number old new h = ap (λ (c : Course). c.joins) h.1
+joins-order (order.Close t) number old new h = ap (λ (c : Course). c.joins) h.1
+
+joins-mark : (mark : HouseMark) (old new : Course) → MarksIn mark old new → new.joins ≡ old.joins
+joins-mark HouseIn old new h = ap (λ (c : Course). c.joins) h
+joins-mark (HouseSaid bytes) old new h = joins-says old.desk.greeted (find has_request old.desk.all) bytes old new h
+joins-mark (HouseTook size) old new h = ap (λ (c : Course). c.joins) h
+joins-mark (HouseAsked client id opening ask reply) old new h = ap (λ (c : Course). c.joins) h.2
+joins-mark (HouseAnswer client id reply) old new h = ap (λ (c : Course). c.joins) h.2
+joins-mark (HouseOrder o number) old new h = joins-order o number old new h
+
+joins-turn : (happening : Happening) (old new : Course) (lives : List Life)
+    → new ≡ record old { lives = lives; joins = joins_after happening old.joins } → new.joins ≡ joins_by_turn happening + old.joins
+joins-turn (Joined l t) old new lives h = let its = ap (λ (c : Course). c.joins) h in omega (arith, its)
+joins-turn (Got t bytes) old new lives h = let its = ap (λ (c : Course). c.joins) h in omega (arith, its)
+joins-turn (End t) old new lives h = let its = ap (λ (c : Course). c.joins) h in omega (arith, its)
+joins-turn (Writable t) old new lives h = let its = ap (λ (c : Course). c.joins) h in omega (arith, its)
+joins-turn (Failed t) old new lives h = let its = ap (λ (c : Course). c.joins) h in omega (arith, its)
+
+joins-follow : (call : HouseCall) (old new : Course) → Follows call old new → new.joins ≡ joins_by call + old.joins
+joins-follow (Begins starts) old new h = let its = ap (λ (c : Course). c.joins) h.2 in omega (arith, its)
+joins-follow (Marks mark) old new h = let its = joins-mark mark old new h in omega (arith, its)
+joins-follow (HearsBytes bytes) old new h = let its = joins-frames h.0 (with_heard bytes old) new h.1 in omega (arith, its)
+joins-follow (Turns happening) old new h = joins-turn happening old new h.0 h.2
+joins-follow (TakesBytes t n) old new h = let its = ap (λ (c : Course). c.joins) h.2 in omega (arith, its)
+
+joins-reach : (calls : List HouseCall) (old new : Course) → Reaches old calls new → new.joins ≡ joins_in calls + old.joins
+joins-reach [] old new h = let its = ap (λ (c : Course). c.joins) h in omega (arith, its)
+joins-reach (call ∷ calls) old new h =
+    let first = joins-follow call old h.0 h.1 in
+    let rest = joins-reach calls h.0 new h.2 in
+    omega (arith, first, rest)
+
+joins-append : (xs ys : List HouseCall) → joins_in (xs ++ ys) ≡ joins_in xs + joins_in ys
+joins-append [] ys = omega arith
+joins-append (x ∷ xs) ys = let rest = joins-append xs ys in omega (arith, rest)
+
+-- ---- each number is given once
+
+-- whether it was given
+abbrev room : ℕ → ℕ → ℕ
+room n joins = cond (nat_le (n + 1) joins) 1 0
+
+room-most : (n joins : ℕ) → room n joins ≤ 1
+room-most n joins = by (nat_le (n + 1) joins)
+  where
+    by : (b : Bool) → cond {A = ℕ} b 1 0 ≤ 1
+    by true = omega arith
+    by false = omega arith
+
+room-given : (n joins : ℕ) → n < joins → room n joins ≡ 1
+room-given n joins l = ap {B = ℕ} (λ (b : Bool). cond b 1 0) (le-leb (n + 1) joins (omega (arith, l)))
+
+room-free : (n joins : ℕ) → joins ≤ n → room n joins ≡ 0
+room-free n joins l = elim (cases_Bool (nat_le (n + 1) joins)) [
+  | inl is ↦ (let given = leb-true (n + 1) joins is in absurd (omega (arith, l, given)))
+  | inr isnt ↦ ap {B = ℕ} (λ (b : Bool). cond b 1 0) isnt
+]
+
+hit-other : (n k : ℕ) → (k ≡ n → ⊥) → hit n (Some k) ≡ 0
+hit-other n k differs = elim (cases_Bool (k == n)) [
+  | inl is ↦ absurd (differs (eqb-true k n is))
+  | inr isnt ↦ ap {B = ℕ} (λ (b : Bool). cond b 1 0) isnt
+]
+
+room-more : (n joins : ℕ) → room n (joins + 1) ≡ room n joins + hit n (Some joins)
+room-more n joins = elim (cases_lt n joins) [
+  | inl low ↦ (let a = room-given n (joins + 1) (omega (arith, low)) in
+      let b = room-given n joins low in
+      let c = hit-other n joins (λ e. omega (arith, e, low)) in
+      omega (arith, a, b, c))
+  | inr high ↦ elim (cases_lt joins n) [
+    | inl above ↦ (let a = room-free n (joins + 1) (omega (arith, above)) in
+        let b = room-free n joins high in
+        let c = hit-other n joins (λ e. omega (arith, e, above)) in
+        omega (arith, a, b, c))
+    | inr below ↦ (let a = room-given n (joins + 1) (omega (arith, below)) in
+        let b = room-free n joins high in
+        let same : joins ≡ n = omega (arith, high, below) in
+        let c = ap (λ (k : ℕ). hit n (Some k)) same ∙ hit-its n in
+        omega (arith, a, b, c))
+  ]
+]
+
+hit-if : (b : Bool) (h : ℕ) → cond b h 0 ≤ h
+hit-if true h = omega arith
+hit-if false h = omega arith
+
+turns-total : (n : ℕ) (happening : Happening) (joins : ℕ) (fs : List Forwarding) (old new : List Life) → TurnsTo happening joins fs old new
+    → total n new + room n joins ≤ room n (joins_after happening joins) + total n old
+turns-total n (Joined l t) joins fs old new h =
+    let more = total-append n old (joined_life joins t h.relay ∷ []) in
+    let most = hit-if (may_open h.relay.line) (hit n (Some joins)) in
+    let are = ap (total n) h.more in
+    let given = room-more n joins in
+    omega (arith, more, most, are, given)
+turns-total n (Got t bytes) joins fs old new h =
+    let less = total-most n (has_stream t) _ old new (λ a b goes. weighs-less n a b goes.joined (gets-one (not (are_full old)) bytes a b goes)) h in
+    omega (arith, less)
+turns-total n (End t) joins fs old new h = let are = ap (total n) h in let same = total-stepped n step.End t old in omega (arith, are, same)
+turns-total n (Writable t) joins fs old new h = let are = ap (total n) h in let same = total-stepped n step.Writable t old in omega (arith, are, same)
+turns-total n (Failed t) joins fs old new h = let are = ap (total n) h in let same = total-stepped n step.Failed t old in omega (arith, are, same)
+
+follow-total : (n : ℕ) (call : HouseCall) (old new : Course) (h : Follows call old new) → OfAll Sound old
+    → times n (opener_of call old new h) + total n new.lives + room n old.joins ≤ room n new.joins + total n old.lives
+follow-total n (Begins starts) old new h s =
+    let all = same-total n old new (ap (λ (c : Course). c.lives) h.2) in
+    let same = ap (λ (c : Course). room n c.joins) h.2 in
+    omega (arith, all, same)
+follow-total n (Marks mark) old new h s =
+    let all = marks-total n mark old new h in
+    let same = ap (room n) (joins-mark mark old new h) in
+    omega (arith, all, same)
+follow-total n (HearsBytes bytes) old new h s =
+    let all = frames (λ ls taken. total n ls ≤ total n old.lives) (heeds n (total n old.lives)) h.0 (with_heard bytes old) new [] h.1
+    (record { lives = s.lives; past = s.past }) (omega arith) in
+    let same = ap (room n) (joins-frames h.0 (with_heard bytes old) new h.1) in
+    omega (arith, all, same)
+follow-total n (Turns happening) old new h s =
+    let all = turns-total n happening old.joins old.desk.all old.lives h.0 h.1 in
+    let are = ap (λ (c : Course). total n c.lives) h.2 in
+    let joins = ap (λ (c : Course). room n c.joins) h.2 in
+    omega (arith, all, are, joins)
+follow-total n (TakesBytes t m) old new h s =
+    let less = total-most n (has_stream t) (GoesBy (TakesOn m) (Takes m)) old.lives h.0
+    (λ a b goes. weighs-less n a b goes.joined (takes-one m a b goes)) h.1 in
+    let are = ap (λ (c : Course). total n c.lives) h.2 in
+    let same = ap (λ (c : Course). room n c.joins) h.2 in
+    omega (arith, less, are, same)
+
+reach-total : (n : ℕ) (calls : List HouseCall) (old new : Course) (h : Reaches old calls new) → OfAll Sound old
+    → times n (openers_in calls old new h) + total n new.lives + room n old.joins ≤ room n new.joins + total n old.lives
+reach-total n [] old new h s =
+    let all = ap (λ (c : Course). total n c.lives) h in
+    let same = ap (λ (c : Course). room n c.joins) h in
+    omega (arith, all, same)
+reach-total n (call ∷ calls) old new h s =
+    let first = follow-total n call old h.0 h.1 s in
+    let rest = reach-total n calls h.0 new h.2 (follow-sound call old h.0 h.1 s) in
+    let both = times-append n (opener_of call old h.0 h.1) (openers_in calls h.0 new h.2) in
+    omega (arith, first, rest, both)
+
+once : (n : ℕ) (calls : List HouseCall) (course : Course) (h : Reaches first_course calls course)
+    → times n (openers_in calls first_course course h ++ openers_left course.lives) ≤ 1
+once n calls course h =
+    let all = reach-total n calls first_course course h (record { lives = tt; past = tt }) in
+    let both = times-append n (openers_in calls first_course course h) (openers_left course.lives) in
+    let same = left-total n course.lives in
+    let most = room-most n course.joins in
+    omega (arith, all, both, same, most)
+
+-- ---- each is told
+
+told-if : (b : Bool) (o : Option ℕ) → length (cond b (o ∷ []) []) ≡ cond {A = ℕ} b 1 0
+told-if true o = refl
+told-if false o = refl
+
+says-told : (b : Bool) (o : Option Forwarding) (bytes : List ℕ) (old new : Course) (h : SaysBy b o bytes old new)
+    → length (opener_by b o bytes old new h) ≡ opening bytes
+says-told false o bytes old new h = let none = ap opening h.0 in omega (arith, none)
+says-told true (Some f) bytes old new h = let none = ap opening h.0 in omega (arith, none)
+says-told true None bytes old new h = told-if (is_open bytes) h.1.life.joined
+
+marks-told : (mark : HouseMark) (old new : Course) (h : MarksIn mark old new)
+    → length (opener_marked mark old new h) ≡ opens_by (Marks mark)
+marks-told HouseIn old new h = refl
+marks-told (HouseSaid bytes) old new h = says-told old.desk.greeted (find has_request old.desk.all) bytes old new h
+marks-told (HouseTook size) old new h = refl
+marks-told (HouseAsked client id opening ask reply) old new h = refl
+marks-told (HouseAnswer client id reply) old new h = refl
+marks-told (HouseOrder o number) old new h = refl
+
+follow-told : (call : HouseCall) (old new : Course) (h : Follows call old new) → length (opener_of call old new h) ≡ opens_by call
+follow-told (Begins starts) old new h = refl
+follow-told (Marks mark) old new h = marks-told mark old new h
+follow-told (HearsBytes bytes) old new h = refl
+follow-told (Turns happening) old new h = refl
+follow-told (TakesBytes t n) old new h = refl
+
+reach-told : (calls : List HouseCall) (old new : Course) (h : Reaches old calls new) → length (openers_in calls old new h) ≡ opens_in calls
+reach-told [] old new h = refl
+reach-told (call ∷ calls) old new h =
+    let first = follow-told call old h.0 h.1 in
+    let rest = reach-told calls h.0 new h.2 in
+    let both = length-append (opener_of call old h.0 h.1) (openers_in calls h.0 new h.2) in
+    omega (arith, first, rest, both)
+
+pub each-is-told : EachIsTold
+each-is-told calls course h = reach-told calls first_course course h
+
+-- ---- each was joined
+
+was-joined : (calls : List HouseCall) (own : Option OwnStream) (socket : Option ℕ) (so : Forwarding → Type 0)
+    → IsJoinedFor calls own socket so → IsOneJoined calls socket
+was-joined calls own socket so h =
+    let call = Turns (Joined h.listener h.stream) in
+    let are = joins-reach h.joined.before first_course h.course h.joined.reached in
+    let all = ap joins_in h.joined.are in
+    let both = joins-append h.joined.before (call ∷ h.joined.behind) in
+    record { number = h.course.joins; is = h.which; joined = omega (arith, are, all, both) }
+
+right-joined : (calls : List HouseCall) (own : Option OwnStream) (socket : Option ℕ) (line : Line) → may_open line ≡ true
+    → Right calls own socket line → IsOneJoined calls socket
+right-joined calls own socket (Dialing dialog) e h = was-joined calls own socket _ h
+right-joined calls own socket (Asked host port None) e h = was-joined calls own socket _ h
+right-joined calls own socket (Asked host port (Some version)) e h = was-joined calls own socket _ h
+right-joined calls own socket (Opened version) e h = cc
+right-joined calls own socket (Offered remote window maximum) e h = cc
+right-joined calls own socket (Live live) e h = cc
+right-joined calls own socket Over e h = cc
+
+left-joined-if : (calls : List HouseCall) (b : Bool) (l : Life) (ls : List Life) → may_open l.relay.line ≡ b → Aimed calls l
+    → All (IsOneJoined calls) (map (λ (x : Life). x.joined) ls) → All (IsOneJoined calls) (map (λ (x : Life). x.joined) (cond b (l ∷ ls) ls))
+left-joined-if calls true l ls e p h =
+    All-cons (IsOneJoined calls) l.joined (map (λ (x : Life). x.joined) ls) (right-joined calls l.own l.joined l.relay.line e p.right) h
+left-joined-if calls false l ls e p h = h
+
+left-joined : (calls : List HouseCall) (ls : List Life) → Each (Both (Aimed calls)) ls → All (IsOneJoined calls) (openers_left ls)
+left-joined calls [] h = All-nil (IsOneJoined calls)
+left-joined calls (l ∷ ls) h =
+    left-joined-if calls (may_open l.relay.line) l (filter (λ (x : Life). may_open x.relay.line) ls) refl h.0.1 (left-joined calls ls h.1)
+
+joined-more : (calls more : List HouseCall) (socket : Option ℕ) → IsOneJoined calls socket → IsOneJoined (calls ++ more) socket
+joined-more calls more socket h =
+    let l = h.joined in
+    let both = joins-append calls more in
+    record { number = h.number; is = h.is; joined = omega (arith, l, both) }
+
+-- one that says its OPEN was to
+said-opens : (l : Life) (bytes : List ℕ) → has_words l ≡ true → is_open bytes ≡ true → (opening bytes ≤ one l) → may_open l.relay.line ≡ true
+said-opens l bytes words is most = by (may_open l.relay.line) refl
+  where
+    by : (b : Bool) → may_open l.relay.line ≡ b → may_open l.relay.line ≡ true
+    by true e = e
+    by false e =
+        let none = ap {B = ℕ} (λ (b : Bool). cond b 1 0) e in
+        let some = ap {B = ℕ} (λ (b : Bool). cond b 1 0) is in
+        absurd (omega (arith, most, none, some))
+
+says-joined-if : (calls : List HouseCall) (b : Bool) (socket : Option ℕ) → (b ≡ true → IsOneJoined calls socket)
+    → All (IsOneJoined calls) (cond b (socket ∷ []) [])
+says-joined-if calls true socket h = All-cons (IsOneJoined calls) socket [] (h refl) (All-nil (IsOneJoined calls))
+says-joined-if calls false socket h = All-nil (IsOneJoined calls)
+
+says-joined : (before : List HouseCall) (b : Bool) (o : Option Forwarding) (bytes : List ℕ) (old new : Course) (h : SaysBy b o bytes old new)
+    → Each (Both (Aimed before)) old.lives → All (IsOneJoined before) (opener_by b o bytes old new h)
+says-joined before false o bytes old new h p = All-nil (IsOneJoined before)
+says-joined before true (Some f) bytes old new h p = All-nil (IsOneJoined before)
+says-joined before true None bytes old new h p =
+    let a = h.1.life in
+    let its = each-back (Both (Aimed before)) h.1.before (a ∷ h.1.behind) (subst (Each (Both (Aimed before))) h.1.were p) in
+    let said = says-one bytes a h.1.next h.1.is h.1.goes in
+    says-joined-if before (is_open bytes) a.joined
+    (λ is. right-joined before a.own a.joined a.relay.line (said-opens a bytes h.1.is is (omega (arith, said))) its.0.1.right)
+
+marks-joined : (before : List HouseCall) (mark : HouseMark) (old new : Course) (h : MarksIn mark old new)
+    → Each (Both (Aimed before)) old.lives → All (IsOneJoined before) (opener_marked mark old new h)
+marks-joined before HouseIn old new h p = All-nil (IsOneJoined before)
+marks-joined before (HouseSaid bytes) old new h p = says-joined before old.desk.greeted (find has_request old.desk.all) bytes old new h p
+marks-joined before (HouseTook size) old new h p = All-nil (IsOneJoined before)
+marks-joined before (HouseAsked client id opening ask reply) old new h p = All-nil (IsOneJoined before)
+marks-joined before (HouseAnswer client id reply) old new h p = All-nil (IsOneJoined before)
+marks-joined before (HouseOrder o number) old new h p = All-nil (IsOneJoined before)
+
+follow-joined : (before : List HouseCall) (call : HouseCall) (old new : Course) (h : Follows call old new)
+    → Each (Both (Aimed before)) old.lives → All (IsOneJoined before) (opener_of call old new h)
+follow-joined before (Begins starts) old new h p = All-nil (IsOneJoined before)
+follow-joined before (Marks mark) old new h p = marks-joined before mark old new h p
+follow-joined before (HearsBytes bytes) old new h p = All-nil (IsOneJoined before)
+follow-joined before (Turns happening) old new h p = All-nil (IsOneJoined before)
+follow-joined before (TakesBytes t n) old new h p = All-nil (IsOneJoined before)
+
+reach-joined : (before calls : List HouseCall) (old new : Course) → Reaches first_course before old → (h : Reaches old calls new)
+    → All (IsOneJoined (before ++ calls)) (openers_in calls old new h)
+reach-joined before [] old new r h = All-nil (IsOneJoined (before ++ []))
+reach-joined before (call ∷ calls) old new r h =
+    let first = follow-joined before call old h.0 h.1 (all-aimed before old r).lives in
+    let rest = reach-joined (before ++ call ∷ []) calls h.0 new (reaches-more before call first_course old h.0 r h.1) h.2 in
+    All-append (IsOneJoined (before ++ call ∷ calls)) (opener_of call old h.0 h.1) (openers_in calls h.0 new h.2)
+    (All-weaker (IsOneJoined before) (IsOneJoined (before ++ call ∷ calls)) (λ o k. joined-more before (call ∷ calls) o k)
+    (opener_of call old h.0 h.1) first)
+    (subst (λ (cs : List HouseCall). All (IsOneJoined cs) (openers_in calls h.0 new h.2)) (append_assoc before (call ∷ []) calls) rest)
+
+pub each-was-joined : EachWasJoined
+each-was-joined calls course h =
+    All-append (IsOneJoined calls) (openers_in calls first_course course h) (openers_left course.lives)
+    (reach-joined [] calls first_course course refl h) (left-joined calls course.lives (all-aimed calls course h).lives)
+
+-- ---- no two are of one
+
+pub one-open-each : OneOpenEach
+one-open-each calls course h =
+    let os = openers_in calls first_course course h ++ openers_left course.lives in
+    differ os (All-weaker (IsOneJoined calls) IsSome (λ o k. (k.number, k.is)) os (each-was-joined calls course h)) (λ n. once n calls course h)
