@@ -1,19 +1,20 @@
 -- What is closed was asked to close, and the ask has no answer yet.
-use Rattle.std.proofs.Common.{◌≡◌, ◌∙◌, sym, ap, subst, ℕ, Bool, true, false, List, ◌∷◌, ◌++◌, Option, None}
+use Rattle.std.proofs.Common.{◌≡◌, ◌∙◌, refl, sym, ap, subst, ℕ, Bool, true, false, List, ◌∷◌, ◌++◌, [], inl, Option, Some, None}
 use Rattle.std.specs.List.{Contains}
 use Rattle.std.proofs.lemmas.Bool.{and_from, eq-eqb}
 use Rattle.mux_outside.specs.declared.house.HouseReply.TheVariants as given
 use Rattle.house_forward.specs.Asks.{settled, settle_one, settled_at, is_about, same, waiting_for}
-use Rattle.house_forward.specs.Causes.{gateway_in, AreOne, IsFor, ServesAt, WaitsToClose, EachUnlisten, EachCancel, come_to}
+use Rattle.house_forward.specs.Causes.{gateway_in, AreOne, IsFor, ServesAt, WaitsToClose, EachUnlisten, EachCancel, EachCancelReply, come_to, cancelled}
 use Rattle.house_forward.specs.Deeds.{Deed}
 use Rattle.house_forward.specs.Deeds.{Asks}
 use Rattle.house_forward.specs.Desk.{Desk}
-use Rattle.house_forward.specs.Forwardings.{has_request, requests_at, request_at, listener_at}
+use Rattle.house_forward.specs.Forwardings.{has_request, requests_at, request_at, listener_at, cancels_at, first_of, replied_asks}
 use Rattle.house_forward.specs.Rules.{listens_here}
 use Rattle.house_forward.specs.declared.asks.Outcome.{Outcome}
 use Rattle.house_forward.specs.declared.asks.Outcome.TheVariants.{Done}
 use Rattle.house_forward.specs.declared.asks.Waiting.{Waiting}
 use Rattle.house_forward.specs.declared.forwarding.Forwarding.{Forwarding}
+use Rattle.house_forward.specs.declared.forwarding.Request.{Request}
 use Rattle.house_forward.specs.declared.forwarding.Request.TheVariants.{Cancel}
 use Rattle.house_forward.specs.declared.forwarding.Stage.{Stage}
 use Rattle.house_forward.specs.declared.forwarding.Stage.TheVariants.{ToListen, Ordered, Listening, ToRequest, Requested, Live, Cancelling}
@@ -124,4 +125,52 @@ each-cancel f deeds old new left h e =
       serves = both.0;
       asked = one-waits (k.home f.serial) f old.waiting deeds at.0.same
           (waits-to-close k.home old.serials deeds old.waiting f.serial ask.0 ask.1 ask.2 its at.0.same.serial);
+    }
+
+-- ---- its reply
+
+first-in : (rs : List Request) (r : Request) → first_of rs ≡ Some r → In r rs
+first-in [] r e = cc
+first-in (q ∷ rs) r e = let same : q ≡ r = cc in inl same
+
+serves-still : (s : Stage) (a f : Forwarding) (deeds : List Deed) → AreOne a f → cancels_at s ≡ true → StageFits s a deeds → ServesAt s f deeds
+serves-still (ToListen host) a f deeds one e h = cc
+serves-still Ordered a f deeds one e h = cc
+serves-still (Listening l) a f deeds one e h = cc
+serves-still ToRequest a f deeds one e h = cc
+serves-still Requested a f deeds one e h = cc
+serves-still (Live p) a f deeds one e h = cc
+serves-still (Cancelling p) a f deeds one e h = (ap listens_here (sym one.kind) ∙ h.0, one-granted a f p deeds one h.1)
+
+replied-asks : (success : Bool) (port : Option ℕ) (n : ℕ) (fs : List Forwarding) (at : ℕ) (ws : List Waiting)
+    → replied_asks success port (Some (Cancel n)) fs at ws ≡ settled n false at (cancelled success) ws
+replied-asks true port n fs at ws = refl
+replied-asks false port n fs at ws = refl
+
+pub each-cancel-reply : EachCancelReply
+unfolding waits-to-close one-waits
+each-cancel-reply n success port deeds old new left h first =
+    let k = knows deeds old left in
+    let its = (wants deeds old left).said (Cancel n) (first-in old.requests (Cancel n) first) in
+    let f = its.0 in
+    let at = in-all (Stands k.home old.serials deeds) f old.all k.all its.1 in
+    let ask = (wants deeds old left).closers f its.1 its.4 in
+    let w = ask.0 in
+    let waits = in-all (Waits k.home old.serials deeds) w old.waiting k.waiting ask.1 in
+    record {
+      forwarding = f;
+      stands = in-contains f old.all its.1;
+      is = its.2;
+      cancels = record {
+        serves = serves-still f.stage (k.home f.serial) f deeds at.same its.3 at.stage;
+        asked = one-waits (k.home f.serial) f old.waiting deeds at.same
+            (waits-to-close k.home old.serials deeds old.waiting f.serial w ask.1 ask.2 waits at.same.serial);
+      };
+      comes = subst (λ (ws : List Waiting). Contains ws (come_to old.done (cancelled success) (waiting_for w.client w.id false n)))
+          (sym (ap (λ (d : Desk). d.waiting) h
+          ∙ ap (λ (o : Option Request). replied_asks success port o old.all old.done old.waiting) first
+          ∙ replied-asks success port n old.all old.done old.waiting))
+          (subst (λ (m : ℕ). Contains (settled m false old.done (cancelled success) old.waiting)
+          (come_to old.done (cancelled success) (waiting_for w.client w.id false m))) its.2
+          (comes-to f.serial old.done (cancelled success) w old.waiting ask.1 ask.2));
     }

@@ -48,11 +48,11 @@ abbrev pub Closers : List Waiting → List Forwarding → Type 0
 Closers ws all = (f : Forwarding) → In f all → f.closing ≡ true → Closer ws f.serial
 
 -- a request has its forwarding
-abbrev IsOf : List Forwarding → Request → Type 0
+abbrev pub IsOf : List Forwarding → Request → Type 0
 IsOf all (Listen n) = (f : Forwarding) × In f all × (f.serial ≡ n) × (asks_at f.stage ≡ true)
-IsOf all (Cancel n) = (f : Forwarding) × In f all × (f.serial ≡ n) × (cancels_at f.stage ≡ true)
+IsOf all (Cancel n) = (f : Forwarding) × In f all × (f.serial ≡ n) × (cancels_at f.stage ≡ true) × (f.closing ≡ true)
 
-abbrev Said : List Request → List Forwarding → Type 0
+abbrev pub Said : List Request → List Forwarding → Type 0
 Said rs all = (r : Request) → In r rs → IsOf all r
 
 abbrev Once : List Request → Type 0
@@ -61,7 +61,7 @@ Once (r ∷ rs) = (In r rs → ⊥) × Once rs
 
 pub record Wants (d : Desk) : Type 0 where
   pub closers : Closers d.waiting d.all
-  said : Said d.requests d.all
+  pub said : Said d.requests d.all
   once : Once d.requests
 
 -- ---- asks go on
@@ -216,7 +216,7 @@ begins-more gateway asks (suc i) old new l b =
 
 is-kept : (old new : List Forwarding) (r : Request) → ((f : Forwarding) → In f old → In f new) → IsOf old r → IsOf new r
 is-kept old new (Listen n) keeps h = (h.0, keeps h.0 h.1, h.2, h.3)
-is-kept old new (Cancel n) keeps h = (h.0, keeps h.0 h.1, h.2, h.3)
+is-kept old new (Cancel n) keeps h = (h.0, keeps h.0 h.1, h.2, h.3, h.4)
 
 wants-more : (old new : Desk) → More old.all new.all → new.waiting ≡ old.waiting → new.requests ≡ old.requests → Wants old → Wants new
 wants-more old new m waiting requests w = record {
@@ -274,11 +274,17 @@ stage-if : (P : Stage → Type 0) (c : Change) (b : Bool) (f : Forwarding) → P
 stage-if P c true f h k = k refl
 stage-if P c false f h k = h
 
+closes-if : (c : Change) (b : Bool) (f : Forwarding) → f.closing ≡ true → (b ≡ true → closing_after c f.closing ≡ true)
+    → (if b then record f { stage = stage_after c f.listen_port f.stage; closing = closing_after c f.closing } else f).closing ≡ true
+closes-if c true f h k = k refl
+closes-if c false f h k = h
+
 is-changed : (c : Change) (serial : ℕ) (fs : List Forwarding) (r : Request)
     → ((f : Forwarding) → f.serial ≡ serial → r ≡ Listen f.serial → asks_at f.stage ≡ true → asks_at (stage_after c f.listen_port f.stage) ≡ true)
     → ((f : Forwarding) → f.serial ≡ serial → r ≡ Cancel f.serial → cancels_at f.stage ≡ true → cancels_at (stage_after c f.listen_port f.stage) ≡ true)
+    → ((f : Forwarding) → f.serial ≡ serial → r ≡ Cancel f.serial → f.closing ≡ true → closing_after c f.closing ≡ true)
     → IsOf fs r → IsOf (map (changed c serial) fs) r
-is-changed c serial fs (Listen n) asks cancels h =
+is-changed c serial fs (Listen n) asks cancels closes h =
     let f = h.0 in (
       changed c serial f,
       in-map (changed c serial) f fs h.1,
@@ -286,13 +292,15 @@ is-changed c serial fs (Listen n) asks cancels h =
       stage-if (λ (s : Stage). asks_at s ≡ true) c (f.serial == serial) f h.3
           (λ is. asks f (eqb-true f.serial serial is) (ap (λ m. Listen m) (sym h.2)) h.3),
     )
-is-changed c serial fs (Cancel n) asks cancels h =
+is-changed c serial fs (Cancel n) asks cancels closes h =
     let f = h.0 in (
       changed c serial f,
       in-map (changed c serial) f fs h.1,
       changed-serial c serial f ∙ h.2,
       stage-if (λ (s : Stage). cancels_at s ≡ true) c (f.serial == serial) f h.3
           (λ is. cancels f (eqb-true f.serial serial is) (ap (λ m. Cancel m) (sym h.2)) h.3),
+      closes-if c (f.serial == serial) f h.4
+          (λ is. closes f (eqb-true f.serial serial is) (ap (λ m. Cancel m) (sym h.2)) h.4),
     )
 
 asked-close : (comes : Comes) (client id : ℕ) (ws : List Waiting) (rs : List Request) (old new : List Forwarding)
@@ -308,7 +316,7 @@ asked-close (Later serial) client id ws rs old new e closers said =
           (close-if client id serial ws (at.0.serial == serial) at.0 refl (ap (λ (x : Forwarding). x.closing) at.2 ∙ closes)
           (λ closed. closers at.0 at.1 closed));
       said = λ r h. is-changed change.Close serial old r (λ f is of k. (closed-stage f.listen_port f.stage).0 ∙ k)
-          (λ f is of k. (closed-stage f.listen_port f.stage).1 ∙ k) (said r h);
+          (λ f is of k. (closed-stage f.listen_port f.stage).1 ∙ k) (λ f is of k. refl) (said r h);
     })
 
 asked-ends : (opening : Bool) (serial client id : ℕ) (ends : Ends) (comes : Comes) (ws : List Waiting) (rs : List Request) (old new : List Forwarding)
@@ -511,9 +519,9 @@ cancel-keeps n (Cancelling port) = (λ e. e, λ e. e)
 
 said-keeps : (r q : Request) (fs : List Forwarding) → IsOf fs r → IsOf (after_saying q fs) r
 said-keeps r (Listen serial) fs h = is-changed change.Request serial fs r (λ f is of k. (listen-keeps f.listen_port f.stage).0 k)
-    (λ f is of k. (listen-keeps f.listen_port f.stage).1 k) h
+    (λ f is of k. (listen-keeps f.listen_port f.stage).1 k) (λ f is of k. k) h
 said-keeps r (Cancel serial) fs h = is-changed change.Cancel serial fs r (λ f is of k. (cancel-keeps f.listen_port f.stage).0 k)
-    (λ f is of k. (cancel-keeps f.listen_port f.stage).1 k) h
+    (λ f is of k. (cancel-keeps f.listen_port f.stage).1 k) (λ f is of k. k) h
 
 -- the one that says it has it
 changed-its : (c : Change) (f : Forwarding)
@@ -539,6 +547,7 @@ said-its (Live port) f fs is e h = (
   changed-serial change.Cancel f.serial f,
   ap (λ (x : Forwarding). cancels_at x.stage) (changed-its change.Cancel f)
       ∙ ap (λ (s : Stage). cancels_at (stage_after change.Cancel f.listen_port s)) is,
+  ap (λ (x : Forwarding). x.closing) (changed-its change.Cancel f) ∙ e,
 )
 said-its (Cancelling port) f fs is e h = cc
 
@@ -638,6 +647,7 @@ listens-left serial fs (Cancel n) other h = (
       (and-second (h.0.serial == serial) (asks_at h.0.stage) (cancels-asks h.0.stage h.3)) h.1,
   h.2,
   h.3,
+  h.4,
 )
 
 cancels-left : (serial : ℕ) (fs : List Forwarding) (r : Request) → (r ≡ Cancel serial → ⊥) → IsOf fs r
@@ -655,6 +665,7 @@ cancels-left serial fs (Cancel n) other h = (
       (other-serial h.0.serial serial (cancels_at h.0.stage) (λ same. other (ap (λ m. Cancel m) (sym h.2 ∙ same)))) h.1,
   h.2,
   h.3,
+  h.4,
 )
 
 -- of those with another request
@@ -686,7 +697,7 @@ replied true (Listen serial) port at serials rs fs ws n closers said once = reco
       (λ g here closes c. closer-opened (live_in port (find (is_asked serial) fs)) serial at ws g.serial c) closers;
   said = λ q h. is-changed (change.Live port) serial fs q
       (λ f is of k. absurd (not-first (Listen serial) rs q once h (of ∙ ap (λ m. Listen m) is)))
-      (λ f is of k. live-cancels port f.listen_port f.stage k) (said q (inr h));
+      (λ f is of k. live-cancels port f.listen_port f.stage k) (λ f is of k. k) (said q (inr h));
 }
 replied false (Listen serial) port at serials rs fs ws n closers said once =
     let o = position (is_asked serial) fs in
@@ -710,6 +721,7 @@ replied false (Cancel serial) port at serials rs fs ws n closers said once = rec
   closers = closers-by ws (settled serial false at Refused ws) fs (map (changed change.Stay serial) fs) (yet-changed change.Stay serial fs tt)
       (λ g here closes c. closer-settled serial false at Refused ws g.serial (λ e. stay-differs serial fs g here closes) c) closers;
   said = λ q h. is-changed change.Stay serial fs q (λ f is of k. stay-asks f.listen_port f.stage k)
+      (λ f is of k. absurd (not-first (Cancel serial) rs q once h (of ∙ ap (λ m. Cancel m) is)))
       (λ f is of k. absurd (not-first (Cancel serial) rs q once h (of ∙ ap (λ m. Cancel m) is))) (said q (inr h));
 }
 
@@ -755,7 +767,7 @@ cancels-waits (Cancelling port) e = refl
 -- those with requests are others than those that have no listener yet
 is-other : (old new : List Forwarding) (r : Request) → ((f : Forwarding) → In f old → to_listen f ≡ false → In f new) → IsOf old r → IsOf new r
 is-other old new (Listen n) keeps h = (h.0, keeps h.0 h.1 (asks-waits h.0.stage h.3), h.2, h.3)
-is-other old new (Cancel n) keeps h = (h.0, keeps h.0 h.1 (cancels-waits h.0.stage h.3), h.2, h.3)
+is-other old new (Cancel n) keeps h = (h.0, keeps h.0 h.1 (cancels-waits h.0.stage h.3), h.2, h.3, h.4)
 
 set-other : (x f g d : Forwarding) (fs : List Forwarding) (i : ℕ) → i < length fs → In x fs → to_listen x ≡ false
     → to_listen (get_or fs i d) ≡ true → In x (set fs i g)
@@ -835,7 +847,7 @@ is-unlistened : (l : ℕ) (fs : List Forwarding) (r : Request) → IsOf fs r →
 is-unlistened l fs (Listen n) h =
     (h.0, in-filter (λ f. not (has_listener l f)) h.0 fs (asks-lacks l h.0.stage h.3) h.1, h.2, h.3)
 is-unlistened l fs (Cancel n) h =
-    (h.0, in-filter (λ f. not (has_listener l f)) h.0 fs (cancels-lacks l h.0.stage h.3) h.1, h.2, h.3)
+    (h.0, in-filter (λ f. not (has_listener l f)) h.0 fs (cancels-lacks l h.0.stage h.3) h.1, h.2, h.3, h.4)
 
 -- the one that is closed is gone
 not-closed-one : (serial l : ℕ) (all : List Forwarding) (serials : ℕ) (g : Forwarding) → is_numbered 0 all serials ≡ true

@@ -8,7 +8,7 @@ use Rattle.house_forward.specs.Asks.{turns_away, waiting_for}
 use Rattle.house_forward.specs.Deeds.{Deed, Does, Leave}
 use Rattle.house_forward.specs.Deeds.{Begins, Asks, Answers, Greets, Requests, Replies, Listens, Unlistens}
 use Rattle.house_forward.specs.Desk.{Desk}
-use Rattle.house_forward.specs.Forwardings.{granted, bound_to, request_of, outcome_of, reply_to, standing, connects_to, how_many, has_request, next_of, listener_of, listeners_of, counts}
+use Rattle.house_forward.specs.Forwardings.{first_of, granted, bound_to, request_of, outcome_of, reply_to, standing, connects_to, how_many, has_request, next_of, listener_of, listeners_of, counts}
 use Rattle.house_forward.specs.Quiet.{answers_none}
 use Rattle.house_forward.specs.Rules.{AreEnds, is_refused_alone, kind_of, listen_host, listens_here, connects_there}
 use Rattle.house_forward.specs.declared.asks.Asked.TheVariants.{Now}
@@ -262,6 +262,26 @@ pub record CancelsAsked (f : Forwarding) (waiting : List Waiting) (deeds : List 
 abbrev pub EachCancel : Type 0
 EachCancel = (f : Forwarding) (deeds : List Deed) (old new : Desk) → Leave deeds old
     → Does (Requests f) old new → request_of f ≡ Cancel f.serial → CancelsAsked f old.waiting deeds
+
+-- what an ask to close comes to as the server replies to its cancel
+abbrev pub cancelled : Bool → Outcome
+cancelled true = Done
+cancelled false = Refused
+
+-- the reply to a cancel is for a forwarding that is live and that a client asked to close, and that ask
+-- has no answer yet: it comes to Done now where the cancel was granted, and else it is refused
+pub record EndsCancel (serial : ℕ) (success : Bool) (deeds : List Deed) (old new : Desk) : Type 0 where
+  pub forwarding : Forwarding
+  pub stands : Contains old.all forwarding
+  pub is : forwarding.serial ≡ serial
+  pub cancels : CancelsAsked forwarding old.waiting deeds
+  pub comes : Contains new.waiting (come_to old.done (cancelled success)
+      (waiting_for cancels.asked.client cancels.asked.id false serial))
+
+abbrev pub EachCancelReply : Type 0
+EachCancelReply = (serial : ℕ) (success : Bool) (port : Option ℕ) (deeds : List Deed)
+    (old new : Desk) → Leave deeds old → Does (Replies success port) old new
+    → first_of old.requests ≡ Some (Cancel serial) → EndsCancel serial success deeds old new
 
 -- ---- what is refused at once
 

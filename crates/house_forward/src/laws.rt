@@ -1,7 +1,7 @@
 //! What holds of the house, whatever calls were made: of its relays, its forwardings, its requests to
 //! the server and its asks. Each function's contract is the law.
 
-ghost use Rattle.house_forward.specs.Causes.{EachServed, EachRefused, EachAnswer, EachUnlisten, EachCancel, EachAwaits, ListenersDiffer};
+ghost use Rattle.house_forward.specs.Causes.{EachServed, EachRefused, EachAnswer, EachUnlisten, EachCancel, EachCancelReply, EachAwaits, ListenersDiffer};
 ghost use Rattle.house_forward.specs.Closing.{ClosesHaveCause};
 ghost use Rattle.house_forward.specs.Confirming.{ConfirmsConnected, RefusesUnconnected};
 ghost use Rattle.house_forward.specs.Connects.{OneConnectEach};
@@ -102,10 +102,12 @@ pub fn every_reply_has_its_cause()
 
 /// A listener is closed, and a cancel is said, only for a forwarding that a client asked to close; and
 /// its ask has no answer yet then: it waits, and came to nothing. As the listener is closed it comes to
-/// Done.
+/// Done. Behind a cancel it waits for the server's reply, as which it comes to Done where the cancel was
+/// granted, and else is refused.
 pub fn what_is_closed_was_asked_to_close()
     ensures listeners { EachUnlisten }
     ensures cancels { EachCancel }
+    ensures replies { EachCancelReply }
 {}
 
 /// The house greets once and first: the first piece that it says is HELLO and PROXY, and each behind
