@@ -1,6 +1,7 @@
 -- Why asks get their replies and answers, by what happened before.
-use Rattle.std.specs.Prelude.{◌≡◌, ◌≢◌, ◌⊎◌, ◌≤◌, ℕ, Bool, true, false, ◌==◌, ◌&&◌, List, [], ◌∷◌, ◌++◌, drop, find, Option, Some, None}
+use Rattle.std.specs.Prelude.{◌≡◌, ◌≢◌, ◌⊎◌, ◌≤◌, ℕ, Bool, true, false, ◌==◌, ◌&&◌, List, [], ◌∷◌, ◌++◌, drop, find, IfSome, Option, Some, None}
 use Rattle.std.specs.List.{All, AllPairs, list_any, Contains}
+use Rattle.mux_outside.specs.Streams.{among, without}
 use Rattle.mux_outside.specs.declared.house.HouseReply.{HouseReply}
 use Rattle.mux_outside.specs.declared.house.HouseReply.TheVariants as given
 use Rattle.mux_outside.specs.declared.start_ask.StartAsk.{StartAsk}
@@ -8,7 +9,7 @@ use Rattle.house_forward.specs.Asks.{turns_away, waiting_for}
 use Rattle.house_forward.specs.Deeds.{Deed, Does, Leave}
 use Rattle.house_forward.specs.Deeds.{Begins, Asks, Answers, Greets, Requests, Replies, Listens, Unlistens}
 use Rattle.house_forward.specs.Desk.{Desk}
-use Rattle.house_forward.specs.Forwardings.{first_of, granted, bound_to, request_of, outcome_of, reply_to, standing, connects_to, how_many, has_request, next_of, listener_of, listeners_of, counts}
+use Rattle.house_forward.specs.Forwardings.{first_of, granted, bound_to, request_of, outcome_of, reply_to, standing, connects_to, how_many, has_request, next_of, listener_of, listeners_of, listeners_made, counts}
 use Rattle.house_forward.specs.Quiet.{answers_none}
 use Rattle.house_forward.specs.Rules.{AreEnds, is_refused_alone, kind_of, listen_host, listens_here, connects_there}
 use Rattle.house_forward.specs.declared.asks.Asked.TheVariants.{Now}
@@ -325,6 +326,28 @@ abbrev pub EachAwaits : Type 0
 EachAwaits = (deeds : List Deed) (d : Desk) → Leave deeds d → IsAtRest d → All (AwaitsReply d.requests) d.waiting
 
 -- ---- listeners
+
+-- those that were made and not closed since, in the order in which they were made
+abbrev pub listened : List Deed → List ℕ
+listened [] = []
+listened (Begins starts ∷ deeds) = listened deeds
+listened (Asks client id opening ask reply ∷ deeds) = listened deeds
+listened (Answers client id reply ∷ deeds) = listened deeds
+listened (Greets ∷ deeds) = listened deeds
+listened (Requests f ∷ deeds) = listened deeds
+listened (Replies success port ∷ deeds) = listened deeds
+listened (Listens host port number ∷ deeds) = listened deeds ++ listeners_made number
+listened (Unlistens l ∷ deeds) = without l (listened deeds)
+
+-- these are exactly those of the forwardings, each of one, in their order
+abbrev pub ListenersAreTheirs : Type 0
+ListenersAreTheirs = (deeds : List Deed) (d : Desk) → Leave deeds d → listeners_of d.all ≡ listened deeds
+
+-- each that is made has a number that none of them has
+abbrev pub EachListenerIsNew : Type 0
+EachListenerIsNew = (host : List ℕ) (port : ℕ) (number : Option ℕ) (deeds : List Deed)
+    (old new : Desk) → Leave deeds old → Does (Listens host port number) old new
+    → IfSome number (λ l. among l (listened deeds) ≡ false)
 
 -- no two forwardings have the same
 abbrev pub ListenersDiffer : Type 0

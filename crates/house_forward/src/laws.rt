@@ -1,7 +1,7 @@
 //! What holds of the house, whatever calls were made: of its relays, its forwardings, its requests to
 //! the server and its asks. Each function's contract is the law.
 
-ghost use Rattle.house_forward.specs.Causes.{EachServed, EachRefused, EachAnswer, EachUnlisten, EachCancel, EachCancelReply, EachAwaits, ListenersDiffer};
+ghost use Rattle.house_forward.specs.Causes.{EachServed, EachRefused, EachAnswer, EachUnlisten, EachCancel, EachCancelReply, EachAwaits, EachListenerIsNew, ListenersAreTheirs, ListenersDiffer};
 ghost use Rattle.house_forward.specs.Closing.{ClosesHaveCause};
 ghost use Rattle.house_forward.specs.Confirming.{ConfirmsConnected, RefusesUnconnected};
 ghost use Rattle.house_forward.specs.Connects.{OneConnectEach};
@@ -117,9 +117,12 @@ pub fn the_greeting_is_said_once_and_first()
     ensures { EachGreets }
 {}
 
-/// No two forwardings have the same listener, since each came with a number that none had.
+/// The forwardings have exactly the listeners that were made and not closed since, of which no two are
+/// the same, since each came with a number that no open one had.
 pub fn each_forwarding_has_its_own_listener()
-    ensures { ListenersDiffer }
+    ensures listeners { ListenersAreTheirs }
+    ensures new { EachListenerIsNew }
+    ensures apart { ListenersDiffer }
 {}
 
 /// Where there is no request to say, no listener to order or to close and no answer to give, each ask
