@@ -102,8 +102,8 @@ pub fn every_reply_has_its_cause()
 
 /// A listener is closed, and a cancel is said, only for a forwarding that a client asked to close; and
 /// its ask has no answer yet then: it waits, and came to nothing. As the listener is closed it comes to
-/// Done. Behind a cancel it waits for the server's reply, as which it comes to Done where the cancel was
-/// granted, and else is refused.
+/// Done. Behind a cancel it waits for the server's reply: then it comes to Done where the cancel was
+/// granted, and else it is refused.
 pub fn what_is_closed_was_asked_to_close()
     ensures listeners { EachUnlisten }
     ensures cancels { EachCancel }
