@@ -3,6 +3,7 @@ use Rattle.std.proofs.lemmas.Result.{on_ok_weaker}
 use Rattle.mux_history.specs.declared.why.Why.{Why}
 use Rattle.mux_machine.specs.Shown.{state_of}
 use Rattle.mux_machine.specs.State.{State}
+use Rattle.mux_machine.proofs.Others.{heard-leaves-idle}
 use Rattle.mux_machine.proofs.Written.{hear-written, hear_new}
 use Rattle.mux_machine.proofs.engine.Engine.hear.Goals as goal
 
@@ -21,3 +22,6 @@ returns-clause-heard c =
       leaves = c.in_ok-extend_from_slice.ensures.items ∙ ap (λ (l : List (ℕ × Option Why)). c.self.inside.leaving.items ++ l) c.deref.ensures.value;
       waits = waits;
     }) c.list_waiting.ensures
+
+pub returns-clause-others : goal.returns-clause-others
+returns-clause-others c = on_ok_weaker c.list_waiting.result (λ h. heard-leaves-idle c.args.self.now _ c.args.bytes.now c.requires.goes h) (returns-clause-heard c)
