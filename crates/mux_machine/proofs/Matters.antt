@@ -35,16 +35,16 @@ use Rattle.mux_machine.proofs.Lists.{true_false}
 -- ---- channels
 
 -- the account of a channel of the history
-account-of : history.Channel → Account
+abbrev account-of : history.Channel → Account
 account-of x = elim (is_confirmed x) [ true ↦ Confirmed (account_of Up x) (account_of Down x) | false ↦ Opened x.by x.window x.maximum ]
 
-channel-with : ℕ → Option ℕ → Option ℕ → Side → Channel
+abbrev channel-with : ℕ → Option ℕ → Option ℕ → Side → Channel
 channel-with client own remote by = record { client = client; own = own; remote = remote; by = by }
 
-held-with : Channel → Option ℕ → Account → HeldChannel
+abbrev held-with : Channel → Option ℕ → Account → HeldChannel
 held-with channel number state = record { channel = channel; number = number; ledger = record { state = state } }
 
-held-of : history.Channel → HeldChannel
+abbrev held-of : history.Channel → HeldChannel
 held-of x = held-with (channel-with x.client x.own x.remote x.by) x.number (account-of x)
 
 account-is : (state : Account) (x : history.Channel) → IsStateOf state x → state ≡ account-of x
@@ -87,10 +87,10 @@ channels-are k (e ∷ es) (x ∷ xs) fit = by_case (channels-are k es xs fit.1) 
 
 -- ---- forwardings
 
-forward-with : Rattle.ssh_grammar.specs.Messages.Key → Bool → Bool → HeldForward
+abbrev forward-with : Rattle.ssh_grammar.specs.Messages.Key → Bool → Bool → HeldForward
 forward-with key live leaves = record { key = key; live = live; leaves = leaves }
 
-forward-of : Forwarding → HeldForward
+abbrev forward-of : Forwarding → HeldForward
 forward-of g = forward-with (unwrap_or g.live g.key) (is_some g.live) (is_some g.cancel)
 
 forward-is : (f : Forward) (g : Forwarding) → forwards.Fits f g → held_forward f ≡ forward-of g
@@ -130,15 +130,15 @@ current-local k rows = filters-turn (for_of k) is-on (forwardings_of rows) ∙ a
 abbrev is-mine : ℕ → core.ClientState → Bool
 is-mine k x = (x.number == k) && not x.lost
 
-client-with : ℕ → Bool → List Bool → core.ClientState
+abbrev client-with : ℕ → Bool → List Bool → core.ClientState
 client-with number lost waiting = record { number = number; lost = lost; waiting = waiting }
 
 -- a client of these rows that was let in and isn't lost
-answers-of : ℕ → List Row → Option core.ClientState
+abbrev answers-of : ℕ → List Row → Option core.ClientState
 answers-of k own = elim (any_of is_admit own && not (is_lost own)) [ true ↦ Some (client-with k false (left_of (wanted own) (replies own)).requests) | false ↦ None ]
 
 -- the first that passes is one of them
-FoundOne : Look → (core.ClientState → Bool) → Option core.ClientState → Type 0
+abbrev FoundOne : Look → (core.ClientState → Bool) → Option core.ClientState → Type 0
 FoundOne l test None = Unit {0}
 FoundOne l test (Some c) = (test c ≡ true) × ClientFits l c
 
@@ -153,11 +153,11 @@ found-one l test (c ∷ cs) all = by_case (test c) refl (found-one l test cs all
 -- one that is found is there
 none-there : (test : core.ClientState → Bool) (cs : List core.ClientState) → find test cs ≡ None → any_of test cs ≡ false
 none-there test [] e = refl
-none-there test (c ∷ cs) e = by_case (test c) refl
+none-there test (c ∷ cs) e = by_case (test c) refl (λ n. none-there test cs n)
   where
-    by_case : (b : Bool) → test c ≡ b → (test c || any_of test cs) ≡ false
-    by_case true t = absurd (let z : Some c ≡ None = sym (find-yes test c cs t) ∙ e in cc)
-    by_case false t = ap (λ b. b || any_of test cs) t ∙ none-there test cs (sym (find-no test c cs t) ∙ e)
+    by_case : (b : Bool) → test c ≡ b → (find test cs ≡ None → any_of test cs ≡ false) → (test c || any_of test cs) ≡ false
+    by_case true t ih = absurd (let z : Some c ≡ None = sym (find-yes test c cs t) ∙ e in cc)
+    by_case false t ih = ap (λ b. b || any_of test cs) t ∙ ih (sym (find-no test c cs t) ∙ e)
 
 both-true : (a b : Bool) → (a && b) ≡ true → (a ≡ true) × (b ≡ true)
 both-true true b e = (refl, e)
@@ -197,7 +197,7 @@ answers-are s k rows st = by_found (find (is-mine k) s.clients) refl (found-one 
 
 -- ---- all of it
 
-matters-with : List HeldChannel → List Rattle.mux_history.specs.Requests.Ask → List HeldForward → Option core.ClientState → Matters
+abbrev matters-with : List HeldChannel → List Rattle.mux_history.specs.Requests.Ask → List HeldForward → Option core.ClientState → Matters
 matters-with channels requests forwards answers = record { channels = channels; requests = requests; forwards = forwards; answers = answers }
 
 -- the matters of a client that has these rows
@@ -205,6 +205,7 @@ pub matters-by : ℕ → List Row → Matters
 matters-by k own = matters-with (map held-of (held_of own)) (unreplied_in (places_of own)) (map forward-of (current own)) (answers-of k own)
 
 pub matters-are : (s : CoreState) (k : ℕ) (rows : List Row) → Stands s rows → matters_of k s ≡ matters-by k (rows_of k rows)
+unfolding matters-by
 matters-are s k rows st =
     let own : List Row = rows_of k rows in
     let asks = filter (λ (a : Rattle.mux_history.specs.Requests.Ask). a.client == k) s.asks in

@@ -5,9 +5,11 @@ use Rattle.std.proofs.lemmas.Bool.{eqb-true}
 use Rattle.mux_outside.specs.declared.house.HouseReply.{HouseReply}
 use Rattle.mux_outside.specs.declared.mark.Mark.{Mark}
 use Rattle.mux_outside.specs.declared.mark.Mark.TheVariants.{Gets}
+use Rattle.mux_history.specs.declared.ended.Ended.{Ended}
 use Rattle.mux_history.specs.Pending.{pending_down}
 use Rattle.mux_history.specs.Rows.{Row, rows_of, is_ended}
 use Rattle.mux_history.specs.Settings.{by_lists}
+use Rattle.mux_history.specs.Solo.{end_of}
 use Rattle.mux_history.specs.Journal.{log_of_journal}
 use Rattle.mux_clients.specs.declared.standing.Standing.{Standing}
 use Rattle.mux_clients.specs.State.{ClientState, SeatState}
@@ -16,7 +18,7 @@ use Rattle.mux_clients.specs.Among.{AllFit, EachFits, InFits, KeepReading, is_pr
 use Rattle.mux_machine.specs.declared.event.Event.{Event}
 use Rattle.mux_machine.specs.declared.event.Event.TheVariants as event
 use Rattle.mux_machine.specs.Moves.{HeardAt, not_lost}
-use Rattle.mux_machine.specs.Others.{HeardLeavesIdle, LeavesIdle, ServerLeavesIdle, StaysAsItWas, matters_of, seat_in}
+use Rattle.mux_machine.specs.Others.{HeardLeavesIdle, KeptByOwnRows, LeavesIdle, ServerLeavesIdle, StaysAsItWas, matters_of, seat_in}
 use Rattle.mux_machine.specs.Stands.{RowsFit, Stands, log}
 use Rattle.mux_machine.specs.State.{State, SameClient, in_client}
 use Rattle.mux_machine.specs.Steps.{is_served}
@@ -28,10 +30,10 @@ use Rattle.mux_machine.proofs.Over.{some-end}
 
 -- ---- how a client stands and what waits for it follow from its own rows
 
-seat-with : ℕ → Standing → List ℕ → SeatState
+abbrev seat-with : ℕ → Standing → List ℕ → SeatState
 seat-with number standing queue = record { number = number; standing = standing; queue = queue }
 
-seat-by : ℕ → List Row → SeatState
+abbrev seat-by : ℕ → List Row → SeatState
 seat-by k own = seat-with k (standing_of own) (pending_down own)
 
 seat-is : (k : ℕ) (rows : List Row) (c : ClientState) → c.seat.number ≡ k → InFits rows c → c.seat ≡ seat-by k (rows_of k rows)
@@ -54,22 +56,27 @@ not-not : (b : Bool) → not b ≡ true → b ≡ false
 not-not true e = true_false (sym e)
 not-not false e = refl
 
-client-with : SeatState → List ℕ → ClientState
+abbrev client-with : SeatState → List ℕ → ClientState
 client-with seat rest = record { seat = seat; rest = rest }
 
 same-served : (k : ℕ) (cs ds : List ClientState) → KeepReading cs ds → seat_in ds k ≡ seat_in cs k → is_served cs k ≡ true → SameClient k cs ds
 same-served k [] ds h e s = ap (λ xs. in_client None (λ c. Some c) xs k) h
 same-served k (c ∷ cs) [] h e s = absurd h
-same-served k (c ∷ cs) (d ∷ ds) h e s = by_head (c.seat.number == k) (d.seat.number == k) (ap (λ n. n == k) h.0.0) e s
+same-served k (c ∷ cs) (d ∷ ds) h e s = by_head (c.seat.number == k) (d.seat.number == k) (ap (λ n. n == k) h.0.0) e s (λ f t. same-served k cs ds h.1 f t)
   where
-    by_head : (b a : Bool) → a ≡ b → cond a (Some d.seat) (seat_in ds k) ≡ cond b (Some c.seat) (seat_in cs k) → cond b (not_lost c.seat.standing) (is_served cs k) ≡ true → cond a (Some d) (in_client None (λ c. Some c) ds k) ≡ cond b (Some c) (in_client None (λ c. Some c) cs k)
-    by_head true true t e s =
+    by_head : (b a : Bool) → a ≡ b → cond a (Some d.seat) (seat_in ds k) ≡ cond b (Some c.seat) (seat_in cs k) → cond b (not_lost c.seat.standing) (is_served cs k) ≡ true → (seat_in ds k ≡ seat_in cs k → is_served cs k ≡ true → SameClient k cs ds)
+        → cond a (Some d) (in_client None (λ c. Some c) ds k) ≡ cond b (Some c) (in_client None (λ c. Some c) cs k)
+    by_head true true t e s ih =
         let seat : d.seat ≡ c.seat = cc in
         let live : is_lost d.seat.standing ≡ false = ap (λ (x : SeatState). is_lost x.standing) seat ∙ not-not (is_lost c.seat.standing) s in
         ap (λ x. Some (client-with x d.rest)) seat ∙ ap (λ r. Some (client-with c.seat r)) (h.0.1 live).1
-    by_head false false t e s = same-served k cs ds h.1 e s
-    by_head true false t e s = true_false (sym t)
-    by_head false true t e s = true_false t
+    by_head false false t e s ih = ih e s
+    by_head true false t e s ih = true_false (sym t)
+    by_head false true t e s ih = true_false t
+
+-- the run goes on
+live : (rows : List Row) (now : Option Ended) → now ≡ None → now ≡ end_of rows → is_ended rows ≡ false
+live rows now on is = sym (some-end rows) ∙ ap is_some (sym is ∙ on)
 
 -- ---- a client whose rows are those of before
 
@@ -95,14 +102,30 @@ heard-leaves-idle s new bytes none c picked given marks closed st al picks repli
     let on : Stands picked given new (mark ∷ marks) closed = goes-heard s new bytes none c picked given marks closed st al in
     let now : RowsFit _ on.asks new closed (log new p r (mark ∷ marks)) = (on.at picks replies).rows in
     untouched k s new (log s p r marks) (log new p r (mark ∷ marks)) old.fit now.fit
-    (sym (some-end (log s p r marks)) ∙ ap is_some (sym old.ended_is ∙ none))
-    (λ e. sym (some-end (log new p r (mark ∷ marks))) ∙ ap is_some (sym now.ended_is ∙ e))
+    (live (log s p r marks) s.ended none old.ended_is)
+    (λ on. live (log new p r (mark ∷ marks)) new.ended on now.ended_is)
     c.piece.hearing.reading
     (c.piece.hearing.present k)
     (ap (rows_of k) (log-as p r (mark ∷ marks)) ∙ same)
   where
     log-as : (picks : List ℕ) (replies : List HouseReply) (marks : List Mark) → log new picks replies marks ≡ log s picks replies marks
     log-as picks replies marks = ap (λ p. log_of_journal (by_lists p new.pid picks replies) marks) c.piece.hearing.policy ∙ ap (λ p. log_of_journal (by_lists s.core.policy p picks replies) marks) c.pid
+
+-- ---- whatever happens
+
+seat-here : (k : ℕ) (rows : List Row) (cs : List ClientState) → EachFits rows cs → is_present cs k ≡ true → seat_in cs k ≡ Some (seat-by k (rows_of k rows))
+seat-here k rows cs each here = seat-as k rows cs each ∙ ap (λ b. cond b (Some (seat-by k (rows_of k rows))) None) here
+
+pub kept-by-own-rows : KeptByOwnRows
+kept-by-own-rows s t picked picked' given given' marks marks' closed closed' st st' picks picks' replies replies' k same =
+    let rows : List Row = log s (picked ++ picks) (given ++ replies) marks in
+    let rows' : List Row = log t (picked' ++ picks') (given' ++ replies') marks' in
+    let old : RowsFit _ st.asks s closed rows = (st.at picks replies).rows in
+    let now : RowsFit _ st'.asks t closed' rows' = (st'.at picks' replies').rows in
+    record {
+      seat = λ here here'. seat-here k rows' t.clients now.fit.each here' ∙ (ap (λ own. Some (seat-by k own)) same ∙ sym (seat-here k rows s.clients old.fit.each here));
+      matters = λ on on'. matters-are t.core k rows' (now.fit.core (live rows' t.ended on' now.ended_is)) ∙ (ap (matters-by k) same ∙ sym (matters-are s.core k rows (old.fit.core (live rows s.ended on old.ended_is))));
+    }
 
 -- ---- an event
 

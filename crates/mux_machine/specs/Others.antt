@@ -14,6 +14,7 @@ use Rattle.forward_rules.specs.State.{Forward}
 use Rattle.mux_core.specs.State.{CoreState}
 use Rattle.mux_core.specs.State as core
 use Rattle.mux_clients.specs.State.{ClientState, SeatState}
+use Rattle.mux_clients.specs.Among.{is_present}
 use Rattle.mux_machine.specs.declared.event.Event.{Event}
 use Rattle.mux_machine.specs.declared.event.Event.TheVariants.{FromServer}
 use Rattle.mux_machine.specs.Moves.{HeardAt}
@@ -95,3 +96,22 @@ ServerLeavesIdle event old new = Unit {0}
 abbrev pub HeardLeavesIdle : Type 0
 HeardLeavesIdle = (s new : State) (bytes : List ℕ) → s.ended ≡ None → HeardAt s new bytes
     → LeavesIdle bytes s new
+
+-- ---- what is kept of a client follows from its own rows
+
+-- where both runs go on its matters are the same, and where it is here in both, so are how it stands
+-- and what waits for it
+pub record IsKeptAlike (k : ℕ) (s t : State) : Type 0 where
+  pub seat : is_present s.clients k ≡ true → is_present t.clients k ≡ true
+      → seat_in t.clients k ≡ seat_in s.clients k
+  pub matters : s.ended ≡ None → t.ended ≡ None → matters_of k t.core ≡ matters_of k s.core
+
+-- of two engines, or of one at two moments, which stand for journals with the same rows of a client
+abbrev pub KeptByOwnRows : Type 0
+KeptByOwnRows =
+    (s t : State) (picked picked' : List ℕ) (given given' : List HouseReply)
+    (marks marks' : List Mark) (closed closed' : List ℕ)
+    → Stands picked given s marks closed → Stands picked' given' t marks' closed'
+    → (picks picks' : List ℕ) (replies replies' : List HouseReply) (k : ℕ)
+    → rows_of k (log t (picked' ++ picks') (given' ++ replies') marks')
+    ≡ rows_of k (log s (picked ++ picks) (given ++ replies) marks) → IsKeptAlike k s t

@@ -1,7 +1,7 @@
 //! What happens to an engine: each function's contract is the law.
 
 ghost use Rattle.mux_machine.specs.Moves.{AnsweredGoesOn, ClosedGoesOn, EnteredGoesOn, GainedGoesOn, HeardGoesOn, LossLaws, OverStays, ServerLaws, TakenGoesOn, UnheardStays};
-ghost use Rattle.mux_machine.specs.Others.{HeardLeavesIdle};
+ghost use Rattle.mux_machine.specs.Others.{HeardLeavesIdle, KeptByOwnRows};
 ghost use Rattle.mux_machine.specs.Twins.{HouseIsClient, OwnIsSilent, StandsAlike};
 
 use mux_outside::House;
@@ -55,6 +55,11 @@ pub fn the_server_is_heard()
 /// whomever else it drops.
 pub fn the_server_leaves_others()
     ensures { HeardLeavesIdle }
+{}
+
+/// What is kept of a client follows from its own rows, whatever else happens.
+pub fn a_client_follows_from_its_rows()
+    ensures { KeptByOwnRows }
 {}
 
 /// The house replies to a client's ask later than at once.
