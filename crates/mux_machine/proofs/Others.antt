@@ -83,10 +83,10 @@ live rows now on is = sym (some-end rows) ∙ ap is_some (sym is ∙ on)
 untouched : (k : ℕ) (s new : State) (rows rows' : List Row) → AllFit rows s.core s.clients s.up → AllFit rows' new.core new.clients new.up → is_ended rows ≡ false → (new.ended ≡ None → is_ended rows' ≡ false) → KeepReading s.clients new.clients → is_present new.clients k ≡ is_present s.clients k → rows_of k rows' ≡ rows_of k rows → StaysAsItWas k s new
 untouched k s new rows rows' fit fit' live live' kept here same =
     let seat : seat_in new.clients k ≡ seat_in s.clients k =
-        seat-as k rows' new.clients fit'.each
-        ∙ (ap (λ b. cond b (Some (seat-by k (rows_of k rows'))) None) here
-        ∙ (ap (λ own. cond (is_present s.clients k) (Some (seat-by k own)) None) same
-        ∙ sym (seat-as k rows s.clients fit.each))) in
+    seat-as k rows' new.clients fit'.each
+    ∙ (ap (λ b. cond b (Some (seat-by k (rows_of k rows'))) None) here
+    ∙ (ap (λ own. cond (is_present s.clients k) (Some (seat-by k own)) None) same
+    ∙ sym (seat-as k rows s.clients fit.each))) in
     record {
       seat = seat;
       client = λ served. same-served k s.clients new.clients kept seat served;
