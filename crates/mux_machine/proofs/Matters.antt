@@ -14,17 +14,16 @@ use Rattle.mux_history.proofs.Finds.{filter-no, filter-yes, find-no, find-yes}
 use Rattle.mux_history.proofs.ForwardsLocal.{for_of, forwardings-local}
 use Rattle.mux_history.proofs.Local as local
 use Rattle.mux_isolation.specs.View.{Waiting, left_of}
-use Rattle.window_ledger.specs.declared.ledger.Ledger.{Ledger}
 use Rattle.window_ledger.specs.declared.ledger.State.{State as Account}
 use Rattle.window_ledger.specs.declared.ledger.State.TheVariants.{Opened, Confirmed}
 use Rattle.window_ledger.specs.Stands.{IsStateOf, account_of}
 use Rattle.channel_table.specs.declared.channel.Channel.{Channel}
 use Rattle.channel_table.specs.Entries.{Entry, is_of}
-use Rattle.channel_table.specs.Stands.{ChannelsFit, Fits, shown_number}
+use Rattle.channel_table.specs.Stands.{ChannelsFit, Fits}
 use Rattle.forward_rules.specs.State.{Forward}
 use Rattle.forward_rules.specs.Stands as forwards
 use Rattle.forward_rules.specs.Stands.{AreListed, places_of}
-use Rattle.mux_core.specs.State.{CoreState, is_served}
+use Rattle.mux_core.specs.State.{CoreState}
 use Rattle.mux_core.specs.State as core
 use Rattle.mux_core.specs.Stands.{ClientFits, Look, Stands, look, unreplied_in}
 use Rattle.mux_core.proofs.Found.{filters-turn, held-local}

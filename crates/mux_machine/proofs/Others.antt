@@ -17,8 +17,8 @@ use Rattle.mux_clients.specs.Stands.{is_lost, standing_of}
 use Rattle.mux_clients.specs.Among.{AllFit, EachFits, InFits, KeepReading, is_present}
 use Rattle.mux_machine.specs.declared.event.Event.{Event}
 use Rattle.mux_machine.specs.declared.event.Event.TheVariants as event
-use Rattle.mux_machine.specs.Moves.{HeardAt, not_lost}
-use Rattle.mux_machine.specs.Others.{HeardLeavesIdle, KeptByOwnRows, LeavesIdle, ServerLeavesIdle, StaysAsItWas, matters_of, seat_in}
+use Rattle.mux_machine.specs.Moves.{not_lost}
+use Rattle.mux_machine.specs.Others.{HeardLeavesIdle, KeptByOwnRows, LeavesIdle, ServerLeavesIdle, StaysAsItWas, seat_in}
 use Rattle.mux_machine.specs.Stands.{RowsFit, Stands, log}
 use Rattle.mux_machine.specs.State.{State, SameClient, in_client}
 use Rattle.mux_machine.specs.Steps.{is_served}

@@ -38,6 +38,10 @@ room-written n lent cs old up up' lends all same moves room =
     subst (λ (l : List ClientState). HasRoom l up') (sym (whole-written n cs old all (same ∙ ap length lends)))
     (moves (subst (λ (l : List ClientState). HasRoom l up) (sym lends) room))
 
+-- and the numbers
+pub numbers-written : (n : ℕ) (lent cs old : List ClientState) → lent ≡ old → n ≡ length old → length cs ≡ length lent → numbers cs ≡ numbers lent → numbers (take n (cs ++ drop (length cs) old)) ≡ numbers old
+numbers-written n lent cs old lends all same kept = ap numbers (whole-written n cs old all (same ∙ ap length lends)) ∙ (kept ∙ ap numbers lends)
+
 -- any other relation of the client that goes on
 units : (cs : List ClientState) → AllByRecursion (λ (c : ClientState). Unit {0}) cs
 units [] = tt
