@@ -13,8 +13,10 @@ mod Kept
 mod Lists
 mod Looked
 mod Loses
+mod Matters
 mod Moved
 mod OneClient
+mod Others
 pub mod Over
 mod Pairs
 mod Places

@@ -32,6 +32,16 @@ use Rattle.mux_machine.proofs.OneClient.{changes-to}
 pub whole-written : (n : ℕ) (new old : List ClientState) → n ≡ length old → length new ≡ length old → take n (new ++ drop (length new) old) ≡ new
 whole-written n new old e same = take_at new (drop (length new) old) n (same ∙ sym e)
 
+-- and so is the room that is kept for it
+pub room-written : (n : ℕ) (lent cs old : List ClientState) (up up' : QueueState) → lent ≡ old → n ≡ length old → length cs ≡ length lent → (HasRoom lent up → HasRoom cs up') → HasRoom old up → HasRoom (take n (cs ++ drop (length cs) old)) up'
+room-written n lent cs old up up' lends all same moves room =
+    subst (λ (l : List ClientState). HasRoom l up') (sym (whole-written n cs old all (same ∙ ap length lends)))
+    (moves (subst (λ (l : List ClientState). HasRoom l up) (sym lends) room))
+
+-- and the numbers
+pub numbers-written : (n : ℕ) (lent cs old : List ClientState) → lent ≡ old → n ≡ length old → length cs ≡ length lent → numbers cs ≡ numbers lent → numbers (take n (cs ++ drop (length cs) old)) ≡ numbers old
+numbers-written n lent cs old lends all same kept = ap numbers (whole-written n cs old all (same ∙ ap length lends)) ∙ (kept ∙ ap numbers lends)
+
 -- any other relation of the client that goes on
 units : (cs : List ClientState) → AllByRecursion (λ (c : ClientState). Unit {0}) cs
 units [] = tt

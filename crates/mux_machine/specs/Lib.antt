@@ -1,6 +1,7 @@
 pub mod Bounds
 pub mod Events
 pub mod Moves
+pub mod Others
 pub mod Ready
 pub mod Shown
 pub mod Stands

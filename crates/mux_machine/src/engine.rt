@@ -7,6 +7,7 @@ ghost use Rattle.mux_clients.specs.Starved.{HearsSome, OneIs};
 ghost use Rattle.mux_machine.specs.Bounds.{QueuesShort};
 ghost use Rattle.mux_machine.specs.Events.{EndsBy, Keeps, Tells, went_of};
 ghost use Rattle.mux_machine.specs.Moves.{AnsweredAt, GainsAt, HeardAt, LosesAt};
+ghost use Rattle.mux_machine.specs.Others.{LeavesIdle, ServerLeavesIdle};
 ghost use Rattle.mux_machine.specs.Ready.{IsReady};
 ghost use Rattle.mux_machine.specs.Stands.{CutsShort, GoesOn, Stands};
 ghost use Rattle.mux_machine.specs.State.{numbers, over};
@@ -126,6 +127,7 @@ impl Engine {
         ensures cut { OnErr result ((mark : TheMark) → Tells e.entry mark
             → CutsShort H.may (H.told house.old) (H.told house.new) self.old mark) }
         ensures keeps { OnOk result (Keeps e.entry self.old self.new) }
+        ensures others { OnOk result (ServerLeavesIdle e.entry self.old self.new) }
         ensures ends { OnOk result ((mark : TheMark) → Tells e.entry mark
             → EndsBy e.entry self.old self.new mark) }
         ensures bounded { OnOk result (QueuesShort self.new) }
@@ -169,6 +171,7 @@ impl Engine {
         ensures cut { OnErr result ((mark : TheMark) → Tells e.entry mark
             → CutsShort H.may (H.told house.old) (H.told house.new) self.old mark) }
         ensures keeps { OnOk result (Keeps e.entry self.old self.new) }
+        ensures others { OnOk result (ServerLeavesIdle e.entry self.old self.new) }
         ensures ends { OnOk result ((mark : TheMark) → Tells e.entry mark
             → EndsBy e.entry self.old self.new mark) }
         ensures ready { OnOk result (self.new.ended ≡ None → IsReady self.new) }
@@ -317,6 +320,7 @@ impl Engine {
         requires starved { self.old.starved ≡ true }
         requires ready { IsReady self.old }
         ensures heard { OnOk result (HeardAt self.old self.new bytes.now) }
+        ensures others { OnOk result (LeavesIdle bytes.now self.old self.new) }
         ensures ready { OnOk result (self.new.ended ≡ None → IsReady self.new) }
         ensures starved { self.new.starved ≡ true }
     {

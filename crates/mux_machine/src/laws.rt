@@ -1,6 +1,7 @@
 //! What happens to an engine: each function's contract is the law.
 
 ghost use Rattle.mux_machine.specs.Moves.{AnsweredGoesOn, ClosedGoesOn, EnteredGoesOn, GainedGoesOn, HeardGoesOn, LossLaws, OverStays, ServerLaws, TakenGoesOn, UnheardStays};
+ghost use Rattle.mux_machine.specs.Others.{HeardLeavesIdle, KeptByOwnRows};
 ghost use Rattle.mux_machine.specs.Twins.{HouseIsClient, OwnIsSilent, StandsAlike};
 
 use mux_outside::House;
@@ -48,6 +49,17 @@ pub fn a_client_is_not_read<H: House>()
 /// The server gave bytes.
 pub fn the_server_is_heard()
     ensures { HeardGoesOn }
+{}
+
+/// A piece of the server's bytes that makes no row for a client leaves the client as it was,
+/// whomever else it drops.
+pub fn the_server_leaves_others()
+    ensures { HeardLeavesIdle }
+{}
+
+/// What is kept of a client follows from its own rows, whatever else happens.
+pub fn a_client_follows_from_its_rows()
+    ensures { KeptByOwnRows }
 {}
 
 /// The house replies to a client's ask later than at once.

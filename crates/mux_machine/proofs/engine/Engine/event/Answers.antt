@@ -2,6 +2,7 @@ use Rattle.std.proofs.Common.{Some, sym, ap, ◌∙◌}
 use Rattle.mux_machine.specs.Shown.{state_of}
 use Rattle.mux_machine.specs.State.{State}
 use Rattle.mux_machine.proofs.Fed.{ends-shown, goes-shown}
+use Rattle.mux_machine.proofs.Others.{idle-shown, over-idle}
 use Rattle.mux_machine.proofs.Stepped.{over-stays}
 use Rattle.mux_clients.proofs.Heeding.{asked_none_some}
 use Rattle.mux_clients.proofs.Starved.{on-err}
@@ -38,3 +39,9 @@ returns-in-Some-clause-bounded g c = short _
 
 pub returns-clause-bounded : goal.returns-clause-bounded
 returns-clause-bounded g c = short _
+
+pub returns-in-Some-clause-others : goal.returns-in-Some-clause-others
+returns-in-Some-clause-others g c = over-idle c.args.e c.args.self.now
+
+pub returns-clause-others : goal.returns-clause-others
+returns-clause-others g c = idle-shown (state_of c.self.inside) c.args.self.now (state_of c.self-2.inside) c.step.new.self c.args.e c.self.view_is c.self-2.view_is c.in_ok-step.ensures.others

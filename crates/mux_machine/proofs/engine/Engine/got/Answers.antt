@@ -1,10 +1,12 @@
-use Rattle.std.proofs.Common.{Some, ◌&&◌, not, refl, sym, ap, ◌∙◌, List}
+use Rattle.std.proofs.Common.{◌≡◌, true, Some, ◌&&◌, not, refl, sym, ap, ◌∙◌, List, subst}
 use Rattle.std.proofs.lemmas.Result.{on_ok_weaker}
+use Rattle.mux_machine.specs.Ready.{IsReady}
 use Rattle.mux_machine.specs.Shown.{state_of}
-use Rattle.mux_machine.specs.State.{State}
+use Rattle.mux_machine.specs.State.{State, numbers}
 use Rattle.mux_clients.specs.State.{ClientState}
 use Rattle.mux_machine.specs.Steps.{is_heard}
-use Rattle.mux_machine.proofs.Written.{gain-written, gain_new}
+use Rattle.mux_machine.proofs.Lists.{true_false}
+use Rattle.mux_machine.proofs.Written.{gain-written, gain_new, numbers-written, room-written}
 use Rattle.mux_machine.proofs.Heeded.{handed, heeded}
 use Rattle.mux_clients.proofs.Starved.{on-err}
 use Rattle.mux_machine.proofs.Starved.{some-heard, some-shown}
@@ -56,3 +58,48 @@ returns-clause-cut g c = on-err c.list_waiting.result
     (some-shown g.H.House.may (g.H.House.told c.args.house.now) (g.H.House.told c.got_at.new.house) c.args.client c.args.bytes.now (state_of c.self.inside) c.args.self.now c.deref_mut.result.now c.self.view_is c.deref_mut.ensures.value
     (some-heard g.H.House.may c.args.asks.now c.got_at.new.asks (g.H.House.told c.args.house.now) (g.H.House.told c.got_at.new.house) (g.H.House.known c.args.house.now) (g.H.House.known c.got_at.new.house) c.self.inside.pid c.args.bytes.now c.self.inside.core c.got_at.new.core c.self.inside.up c.got_at.new.up c.in_ok-heard.heard c.args.client c.deref_mut.result.now c.got_at.new.clients
     (ap (λ (l : List ClientState). is_heard l c.args.client) (c.deref_mut.ensures.value ∙ sym c.deref.ensures.value) ∙ (sym c.is_heard.ensures ∙ c.if-not-is_heard.false)) c.in_ok-heard.ensures.hears c.in_ok-heard.ensures.heeds))
+
+-- ---- the room that is kept
+
+pub returns-clause-ready : goal.returns-clause-ready
+returns-clause-ready g c =
+    let was : IsReady (state_of c.self.inside) = subst IsReady (sym c.self.view_is) c.requires.ready in
+    on_ok_weaker c.list_waiting.result
+    (λ waits. record {
+      room = room-written c.self.inside.clients.len c.deref_mut.result.now c.got_at.new.clients c.self.inside.clients.items c.self.inside.up c.got_at.new.up c.deref_mut.ensures.value c.self.inside.clients.ok.0 c.got_at.auto.clients c.in_ok-heard.ensures.room was.room;
+      cuts = was.cuts;
+      well = was.well;
+    }) c.list_waiting.ensures
+
+-- ---- the client is read
+
+pub returns-clause-stays : goal.returns-clause-stays
+returns-clause-stays g c =
+    let here : is_heard c.args.self.now.clients c.args.client ≡ true =
+    ap (λ (x : State). is_heard x.clients c.args.client) (sym c.self.view_is) ∙ (ap (λ (l : List ClientState). is_heard l c.args.client) (sym c.deref.ensures.value) ∙ (sym c.is_heard.ensures ∙ c.if-not-is_heard.false)) in
+    on_ok_weaker c.list_waiting.result (λ waits gone. true_false (sym here ∙ gone)) c.list_waiting.ensures
+
+pub returns-clause-untold : goal.returns-clause-untold
+returns-clause-untold g c =
+    let here : is_heard c.args.self.now.clients c.args.client ≡ true =
+    ap (λ (x : State). is_heard x.clients c.args.client) (sym c.self.view_is) ∙ (ap (λ (l : List ClientState). is_heard l c.args.client) (sym c.deref.ensures.value) ∙ (sym c.is_heard.ensures ∙ c.if-not-is_heard.false)) in
+    λ gone. true_false (sym here ∙ gone)
+
+pub returns-in_err-heard-clause-untold : goal.returns-in_err-heard-clause-untold
+returns-in_err-heard-clause-untold g c =
+    let here : is_heard c.args.self.now.clients c.args.client ≡ true =
+    ap (λ (x : State). is_heard x.clients c.args.client) (sym c.self.view_is) ∙ (ap (λ (l : List ClientState). is_heard l c.args.client) (sym c.deref.ensures.value) ∙ (sym c.is_heard.ensures ∙ c.if-not-is_heard.false)) in
+    λ gone. true_false (sym here ∙ gone)
+
+pub returns-in_err-note_loss-clause-untold : goal.returns-in_err-note_loss-clause-untold
+returns-in_err-note_loss-clause-untold g c =
+    let here : is_heard c.args.self.now.clients c.args.client ≡ true =
+    ap (λ (x : State). is_heard x.clients c.args.client) (sym c.self.view_is) ∙ (ap (λ (l : List ClientState). is_heard l c.args.client) (sym c.deref.ensures.value) ∙ (sym c.is_heard.ensures ∙ c.if-not-is_heard.false)) in
+    λ gone. true_false (sym here ∙ gone)
+
+-- ---- who is here
+
+pub returns-clause-numbers : goal.returns-clause-numbers
+returns-clause-numbers g c = on_ok_weaker c.list_waiting.result
+    (λ waits. numbers-written c.self.inside.clients.len c.deref_mut.result.now c.got_at.new.clients c.self.inside.clients.items c.deref_mut.ensures.value c.self.inside.clients.ok.0 c.got_at.auto.clients c.in_ok-heard.ensures.numbers
+    ∙ ap (λ (x : State). numbers x.clients) c.self.view_is) c.list_waiting.ensures

@@ -1,9 +1,11 @@
-use Rattle.std.proofs.Common.{List, ℕ, Option, ◌++◌, refl, ap, ◌∙◌}
+use Rattle.std.proofs.Common.{List, ℕ, Option, ◌++◌, refl, sym, ap, ◌∙◌, subst}
 use Rattle.std.proofs.lemmas.Result.{on_ok_weaker}
 use Rattle.mux_history.specs.declared.why.Why.{Why}
+use Rattle.mux_machine.specs.Ready.{IsReady}
 use Rattle.mux_machine.specs.Shown.{state_of}
 use Rattle.mux_machine.specs.State.{State}
-use Rattle.mux_machine.proofs.Written.{hear-written, hear_new}
+use Rattle.mux_machine.proofs.Others.{heard-leaves-idle}
+use Rattle.mux_machine.proofs.Written.{hear-written, hear_new, room-written}
 use Rattle.mux_machine.proofs.engine.Engine.hear.Goals as goal
 
 pub returns-clause-heard : goal.returns-clause-heard
@@ -20,4 +22,17 @@ returns-clause-heard c =
       hears = c.in_ok-self-inside.ensures.hears;
       leaves = c.in_ok-extend_from_slice.ensures.items ∙ ap (λ (l : List (ℕ × Option Why)). c.self.inside.leaving.items ++ l) c.deref.ensures.value;
       waits = waits;
+    }) c.list_waiting.ensures
+
+pub returns-clause-others : goal.returns-clause-others
+returns-clause-others c = on_ok_weaker c.list_waiting.result (λ h. heard-leaves-idle c.args.self.now _ c.args.bytes.now c.requires.goes h) (returns-clause-heard c)
+
+pub returns-clause-ready : goal.returns-clause-ready
+returns-clause-ready c =
+    let was : IsReady (state_of c.self.inside) = subst IsReady (sym c.self.view_is) c.requires.ready in
+    on_ok_weaker c.list_waiting.result
+    (λ waits on. record {
+      room = room-written c.self.inside.clients.len c.deref_mut.result.now c.got.new.clients c.self.inside.clients.items c.self.inside.up c.got.new.up c.deref_mut.ensures.value c.self.inside.clients.ok.0 c.got.auto.clients c.in_ok-self-inside.ensures.room was.room;
+      cuts = c.in_ok-self-inside.ensures.hears.hearing.framing on ∙ was.cuts;
+      well = c.in_ok-self-inside.ensures.hears.hearing.fault on;
     }) c.list_waiting.ensures

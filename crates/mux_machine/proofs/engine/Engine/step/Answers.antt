@@ -7,6 +7,7 @@ use Rattle.mux_clients.proofs.Heeding.{asked_none, handed_none}
 use Rattle.mux_machine.proofs.Heeded.{handed, heeded}
 use Rattle.mux_machine.proofs.Endings.{alone-ends, asking-ends}
 use Rattle.mux_machine.proofs.Kept.{asking-keeps, did-keeps}
+use Rattle.mux_machine.specs.Others.{ServerLeavesIdle}
 use Rattle.mux_machine.proofs.Stepped.{DidAlone, DidAsking, asking-goes, cause-as, did-goes, gained-on, lost-on, replied-on}
 use Rattle.mux_clients.proofs.Starved.{err-then, on-err}
 use Rattle.mux_machine.proofs.Starved.{CutsOne, cut-alone, cut-asking}
@@ -109,3 +110,8 @@ returns-in-FromServer-clause-cut g c = on-err c.hear.result (λ mark t. cut-alon
 
 pub returns-in-FromClient-clause-cut : goal.returns-in-FromClient-clause-cut
 returns-in-FromClient-clause-cut g c = err-then c.got.result (λ one mark t. cut-asking g.H.House.may (g.H.House.told c.args.house.now) (g.H.House.told c.got.new.house) c.args.self.now c.args.e c.requires.goes (subst (CutsOne g.H.House.may (g.H.House.told c.args.house.now) (g.H.House.told c.got.new.house) c.args.self.now) (sym c.in-FromClient.is) one) mark t) c.got.ensures.cut
+
+-- ---- whom the server's piece leaves as it was
+
+pub returns-in-FromServer-clause-others : goal.returns-in-FromServer-clause-others
+returns-in-FromServer-clause-others g c = on_ok_weaker c.hear.result (λ h. subst (λ e. ServerLeavesIdle e c.args.self.now c.hear.new.self) (sym c.in-FromServer.is) h) c.hear.ensures.others
