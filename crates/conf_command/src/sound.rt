@@ -16,7 +16,8 @@ use conf_rules::{Asked, AskedLine, AskedLines, ConfigFrom, Control};
 use ssh_fields::{OutOfMemory, Text};
 use std::alloc::Global;
 
-/// A copy of a line.
+/// A copy of a line: steps are borrowed, since the sound ones are a part of all, which are read more
+/// than once.
 fn copy_line(alloc: Global, line: &AskedLine) -> Result<AskedLine, OutOfMemory>
     ensures { IfOk result (λ copy. copy ≡ line.now) }
 {

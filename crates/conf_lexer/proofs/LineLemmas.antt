@@ -1,5 +1,5 @@
 -- The first line of what is left of a text.
-use Rattle.std.proofs.Common.{◌≡◌, ℕ, zero, suc, ◌+◌, ◌-◌, ◌<◌, ◌≤◌, Bool, true, false, cond, not, eqb, List, [], ◌∷◌, length, take, drop, refl, sym, ap, ◌∙◌, arith}
+use Rattle.std.proofs.Common.{◌≡◌, ℕ, suc, ◌+◌, ◌-◌, ◌<◌, ◌≤◌, Bool, true, false, cond, not, eqb, List, [], ◌∷◌, length, take, drop, drop-drop, refl, sym, ap, ◌∙◌, arith}
 use Rattle.std.specs.List.{prefix_len}
 use Rattle.std.proofs.lemmas.List.{length-drop}
 use Rattle.std.proofs.Math.ListN.{drop_of_length-le}
@@ -26,17 +26,6 @@ first_of : (left : List ℕ) → 0 < length left → lines_of left ≡ take (to_
 first_of [] some = absurd (omega (arith, some))
 first_of (b ∷ bs) some = first_line b bs
 
-drop_none : (n : ℕ) → drop {A = ℕ} n [] ≡ []
-drop_none zero = refl
-drop_none (suc n) = refl
-
-drop_sum : (i j : ℕ) (xs : List ℕ) → drop j (drop i xs) ≡ drop (i + j) xs
-drop_sum zero j xs = ap (λ n. drop n xs) (omega arith)
-drop_sum (suc i) j [] = drop_none j ∙ sym (drop_none (suc i + j))
-drop_sum (suc i) j (x ∷ xs) =
-    let more : suc i + j ≡ suc (i + j) = omega arith in
-    drop_sum i j xs ∙ ap (λ n. drop n (x ∷ xs)) (sym more)
-
 -- a line that a line feed ends
 pub fed : (text : List ℕ) (at n : ℕ) → at < length text → n ≡ to_feed (drop at text) → lines_of (drop at text) ≡ take (at + n - at) (drop at text) ∷ lines_of (drop (at + n + 1) text)
 fed text at n some e =
@@ -45,7 +34,7 @@ fed text at n some e =
     let past : at + (n + 1) ≡ at + n + 1 = omega arith in
     first_of (drop at text) there
     ∙ ap (λ m. take m (drop at text) ∷ lines_of (drop (to_feed (drop at text) + 1) (drop at text))) (sym e ∙ sym size)
-    ∙ ap (λ ls. take (at + n - at) (drop at text) ∷ lines_of ls) (ap (λ m. drop (m + 1) (drop at text)) (sym e) ∙ drop_sum at (n + 1) text ∙ ap (λ m. drop m text) past)
+    ∙ ap (λ ls. take (at + n - at) (drop at text) ∷ lines_of ls) (ap (λ m. drop (m + 1) (drop at text)) (sym e) ∙ drop-drop (n + 1) at text ∙ ap (λ m. drop m text) past)
 
 -- the last line, which has none
 pub unfed : (text : List ℕ) (at n : ℕ) → at < length text → n ≡ to_feed (drop at text) → at + n ≡ length text → lines_of (drop at text) ≡ take (at + n - at) (drop at text) ∷ lines_of (drop (at + n) text)

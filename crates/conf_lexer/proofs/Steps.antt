@@ -12,11 +12,11 @@ use Rattle.conf_lexer.specs.Reading.{joined, escaped}
 use Rattle.conf_rules.specs.Results.{◌>>=◌}
 
 -- a test that chose nothing, and one that chose something
-none_chosen : {A : Type 0} (b : Bool) (x : A) → cond b (Some x) None ≡ None → b ≡ false
+pub none_chosen : {A : Type 0} (b : Bool) (x : A) → cond b (Some x) None ≡ None → b ≡ false
 none_chosen true x e = absurd cc
 none_chosen false x e = refl
 
-some_chosen : {A : Type 0} (b : Bool) (x y : A) → cond b (Some x) None ≡ Some y → (b ≡ true) × (x ≡ y)
+pub some_chosen : {A : Type 0} (b : Bool) (x y : A) → cond b (Some x) None ≡ Some y → (b ≡ true) × (x ≡ y)
 some_chosen true x y e = (refl, cc)
 some_chosen false x y e = absurd cc
 

@@ -2,6 +2,6 @@ pub mod CriteriaLemmas
 pub mod EvalLemmas
 pub mod GlobLemmas
 pub mod ListLemmas
-pub mod PieceStars
-pub mod Stars
+pub mod PatternLemmas
+pub mod StarLemmas
 pub mod TailLemmas

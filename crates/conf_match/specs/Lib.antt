@@ -1,5 +1,4 @@
 pub mod Answers
-pub mod Bytewise
 pub mod Evaluated
 pub mod Pieces
 pub mod Place

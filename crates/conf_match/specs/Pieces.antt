@@ -1,13 +1,12 @@
--- Pieces of a glob, without where their bytes lie.
-use Rattle.std.specs.Prelude.{◌≡◌, ◌==◌, ℕ, ◌+◌, ◌<◌, ◌≤◌, Bool, true, false, if◌then◌else◌, List, [], ◌∷◌, length, drop, Option, Some, None}
+-- Pieces of a pattern, without where their bytes lie.
+use Rattle.std.specs.Prelude.{◌≡◌, ◌==◌, ℕ, ◌+◌, ◌≤◌, Bool, true, false, if◌then◌else◌, List, [], ◌∷◌, length, drop, map, Option, Some, None}
 use Rattle.conf_rules.specs.Texts.{Bytes, has}
-use Rattle.conf_rules.specs.Patterns.{some_suffix}
 use Rattle.conf_rules.specs.Globs as globs
-use Rattle.conf_rules.specs.Globs.{pieces_from, pieces_take}
-use Rattle.conf_match.specs.declared.globs.Piece.{Piece}
-use Rattle.conf_match.specs.declared.globs.Piece.TheVariants as pieces
-use Rattle.conf_match.specs.declared.patterns.Segment.{Segment}
-use Rattle.conf_match.specs.declared.patterns.Segment.TheVariants.{Yes, No, Star}
+use Rattle.conf_rules.specs.Globs.{piece_at, pieces_from, pieces_take}
+use Rattle.conf_match.specs.declared.pieces.Piece.{Piece}
+use Rattle.conf_match.specs.declared.pieces.Piece.TheVariants as pieces
+use Rattle.conf_match.specs.declared.pieces.Syntax.{Syntax}
+use Rattle.conf_match.specs.declared.pieces.Syntax.TheVariants.{Pattern, Glob}
 
 -- the end of a range behind its first byte, and what follows
 unfoldable pub range_end : Bytes → Option (ℕ × Bytes)
@@ -31,26 +30,29 @@ abbrev pub is_any : globs.Piece → Bool
 is_any globs.Any = true
 is_any piece = false
 
--- whether a glob takes a name
-abbrev pub glob : Bytes → Bytes → Bool
-glob pattern name = pieces_take (pieces_from 0 pattern) name
+-- the piece of a byte where there are no classes
+abbrev pub plain_piece : ℕ → globs.Piece
+plain_piece b = if b == 42 then globs.Any else (if b == 63 then globs.One else globs.Same b)
+
+-- the pieces of a pattern
+abbrev pub pieces_by : Syntax → Bytes → List globs.Piece
+pieces_by Pattern pattern = map plain_piece pattern
+pieces_by (Glob tail) pattern = pieces_from 0 pattern
+
+-- the piece that a byte begins, and how many more bytes it takes
+abbrev pub piece_by : Syntax → ℕ → Bytes → globs.Piece × ℕ
+piece_by Pattern b bs = (plain_piece b, 0)
+piece_by (Glob tail) b bs = piece_at b bs
+
+-- whether a pattern takes a name
+abbrev pub takes_name : Syntax → Bytes → Bytes → Bool
+takes_name syntax pattern name = pieces_take (pieces_by syntax pattern) name
 
 -- among the last `tail` bytes of a pattern no closing bracket stands
 abbrev pub NoneInLast : ℕ → Bytes → Type 0
 NoneInLast tail pattern = (k : ℕ) → length pattern ≤ tail + k → has 93 (drop k pattern) ≡ false
 
--- how pieces before the first star fare at the front of a name
-pub record Reaches (pattern : List globs.Piece) (name : Bytes) (ps : List globs.Piece)
-    (ts : Bytes) : Type 0 where
-  pub here : pieces_take pattern name ≡ some_suffix (pieces_take ps) ts
-  -- what is taken further on reaches the star further on
-  pub further : (k : ℕ) → pieces_take pattern (drop k name) ≡ true
-      → some_suffix (pieces_take ps) (drop k ts) ≡ true
-  pub no_longer : length ts ≤ length name
-
-abbrev pub GlobBegins : ℕ → Bytes → Bytes → Segment → Type 0
-GlobBegins tail pattern name Yes = glob pattern name ≡ true
-GlobBegins tail pattern name No = glob pattern name ≡ false
-GlobBegins tail pattern name (Star ps ts) =
-    Reaches (pieces_from 0 pattern) name (pieces_from 0 ps.now) ts.now
-    × (length ps.now < length pattern) × NoneInLast tail ps.now
+-- a pattern is as its syntax says
+abbrev pub Fits : Syntax → Bytes → Type 0
+Fits Pattern pattern = Unit {0}
+Fits (Glob tail) pattern = NoneInLast tail pattern

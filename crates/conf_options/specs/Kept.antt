@@ -1,5 +1,5 @@
 -- What settings keep of all values that were given.
-use Rattle.std.specs.Prelude.{◌≡◌, ℕ, Bool, true, false, not, ◌&&◌, is_some, if◌then◌else◌, List, [], ◌∷◌, ◌++◌, take, bytes_eq, Some}
+use Rattle.std.specs.Prelude.{◌≡◌, ℕ, Bool, true, false, not, ◌&&◌, is_some, if◌then◌else◌, List, [], ◌∷◌, ◌++◌, take, bytes_eq, Option, Some}
 use Rattle.std.specs.List.{slice_get}
 use Rattle.conf_rules.specs.declared.key.Key.{Key}
 use Rattle.conf_rules.specs.declared.key.Key.TheVariants.{ProxyCommand, ProxyJump}
@@ -14,6 +14,10 @@ use Rattle.conf_rules.specs.Fits.{fitting}
 -- a key with a value
 abbrev pub Given : Type 0
 Given = Key × Value
+
+-- the first value of a key
+abbrev pub first_value : Key → List Given → Option Value
+first_value key settings = slice_get (values_among key settings) 0
 
 -- settings keep of each key what counts of all that was given
 pub record Keeps (settings given : List Given) : Type 0 where

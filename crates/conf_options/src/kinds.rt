@@ -7,7 +7,8 @@ ghost use Rattle.conf_options.specs.Lengths.{keys_of_length, texts_of_length};
 
 use conf_rules::{Key, KeyKind};
 
-/// The keys whose keywords have so many letters, in the order in which they are listed.
+/// The keys whose keywords have so many letters, in the order in which they are listed. (Lengths
+/// without a key have lines of their own for the proof, which goes over each length.)
 fn keys_of_length(length: usize) -> &'static [Key]
     ensures { result.now ≡ keys_of_length length }
 {
@@ -78,7 +79,8 @@ fn is_any(word: &[u8], others: &[&[u8]]) -> bool
     others.iter().any(|other| word.eq_ignore_ascii_case(other))
 }
 
-/// Whether a word of so many letters is a keyword whose rest isn't checked.
+/// Whether a word of so many letters is a keyword whose rest isn't checked. (As above, each length
+/// has a line of its own for the proof.)
 fn is_unchecked_of(length: usize, word: &[u8]) -> bool
     ensures { result ≡ list_any (same_word word.now) (texts_of_length length) }
 {

@@ -1,12 +1,13 @@
-ghost use Rattle.std.specs.Prelude.{◌≡◌, ◌≢◌, ◌↔◌, ◌<◌, ℕ, List, [], ◌∷◌, ◌++◌, Bool, true, false, not, ◌&&◌, length, IsTrue, IfOk, IfNone, IfSome, OnOk, OnErr, slice_get};
+ghost use Rattle.std.specs.Prelude.{◌≡◌, ◌≢◌, ◌↔◌, ◌<◌, ℕ, List, [], ◌∷◌, ◌++◌, Bool, true, false, not, ◌&&◌, length, IsTrue, IfOk, IfNone, IfSome, OnOk, OnErr};
 ghost use Rattle.std.specs.Option.{option_copied};
 ghost use Rattle.std.specs.List.{list_all};
 ghost use Rattle.conf_rules.specs.declared.key.Key.TheVariants as keys;
 ghost use Rattle.conf_rules.specs.declared.value.Value.TheVariants as values;
 ghost use Rattle.conf_rules.specs.Kinds.{TheFirst, Every, Patterns, Shared, keeping};
-ghost use Rattle.conf_rules.specs.Rows.{values_among, patterns_in, number_in, with_patterns};
+ghost use Rattle.conf_rules.specs.Rows.{values_among, word_in, but_none, patterns_in, number_in, with_patterns};
+ghost use Rattle.conf_rules.specs.Listing.{is_set};
 ghost use Rattle.conf_rules.specs.Fits.{fits, fitting};
-ghost use Rattle.conf_options.specs.Kept.{Given, Keeps, StandsAt, behind_all, is_unset, keeps_every, fits_single, offered};
+ghost use Rattle.conf_options.specs.Kept.{Given, Keeps, StandsAt, first_value, behind_all, is_unset, keeps_every, fits_single, offered};
 
 use crate::patterns::{take_patterns, with_patterns};
 use conf_rules::{Key, Value};
@@ -54,7 +55,7 @@ fn keeps_every(key: Key) -> bool
 
 /// The first value of a key.
 fn first_of(all: &[(Key, Value)], key: Key) -> Option<&Value>
-    ensures { option_copied result ≡ slice_get (values_among key all.now) 0 }
+    ensures { option_copied result ≡ first_value key all.now }
 {
     for (other, value) in all {
         if key.place() == other.place() {
@@ -67,7 +68,7 @@ fn first_of(all: &[(Key, Value)], key: Key) -> Option<&Value>
 /// The port, or 22.
 fn port_of(singles: &[(Key, Value)]) -> u16
     requires { list_all fits_single singles.now ≡ true }
-    ensures { result ≡ number_in 22 (slice_get (values_among keys.Port singles.now) 0) }
+    ensures { result ≡ number_in 22 (first_value keys.Port singles.now) }
 {
     match first_of(singles, Key::Port) {
         Some(Value::Number(n)) => *n as u16,
@@ -205,9 +206,45 @@ impl Settings {
 
     /// The first value of a key.
     pub fn first(&self, key: Key) -> Option<&Value>
-        ensures { option_copied result ≡ slice_get (values_among key self.now) 0 }
+        ensures { option_copied result ≡ first_value key self.now }
     {
         first_of(self.among(key), key)
+    }
+
+    /// The first value of a key, where it is a text.
+    pub fn word(&self, key: Key) -> Option<&[u8]>
+        ensures { option_copied result ≡ word_in (first_value key self.now) }
+    {
+        match self.first(key) {
+            Some(Value::Word(text)) => Some(text.as_bytes()),
+            _ => None,
+        }
+    }
+
+    /// The same, where it isn't `none` in any case.
+    pub fn named_word(&self, key: Key) -> Option<&[u8]>
+        ensures { option_copied result ≡ but_none (word_in (first_value key self.now)) }
+    {
+        match self.word(key) {
+            Some(word) => {
+                if word.eq_ignore_ascii_case(b"none") {
+                    None
+                } else {
+                    Some(word)
+                }
+            }
+            None => None,
+        }
+    }
+
+    /// Whether a flag is set to yes.
+    pub fn is_set(&self, key: Key) -> bool
+        ensures { result ≡ is_set (first_value key self.now) }
+    {
+        match self.first(key) {
+            Some(Value::Flag(flag)) => *flag,
+            _ => false,
+        }
     }
 
     /// Values that are kept, each behind its key, in the order in which they came: all of a key,
@@ -224,7 +261,7 @@ impl Settings {
 
     /// The first Port, or 22.
     pub fn port(&self) -> u16
-        ensures { result ≡ number_in 22 (slice_get (values_among keys.Port self.now) 0) }
+        ensures { result ≡ number_in 22 (first_value keys.Port self.now) }
     {
         port_of(self.singles.as_slice())
     }

@@ -10,8 +10,8 @@ use Rattle.conf_rules.specs.Told.{Facts}
 use Rattle.conf_rules.specs.Tokens.{View}
 use Rattle.conf_rules.specs.Rows.{word_in, but_none}
 use Rattle.conf_rules.specs.Listing.{control_text, control_path_of}
-use Rattle.conf_options.specs.Kept.{Given}
-use Rattle.conf_output.specs.Shown.{first_value, host_of, view_of, path_of, refusal_of}
+use Rattle.conf_options.specs.Kept.{Given, first_value}
+use Rattle.conf_output.specs.Shown.{host_of, view_of, path_of, refusal_of}
 use Rattle.conf_output.proofs.KeyLemmas.{refused}
 
 of-text : (view : View) (word : Option Bytes) (text path : Bytes) → word ≡ Some text → control_text view text ≡ Ok path → control_path_of view word ≡ Ok (Some path)

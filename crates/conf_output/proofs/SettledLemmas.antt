@@ -1,5 +1,5 @@
 -- What settings list is what the rows list that they keep.
-use Rattle.std.proofs.Common.{◌≡◌, List, [], ◌∷◌, ◌++◌, Result, Ok, refl, sym, ap, ◌∙◌, codes}
+use Rattle.std.proofs.Common.{◌≡◌, List, [], ◌∷◌, ◌++◌, Option, Result, Ok, refl, sym, ap, ◌∙◌, codes}
 use Rattle.std.specs.Prelude.{flat_map}
 use Rattle.mux_outside.specs.declared.facts.Facts.{Facts as TheFacts}
 use Rattle.conf_rules.specs.declared.key.Key.{Key}
@@ -7,7 +7,8 @@ use Rattle.conf_rules.specs.declared.key.Key.TheVariants as keys
 use Rattle.conf_rules.specs.declared.key.TheConstants.{LISTING_ORDER}
 use Rattle.conf_rules.specs.declared.causes.TokenError.{TokenError}
 use Rattle.conf_rules.specs.declared.causes.ListError.{ListError}
-use Rattle.conf_rules.specs.Results.{◌>>=◌}
+use Rattle.conf_rules.specs.Results.{◌>>=◌, Gives}
+use Rattle.conf_rules.specs.Wants.{list_wants_memory}
 use Rattle.conf_rules.specs.Texts.{Bytes}
 use Rattle.conf_rules.specs.Kinds.{Showing, TheUser, TheHost, Path, Command, Forwards, Proxy, Plainly, showing}
 use Rattle.conf_rules.specs.Told.{Told}
@@ -17,7 +18,7 @@ use Rattle.conf_rules.specs.Resolution.{view_at}
 use Rattle.conf_rules.specs.Listing.{listed, shown_as, shown, key_lines, listing_over, control_path_at}
 use Rattle.conf_options.specs.Kept.{Given, Keeps}
 use Rattle.conf_tokens.specs.Known.{known}
-use Rattle.conf_output.specs.Settled.{Settled}
+use Rattle.conf_output.specs.Settled.{Settled, Lists, HasControlPath}
 use Rattle.conf_output.specs.Shown.{host_of, view_of, shown_by, shown_of, lines_over, list_of, path_of}
 use Rattle.conf_output.proofs.KeyLemmas.{key_first}
 
@@ -67,13 +68,21 @@ unfolding listing_over list_of
 of-told told rows settings keeps = ap (behind_name told.asked.original) (same-lines told rows settings keeps LISTING_ORDER)
 
 -- the listing
-pub same-listing : (told : Told) (rows : List Row) (settings : List Given) (original : Bytes) (machine : TheFacts) → Settled told rows settings original machine → listing_over LISTING_ORDER told rows ≡ list_of settings original (known machine)
+same-listing : (told : Told) (rows : List Row) (settings : List Given) (original : Bytes) (machine : TheFacts) → Settled told rows settings original machine → listing_over LISTING_ORDER told rows ≡ list_of settings original (known machine)
 same-listing told rows settings original machine s = of-told told rows settings s.keeps ∙ ap (λ name. list_of settings name told.facts) s.name ∙ ap (list_of settings original) s.facts
+
+-- what is the listing of settings is that of each such resolution
+pub lists : (result : Result Bytes ListError) (settings : List Given) (original : Bytes) (machine : TheFacts) → Gives list_wants_memory result (list_of settings original (known machine)) → Lists result settings original machine
+lists result settings original machine gives = λ told rows s. rw (same-listing told rows settings original machine s) gives
 
 path-told : (told : Told) (rows : List Row) (settings : List Given) → Keeps settings (flat_map given rows) → control_path_at told rows ≡ path_of settings told.asked.original told.facts
 unfolding control_path_at path_of
 path-told told rows settings keeps = rw (same-values rows settings keeps keys.ControlPath, same-view told rows settings keeps) refl
 
 -- the control path
-pub same-path : (told : Told) (rows : List Row) (settings : List Given) (original : Bytes) (machine : TheFacts) → Settled told rows settings original machine → control_path_at told rows ≡ path_of settings original (known machine)
+same-path : (told : Told) (rows : List Row) (settings : List Given) (original : Bytes) (machine : TheFacts) → Settled told rows settings original machine → control_path_at told rows ≡ path_of settings original (known machine)
 same-path told rows settings original machine s = path-told told rows settings s.keeps ∙ ap (λ name. path_of settings name told.facts) s.name ∙ ap (path_of settings original) s.facts
+
+-- what is the control path of settings is that of each such resolution
+pub has-path : (result : Result (Option Bytes) ListError) (settings : List Given) (original : Bytes) (machine : TheFacts) → Gives list_wants_memory result (path_of settings original (known machine)) → HasControlPath result settings original machine
+has-path result settings original machine gives = λ told rows s. rw (same-path told rows settings original machine s) gives

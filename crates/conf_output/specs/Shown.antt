@@ -1,10 +1,8 @@
 -- What settings list: the same words as of a resolution's rows, over the values that are kept.
 use Rattle.std.specs.Prelude.{false, if◌then◌else◌, List, [], ◌∷◌, ◌++◌, flat_map, Option, Result, Ok, codes}
-use Rattle.std.specs.List.{slice_get}
 use Rattle.conf_rules.specs.declared.key.Key.{Key}
 use Rattle.conf_rules.specs.declared.key.Key.TheVariants as keys
 use Rattle.conf_rules.specs.declared.key.TheConstants.{LISTING_ORDER}
-use Rattle.conf_rules.specs.declared.value.Value.{Value}
 use Rattle.conf_rules.specs.declared.value.Forward.{Forward}
 use Rattle.conf_rules.specs.declared.causes.TokenError.{TokenError}
 use Rattle.conf_rules.specs.declared.causes.TokenError.TheVariants as token_errors
@@ -22,13 +20,9 @@ use Rattle.conf_rules.specs.Tokens.{View, user_of, expand}
 use Rattle.conf_rules.specs.Rows.{values_among, word_in, number_in, but_none}
 use Rattle.conf_rules.specs.Resolution.{host_from}
 use Rattle.conf_rules.specs.Listing.{listed, is_set, with_default, text_list, expanded_one, control_text, at_key, control_path_of}
-use Rattle.conf_options.specs.Kept.{Given}
+use Rattle.conf_options.specs.Kept.{Given, first_value}
 use Rattle.conf_output.specs.declared.keys.Manner.{Manner}
 use Rattle.conf_output.specs.declared.keys.Manner.TheVariants as manners
-
--- the first value of a key
-abbrev pub first_value : Key → List Given → Option Value
-first_value key settings = slice_get (values_among key settings) 0
 
 -- the host name
 abbrev pub host_of : List Given → Bytes → Bytes

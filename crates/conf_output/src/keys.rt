@@ -5,7 +5,6 @@ ghost use Rattle.conf_output.specs.Shown.{lines, value_texts, default_texts, pla
 ghost use Rattle.conf_output.specs.Puts.{PutsKeys, PutsTexts};
 
 use crate::defaults::default_text;
-use crate::known::{is_set, named_word, word_of};
 use crate::spelling::{put_line, put_value};
 use conf_options::{Key, Settings};
 use conf_rules::{ListError, TokenError};
@@ -106,7 +105,7 @@ fn put_forwards(
 ) -> Result<(), OutOfMemory>
     ensures { OnOk result (out.new ≡ out.old ++ lines key (forward_texts settings.now key)) }
 {
-    if is_set(settings, Key::ClearAllForwardings) {
+    if settings.is_set(Key::ClearAllForwardings) {
         return Ok(());
     }
     put_values(alloc, out, settings, key)
@@ -116,7 +115,7 @@ fn put_forwards(
 fn put_proxy(out: &mut Text, settings: &Settings, key: Key) -> Result<(), OutOfMemory>
     ensures { OnOk result (out.new ≡ out.old ++ lines key (proxy_texts settings.now key)) }
 {
-    match named_word(settings, key) {
+    match settings.named_word(key) {
         Some(text) => put_text(out, key, text),
         None => Ok(()),
     }
@@ -131,7 +130,7 @@ fn put_user(
 ) -> Result<(), TokenError>
     ensures { PutsTexts result out.old out.new key (user_texts settings.now (seen view.now) key) }
 {
-    let user = match word_of(settings, key) {
+    let user = match settings.word(key) {
         Some(user) => user,
         None => fact(b'u', &view.facts.local_user)?,
     };
@@ -148,7 +147,7 @@ fn put_path(
 ) -> Result<(), TokenError>
     ensures { PutsTexts result out.old out.new key (path_texts settings.now (seen view.now) key) }
 {
-    match word_of(settings, key) {
+    match settings.word(key) {
         Some(text) => {
             let path = expand_path(alloc, true, text, TokenSet::FullVars, view)?;
             Ok(put_text(out, key, path.as_bytes())?)
@@ -168,7 +167,7 @@ fn put_command(
     ensures { PutsTexts result out.old out.new key
         (command_texts settings.now (seen view.now) key) }
 {
-    match word_of(settings, key) {
+    match settings.word(key) {
         Some(text) => {
             let command = expand(alloc, text, TokenSet::Full, view)?;
             Ok(put_text(out, key, command.as_bytes())?)

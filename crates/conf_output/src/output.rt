@@ -1,11 +1,7 @@
-ghost use Rattle.conf_rules.specs.Results.{Gives};
-ghost use Rattle.conf_rules.specs.Wants.{list_wants_memory};
-ghost use Rattle.conf_tokens.specs.Known.{known};
 ghost use Rattle.conf_output.specs.Settled.{Lists, HasControlPath};
-ghost use Rattle.conf_output.specs.Shown.{list_of, path_of};
 
 use crate::keys::{put_keys, refusal};
-use crate::known::{host_name, named_word, view};
+use crate::known::{host_name, view};
 use crate::spelling::put_line;
 use conf_options::{Key, Settings};
 use conf_rules::{LISTING_ORDER, ListError};
@@ -13,23 +9,6 @@ use conf_tokens::{TokenSet, expand_path};
 use mux_outside::Facts;
 use ssh_fields::Text;
 use std::alloc::Global;
-
-/// The listing of settings.
-fn list(
-    alloc: Global,
-    settings: &Settings,
-    original: &[u8],
-    facts: &Facts,
-) -> Result<Text, ListError>
-    ensures { Gives list_wants_memory result (list_of settings.now original.now (known facts.now)) }
-{
-    let host = host_name(alloc, settings, original)?;
-    let view = view(settings, original, host.as_bytes(), facts);
-    let mut out = Text::new(alloc);
-    put_line(&mut out, b"host", original)?;
-    put_keys(alloc, &mut out, settings, &view, &LISTING_ORDER)?;
-    Ok(out)
-}
 
 /// The settings behind all lines as `-G` lists them for the host `original` of the command line:
 /// that host, then a line of each value of each key, or of its default. Hostname, ControlPath and
@@ -44,27 +23,12 @@ pub fn listing(
 ) -> Result<Text, ListError>
     ensures exact { Lists result settings.now original.now facts.now }
 {
-    list(alloc, settings, original, facts)
-}
-
-/// The path of settings.
-fn path(
-    alloc: Global,
-    settings: &Settings,
-    original: &[u8],
-    facts: &Facts,
-) -> Result<Option<Text>, ListError>
-    ensures { Gives list_wants_memory result (path_of settings.now original.now (known facts.now)) }
-{
-    let Some(text) = named_word(settings, Key::ControlPath) else {
-        return Ok(None);
-    };
     let host = host_name(alloc, settings, original)?;
     let view = view(settings, original, host.as_bytes(), facts);
-    match expand_path(alloc, true, text, TokenSet::FullVars, &view) {
-        Ok(path) => Ok(Some(path)),
-        Err(error) => Err(refusal(Key::ControlPath, error)),
-    }
+    let mut out = Text::new(alloc);
+    put_line(&mut out, b"host", original)?;
+    put_keys(alloc, &mut out, settings, &view, &LISTING_ORDER)?;
+    Ok(out)
 }
 
 /// ControlPath behind all lines, with its home, tokens and variables expanded (ssh_config(5),
@@ -77,5 +41,13 @@ pub fn control_path(
 ) -> Result<Option<Text>, ListError>
     ensures exact { HasControlPath result settings.now original.now facts.now }
 {
-    path(alloc, settings, original, facts)
+    let Some(text) = settings.named_word(Key::ControlPath) else {
+        return Ok(None);
+    };
+    let host = host_name(alloc, settings, original)?;
+    let view = view(settings, original, host.as_bytes(), facts);
+    match expand_path(alloc, true, text, TokenSet::FullVars, &view) {
+        Ok(path) => Ok(Some(path)),
+        Err(error) => Err(refusal(Key::ControlPath, error)),
+    }
 }

@@ -7,16 +7,9 @@ ghost use Rattle.conf_rules.specs.Listing.{listed};
 ghost use Rattle.conf_output.specs.Shown.{spelled_forward};
 
 use conf_rules::{End, Forward, Value};
+use conf_tokens::put_number;
 use ssh_fields::{OutOfMemory, Text, Texts};
 use std::alloc::Global;
-
-/// The digits of a number.
-fn put_number(alloc: Global, out: &mut Text, number: u64) -> Result<(), OutOfMemory>
-    ensures { OnOk result (out.new ≡ out.old ++ digits_of number) }
-{
-    let digits = number.to_string(alloc)?;
-    out.add(digits.as_bytes())
-}
 
 /// An end of a forwarding.
 fn put_end(alloc: Global, out: &mut Text, end: &End) -> Result<(), OutOfMemory>

@@ -4,7 +4,7 @@ use Rattle.conf_rules.specs.declared.causes.Cause.{Cause}
 use Rattle.conf_rules.specs.declared.causes.ResolveError.{ResolveError}
 use Rattle.conf_rules.specs.declared.causes.ResolveError.TheVariants.{At, OutOfMemory}
 use Rattle.conf_rules.specs.declared.entry.Entry.TheVariants.{Nothing}
-use Rattle.conf_rules.specs.declared.maxima.TheConstants.{MAX_LINES}
+use Rattle.conf_rules.specs.declared.limits.TheConstants.{MAX_LINES}
 use Rattle.conf_rules.specs.Told.{Told}
 use Rattle.conf_rules.specs.Diagnostics.{is_fault}
 use Rattle.conf_rules.specs.Sources.{Line}

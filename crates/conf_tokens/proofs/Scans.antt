@@ -9,13 +9,13 @@ use Rattle.conf_rules.specs.Wants.{token_wants_memory}
 use Rattle.conf_rules.specs.Tokens.{View, Part, part_at, expand_from, name_expanded}
 use Rattle.conf_tokens.specs.Puts.{onto, onto_part, name_token}
 
--- bytes that belong to a part are passed over
-passed : (set : TokenSet) (view : View) (more at : ℕ) (bs : List ℕ) → more ≤ length bs → expand_from set view more at bs ≡ expand_from set view 0 (at + more) (drop more bs)
+-- bytes that belong to a part are skipped
+skipped : (set : TokenSet) (view : View) (more at : ℕ) (bs : List ℕ) → more ≤ length bs → expand_from set view more at bs ≡ expand_from set view 0 (at + more) (drop more bs)
 unfolding expand_from
-passed set view zero at bs within = ap (λ n. expand_from set view 0 n bs) (omega arith)
-passed set view (suc more) at [] within = absurd (omega (arith, within))
-passed set view (suc more) at (b ∷ bs) within =
-    passed set view more (at + 1) bs (omega (arith, within)) ∙ ap (λ n. expand_from set view 0 n (drop more bs)) (omega arith)
+skipped set view zero at bs within = ap (λ n. expand_from set view 0 n bs) (omega arith)
+skipped set view (suc more) at [] within = absurd (omega (arith, within))
+skipped set view (suc more) at (b ∷ bs) within =
+    skipped set view more (at + 1) bs (omega (arith, within)) ∙ ap (λ n. expand_from set view 0 n (drop more bs)) (omega arith)
 
 -- a text in front of one that is in front
 regrouped : (old text : List ℕ) (r : Result (List ℕ) TokenError) → onto old (r >>= λ rest. Ok (text ++ rest)) ≡ onto (old ++ text) r
@@ -39,7 +39,7 @@ pub goes_on : (set : TokenSet) (view : View) (old : List ℕ) (at : ℕ) (left :
     → left ≡ b ∷ bs → onto_part old (part_at set view at b bs) ≡ Ok (new, more) → more ≤ length bs → onto old (expand_from set view 0 at left) ≡ total → onto new (expand_from set view 0 (at + (1 + more)) (drop more bs)) ≡ total
 goes_on set view old at left b bs new more total e h within so_far =
     let step = one set view old at b bs new more h in
-    let skip = passed set view more (at + 1) bs within in
+    let skip = skipped set view more (at + 1) bs within in
     let place : at + 1 + more ≡ at + (1 + more) = omega arith in
     sym (ap (λ n. onto new (expand_from set view 0 n (drop more bs))) place) ∙ sym (ap (onto new) skip) ∙ sym step ∙ sym (ap (λ l. onto old (expand_from set view 0 at l)) e) ∙ so_far
 

@@ -12,4 +12,5 @@ mod view;
 pub use conf_rules::{TokenError, TokenSet};
 pub use expansion::{expand, expand_name, expand_path};
 pub use facts::{fact, user};
+pub use put::put_number;
 pub use view::View;

@@ -17,10 +17,7 @@ fn letters(set: TokenSet) -> &'static [u8]
     ensures { result.now ≡ letters set }
 {
     match set {
-        TokenSet::Name => b"%h",
-        TokenSet::Proxy => b"%hnpr",
-        TokenSet::Full => b"%CdhijkLlnpru",
-        TokenSet::FullVars => b"%CdhijkLlnpru",
+        TokenSet::Full | TokenSet::FullVars => b"%CdhijkLlnpru",
         TokenSet::Included => b"%diLlnu",
     }
 }
@@ -37,8 +34,8 @@ fn has_vars(set: TokenSet) -> bool
     ensures { result ≡ has_vars set }
 {
     match set {
+        TokenSet::Full => false,
         TokenSet::FullVars | TokenSet::Included => true,
-        _ => false,
     }
 }
 

@@ -1,4 +1,4 @@
-ghost use Rattle.std.specs.Prelude.{◌≡◌, ◌==◌, ◌≤◌, length, not, Ok, IfOk};
+ghost use Rattle.std.specs.Prelude.{◌≡◌, ◌==◌, ◌≤◌, ◌++◌, length, not, Ok, OnOk};
 ghost use Rattle.std.specs.List.{prefix_len};
 ghost use Rattle.hex.specs.Hex.{encode_lower};
 ghost use Rattle.conf_rules.specs.Numbers.{digits_of};
@@ -40,21 +40,20 @@ fn put_user(out: &mut Text, byte: u8, view: &View<'_>) -> Result<(), TokenError>
     put(out, text)
 }
 
-/// The digits of a port.
-fn digits(alloc: Global, port: u16) -> Result<Text, OutOfMemory>
-    ensures { IfOk result (λ text. text ≡ digits_of port) }
+/// Adds the digits of a number.
+pub fn put_number(alloc: Global, out: &mut Text, number: u64) -> Result<(), OutOfMemory>
+    ensures { OnOk result (out.new ≡ out.old ++ digits_of number) }
 {
-    let digits = port.to_string(alloc)?;
-    let text = Text::copy(alloc, digits.as_bytes())?;
-    Ok(text)
+    let digits = number.to_string(alloc)?;
+    out.add(digits.as_bytes())
 }
 
 /// Adds a port.
 fn put_port(alloc: Global, out: &mut Text, port: u16) -> Result<(), TokenError>
     ensures { Puts result out.old out.new (Ok (digits_of port)) }
 {
-    let digits = digits(alloc, port)?;
-    put(out, digits.as_bytes())
+    put_number(alloc, out, u64::from(port))?;
+    Ok(())
 }
 
 /// How many bytes stand before the first dot.
@@ -86,7 +85,8 @@ fn digest(alloc: Global, view: &View<'_>) -> Result<[u8; 40], TokenError>
 {
     let name = fact(b'l', &view.facts.host_name)?;
     let user = user(b'r', view)?;
-    let port = digits(alloc, view.port)?;
+    let mut port = Text::new(alloc);
+    put_number(alloc, &mut port, u64::from(view.port))?;
     let mut hasher = Sha1::new();
     hasher.update(name);
     hasher.update(view.host);
@@ -102,6 +102,7 @@ fn hex_of(bytes: &[u8; 20]) -> [u8; 40]
 {
     let mut text = [0u8; 40];
     let done = hex::encode_to_slice(bytes.as_slice(), &mut text);
+    // For the proof alone: forty digits have room.
     prove!(done.is_ok());
     text
 }

@@ -2,8 +2,7 @@
 use Rattle.std.proofs.Common.{◌≡◌, inl, inr, ℕ, Bool, List, [], ◌∷◌, Option, Some, None, Result, Ok, Err, refl, ap, sym, subst}
 use Rattle.std.specs.Prelude.{◌++◌, flat_map, if◌then◌else◌}
 use Rattle.std.specs.List.{slice_get}
-use Rattle.conf_options.specs.Kept.{Given, Keeps}
-use Rattle.conf_output.specs.Shown.{first_value}
+use Rattle.conf_options.specs.Kept.{Given, Keeps, first_value}
 use Rattle.conf_resolve.specs.Passes.{Resolved}
 use Rattle.conf_rules.specs.declared.asked.Asked.{Asked}
 use Rattle.conf_rules.specs.declared.key.Key.{Key}

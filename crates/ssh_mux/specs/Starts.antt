@@ -1,8 +1,7 @@
 -- What the master's own forwardings begin with, by the settings (ssh_config(5): LocalForward,
 -- RemoteForward, DynamicForward, ClearAllForwardings, GatewayPorts, ExitOnForwardFailure).
 use Rattle.std.specs.Prelude.{◌≡◌, ℕ, Bool, true, false, ◌||◌, if◌then◌else◌, List, [], ◌∷◌, ◌++◌, flat_map, Option, Some, None, IsTrue}
-use Rattle.conf_options.specs.Kept.{Given, Keeps}
-use Rattle.conf_output.specs.Shown.{first_value}
+use Rattle.conf_options.specs.Kept.{Given, Keeps, first_value}
 use Rattle.conf_rules.specs.declared.key.Key.{Key}
 use Rattle.conf_rules.specs.declared.key.Key.TheVariants.{ClearAllForwardings, DynamicForward, ExitOnForwardFailure, GatewayPorts, LocalForward, RemoteForward}
 use Rattle.conf_rules.specs.declared.value.End.{End}

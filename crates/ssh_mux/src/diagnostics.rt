@@ -5,17 +5,10 @@ ghost use Rattle.conf_rules.specs.Diagnostics.{usage_text, lex_text, value_text,
 ghost use Rattle.conf_rules.specs.Diagnostics.{token_text, cause_text};
 
 use conf_rules::{Cause, LexError, MatchError, TokenError, Usage, ValueError};
+use conf_tokens::put_number;
 use mux_history::Break;
 use ssh_fields::{OutOfMemory, Text};
 use std::alloc::Global;
-
-/// The digits of a number.
-pub fn put_number(alloc: Global, out: &mut Text, number: u64) -> Result<(), OutOfMemory>
-    ensures { OnOk result (out.new ≡ out.old ++ digits_of number) }
-{
-    let digits = number.to_string(alloc)?;
-    out.add(digits.as_bytes())
-}
 
 /// Why the words have no reading.
 pub fn usage_text(cause: Usage) -> &'static [u8]

@@ -11,11 +11,11 @@ ghost use Rattle.ssh_mux.specs.Puts.{PutsOnce};
 ghost use Rattle.ssh_mux.specs.Sharing.{CallsEnd, IdleCause, OpensAt, Shares};
 ghost use Rattle.ssh_mux.specs.Sharing.{StartCause, WaitsFor, WireCause};
 
-use crate::diagnostics::put_number;
 use crate::ending::Ending;
 use crate::listing::hand_over;
 use crate::master::{open_and_serve, policy_of};
 use crate::status::Status;
+use conf_tokens::put_number;
 use mux_outside::{NoHouse, Sink, Tally, Wire};
 use ssh_fields::{OutOfMemory, Text, Texts};
 use std::alloc::Global;

@@ -4,10 +4,11 @@ ghost use Rattle.ssh_mux.specs.declared.ending.Ending.TheVariants.{NoMemory};
 ghost use Rattle.ssh_mux.specs.Ending.{shown, misread_as, refused_as, unlisted_as};
 ghost use Rattle.ssh_mux.specs.Status.{status_of};
 
-use crate::diagnostics::{put_break_text, put_cause_text, put_number, put_token_text, usage_text};
+use crate::diagnostics::{put_break_text, put_cause_text, put_token_text, usage_text};
 use crate::status::Status;
 use conf_command::WordsError;
 use conf_rules::{Cause, Key, ListError, ResolveError, TokenError, UsageError};
+use conf_tokens::put_number;
 use mux_history::Break;
 use ssh_fields::{OutOfMemory, Text};
 use std::alloc::Global;

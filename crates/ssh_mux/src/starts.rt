@@ -1,7 +1,5 @@
 //! What the master's own forwardings begin with, by the settings.
 ghost use Rattle.std.specs.Prelude.{◌≡◌, ◌++◌, IfOk, OnOk};
-ghost use Rattle.conf_output.specs.Shown.{first_value};
-ghost use Rattle.conf_rules.specs.Listing.{is_set};
 ghost use Rattle.ssh_mux.specs.Starts.{connect_of, connects_path, end_of, is_path, key_starts, no_end};
 ghost use Rattle.ssh_mux.specs.Starts.{start_asks, start_of, starts_for, value_starts};
 
@@ -119,23 +117,13 @@ fn add_starts(
     Ok(())
 }
 
-// Whether a flag is set to yes.
-fn is_set(settings: &Settings, key: Key) -> bool
-    ensures { result ≡ is_set (first_value key settings.now) }
-{
-    match settings.first(key) {
-        Some(Value::Flag(flag)) => *flag,
-        _ => false,
-    }
-}
-
 // The forwardings that the settings ask for: local, remote and dynamic ones in this order, and none
 // where all are cleared.
 fn start_asks(alloc: Global, settings: &Settings) -> Result<StartAsks, OutOfMemory>
     ensures { IfOk result (λ asks. asks ≡ start_asks settings.now) }
 {
     let mut asks = StartAsks::new(alloc);
-    if is_set(settings, Key::ClearAllForwardings) {
+    if settings.is_set(Key::ClearAllForwardings) {
         return Ok(asks);
     }
     add_starts(alloc, &mut asks, settings, Key::LocalForward)?;
@@ -151,7 +139,7 @@ pub fn starts_of(alloc: Global, settings: &Settings) -> Result<Starts, OutOfMemo
     let asks = start_asks(alloc, settings)?;
     Ok(Starts {
         asks,
-        gateway: is_set(settings, Key::GatewayPorts),
-        must: is_set(settings, Key::ExitOnForwardFailure),
+        gateway: settings.is_set(Key::GatewayPorts),
+        must: settings.is_set(Key::ExitOnForwardFailure),
     })
 }

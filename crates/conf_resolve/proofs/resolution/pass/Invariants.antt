@@ -1,5 +1,5 @@
 use Rattle.std.proofs.Common.{◌≡◌, ◌-◌, List, length}
-use Rattle.conf_rules.specs.declared.maxima.TheConstants.{MAX_LINES}
+use Rattle.conf_rules.specs.declared.limits.TheConstants.{MAX_LINES}
 use Rattle.conf_rules.specs.Told.{Told}
 use Rattle.conf_rules.specs.Rows.{Row, Pass}
 use Rattle.conf_match.specs.Evaluated.{TellsStatus}

@@ -1,5 +1,5 @@
 use Rattle.std.proofs.Common.{◌≡◌, ◌≤◌, ◌+◌, ◌-◌, ℕ, true, length}
-use Rattle.conf_rules.specs.declared.maxima.TheConstants.{MAX_LINES}
+use Rattle.conf_rules.specs.declared.limits.TheConstants.{MAX_LINES}
 use Rattle.conf_rules.specs.Told.{Told}
 use Rattle.conf_reader.specs.Known.{TellsFiles}
 use Rattle.conf_reader.specs.Blocks.{Blocks}

@@ -1,14 +1,14 @@
 use Rattle.std.proofs.Common.{◌≡◌, ◌≤◌, ℕ, true, drop, length}
-use Rattle.conf_match.specs.Pieces.{glob, NoneInLast}
-use Rattle.conf_match.proofs.globs.to_star.Given as goal
+use Rattle.conf_match.specs.Pieces.{takes_name, Fits}
+use Rattle.conf_match.proofs.stars.to_star.Given as goal
 
 abbrev pub invariant-loop-piece : goal.invariant-loop-piece
 invariant-loop-piece l = record {
-  here : glob l.p l.t ≡ glob l.pattern l.name;
-  further : (k : ℕ) → glob l.pattern (drop k l.name) ≡ true → glob l.p (drop k l.t) ≡ true;
+  here : takes_name l.syntax l.p l.t ≡ takes_name l.syntax l.pattern l.name;
+  further : (k : ℕ) → takes_name l.syntax l.pattern (drop k l.name) ≡ true → takes_name l.syntax l.p (drop k l.t) ≡ true;
   shorter : length l.p ≤ length l.pattern;
   no_longer : length l.t ≤ length l.name;
-  tail : NoneInLast l.tail l.p;
+  fits : Fits l.syntax l.p;
 }
 
 abbrev pub decreases-loop-piece : goal.decreases-loop-piece
