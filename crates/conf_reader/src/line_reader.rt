@@ -51,7 +51,7 @@ fn copied_facts(alloc: Global, facts: &Facts) -> Result<Facts, OutOfMemory>
     })
 }
 
-/// Adds a first file.
+/// Adds a first file. It stands apart for its contract alone, which sees the items.
 fn put(
     firsts: &mut Vec<FirstFile>,
     system: bool,

@@ -75,6 +75,7 @@ impl OpenFile {
         requires { self.old.next < length self.old.named }
         ensures { self.new ≡ record self.old { next = self.old.next + 1 } }
     {
+        // Always so; the proof needs it for the sum.
         if self.next < self.named.len() {
             self.next += 1;
         }

@@ -142,7 +142,7 @@ fn joined(alloc: Global, base: &[u8], name: &[u8]) -> Result<Text, OutOfMemory>
     Ok(path)
 }
 
-/// Adds a path.
+/// Adds a path. It stands apart for its contract alone, which sees the items.
 fn put(paths: &mut Vec<Text>, path: Text) -> Result<(), OutOfMemory>
     ensures { OnOk result (paths.new.items ≡ paths.old.items ++ path ∷ []) }
 {

@@ -144,6 +144,7 @@ impl Lines {
             → all_read told self.old ≡ f.path ∷ all_read told self.new) }
         ensures others { self.new ≡ record self.old { next_first = self.old.next_first + 1 } }
     {
+        // Always so; the proof needs it for the sum.
         if self.next_first < self.firsts.len() {
             self.next_first += 1;
         }
@@ -235,7 +236,8 @@ impl Lines {
         }
     }
 
-    /// Goes to the next line of the open files.
+    /// Goes to the next line of the open files. It stands apart for its proof alone: what is so of open
+    /// files is so of all lines.
     fn settle<F: Files>(&mut self, files: &mut F) -> Result<bool, ResolveError>
         requires ready { IsReady self.old.open_files }
         ensures moves { AllMove (F.told files.old) self.old self.new result }

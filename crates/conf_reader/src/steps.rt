@@ -80,7 +80,7 @@ impl Lines {
         }
     }
 
-    /// Finds the files that the last line includes.
+    /// Finds the files that the last line includes. It stands apart for its proof alone.
     fn expand<F: Files>(
         &mut self,
         facts: &Facts,
