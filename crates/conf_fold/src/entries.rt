@@ -174,7 +174,8 @@ fn unknown_entry(
     Err(LineError::Refused(Cause::UnknownKeyword(keyword)))
 }
 
-/// What given words of an unknown keyword say.
+/// What given words of an unknown keyword say. The letters of the command line name keys alone, but
+/// `AskedLine` is public and its keyword any text.
 fn parts_unknown_entry(
     alloc: Global,
     ignored: Option<&[u8]>,

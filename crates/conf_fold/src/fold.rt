@@ -15,12 +15,11 @@ mod blocks;
 mod lines;
 
 use crate::entries::asked_entry;
-use crate::marks::Marks;
 use conf_options::Settings;
 use conf_reader::refuse;
 use conf_rules::{Asked, AskedLine, Entry, Key, ResolveError, Value};
 use conf_tokens::expand_name;
-use ssh_fields::{OutOfMemory, Text};
+use ssh_fields::{ListOf, OutOfMemory, Text};
 use std::alloc::Global;
 
 /// The settings of the lines given so far.
@@ -30,13 +29,13 @@ pub struct Fold {
     original: Text,
     settings: Settings,
     // Whether the open block of each open file applies, the first file first.
-    applies: Marks,
+    applies: ListOf<bool>,
     // Whether some Match line asked for a second pass.
     asks_again: bool,
     // In the second pass the host name behind the first.
     name: Option<Text>,
     // Whether each line that gives a value to collect was active in the first pass.
-    were_active: Marks,
+    were_active: ListOf<bool>,
     // In the second pass, how many such lines were given.
     seen: usize,
 }
@@ -74,10 +73,10 @@ impl Fold {
             alloc,
             original: Text::copy(alloc, original)?,
             settings: Settings::new(alloc),
-            applies: Marks::new(alloc),
+            applies: ListOf::new(alloc),
             asks_again: false,
             name: None,
-            were_active: Marks::new(alloc),
+            were_active: ListOf::new(alloc),
             seen: 0,
         })
     }

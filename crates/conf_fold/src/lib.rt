@@ -6,6 +6,5 @@
 
 mod entries;
 mod fold;
-mod marks;
 
 pub use fold::Fold;

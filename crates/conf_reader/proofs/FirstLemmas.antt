@@ -91,9 +91,9 @@ next-left told place blocks r f top below named =
     let firsts : drop r.next_first r.firsts.items ≡ f ∷ drop (r.next_first + 1) r.firsts.items = drop-at r.firsts.items r.next_first f named ∙ ap (λ i. f ∷ drop i r.firsts.items) next in
     ap (λ o. o ++ firsts_left told (place + length o) (drop r.next_first r.firsts.items)) (nothing-open told place blocks r top below) ∙ ap (firsts_left told (place + 0)) firsts
 
-pub passes-left : (told : Told) (place : ℕ) (blocks : Blocks) (r : Lines) (f : FirstFile) → r.open_files.top ≡ None → r.open_files.below.items ≡ [] → slice_get r.firsts.items r.next_first ≡ Some f → told.content f.path ≡ None → f.required ≡ false
+pub skips-left : (told : Told) (place : ℕ) (blocks : Blocks) (r : Lines) (f : FirstFile) → r.open_files.top ≡ None → r.open_files.below.items ≡ [] → slice_get r.firsts.items r.next_first ≡ Some f → told.content f.path ≡ None → f.required ≡ false
     → left told place blocks r ≡ left told place blocks (record r { next_first = r.next_first + 1 })
-passes-left told place blocks r f top below named none required =
+skips-left told place blocks r f top below named none required =
     let later = drop (r.next_first + 1) r.firsts.items in
     let z : place + 0 + 0 ≡ place + 0 = omega arith in
     next-left told place blocks r f top below named
@@ -137,12 +137,12 @@ below-end [] i f e = absurd cc
 below-end (x ∷ xs) zero f e = omega arith
 below-end (x ∷ xs) (suc i) f e = let k = below-end xs i f e in omega (arith, k)
 
-pub passes-next : (told : Told) (place : ℕ) (blocks : Blocks) (r : Lines) → r.open_files.top ≡ None → r.open_files.below.items ≡ [] → r.next_first < length r.firsts.items → IsLacking told r → left told place blocks r ≡ left told place blocks (record r { next_first = r.next_first + 1 })
-passes-next told place blocks r top below low lacks = by (slice_get r.firsts.items r.next_first) refl lacks
+pub skips-next : (told : Told) (place : ℕ) (blocks : Blocks) (r : Lines) → r.open_files.top ≡ None → r.open_files.below.items ≡ [] → r.next_first < length r.firsts.items → IsLacking told r → left told place blocks r ≡ left told place blocks (record r { next_first = r.next_first + 1 })
+skips-next told place blocks r top below low lacks = by (slice_get r.firsts.items r.next_first) refl lacks
   where
     by : (o : Option FirstFile) → slice_get r.firsts.items r.next_first ≡ o → IfSome o (λ f. (told.content f.path ≡ None) × (f.required ≡ false)) → left told place blocks r ≡ left told place blocks (record r { next_first = r.next_first + 1 })
     by None e h = absurd (within r.firsts.items r.next_first low e)
-    by (Some f) e h = passes-left told place blocks r f top below e h.0 h.1
+    by (Some f) e h = skips-left told place blocks r f top below e h.0 h.1
 
 pub size-moves : (told : Told) (place : ℕ) (blocks : Blocks) (r : Lines) (f : FirstFile) (e : ResolveError) (content : Option Bytes) → told.content f.path ≡ content → r.open_files.top ≡ None → r.open_files.below.items ≡ [] → slice_get r.firsts.items r.next_first ≡ Some f → is_plain_first f ≡ true → IsFound TooLarge content
     → Refuses (line_errors.Refused causes.TooLarge) f.path 0 e → moved (left told place blocks r) [] e

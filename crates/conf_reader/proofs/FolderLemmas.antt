@@ -100,21 +100,21 @@ unfailed xs r before now is same = rw is same
 
 -- ---- lists that have the same texts
 
--- how often a test is passed
-abbrev passed : (Bytes → Bool) → Bytes → ℕ
-passed test x = cond (test x) 1 0
+-- how often a test is met
+abbrev met : (Bytes → Bool) → Bytes → ℕ
+met test x = cond (test x) 1 0
 
-count-first : (test : Bytes → Bool) (x : Bytes) (xs : List Bytes) (t : Bool) → test x ≡ t → list_any test xs ≡ nat_lt 0 (sum_by (passed test) xs) → list_any test (x ∷ xs) ≡ nat_lt 0 (passed test x + sum_by (passed test) xs)
-count-first test x xs true e later = rw e (sym (lt-ltb 0 (1 + sum_by (passed test) xs) (omega arith)))
-count-first test x xs false e later = rw (e, zero-add (sum_by (passed test) xs)) later
+count-first : (test : Bytes → Bool) (x : Bytes) (xs : List Bytes) (t : Bool) → test x ≡ t → list_any test xs ≡ nat_lt 0 (sum_by (met test) xs) → list_any test (x ∷ xs) ≡ nat_lt 0 (met test x + sum_by (met test) xs)
+count-first test x xs true e later = rw e (sym (lt-ltb 0 (1 + sum_by (met test) xs) (omega arith)))
+count-first test x xs false e later = rw (e, zero-add (sum_by (met test) xs)) later
 
-counts : (test : Bytes → Bool) (xs : List Bytes) → list_any test xs ≡ nat_lt 0 (sum_by (passed test) xs)
+counts : (test : Bytes → Bool) (xs : List Bytes) → list_any test xs ≡ nat_lt 0 (sum_by (met test) xs)
 counts test [] = refl
-counts test (x ∷ xs) = count-first test x xs (test x) refl (counts test xs) ∙ sym (ap (nat_lt 0) (sum_by-cons (passed test) x xs))
+counts test (x ∷ xs) = count-first test x xs (test x) refl (counts test xs) ∙ sym (ap (nat_lt 0) (sum_by-cons (met test) x xs))
 
 -- a text that is in one of them is in the other
 same-among : (xs ys : List Bytes) → SameTexts xs ys → Among ys xs
-same-among xs ys same path e = counts (bytes_eq path) xs ∙ sym (ap (nat_lt 0) (same (passed (bytes_eq path)))) ∙ sym (counts (bytes_eq path) ys) ∙ e
+same-among xs ys same path e = counts (bytes_eq path) xs ∙ sym (ap (nat_lt 0) (same (met (bytes_eq path)))) ∙ sym (counts (bytes_eq path) ys) ∙ e
 
 same-map : (g : Bytes → Bytes) (xs ys : List Bytes) → SameTexts xs ys → SameTexts (map g xs) (map g ys)
 same-map g xs ys same f = sum-map f g ys ∙ same (λ x. f (g x)) ∙ sym (sum-map f g xs)

@@ -29,7 +29,7 @@ use Rattle.conf_reader.specs.declared.reader.Lines.{Lines}
 use Rattle.conf_reader.specs.declared.stack.OpenFiles.{OpenFiles}
 use Rattle.conf_reader.specs.Results.{refused_at}
 use Rattle.conf_reader.specs.Left.{source_of, IsSettled, GivenBy, gone, include_of, named_as, named_by}
-use Rattle.conf_reader.specs.Looking.{FailsAmong, FirstFails, LineFails, Test, passes_in, passes, firsts_pass, all_pass, line_passes, TellsFailed, LooksOn}
+use Rattle.conf_reader.specs.Looking.{FailsAmong, FirstFails, LineFails, Test, meets_in, meets, firsts_meet, all_meet, line_meets, TellsFailed, LooksOn}
 use Rattle.conf_reader.proofs.OpenLemmas.{drop-at}
 
 -- ---- lists
@@ -58,11 +58,11 @@ first-or-later : (p : Bytes → Bool) (x y : Bytes) (t rest : Bool) → bytes_eq
 first-or-later p x y true rest e here later any = ap p ((bytes_eq-Decides x y).0 e) ∙ here
 first-or-later p x y false rest e here later any = later any
 
--- what all pass is passed by one of them
-pub one-passes : (p : Bytes → Bool) (xs : List Bytes) (x : Bytes) → list_all p xs ≡ true → list_any (bytes_eq x) xs ≡ true → p x ≡ true
-one-passes p [] x all any = absurd cc
-one-passes p (y ∷ ys) x all any =
-    first-or-later p x y (bytes_eq x y) (list_any (bytes_eq x) ys) refl (both-left (p y) (list_all p ys) all) (λ k. one-passes p ys x (both-right (p y) (list_all p ys) all) k) any
+-- a test that all meet is met by one of them
+pub one-meets : (p : Bytes → Bool) (xs : List Bytes) (x : Bytes) → list_all p xs ≡ true → list_any (bytes_eq x) xs ≡ true → p x ≡ true
+one-meets p [] x all any = absurd cc
+one-meets p (y ∷ ys) x all any =
+    first-or-later p x y (bytes_eq x y) (list_any (bytes_eq x) ys) refl (both-left (p y) (list_all p ys) all) (λ k. one-meets p ys x (both-right (p y) (list_all p ys) all) k) any
 
 all-next : (p : Bytes → Bool) (xs : List Bytes) (i : ℕ) → list_all p (drop i xs) ≡ true → list_all p (drop (suc i) xs) ≡ true
 all-next p [] i e = refl
@@ -85,7 +85,7 @@ tells-on A B test e before mid now same h = subst (λ b. TellsFailed {A = B} tes
 pub tells-at : (A : Type 0) (test : Test) (file : Bytes) (number : ℕ) (paths : List Bytes) (e : ResolveError) (before now : Option (List Bytes)) → e ≡ errors.At file number causes.ReadFault → FailsAmong paths before now → list_all (test file number) paths ≡ true
     → TellsFailed {A = A} test (Err e) before now
 tells-at A test file number paths e before now r fails all =
-    subst (λ x. TellsFailed {A = A} test (Err x) before now) (sym r) (record { path = fails.path; is = fails.is; passes = one-passes (test file number) paths fails.path all fails.among })
+    subst (λ x. TellsFailed {A = A} test (Err x) before now) (sym r) (record { path = fails.path; is = fails.is; meets = one-meets (test file number) paths fails.path all fails.among })
 
 -- the same of a line's error
 pub tells-line : (A B : Type 0) (test : Test) (file : Bytes) (number : ℕ) (paths : List Bytes) (le : LineError) (e : ResolveError) (before now : Option (List Bytes)) → e ≡ refused_at le file number → LineFails {A = B} paths (Err le) before now → list_all (test file number) paths ≡ true
@@ -97,34 +97,34 @@ tells-line A B test file number paths (line_errors.Refused cause) e before now r
 -- ---- one file
 
 -- a file that names no more files has nothing to look at
-pub settled-passes : (test : Test) (told : Told) (source : Source) (f : OpenFile) → IsSettled f → passes_in test told source f ≡ true
-settled-passes test told source f s = let none : drop f.next f.named ≡ [] = drop_of_length-le f.named s.1 in rw (s.0, none) refl
+pub settled-meets : (test : Test) (told : Told) (source : Source) (f : OpenFile) → IsSettled f → meets_in test told source f ≡ true
+settled-meets test told source f s = let none : drop f.next f.named ≡ [] = drop_of_length-le f.named s.1 in rw (s.0, none) refl
 
-pub begun-passes : (test : Test) (told : Told) (source : Source) (f : OpenFile) → f.include ≡ None → f.named ≡ [] → passes_in test told source f ≡ true
-begun-passes test told source f none names = settled-passes test told source f (none, let k = ap length names in omega (arith, k))
+pub begun-meets : (test : Test) (told : Told) (source : Source) (f : OpenFile) → f.include ≡ None → f.named ≡ [] → meets_in test told source f ≡ true
+begun-meets test told source f none names = settled-meets test told source f (none, let k = ap length names in omega (arith, k))
 
--- one that passes a path over
-pub next-passes : (test : Test) (told : Told) (source : Source) (f g : OpenFile) → g ≡ record f { next = f.next + 1 } → f.include ≡ None → passes_in test told source f ≡ true → passes_in test told source g ≡ true
-next-passes test told source f g is include h =
+-- one that meets a path over
+pub next-meets : (test : Test) (told : Told) (source : Source) (f g : OpenFile) → g ≡ record f { next = f.next + 1 } → f.include ≡ None → meets_in test told source f ≡ true → meets_in test told source g ≡ true
+next-meets test told source f g is include h =
     let next : f.next + 1 ≡ suc f.next = omega arith in
     let named : list_all (test f.path (f.number - 1)) (drop f.next f.named) ≡ true = rw include at h in
     let later : list_all (test f.path (f.number - 1)) (drop (f.next + 1) f.named) ≡ true = rw next (all-next (test f.path (f.number - 1)) f.named f.next named) in
-    let all : passes_in test told source (record f { next = f.next + 1 }) ≡ true = rw include later in
-    subst (λ x. passes_in test told source x ≡ true) (sym is) all
+    let all : meets_in test told source (record f { next = f.next + 1 }) ≡ true = rw include later in
+    subst (λ x. meets_in test told source x ≡ true) (sym is) all
 
 -- the path that is opened next
-pub path-passes : (test : Test) (told : Told) (source : Source) (f : OpenFile) (path : Bytes) → f.include ≡ None → slice_get f.named f.next ≡ Some path → passes_in test told source f ≡ true → list_all (test f.path (f.number - 1)) (path ∷ []) ≡ true
-path-passes test told source f path include named h =
+pub path-meets : (test : Test) (told : Told) (source : Source) (f : OpenFile) (path : Bytes) → f.include ≡ None → slice_get f.named f.next ≡ Some path → meets_in test told source f ≡ true → list_all (test f.path (f.number - 1)) (path ∷ []) ≡ true
+path-meets test told source f path include named h =
     let p = test f.path (f.number - 1) in
     let all : list_all p (drop f.next f.named) ≡ true = rw include at h in
     let some : list_all p (path ∷ drop (suc f.next) f.named) ≡ true = subst (λ xs. list_all p xs ≡ true) (drop-at f.named f.next path named) all in
     both (p path) true (both-left (p path) (list_all p (drop (suc f.next) f.named)) some) refl
 
 -- one that goes behind a line that is given
-pub said-passes : (test : Test) (told : Told) (source : Source) (o : OpenFiles) (f : OpenFile) (next : ℕ) (said : Said) (line : ConfLine) → IsSettled f → GivenBy o f said line → line_passes test told source line ≡ true → passes_in test told source (gone next (include_of said) f) ≡ true
-said-passes test told source o f next said line s g h = by (same_word said.keyword (codes "include")) refl
+pub said-meets : (test : Test) (told : Told) (source : Source) (o : OpenFiles) (f : OpenFile) (next : ℕ) (said : Said) (line : ConfLine) → IsSettled f → GivenBy o f said line → line_meets test told source line ≡ true → meets_in test told source (gone next (include_of said) f) ≡ true
+said-meets test told source o f next said line s g h = by (same_word said.keyword (codes "include")) refl
   where
-    by : (t : Bool) → same_word said.keyword (codes "include") ≡ t → passes_in test told source (gone next (include_of said) f) ≡ true
+    by : (t : Bool) → same_word said.keyword (codes "include") ≡ t → meets_in test told source (gone next (include_of said) f) ≡ true
     by true e =
         let number : f.number + 1 - 1 ≡ f.number = omega arith in
         let key : same_word line.keyword (codes "include") ≡ true = ap (λ k. same_word k (codes "include")) g.keyword ∙ e in
@@ -133,125 +133,125 @@ said-passes test told source o f next said line s g h = by (same_word said.keywo
         rw (e, number) here
     by false e =
         let is : include_of said ≡ None = rw e refl in
-        settled-passes test told source (gone next (include_of said) f) (is, s.1)
+        settled-meets test told source (gone next (include_of said) f) (is, s.1)
 
 -- the paths that a line names are among those that it looks at
-found-pass : (p : Bytes → Bool) (told : Told) (ps : List Bytes) → list_all p (looks_of told ps) ≡ true → list_all p (flat_map (globbed told) ps) ≡ true
-found-pass p told [] h = refl
-found-pass p told (x ∷ xs) h =
+found-meet : (p : Bytes → Bool) (told : Told) (ps : List Bytes) → list_all p (looks_of told ps) ≡ true → list_all p (flat_map (globbed told) ps) ≡ true
+found-meet p told [] h = refl
+found-meet p told (x ∷ xs) h =
     let here = all-left p (folders_of told x ++ globbed told x) (looks_of told xs) h in
     let later = all-right p (folders_of told x ++ globbed told x) (looks_of told xs) h in
-    all-both p (globbed told x) (flat_map (globbed told) xs) (all-right p (folders_of told x) (globbed told x) here) (found-pass p told xs later)
+    all-both p (globbed told x) (flat_map (globbed told) xs) (all-right p (folders_of told x) (globbed told x) here) (found-meet p told xs later)
 
-along-pass : (p : Bytes → Bool) (told : Told) (read : Result (List Bytes) TokenError) (paths : List Bytes) → (read >>= λ ps. Ok (flat_map (globbed told) ps)) ≡ Ok paths → list_all p (looks_along told read) ≡ true → list_all p paths ≡ true
-along-pass p told (Err e) paths named h = absurd cc
-along-pass p told (Ok ps) paths named h = let k : flat_map (globbed told) ps ≡ paths = cc in subst (λ xs. list_all p xs ≡ true) k (found-pass p told ps h)
+along-meet : (p : Bytes → Bool) (told : Told) (read : Result (List Bytes) TokenError) (paths : List Bytes) → (read >>= λ ps. Ok (flat_map (globbed told) ps)) ≡ Ok paths → list_all p (looks_along told read) ≡ true → list_all p paths ≡ true
+along-meet p told (Err e) paths named h = absurd cc
+along-meet p told (Ok ps) paths named h = let k : flat_map (globbed told) ps ≡ paths = cc in subst (λ xs. list_all p xs ≡ true) k (found-meet p told ps h)
 
-named-pass : (p : Bytes → Bool) (source : Source) (told : Told) (words : Result (List Bytes) LexError) (paths : List Bytes) → named_by source told words ≡ Ok paths → list_all p (looks_in source told words) ≡ true → list_all p paths ≡ true
-named-pass p source told (Err e) paths named h = let k : [] ≡ paths = cc in subst (λ xs. list_all p xs ≡ true) k refl
-named-pass p source told (Ok words) paths named h = along-pass p told (paths_of source told words) paths named h
+named-meet : (p : Bytes → Bool) (source : Source) (told : Told) (words : Result (List Bytes) LexError) (paths : List Bytes) → named_by source told words ≡ Ok paths → list_all p (looks_in source told words) ≡ true → list_all p paths ≡ true
+named-meet p source told (Err e) paths named h = let k : [] ≡ paths = cc in subst (λ xs. list_all p xs ≡ true) k refl
+named-meet p source told (Ok words) paths named h = along-meet p told (paths_of source told words) paths named h
 
-pub include-passes : (test : Test) (told : Told) (source : Source) (f : OpenFile) (rest : Bytes) → f.include ≡ Some rest → passes_in test told source f ≡ true → list_all (test f.path (f.number - 1)) (looks_in source told (words_of rest)) ≡ true
+pub include-meets : (test : Test) (told : Told) (source : Source) (f : OpenFile) (rest : Bytes) → f.include ≡ Some rest → meets_in test told source f ≡ true → list_all (test f.path (f.number - 1)) (looks_in source told (words_of rest)) ≡ true
 unfolding looks_at
-include-passes test told source f rest include h = rw include at h
+include-meets test told source f rest include h = rw include at h
 
-pub found-passes : (test : Test) (told : Told) (source : Source) (f : OpenFile) (rest : Bytes) (paths : List Bytes) → f.include ≡ Some rest → named_by source told (words_of rest) ≡ Ok paths → passes_in test told source f ≡ true → passes_in test told source (named_as paths f) ≡ true
-found-passes test told source f rest paths include named h = named-pass (test f.path (f.number - 1)) source told (words_of rest) paths named (include-passes test told source f rest include h)
+pub found-meets : (test : Test) (told : Told) (source : Source) (f : OpenFile) (rest : Bytes) (paths : List Bytes) → f.include ≡ Some rest → named_by source told (words_of rest) ≡ Ok paths → meets_in test told source f ≡ true → meets_in test told source (named_as paths f) ≡ true
+found-meets test told source f rest paths include named h = named-meet (test f.path (f.number - 1)) source told (words_of rest) paths named (include-meets test told source f rest include h)
 
 -- ---- open files
 
 -- the last of them
-pub top-passes : (test : Test) (told : Told) (o : OpenFiles) (f : OpenFile) → o.top ≡ Some f → passes test told o ≡ true → passes_in test told (source_of o.system) f ≡ true
-top-passes test told o f top h =
-    let p = passes_in test told (source_of o.system) in
+pub top-meets : (test : Test) (told : Told) (o : OpenFiles) (f : OpenFile) → o.top ≡ Some f → meets test told o ≡ true → meets_in test told (source_of o.system) f ≡ true
+top-meets test told o f top h =
+    let p = meets_in test told (source_of o.system) in
     let last : list_all p (option_to_list o.top) ≡ true = all-right p o.below.items (option_to_list o.top) h in
     both-left (p f) true (subst (λ t. list_all p (option_to_list t) ≡ true) top last)
 
-below-pass : (test : Test) (told : Told) (o : OpenFiles) → passes test told o ≡ true → list_all (passes_in test told (source_of o.system)) o.below.items ≡ true
-below-pass test told o h = all-left (passes_in test told (source_of o.system)) o.below.items (option_to_list o.top) h
+below-meet : (test : Test) (told : Told) (o : OpenFiles) → meets test told o ≡ true → list_all (meets_in test told (source_of o.system)) o.below.items ≡ true
+below-meet test told o h = all-left (meets_in test told (source_of o.system)) o.below.items (option_to_list o.top) h
 
 -- open files of which the last one changed
-pub changed-passes : (test : Test) (told : Told) (o : OpenFiles) (below : List OpenFile) (t : Option OpenFile) (f g : OpenFile) → o.top ≡ Some f → t ≡ Some g → below ≡ o.below.items → (passes_in test told (source_of o.system) f ≡ true → passes_in test told (source_of o.system) g ≡ true)
-    → passes test told o ≡ true → list_all (passes_in test told (source_of o.system)) (below ++ option_to_list t) ≡ true
-changed-passes test told o below t f g top now same step h =
-    let p = passes_in test told (source_of o.system) in
-    let last : list_all p (option_to_list t) ≡ true = subst (λ t. list_all p (option_to_list t) ≡ true) (sym now) (both (p g) true (step (top-passes test told o f top h)) refl) in
-    all-both p below (option_to_list t) (subst (λ fs. list_all p fs ≡ true) (sym same) (below-pass test told o h)) last
+pub changed-meets : (test : Test) (told : Told) (o : OpenFiles) (below : List OpenFile) (t : Option OpenFile) (f g : OpenFile) → o.top ≡ Some f → t ≡ Some g → below ≡ o.below.items → (meets_in test told (source_of o.system) f ≡ true → meets_in test told (source_of o.system) g ≡ true)
+    → meets test told o ≡ true → list_all (meets_in test told (source_of o.system)) (below ++ option_to_list t) ≡ true
+changed-meets test told o below t f g top now same step h =
+    let p = meets_in test told (source_of o.system) in
+    let last : list_all p (option_to_list t) ≡ true = subst (λ t. list_all p (option_to_list t) ≡ true) (sym now) (both (p g) true (step (top-meets test told o f top h)) refl) in
+    all-both p below (option_to_list t) (subst (λ fs. list_all p fs ≡ true) (sym same) (below-meet test told o h)) last
 
 -- the last one is closed
-pub closed-passes : (test : Test) (told : Told) (o : OpenFiles) (below : List OpenFile) (t : Option OpenFile) → o.below.items ≡ below ++ option_to_list t → passes test told o ≡ true → list_all (passes_in test told (source_of o.system)) (below ++ option_to_list t) ≡ true
-closed-passes test told o below t parts h = subst (λ fs. list_all (passes_in test told (source_of o.system)) fs ≡ true) parts (below-pass test told o h)
+pub closed-meets : (test : Test) (told : Told) (o : OpenFiles) (below : List OpenFile) (t : Option OpenFile) → o.below.items ≡ below ++ option_to_list t → meets test told o ≡ true → list_all (meets_in test told (source_of o.system)) (below ++ option_to_list t) ≡ true
+closed-meets test told o below t parts h = subst (λ fs. list_all (meets_in test told (source_of o.system)) fs ≡ true) parts (below-meet test told o h)
 
 -- a file is opened
-pub entered-passes : (test : Test) (told : Told) (o : OpenFiles) (below : List OpenFile) (f g new : OpenFile) → o.top ≡ Some f → below ≡ o.below.items ++ g ∷ [] → g ≡ record f { next = f.next + 1 } → f.include ≡ None → new.include ≡ None → new.named ≡ []
-    → passes test told o ≡ true → list_all (passes_in test told (source_of o.system)) (below ++ option_to_list (Some new)) ≡ true
-entered-passes test told o below f g new top more is include none names h =
+pub entered-meets : (test : Test) (told : Told) (o : OpenFiles) (below : List OpenFile) (f g new : OpenFile) → o.top ≡ Some f → below ≡ o.below.items ++ g ∷ [] → g ≡ record f { next = f.next + 1 } → f.include ≡ None → new.include ≡ None → new.named ≡ []
+    → meets test told o ≡ true → list_all (meets_in test told (source_of o.system)) (below ++ option_to_list (Some new)) ≡ true
+entered-meets test told o below f g new top more is include none names h =
     let source = source_of o.system in
-    let p = passes_in test told source in
-    let passed : p g ≡ true = next-passes test told source f g is include (top-passes test told o f top h) in
-    let all : list_all p (o.below.items ++ g ∷ []) ≡ true = all-both p o.below.items (g ∷ []) (below-pass test told o h) (both (p g) true passed refl) in
-    all-both p below (new ∷ []) (subst (λ fs. list_all p fs ≡ true) (sym more) all) (both (p new) true (begun-passes test told source new none names) refl)
+    let p = meets_in test told source in
+    let met : p g ≡ true = next-meets test told source f g is include (top-meets test told o f top h) in
+    let all : list_all p (o.below.items ++ g ∷ []) ≡ true = all-both p o.below.items (g ∷ []) (below-meet test told o h) (both (p g) true met refl) in
+    all-both p below (new ∷ []) (subst (λ fs. list_all p fs ≡ true) (sym more) all) (both (p new) true (begun-meets test told source new none names) refl)
 
 -- a failed read of the path that is opened next
 pub top-tells : (A : Type 0) (test : Test) (told : Told) (o : OpenFiles) (f : OpenFile) (path : Bytes) (e : ResolveError) (before now : Option (List Bytes)) → o.top ≡ Some f → f.include ≡ None → slice_get f.named f.next ≡ Some path → e ≡ errors.At f.path (f.number - 1) causes.ReadFault
-    → FailsAmong (path ∷ []) before now → passes test told o ≡ true → TellsFailed {A = A} test (Err e) before now
+    → FailsAmong (path ∷ []) before now → meets test told o ≡ true → TellsFailed {A = A} test (Err e) before now
 top-tells A test told o f path e before now top include named r fails h =
-    tells-at A test f.path (f.number - 1) (path ∷ []) e before now r fails (path-passes test told (source_of o.system) f path include named (top-passes test told o f top h))
+    tells-at A test f.path (f.number - 1) (path ∷ []) e before now r fails (path-meets test told (source_of o.system) f path include named (top-meets test told o f top h))
 
 -- ---- a line
 
-pub given-looks : (test : Test) (told : Told) (o : OpenFiles) (t : Option OpenFile) (next : ℕ) (said : Said) (line : ConfLine) → o.top ≡ t → IfSome t (λ f. IsSettled f × (f.at < length f.text)) → IfSome t (λ f. GivenBy o f said line) → line_passes test told (source_of o.system) line ≡ true → passes test told o ≡ true
-    → list_all (passes_in test told (source_of o.system)) (o.below.items ++ option_to_list (option_map (gone next (include_of said)) t)) ≡ true
-given-looks test told o None next said line top at by looks h = subst (λ t. list_all (passes_in test told (source_of o.system)) (o.below.items ++ option_to_list t) ≡ true) top h
+pub given-looks : (test : Test) (told : Told) (o : OpenFiles) (t : Option OpenFile) (next : ℕ) (said : Said) (line : ConfLine) → o.top ≡ t → IfSome t (λ f. IsSettled f × (f.at < length f.text)) → IfSome t (λ f. GivenBy o f said line) → line_meets test told (source_of o.system) line ≡ true → meets test told o ≡ true
+    → list_all (meets_in test told (source_of o.system)) (o.below.items ++ option_to_list (option_map (gone next (include_of said)) t)) ≡ true
+given-looks test told o None next said line top at by looks h = subst (λ t. list_all (meets_in test told (source_of o.system)) (o.below.items ++ option_to_list t) ≡ true) top h
 given-looks test told o (Some f) next said line top at by looks h =
     let g = gone next (include_of said) f in
-    changed-passes test told o o.below.items (Some g) f g top refl refl (λ k. said-passes test told (source_of o.system) o f next said line at.0 by looks) h
+    changed-meets test told o o.below.items (Some g) f g top refl refl (λ k. said-meets test told (source_of o.system) o f next said line at.0 by looks) h
 
 -- ---- the files that a line includes
 
-pub named-looks : (test : Test) (told : Told) (o n : OpenFiles) (f : OpenFile) (rest : Bytes) (paths : List Bytes) → o.top ≡ Some f → f.include ≡ Some rest → named_by (source_of o.system) told (words_of rest) ≡ Ok paths → n ≡ record o { top = option_map (named_as paths) o.top } → passes test told o ≡ true → passes test told n ≡ true
+pub named-looks : (test : Test) (told : Told) (o n : OpenFiles) (f : OpenFile) (rest : Bytes) (paths : List Bytes) → o.top ≡ Some f → f.include ≡ Some rest → named_by (source_of o.system) told (words_of rest) ≡ Ok paths → n ≡ record o { top = option_map (named_as paths) o.top } → meets test told o ≡ true → meets test told n ≡ true
 named-looks test told o n f rest paths top include named is h =
     let now : option_map (named_as paths) o.top ≡ Some (named_as paths f) = ap (option_map (named_as paths)) top in
-    let all : passes test told (record o { top = option_map (named_as paths) o.top }) ≡ true =
-    changed-passes test told o o.below.items (option_map (named_as paths) o.top) f (named_as paths f) top now refl (found-passes test told (source_of o.system) f rest paths include named) h in
-    subst (λ (x : OpenFiles). passes test told x ≡ true) (sym is) all
+    let all : meets test told (record o { top = option_map (named_as paths) o.top }) ≡ true =
+    changed-meets test told o o.below.items (option_map (named_as paths) o.top) f (named_as paths f) top now refl (found-meets test told (source_of o.system) f rest paths include named) h in
+    subst (λ (x : OpenFiles). meets test told x ≡ true) (sym is) all
 
 pub include-tells : (A B : Type 0) (test : Test) (told : Told) (o : OpenFiles) (f : OpenFile) (rest given : Bytes) (le : LineError) (e : ResolveError) (before now : Option (List Bytes)) → o.top ≡ Some f → f.include ≡ Some rest → given ≡ rest → e ≡ refused_at le f.path (f.number - 1)
-    → LineFails {A = A} (looks_in (source_of o.system) told (words_of given)) (Err le) before now → passes test told o ≡ true → TellsFailed {A = B} test (Err e) before now
+    → LineFails {A = A} (looks_in (source_of o.system) told (words_of given)) (Err le) before now → meets test told o ≡ true → TellsFailed {A = B} test (Err e) before now
 include-tells A B test told o f rest given le e before now top include same r fails h =
     let source = source_of o.system in
     let here : LineFails {A = A} (looks_in source told (words_of rest)) (Err le) before now = subst (λ x. LineFails {A = A} (looks_in source told (words_of x)) (Err le) before now) same fails in
-    tells-line B A test f.path (f.number - 1) (looks_in source told (words_of rest)) le e before now r here (include-passes test told source f rest include (top-passes test told o f top h))
+    tells-line B A test f.path (f.number - 1) (looks_in source told (words_of rest)) le e before now r here (include-meets test told source f rest include (top-meets test told o f top h))
 
 -- ---- first files
 
-pub first-passes : (test : Test) (fs : List FirstFile) (i : ℕ) (f : FirstFile) → slice_get fs i ≡ Some f → firsts_pass test fs ≡ true → test f.path 0 f.path ≡ true
-first-passes test [] i f e h = absurd cc
-first-passes test (g ∷ gs) zero f e h = let same : g ≡ f = cc in subst (λ (x : FirstFile). test x.path 0 x.path ≡ true) same (both-left (test g.path 0 g.path) (firsts_pass test gs) h)
-first-passes test (g ∷ gs) (suc i) f e h = first-passes test gs i f e (both-right (test g.path 0 g.path) (firsts_pass test gs) h)
+pub first-meets : (test : Test) (fs : List FirstFile) (i : ℕ) (f : FirstFile) → slice_get fs i ≡ Some f → firsts_meet test fs ≡ true → test f.path 0 f.path ≡ true
+first-meets test [] i f e h = absurd cc
+first-meets test (g ∷ gs) zero f e h = let same : g ≡ f = cc in subst (λ (x : FirstFile). test x.path 0 x.path ≡ true) same (both-left (test g.path 0 g.path) (firsts_meet test gs) h)
+first-meets test (g ∷ gs) (suc i) f e h = first-meets test gs i f e (both-right (test g.path 0 g.path) (firsts_meet test gs) h)
 
 -- a failed read of a first file
 pub first-tells : (A : Type 0) (test : Test) (told : Told) (r : Lines) (f : FirstFile) (path : Bytes) (e : ResolveError) (before now : Option (List Bytes)) → slice_get r.firsts.items r.next_first ≡ Some f → path ≡ f.path → FirstFails {A = Found} path (Err e) before now
-    → all_pass test told r ≡ true → TellsFailed {A = A} test (Err e) before now
+    → all_meet test told r ≡ true → TellsFailed {A = A} test (Err e) before now
 first-tells A test told r f path errors.OutOfMemory before now named same fails h = fails
 first-tells A test told r f path (errors.At file line cause) before now named same fails h =
-    let passes_it : test f.path 0 f.path ≡ true = first-passes test r.firsts.items r.next_first f named (both-right (passes test told r.open_files) (firsts_pass test r.firsts.items) h) in
-    let here : test path 0 path ≡ true = rw same passes_it in
+    let meets_it : test f.path 0 f.path ≡ true = first-meets test r.firsts.items r.next_first f named (both-right (meets test told r.open_files) (firsts_meet test r.firsts.items) h) in
+    let here : test path 0 path ≡ true = rw same meets_it in
     tells-at A test path 0 (path ∷ []) (errors.At file line cause) before now fails.0 fails.1 (both (test path 0 path) true here refl)
 
 -- ---- readers
 
-pub files-pass : (test : Test) (told : Told) (r : Lines) → all_pass test told r ≡ true → passes test told r.open_files ≡ true
-files-pass test told r h = both-left (passes test told r.open_files) (firsts_pass test r.firsts.items) h
+pub files-meet : (test : Test) (told : Told) (r : Lines) → all_meet test told r ≡ true → meets test told r.open_files ≡ true
+files-meet test told r h = both-left (meets test told r.open_files) (firsts_meet test r.firsts.items) h
 
 -- the first files stay
-pub all-on : (test : Test) (told : Told) (old new : Lines) → new.firsts ≡ old.firsts → passes test told new.open_files ≡ true → all_pass test told old ≡ true → all_pass test told new ≡ true
+pub all-on : (test : Test) (told : Told) (old new : Lines) → new.firsts ≡ old.firsts → meets test told new.open_files ≡ true → all_meet test told old ≡ true → all_meet test told new ≡ true
 all-on test told old new firsts on h =
-    both (passes test told new.open_files) (firsts_pass test new.firsts.items) on (ap (λ fs. firsts_pass test fs.items) firsts ∙ both-right (passes test told old.open_files) (firsts_pass test old.firsts.items) h)
+    both (meets test told new.open_files) (firsts_meet test new.firsts.items) on (ap (λ fs. firsts_meet test fs.items) firsts ∙ both-right (meets test told old.open_files) (firsts_meet test old.firsts.items) h)
 
 -- a step of the open files
-pub all-look : (A : Type 0) (test : Test) (told : Told) (r : Lines) (o : OpenFiles) (result : Result A ResolveError) (before now : Option (List Bytes)) → all_pass test told r ≡ true → TellsFailed test result before now × OnOk result (passes test told o ≡ true)
-    → TellsFailed test result before now × OnOk result (all_pass test told (record r { open_files = o }) ≡ true)
+pub all-look : (A : Type 0) (test : Test) (told : Told) (r : Lines) (o : OpenFiles) (result : Result A ResolveError) (before now : Option (List Bytes)) → all_meet test told r ≡ true → TellsFailed test result before now × OnOk result (meets test told o ≡ true)
+    → TellsFailed test result before now × OnOk result (all_meet test told (record r { open_files = o }) ≡ true)
 all-look A test told r o (Ok x) before now h step = (step.0, all-on test told r (record r { open_files = o }) refl step.1 h)
 all-look A test told r o (Err e) before now h step = (step.0, tt)
 

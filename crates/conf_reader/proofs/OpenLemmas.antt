@@ -1,4 +1,4 @@
--- Steps of open files: one is closed, a path is passed over, a file is opened.
+-- Steps of open files: one is closed, a path is skipped, a file is opened.
 use Rattle.std.proofs.Common.{◌≡◌, ℕ, zero, suc, ◌+◌, ◌<◌, ◌≤◌, Bool, true, false, cond, eqb, List, [], ◌∷◌, ◌++◌, length, take, drop, Option, Some, None, Ok, refl, sym, ap, ◌∙◌, append_assoc, arith}
 use Rattle.std.specs.Prelude.{flat_map, option_to_list, nat_lt, IfSome, IsSome}
 use Rattle.std.specs.List.{slice_get}
@@ -79,7 +79,7 @@ pub closes-top : (told : Told) (place : ℕ) (blocks : Blocks) (o : OpenFiles) (
 closes-top told place blocks o below None t top some ended same = absurd (let k : false ≡ true = some in cc)
 closes-top told place blocks o below (Some f) t top some ended same = open-closes told place blocks o below t f top ended.0 ended.1 same
 
--- a path that names no file is passed over
+-- a path that names no file is skipped
 skipped-files : (told : Told) (source : Source) (f : OpenFile) (path : Bytes) → f.include ≡ None → slice_get f.named f.next ≡ Some path → told.content path ≡ None
     → frame_files told source (record f { next = f.next + 1 }) ≡ frame_files told source f
 skipped-files told source f path include named none =

@@ -49,9 +49,9 @@ gone-none told source f next s = let none : drop f.next f.named ≡ [] = drop_of
 low-top : (o : OpenFiles) → length o.below.items ≤ depth_limit → top_depth 0 o.below.items ≤ depth_limit
 low-top o few = let k = top-depth 0 o.below.items in omega (arith, k, few)
 
-pub passes-comment : (told : Told) (place : ℕ) (blocks : Blocks) (o : OpenFiles) (f : OpenFile) (next : ℕ) → length o.below.items ≤ depth_limit → o.top ≡ Some f → IsSettled f → NextLine f next (Ok Comment)
+pub comment-left : (told : Told) (place : ℕ) (blocks : Blocks) (o : OpenFiles) (f : OpenFile) (next : ℕ) → length o.below.items ≤ depth_limit → o.top ≡ Some f → IsSettled f → NextLine f next (Ok Comment)
     → PassesComment told place blocks o (record o { top = Some (gone next None f) })
-passes-comment told place blocks o f next few top s n =
+comment-left told place blocks o f next few top s n =
     let fs = o.below.items in
     let source = source_of o.system in
     let cur-o = cond o.fresh (take (length fs) blocks) blocks in
@@ -174,11 +174,11 @@ gives-line told place blocks o f next said given few size top s n by =
 
 -- ---- as the code needs them
 
-pub passes-top : (told : Told) (place : ℕ) (blocks : Blocks) (o : OpenFiles) (t : Option OpenFile) (next : Next) → o.top ≡ t → IsSome t → length o.below.items ≤ depth_limit → IfSome t (λ f. IsSettled f × (f.at < length f.text)) → IfSome t (λ f. HeadIs f (Ok next)) → next.said ≡ None
+pub comment-top : (told : Told) (place : ℕ) (blocks : Blocks) (o : OpenFiles) (t : Option OpenFile) (next : Next) → o.top ≡ t → IsSome t → length o.below.items ≤ depth_limit → IfSome t (λ f. IsSettled f × (f.at < length f.text)) → IfSome t (λ f. HeadIs f (Ok next)) → next.said ≡ None
     → PassesComment told place blocks o (record o { top = option_map (gone next.next None) t })
-passes-top told place blocks o None next top some few line head said = absurd (let k : false ≡ true = some in cc)
-passes-top told place blocks o (Some f) next top some few line head said =
-    passes-comment told place blocks o f next.next few top line.0 (rw (ap heading_of said) at head)
+comment-top told place blocks o None next top some few line head said = absurd (let k : false ≡ true = some in cc)
+comment-top told place blocks o (Some f) next top some few line head said =
+    comment-left told place blocks o f next.next few top line.0 (rw (ap heading_of said) at head)
 
 pub gives-top : (told : Told) (place : ℕ) (blocks : Blocks) (o : OpenFiles) (t : Option OpenFile) (next : Next) (said : Said) (given : ConfLine) → o.top ≡ t → IsSome t → length o.below.items ≤ depth_limit → length o.below.items ≤ length blocks
     → IfSome t (λ f. IsSettled f × (f.at < length f.text)) → IfSome t (λ f. HeadIs f (Ok next)) → next.said ≡ Some said → IfSome t (λ f. GivenBy o f said given)

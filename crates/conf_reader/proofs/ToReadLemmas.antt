@@ -224,11 +224,11 @@ closes-reads told o below None t top some ended same = absurd (let k : false ≡
 closes-reads told o below (Some f) t top some ended same =
     top-reads told o f top ∙ ap (λ xs. xs ++ files_read told (source_of o.system) 0 o.below.items) (closed-reads told (source_of o.system) (0 + length o.below.items) f ended.0 ended.1) ∙ ap (files_read told (source_of o.system) 0) same
 
--- a comment is passed
-pub passes-reads : (told : Told) (o : OpenFiles) (t : Option OpenFile) (next : Next) → o.top ≡ t → IsSome t → IfSome t (λ f. IsSettled f × (f.at < length f.text)) → IfSome t (λ f. HeadIs f (Ok next)) → next.said ≡ None
+-- a comment names nothing to read
+pub comment-reads : (told : Told) (o : OpenFiles) (t : Option OpenFile) (next : Next) → o.top ≡ t → IsSome t → IfSome t (λ f. IsSettled f × (f.at < length f.text)) → IfSome t (λ f. HeadIs f (Ok next)) → next.said ≡ None
     → open_reads told o ≡ open_reads told (record o { top = option_map (gone next.next None) t })
-passes-reads told o None next top some line head said = absurd (let k : false ≡ true = some in cc)
-passes-reads told o (Some f) next top some line head said =
+comment-reads told o None next top some line head said = absurd (let k : false ≡ true = some in cc)
+comment-reads told o (Some f) next top some line head said =
     let source = source_of o.system in
     let n = rw (ap heading_of said) at head in
     changed-reads told o f (gone next.next None f) top (taken-reads told source (0 + length o.below.items) f next.next None n.bytes line.0 n.is (comment-names told source f next.next n.bytes line.0 n.head))
@@ -273,9 +273,9 @@ first-next told r f top below named =
 pub first-some : (told : Told) (r : Lines) (f : FirstFile) → r.open_files.top ≡ None → r.open_files.below.items ≡ [] → slice_get r.firsts.items r.next_first ≡ Some f → (rest : List Bytes) × (all_read told r ≡ f.path ∷ rest)
 first-some told r f top below named = (_, first-next told r f top below named)
 
-pub first-passed : (told : Told) (r : Lines) (f : FirstFile) → r.open_files.top ≡ None → r.open_files.below.items ≡ [] → slice_get r.firsts.items r.next_first ≡ Some f → told.content f.path ≡ None
+pub first-skipped : (told : Told) (r : Lines) (f : FirstFile) → r.open_files.top ≡ None → r.open_files.below.items ≡ [] → slice_get r.firsts.items r.next_first ≡ Some f → told.content f.path ≡ None
     → all_read told r ≡ f.path ∷ all_read told (record r { next_first = r.next_first + 1 })
-first-passed told r f top below named none =
+first-skipped told r f top below named none =
     let rest = flat_map (first_reads told) (drop (r.next_first + 1) r.firsts.items) in
     first-next told r f top below named ∙ ap (λ b. f.path ∷ (b ++ rest)) (nobody-below (source_of f.system) told (suc depth_limit) f.path none)
     ∙ ap (λ o. f.path ∷ (o ++ rest)) (sym (none-open told r.open_files top below))

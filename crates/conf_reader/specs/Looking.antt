@@ -67,24 +67,24 @@ to_look told source f = elim f.include [
 ]
 
 -- whether all that an open file has still to look at may be told at its last line
-abbrev pub passes_in : Test → Told → Source → OpenFile → Bool
-passes_in test told source f = list_all (test f.path (f.number - 1)) (to_look told source f)
+abbrev pub meets_in : Test → Told → Source → OpenFile → Bool
+meets_in test told source f = list_all (test f.path (f.number - 1)) (to_look told source f)
 
 -- the same of all open files
-abbrev pub passes : Test → Told → OpenFiles → Bool
-passes test told o = list_all (passes_in test told (source_of o.system)) (stack o)
+abbrev pub meets : Test → Told → OpenFiles → Bool
+meets test told o = list_all (meets_in test told (source_of o.system)) (stack o)
 
 -- whether each first file may be told before its first line
-abbrev pub firsts_pass : Test → List FirstFile → Bool
-firsts_pass test firsts = list_all (λ f. test f.path 0 f.path) firsts
+abbrev pub firsts_meet : Test → List FirstFile → Bool
+firsts_meet test firsts = list_all (λ f. test f.path 0 f.path) firsts
 
 -- whether all that a reader has still to look at may be told there
-abbrev pub all_pass : Test → Told → Lines → Bool
-all_pass test told r = passes test told r.open_files && firsts_pass test r.firsts.items
+abbrev pub all_meet : Test → Told → Lines → Bool
+all_meet test told r = meets test told r.open_files && firsts_meet test r.firsts.items
 
 -- whether all that a given line looks at may be told at it
-abbrev pub line_passes : Test → Told → Source → ConfLine → Bool
-line_passes test told source line = if same_word line.keyword (codes "include")
+abbrev pub line_meets : Test → Told → Source → ConfLine → Bool
+line_meets test told source line = if same_word line.keyword (codes "include")
     then list_all (test line.file line.number) (looks_at source told line.rest) else true
 
 -- one more path failed, and it may be told there
@@ -92,7 +92,7 @@ pub record FailsAt (test : Test) (file : Bytes) (number : ℕ) (before now : Opt
     Type 0 where
   pub path : Bytes
   pub is : now ≡ option_map (λ failed. failed ++ path ∷ []) before
-  pub passes : test file number path ≡ true
+  pub meets : test file number path ≡ true
 
 -- a failed read is told where its path may be, and no other answer comes behind one, nor does want
 -- of memory
@@ -104,88 +104,89 @@ TellsFailed test (Err (At file number causes.ReadFault)) before now =
     FailsAt test file number before now
 TellsFailed test (Err (At file number cause)) before now = now ≡ before
 
--- behind a line that was given, all that is still to be looked at passes, where the line's own does
+-- behind a line that was given, all that is still to be looked at meets the test, where the line's
+-- own does
 abbrev pub LooksOn : Test → Told → Lines → Result (Option ConfLine) ResolveError → Type 0
 LooksOn test told new (Ok (Some line)) =
-    line_passes test told (source_of new.open_files.system) line ≡ true
-    → passes test told new.open_files ≡ true
+    line_meets test told (source_of new.open_files.system) line ≡ true
+    → meets test told new.open_files ≡ true
 LooksOn test told new result = Unit {0}
 
 -- ---- what steps do
 
--- what passes goes on passing
+-- what meets a test goes on meeting it
 abbrev pub KeepsLooks : OpenFiles → OpenFiles → Type 0
 KeepsLooks old new =
-    (told : Told) (test : Test) → passes test told old ≡ true → passes test told new ≡ true
+    (told : Told) (test : Test) → meets test told old ≡ true → meets test told new ≡ true
 
--- the same of a line that is taken, where what it looks at passes
+-- the same of a line that is taken, where what it looks at meets the test
 abbrev pub TakesLooks : OpenFiles → OpenFiles → Result (Option ConfLine) ResolveError → Type 0
 TakesLooks old new (Ok None) = KeepsLooks old new
 TakesLooks old new (Ok (Some line)) =
-    (told : Told) (test : Test) → passes test told old ≡ true
-    → line_passes test told (source_of new.system) line ≡ true → passes test told new ≡ true
+    (told : Told) (test : Test) → meets test told old ≡ true
+    → line_meets test told (source_of new.system) line ≡ true → meets test told new ≡ true
 TakesLooks old new (Err e) = Unit {0}
 
--- whatever test all passes that is still to be looked at, a failed read passes it where it is told,
--- and so does what is then left
+-- whatever test is met by all that is still to be looked at, a failed read meets it where it is
+-- told, and so does what is then left
 abbrev pub MovesLooks : {A : Type 0} → Option (List Bytes) → Option (List Bytes)
     → OpenFiles → OpenFiles → Result A ResolveError → Type 0
 MovesLooks failed now old new result =
-    (told : Told) (test : Test) → passes test told old ≡ true
-    → TellsFailed test result failed now × OnOk result (passes test told new ≡ true)
+    (told : Told) (test : Test) → meets test told old ≡ true
+    → TellsFailed test result failed now × OnOk result (meets test told new ≡ true)
 
 -- the same of one that looks at the machine too, where files tell
 abbrev pub ExpandsLooks : {A : Type 0} → Option (List Pair) → Facts → Bytes → Option (List Bytes)
     → Option (List Bytes) → OpenFiles → OpenFiles → Result A ResolveError → Type 0
 ExpandsLooks files facts original failed now old new result =
     (told : Told) (test : Test) → TellsFiles files told → told.facts ≡ facts
-    → told.asked.original ≡ original → passes test told old ≡ true
-    → TellsFailed test result failed now × OnOk result (passes test told new ≡ true)
+    → told.asked.original ≡ original → meets test told old ≡ true
+    → TellsFailed test result failed now × OnOk result (meets test told new ≡ true)
 
 -- ---- the same over all files
 
 abbrev pub AllLook : {A : Type 0} → Option (List Bytes) → Option (List Bytes)
     → Lines → Lines → Result A ResolveError → Type 0
 AllLook failed now old new result =
-    (told : Told) (test : Test) → all_pass test told old ≡ true
-    → TellsFailed test result failed now × OnOk result (all_pass test told new ≡ true)
+    (told : Told) (test : Test) → all_meet test told old ≡ true
+    → TellsFailed test result failed now × OnOk result (all_meet test told new ≡ true)
 
 -- one that looks at the machine too
 abbrev pub AllExpandLooks : {A : Type 0} → Option (List Pair) → Facts → Bytes → Option (List Bytes)
     → Option (List Bytes) → Lines → Lines → Result A ResolveError → Type 0
 AllExpandLooks files facts original failed now old new result =
     (told : Told) (test : Test) → TellsFiles files told → told.facts ≡ facts
-    → told.asked.original ≡ original → all_pass test told old ≡ true
-    → TellsFailed test result failed now × OnOk result (all_pass test told new ≡ true)
+    → told.asked.original ≡ original → all_meet test told old ≡ true
+    → TellsFailed test result failed now × OnOk result (all_meet test told new ≡ true)
 
 -- behind one line
 abbrev pub StepsOn : Test → Told → Lines → Result Step ResolveError → Type 0
-StepsOn test told new (Ok steps.Comment) = all_pass test told new ≡ true
+StepsOn test told new (Ok steps.Comment) = all_meet test told new ≡ true
 StepsOn test told new (Ok (steps.Given line)) =
-    line_passes test told (source_of new.open_files.system) line ≡ true
-    → passes test told new.open_files ≡ true
+    line_meets test told (source_of new.open_files.system) line ≡ true
+    → meets test told new.open_files ≡ true
 StepsOn test told new result = Unit {0}
 
 -- one line
 abbrev pub StepLooks : Option (List Bytes) → Option (List Bytes)
     → Lines → Lines → Result Step ResolveError → Type 0
 StepLooks failed now old new result =
-    (told : Told) (test : Test) → all_pass test told old ≡ true
+    (told : Told) (test : Test) → all_meet test told old ≡ true
     → TellsFailed test result failed now × StepsOn test told new result
 
 -- the next line that says something
 abbrev pub LineLooks : Option (List Bytes) → Option (List Bytes)
     → Lines → Lines → Result (Option ConfLine) ResolveError → Type 0
 LineLooks failed now old new result =
-    (told : Told) (test : Test) → all_pass test told old ≡ true
+    (told : Told) (test : Test) → all_meet test told old ≡ true
     → TellsFailed test result failed now × LooksOn test told new result
 
--- where files tell, with these facts: whatever test all passes that is still to be looked at, a
--- failed read passes it where it is told, and so does what is to be looked at behind a line that is
+-- where files tell, with these facts: whatever test is met by all that is still to be looked at, a
+-- failed read meets it where it is told, and so does what is to be looked at behind a line that is
 -- given
 abbrev pub Looks : Option (List Pair) → Facts → Bytes → Option (List Bytes) → Option (List Bytes)
     → Lines → Lines → Result (Option ConfLine) ResolveError → Type 0
 Looks files facts original failed now old new result =
     (told : Told) (test : Test) → TellsFiles files told → told.facts ≡ facts
-    → told.asked.original ≡ original → all_pass test told old ≡ true
+    → told.asked.original ≡ original → all_meet test told old ≡ true
     → TellsFailed test result failed now × LooksOn test told new result

@@ -90,25 +90,25 @@ impl From<OutOfMemory> for LineError {
     }
 }
 
-/// The refusal of a line of a file; line 0 is the file itself.
-pub fn refuse(alloc: Global, file: &[u8], line: u64, error: LineError) -> ResolveError
-    ensures { Refuses error file.now line result }
-{
-    match error {
-        LineError::OutOfMemory => ResolveError::OutOfMemory,
-        LineError::Refused(cause) => match Text::copy(alloc, file) {
-            Ok(file) => ResolveError::At { file, line, cause },
-            Err(_) => ResolveError::OutOfMemory,
-        },
+impl LineError {
+    /// The refusal of a line of a file, whose path is given away for it; line 0 is the file itself.
+    /// It takes no memory.
+    pub fn at(self, file: Text, line: u64) -> ResolveError
+        ensures { result ≡ refused_at self file line }
+    {
+        match self {
+            LineError::OutOfMemory => ResolveError::OutOfMemory,
+            LineError::Refused(cause) => ResolveError::At { file, line, cause },
+        }
     }
 }
 
-/// The refusal of a line of a file whose path is given away for it; it takes no memory.
-pub fn refuse_in(file: Text, line: u64, error: LineError) -> ResolveError
-    ensures { result ≡ refused_at error file line }
+/// The refusal of a line of a file, with a copy of the file's path.
+pub fn refuse(alloc: Global, file: &[u8], line: u64, error: LineError) -> ResolveError
+    ensures { Refuses error file.now line result }
 {
-    match error {
-        LineError::OutOfMemory => ResolveError::OutOfMemory,
-        LineError::Refused(cause) => ResolveError::At { file, line, cause },
+    match Text::copy(alloc, file) {
+        Ok(file) => error.at(file, line),
+        Err(_) => ResolveError::OutOfMemory,
     }
 }

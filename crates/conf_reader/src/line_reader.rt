@@ -51,7 +51,7 @@ fn copied_facts(alloc: Global, facts: &Facts) -> Result<Facts, OutOfMemory>
     })
 }
 
-/// Adds a first file.
+/// Adds a first file. It stands apart for its contract alone, which sees the items.
 fn put(
     firsts: &mut Vec<FirstFile>,
     system: bool,
@@ -128,7 +128,7 @@ impl LineReader {
     ghost use Rattle.conf_reader.specs.Moving.{ReadsFor};
     ghost use Rattle.conf_reader.specs.Reads.{IsGivenFrom, IsOver, open_count, is_spent};
     ghost use Rattle.conf_reader.specs.Results.{HasReadCause, is_run_fault};
-    ghost use Rattle.conf_reader.specs.Looking.{Test, passes, Looks};
+    ghost use Rattle.conf_reader.specs.Looking.{Test, meets, Looks};
     ghost use Rattle.conf_reader.specs.ToRead.{NextNotesFor, all_read};
     ghost use Rattle.conf_rules.specs.ReadOrder.{read_once};
 
@@ -144,7 +144,7 @@ impl LineReader {
         ensures firsts { IfOk result (λ reader. reader.lines.firsts.items
             ≡ firsts_of facts.now.home asked.now.from) }
         ensures looks { IfOk result (λ reader. (test : Test) (told : Told)
-            → passes test told reader.lines.open_files ≡ true) }
+            → meets test told reader.lines.open_files ≡ true) }
         ensures reads { IfOk result (λ reader. (told : Told) → told.facts ≡ known facts.now
             → all_read told reader.lines ≡ read_once told asked.now.from) }
         ensures read { IfOk result (λ reader. reader.lines.read ≡ 0) }

@@ -70,11 +70,12 @@ impl OpenFile {
         self.named.get(self.next)
     }
 
-    /// Passes the path over that is opened next.
-    pub fn pass(&mut self)
+    /// Skips the path that is opened next.
+    pub fn skip(&mut self)
         requires { self.old.next < length self.old.named }
         ensures { self.new ≡ record self.old { next = self.old.next + 1 } }
     {
+        // Always so; the proof needs it for the sum.
         if self.next < self.named.len() {
             self.next += 1;
         }

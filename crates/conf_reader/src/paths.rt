@@ -142,7 +142,7 @@ fn joined(alloc: Global, base: &[u8], name: &[u8]) -> Result<Text, OutOfMemory>
     Ok(path)
 }
 
-/// Adds a path.
+/// Adds a path. It stands apart for its contract alone, which sees the items.
 fn put(paths: &mut Vec<Text>, path: Text) -> Result<(), OutOfMemory>
     ensures { OnOk result (paths.new.items ≡ paths.old.items ++ path ∷ []) }
 {
@@ -253,39 +253,38 @@ fn sort(texts: &mut Vec<Text>) -> Result<(), OutOfMemory>
     Ok(())
 }
 
-/// Adds copies of texts.
-fn add_all(alloc: Global, texts: &mut Texts, more: &[Text]) -> Result<(), OutOfMemory>
-    ensures { OnOk result (texts.new ≡ texts.old ++ more.now) }
+/// Adds texts.
+fn add_all(texts: &mut Texts, more: Vec<Text>) -> Result<(), OutOfMemory>
+    ensures { OnOk result (texts.new ≡ texts.old ++ more.items) }
 {
     for text in more {
-        texts.push(Text::copy(alloc, text.as_bytes())?)?;
+        texts.push(text)?;
     }
     Ok(())
 }
 
 /// The paths that an absolute path stands for, in the order of their bytes.
 #[tactic(auto, unfolding(conf_rules::specs::Includes::globbed))]
-fn globbed<F: Files>(alloc: Global, path: &[u8], files: &mut F) -> Result<Texts, FileError>
+fn globbed<F: Files>(alloc: Global, path: &[u8], files: &mut F) -> Result<Vec<Text>, FileError>
     ensures found { (told : Told) → TellsFiles (F.told files.old) told
-        → IfOk result (λ paths. paths ≡ globbed told path.now) }
+        → IfOk result (λ paths. paths.items ≡ globbed told path.now) }
     ensures cause { HasCause result (F.faults files.old) (F.faults files.new) }
     ensures failed { (told : Told) → TellsFiles (F.told files.old) told
         → FileFails (folders_of told path.now) result (F.failed files.old) (F.failed files.new) }
     ensures noted { F.readings files.new ≡ F.readings files.old }
     ensures told { F.told files.new ≡ F.told files.old }
 {
-    let mut found = Texts::new(alloc);
     if !is_glob(path) {
-        found.push(Text::copy(alloc, path)?)?;
-        return Ok(found);
+        let mut alone = Vec::new(alloc);
+        put(&mut alone, Text::copy(alloc, path)?)?;
+        return Ok(alone);
     }
     if ends_with_slash(path) {
-        return Ok(found);
+        return Ok(Vec::new(alloc));
     }
     let mut paths = along(alloc, path, files)?;
     sort(&mut paths)?;
-    add_all(alloc, &mut found, paths.as_slice())?;
-    Ok(found)
+    Ok(paths)
 }
 
 /// The paths that absolute paths stand for.
@@ -302,7 +301,7 @@ fn all_globbed<F: Files>(alloc: Global, paths: &Texts, files: &mut F) -> Result<
     let mut all = Texts::new(alloc);
     for path in paths.as_slice() {
         let found = globbed(alloc, path.as_bytes(), files)?;
-        add_all(alloc, &mut all, found.as_slice())?;
+        add_all(&mut all, found)?;
     }
     Ok(all)
 }

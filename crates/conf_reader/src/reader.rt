@@ -10,7 +10,7 @@ ghost use Rattle.conf_reader.specs.Looking.{FirstFails};
 ghost use Rattle.conf_reader.specs.Results.{HasFilesCause};
 ghost use Rattle.conf_reader.specs.ToRead.{NotesFirst};
 
-use crate::errors::{LineError, refuse, refuse_in};
+use crate::errors::{LineError, refuse};
 use crate::files::{Found, read_file};
 use crate::line::ConfLine;
 use crate::open_file::OpenFile;
@@ -43,7 +43,7 @@ pub enum Step {
 pub struct Lines {
     pub alloc: Global,
     pub firsts: Vec<FirstFile>,
-    /// How many of them were opened or passed over.
+    /// How many of them were opened or skipped.
     pub next_first: usize,
     pub open_files: OpenFiles,
     /// How many lines were read.
@@ -63,7 +63,7 @@ fn first_found<F: Files>(alloc: Global, path: &[u8], files: &mut F) -> Result<Fo
     let given = Text::copy(alloc, path)?;
     match read_file(path, files) {
         Ok(found) => Ok(found),
-        Err(FileError::Failed) => Err(refuse_in(given, 0, LineError::Refused(Cause::ReadFault))),
+        Err(FileError::Failed) => Err(LineError::Refused(Cause::ReadFault).at(given, 0)),
         Err(FileError::OutOfMemory) => Err(ResolveError::OutOfMemory),
     }
 }
@@ -131,8 +131,8 @@ impl Lines {
         Ok(())
     }
 
-    /// Passes a first file over that isn't there.
-    fn pass(&mut self)
+    /// Skips a first file that isn't there.
+    fn skip(&mut self)
         requires none { self.old.open_files.top ≡ None }
         requires ready { IsReady self.old.open_files }
         requires next { self.old.next_first < length self.old.firsts.items }
@@ -144,6 +144,7 @@ impl Lines {
             → all_read told self.old ≡ f.path ∷ all_read told self.new) }
         ensures others { self.new ≡ record self.old { next_first = self.old.next_first + 1 } }
     {
+        // Always so; the proof needs it for the sum.
         if self.next_first < self.firsts.len() {
             self.next_first += 1;
         }
@@ -195,7 +196,7 @@ impl Lines {
                 if required {
                     return Err(self.file_refusal(Cause::NoFile));
                 }
-                self.pass();
+                self.skip();
                 Ok(true)
             }
             Found::TooLarge => Err(self.file_refusal(Cause::TooLarge)),
@@ -235,7 +236,8 @@ impl Lines {
         }
     }
 
-    /// Goes to the next line of the open files.
+    /// Goes to the next line of the open files. It stands apart for its proof alone: what is so of open
+    /// files is so of all lines.
     fn settle<F: Files>(&mut self, files: &mut F) -> Result<bool, ResolveError>
         requires ready { IsReady self.old.open_files }
         ensures moves { AllMove (F.told files.old) self.old self.new result }

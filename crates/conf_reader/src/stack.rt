@@ -4,7 +4,7 @@ ghost use Rattle.conf_rules.specs.Sources.{depth_limit, size_limit};
 ghost use Rattle.conf_rules.specs.Told.{Told};
 ghost use Rattle.conf_reader.specs.Blocks.{Blocks};
 
-use crate::errors::{LineError, refuse, refuse_in};
+use crate::errors::{LineError, refuse};
 use crate::files::{Found, read_file};
 use crate::open_file::OpenFile;
 use conf_rules::{Cause, MAX_DEPTH, ResolveError};
@@ -72,7 +72,7 @@ impl OpenFiles {
         self.fresh = false;
     }
 
-    /// Passes the path over that is opened next, where there is no file.
+    /// Skips the path that is opened next, where there is no file.
     pub fn skip(&mut self)
         requires ready { IsReady self.old }
         requires named { NamesPath self.old.top }
@@ -88,7 +88,7 @@ impl OpenFiles {
             → open_reads told self.old ≡ path ∷ open_reads told self.new) }
     {
         if let Some(top) = &mut self.top {
-            top.pass();
+            top.skip();
         }
     }
 
@@ -117,7 +117,7 @@ impl OpenFiles {
             unreachable!()
         };
         let path = Text::copy(self.alloc, path.as_bytes())?;
-        top.pass();
+        top.skip();
         self.below.push(top)?;
         self.top = Some(OpenFile::begin(self.alloc, path, text));
         self.fresh = true;
@@ -147,7 +147,7 @@ impl OpenFiles {
         let Some(top) = self.top.take() else {
             unreachable!()
         };
-        refuse_in(top.path, top.number.saturating_sub(1), error)
+        error.at(top.path, top.number.saturating_sub(1))
     }
 
     /// The refusal of the file that is opened next.

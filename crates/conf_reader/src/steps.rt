@@ -20,7 +20,7 @@ impl Lines {
     ghost use Rattle.conf_reader.specs.Moving.{KeepsBounds, AllExpand, TakesOne, ReadsOver, ReadsFor};
     ghost use Rattle.conf_reader.specs.Results.{HasFilesCause};
     ghost use Rattle.conf_reader.specs.Between.{is_ended};
-    ghost use Rattle.conf_reader.specs.Looking.{Test, passes, StepLooks, LineLooks, AllExpandLooks, Looks};
+    ghost use Rattle.conf_reader.specs.Looking.{Test, meets, StepLooks, LineLooks, AllExpandLooks, Looks};
     ghost use Rattle.conf_reader.specs.ToRead.{StepNotes, NextNotes, AllExpandNotes, NextNotesFor, all_read};
 
     /// Takes one line of all files.
@@ -80,7 +80,7 @@ impl Lines {
         }
     }
 
-    /// Finds the files that the last line includes.
+    /// Finds the files that the last line includes. It stands apart for its proof alone.
     fn expand<F: Files>(
         &mut self,
         facts: &Facts,
@@ -136,7 +136,7 @@ impl Lines {
         ensures firsts { self.new.firsts ≡ self.old.firsts }
         ensures bounded { Bounded self.new.open_files 0 }
         ensures looks { (told : Told) (test : Test)
-            → passes test told self.new.open_files ≡ true }
+            → meets test told self.new.open_files ≡ true }
         ensures reads { (told : Told) → all_read told self.new ≡ [] }
     {
         self.open_files = OpenFiles::new(self.alloc);

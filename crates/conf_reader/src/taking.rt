@@ -46,6 +46,7 @@ impl OpenFiles {
         ensures { self.new ≡ record self.old { top = option_map (gone next include) self.old.top } }
     {
         if let Some(top) = &mut self.top {
+            // For the proof alone, which learns from it that the number has a successor.
             let _end = top.text.as_bytes().len();
             top.at = next;
             top.number += 1;

@@ -18,7 +18,7 @@ use Rattle.conf_reader.specs.Firsts.{firsts_of}
 use Rattle.conf_reader.specs.Left.{left}
 use Rattle.conf_reader.specs.Reads.{GivesNext}
 use Rattle.conf_reader.specs.Results.{is_run_fault, is_fault_at}
-use Rattle.conf_reader.specs.Looking.{Test, all_pass, TellsFailed}
+use Rattle.conf_reader.specs.Looking.{Test, all_meet, TellsFailed}
 use Rattle.conf_fold.specs.declared.fold.Fold.{Fold}
 use Rattle.conf_fold.specs.Begins.{asked_rows, asked_again, SecondBegins}
 use Rattle.conf_fold.specs.Results.{FailsAt, HasRunCause}
@@ -48,7 +48,7 @@ row-front told pass rows place line rest = on (is_refused (next_row told pass ro
 
 -- a failed read
 pub read-stands : (told : Told) (pass : Pass) (fold : Fold) (old : Lines) (final first : List Row) (start now before : Commands) (u : Underway told pass fold old final first start now) (e : ResolveError) (failed failed-mid failed-now : FailedPaths) → failed-mid ≡ failed
-    → ((test : Test) → all_pass test told old ≡ true → TellsFailed {A = Option ConfLine} test (Err e) failed-mid failed-now) → is_run_fault e ≡ false → old.firsts.items ≡ firsts_of told.facts.home told.asked.from → RanAll before start (commands first)
+    → ((test : Test) → all_meet test told old ≡ true → TellsFailed {A = Option ConfLine} test (Err e) failed-mid failed-now) → is_run_fault e ≡ false → old.firsts.items ≡ firsts_of told.facts.home told.asked.from → RanAll before start (commands first)
     → FaultStands told final e before now failed failed-now
 read-stands told pass fold old final first start now before u errors.OutOfMemory failed failed-mid failed-now same tells quiet firsts began = tt
 read-stands told pass fold old final first start now before u (errors.At file number causes.RunFault) failed failed-mid failed-now same tells quiet firsts began = absurd cc
@@ -62,7 +62,7 @@ read-stands told pass fold old final first start now before u (errors.At file nu
       ran = u.ran before began;
       path = fails.path;
       is = fails.is ∙ ap (option_map (λ paths. paths ++ fails.path ∷ [])) same;
-      place = told-place told u.rows file number fails.path fails.passes;
+      place = told-place told u.rows file number fails.path fails.meets;
     }
 read-stands told pass fold old final first start now before u (errors.At file number cause) failed failed-mid failed-now same tells quiet firsts began = tt
 

@@ -21,7 +21,7 @@ use Rattle.conf_reader.specs.declared.reader.Lines.{Lines}
 use Rattle.conf_reader.specs.Blocks.{Blocks, IsLine}
 use Rattle.conf_reader.specs.Firsts.{firsts_of}
 use Rattle.conf_reader.specs.Left.{source_of, stack}
-use Rattle.conf_reader.specs.Looking.{to_look, passes_in, passes, firsts_pass, all_pass, line_passes}
+use Rattle.conf_reader.specs.Looking.{to_look, meets_in, meets, firsts_meet, all_meet, line_meets}
 use Rattle.conf_resolve.specs.Faults.{LooksFrom, IsFirst}
 
 -- ---- lists
@@ -49,7 +49,7 @@ found-next : {X : Type 0} (p : X → Bool) (x : X) (xs : List X) (t : Bool) → 
 found-next p x xs true h e later = (0, (x, (refl, h)))
 found-next p x xs false h e later = let l = later (rw h at e) in (suc l.0, l.1)
 
--- the place of one that passes
+-- the place of one that meets it
 found : {X : Type 0} (p : X → Bool) (xs : List X) → list_any p xs ≡ true → (at : ℕ) × ((x : X) × ((slice_get xs at ≡ Some x) × (p x ≡ true)))
 found p [] e = absurd cc
 found p (x ∷ xs) e = found-next p x xs (p x) refl e (λ h. found p xs h)
@@ -100,9 +100,9 @@ more-told : (told : Told) (rows more : List Row) (file : Bytes) (number : ℕ) (
 unfolding may_tell
 more-told told rows more file number path e = rw (list_any-append (looks_from told file number path) rows more) (or-more (list_any (looks_from told file number path) rows) _ _ e)
 
-pub passes-more : (told : Told) (rows more : List Row) (o : OpenFiles) → passes (may_tell told rows) told o ≡ true → passes (may_tell told (rows ++ more)) told o ≡ true
-passes-more told rows more o e =
-    all-more (passes_in (may_tell told rows) told (source_of o.system)) (passes_in (may_tell told (rows ++ more)) told (source_of o.system)) (stack o)
+pub meets-more : (told : Told) (rows more : List Row) (o : OpenFiles) → meets (may_tell told rows) told o ≡ true → meets (may_tell told (rows ++ more)) told o ≡ true
+meets-more told rows more o e =
+    all-more (meets_in (may_tell told rows) told (source_of o.system)) (meets_in (may_tell told (rows ++ more)) told (source_of o.system)) (stack o)
     (λ f h. all-more (may_tell told rows f.path (f.number - 1)) (may_tell told (rows ++ more) f.path (f.number - 1)) (to_look told (source_of o.system) f) (λ path k. more-told told rows more f.path (f.number - 1) path k) h) e
 
 -- ---- first files
@@ -118,13 +118,13 @@ first-told : (told : Told) (rows : List Row) (f : FirstFile) → list_any (same_
 unfolding may_tell same_first
 first-told told rows f e = rw e (or-true (list_any (looks_from told f.path 0 f.path) rows))
 
-firsts-told : (told : Told) (rows : List Row) (firsts : List FirstFile) → firsts ≡ firsts_of told.facts.home told.asked.from → firsts_pass (may_tell told rows) firsts ≡ true
+firsts-told : (told : Told) (rows : List Row) (firsts : List FirstFile) → firsts ≡ firsts_of told.facts.home told.asked.from → firsts_meet (may_tell told rows) firsts ≡ true
 firsts-told told rows firsts e =
     all-more (λ f. list_any (same_first f) firsts) (λ f. may_tell told rows f.path 0 f.path) firsts (λ f h. first-told told rows f (subst (λ fs. list_any (same_first f) fs ≡ true) e h))
     (all-among same_first firsts firsts first-self (λ f h. h))
 
 -- all that a reader has still to look at
-pub all-told : (told : Told) (rows : List Row) (r : Lines) → r.firsts.items ≡ firsts_of told.facts.home told.asked.from → passes (may_tell told rows) told r.open_files ≡ true → all_pass (may_tell told rows) told r ≡ true
+pub all-told : (told : Told) (rows : List Row) (r : Lines) → r.firsts.items ≡ firsts_of told.facts.home told.asked.from → meets (may_tell told rows) told r.open_files ≡ true → all_meet (may_tell told rows) told r ≡ true
 all-told told rows r firsts e = rw e (firsts-told told rows r.firsts.items firsts)
 
 -- ---- the row of a line that was given
@@ -134,20 +134,20 @@ unfolding may_tell
 own-told told rows row file number path f n h =
     rw (list_any-append (looks_from told file number path) rows (row ∷ []), (bytes_eq-Decides row.line.file file).1 f, eq-eqb row.line.number number n, h, or-true (list_any (looks_from told file number path) rows)) refl
 
-pub line-told : (told : Told) (rows : List Row) (row : Row) (blocks : Blocks) (given : ConfLine) (line : Line) (source : Source) → row.line ≡ line → IsLine given blocks line → line.source ≡ source → line_passes (may_tell told (rows ++ row ∷ [])) told source given ≡ true
+pub line-told : (told : Told) (rows : List Row) (row : Row) (blocks : Blocks) (given : ConfLine) (line : Line) (source : Source) → row.line ≡ line → IsLine given blocks line → line.source ≡ source → line_meets (may_tell told (rows ++ row ∷ [])) told source given ≡ true
 line-told told rows row blocks given line source is l from = on (same_word given.keyword (codes "include")) refl
   where
     looked : same_word given.keyword (codes "include") ≡ true → looked_at row.line.source told row.line.content ≡ looks_at source told given.rest
     looked e = rw (is, l.spelled, l.says, e, from) refl
 
-    on : (t : Bool) → same_word given.keyword (codes "include") ≡ t → line_passes (may_tell told (rows ++ row ∷ [])) told source given ≡ true
+    on : (t : Bool) → same_word given.keyword (codes "include") ≡ t → line_meets (may_tell told (rows ++ row ∷ [])) told source given ≡ true
     on false e = rw e refl
     on true e =
         rw e (all-more (λ path. list_any (bytes_eq path) (looks_at source told given.rest)) (may_tell told (rows ++ row ∷ []) given.file given.number) (looks_at source told given.rest)
         (λ path h. own-told told rows row given.file given.number path (ap (λ (x : Line). x.file) is ∙ l.file) (ap (λ (x : Line). x.number) is ∙ l.number) (subst (λ ps. list_any (bytes_eq path) ps ≡ true) (sym (looked e)) h))
         (all-among bytes_eq (looks_at source told given.rest) (looks_at source told given.rest) same-path (λ path h. h)))
 
--- ---- the test that anything passes
+-- ---- the test that anything meets
 
 pub any_place : Bytes → ℕ → Bytes → Bool
 any_place file number path = true
@@ -156,7 +156,7 @@ all-true : {X : Type 0} (p : X → Bool) (xs : List X) → ((x : X) → p x ≡ 
 all-true p [] h = refl
 all-true p (x ∷ xs) h = rw (h x) (all-true p xs h)
 
-pub any-passes : (told : Told) (r : Lines) → all_pass any_place told r ≡ true
+pub any-meets : (told : Told) (r : Lines) → all_meet any_place told r ≡ true
 unfolding any_place
-any-passes told r = rw (all-true (passes_in any_place told (source_of r.open_files.system)) (stack r.open_files) (λ f. all-true (any_place f.path (f.number - 1)) (to_look told (source_of r.open_files.system) f) (λ path. refl)))
+any-meets told r = rw (all-true (meets_in any_place told (source_of r.open_files.system)) (stack r.open_files) (λ f. all-true (any_place f.path (f.number - 1)) (to_look told (source_of r.open_files.system) f) (λ path. refl)))
     (all-true (λ (f : FirstFile). any_place f.path 0 f.path) r.firsts.items (λ f. refl))

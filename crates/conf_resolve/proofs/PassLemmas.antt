@@ -16,7 +16,7 @@ use Rattle.conf_reader.specs.declared.reader.Lines.{Lines}
 use Rattle.conf_reader.specs.Blocks.{Blocks, open_behind}
 use Rattle.conf_reader.specs.Firsts.{firsts_of}
 use Rattle.conf_reader.specs.Left.{left, source_of, Bounded}
-use Rattle.conf_reader.specs.Looking.{Test, passes, all_pass, line_passes}
+use Rattle.conf_reader.specs.Looking.{Test, meets, all_meet, line_meets}
 use Rattle.conf_reader.specs.Reads.{AreIdle, GivesNext, RefusesNext, Reads}
 use Rattle.conf_match.specs.Evaluated.{RanAll, RanSome}
 use Rattle.conf_fold.specs.declared.fold.Fold.{Fold}
@@ -25,7 +25,7 @@ use Rattle.conf_fold.specs.Stands.{Stands, IsNext, next_row, Folds}
 use Rattle.conf_fold.proofs.OrderLemmas.{from, refusal-behind, ok-none, some-refused, rows-on, rows-end, row-line, from-front}
 use Rattle.conf_resolve.specs.Passes.{Commands, commands, AreAgain, StandsFor, Passes, final_rows, file_lines}
 use Rattle.conf_resolve.proofs.IdleLemmas.{idle-many}
-use Rattle.conf_resolve.proofs.IncludeLemmas.{may_tell, passes-more, all-told, line-told}
+use Rattle.conf_resolve.proofs.IncludeLemmas.{may_tell, meets-more, all-told, line-told}
 use Rattle.conf_resolve.proofs.CommandLemmas.{commands-more, commands-quiet, refused-ran, ran-on, ran-some, ran-front}
 
 -- ---- the steps of a pass
@@ -43,7 +43,7 @@ pub record Underway (told : Told) (pass : Pass) (fold : Fold) (reader : Lines) (
   pub final_is : rows_from told entry_of rows (record { pass = pass; line = place }) (left told place blocks reader) ≡ final
   pub again : AreAgain told pass place (left told place blocks reader)
   pub ran : (before : Commands) → RanAll before start (commands first) → RanAll before now (commands rows)
-  pub looks : passes (may_tell told rows) told reader.open_files ≡ true
+  pub looks : meets (may_tell told rows) told reader.open_files ≡ true
 
 take-size : (d : ℕ) (bs : Blocks) → d ≤ length bs → length (take d bs) ≡ d
 take-size zero bs h = refl
@@ -58,7 +58,7 @@ behind-length line place bs h = length-append (take line.depth bs) (_ ∷ []) �
 pub goes-on : (told : Told) (pass : Pass) (fold new : Fold) (old reader : Lines) (final : List Row) (first : List Row) (start now : Commands) (u : Underway told pass fold old final first start now) (line : ConfLine) → GivesNext told u.place u.blocks old reader line
     → ((rows : List Row) (place : ℕ) (l : Line) → Stands told pass fold rows u.blocks → IsNext told pass rows u.blocks line place l → Folds told pass rows u.blocks line place l (Ok tt) new)
     → Bounded reader.open_files (line.depth + 1) → line.depth ≤ length u.blocks → old.firsts.items ≡ firsts_of told.facts.home told.asked.from
-    → ((test : Test) → all_pass test told old ≡ true → line_passes test told (source_of reader.open_files.system) line ≡ true → passes test told reader.open_files ≡ true) → (later : Commands)
+    → ((test : Test) → all_meet test told old ≡ true → line_meets test told (source_of reader.open_files.system) line ≡ true → meets test told reader.open_files ≡ true) → (later : Commands)
     → ((rows : List Row) (place : ℕ) (l : Line) → Stands told pass fold rows u.blocks → IsNext told pass rows u.blocks line place l → RanAll now later (next_row told pass rows place l).ran)
     → Underway told pass new reader final first start later
 goes-on told pass fold new old reader final first start now u line gives folds bounded deep firsts looks later runs =
@@ -84,7 +84,7 @@ goes-on told pass fold new old reader final first start now u line gives folds b
       again = a.again.1;
       ran = λ before r. subst (RanAll before later) (sym (commands-more a.rows row)) (ran-on before now later (commands a.rows) row.ran (subst (RanAll before now) (sym a.ran) (u.ran before r)) (runs a.rows place gives.line a.stands next));
       looks = looks (may_tell told (a.rows ++ row ∷ []))
-          (all-told told (a.rows ++ row ∷ []) old firsts (subst (λ rs. passes (may_tell told rs) told old.open_files ≡ true) behind (passes-more told u.rows (a.more ++ row ∷ []) old.open_files u.looks)))
+          (all-told told (a.rows ++ row ∷ []) old firsts (subst (λ rs. meets (may_tell told rs) told old.open_files ≡ true) behind (meets-more told u.rows (a.more ++ row ∷ []) old.open_files u.looks)))
           (line-told told a.rows row u.blocks line gives.line (source_of reader.open_files.system) (row-line told pass a.rows place gives.line) gives.is_line gives.source);
     }
 

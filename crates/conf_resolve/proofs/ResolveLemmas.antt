@@ -16,7 +16,7 @@ use Rattle.conf_options.specs.Kept.{Given, Keeps}
 use Rattle.conf_match.specs.Evaluated.{RanAll, RanSome}
 use Rattle.conf_reader.specs.declared.reader.Lines.{Lines}
 use Rattle.conf_reader.specs.Left.{left, Bounded}
-use Rattle.conf_reader.specs.Looking.{Test, passes}
+use Rattle.conf_reader.specs.Looking.{Test, meets}
 use Rattle.conf_fold.specs.declared.fold.Fold.{Fold}
 use Rattle.conf_fold.specs.Results.{RanUnless, breaks_off}
 use Rattle.conf_fold.specs.Stands.{Stands, next_row}
@@ -47,7 +47,7 @@ first-begins told fold s none = record {
 }
 
 -- where a pass begins
-pub underway : (told : Told) (pass : Pass) (fold : Fold) (reader : Lines) (rows : List Row) (start : Commands) → Begins told pass fold rows → left told (length told.asked.lines) [] reader ≡ file_lines told → reader.read ≡ 0 → Bounded reader.open_files 0 → ((test : Test) (told : Told) → passes test told reader.open_files ≡ true)
+pub underway : (told : Told) (pass : Pass) (fold : Fold) (reader : Lines) (rows : List Row) (start : Commands) → Begins told pass fold rows → left told (length told.asked.lines) [] reader ≡ file_lines told → reader.read ≡ 0 → Bounded reader.open_files 0 → ((test : Test) (told : Told) → meets test told reader.open_files ≡ true)
     → Underway told pass fold reader (final_rows told pass rows) rows start start
 underway told pass fold reader rows start b is read bounded looks = record {
   rows = rows;

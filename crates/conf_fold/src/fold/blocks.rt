@@ -14,7 +14,7 @@ use conf_match::matches_words;
 use conf_rules::{Criteria, Key, ListAnswer, Value};
 use ssh_fields::{OutOfMemory, Texts};
 
-/// Whether an answer is yes.
+/// Whether an answer is yes; it names for the proof what the definition names.
 fn is_yes(answer: ListAnswer) -> bool
     ensures { result ≡ is_yes answer }
 {
@@ -58,7 +58,7 @@ impl Fold {
     pub(crate) fn own_mark(&self, depth: usize, opens: bool) -> bool
         ensures { result ≡ own_mark depth opens self.now.applies }
     {
-        opens || self.applies.get(depth).unwrap_or(true)
+        opens || self.applies.get(depth).copied().unwrap_or(true)
     }
 
     /// Notes whether a line of a key is active, and says whether its value counts.
@@ -74,9 +74,10 @@ impl Fold {
             self.were_active.push(active)?;
             return Ok(active);
         }
-        match self.were_active.get(self.seen) {
+        match self.were_active.get(self.seen).copied() {
             None => Ok(active),
             Some(was) => {
+                // Always so; the proof needs it for the sum.
                 if self.seen < self.were_active.len() {
                     self.seen += 1;
                 }
@@ -111,12 +112,20 @@ impl Fold {
         self.asks_again = self.asks_again || has_final(criteria);
     }
 
+    /// Whether the open blocks apply of all files above a depth.
+    pub(crate) fn all_apply(&self, depth: usize) -> bool
+        requires { depth ≤ length self.now.applies }
+        ensures { result ≡ list_all (λ mark. mark) (take depth self.now.applies) }
+    {
+        self.applies.as_slice()[..depth].iter().all(|mark| *mark)
+    }
+
     /// Whether a line that opens no block is active in the file at a depth.
     pub(crate) fn is_active(&self, depth: usize, opens: bool) -> bool
         requires { depth ≤ length self.now.applies }
         ensures { result ≡ (list_all (λ mark. mark) (take depth self.now.applies)
             && own_mark depth opens self.now.applies) }
     {
-        self.applies.all_before(depth) && self.own_mark(depth, opens)
+        self.all_apply(depth) && self.own_mark(depth, opens)
     }
 }

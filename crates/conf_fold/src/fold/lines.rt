@@ -30,16 +30,11 @@ fn placed(taken: Result<(), LineError>, file: Text, number: u64) -> Result<(), R
 {
     match taken {
         Ok(()) => Ok(()),
-        Err(LineError::OutOfMemory) => Err(ResolveError::OutOfMemory),
-        Err(LineError::Refused(cause)) => Err(ResolveError::At {
-            file,
-            line: number,
-            cause,
-        }),
+        Err(e) => Err(e.at(file, number)),
     }
 }
 
-/// Whether criteria hold; an error is one of a line.
+/// Whether criteria hold; an error is one of a line. It stands apart for its proof alone.
 fn evaluate<R: Runner>(
     alloc: Global,
     criteria: &Criteria,
@@ -174,7 +169,7 @@ impl Fold {
                 Ok(())
             }
             Entry::Tests(criteria) => {
-                let active = self.applies.all_before(depth);
+                let active = self.all_apply(depth);
                 let applies = self.tests(active, &criteria, facts, runner)?;
                 self.ask(&criteria);
                 self.open(depth, applies)?;

@@ -1,8 +1,7 @@
-use Rattle.std.proofs.Common.{◌++◌, ◌∙◌, sym, ap}
+use Rattle.std.proofs.Common.{◌∙◌, sym}
 use Rattle.conf_reader.proofs.FoundLemmas.{globbed-is}
 use Rattle.conf_reader.proofs.paths.globbed.Goals as goal
 
 pub returns-clause-found : goal.returns-clause-found
 returns-clause-found g c = λ told t.
-    c.in_ok-add_all.ensures ∙ ap (λ ys. c.new-found.result ++ ys) c.as_slice.ensures.value ∙ ap (λ xs. xs ++ c.sort.new.texts.items) c.new-found.ensures
-    ∙ globbed-is told c.args.path.now c.in_ok-paths.paths.items c.sort.new.texts.items (sym c.is_glob.ensures ∙ c.if-not-is_glob.false) (sym c.ends_with_slash.ensures ∙ c.if-ends_with_slash.false) (c.in_ok-paths.ensures.found told t) c.in_ok-sort.ensures
+    globbed-is told c.args.path.now c.in_ok-paths.paths.items c.sort.new.texts.items (sym c.is_glob.ensures ∙ c.if-not-is_glob.false) (sym c.ends_with_slash.ensures ∙ c.if-ends_with_slash.false) (c.in_ok-paths.ensures.found told t) c.in_ok-sort.ensures

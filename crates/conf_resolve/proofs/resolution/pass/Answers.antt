@@ -9,7 +9,7 @@ use Rattle.conf_resolve.proofs.DepthLemmas.{depth-low, given-bounded, more-bound
 use Rattle.conf_resolve.proofs.PassLemmas.{goes-on, line-fails, reader-fails, all-given, line-ran, reader-ran, all-ran, start-ran, none-given}
 use Rattle.conf_resolve.proofs.ResolveLemmas.{underway}
 use Rattle.conf_resolve.proofs.FaultLemmas.{read-stands, run-stands, none-fails, none-told}
-use Rattle.conf_resolve.proofs.IncludeLemmas.{any_place, any-passes}
+use Rattle.conf_resolve.proofs.IncludeLemmas.{any_place, any-meets}
 use Rattle.conf_rules.specs.ReadOrder.{read_once}
 use Rattle.conf_reader.proofs.ToReadLemmas.{none-read, stays-read, then-read, then-some}
 use Rattle.conf_resolve.proofs.ReadingLemmas.{no-line, to-all}
@@ -88,7 +88,7 @@ loop-reader-preserved g c =
       original = c.next.ensures.facts.1 ∙ c.loop-reader.invariant.original;
       firsts = ap (λ (v : _). v.items) c.next.ensures.firsts ∙ c.loop-reader.invariant.firsts;
       failed = λ told asked facts tells.
-          (c.in_ok-line.ensures.looks told any_place (rw c.loop-reader.invariant.files tells) (facts ∙ sym c.loop-reader.invariant.facts) (ap (λ (a : Asked). a.original) asked ∙ sym c.loop-reader.invariant.original) (any-passes told c.loop-reader.reader.lines)).0
+          (c.in_ok-line.ensures.looks told any_place (rw c.loop-reader.invariant.files tells) (facts ∙ sym c.loop-reader.invariant.facts) (ap (λ (a : Asked). a.original) asked ∙ sym c.loop-reader.invariant.original) (any-meets told c.loop-reader.reader.lines)).0
           ∙ c.loop-reader.invariant.failed told asked facts tells;
       notes = λ told asked facts tells.
           then-read _ _ _ _ _ _ (c.loop-reader.invariant.notes told asked facts tells) (rw c.in-Some.is at (c.in_ok-line.ensures.noted told (rw c.loop-reader.invariant.files tells) (facts ∙ sym c.loop-reader.invariant.facts) (ap (λ (a : Asked). a.original) asked ∙ sym c.loop-reader.invariant.original)));
@@ -169,18 +169,18 @@ pub returns-in_err-line-clause-failed : goal.returns-in_err-line-clause-failed
 returns-in_err-line-clause-failed g c = λ told asked facts tells status.
     let p = err_from_is_err_and c.from_residual-in_err-line.result c.from_residual-in_err-line.ensures.1 in
     rw (p.1, p.2) (none-told any_place _ _ _ _ (c.loop-reader.invariant.failed told asked facts tells)
-    (c.in_err-line.ensures.looks told any_place (rw c.loop-reader.invariant.files tells) (facts ∙ sym c.loop-reader.invariant.facts) (ap (λ (a : Asked). a.original) asked ∙ sym c.loop-reader.invariant.original) (any-passes told c.loop-reader.reader.lines)).0)
+    (c.in_err-line.ensures.looks told any_place (rw c.loop-reader.invariant.files tells) (facts ∙ sym c.loop-reader.invariant.facts) (ap (λ (a : Asked). a.original) asked ∙ sym c.loop-reader.invariant.original) (any-meets told c.loop-reader.reader.lines)).0)
 
 pub returns-in_err-line-2-clause-failed : goal.returns-in_err-line-2-clause-failed
 returns-in_err-line-2-clause-failed g c = λ told asked facts tells status.
     let p = err_from_is_err_and c.from_residual-in_err-line-2.result c.from_residual-in_err-line-2.ensures.1 in
     rw (p.1, p.2) (none-fails _ _ _
-    ((c.in_ok-line.ensures.looks told any_place (rw c.loop-reader.invariant.files tells) (facts ∙ sym c.loop-reader.invariant.facts) (ap (λ (a : Asked). a.original) asked ∙ sym c.loop-reader.invariant.original) (any-passes told c.loop-reader.reader.lines)).0
+    ((c.in_ok-line.ensures.looks told any_place (rw c.loop-reader.invariant.files tells) (facts ∙ sym c.loop-reader.invariant.facts) (ap (λ (a : Asked). a.original) asked ∙ sym c.loop-reader.invariant.original) (any-meets told c.loop-reader.reader.lines)).0
     ∙ c.loop-reader.invariant.failed told asked facts tells))
 
 pub returns-clause-failed : goal.returns-clause-failed
 returns-clause-failed g c = λ told asked facts tells status.
-    (c.in_ok-line.ensures.looks told any_place (rw c.loop-reader.invariant.files tells) (facts ∙ sym c.loop-reader.invariant.facts) (ap (λ (a : Asked). a.original) asked ∙ sym c.loop-reader.invariant.original) (any-passes told c.loop-reader.reader.lines)).0
+    (c.in_ok-line.ensures.looks told any_place (rw c.loop-reader.invariant.files tells) (facts ∙ sym c.loop-reader.invariant.facts) (ap (λ (a : Asked). a.original) asked ∙ sym c.loop-reader.invariant.original) (any-meets told c.loop-reader.reader.lines)).0
     ∙ c.loop-reader.invariant.failed told asked facts tells
 
 pub returns-in_err-reader-clause-noted : goal.returns-in_err-reader-clause-noted

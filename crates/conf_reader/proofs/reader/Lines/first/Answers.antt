@@ -18,14 +18,14 @@ returns-then-required-clause-moves g c = λ told place blocks tells.
     moves-refused (left told place blocks c.args.self.now) [] f.path 0 causes.NoFile c.file_refusal.result (rw named at c.file_refusal.ensures)
     (lack-refused told place blocks c.args.self.now f c.requires.none (c.requires.ready.none c.requires.none) named none c.if-required.true)
 
-pub pass-requires-clause-next : goal.pass-requires-clause-next
-pass-requires-clause-next g c = below-end c.args.self.now.firsts.items c.args.self.now.next_first c.in-Some.first.now (sym c.in-Some.ensures)
+pub skip-requires-clause-next : goal.skip-requires-clause-next
+skip-requires-clause-next g c = below-end c.args.self.now.firsts.items c.args.self.now.next_first c.in-Some.first.now (sym c.in-Some.ensures)
 
 pub begin-requires-clause-next : goal.begin-requires-clause-next
 begin-requires-clause-next g c = below-end c.args.self.now.firsts.items c.args.self.now.next_first c.in-Some.first.now (sym c.in-Some.ensures)
 
 pub returns-else-required-clause-next : goal.returns-else-required-clause-next
-returns-else-required-clause-next g c = (ap (λ (r : Lines). r.next_first) c.pass.ensures.others, below-end c.args.self.now.firsts.items c.args.self.now.next_first c.in-Some.first.now (sym c.in-Some.ensures))
+returns-else-required-clause-next g c = (ap (λ (r : Lines). r.next_first) c.skip.ensures.others, below-end c.args.self.now.firsts.items c.args.self.now.next_first c.in-Some.first.now (sym c.in-Some.ensures))
 
 pub returns-in-TooLarge-clause-moves : goal.returns-in-TooLarge-clause-moves
 returns-in-TooLarge-clause-moves g c = λ told place blocks tells.
@@ -61,7 +61,7 @@ pub returns-else-required-clause-noted : goal.returns-else-required-clause-noted
 returns-else-required-clause-noted g c = λ told tells.
     let f = c.in-Some.first.now in
     let none = rw (c.in-Nothing.is, c.as_bytes.ensures) at (c.in_ok-first_found.ensures.found told tells) in
-    one-read f.path _ _ _ _ (first-at c.args.self.now f _ (sym c.in-Some.ensures) (c.pass.ensures.reads told) none) (rw c.as_bytes.ensures at c.in_ok-first_found.ensures.noted)
+    one-read f.path _ _ _ _ (first-at c.args.self.now f _ (sym c.in-Some.ensures) (c.skip.ensures.reads told) none) (rw c.as_bytes.ensures at c.in_ok-first_found.ensures.noted)
 
 pub returns-in-TooLarge-clause-noted : goal.returns-in-TooLarge-clause-noted
 returns-in-TooLarge-clause-noted g c = λ told tells.

@@ -5,8 +5,8 @@ use Rattle.conf_reader.specs.Left.{PassesComment, GivesLine, gone, include_of}
 use Rattle.conf_reader.specs.Looking.{TakesLooks}
 use Rattle.conf_reader.proofs.LookingLemmas.{given-looks}
 use Rattle.conf_reader.specs.ToRead.{open_reads}
-use Rattle.conf_reader.proofs.ToReadLemmas.{passes-reads, gives-reads}
-use Rattle.conf_reader.proofs.TakeLemmas.{passes-top, gives-top, refused-top}
+use Rattle.conf_reader.proofs.ToReadLemmas.{comment-reads, gives-reads}
+use Rattle.conf_reader.proofs.TakeLemmas.{comment-top, gives-top, refused-top}
 use Rattle.conf_reader.proofs.stack.OpenFiles.take_line.Goals as goal
 
 pub returns-in-Err-clause-takes : goal.returns-in-Err-clause-takes
@@ -16,7 +16,7 @@ returns-in-Err-clause-takes c = λ told place blocks size.
 pub returns-in-None-clause-takes : goal.returns-in-None-clause-takes
 returns-in-None-clause-takes c = λ told place blocks size.
     subst (λ (n : OpenFiles). PassesComment told place blocks c.args.self.now n) (sym c.go.ensures)
-    (passes-top told place blocks c.args.self.now c.args.self.now.top c.in-Ok.next refl c.requires.some c.requires.ready.few c.requires.line c.in-Ok.ensures c.in-None.is)
+    (comment-top told place blocks c.args.self.now c.args.self.now.top c.in-Ok.next refl c.requires.some c.requires.ready.few c.requires.line c.in-Ok.ensures c.in-None.is)
 
 pub returns-in_ok-line-in-Some-clause-takes : goal.returns-in_ok-line-in-Some-clause-takes
 returns-in_ok-line-in-Some-clause-takes c = λ told place blocks size.
@@ -32,7 +32,7 @@ returns-in_ok-line-in-Some-clause-looks c =
 
 pub returns-in-None-clause-reads : goal.returns-in-None-clause-reads
 returns-in-None-clause-reads c = λ told.
-    passes-reads told c.args.self.now c.args.self.now.top c.in-Ok.next refl c.requires.some c.requires.line c.in-Ok.ensures c.in-None.is ∙ ap (λ (n : OpenFiles). open_reads told n) (sym c.go.ensures)
+    comment-reads told c.args.self.now c.args.self.now.top c.in-Ok.next refl c.requires.some c.requires.line c.in-Ok.ensures c.in-None.is ∙ ap (λ (n : OpenFiles). open_reads told n) (sym c.go.ensures)
 
 pub returns-in_ok-line-in-Some-clause-reads : goal.returns-in_ok-line-in-Some-clause-reads
 returns-in_ok-line-in-Some-clause-reads c = λ told.
