@@ -17,13 +17,12 @@ use Rattle.conf_rules.specs.Texts.{Bytes, is_empty, split_at_first, split_at_eac
 use Rattle.conf_rules.specs.Told.{Facts, Told}
 use Rattle.conf_rules.specs.Words.{words_of}
 use Rattle.conf_rules.specs.Globs.{is_glob}
-use Rattle.conf_rules.specs.Includes.{Source, or_root, below, components_of, globbed}
+use Rattle.conf_rules.specs.Includes.{Source, or_root, below, components_of, globbed, paths_from}
 use Rattle.conf_rules.specs.Looks.{folders_along, folders_of, looks_of, looks_along, looks_in}
 use Rattle.conf_reader.specs.declared.errors.LineError.{LineError}
 use Rattle.conf_reader.specs.Looking.{FileFails, LineFails}
 use Rattle.conf_reader.specs.Results.{of_file}
-use Rattle.conf_reader.specs.Paths.{SameTexts, with_component, paths_from}
-use Rattle.conf_reader.proofs.PathLemmas.{told-paths}
+use Rattle.conf_reader.specs.Paths.{SameTexts, with_component}
 use Rattle.conf_reader.proofs.FoundLemmas.{same-flat, sum-map, parts-some, parts-none, not-empty}
 
 -- ---- texts that are among others
@@ -217,4 +216,4 @@ pub looks-named : (source : Source) (told : Told) (facts : Facts) (original rest
     → looks_in source told (words_of rest) ≡ looks_of told paths
 looks-named source told facts original rest words paths f o w p =
     ap (looks_in source told) w
-    ∙ ap (looks_along told) (told-paths source told words ∙ ap (λ f. paths_from source f told.asked.original words) f ∙ ap (λ o. paths_from source facts o words) o ∙ p)
+    ∙ ap (looks_along told) (ap (λ f. paths_from source f told.asked.original words) f ∙ ap (λ o. paths_from source facts o words) o ∙ p)

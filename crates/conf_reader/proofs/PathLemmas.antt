@@ -6,12 +6,12 @@ use Rattle.conf_rules.specs.Results.{◌>>=◌, Fails}
 use Rattle.conf_rules.specs.Wants.{token_wants_memory}
 use Rattle.conf_rules.specs.Texts.{Bytes}
 use Rattle.conf_rules.specs.Told.{Facts, Told}
-use Rattle.conf_rules.specs.Includes.{Source, ends_with_slash, paths_of}
+use Rattle.conf_rules.specs.Includes.{Source, ends_with_slash, paths_from}
 use Rattle.conf_rules.specs.Words.{words_of}
 use Rattle.conf_rules.proofs.SplitLemmas.{split-end, last-split}
 use Rattle.conf_reader.specs.Left.{named_by, FoundPaths}
 use Rattle.conf_reader.specs.Results.{of_token}
-use Rattle.conf_reader.specs.Paths.{path_from, paths_from, all_globbed}
+use Rattle.conf_reader.specs.Paths.{all_globbed}
 
 -- ---- the end of a path
 
@@ -24,11 +24,6 @@ slash-end path n h = sym (ap ends_with_slash (last-split path n h) ∙ rw (ends_
 abbrev pub onto : List Bytes → Result (List Bytes) TokenError → Result (List Bytes) TokenError
 onto front reading = reading >>= λ paths. Ok (front ++ paths)
 
--- where facts are those that are told
-pub told-paths : (source : Source) (told : Told) (words : List Bytes) → paths_of source told words ≡ paths_from source told.facts told.asked.original words
-told-paths source told [] = refl
-told-paths source told (word ∷ words) = ap (λ (r : Result (List Bytes) TokenError). path_from source told.facts told.asked.original word >>= λ path. r >>= λ paths. Ok (path ∷ paths)) (told-paths source told words)
-
 -- ---- what an Include line names
 
 with_found : Told → Result (List Bytes) TokenError → Result (List Bytes) TokenError
@@ -38,7 +33,7 @@ named-from : (source : Source) (told : Told) (facts : Facts) (original rest : By
     → named_by source told (words_of rest) ≡ with_found told (paths_from source facts original words)
 unfolding with_found
 named-from source told facts original rest words f o w =
-    ap (named_by source told) w ∙ ap (with_found told) (told-paths source told words ∙ ap (λ f. paths_from source f told.asked.original words) f ∙ ap (λ o. paths_from source facts o words) o)
+    ap (named_by source told) w ∙ ap (with_found told) (ap (λ f. paths_from source f told.asked.original words) f ∙ ap (λ o. paths_from source facts o words) o)
 
 pub named-ok : (source : Source) (told : Told) (facts : Facts) (original rest : Bytes) (words paths all : List Bytes) → told.facts ≡ facts → told.asked.original ≡ original → words_of rest ≡ Ok words
     → paths_from source facts original words ≡ Ok paths → all ≡ all_globbed told paths → named_by source told (words_of rest) ≡ Ok all

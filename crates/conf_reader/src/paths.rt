@@ -7,14 +7,14 @@ ghost use Rattle.conf_rules.specs.Words.{words_of};
 ghost use Rattle.conf_rules.specs.Tokens.{starts_with_slash};
 ghost use Rattle.conf_rules.specs.Globs.{is_glob, component_takes};
 ghost use Rattle.conf_rules.specs.Order.{sorted};
-ghost use Rattle.conf_rules.specs.Includes.{absolute, or_root, below, along, components_of, ends_with_slash, globbed};
+ghost use Rattle.conf_rules.specs.Includes.{facts_view, absolute, path_from, paths_from, or_root, below, along, components_of, ends_with_slash, globbed};
 ghost use Rattle.conf_rules.specs.Looks.{folders_along, folders_of, looks_in};
 ghost use Rattle.mux_outside.specs.Counts.{HasCause};
 ghost use Rattle.conf_tokens.specs.Known.{known};
 ghost use Rattle.conf_tokens.specs.Seen.{seen};
 ghost use Rattle.conf_reader.specs.Known.{TellsFiles};
 ghost use Rattle.conf_reader.specs.Left.{FoundPaths, named_by, source_of};
-ghost use Rattle.conf_reader.specs.Paths.{facts_seen, path_from, paths_from, SameTexts, with_component, all_globbed};
+ghost use Rattle.conf_reader.specs.Paths.{SameTexts, with_component, all_globbed};
 ghost use Rattle.conf_reader.specs.Looking.{FileFails, LineFails};
 ghost use Rattle.conf_reader.specs.Results.{HasLineCause};
 
@@ -29,7 +29,7 @@ use std::alloc::Global;
 
 /// What the tokens of a path see: facts alone.
 fn view<'a>(facts: &'a Facts, original: &'a [u8]) -> View<'a>
-    ensures { seen result ≡ facts_seen (known facts.now) original.now }
+    ensures { seen result ≡ facts_view (known facts.now) original.now }
 {
     View {
         original,

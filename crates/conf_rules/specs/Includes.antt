@@ -19,19 +19,18 @@ pub data Source : Type 0 where
   SystemFile : Source
 
 -- facts alone, since the list of files depends on no configured value
-abbrev pub facts_view : Told → View
-facts_view told = record {
-  original = told.asked.original;
+abbrev pub facts_view : Facts → Bytes → View
+facts_view facts original = record {
+  original = original;
   host = [];
   jump = [];
   tag = [];
-  port =
-      22;
+  port = 22;
   user = None;
   «alias» = None;
-  facts = told.facts;
+  facts = facts;
   last = false;
-  name = told.asked.original;
+  name = original;
 }
 
 -- a path that isn't absolute is taken from the folder of its source
@@ -42,16 +41,20 @@ absolute source facts path =
     if starts_with_slash path then Ok path
     else (fact_of 100 facts.home >>= λ home. Ok (home ++ (codes "/.ssh/" ++ path)))
 
--- the path of a word
-abbrev pub path_of : Source → Told → Bytes → Result Bytes TokenError
-path_of source told word =
-    expand_path false Included (facts_view told) word >>= absolute source told.facts
+-- the path of a word, by facts and the name that was asked for
+abbrev pub path_from : Source → Facts → Bytes → Bytes → Result Bytes TokenError
+path_from source facts original word =
+    expand_path false Included (facts_view facts original) word >>= absolute source facts
 
 -- the paths of words, or the first refusal
+abbrev pub paths_from : Source → Facts → Bytes → List Bytes → Result (List Bytes) TokenError
+paths_from source facts original [] = Ok []
+paths_from source facts original (word ∷ words) = path_from source facts original word >>= λ path.
+    paths_from source facts original words >>= λ paths. Ok (path ∷ paths)
+
+-- the same by what is told
 abbrev pub paths_of : Source → Told → List Bytes → Result (List Bytes) TokenError
-paths_of source told [] = Ok []
-paths_of source told (word ∷ words) = path_of source told word >>= λ path.
-    paths_of source told words >>= λ paths. Ok (path ∷ paths)
+paths_of source told words = paths_from source told.facts told.asked.original words
 
 -- a directory's path; that of the root is a slash
 abbrev pub or_root : Bytes → Bytes

@@ -1,7 +1,7 @@
 use Rattle.std.proofs.Common.{◌≡◌, drop}
 use Rattle.conf_tokens.specs.Known.{known}
 use Rattle.conf_reader.specs.Left.{source_of}
-use Rattle.conf_reader.specs.Paths.{paths_from}
+use Rattle.conf_rules.specs.Includes.{paths_from}
 use Rattle.conf_reader.proofs.PathLemmas.{onto}
 use Rattle.conf_reader.proofs.paths.paths_of.Given as goal
 
