@@ -2,10 +2,8 @@ ghost use Rattle.std.specs.Prelude.{◌≡◌, List, Ok, [], IfOk, IfErr, OnOk, 
 ghost use Rattle.std.specs.List.{list_any};
 ghost use Rattle.std.specs.Option.{option_copied};
 ghost use Rattle.conf_rules.specs.Texts.{lower};
-ghost use Rattle.conf_rules.specs.Kinds.{is_raw};
 ghost use Rattle.conf_rules.specs.Heads.{Says};
 ghost use Rattle.conf_rules.specs.Includes.{CommandLine, UserFile};
-ghost use Rattle.conf_rules.specs.Rows.{is_collected};
 ghost use Rattle.conf_rules.specs.Resolution.{is_final};
 ghost use Rattle.conf_rules.specs.Keywords.{meaning_of};
 ghost use Rattle.conf_rules.specs.Sources.{asked_line};
@@ -30,31 +28,6 @@ pub fn has_final(criteria: &Criteria) -> bool
         .as_slice()
         .iter()
         .any(|criterion| matches!(criterion.kind, Kind::Final))
-}
-
-/// Whether all values of a key are collected.
-pub fn is_collected(key: Key) -> bool
-    ensures { result ≡ is_collected key }
-{
-    matches!(
-        key,
-        Key::CertificateFile
-            | Key::DynamicForward
-            | Key::IdentityFile
-            | Key::LocalForward
-            | Key::RemoteForward
-            | Key::SendEnv
-    )
-}
-
-/// Whether the rest of a key's line is taken unsplit.
-fn is_raw(key: Key) -> bool
-    ensures { result ≡ is_raw key }
-{
-    matches!(
-        key,
-        Key::LocalCommand | Key::ProxyCommand | Key::RemoteCommand
-    )
 }
 
 /// A text in lower case.
@@ -135,7 +108,7 @@ fn key_entry(alloc: Global, key: Key, rest: &[u8]) -> Result<Entry, LineError>
     ensures fits { IfOk result (λ entry. entry_fits entry ≡ true) }
     ensures plain { IfErr result (λ e. is_line_fault e ≡ false) }
 {
-    if is_raw(key) {
+    if key.is_raw() {
         return value_entry(alloc, key, rest, &Texts::new(alloc));
     }
     let words = split(alloc, rest)?;
@@ -148,7 +121,7 @@ fn parts_key_entry(alloc: Global, key: Key, words: &Texts) -> Result<Entry, Line
     ensures fits { IfOk result (λ entry. entry_fits entry ≡ true) }
     ensures plain { IfErr result (λ e. is_line_fault e ≡ false) }
 {
-    if is_raw(key) {
+    if key.is_raw() {
         return value_entry(alloc, key, b"", &Texts::new(alloc));
     }
     value_entry(alloc, key, b"", words)

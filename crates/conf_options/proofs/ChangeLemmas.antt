@@ -11,10 +11,10 @@ use Rattle.conf_rules.specs.declared.key.Key.TheVariants.{SendEnv}
 use Rattle.conf_rules.specs.Texts.{Bytes, behind}
 use Rattle.conf_rules.specs.Patterns.{matches}
 use Rattle.conf_rules.specs.Keys.{same_key, place}
-use Rattle.conf_rules.specs.Kinds.{Patterns, keeping}
+use Rattle.conf_rules.specs.Kinds.{Patterns, keeping, keeps_every}
 use Rattle.conf_rules.specs.Rows.{values_among, with_pattern, with_patterns, patterns_in}
 use Rattle.conf_rules.specs.Fits.{fits}
-use Rattle.conf_options.specs.Kept.{Given, StandsAt, keeps_every, fits_single, removes, replaced, with_more, same_texts}
+use Rattle.conf_options.specs.Kept.{Given, StandsAt, fits_single, removes, replaced, with_more, same_texts}
 use Rattle.conf_rules.proofs.SameKeys.{same-key, same-key-refl, same-place}
 
 both : (a b : Bool) → (a && b) ≡ true → (a ≡ true) × (b ≡ true)

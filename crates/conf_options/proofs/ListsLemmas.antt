@@ -9,10 +9,10 @@ use Rattle.conf_rules.specs.declared.value.Value.{Value}
 use Rattle.conf_rules.specs.declared.value.Value.TheVariants.{Names}
 use Rattle.conf_rules.specs.Texts.{Bytes}
 use Rattle.conf_rules.specs.Keys.{same_key}
-use Rattle.conf_rules.specs.Kinds.{Keeping, TheFirst, Every, Patterns, Shared, keeping}
+use Rattle.conf_rules.specs.Kinds.{Keeping, TheFirst, Every, Patterns, Shared, keeping, keeps_every}
 use Rattle.conf_rules.specs.Rows.{values_among, kept}
 use Rattle.conf_rules.specs.Fits.{fits, fitting}
-use Rattle.conf_options.specs.Kept.{Given, Keeps, behind_all, is_unset, keeps_every, fits_single, fits_every, replaced, with_more, offered}
+use Rattle.conf_options.specs.Kept.{Given, Keeps, behind_all, is_unset, fits_single, fits_every, replaced, with_more, offered}
 use Rattle.conf_rules.proofs.SameKeys.{same-key}
 use Rattle.conf_options.proofs.OfferLemmas.{among-append, kept-other, own, own-every, stays}
 

@@ -8,7 +8,8 @@ use Rattle.conf_rules.specs.declared.value.Value.TheVariants.{Number}
 use Rattle.conf_rules.specs.Keys.{same_key}
 use Rattle.conf_rules.specs.Rows.{values_among}
 use Rattle.conf_rules.specs.Fits.{fits, fitting}
-use Rattle.conf_options.specs.Kept.{Given, keeps_every, fits_single}
+use Rattle.conf_rules.specs.Kinds.{keeps_every}
+use Rattle.conf_options.specs.Kept.{Given, fits_single}
 use Rattle.conf_rules.proofs.SameKeys.{same-key}
 
 both : (a b : Bool) → (a && b) ≡ true → (a ≡ true) × (b ≡ true)

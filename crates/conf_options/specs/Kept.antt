@@ -7,7 +7,7 @@ use Rattle.conf_rules.specs.declared.value.Value.{Value}
 use Rattle.conf_rules.specs.declared.value.Value.TheVariants.{Names}
 use Rattle.conf_rules.specs.Texts.{Bytes, is_empty, behind}
 use Rattle.conf_rules.specs.Keys.{same_key}
-use Rattle.conf_rules.specs.Kinds.{Keeping, TheFirst, Every, Patterns, Shared, keeping}
+use Rattle.conf_rules.specs.Kinds.{Keeping, TheFirst, Every, Patterns, Shared, keeping, keeps_every}
 use Rattle.conf_rules.specs.Rows.{values_among, kept, with_patterns, patterns_in}
 use Rattle.conf_rules.specs.Fits.{fitting}
 
@@ -22,10 +22,6 @@ first_value key settings = slice_get (values_among key settings) 0
 -- settings keep of each key what counts of all that was given
 pub record Keeps (settings given : List Given) : Type 0 where
   pub each : (key : Key) → values_among key settings ≡ kept (keeping key) key given
-
--- whether all values of a key are kept
-abbrev pub keeps_every : Key → Bool
-keeps_every key = elim (keeping key) [ Every ↦ true | _ ↦ false ]
 
 -- whether a value is one of its key, of which one value counts
 abbrev pub fits_single : Given → Bool

@@ -3,11 +3,11 @@ ghost use Rattle.std.specs.Option.{option_copied};
 ghost use Rattle.std.specs.List.{list_all};
 ghost use Rattle.conf_rules.specs.declared.key.Key.TheVariants as keys;
 ghost use Rattle.conf_rules.specs.declared.value.Value.TheVariants as values;
-ghost use Rattle.conf_rules.specs.Kinds.{TheFirst, Every, Patterns, Shared, keeping};
+ghost use Rattle.conf_rules.specs.Kinds.{TheFirst, Every, Patterns, Shared, keeping, keeps_every};
 ghost use Rattle.conf_rules.specs.Rows.{values_among, word_in, but_none, patterns_in, number_in, with_patterns};
 ghost use Rattle.conf_rules.specs.Listing.{is_set};
 ghost use Rattle.conf_rules.specs.Fits.{fits, fitting};
-ghost use Rattle.conf_options.specs.Kept.{Given, Keeps, StandsAt, first_value, behind_all, is_unset, keeps_every, fits_single, offered};
+ghost use Rattle.conf_options.specs.Kept.{Given, Keeps, StandsAt, first_value, behind_all, is_unset, fits_single, offered};
 
 use crate::patterns::{take_patterns, with_patterns};
 use conf_rules::{Key, Value};
@@ -37,20 +37,6 @@ impl Model for Settings {
 
     ghost invariant = { λ s. (list_all fits_single s.singles.items ≡ true)
         × (list_all fits_every s.collected.items ≡ true) };
-}
-
-/// Whether all values of a key are kept.
-fn keeps_every(key: Key) -> bool
-    ensures { result ≡ keeps_every key }
-{
-    matches!(
-        key,
-        Key::CertificateFile
-            | Key::DynamicForward
-            | Key::IdentityFile
-            | Key::LocalForward
-            | Key::RemoteForward
-    )
 }
 
 /// The first value of a key.
@@ -252,7 +238,7 @@ impl Settings {
     pub fn among(&self, key: Key) -> &[(Key, Value)]
         ensures { values_among key result.now ≡ values_among key self.now }
     {
-        if keeps_every(key) {
+        if key.keeps_every() {
             self.collected.as_slice()
         } else {
             self.singles.as_slice()
@@ -276,7 +262,7 @@ impl Settings {
         ensures changed { IfOk result (λ changed. IsTrue changed ↔ (self.new ≢ self.old)) }
         ensures err { OnErr result (self.new ≡ self.old) }
     {
-        if keeps_every(key) {
+        if key.keeps_every() {
             add(&mut self.collected, key, value)
         } else {
             take(self.alloc, &mut self.singles, key, value)

@@ -25,7 +25,7 @@ use Rattle.conf_reader.specs.declared.open_file.OpenFile.{OpenFile}
 use Rattle.conf_reader.specs.declared.stack.OpenFiles.{OpenFiles}
 use Rattle.conf_reader.specs.declared.open_file.Said.{Said}
 use Rattle.conf_reader.specs.Blocks.{Blocks, or_none, own_of, opens_block, open_behind}
-use Rattle.conf_reader.specs.Left.{source_of, frame_files, frames_left, cur, open_left, IsSettled, NextLine, PassesComment, GivesLine, GivenBy, gone, include_of, HeadIs, heading_of, RefusesHead, Takes}
+use Rattle.conf_reader.specs.Left.{source_of, frame_files, frames_left, cur, open_left, IsSettled, NextLine, SkipsComment, GivesLine, GivenBy, gone, include_of, HeadIs, heading_of, RefusesHead, Takes}
 use Rattle.conf_reader.proofs.LeftLemmas.{top_depth, top_outer, top-depth, top-outer, Step, under, takes, Taken, file_line, head-left, front}
 use Rattle.conf_reader.proofs.OpenLemmas.{cur-below, settled-files}
 
@@ -50,7 +50,7 @@ low-top : (o : OpenFiles) → length o.below.items ≤ depth_limit → top_depth
 low-top o few = let k = top-depth 0 o.below.items in omega (arith, k, few)
 
 pub comment-left : (told : Told) (place : ℕ) (blocks : Blocks) (o : OpenFiles) (f : OpenFile) (next : ℕ) → length o.below.items ≤ depth_limit → o.top ≡ Some f → IsSettled f → NextLine f next (Ok Comment)
-    → PassesComment told place blocks o (record o { top = Some (gone next None f) })
+    → SkipsComment told place blocks o (record o { top = Some (gone next None f) })
 comment-left told place blocks o f next few top s n =
     let fs = o.below.items in
     let source = source_of o.system in
@@ -175,7 +175,7 @@ gives-line told place blocks o f next said given few size top s n by =
 -- ---- as the code needs them
 
 pub comment-top : (told : Told) (place : ℕ) (blocks : Blocks) (o : OpenFiles) (t : Option OpenFile) (next : Next) → o.top ≡ t → IsSome t → length o.below.items ≤ depth_limit → IfSome t (λ f. IsSettled f × (f.at < length f.text)) → IfSome t (λ f. HeadIs f (Ok next)) → next.said ≡ None
-    → PassesComment told place blocks o (record o { top = option_map (gone next.next None) t })
+    → SkipsComment told place blocks o (record o { top = option_map (gone next.next None) t })
 comment-top told place blocks o None next top some few line head said = absurd (let k : false ≡ true = some in cc)
 comment-top told place blocks o (Some f) next top some few line head said =
     comment-left told place blocks o f next.next few top line.0 (rw (ap heading_of said) at head)

@@ -214,7 +214,7 @@ pub record IsComment (line : Line) : Type 0 where
   pub head : head_of bytes ≡ Ok Comment
   pub asked : is_asked line.source ≡ false
 
-pub record PassesComment (told : Told) (place : ℕ) (blocks : Blocks) (old new : OpenFiles) :
+pub record SkipsComment (told : Told) (place : ℕ) (blocks : Blocks) (old new : OpenFiles) :
     Type 0 where
   pub line : Line
   pub left : open_left told place blocks old ≡ line ∷ open_left told (place + 1) blocks new
@@ -242,7 +242,7 @@ pub record RefusesHead (left : List Line) (file : Bytes) (number : ℕ) (cause :
 
 abbrev pub Takes : Told → ℕ → Blocks → OpenFiles → OpenFiles
     → Result (Option ConfLine) ResolveError → Type 0
-Takes told place blocks old new (Ok None) = PassesComment told place blocks old new
+Takes told place blocks old new (Ok None) = SkipsComment told place blocks old new
 Takes told place blocks old new (Ok (Some given)) = GivesLine told place blocks old new given
 Takes told place blocks old new (Err OutOfMemory) = Unit {0}
 Takes told place blocks old new (Err (At file number cause)) =

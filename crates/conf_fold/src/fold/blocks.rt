@@ -9,7 +9,7 @@ ghost use Rattle.conf_options.specs.Kept.{Given, Keeps};
 ghost use Rattle.conf_fold.specs.Stands.{block_name, entered, own_mark, does_count, noted, if_counts};
 
 use super::Fold;
-use crate::entries::{has_final, is_collected};
+use crate::entries::has_final;
 use conf_match::matches_words;
 use conf_rules::{Criteria, Key, ListAnswer, Value};
 use ssh_fields::{OutOfMemory, Texts};
@@ -67,7 +67,7 @@ impl Fold {
             × (self.new ≡ noted key active self.old)) }
         ensures settings { self.new.settings ≡ self.old.settings }
     {
-        if !is_collected(key) {
+        if !key.is_collected() {
             return Ok(active);
         }
         if self.name.is_none() {

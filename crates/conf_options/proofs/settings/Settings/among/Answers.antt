@@ -1,6 +1,6 @@
 use Rattle.std.proofs.Common.{◌≡◌, ap, ◌∙◌, true, false}
 use Rattle.conf_rules.specs.Rows.{values_among}
-use Rattle.conf_options.specs.Kept.{keeps_every}
+use Rattle.conf_rules.specs.Kinds.{keeps_every}
 use Rattle.conf_options.proofs.ListsLemmas.{among-singles, among-collected}
 use Rattle.conf_options.proofs.settings.Settings.among.Goals as goal
 

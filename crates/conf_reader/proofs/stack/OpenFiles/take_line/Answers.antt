@@ -1,7 +1,7 @@
 use Rattle.std.proofs.Common.{◌≡◌, ◌∙◌, sym, ap, refl, subst, false, Some, Ok}
 use Rattle.std.specs.Option.{option_map}
 use Rattle.conf_reader.specs.declared.stack.OpenFiles.{OpenFiles}
-use Rattle.conf_reader.specs.Left.{PassesComment, GivesLine, gone, include_of}
+use Rattle.conf_reader.specs.Left.{SkipsComment, GivesLine, gone, include_of}
 use Rattle.conf_reader.specs.Looking.{TakesLooks}
 use Rattle.conf_reader.proofs.LookingLemmas.{given-looks}
 use Rattle.conf_reader.specs.ToRead.{open_reads}
@@ -15,7 +15,7 @@ returns-in-Err-clause-takes c = λ told place blocks size.
 
 pub returns-in-None-clause-takes : goal.returns-in-None-clause-takes
 returns-in-None-clause-takes c = λ told place blocks size.
-    subst (λ (n : OpenFiles). PassesComment told place blocks c.args.self.now n) (sym c.go.ensures)
+    subst (λ (n : OpenFiles). SkipsComment told place blocks c.args.self.now n) (sym c.go.ensures)
     (comment-top told place blocks c.args.self.now c.args.self.now.top c.in-Ok.next refl c.requires.some c.requires.ready.few c.requires.line c.in-Ok.ensures c.in-None.is)
 
 pub returns-in_ok-line-in-Some-clause-takes : goal.returns-in_ok-line-in-Some-clause-takes
