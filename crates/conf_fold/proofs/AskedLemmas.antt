@@ -13,7 +13,7 @@ use Rattle.conf_rules.specs.declared.causes.Cause.TheVariants as causes
 use Rattle.conf_rules.specs.declared.causes.ResolveError.{ResolveError}
 use Rattle.conf_rules.specs.declared.causes.ResolveError.TheVariants as resolve_errors
 use Rattle.conf_rules.specs.declared.entry.Entry.{Entry}
-use Rattle.conf_rules.specs.declared.entry.Entry.TheVariants.{Nothing, Block, Tests, Gives}
+use Rattle.conf_rules.specs.declared.entry.Entry.TheVariants.{Nothing, Host, Match, Gives}
 use Rattle.conf_rules.specs.declared.key_kind.KeyKind.{KeyKind}
 use Rattle.conf_rules.specs.declared.key_kind.KeyKind.TheVariants as kinds
 use Rattle.conf_rules.specs.Results.{as_error}
@@ -108,8 +108,8 @@ plain-effect : (told : Told) (pass : Pass) (rows : List Row) (e : Entry) → ope
 unfolding opens
 plain-effect told pass rows Nothing h = refl
 plain-effect told pass rows (Gives key v) h = refl
-plain-effect told pass rows (Block ps) h = absurd cc
-plain-effect told pass rows (Tests cs) h = absurd cc
+plain-effect told pass rows (Host ps) h = absurd cc
+plain-effect told pass rows (Match cs) h = absurd cc
 
 -- the row of one that says this
 pub asked-row-says : (told : Told) (pass : Pass) (rows : List Row) (place : ℕ) (l : AskedLine) (e : Entry) → entry_of rows (asked_line l) ≡ Ok e
@@ -129,8 +129,8 @@ pub plain-wants : (e : Entry) → opens e ≡ false → asks_again (Ok e) ≡ fa
 unfolding opens
 plain-wants Nothing h = refl
 plain-wants (Gives key v) h = refl
-plain-wants (Block ps) h = refl
-plain-wants (Tests cs) h = absurd cc
+plain-wants (Host ps) h = refl
+plain-wants (Match cs) h = absurd cc
 
 -- ---- one line
 

@@ -10,7 +10,7 @@ use Rattle.conf_rules.specs.declared.causes.Cause.{Cause}
 use Rattle.conf_rules.specs.declared.causes.TokenError.{TokenError}
 use Rattle.conf_rules.specs.declared.causes.Cause.TheVariants as causes
 use Rattle.conf_rules.specs.declared.entry.Entry.{Entry}
-use Rattle.conf_rules.specs.declared.entry.Entry.TheVariants.{Nothing, Block, Tests, Gives}
+use Rattle.conf_rules.specs.declared.entry.Entry.TheVariants.{Nothing, Host, Match, Gives}
 use Rattle.conf_rules.specs.Results.{◌>>=◌, as_error}
 use Rattle.conf_rules.specs.Texts.{Bytes, same_word, lower}
 use Rattle.conf_rules.specs.Heads.{Says}
@@ -65,8 +65,8 @@ entry-same told pass fold rows blocks line given s is =
 
 -- whether an entry opens a block
 unfoldable pub opens : Entry → Bool
-opens (Block patterns) = true
-opens (Tests criteria) = true
+opens (Host patterns) = true
+opens (Match criteria) = true
 opens entry = false
 
 -- ---- what opens a block
@@ -124,11 +124,11 @@ said-opens ignored keyword rest words (kinds.Key key) e h =
     let a = bind-ok (Rattle.conf_rules.specs.Entries.key_words (Rattle.conf_rules.specs.Kinds.is_raw key) words) _ e h in
     let b = bind-ok (as_error causes.Value (Rattle.conf_rules.specs.Values.value_for key rest a.0)) _ e a.2 in
     let k : Gives key b.0 ≡ e = cc in ap opens k
-said-opens ignored keyword rest words kinds.Host e h = let a = bind-ok words _ e h in let k : Block a.0 ≡ e = cc in ap opens k
+said-opens ignored keyword rest words kinds.Host e h = let a = bind-ok words _ e h in let k : Host a.0 ≡ e = cc in ap opens k
 said-opens ignored keyword rest words kinds.Match e h =
     let a = bind-ok words _ e h in
     let b = bind-ok (as_error causes.Match (Rattle.conf_rules.specs.Criteria.read_criteria a.0)) _ e a.2 in
-    let k : Tests b.0 ≡ e = cc in ap opens k
+    let k : Match b.0 ≡ e = cc in ap opens k
 said-opens ignored keyword rest words kinds.Include e h = let a = bind-ok words _ e h in let k : Nothing ≡ e = cc in ap opens k
 said-opens ignored keyword rest words kinds.Unchecked e h = let k : Nothing ≡ e = cc in ap opens k
 said-opens ignored keyword rest words kinds.Unknown e h = ignored-opens (Rattle.conf_rules.specs.Entries.takes_keyword ignored keyword) h
@@ -160,7 +160,7 @@ line-collects rows others line l blocks is =
     ∙ keyword-collects _ _ l.keyword l.rest (split l.rest) (meaning_of l.keyword)
     ∙ sym (ap collects (line-says others line l blocks is))
 
-pub tested-collects : (h : Result Bool TokenError) (ran : List Bytes) (cs : List Criterion) → collects (tested (record { holds = h; ran = ran }) (Tests cs)).entry ≡ false
+pub tested-collects : (h : Result Bool TokenError) (ran : List Bytes) (cs : List Criterion) → collects (tested (record { holds = h; ran = ran }) (Match cs)).entry ≡ false
 tested-collects (Ok b) ran cs = refl
 tested-collects (Err e) ran cs = refl
 
@@ -168,9 +168,9 @@ pub effect-collects : (told : Told) (pass : Pass) (rows : List Row) (active : Bo
 effect-collects told pass rows active (Err c) = elim active as (λ a. collects (effect_of told pass rows a (Err c)).entry ≡ false) [ true ↦ refl | false ↦ refl ]
 effect-collects told pass rows active (Ok Nothing) = elim active as (λ a. collects (effect_of told pass rows a (Ok Nothing)).entry ≡ false) [ true ↦ refl | false ↦ refl ]
 effect-collects told pass rows active (Ok (Gives k v)) = elim active as (λ a. collects (effect_of told pass rows a (Ok (Gives k v))).entry ≡ is_collected k) [ true ↦ refl | false ↦ refl ]
-effect-collects told pass rows active (Ok (Block ps)) = elim active as (λ a. collects (effect_of told pass rows a (Ok (Block ps))).entry ≡ false) [ true ↦ refl | false ↦ refl ]
-effect-collects told pass rows true (Ok (Tests cs)) = tested-collects (verdict told.status (seen_at told pass rows) cs).holds _ cs
-effect-collects told pass rows false (Ok (Tests cs)) = refl
+effect-collects told pass rows active (Ok (Host ps)) = elim active as (λ a. collects (effect_of told pass rows a (Ok (Host ps))).entry ≡ false) [ true ↦ refl | false ↦ refl ]
+effect-collects told pass rows true (Ok (Match cs)) = tested-collects (verdict told.status (seen_at told pass rows) cs).holds _ cs
+effect-collects told pass rows false (Ok (Match cs)) = refl
 
 -- the row of a given line collects where the line does
 pub row-collects : (told : Told) (pass : Pass) (rows : List Row) (place : ℕ) (line : Line) → is_past_limit told line place ≡ false

@@ -10,7 +10,7 @@ use Rattle.conf_rules.specs.declared.causes.TokenError.{TokenError}
 use Rattle.conf_rules.specs.declared.causes.ResolveError.{ResolveError}
 use Rattle.conf_rules.specs.declared.causes.ResolveError.TheVariants as resolve_errors
 use Rattle.conf_rules.specs.declared.entry.Entry.{Entry}
-use Rattle.conf_rules.specs.declared.entry.Entry.TheVariants.{Nothing, Block, Tests, Gives}
+use Rattle.conf_rules.specs.declared.entry.Entry.TheVariants.{Nothing, Host, Match, Gives}
 use Rattle.conf_rules.specs.Texts.{Bytes}
 use Rattle.conf_rules.specs.Told.{Told}
 use Rattle.conf_rules.specs.Diagnostics.{is_fault}
@@ -59,47 +59,47 @@ ran-weaker false false old new commands h r = r
 -- ---- the commands of a row
 
 -- what is no Match line runs nothing
-pub effect-quiet : (told : Told) (pass : Pass) (rows : List Row) (active : Bool) (e : Entry) → ((cs : List Criterion) → e ≡ Tests cs → ⊥) → (effect_of told pass rows active (Ok e)).ran ≡ []
+pub effect-quiet : (told : Told) (pass : Pass) (rows : List Row) (active : Bool) (e : Entry) → ((cs : List Criterion) → e ≡ Match cs → ⊥) → (effect_of told pass rows active (Ok e)).ran ≡ []
 effect-quiet told pass rows true Nothing h = refl
 effect-quiet told pass rows false Nothing h = refl
-effect-quiet told pass rows true (Block ps) h = refl
-effect-quiet told pass rows false (Block ps) h = refl
+effect-quiet told pass rows true (Host ps) h = refl
+effect-quiet told pass rows false (Host ps) h = refl
 effect-quiet told pass rows true (Gives k v) h = refl
 effect-quiet told pass rows false (Gives k v) h = refl
-effect-quiet told pass rows active (Tests cs) h = absurd (h cs refl)
+effect-quiet told pass rows active (Match cs) h = absurd (h cs refl)
 
 pub quiet-row : (told : Told) (pass : Pass) (fold : Fold) (rows : List Row) (blocks : Blocks) (l : ConfLine) (place : ℕ) (line : Line) (e : Entry)
-    → Stands told pass fold rows blocks → IsNext told pass rows blocks l place line → entry_so_far fold l ≡ Ok e → ((cs : List Criterion) → e ≡ Tests cs → ⊥) → (next_row told pass rows place line).ran ≡ []
+    → Stands told pass fold rows blocks → IsNext told pass rows blocks l place line → entry_so_far fold l ≡ Ok e → ((cs : List Criterion) → e ≡ Match cs → ⊥) → (next_row told pass rows place line).ran ≡ []
 unfolding said
 quiet-row told pass fold rows blocks l place line e s n h other =
     let says : entry_of rows line ≡ Ok e = entry-same told pass fold rows blocks line l s n.is_line ∙ h in
     ap (λ (r : Row). r.ran) (row-said told pass rows blocks l place line e n says) ∙ effect-quiet told pass rows (is_active rows pass line) e other
 
-tested-ran : (h : Result Bool TokenError) (ran : List Bytes) (cs : List Criterion) → (tested (record { holds = h; ran = ran }) (Tests cs)).ran ≡ ran
+tested-ran : (h : Result Bool TokenError) (ran : List Bytes) (cs : List Criterion) → (tested (record { holds = h; ran = ran }) (Match cs)).ran ≡ ran
 tested-ran (Ok b) ran cs = refl
 tested-ran (Err e) ran cs = refl
 
-tests-run : (told : Told) (pass : Pass) (rows : List Row) (active : Bool) (cs : List Criterion) → active ≡ true → (effect_of told pass rows active (Ok (Tests cs))).ran ≡ (verdict told.status (seen_at told pass rows) cs).ran
+tests-run : (told : Told) (pass : Pass) (rows : List Row) (active : Bool) (cs : List Criterion) → active ≡ true → (effect_of told pass rows active (Ok (Match cs))).ran ≡ (verdict told.status (seen_at told pass rows) cs).ran
 tests-run told pass rows true cs h = tested-ran (verdict told.status (seen_at told pass rows) cs).holds _ cs
 tests-run told pass rows false cs h = absurd cc
 
-tests-idle : (told : Told) (pass : Pass) (rows : List Row) (active : Bool) (cs : List Criterion) → active ≡ false → (effect_of told pass rows active (Ok (Tests cs))).ran ≡ []
+tests-idle : (told : Told) (pass : Pass) (rows : List Row) (active : Bool) (cs : List Criterion) → active ≡ false → (effect_of told pass rows active (Ok (Match cs))).ran ≡ []
 tests-idle told pass rows true cs h = absurd cc
 tests-idle told pass rows false cs h = refl
 
 -- a Match line runs what its criteria reach, where it is active
 pub tests-ran : (told : Told) (pass : Pass) (fold : Fold) (rows : List Row) (blocks : Blocks) (l : ConfLine) (place : ℕ) (line : Line) (cs : List Criterion) (t b : Bool) (old new : Commands)
-    → Stands told pass fold rows blocks → IsNext told pass rows blocks l place line → entry_so_far fold l ≡ Ok (Tests cs) → t ≡ list_all (λ m. m) (take l.depth fold.applies)
+    → Stands told pass fold rows blocks → IsNext told pass rows blocks l place line → entry_so_far fold l ≡ Ok (Match cs) → t ≡ list_all (λ m. m) (take l.depth fold.applies)
     → (t ≡ true → RanUnless b old new (verdict told.status (view_of fold told.facts) cs).ran) → (t ≡ false → new ≡ old)
     → RanUnless b old new (next_row told pass rows place line).ran
 unfolding said
 tests-ran told pass fold rows blocks l place line cs t b old new s n e a ran quiet =
-    let says : entry_of rows line ≡ Ok (Tests cs) = entry-same told pass fold rows blocks line l s n.is_line ∙ e in
+    let says : entry_of rows line ≡ Ok (Match cs) = entry-same told pass fold rows blocks line l s n.is_line ∙ e in
     let active : is_active rows pass line ≡ t = tests-active told pass fold rows blocks line l cs s n.is_line e ∙ sym a in
-    let row = ap (λ (r : Row). r.ran) (row-said told pass rows blocks l place line (Tests cs) n says) in
+    let row = ap (λ (r : Row). r.ran) (row-said told pass rows blocks l place line (Match cs) n says) in
     on t refl active row
   where
-    on : (u : Bool) → t ≡ u → is_active rows pass line ≡ t → (next_row told pass rows place line).ran ≡ (effect_of told pass rows (is_active rows pass line) (Ok (Tests cs))).ran → RanUnless b old new (next_row told pass rows place line).ran
+    on : (u : Bool) → t ≡ u → is_active rows pass line ≡ t → (next_row told pass rows place line).ran ≡ (effect_of told pass rows (is_active rows pass line) (Ok (Match cs))).ran → RanUnless b old new (next_row told pass rows place line).ran
     on true is active row =
         let commands : (verdict told.status (view_of fold told.facts) cs).ran ≡ (next_row told pass rows place line).ran =
         ap (λ v. (verdict told.status v cs).ran) (view-same told pass fold rows blocks s) ∙ sym (row ∙ tests-run told pass rows (is_active rows pass line) cs (active ∙ is)) in
@@ -132,15 +132,15 @@ failed-in (line_errors.Refused c) old new a b h f = tt
 
 -- where the runner failed at a Match line, it failed at one of the commands of its row
 pub tests-broken : (told : Told) (pass : Pass) (fold : Fold) (rows : List Row) (blocks : Blocks) (l : ConfLine) (place : ℕ) (line : Line) (cs : List Criterion) (e : LineError) (t : Bool) (old new : Commands)
-    → Stands told pass fold rows blocks → IsNext told pass rows blocks l place line → entry_so_far fold l ≡ Ok (Tests cs) → t ≡ list_all (λ m. m) (take l.depth fold.applies)
+    → Stands told pass fold rows blocks → IsNext told pass rows blocks l place line → entry_so_far fold l ≡ Ok (Match cs) → t ≡ list_all (λ m. m) (take l.depth fold.applies)
     → (t ≡ true → FailsInLine {A = Bool} (Err e) old new (verdict told.status (view_of fold told.facts) cs).ran) → (t ≡ false → failing e ≡ Ok false)
     → FailsInLine {A = Unit {0}} (Err e) old new (next_row told pass rows place line).ran
 unfolding said
 tests-broken told pass fold rows blocks l place line cs e false old new s n h a failed idle = absurd (let k = idle refl in cc)
 tests-broken told pass fold rows blocks l place line cs e true old new s n h a failed idle =
-    let says : entry_of rows line ≡ Ok (Tests cs) = entry-same told pass fold rows blocks line l s n.is_line ∙ h in
+    let says : entry_of rows line ≡ Ok (Match cs) = entry-same told pass fold rows blocks line l s n.is_line ∙ h in
     let active : is_active rows pass line ≡ true = tests-active told pass fold rows blocks line l cs s n.is_line h ∙ sym a in
-    let row = ap (λ (r : Row). r.ran) (row-said told pass rows blocks l place line (Tests cs) n says) in
+    let row = ap (λ (r : Row). r.ran) (row-said told pass rows blocks l place line (Match cs) n says) in
     let commands : (verdict told.status (view_of fold told.facts) cs).ran ≡ (next_row told pass rows place line).ran =
     ap (λ v. (verdict told.status v cs).ran) (view-same told pass fold rows blocks s) ∙ sym (row ∙ tests-run told pass rows (is_active rows pass line) cs active) in
     failed-in e old new _ _ commands (failed refl)

@@ -6,7 +6,7 @@ use Rattle.conf_rules.specs.declared.key.Key.{Key}
 use Rattle.conf_rules.specs.declared.criterion.Criterion.{Criterion}
 use Rattle.conf_rules.specs.declared.causes.Cause.{Cause}
 use Rattle.conf_rules.specs.declared.causes.ResolveError.TheVariants as resolve_errors
-use Rattle.conf_rules.specs.declared.entry.Entry.TheVariants.{Tests}
+use Rattle.conf_rules.specs.declared.entry.Entry.TheVariants.{Match}
 use Rattle.conf_rules.specs.Told.{Told}
 use Rattle.conf_rules.specs.Evaluation.{verdict}
 use Rattle.conf_rules.specs.Sources.{Line}
@@ -33,7 +33,7 @@ failing e = Err e
 
 -- where an evaluation failed, the line was active
 pub tests-failed : (told : Told) (pass : Pass) (fold new : Fold) (rows : List Row) (blocks : Blocks) (l : ConfLine) (place : ℕ) (line : Line) (cs : List Criterion) (e : LineError) (t : Bool)
-    → Stands told pass fold rows blocks → IsNext told pass rows blocks l place line → entry_so_far fold l ≡ Ok (Tests cs)
+    → Stands told pass fold rows blocks → IsNext told pass rows blocks l place line → entry_so_far fold l ≡ Ok (Match cs)
     → t ≡ list_all (λ m. m) (take l.depth fold.applies) → (t ≡ true → Evaluated (Err e) (verdict told.status (view_of fold told.facts) cs).holds) → (t ≡ false → failing e ≡ Ok false)
     → FoldsEntry told pass rows blocks l place line (Err e) new
 tests-failed told pass fold new rows blocks l place line cs e true s n h t v idle = tests-refused told pass fold new rows blocks l place line cs e s n h (sym t) (v refl)

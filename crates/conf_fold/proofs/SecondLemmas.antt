@@ -12,7 +12,7 @@ use Rattle.conf_rules.specs.declared.asked.AskedLine.{AskedLine}
 use Rattle.conf_rules.specs.declared.causes.Cause.{Cause}
 use Rattle.conf_rules.specs.declared.causes.Cause.TheVariants as causes
 use Rattle.conf_rules.specs.declared.entry.Entry.{Entry}
-use Rattle.conf_rules.specs.declared.entry.Entry.TheVariants.{Nothing, Block, Tests, Gives}
+use Rattle.conf_rules.specs.declared.entry.Entry.TheVariants.{Nothing, Host, Match, Gives}
 use Rattle.conf_rules.specs.declared.key_kind.KeyKind.{KeyKind}
 use Rattle.conf_rules.specs.declared.key_kind.KeyKind.TheVariants as kinds
 use Rattle.conf_rules.specs.Results.{◌>>=◌, as_error}
@@ -90,8 +90,8 @@ says-again rows more l e h = asked-says (rows ++ more) l ∙ on (word_in (value 
 -- what an entry gives again changes nothing, where it gave it before
 gives-again : (settings all : List Given) (e : Entry) → ((key : Key) (v : Value) → e ≡ Gives key v → has_key key all ≡ true) → Keeps settings all → Keeps settings (all ++ entry_gives true (Ok e))
 gives-again settings all Nothing has s = rw (append-nil all) s
-gives-again settings all (Block ps) has s = rw (append-nil all) s
-gives-again settings all (Tests cs) has s = rw (append-nil all) s
+gives-again settings all (Host ps) has s = rw (append-nil all) s
+gives-again settings all (Match cs) has s = rw (append-nil all) s
 gives-again settings all (Gives key v) has s = on (is_collected key) refl
   where
     on : (t : Bool) → is_collected key ≡ t → Keeps settings (all ++ cond t [] ((key, v) ∷ []))

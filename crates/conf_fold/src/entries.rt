@@ -7,7 +7,7 @@ ghost use Rattle.conf_rules.specs.Includes.{CommandLine, UserFile};
 ghost use Rattle.conf_rules.specs.Resolution.{is_final};
 ghost use Rattle.conf_rules.specs.Keywords.{meaning_of};
 ghost use Rattle.conf_rules.specs.Sources.{asked_line};
-ghost use Rattle.conf_rules.specs.Entries.{split, block_entry, tests_entry, words_entry, key_entry, takes_keyword, unknown_entry, headed_entry, content_entry, keyword_entry};
+ghost use Rattle.conf_rules.specs.Entries.{split, host_entry, match_entry, words_entry, key_entry, takes_keyword, unknown_entry, headed_entry, content_entry, keyword_entry};
 ghost use Rattle.conf_reader.specs.Results.{is_line_fault};
 ghost use Rattle.conf_fold.specs.Results.{GivesLine};
 ghost use Rattle.conf_fold.specs.Entries.{entry_fits, value_entry, spelled_entry};
@@ -65,22 +65,22 @@ fn split(alloc: Global, rest: &[u8]) -> Result<Texts, LineError>
 }
 
 /// What a Host line says.
-fn block_entry(alloc: Global, rest: &[u8]) -> Result<Entry, LineError>
-    ensures read { GivesLine result (block_entry (split rest.now)) }
+fn host_entry(alloc: Global, rest: &[u8]) -> Result<Entry, LineError>
+    ensures read { GivesLine result (host_entry (split rest.now)) }
     ensures fits { IfOk result (λ entry. entry_fits entry ≡ true) }
     ensures plain { IfErr result (λ e. is_line_fault e ≡ false) }
 {
-    Ok(Entry::Block(split(alloc, rest)?))
+    Ok(Entry::Host(split(alloc, rest)?))
 }
 
 /// What a Match line says.
-fn tests_entry(alloc: Global, rest: &[u8]) -> Result<Entry, LineError>
-    ensures read { GivesLine result (tests_entry (split rest.now)) }
+fn match_entry(alloc: Global, rest: &[u8]) -> Result<Entry, LineError>
+    ensures read { GivesLine result (match_entry (split rest.now)) }
     ensures fits { IfOk result (λ entry. entry_fits entry ≡ true) }
     ensures plain { IfErr result (λ e. is_line_fault e ≡ false) }
 {
     let words = split(alloc, rest)?;
-    Ok(Entry::Tests(read_criteria(alloc, &words)?))
+    Ok(Entry::Match(read_criteria(alloc, &words)?))
 }
 
 /// What a line says whose words alone are read.
@@ -182,8 +182,8 @@ pub fn file_entry(
 {
     match kind_of(keyword) {
         KeyKind::Key(key) => key_entry(alloc, key, rest),
-        KeyKind::Host => block_entry(alloc, rest),
-        KeyKind::Match => tests_entry(alloc, rest),
+        KeyKind::Host => host_entry(alloc, rest),
+        KeyKind::Match => match_entry(alloc, rest),
         KeyKind::Include => words_entry(alloc, rest),
         KeyKind::Unchecked => Ok(Entry::Nothing),
         KeyKind::Unknown => unknown_entry(alloc, ignored, keyword, rest),

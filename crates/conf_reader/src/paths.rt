@@ -29,7 +29,7 @@ use std::alloc::Global;
 
 /// What the tokens of a path see: facts alone.
 fn view<'a>(facts: &'a Facts, original: &'a [u8]) -> View<'a>
-    ensures { seen result ≡ facts_view (known facts.now) original.now }
+    ensures { seen result ≡ facts_seen (known facts.now) original.now }
 {
     View {
         original,

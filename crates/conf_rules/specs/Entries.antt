@@ -20,7 +20,7 @@ use Rattle.conf_rules.specs.Includes.{Source, CommandLine}
 use Rattle.conf_rules.specs.Sources.{Line, Content, Spelled, Parts, Refused}
 use Rattle.conf_rules.specs.Rows.{Row, value, word_in}
 use Rattle.conf_rules.specs.declared.entry.Entry.{Entry}
-use Rattle.conf_rules.specs.declared.entry.Entry.TheVariants.{Nothing, Block, Tests, Gives}
+use Rattle.conf_rules.specs.declared.entry.Entry.TheVariants.{Nothing, Host, Match, Gives}
 
 -- what a line says, or why it is refused
 abbrev pub ReadEntry : Type 0
@@ -40,12 +40,12 @@ abbrev pub split : Bytes → SplitWords
 split rest = as_error causes.Lex (words_of rest)
 
 -- a Host line
-abbrev pub block_entry : SplitWords → ReadEntry
-block_entry words = words >>= λ ws. Ok (Block ws)
+abbrev pub host_entry : SplitWords → ReadEntry
+host_entry words = words >>= λ ws. Ok (Host ws)
 
 -- a Match line
-abbrev pub tests_entry : SplitWords → ReadEntry
-tests_entry words = words >>= λ ws. as_error causes.Match (read_criteria ws) >>= λ cs. Ok (Tests cs)
+abbrev pub match_entry : SplitWords → ReadEntry
+match_entry words = words >>= λ ws. as_error causes.Match (read_criteria ws) >>= λ cs. Ok (Match cs)
 
 -- the words of a key: those whose rest is taken unsplit have none
 abbrev pub key_words : Bool → SplitWords → SplitWords
@@ -75,8 +75,8 @@ in_file source entry = entry
 -- Include line names stands behind it.
 abbrev pub keyword_entry : Option Bytes → Source → Bytes → Bytes → SplitWords → KeyKind → ReadEntry
 keyword_entry ignored source keyword rest words (kinds.Key key) = key_entry key rest words
-keyword_entry ignored source keyword rest words kinds.Host = in_file source (block_entry words)
-keyword_entry ignored source keyword rest words kinds.Match = in_file source (tests_entry words)
+keyword_entry ignored source keyword rest words kinds.Host = in_file source (host_entry words)
+keyword_entry ignored source keyword rest words kinds.Match = in_file source (match_entry words)
 keyword_entry ignored source keyword rest words kinds.Include = in_file source (words_entry words)
 keyword_entry ignored source keyword rest words kinds.Unchecked = Ok Nothing
 keyword_entry ignored source keyword rest words kinds.Unknown =

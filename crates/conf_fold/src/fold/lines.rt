@@ -163,12 +163,12 @@ impl Fold {
     {
         let depth = line.depth as usize;
         match entry {
-            Entry::Block(patterns) => {
+            Entry::Host(patterns) => {
                 let applies = self.names_it(&patterns);
                 self.open(depth, applies)?;
                 Ok(())
             }
-            Entry::Tests(criteria) => {
+            Entry::Match(criteria) => {
                 let active = self.all_apply(depth);
                 let applies = self.tests(active, &criteria, facts, runner)?;
                 self.ask(&criteria);
