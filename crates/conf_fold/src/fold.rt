@@ -17,7 +17,7 @@ mod lines;
 use crate::entries::asked_entry;
 use conf_options::Settings;
 use conf_reader::refuse;
-use conf_rules::{Asked, AskedLine, Entry, Key, ResolveError, Value};
+use conf_rules::{Asked, AskedLine, Entry, Key, ResolveError};
 use conf_tokens::expand_name;
 use ssh_fields::{ListOf, OutOfMemory, Text};
 use std::alloc::Global;
@@ -38,16 +38,6 @@ pub struct Fold {
     were_active: ListOf<bool>,
     // In the second pass, how many such lines were given.
     seen: usize,
-}
-
-/// The text of a value.
-fn word_in(value: Option<&Value>) -> Option<&[u8]>
-    ensures { option_copied result ≡ word_in (option_copied value.entry) }
-{
-    match value {
-        Some(Value::Word(text)) => Some(text.as_bytes()),
-        _ => None,
-    }
 }
 
 /// The number of the word at which a line of the command line stands.
@@ -168,7 +158,7 @@ impl Fold {
     fn text(&self, key: Key) -> Option<&[u8]>
         ensures { option_copied result ≡ word_in (setting key self.now) }
     {
-        word_in(self.settings.first(key))
+        self.settings.word(key)
     }
 
     /// The host name so far.

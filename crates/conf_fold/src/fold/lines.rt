@@ -99,10 +99,7 @@ impl Fold {
     pub(crate) fn jump(&self) -> &[u8]
         ensures { result.now ≡ or_text [] (but_none (word_in (setting keys.ProxyJump self.now))) }
     {
-        match self.text(Key::ProxyJump) {
-            Some(text) if !text.eq_ignore_ascii_case(b"none") => text,
-            _ => b"",
-        }
+        self.settings.named_word(Key::ProxyJump).unwrap_or(b"")
     }
 
     /// Whether the block of criteria applies, which are evaluated only on an active line.
