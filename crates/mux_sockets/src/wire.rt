@@ -11,6 +11,7 @@ ghost use Rattle.mux_outside.specs.declared.turn.Want.TheVariants.{Read as Wants
 ghost use Rattle.mux_outside.specs.declared.turn.Turn.TheVariants.{NoMemory};
 ghost use Rattle.indexmap.specs.IndexMap.{get};
 ghost use Rattle.mux_sockets.specs.Entries.{HasEntry, IsFinished, IsPaused, Stands};
+ghost use Rattle.mux_sockets.specs.Shares.{PassesOwn, holds_own};
 ghost use Rattle.mux_sockets.specs.Sockets.{FoundFits, Tells};
 ghost use Rattle.mux_sockets.specs.Untold.{untold};
 
@@ -575,6 +576,8 @@ fn found_next<R: Files + Net + Processes + Clock + Clone + Drop>(
 ) -> Turn
     ensures fits { FoundFits result numbers into.old into.new }
     ensures stands { IfSome sockets.new (λ s. Stands result s.entries) }
+    ensures passes { IfSome sockets.old (λ s.
+        holds_own waiting.now s.shares ≡ true → PassesOwn result) }
     ensures listening { option_map (λ s. s.listening) sockets.new
         ≡ option_map (λ s. s.listening) sockets.old }
 {
