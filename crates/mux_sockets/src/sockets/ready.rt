@@ -339,7 +339,8 @@ impl Queue {
 
     /// Takes out what is at this place.
     pub fn take(&mut self, at: Option<usize>) -> Option<Ready>
-        ensures { IfSome at (λ at. result ≡ slice_get self.old.items.items at) }
+        ensures { IfSome result (λ ready.
+            IsSomeAnd at (λ at. slice_get self.old.items.items at ≡ Some ready)) }
     {
         let at = at?;
         if at >= self.front {
