@@ -46,6 +46,14 @@ impl Heard {
         }
     }
 
+    /// How many bytes were heard.
+    pub fn len(self) -> usize {
+        match self {
+            Heard::Bytes(count) => count,
+            Heard::End | Heard::Nothing | Heard::Interrupted | Heard::Failed => 0,
+        }
+    }
+
     /// Whether nothing more can be heard.
     pub fn is_last(self) -> bool {
         matches!(self, Heard::End | Heard::Failed)

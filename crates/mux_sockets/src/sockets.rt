@@ -1,6 +1,7 @@
 //! The sockets of a run, and which of them are ready, in the order in which they became so.
 ghost use Rattle.std.specs.Prelude.{◌≡◌, ◌≢◌, ℕ, List, Err, IfOk, IfSome, IsErr, IsNone, IsSome, IsUtf8, None, OnOk, false, true, nat_eq};
 ghost use Rattle.std.specs.IoError.{error_kind};
+ghost use Rattle.mux_sockets.specs.Shares.{PassesOwn, holds_own};
 ghost use Rattle.mux_sockets.specs.Sockets.{FoundFits};
 ghost use Rattle.mux_sockets.specs.Entries.{HasEntry, IsBlocked, OthersStay, Stands, StopsShort};
 ghost use Rattle.mux_sockets.specs.declared.numbers.Numbers.{Numbers};
@@ -11,9 +12,11 @@ mod own;
 mod ready;
 mod resolver;
 mod served;
+mod shares;
 
 use self::ready::{Door, Entry, Queue};
 use self::resolver::Resolver;
+use self::shares::Shares;
 use crate::control::{Control, Unnamed, listen_beside};
 use crate::numbers::Numbers;
 use crate::stream::Stream;
@@ -62,6 +65,9 @@ struct Listening<R: Files + Drop> {
 ///
 /// What becomes ready goes behind what was ready before, and the system is asked again when all
 /// that was ready then was served at most twice. So no stream is passed over for longer than that.
+///
+/// While the server's stream is waited for, the master's own streams are read no further than the
+/// clients are. What is ready of them keeps its place till then, and is passed over.
 #[derive(Drop)]
 pub struct Sockets<R: Files + Processes + Drop> {
     // `None`: no client comes, as after `stop_listening` and after `join`. It stands first, so that
@@ -79,6 +85,7 @@ pub struct Sockets<R: Files + Processes + Drop> {
     // the same at a listener of the master's own
     joins_pause: bool,
     ready: Queue,
+    shares: Shares,
     // what is read into
     spare: Piece,
 }
@@ -170,6 +177,7 @@ impl<R: Files + Net + Processes + Clock + Clone + Drop> Sockets<R> {
             pauses: false,
             joins_pause: false,
             ready: Queue::new(alloc),
+            shares: Shares::new(),
             spare: Piece::new(alloc).map_err(|_| AllocError)?,
         })
     }
@@ -263,14 +271,16 @@ impl<R: Files + Net + Processes + Clock + Clone + Drop> Sockets<R> {
     ) -> Turn
         ensures fits { FoundFits result numbers into.old into.new }
         ensures stands { Stands result self.new.entries }
+        ensures passes { holds_own waiting.now self.old.shares ≡ true → PassesOwn result }
         ensures listening { self.new.listening ≡ self.old.listening }
     {
+        let holds_own = self.shares.holds_own(waiting);
         for _ in 0..u64::MAX {
             let joins = numbers.own.is_some() && !self.joins_pause;
             let at = self
                 .ready
-                .first(waiting, want, numbers.client.is_some(), joins);
-            if at.is_none() || self.ready.is_round_over() {
+                .first(waiting, want, numbers.client.is_some(), joins, holds_own);
+            if self.ready.is_round_over(at) {
                 if let Err(e) = self.look(rt, at.is_some()) {
                     return failure_of(&e);
                 }

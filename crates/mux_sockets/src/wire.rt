@@ -1,4 +1,4 @@
-ghost use Rattle.std.specs.Prelude.{◌≡◌, ◌≢◌, ◌<◌, ◌+◌, ◌++◌, ◌∷◌, ◌&&◌, not, ℕ, List, [], length, false, true, IfSome, IsErr, IsNone, IsSome, IsSomeAnd, IsTrue, IsUtf8, None, OnErr, OnOk, nat_eq, option_map};
+ghost use Rattle.std.specs.Prelude.{◌≡◌, ◌≢◌, ◌<◌, ◌+◌, ◌++◌, ◌∷◌, ◌&&◌, not, ℕ, List, [], length, false, true, Err, IfSome, IsErr, IsNone, IsSome, IsSomeAnd, IsTrue, IsUtf8, None, OnErr, OnOk, Some, nat_eq, option_map};
 ghost use Rattle.mux_outside.specs.Seen.{calls_after_open, no_calls, seen_after_connect, seen_after_finish, seen_after_join, seen_after_listen, seen_after_open, seen_after_pause};
 ghost use Rattle.mux_outside.specs.Streams.{among};
 ghost use Rattle.mux_outside.specs.Tally.{no_tally};
@@ -11,6 +11,7 @@ ghost use Rattle.mux_outside.specs.declared.turn.Want.TheVariants.{Read as Wants
 ghost use Rattle.mux_outside.specs.declared.turn.Turn.TheVariants.{NoMemory};
 ghost use Rattle.indexmap.specs.IndexMap.{get};
 ghost use Rattle.mux_sockets.specs.Entries.{HasEntry, IsFinished, IsPaused, Stands};
+ghost use Rattle.mux_sockets.specs.Shares.{PassesOwn, holds_own};
 ghost use Rattle.mux_sockets.specs.Sockets.{FoundFits, Tells};
 ghost use Rattle.mux_sockets.specs.Untold.{untold};
 
@@ -125,6 +126,60 @@ impl<R: Files + Net + Processes + Clock + Clone + Drop> RealWire<R> {
 }
 
 impl<R: Files + Net + Processes + Clock + Clone + Drop> RealWire<R> {
+    // From now on these streams alone are open, none of them the master's own.
+    fn begin(&mut self, sockets: Sockets<R>, streams: Streams, listening: bool)
+        ensures { self.new ≡ record self.old {
+          sockets = Some sockets;
+          streams = streams;
+          blocked = [];
+          listening = listening;
+          listeners = [];
+          own = [];
+        } }
+    {
+        self.sockets = Some(sockets);
+        self.streams = streams;
+        self.blocked = Streams::new(self.alloc);
+        self.listening = listening;
+        self.listeners = Streams::new(self.alloc);
+        self.own = OwnStreams::new(self.alloc);
+    }
+
+    // Counts that nothing was opened.
+    fn not_opened(&mut self, fault: Fault) -> FileError
+        ensures same { self.new ≡ record self.old {
+          calls = self.new.calls;
+          server_faults = self.new.server_faults;
+          client_faults = self.new.client_faults;
+        } }
+        ensures calls { self.new.calls ≡ calls_after_open (Err result) self.old.calls }
+        ensures cause { OpenFaults (Err result) self.old.server_faults self.new.server_faults
+            self.old.client_faults self.new.client_faults }
+    {
+        match fault {
+            Fault::Control => self.client_faults = raised(self.client_faults),
+            Fault::Transport => self.server_faults = raised(self.server_faults),
+            Fault::Memory => return FileError::OutOfMemory,
+        }
+        self.calls.opened();
+        FileError::Failed
+    }
+
+    // Counts that nothing was joined.
+    fn not_joined(&mut self, fault: Fault) -> FileError
+        ensures same { self.new ≡ record self.old { server_faults = self.new.server_faults } }
+        ensures cause { JoinFaults (Err result) self.old.server_faults self.new.server_faults
+            self.old.client_faults self.new.client_faults }
+    {
+        match fault {
+            Fault::Control | Fault::Transport => {
+                self.server_faults = raised(self.server_faults);
+                FileError::Failed
+            }
+            Fault::Memory => FileError::OutOfMemory,
+        }
+    }
+
     // The turn of what the sockets found. What they may not find is a fault of the server's stream.
     fn turn_of(&mut self, found: Turn, want: Want, numbers: Numbers) -> Turn
         requires next { IfSome numbers.client (λ k. (want ≡ WantsAll) × (self.old.listening ≡ true)
@@ -143,14 +198,17 @@ impl<R: Files + Net + Processes + Clock + Clone + Drop> RealWire<R> {
         ensures kept { (before now : List ℕ) → FoundFits found numbers before now
             → result ≡ NoMemory → now ≡ before }
         ensures sockets { result ≢ NoMemory → self.new.sockets ≡ self.old.sockets }
-        ensures streams { self.new.streams ≡ open_after result self.old.streams }
-        ensures blocked { self.new.blocked ≡ blocked_after result self.old.blocked }
-        ensures listens { self.new.listening ≡ self.old.listening }
-        ensures last { self.new.last ≡ last_after result self.old.last }
-        ensures listeners { self.new.listeners ≡ self.old.listeners }
-        ensures own { self.new.own ≡ own_after result self.old.own }
-        ensures last_own { self.new.last_own ≡ last_own_after result self.old.last_own }
-        ensures calls { self.new.calls ≡ self.old.calls }
+        ensures same { self.new ≡ record self.old {
+          sockets = self.new.sockets;
+          streams = open_after result self.old.streams;
+          blocked = blocked_after result self.old.blocked;
+          last = last_after result self.old.last;
+          own = own_after result self.old.own;
+          last_own = last_own_after result self.old.last_own;
+          server_faults = self.new.server_faults;
+          client_faults = self.new.client_faults;
+          own_faults = self.new.own_faults;
+        } }
         ensures cause { TurnFaults result self.old.server_faults self.new.server_faults
             self.old.client_faults self.new.client_faults }
         ensures own_faults { OwnTurnFaults result self.old.own_faults self.new.own_faults }
@@ -229,11 +287,7 @@ impl<R: Files + Net + Processes + Clock + Clone + Drop> RealWire<R> {
         }) }
         ensures err { OnErr result (self.new ≡ self.old) }
     {
-        self.streams.push(number)?;
-        if self.own.push(number).is_err() {
-            let _ = self.streams.pop();
-            return Err(OutOfMemory);
-        }
+        push_both(&mut self.streams, &mut self.own, number)?;
         self.last_own = number;
         Ok(())
     }
@@ -303,42 +357,22 @@ impl<R: Files + Net + Processes + Clock + Clone + Drop> RealWire<R> {
     fn hand_over(&mut self, stream: u64, bytes: &[u8]) -> Wrote
         requires { 0 < length bytes.now }
         ensures wrote { WroteFits result (length bytes.now) }
-        ensures streams { self.new.streams ≡ self.old.streams }
-        ensures blocked { self.new.blocked ≡ blocked_after_write result stream self.old.blocked }
-        ensures listens { self.new.listening ≡ self.old.listening }
-        ensures last { self.new.last ≡ self.old.last }
-        ensures listeners { self.new.listeners ≡ self.old.listeners }
-        ensures own { self.new.own ≡ self.old.own }
-        ensures last_own { self.new.last_own ≡ self.old.last_own }
-        ensures calls { self.new.calls ≡ self.old.calls }
+        ensures same { self.new ≡ record self.old {
+          sockets = self.new.sockets;
+          blocked = blocked_after_write result stream self.old.blocked;
+          server_faults = self.new.server_faults;
+          client_faults = self.new.client_faults;
+          own_faults = self.new.own_faults;
+        } }
         ensures cause { WroteFaults result stream self.old.server_faults self.new.server_faults
             self.old.client_faults self.new.client_faults }
         ensures own_faults { OwnWroteFaults result stream self.old.own_faults self.new.own_faults }
     {
-        // The room for a stream that blocks comes before the write, which can't be taken back.
-        if self.blocked.push(stream).is_err() {
-            return Wrote::NoMemory;
+        let wrote = write(&mut self.sockets, &mut self.blocked, stream, bytes);
+        if wrote == Wrote::Failed {
+            self.count(stream);
         }
-        let wrote = match &mut self.sockets {
-            Some(sockets) => sockets.write(stream, bytes),
-            None => Wrote::Failed,
-        };
-        match wrote {
-            Wrote::Later => Wrote::Later,
-            Wrote::Took(count) => {
-                let _ = self.blocked.pop();
-                Wrote::Took(count)
-            }
-            Wrote::Failed => {
-                let _ = self.blocked.pop();
-                self.count(stream);
-                Wrote::Failed
-            }
-            Wrote::NoMemory => {
-                let _ = self.blocked.pop();
-                Wrote::NoMemory
-            }
-        }
+        wrote
     }
 }
 
@@ -375,29 +409,13 @@ impl<R: Files + Net + Processes + Clock + Clone + Drop> Wire for RealWire<R> {
     {
         let mut streams = Streams::new(self.alloc);
         streams.push(0)?;
-        let opened = Sockets::open(&self.rt, self.alloc, control, transport);
-        if !matches!(opened, Err(Fault::Memory)) {
-            self.calls.opened();
-        }
-        match opened {
+        match Sockets::open(&self.rt, self.alloc, control, transport) {
             Ok(sockets) => {
-                self.sockets = Some(sockets);
-                self.streams = streams;
-                self.blocked = Streams::new(self.alloc);
-                self.listeners = Streams::new(self.alloc);
-                self.own = OwnStreams::new(self.alloc);
-                self.listening = true;
+                self.begin(sockets, streams, true);
+                self.calls.opened();
                 Ok(())
             }
-            Err(Fault::Control) => {
-                self.client_faults = raised(self.client_faults);
-                Err(FileError::Failed)
-            }
-            Err(Fault::Transport) => {
-                self.server_faults = raised(self.server_faults);
-                Err(FileError::Failed)
-            }
-            Err(Fault::Memory) => Err(FileError::OutOfMemory),
+            Err(fault) => Err(self.not_opened(fault)),
         }
     }
 
@@ -419,19 +437,10 @@ impl<R: Files + Net + Processes + Clock + Clone + Drop> Wire for RealWire<R> {
         streams.push(0)?;
         match Sockets::join(&self.rt, self.alloc, control) {
             Ok(sockets) => {
-                self.sockets = Some(sockets);
-                self.streams = streams;
-                self.blocked = Streams::new(self.alloc);
-                self.listeners = Streams::new(self.alloc);
-                self.own = OwnStreams::new(self.alloc);
-                self.listening = false;
+                self.begin(sockets, streams, false);
                 Ok(())
             }
-            Err(Fault::Memory) => Err(FileError::OutOfMemory),
-            Err(_) => {
-                self.server_faults = raised(self.server_faults);
-                Err(FileError::Failed)
-            }
+            Err(fault) => Err(self.not_joined(fault)),
         }
     }
 
@@ -461,9 +470,7 @@ impl<R: Files + Net + Processes + Clock + Clone + Drop> Wire for RealWire<R> {
         ensures own_faults { self.new.own_faults ≡ self.old.own_faults }
     {
         self.listening = false;
-        if let Some(sockets) = &mut self.sockets {
-            sockets.stop_listening();
-        }
+        stop_listening(&mut self.sockets);
     }
 
     fn close(&mut self, stream: u64) {
@@ -491,9 +498,7 @@ impl<R: Files + Net + Processes + Clock + Clone + Drop> Wire for RealWire<R> {
 
     fn unlisten(&mut self, listener: u64) {
         self.listeners.remove(listener);
-        if let Some(sockets) = &mut self.sockets {
-            sockets.unlisten(listener);
-        }
+        unlisten(&mut self.sockets, listener);
     }
 
     fn pause(&mut self, stream: u64)
@@ -511,10 +516,7 @@ impl<R: Files + Net + Processes + Clock + Clone + Drop> Wire for RealWire<R> {
         ensures own_faults { self.new.own_faults ≡ self.old.own_faults }
     {
         self.own.set_paused(stream, true);
-        match &mut self.sockets {
-            Some(sockets) if is_own(stream) => sockets.pause(stream),
-            _ => {}
-        }
+        pause(&mut self.sockets, stream);
     }
 
     fn resume(&mut self, stream: u64)
@@ -532,10 +534,7 @@ impl<R: Files + Net + Processes + Clock + Clone + Drop> Wire for RealWire<R> {
         ensures own_faults { self.new.own_faults ≡ self.old.own_faults }
     {
         self.own.set_paused(stream, false);
-        match &mut self.sockets {
-            Some(sockets) if is_own(stream) => sockets.resume(stream),
-            _ => {}
-        }
+        resume(&mut self.sockets, stream);
     }
 
     fn finish(&mut self, stream: u64)
@@ -553,10 +552,7 @@ impl<R: Files + Net + Processes + Clock + Clone + Drop> Wire for RealWire<R> {
         ensures own_faults { self.new.own_faults ≡ self.old.own_faults }
     {
         self.own.finish(stream);
-        match &mut self.sockets {
-            Some(sockets) if is_own(stream) => sockets.finish(stream),
-            _ => {}
-        }
+        finish(&mut self.sockets, stream);
     }
 
     fn tally(&self) -> Tally {
@@ -575,6 +571,8 @@ fn found_next<R: Files + Net + Processes + Clock + Clone + Drop>(
 ) -> Turn
     ensures fits { FoundFits result numbers into.old into.new }
     ensures stands { IfSome sockets.new (λ s. Stands result s.entries) }
+    ensures passes { IfSome sockets.old (λ s.
+        holds_own waiting.now s.shares ≡ true → PassesOwn result) }
     ensures listening { option_map (λ s. s.listening) sockets.new
         ≡ option_map (λ s. s.listening) sockets.old }
 {
@@ -582,6 +580,31 @@ fn found_next<R: Files + Net + Processes + Clock + Clone + Drop>(
         Some(sockets) => sockets.next(rt, waiting.as_slice(), want, numbers, into),
         None => Turn::Failed(0),
     }
+}
+
+// Hands bytes to a stream's socket. The room for a stream that blocks comes before the write, which
+// can't be taken back.
+fn write<R: Files + Net + Processes + Clock + Clone + Drop>(
+    sockets: &mut Option<Sockets<R>>,
+    blocked: &mut Streams,
+    stream: u64,
+    bytes: &[u8],
+) -> Wrote
+    requires { 0 < length bytes.now }
+    ensures fits { WroteFits result (length bytes.now) }
+    ensures blocked { blocked.new ≡ blocked_after_write result stream blocked.old }
+{
+    if blocked.push(stream).is_err() {
+        return Wrote::NoMemory;
+    }
+    let wrote = match sockets {
+        Some(sockets) => sockets.write(stream, bytes),
+        None => Wrote::Failed,
+    };
+    if wrote != Wrote::Later {
+        let _ = blocked.pop();
+    }
+    wrote
 }
 
 // Lets go of a stream's socket.
@@ -596,6 +619,86 @@ fn drop_socket<R: Files + Net + Processes + Clock + Clone + Drop>(
     if let Some(sockets) = sockets {
         sockets.remove(stream);
     }
+}
+
+// Reads nothing of a stream of the master's own for now.
+fn pause<R: Files + Net + Processes + Clock + Clone + Drop>(
+    sockets: &mut Option<Sockets<R>>,
+    stream: u64,
+)
+    ensures { IfSome sockets.old (λ old. is_own stream ≡ true → HasEntry stream old.entries
+        → IsSomeAnd sockets.new (λ new. IsPaused true stream new.entries)) }
+{
+    match sockets {
+        Some(sockets) if is_own(stream) => sockets.pause(stream),
+        _ => {}
+    }
+}
+
+// Reads a stream of the master's own again.
+fn resume<R: Files + Net + Processes + Clock + Clone + Drop>(
+    sockets: &mut Option<Sockets<R>>,
+    stream: u64,
+)
+    ensures { IfSome sockets.old (λ old. is_own stream ≡ true → HasEntry stream old.entries
+        → IsSomeAnd sockets.new (λ new. IsPaused false stream new.entries)) }
+{
+    match sockets {
+        Some(sockets) if is_own(stream) => sockets.resume(stream),
+        _ => {}
+    }
+}
+
+// Says the end of a stream of the master's own to the other side.
+fn finish<R: Files + Net + Processes + Clock + Clone + Drop>(
+    sockets: &mut Option<Sockets<R>>,
+    stream: u64,
+)
+    ensures { IfSome sockets.old (λ old. is_own stream ≡ true → HasEntry stream old.entries
+        → IsSomeAnd sockets.new (λ new. IsFinished stream new.entries)) }
+{
+    match sockets {
+        Some(sockets) if is_own(stream) => sockets.finish(stream),
+        _ => {}
+    }
+}
+
+// Accepts no more clients.
+fn stop_listening<R: Files + Net + Processes + Clock + Clone + Drop>(
+    sockets: &mut Option<Sockets<R>>,
+)
+    ensures { IfSome sockets.new (λ sockets. IsNone sockets.listening) }
+{
+    if let Some(sockets) = sockets {
+        sockets.stop_listening();
+    }
+}
+
+// Closes a listener of the master's own.
+fn unlisten<R: Files + Net + Processes + Clock + Clone + Drop>(
+    sockets: &mut Option<Sockets<R>>,
+    listener: u64,
+)
+    ensures { IfSome sockets.new (λ s. get nat_eq s.doors listener ≡ None) }
+{
+    if let Some(sockets) = sockets {
+        sockets.unlisten(listener);
+    }
+}
+
+// Adds a stream of the master's own to the open ones and to its own. An `Err` changes nothing.
+fn push_both(streams: &mut Streams, own: &mut OwnStreams, number: u64) -> Result<(), OutOfMemory>
+    ensures streams { OnOk result (streams.new ≡ streams.old ++ number ∷ []) }
+    ensures own { OnOk result (own.new ≡ own.old ++ new_stream number ∷ []) }
+    ensures same_streams { OnErr result (streams.new ≡ streams.old) }
+    ensures same_own { OnErr result (own.new ≡ own.old) }
+{
+    streams.push(number)?;
+    if own.push(number).is_err() {
+        let _ = streams.pop();
+        return Err(OutOfMemory);
+    }
+    Ok(())
 }
 
 // Listens at an address with this number.

@@ -1,10 +1,10 @@
 //! What is ready, in the order in which it became so.
-ghost use Rattle.std.specs.Prelude.{◌≡◌, ◌++◌, ◌∷◌, [], false, true, IsNone, Some, OnErr, OnOk};
-ghost use Rattle.mux_sockets.specs.Ready.{IsFull};
+ghost use Rattle.std.specs.Prelude.{◌≡◌, ◌++◌, ◌∷◌, [], false, true, IfSome, IsNone, IsSomeAnd, Some, OnErr, OnOk, slice_get};
+ghost use Rattle.mux_sockets.specs.Ready.{IsFull, IsLookedFor};
 
 use crate::stream::Stream;
 use mio::net::TcpListener;
-use mux_outside::{Turn, Want};
+use mux_outside::{Turn, Want, is_own};
 use std::alloc::{AllocError, Global};
 use std::collections::VecDeque;
 use std::io;
@@ -56,8 +56,10 @@ pub enum Ready {
 pub struct Queue {
     items: VecDeque<Ready>,
     accepts: bool,
-    // how many of the round are to be served yet
-    left: usize,
+    // how many at the front were there when the round last began to go over it
+    front: usize,
+    // the round goes over it once more
+    again: bool,
 }
 
 impl Entry {
@@ -159,7 +161,8 @@ impl Queue {
         Queue {
             items: VecDeque::new(alloc),
             accepts: false,
-            left: 0,
+            front: 0,
+            again: false,
         }
     }
 
@@ -300,29 +303,52 @@ impl Queue {
 
     /// Begins a round over all that is ready.
     pub fn begin_round(&mut self) {
-        self.left = self.items.len().saturating_mul(2);
+        self.front = self.items.len();
+        self.again = true;
     }
 
-    /// Whether the round is over.
-    pub fn is_round_over(&self) -> bool {
-        self.left == 0
+    /// Whether the round is over, where this is the first place that may be served.
+    pub fn is_round_over(&self, at: Option<usize>) -> bool {
+        match at {
+            Some(at) => at >= self.front && !self.again,
+            None => true,
+        }
     }
 
-    /// Where the first is that may be served.
-    pub fn first(&self, waiting: &[u64], want: Want, accepts: bool, joins: bool) -> Option<usize> {
+    /// Where the first is that may be served. Of the master's own streams none is read where they are
+    /// held back.
+    pub fn first(
+        &self,
+        waiting: &[u64],
+        want: Want,
+        accepts: bool,
+        joins: bool,
+        holds_own: bool,
+    ) -> Option<usize>
+        ensures { IfSome result (λ at.
+            IsSomeAnd (slice_get self.now.items.items at) (IsLookedFor holds_own)) }
+    {
         self.items.iter().position(|r| match *r {
             Ready::Accept => want == Want::Read && accepts,
             Ready::Join(_) => want == Want::Read && joins,
-            Ready::Read(_) => want == Want::Read,
+            Ready::Read(number) => want == Want::Read && !(holds_own && is_own(number)),
             Ready::Write(number) => waiting.contains(&number),
             Ready::Connect(number) => want == Want::Read || waiting.contains(&number),
         })
     }
 
     /// Takes out what is at this place.
-    pub fn take(&mut self, at: Option<usize>) -> Option<Ready> {
-        let taken = self.items.remove(at?)?;
-        self.left = self.left.saturating_sub(1);
+    pub fn take(&mut self, at: Option<usize>) -> Option<Ready>
+        ensures { IfSome result (λ ready.
+            IsSomeAnd at (λ at. slice_get self.old.items.items at ≡ Some ready)) }
+    {
+        let at = at?;
+        if at >= self.front {
+            self.front = self.items.len();
+            self.again = false;
+        }
+        let taken = self.items.remove(at)?;
+        self.front = self.front.saturating_sub(1);
         if taken == Ready::Accept {
             self.accepts = false;
         }

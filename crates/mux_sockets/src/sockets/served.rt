@@ -111,6 +111,7 @@ impl<R: Files + Net + Processes + Clock + Clone + Drop> Sockets<R> {
         if heard.leaves_more(entry.stops_short) {
             let _ = self.ready.note_read(number, entry);
         }
+        self.shares.count(number, heard.len());
         heard.turn(number)
     }
 
