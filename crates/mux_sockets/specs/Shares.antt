@@ -1,5 +1,5 @@
 -- When the master's own streams are held back.
-use Rattle.std.specs.Prelude.{◌≡◌, ◌+◌, ◌-◌, ◌^◌, ℕ, Bool, true, false, not, if◌then◌else◌, ◌&&◌, ◌==◌, List, min, nat_lt}
+use Rattle.std.specs.Prelude.{◌≡◌, ◌+◌, ◌-◌, ◌^◌, ℕ, Bool, false, not, if◌then◌else◌, ◌&&◌, ◌==◌, List, min, nat_lt}
 use Rattle.mux_outside.specs.Streams.{among}
 use Rattle.mux_outside.specs.OwnStreams.{is_own}
 use Rattle.mux_outside.specs.declared.turn.Turn.{Turn}

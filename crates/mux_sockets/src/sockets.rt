@@ -67,7 +67,7 @@ struct Listening<R: Files + Drop> {
 /// that was ready then was served at most twice. So no stream is passed over for longer than that.
 ///
 /// While the server's stream is waited for, the master's own streams are read no further than the
-/// clients are. What is ready of them keeps its place till then, and is passed over.
+/// clients are. What is ready of them keeps its place, and is passed over.
 #[derive(Drop)]
 pub struct Sockets<R: Files + Processes + Drop> {
     // `None`: no client comes, as after `stop_listening` and after `join`. It stands first, so that

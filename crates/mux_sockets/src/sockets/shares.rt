@@ -8,9 +8,9 @@ use mux_outside::is_own;
 /// How many bytes came of the clients and of the master's own streams since the server's stream is
 /// waited for.
 ///
-/// Then own streams are held back: they are passed over where they stand, as all that waits is found
-/// again with the server's room, which is told first. But clients may fill that room without end: so
-/// own streams may give as much as these do.
+/// While it is, own streams are passed over where they stand in what is ready. None is lost: the
+/// server's room is waited for and told first, and then they are found there. And none starves:
+/// clients may keep the server's stream busy without end, so own streams may give as much as they.
 #[derive(Clone, Copy)]
 pub struct Shares {
     clients: u64,
