@@ -1,0 +1,171 @@
+-- What comes at a wire: its counts over calls, and how they stand behind a run's end.
+use Rattle.std.proofs.Common.{◌≡◌, ◌≢◌, ◌≤◌, ◌+◌, ◌-◌, ◌^◌, ℕ, Bool, true, false, List, Option, Some, None, refl, sym, ap, ◌∙◌, subst, inl, inr, arith}
+use Rattle.std.specs.Prelude.{◌==◌, min, Result, Ok, Err, OnOk}
+use Rattle.std.proofs.lemmas.Bool.{eq-eqb}
+use Rattle.mux_outside.specs.Counts.{counted}
+use Rattle.mux_outside.specs.OwnStreams.{is_own}
+use Rattle.mux_outside.specs.Seen.{Calls, calls_after_one, calls_after_wait, counted_if, is_accept, is_client_piece, is_server_end, is_server_piece}
+use Rattle.mux_outside.specs.declared.turn.Turn.{Turn}
+use Rattle.mux_history.specs.declared.broke.Break.{Break}
+use Rattle.mux_history.specs.declared.broke.Break.TheVariants as broke
+use Rattle.mux_history.specs.declared.ended.Ended.{Ended}
+use Rattle.mux_history.specs.declared.ended.Ended.TheVariants as ended
+use Rattle.mux_history.specs.declared.limits.TheConstants.{HOUSE}
+use Rattle.mux_engine.specs.Came.{BrokenBy, Came, EndedBy, EndsFor, NeverFell, OverBy, WentUp}
+use Rattle.mux_engine.specs.Rests.{ended_as}
+use Rattle.mux_engine.specs.Serving.{StaysOrFails}
+
+-- ---- a count
+
+fell-never : (n : ℕ) → NeverFell n n
+fell-never n = omega arith
+
+fell-then : (a b c : ℕ) → NeverFell a b → NeverFell b c → NeverFell a c
+fell-then a b c f g = omega arith
+
+counted-later : (n : ℕ) → NeverFell n (counted n)
+counted-later n = omega arith
+
+fell-if : (b : Bool) (n : ℕ) → NeverFell n (counted_if b n)
+fell-if true n = counted-later n
+fell-if false n = fell-never n
+
+up-stays : (a b c : ℕ) → WentUp a b → NeverFell b c → WentUp a c
+up-stays a b c f g = omega arith
+
+up-later : (a b c : ℕ) → NeverFell a b → WentUp b c → WentUp a c
+up-later a b c f g = omega arith
+
+-- one that was counted
+pub up-if : (b : Bool) (n : ℕ) → b ≡ true → WentUp n (counted_if b n)
+up-if true n e = omega arith
+up-if false n e = absurd (cc)
+
+-- ---- all counts
+
+pub came-none : (c : Calls) → Came c c
+came-none c = record {
+  opens = refl;
+  accepts = fell-never c.accepts;
+  server_pieces = fell-never c.server_pieces;
+  client_pieces = fell-never c.client_pieces;
+  server_ends = fell-never c.server_ends;
+}
+
+pub came-one : (b : Bool) (c : Calls) → Came c (calls_after_one b c)
+came-one b c = record {
+  opens = refl;
+  accepts = fell-never c.accepts;
+  server_pieces = fell-never c.server_pieces;
+  client_pieces = fell-never c.client_pieces;
+  server_ends = fell-never c.server_ends;
+}
+
+pub came-wait : (t : Turn) (c : Calls) → Came c (calls_after_wait t c)
+came-wait t c = record {
+  opens = refl;
+  accepts = fell-if (is_accept t) c.accepts;
+  server_pieces = fell-if (is_server_piece t) c.server_pieces;
+  client_pieces = fell-if (is_client_piece t) c.client_pieces;
+  server_ends = fell-if (is_server_end t) c.server_ends;
+}
+
+pub came-then : (a b c : Calls) → Came a b → Came b c → Came a c
+came-then a b c f g = record {
+  opens = g.opens ∙ f.opens;
+  accepts = fell-then a.accepts b.accepts c.accepts f.accepts g.accepts;
+  server_pieces = fell-then a.server_pieces b.server_pieces c.server_pieces f.server_pieces g.server_pieces;
+  client_pieces = fell-then a.client_pieces b.client_pieces c.client_pieces f.client_pieces g.client_pieces;
+  server_ends = fell-then a.server_ends b.server_ends c.server_ends f.server_ends g.server_ends;
+}
+
+pub came-same : (a b : Calls) → b ≡ a → Came a b
+came-same a b e = subst (Came a) (sym e) (came-none a)
+
+-- ---- the end of a run
+
+-- what came by then came by later, too
+broken-stays : (why : Break) (a b c : Calls) → BrokenBy why a b → Came b c → BrokenBy why a c
+broken-stays (broke.Cut have) a b c f g = up-stays a.server_ends b.server_ends c.server_ends f g.server_ends
+broken-stays (broke.Frame fault) a b c f g = up-stays a.server_pieces b.server_pieces c.server_pieces f g.server_pieces
+broken-stays (broke.Message bad) a b c f g = up-stays a.server_pieces b.server_pieces c.server_pieces f g.server_pieces
+broken-stays broke.NoAsker a b c f g = up-stays a.server_pieces b.server_pieces c.server_pieces f g.server_pieces
+broken-stays (broke.BadReply size) a b c f g = up-stays a.server_pieces b.server_pieces c.server_pieces f g.server_pieces
+broken-stays (broke.NumberInUse n) a b c f g = up-stays a.server_pieces b.server_pieces c.server_pieces f g.server_pieces
+broken-stays (broke.NotPending n) a b c f g = up-stays a.server_pieces b.server_pieces c.server_pieces f g.server_pieces
+broken-stays (broke.NoChannel n) a b c f g = up-stays a.server_pieces b.server_pieces c.server_pieces f g.server_pieces
+broken-stays (broke.Channel n breach) a b c f g = up-stays a.server_pieces b.server_pieces c.server_pieces f g.server_pieces
+
+ended-stays : (cause : Ended) (a b c : Calls) → EndedBy cause a b → Came b c → EndedBy cause a c
+ended-stays ended.ServerEnd a b c f g = up-stays a.server_ends b.server_ends c.server_ends f g.server_ends
+ended-stays ended.Disconnected a b c f g = up-stays a.server_pieces b.server_pieces c.server_pieces f g.server_pieces
+ended-stays (ended.Broke index why) a b c f g = broken-stays why a b c f g
+ended-stays (ended.Terminated client id) a b c f g = λ other. up-stays a.client_pieces b.client_pieces c.client_pieces (f other) g.client_pieces
+ended-stays ended.ServerFailed a b c f g = tt
+ended-stays (ended.StartRefused index) a b c f g = tt
+ended-stays ended.Spent a b c f g = tt
+ended-stays ended.OutOfMemory a b c f g = tt
+
+pub over-stays : (o : Option Ended) (a b c : Calls) → OverBy o a b → Came b c → OverBy o a c
+over-stays None a b c f g = tt
+over-stays (Some cause) a b c f g = ended-stays cause a b c f g
+
+-- and what came since later came since before
+broken-later : (why : Break) (a b c : Calls) → Came a b → BrokenBy why b c → BrokenBy why a c
+broken-later (broke.Cut have) a b c f g = up-later a.server_ends b.server_ends c.server_ends f.server_ends g
+broken-later (broke.Frame fault) a b c f g = up-later a.server_pieces b.server_pieces c.server_pieces f.server_pieces g
+broken-later (broke.Message bad) a b c f g = up-later a.server_pieces b.server_pieces c.server_pieces f.server_pieces g
+broken-later broke.NoAsker a b c f g = up-later a.server_pieces b.server_pieces c.server_pieces f.server_pieces g
+broken-later (broke.BadReply size) a b c f g = up-later a.server_pieces b.server_pieces c.server_pieces f.server_pieces g
+broken-later (broke.NumberInUse n) a b c f g = up-later a.server_pieces b.server_pieces c.server_pieces f.server_pieces g
+broken-later (broke.NotPending n) a b c f g = up-later a.server_pieces b.server_pieces c.server_pieces f.server_pieces g
+broken-later (broke.NoChannel n) a b c f g = up-later a.server_pieces b.server_pieces c.server_pieces f.server_pieces g
+broken-later (broke.Channel n breach) a b c f g = up-later a.server_pieces b.server_pieces c.server_pieces f.server_pieces g
+
+ended-later : (cause : Ended) (a b c : Calls) → Came a b → EndedBy cause b c → EndedBy cause a c
+ended-later ended.ServerEnd a b c f g = up-later a.server_ends b.server_ends c.server_ends f.server_ends g
+ended-later ended.Disconnected a b c f g = up-later a.server_pieces b.server_pieces c.server_pieces f.server_pieces g
+ended-later (ended.Broke index why) a b c f g = broken-later why a b c f g
+ended-later (ended.Terminated client id) a b c f g = λ other. up-later a.client_pieces b.client_pieces c.client_pieces f.client_pieces (g other)
+ended-later ended.ServerFailed a b c f g = tt
+ended-later (ended.StartRefused index) a b c f g = tt
+ended-later ended.Spent a b c f g = tt
+ended-later ended.OutOfMemory a b c f g = tt
+
+pub over-later : (o : Option Ended) (a b c : Calls) → Came a b → OverBy o b c → OverBy o a c
+over-later None a b c f g = tt
+over-later (Some cause) a b c f g = ended-later cause a b c f g
+
+-- where neither changed
+pub over-same : (old new : Option Ended) (a b c : Calls) → new ≡ old → c ≡ b → OverBy old a b → OverBy new a c
+over-same old new a b c e f over = subst (λ (o : Option Ended). OverBy o a c) (sym e) (subst (OverBy old a) (sym f) over)
+
+-- one that goes on
+pub over-live : (o : Option Ended) (a b : Calls) → o ≡ None → OverBy o a b
+over-live o a b e = subst (λ (x : Option Ended). OverBy x a b) (sym e) tt
+
+-- one that ended by what the house said
+pub over-house : (o : Option Ended) (a b : Calls) → EndsFor HOUSE o → OverBy o a b
+over-house None a b h = tt
+over-house (Some (ended.Terminated client id)) a b h = λ other. absurd (other h)
+over-house (Some ended.ServerEnd) a b h = absurd h
+over-house (Some ended.Disconnected) a b h = absurd h
+over-house (Some ended.ServerFailed) a b h = absurd h
+over-house (Some (ended.Broke index why)) a b h = absurd h
+over-house (Some (ended.StartRefused index)) a b h = absurd h
+over-house (Some ended.Spent) a b h = absurd h
+over-house (Some ended.OutOfMemory) a b h = absurd h
+
+-- one whose streams were offered what waits
+pub over-offered : (old new : Option Ended) (m n : ℕ) (a b c : Calls) → StaysOrFails old new m n → OverBy old a b → Came b c → OverBy new a c
+over-offered old new m n a b c (inl s) over came = subst (λ (x : Option Ended). OverBy x a c) (sym s.0) (over-stays old a b c over came)
+over-offered old new m n a b c (inr f) over came = subst (λ (x : Option Ended). OverBy x a c) (sym f.0) tt
+
+-- why it ended
+pub over-answer : (answer : Ended) (o : Option Ended) (refused : Option ℕ) (a b : Calls) → answer ≡ ended_as o refused → OverBy o a b → EndedBy answer a b
+over-answer answer o refused a b is over = subst (λ (x : Ended). EndedBy x a b) (sym is) (by_end o refused over)
+  where
+    by_end : (o : Option Ended) (refused : Option ℕ) → OverBy o a b → EndedBy (ended_as o refused) a b
+    by_end (Some cause) refused over = over
+    by_end None (Some index) over = tt
+    by_end None None over = tt
