@@ -103,8 +103,8 @@ stream-of (Ends k) = k
 stream-of mark = 0
 
 -- it is that of a client's piece
-by-client : (k : ℕ) (said : List ℕ) (o : Option Ended) (j : ℕ) (bytes : List ℕ) (c : Calls) → k ≢ 0 → Gets j bytes ≡ Gets k said → is_own j ≡ false → EndsFor k o → OverBy o c (calls_after_wait (turn.Got j) c)
-by-client k said o j bytes c nz is own h = by_end o h
+by-client : (p : Bool) (k : ℕ) (said : List ℕ) (o : Option Ended) (j : ℕ) (bytes : List ℕ) (c : Calls) → k ≢ 0 → Gets j bytes ≡ Gets k said → is_own j ≡ false → EndsFor k o → OverBy p o c (calls_after_wait (turn.Got j) c)
+by-client p k said o j bytes c nz is own h = by_end o h
   where
     same : j ≡ k
     same = ap stream-of is
@@ -116,7 +116,7 @@ by-client k said o j bytes c nz is own h = by_end o h
     piece : is_client_piece (turn.Got j) ≡ true
     piece = ap (λ b. not b && not (is_own j)) (other (j == 0) refl) ∙ ap (λ b. true && not b) own
 
-    by_end : (o : Option Ended) → EndsFor k o → OverBy o c (calls_after_wait (turn.Got j) c)
+    by_end : (o : Option Ended) → EndsFor k o → OverBy p o c (calls_after_wait (turn.Got j) c)
     by_end None h = tt
     by_end (Some (ended.Terminated client id)) h = λ house. up-if (is_client_piece (turn.Got j)) c.client_pieces piece
     by_end (Some ended.ServerEnd) h = absurd h
@@ -139,13 +139,13 @@ uncut-broken (broke.NoChannel n) a b h up = up
 uncut-broken (broke.Channel n breach) a b h up = up
 
 -- that of a piece of the server
-by-server : (said : List ℕ) (o : Option Ended) (j : ℕ) (bytes : List ℕ) (c : Calls) → Gets j bytes ≡ Gets 0 said → EndsHeard o → OverBy o c (calls_after_wait (turn.Got j) c)
-by-server said o j bytes c is h = by_end o h
+by-server : (p : Bool) (said : List ℕ) (o : Option Ended) (j : ℕ) (bytes : List ℕ) (c : Calls) → Gets j bytes ≡ Gets 0 said → EndsHeard o → OverBy p o c (calls_after_wait (turn.Got j) c)
+by-server p said o j bytes c is h = by_end o h
   where
     up : WentUp c.server_pieces (calls_after_wait (turn.Got j) c).server_pieces
     up = up-if (j == 0) c.server_pieces (eq-eqb j 0 (ap stream-of is))
 
-    by_end : (o : Option Ended) → EndsHeard o → OverBy o c (calls_after_wait (turn.Got j) c)
+    by_end : (o : Option Ended) → EndsHeard o → OverBy p o c (calls_after_wait (turn.Got j) c)
     by_end None h = tt
     by_end (Some ended.Disconnected) h = up
     by_end (Some (ended.Broke index why)) h = uncut-broken why c (calls_after_wait (turn.Got j) c) h up
@@ -157,13 +157,13 @@ by-server said o j bytes c is h = by_end o h
     by_end (Some ended.OutOfMemory) h = absurd h
 
 -- that of its end
-by-its-end : (o : Option Ended) (j : ℕ) (c : Calls) → Ends j ≡ Ends 0 → EndsCut o → OverBy o c (calls_after_wait (turn.End j) c)
-by-its-end o j c is h = by_end o h
+by-its-end : (p : Bool) (o : Option Ended) (j : ℕ) (c : Calls) → Ends j ≡ Ends 0 → EndsCut o → OverBy p o c (calls_after_wait (turn.End j) c)
+by-its-end p o j c is h = by_end o h
   where
     up : WentUp c.server_ends (calls_after_wait (turn.End j) c).server_ends
     up = up-if (j == 0) c.server_ends (eq-eqb j 0 (ap stream-of is))
 
-    by_end : (o : Option Ended) → EndsCut o → OverBy o c (calls_after_wait (turn.End j) c)
+    by_end : (o : Option Ended) → EndsCut o → OverBy p o c (calls_after_wait (turn.End j) c)
     by_end None h = tt
     by_end (Some ended.ServerEnd) h = up
     by_end (Some (ended.Broke index (broke.Cut have))) h = up
@@ -183,30 +183,30 @@ by-its-end o j c is h = by_end o h
     by_end (Some ended.OutOfMemory) h = absurd h
 
 -- what came where a turn ended the run
-pub turn-over : (e : Event) (o : Option Ended) (t : Turn) (bytes : List ℕ) (c : Calls) → EndsSo e o → IsEventOf e t bytes → OverBy o c (calls_after_wait t c)
-turn-over (Accepted k) o t bytes c h next = over-live o c (calls_after_wait t c) h.may
-turn-over (ClientEnd k) o t bytes c h next = over-live o c (calls_after_wait t c) h.may
-turn-over (ClientFailed k) o t bytes c h next = over-live o c (calls_after_wait t c) h.may
-turn-over (HouseSays k id reply) o t bytes c h next = over-live o c (calls_after_wait t c) h.may
-turn-over ServerFailed o t bytes c h next = subst (λ (x : Option Ended). OverBy x c (calls_after_wait t c)) (sym h.may) tt
-turn-over (FromClient k said) o (turn.Got j) bytes c h next = by-client k said.now o j bytes c next.1.0 next.1.1 next.0 h.by
-turn-over (FromClient k said) o (turn.Accepted j) bytes c h next = absurd (let z = next.1 in cc)
-turn-over (FromClient k said) o (turn.End j) bytes c h next = absurd (let z = next.1.1 in cc)
-turn-over (FromClient k said) o (turn.Failed j) bytes c h next = absurd (let z = next.1.1 in cc)
-turn-over (FromClient k said) o (turn.Writable j) bytes c h next = absurd next
-turn-over (FromClient k said) o (turn.Joined l j) bytes c h next = absurd next
-turn-over (FromClient k said) o turn.NoMemory bytes c h next = absurd next
-turn-over (FromServer said) o (turn.Got j) bytes c h next = by-server said.now o j bytes c next.1 h.by
-turn-over (FromServer said) o (turn.Accepted j) bytes c h next = absurd (let z = next in cc)
-turn-over (FromServer said) o (turn.End j) bytes c h next = absurd (let z = next.1 in cc)
-turn-over (FromServer said) o (turn.Failed j) bytes c h next = absurd (let z = next.1 in cc)
-turn-over (FromServer said) o (turn.Writable j) bytes c h next = absurd next
-turn-over (FromServer said) o (turn.Joined l j) bytes c h next = absurd next
-turn-over (FromServer said) o turn.NoMemory bytes c h next = absurd next
-turn-over ServerEnd o (turn.End j) bytes c h next = by-its-end o j c next.1 h.by
-turn-over ServerEnd o (turn.Accepted j) bytes c h next = absurd (let z = next in cc)
-turn-over ServerEnd o (turn.Got j) bytes c h next = absurd (let z = next.1 in cc)
-turn-over ServerEnd o (turn.Failed j) bytes c h next = absurd (let z = next.1 in cc)
-turn-over ServerEnd o (turn.Writable j) bytes c h next = absurd next
-turn-over ServerEnd o (turn.Joined l j) bytes c h next = absurd next
-turn-over ServerEnd o turn.NoMemory bytes c h next = absurd next
+pub turn-over : (p : Bool) (e : Event) (o : Option Ended) (t : Turn) (bytes : List ℕ) (c : Calls) → EndsSo e o → IsEventOf e t bytes → OverBy p o c (calls_after_wait t c)
+turn-over p (Accepted k) o t bytes c h next = over-live p o c (calls_after_wait t c) h.may
+turn-over p (ClientEnd k) o t bytes c h next = over-live p o c (calls_after_wait t c) h.may
+turn-over p (ClientFailed k) o t bytes c h next = over-live p o c (calls_after_wait t c) h.may
+turn-over p (HouseSays k id reply) o t bytes c h next = over-live p o c (calls_after_wait t c) h.may
+turn-over p ServerFailed o t bytes c h next = subst (λ (x : Option Ended). OverBy p x c (calls_after_wait t c)) (sym h.may) tt
+turn-over p (FromClient k said) o (turn.Got j) bytes c h next = by-client p k said.now o j bytes c next.1.0 next.1.1 next.0 h.by
+turn-over p (FromClient k said) o (turn.Accepted j) bytes c h next = absurd (let z = next.1 in cc)
+turn-over p (FromClient k said) o (turn.End j) bytes c h next = absurd (let z = next.1.1 in cc)
+turn-over p (FromClient k said) o (turn.Failed j) bytes c h next = absurd (let z = next.1.1 in cc)
+turn-over p (FromClient k said) o (turn.Writable j) bytes c h next = absurd next
+turn-over p (FromClient k said) o (turn.Joined l j) bytes c h next = absurd next
+turn-over p (FromClient k said) o turn.NoMemory bytes c h next = absurd next
+turn-over p (FromServer said) o (turn.Got j) bytes c h next = by-server p said.now o j bytes c next.1 h.by
+turn-over p (FromServer said) o (turn.Accepted j) bytes c h next = absurd (let z = next in cc)
+turn-over p (FromServer said) o (turn.End j) bytes c h next = absurd (let z = next.1 in cc)
+turn-over p (FromServer said) o (turn.Failed j) bytes c h next = absurd (let z = next.1 in cc)
+turn-over p (FromServer said) o (turn.Writable j) bytes c h next = absurd next
+turn-over p (FromServer said) o (turn.Joined l j) bytes c h next = absurd next
+turn-over p (FromServer said) o turn.NoMemory bytes c h next = absurd next
+turn-over p ServerEnd o (turn.End j) bytes c h next = by-its-end p o j c next.1 h.by
+turn-over p ServerEnd o (turn.Accepted j) bytes c h next = absurd (let z = next in cc)
+turn-over p ServerEnd o (turn.Got j) bytes c h next = absurd (let z = next.1 in cc)
+turn-over p ServerEnd o (turn.Failed j) bytes c h next = absurd (let z = next.1 in cc)
+turn-over p ServerEnd o (turn.Writable j) bytes c h next = absurd next
+turn-over p ServerEnd o (turn.Joined l j) bytes c h next = absurd next
+turn-over p ServerEnd o turn.NoMemory bytes c h next = absurd next

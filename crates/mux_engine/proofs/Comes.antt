@@ -96,19 +96,19 @@ broken-stays (broke.NotPending n) a b c f g = up-stays a.server_pieces b.server_
 broken-stays (broke.NoChannel n) a b c f g = up-stays a.server_pieces b.server_pieces c.server_pieces f g.server_pieces
 broken-stays (broke.Channel n breach) a b c f g = up-stays a.server_pieces b.server_pieces c.server_pieces f g.server_pieces
 
-ended-stays : (cause : Ended) (a b c : Calls) → EndedBy cause a b → Came b c → EndedBy cause a c
-ended-stays ended.ServerEnd a b c f g = up-stays a.server_ends b.server_ends c.server_ends f g.server_ends
-ended-stays ended.Disconnected a b c f g = up-stays a.server_pieces b.server_pieces c.server_pieces f g.server_pieces
-ended-stays (ended.Broke index why) a b c f g = broken-stays why a b c f g
-ended-stays (ended.Terminated client id) a b c f g = λ other. up-stays a.client_pieces b.client_pieces c.client_pieces (f other) g.client_pieces
-ended-stays ended.ServerFailed a b c f g = tt
-ended-stays (ended.StartRefused index) a b c f g = tt
-ended-stays ended.Spent a b c f g = tt
-ended-stays ended.OutOfMemory a b c f g = tt
+ended-stays : (p : Bool) (cause : Ended) (a b c : Calls) → EndedBy p cause a b → Came b c → EndedBy p cause a c
+ended-stays p ended.ServerEnd a b c f g = up-stays a.server_ends b.server_ends c.server_ends f g.server_ends
+ended-stays p ended.Disconnected a b c f g = up-stays a.server_pieces b.server_pieces c.server_pieces f g.server_pieces
+ended-stays p (ended.Broke index why) a b c f g = broken-stays why a b c f g
+ended-stays p (ended.Terminated client id) a b c f g = λ other. up-stays a.client_pieces b.client_pieces c.client_pieces (f other) g.client_pieces
+ended-stays p ended.ServerFailed a b c f g = tt
+ended-stays p (ended.StartRefused index) a b c f g = tt
+ended-stays p ended.Spent a b c f g = tt
+ended-stays p ended.OutOfMemory a b c f g = tt
 
-pub over-stays : (o : Option Ended) (a b c : Calls) → OverBy o a b → Came b c → OverBy o a c
-over-stays None a b c f g = tt
-over-stays (Some cause) a b c f g = ended-stays cause a b c f g
+pub over-stays : (p : Bool) (o : Option Ended) (a b c : Calls) → OverBy p o a b → Came b c → OverBy p o a c
+over-stays p None a b c f g = tt
+over-stays p (Some cause) a b c f g = ended-stays p cause a b c f g
 
 -- and what came since later came since before
 broken-later : (why : Break) (a b c : Calls) → Came a b → BrokenBy why b c → BrokenBy why a c
@@ -122,50 +122,54 @@ broken-later (broke.NotPending n) a b c f g = up-later a.server_pieces b.server_
 broken-later (broke.NoChannel n) a b c f g = up-later a.server_pieces b.server_pieces c.server_pieces f.server_pieces g
 broken-later (broke.Channel n breach) a b c f g = up-later a.server_pieces b.server_pieces c.server_pieces f.server_pieces g
 
-ended-later : (cause : Ended) (a b c : Calls) → Came a b → EndedBy cause b c → EndedBy cause a c
-ended-later ended.ServerEnd a b c f g = up-later a.server_ends b.server_ends c.server_ends f.server_ends g
-ended-later ended.Disconnected a b c f g = up-later a.server_pieces b.server_pieces c.server_pieces f.server_pieces g
-ended-later (ended.Broke index why) a b c f g = broken-later why a b c f g
-ended-later (ended.Terminated client id) a b c f g = λ other. up-later a.client_pieces b.client_pieces c.client_pieces f.client_pieces (g other)
-ended-later ended.ServerFailed a b c f g = tt
-ended-later (ended.StartRefused index) a b c f g = tt
-ended-later ended.Spent a b c f g = tt
-ended-later ended.OutOfMemory a b c f g = tt
+ended-later : (p : Bool) (cause : Ended) (a b c : Calls) → Came a b → EndedBy p cause b c → EndedBy p cause a c
+ended-later p ended.ServerEnd a b c f g = up-later a.server_ends b.server_ends c.server_ends f.server_ends g
+ended-later p ended.Disconnected a b c f g = up-later a.server_pieces b.server_pieces c.server_pieces f.server_pieces g
+ended-later p (ended.Broke index why) a b c f g = broken-later why a b c f g
+ended-later p (ended.Terminated client id) a b c f g = λ other. up-later a.client_pieces b.client_pieces c.client_pieces f.client_pieces (g other)
+ended-later p ended.ServerFailed a b c f g = tt
+ended-later p (ended.StartRefused index) a b c f g = tt
+ended-later p ended.Spent a b c f g = tt
+ended-later p ended.OutOfMemory a b c f g = tt
 
-pub over-later : (o : Option Ended) (a b c : Calls) → Came a b → OverBy o b c → OverBy o a c
-over-later None a b c f g = tt
-over-later (Some cause) a b c f g = ended-later cause a b c f g
+pub over-later : (p : Bool) (o : Option Ended) (a b c : Calls) → Came a b → OverBy p o b c → OverBy p o a c
+over-later p None a b c f g = tt
+over-later p (Some cause) a b c f g = ended-later p cause a b c f g
 
 -- where neither changed
-pub over-same : (old new : Option Ended) (a b c : Calls) → new ≡ old → c ≡ b → OverBy old a b → OverBy new a c
-over-same old new a b c e f over = subst (λ (o : Option Ended). OverBy o a c) (sym e) (subst (OverBy old a) (sym f) over)
+pub over-same : (p : Bool) (old new : Option Ended) (a b c : Calls) → new ≡ old → c ≡ b → OverBy p old a b → OverBy p new a c
+over-same p old new a b c e f over = subst (λ (o : Option Ended). OverBy p o a c) (sym e) (subst (OverBy p old a) (sym f) over)
 
 -- one that goes on
-pub over-live : (o : Option Ended) (a b : Calls) → o ≡ None → OverBy o a b
-over-live o a b e = subst (λ (x : Option Ended). OverBy x a b) (sym e) tt
+pub over-live : (p : Bool) (o : Option Ended) (a b : Calls) → o ≡ None → OverBy p o a b
+over-live p o a b e = subst (λ (x : Option Ended). OverBy p x a b) (sym e) tt
 
 -- one that ended by what the house said
-pub over-house : (o : Option Ended) (a b : Calls) → EndsFor HOUSE o → OverBy o a b
-over-house None a b h = tt
-over-house (Some (ended.Terminated client id)) a b h = λ other. absurd (other h)
-over-house (Some ended.ServerEnd) a b h = absurd h
-over-house (Some ended.Disconnected) a b h = absurd h
-over-house (Some ended.ServerFailed) a b h = absurd h
-over-house (Some (ended.Broke index why)) a b h = absurd h
-over-house (Some (ended.StartRefused index)) a b h = absurd h
-over-house (Some ended.Spent) a b h = absurd h
-over-house (Some ended.OutOfMemory) a b h = absurd h
+pub over-house : (p : Bool) (o : Option Ended) (a b : Calls) → p ≡ true → EndsFor HOUSE o → OverBy p o a b
+over-house p None a b there h = tt
+over-house p (Some (ended.Terminated client id)) a b there h = λ other. absurd (other there h)
+over-house p (Some ended.ServerEnd) a b there h = absurd h
+over-house p (Some ended.Disconnected) a b there h = absurd h
+over-house p (Some ended.ServerFailed) a b there h = absurd h
+over-house p (Some (ended.Broke index why)) a b there h = absurd h
+over-house p (Some (ended.StartRefused index)) a b there h = absurd h
+over-house p (Some ended.Spent) a b there h = absurd h
+over-house p (Some ended.OutOfMemory) a b there h = absurd h
 
 -- one whose streams were offered what waits
-pub over-offered : (old new : Option Ended) (m n : ℕ) (a b c : Calls) → StaysOrFails old new m n → OverBy old a b → Came b c → OverBy new a c
-over-offered old new m n a b c (inl s) over came = subst (λ (x : Option Ended). OverBy x a c) (sym s.0) (over-stays old a b c over came)
-over-offered old new m n a b c (inr f) over came = subst (λ (x : Option Ended). OverBy x a c) (sym f.0) tt
+pub over-offered : (p : Bool) (old new : Option Ended) (m n : ℕ) (a b c : Calls) → StaysOrFails old new m n → OverBy p old a b → Came b c → OverBy p new a c
+over-offered p old new m n a b c (inl s) over came = subst (λ (x : Option Ended). OverBy p x a c) (sym s.0) (over-stays p old a b c over came)
+over-offered p old new m n a b c (inr f) over came = subst (λ (x : Option Ended). OverBy p x a c) (sym f.0) tt
+
+-- of the same house
+pub over-present : (p q : Bool) (o : Option Ended) (a b : Calls) → p ≡ q → OverBy p o a b → OverBy q o a b
+over-present p q o a b e over = subst (λ (x : Bool). OverBy x o a b) e over
 
 -- why it ended
-pub over-answer : (answer : Ended) (o : Option Ended) (refused : Option ℕ) (a b : Calls) → answer ≡ ended_as o refused → OverBy o a b → EndedBy answer a b
-over-answer answer o refused a b is over = subst (λ (x : Ended). EndedBy x a b) (sym is) (by_end o refused over)
+pub over-answer : (p : Bool) (answer : Ended) (o : Option Ended) (refused : Option ℕ) (a b : Calls) → answer ≡ ended_as o refused → OverBy p o a b → EndedBy p answer a b
+over-answer p answer o refused a b is over = subst (λ (x : Ended). EndedBy p x a b) (sym is) (by_end o refused over)
   where
-    by_end : (o : Option Ended) (refused : Option ℕ) → OverBy o a b → EndedBy (ended_as o refused) a b
+    by_end : (o : Option Ended) (refused : Option ℕ) → OverBy p o a b → EndedBy p (ended_as o refused) a b
     by_end (Some cause) refused over = over
     by_end None (Some index) over = tt
     by_end None None over = tt

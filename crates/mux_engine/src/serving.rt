@@ -95,8 +95,8 @@ fn turn<W: Wire, H: House>(
     ensures failed { OnOk result (engine.new.ended ≡ Some ServerFailed
         → Rose (W.server_faults wire.old) (W.server_faults wire.new)) }
     ensures by_row { OnOk result (IsByRow engine.new.ended) }
-    ensures ended_by { OnOk result (OverBy engine.new.ended (W.calls wire.old)
-        (W.calls wire.new)) }
+    ensures ended_by { OnOk result (OverBy (H.known house.old).present engine.new.ended
+        (W.calls wire.old) (W.calls wire.new)) }
     ensures unopened { (H.known house.old).present ≡ false
         → (W.seen wire.new).last_own ≡ (W.seen wire.old).last_own }
     ensures later { W.server_faults wire.old ≤ W.server_faults wire.new }
@@ -197,8 +197,8 @@ fn one_turn<W: Wire, H: House>(
     ensures failed { OnOk result (engine.new.ended ≡ Some ServerFailed
         → Rose (W.server_faults wire.old) (W.server_faults wire.new)) }
     ensures by_row { OnOk result (IsByRow engine.new.ended) }
-    ensures ended_by { OnOk result (OverBy engine.new.ended (W.calls wire.old)
-        (W.calls wire.new)) }
+    ensures ended_by { OnOk result (OverBy (H.known house.old).present engine.new.ended
+        (W.calls wire.old) (W.calls wire.new)) }
     ensures idle { engine.old.waiting ≡ [] → (H.known house.old).present ≡ false
         → IfOk result (λ on. Well 1 (W.calls wire.old) (W.calls wire.new)) }
     ensures unopened { (H.known house.old).present ≡ false
@@ -271,8 +271,8 @@ fn turns_of<W: Wire, H: House>(
     ensures failed { OnOk result (engine.new.ended ≡ Some ServerFailed
         → Rose (W.server_faults wire.old) (W.server_faults wire.new)) }
     ensures by_row { OnOk result (IsByRow engine.new.ended) }
-    ensures ended_by { OnOk result (OverBy engine.new.ended (W.calls wire.old)
-        (W.calls wire.new)) }
+    ensures ended_by { OnOk result (OverBy (H.known house.old).present engine.new.ended
+        (W.calls wire.old) (W.calls wire.new)) }
     ensures unopened { (H.known house.old).present ≡ false
         → (W.seen wire.new).last_own ≡ (W.seen wire.old).last_own }
     ensures later { W.server_faults wire.old ≤ W.server_faults wire.new }
@@ -482,8 +482,8 @@ fn run<W: Wire, H: House>(
     ensures failed { IfOk result (λ answer. answer ≡ ServerFailed
         → Rose (W.server_faults wire.old) (W.server_faults wire.new)) }
     ensures came { Came (W.calls wire.old) (W.calls wire.new) }
-    ensures ended_by { IfOk result (λ answer. EndedBy answer (W.calls wire.old)
-        (W.calls wire.new)) }
+    ensures ended_by { IfOk result (λ answer. EndedBy (H.known house.old).present answer
+        (W.calls wire.old) (W.calls wire.new)) }
     ensures calls { Stops (H.known house.old).present turns (result_unwrap_or result WantOfMemory)
         (W.calls wire.old) (W.calls wire.new) }
     ensures unopened { (H.known house.old).present ≡ false
@@ -552,7 +552,8 @@ pub fn serve<W: Wire, H: House>(
     ensures failed { result ≡ ServerFailed
         → Rose (W.server_faults wire.old) (W.server_faults wire.new) }
     ensures came { Came (W.calls wire.old) (W.calls wire.new) }
-    ensures ended_by { EndedBy result (W.calls wire.old) (W.calls wire.new) }
+    ensures ended_by { EndedBy (H.known house.old).present result (W.calls wire.old)
+        (W.calls wire.new) }
     ensures calls { Stops (H.known house.old).present turns result (W.calls wire.old)
         (W.calls wire.new) }
     ensures unopened { (H.known house.old).present ≡ false

@@ -7,7 +7,7 @@ use Rattle.mux_engine.proofs.Arms.{on-err}
 use Rattle.mux_engine.proofs.Called.{handed-so}
 use Rattle.mux_engine.proofs.HouseCalls.{housed-still, same-house}
 use Rattle.mux_engine.proofs.Running.{all-left, present-is, promised-is, step-took, step-waits}
-use Rattle.mux_engine.proofs.Comes.{over-later, over-same}
+use Rattle.mux_engine.proofs.Comes.{over-later, over-present, over-same}
 use Rattle.mux_engine.specs.Came.{Came}
 use Rattle.mux_engine.proofs.serving.one_turn.Goals as goal
 
@@ -140,13 +140,14 @@ returns-clause-serving g c first calls before policy pid start given hands v =
 
 pub returns-then-is_over-clause-ended_by : goal.returns-then-is_over-clause-ended_by
 returns-then-is_over-clause-ended_by g c = let W = g.W.Wire in
-    over-same c.step_house.new.engine.ended c.close_lost.new.engine.ended (W.calls c.args.wire.now) (W.calls c.step_house.new.wire) (W.calls c.hush.new.wire)
+    over-same (g.H.House.known c.args.house.now).present c.step_house.new.engine.ended c.close_lost.new.engine.ended (W.calls c.args.wire.now) (W.calls c.step_house.new.wire) (W.calls c.hush.new.wire)
     c.close_lost.ensures.ended (c.hush.ensures.calls ∙ c.close_lost.ensures.calls) c.in_ok-step_house.ensures.ended_by
 
 pub returns-clause-ended_by : goal.returns-clause-ended_by
 returns-clause-ended_by g c = let W = g.W.Wire in
-    over-later c.turn.new.engine.ended (W.calls c.args.wire.now) (W.calls c.hush.new.wire) (W.calls c.turn.new.wire)
-    (subst (Came (W.calls c.args.wire.now)) (sym (c.hush.ensures.calls ∙ c.close_lost.ensures.calls)) c.in_ok-step_house.ensures.calls.came) c.in_ok-went.ensures.ended_by
+    over-present (g.H.House.known c.step_house.new.house).present (g.H.House.known c.args.house.now).present c.turn.new.engine.ended (W.calls c.args.wire.now) (W.calls c.turn.new.wire) c.in_ok-step_house.ensures.present
+    (over-later (g.H.House.known c.step_house.new.house).present c.turn.new.engine.ended (W.calls c.args.wire.now) (W.calls c.hush.new.wire) (W.calls c.turn.new.wire)
+    (subst (Came (W.calls c.args.wire.now)) (sym (c.hush.ensures.calls ∙ c.close_lost.ensures.calls)) c.in_ok-step_house.ensures.calls.came) c.in_ok-went.ensures.ended_by)
 
 -- ---- own faults
 

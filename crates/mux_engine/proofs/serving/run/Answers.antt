@@ -98,10 +98,10 @@ pub returns-clause-came : goal.returns-clause-came
 returns-clause-came g c = came-then _ _ _ (came-then _ _ _ (came-same _ _ c.enter.ensures.calls) c.in_ok-all.ensures.calls.came) c.in_ok-finish.ensures.calls.came
 
 pub returns-clause-ended_by : goal.returns-clause-ended_by
-returns-clause-ended_by g c = let W = g.W.Wire in let t = c.in_ok-all.ensures in let f = c.in_ok-finish.ensures in
-    over-answer c.answer_of.result c.finish.new.engine.ended _ (W.calls c.args.wire.now) (W.calls c.finish.new.wire) c.answer_of.ensures
-    (over-offered c.turns_of.new.engine.ended c.finish.new.engine.ended _ _ (W.calls c.args.wire.now) (W.calls c.turns_of.new.wire) (W.calls c.finish.new.wire) f.ended
-    (over-later c.turns_of.new.engine.ended (W.calls c.args.wire.now) (W.calls c.enter.new.wire) (W.calls c.turns_of.new.wire) (came-same _ _ c.enter.ensures.calls) t.ended_by)
+returns-clause-ended_by g c = let W = g.W.Wire in let p = (g.H.House.known c.args.house.now).present in let t = c.in_ok-all.ensures in let f = c.in_ok-finish.ensures in
+    over-answer p c.answer_of.result c.finish.new.engine.ended _ (W.calls c.args.wire.now) (W.calls c.finish.new.wire) c.answer_of.ensures
+    (over-offered p c.turns_of.new.engine.ended c.finish.new.engine.ended _ _ (W.calls c.args.wire.now) (W.calls c.turns_of.new.wire) (W.calls c.finish.new.wire) f.ended
+    (over-later p c.turns_of.new.engine.ended (W.calls c.args.wire.now) (W.calls c.enter.new.wire) (W.calls c.turns_of.new.wire) (came-same _ _ c.enter.ensures.calls) t.ended_by)
     f.calls.came)
 
 -- ---- own faults

@@ -159,15 +159,15 @@ returns-in-Event-clause-ended_by g c =
     let w : HasWaited seen (W.seen c.wait-told.new.self) lists.own lists.failed (H.queue house) c.args.engine.now c.wait-told.result c.wait-told.new.into =
     has-waited seen (W.seen c.wait-told.new.self) lists.own lists.failed (H.queue house) c.args.engine.now c.wait-told.result c.wait-told.new.into c.as_bytes.result.now c.list_waiting.new.todo c.waiting.result.now c.wanted.result c.wait-told.ensures.seen c.in_ok-list_waiting.ensures c.waiting.ensures.exact c.wanted.ensures c.next_of.ensures.bytes c.as_bytes.ensures.bytes c.wait-told.ensures.turn c.wait-told.ensures.own_turn in
     let next : IsEventOf c.in-Event.e c.wait-told.result c.wait-told.new.into = subst (λ (b : List ℕ). IsEventOf c.in-Event.e c.wait-told.result b) c.as_bytes.ensures.bytes c.in-Event.ensures.next in
-    on-ok c.heed.result (λ so. subst (OverBy c.heed.new.engine.ended (W.calls c.args.wire.now)) (sym (c.heed.ensures.calls ∙ c.wait-told.ensures.calls))
-    (turn-over c.in-Event.e c.heed.new.engine.ended c.wait-told.result c.wait-told.new.into (W.calls c.args.wire.now) so next))
+    on-ok c.heed.result (λ so. subst (OverBy (H.known house).present c.heed.new.engine.ended (W.calls c.args.wire.now)) (sym (c.heed.ensures.calls ∙ c.wait-told.ensures.calls))
+    (turn-over (H.known house).present c.in-Event.e c.heed.new.engine.ended c.wait-told.result c.wait-told.new.into (W.calls c.args.wire.now) so next))
     (turn-ends c.requires.served.serving a w c.heed.result c.in-Event.e next c.heed.new.engine c.heed.new.asks (H.told house) (H.told c.heed.new.house) (H.known house) (H.known c.heed.new.house) (W.seen c.heed.new.wire) c.heed.ensures.heeded)
 
 pub returns-in_ok-hear-in-Own-clause-ended_by : goal.returns-in_ok-hear-in-Own-clause-ended_by
-returns-in_ok-hear-in-Own-clause-ended_by g c = over-live c.args.engine.now.ended (g.W.Wire.calls c.args.wire.now) (g.W.Wire.calls c.wait-told.new.self) c.requires.on
+returns-in_ok-hear-in-Own-clause-ended_by g c = over-live (g.H.House.known c.args.house.now).present c.args.engine.now.ended (g.W.Wire.calls c.args.wire.now) (g.W.Wire.calls c.wait-told.new.self) c.requires.on
 
 pub returns-in-Freed-clause-ended_by : goal.returns-in-Freed-clause-ended_by
-returns-in-Freed-clause-ended_by g c = over-live c.args.engine.now.ended (g.W.Wire.calls c.args.wire.now) (g.W.Wire.calls c.wait-told.new.self) c.requires.on
+returns-in-Freed-clause-ended_by g c = over-live (g.H.House.known c.args.house.now).present c.args.engine.now.ended (g.W.Wire.calls c.args.wire.now) (g.W.Wire.calls c.wait-told.new.self) c.requires.on
 
 -- ---- something of the master's own listeners and streams
 
