@@ -1,9 +1,6 @@
 -- What comes at a wire: its counts over calls, and how they stand behind a run's end.
-use Rattle.std.proofs.Common.{◌≡◌, ◌≢◌, ◌≤◌, ◌+◌, ◌-◌, ◌^◌, ℕ, Bool, true, false, List, Option, Some, None, refl, sym, ap, ◌∙◌, subst, inl, inr, arith}
-use Rattle.std.specs.Prelude.{◌==◌, min, Result, Ok, Err, OnOk}
-use Rattle.std.proofs.lemmas.Bool.{eq-eqb}
+use Rattle.std.proofs.Common.{◌≡◌, ℕ, Bool, true, false, Option, Some, None, refl, sym, ◌∙◌, subst, inl, inr, arith}
 use Rattle.mux_outside.specs.Counts.{counted}
-use Rattle.mux_outside.specs.OwnStreams.{is_own}
 use Rattle.mux_outside.specs.Seen.{Calls, calls_after_one, calls_after_wait, counted_if, is_accept, is_client_piece, is_server_end, is_server_piece}
 use Rattle.mux_outside.specs.declared.turn.Turn.{Turn}
 use Rattle.mux_history.specs.declared.broke.Break.{Break}

@@ -1,6 +1,7 @@
 -- What the turns of a run count, and how the run counts behind them.
 use Rattle.std.proofs.Common.{◌≡◌, ◌≢◌, ◌≤◌, ◌<◌, ◌+◌, ◌-◌, ◌^◌, ℕ, Bool, true, false, refl, sym, ◌∙◌, subst, inl, inr, arith}
-use Rattle.std.specs.Prelude.{min}
+use Rattle.std.specs.Prelude.{min, Result, Ok, Err, IsErr}
+use Rattle.std.specs.Result.{result_unwrap_or}
 use Rattle.std.proofs.lemmas.Bool.Decides.{eqb_tells}
 use Rattle.mux_outside.specs.Counts.{counted}
 use Rattle.mux_outside.specs.Seen.{Calls}
@@ -111,6 +112,16 @@ stops-cut present turns a b c = record {
   starved = λ n. refl;
   late = c.late;
 }
+
+pub stops-starved : {E : Type 0} (r : Result Ended E) (present : Bool) (turns : ℕ) (a b : Calls) → IsErr r → Cut turns a b → Stops present turns (result_unwrap_or r ended.OutOfMemory) a b
+stops-starved (Ok x) present turns a b h c = absurd (let z : false ≡ true = h in cc)
+stops-starved (Err e) present turns a b h c = stops-cut present turns a b c
+
+-- turns that were given, and then calls that want of memory cut short
+pub spent-cuts : (present all : Bool) (turns : ℕ) (a b c : Calls) → Spent present all turns a b → Cut 0 b c → Cut turns a c
+spent-cuts present all turns a b c s w =
+    let f : b.waits ≤ a.waits + turns = s.few in let g : c.waits ≤ b.waits + 0 = w.few in let e : b.wants ≡ a.wants = s.wants in let h : c.wants ≤ b.wants + 1 = w.wants in
+    record { few = omega arith; wants = omega arith; late = λ z. w.late (s.wants ∙ z) ∙ s.late z; came = came-then a b c s.came w.came }
 
 -- turns that were given, and then no wait
 pub spent-then : (present all : Bool) (turns : ℕ) (a b c : Calls) → Spent present all turns a b → Well 0 b c → Spent present all turns a c

@@ -1,4 +1,4 @@
-use Rattle.std.proofs.Common.{◌∷◌, [], refl, sym, inl, inr}
+use Rattle.std.proofs.Common.{◌∷◌, [], refl, sym, inl, inr, ◌∙◌, subst}
 use Rattle.mux_history.specs.declared.limits.TheConstants.{HOUSE}
 use Rattle.mux_machine.specs.Events.{here}
 use Rattle.mux_engine.proofs.OwnFaults.{own-then}

@@ -3,10 +3,11 @@ use Rattle.mux_outside.proofs.HouseCalls.{hands-none}
 use Rattle.mux_machine.specs.State.{State}
 use Rattle.mux_engine.proofs.OwnFaults.{own-then}
 use Rattle.mux_engine.specs.Sides.{RestsOf}
-use Rattle.mux_engine.proofs.Answering.{answer-is, none-given, none-held, over-still, ran-starved, ran-whole, refused-whole, stops-whole}
+use Rattle.mux_engine.proofs.Answering.{answer-is, none-given, none-held, over-still, ran-starved, ran-whole, refused-whole, spent-from, stops-whole}
 use Rattle.mux_engine.proofs.Comes.{came-same, came-then, over-answer, over-later, over-offered}
 use Rattle.mux_engine.proofs.Counting.{none-more}
 use Rattle.mux_engine.proofs.Running.{given-is, present-is, promised-is}
+use Rattle.mux_engine.proofs.Spending.{spent-cuts, stops-starved}
 use Rattle.mux_engine.proofs.serving.run.Goals as goal
 
 pub returns-in_err-enter-clause-ran : goal.returns-in_err-enter-clause-ran
@@ -73,6 +74,10 @@ pub returns-clause-permitted : goal.returns-clause-permitted
 returns-clause-permitted g c index e = let t = c.in_ok-all.ensures in let f = c.in_ok-finish.ensures in
     refused-whole c.answer_of.result c.turns_of.new.engine.ended c.finish.new.engine.ended _ _ _ index t.by_row f.ended
     (answer-is c.answer_of.result c.finish.new.engine.ended _ _ _ _ (f.known.present ∙ t.present) c.answer_of.ensures) e
+
+pub returns-in_err-finish-clause-calls : goal.returns-in_err-finish-clause-calls
+returns-in_err-finish-clause-calls g c = let r = c.from_residual-in_err-finish in
+    stops-starved r.result _ c.args.turns _ _ r.ensures.0 (spent-cuts _ _ c.args.turns _ _ _ (spent-from _ _ c.args.turns _ _ _ c.enter.ensures.calls c.in_ok-all.ensures.calls) c.in_err-finish.ensures.calls)
 
 pub returns-clause-calls : goal.returns-clause-calls
 returns-clause-calls g c = let H = g.H.House in let t = c.in_ok-all.ensures in let f = c.in_ok-finish.ensures in
