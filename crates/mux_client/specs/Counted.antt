@@ -1,8 +1,9 @@
 -- The calls of a wire and the faults that a talk counts.
-use Rattle.std.specs.Prelude.{◌≡◌, ◌≢◌, ◌≤◌, ◌<◌, ◌+◌, ◌-◌, ◌^◌, min, ℕ, Result, Ok, Err}
+use Rattle.std.specs.Prelude.{◌≡◌, ◌≢◌, ◌≤◌, ◌<◌, ◌+◌, ◌-◌, ◌^◌, ◌⊎◌, min, ℕ, Result, Ok, Err}
 use Rattle.mux_outside.specs.Counts.{Rose, counted}
 use Rattle.mux_outside.specs.Seen.{Calls}
 use Rattle.mux_outside.specs.Wire.{SameFaults}
+use Rattle.mux_client.specs.declared.stage.Stage.{Stage}
 use Rattle.mux_client.specs.declared.talked.Talked.{Talked}
 use Rattle.mux_client.specs.declared.talked.Talked.TheVariants.{Done, Refused, BadMaster, WriteFault, ServerFailed, Spent, OutOfMemory}
 
@@ -14,11 +15,16 @@ pub record Waited (waits old new : ℕ) : Type 0 where
   pub least : min (old + waits) (2 ^ 64 - 1) ≤ new
   pub fits : old < 2 ^ 64 → new < 2 ^ 64
 
--- so many calls of `wait`, none that wanted memory, and none behind one that did
+-- so many calls of `wait`, none that wanted memory, and none behind one that did; the wire was not
+-- opened, and the counts of what the master said and of its end didn't fall, but for one that stood
+-- behind the end of its type
 pub record Well (waits : ℕ) (old new : Calls) : Type 0 where
   pub waited : Waited waits old.waits new.waits
   pub wants : new.wants ≡ old.wants
   pub late : old.wants ≡ 0 → new.late ≡ old.late
+  pub opens : new.opens ≡ old.opens
+  pub server_pieces : min old.server_pieces (2 ^ 64 - 1) ≤ new.server_pieces
+  pub server_ends : min old.server_ends (2 ^ 64 - 1) ≤ new.server_ends
 
 -- so many calls of `wait`, and at most one call that wanted memory, which was the last, and behind
 -- which the talk is over for want of memory
@@ -27,6 +33,9 @@ pub record Cut (waits : ℕ) (answer : Talked) (old new : Calls) : Type 0 where
   pub wants : new.wants ≤ old.wants + 1
   pub starved : new.wants ≢ old.wants → answer ≡ OutOfMemory
   pub late : old.wants ≡ 0 → new.late ≡ old.late
+  pub opens : new.opens ≡ old.opens
+  pub server_pieces : min old.server_pieces (2 ^ 64 - 1) ≤ new.server_pieces
+  pub server_ends : min old.server_ends (2 ^ 64 - 1) ≤ new.server_ends
 
 -- an answer cuts a call short
 abbrev pub Counts : {A : Type 0} → ℕ → Result A Talked → Calls → Calls → Type 0
@@ -35,7 +44,7 @@ Counts waits (Err answer) old new = Cut waits answer old new
 
 -- of a whole talk: with its turns spent it made as many calls of `wait` as it has turns, and no
 -- answer of the master, no fault of the sink comes without one; where a call wanted memory it was
--- the last, and the talk ended for want of memory
+-- the last, and the talk ended for want of memory; it opened nothing
 pub record Stops (turns : ℕ) (answer : Talked) (old new : Calls) : Type 0 where
   pub few : new.waits ≤ old.waits + turns
   pub spent : answer ≡ Spent → old.waits < 2 ^ 64 → new.waits ≡ min (old.waits + turns) (2 ^ 64 - 1)
@@ -44,6 +53,27 @@ pub record Stops (turns : ℕ) (answer : Talked) (old new : Calls) : Type 0 wher
   pub wants : new.wants ≤ old.wants + 1
   pub starved : new.wants ≢ old.wants → answer ≡ OutOfMemory
   pub late : old.wants ≡ 0 → new.late ≡ old.late
+  pub opens : new.opens ≡ old.opens
+
+-- ---- what came
+
+-- a count went up, or stands at the end of its type
+abbrev pub WentUp : ℕ → ℕ → Type 0
+WentUp before now = counted before ≤ now
+
+-- a piece of the master came where it granted or refused what was asked, or where a line couldn't be
+-- shown; a piece or its end did where it broke the protocol
+abbrev pub AnsweredBy : Talked → Calls → Calls → Type 0
+AnsweredBy Done old new = WentUp old.server_pieces new.server_pieces
+AnsweredBy (Refused id) old new = WentUp old.server_pieces new.server_pieces
+AnsweredBy WriteFault old new = WentUp old.server_pieces new.server_pieces
+AnsweredBy (BadMaster at) old new =
+    WentUp old.server_pieces new.server_pieces ⊎ WentUp old.server_ends new.server_ends
+AnsweredBy answer old new = Unit {0}
+
+-- the talk stands as it stood, or a piece of the master came
+abbrev pub HasHeard : Stage → Stage → Calls → Calls → Type 0
+HasHeard before now old new = (now ≡ before) ⊎ WentUp old.server_pieces new.server_pieces
 
 -- ---- faults
 

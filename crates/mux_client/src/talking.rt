@@ -7,7 +7,7 @@ ghost use Rattle.mux_client.specs.Requests.{MayAsk};
 ghost use Rattle.mux_client.specs.Verdicts.{text_of_line};
 ghost use Rattle.mux_client.specs.Client.{IsSettled};
 ghost use Rattle.mux_client.specs.Journal.{TalksTold, ShowsTold};
-ghost use Rattle.mux_client.specs.Counted.{Counts, Stops, WireFaults, StepFaults, SinkFaults, StepSinkFaults};
+ghost use Rattle.mux_client.specs.Counted.{AnsweredBy, Counts, HasHeard, Stops, WireFaults, StepFaults, SinkFaults, StepSinkFaults};
 ghost use Rattle.mux_client.specs.Talking.{IsAlone, AcceptsNone, IsHeld, IsDecided, BreaksOff, IsGoing, IsOffered, IsOfWire, IsOfSink, IsCutLine, talked_of, Talking, IsTalk, TalksOn, ShowsOn, ShowsLast, WholeTalk};
 
 use crate::asks::Asks;
@@ -226,6 +226,10 @@ fn turn<W: Wire, S: Sink>(
     ensures unspent { IfErr result (λ answer. answer ≢ SpentTurns) }
     ensures none_accepted { AcceptsNone (W.seen wire.old) (W.seen wire.new) }
     ensures calls { Counts 1 result (W.calls wire.old) (W.calls wire.new) }
+    ensures heard { OnOk result (HasHeard client.old.stage client.new.stage (W.calls wire.old)
+        (W.calls wire.new)) }
+    ensures answered { IfErr result (λ answer. AnsweredBy answer (W.calls wire.old)
+        (W.calls wire.new)) }
     ensures cause { StepFaults result (W.server_faults wire.old) (W.server_faults wire.new)
         (W.client_faults wire.old) (W.client_faults wire.new) }
     ensures sink { StepSinkFaults result (S.faults out.old) (S.faults out.new) }
@@ -263,6 +267,7 @@ fn converse<W: Wire, S: Sink>(
         (W.seen wire.new).told (S.told out.old) (S.told out.new) out.old out.new }
     ensures none_accepted { AcceptsNone (W.seen wire.old) (W.seen wire.new) }
     ensures calls { Stops turns (talked_of result) (W.calls wire.old) (W.calls wire.new) }
+    ensures answered { AnsweredBy (talked_of result) (W.calls wire.old) (W.calls wire.new) }
     ensures cause { WireFaults (talked_of result) (W.server_faults wire.old)
         (W.server_faults wire.new) (W.client_faults wire.old) (W.client_faults wire.new) }
     ensures sink { SinkFaults (talked_of result) (S.faults out.old) (S.faults out.new) }
@@ -307,6 +312,7 @@ pub fn talk<W: Wire, S: Sink>(
 
     // The calls, and whose fault it was.
     ensures calls { Stops turns result (W.calls wire.old) (W.calls wire.new) }
+    ensures answered { AnsweredBy result (W.calls wire.old) (W.calls wire.new) }
     ensures cause { WireFaults result (W.server_faults wire.old) (W.server_faults wire.new)
         (W.client_faults wire.old) (W.client_faults wire.new) }
     ensures sink { SinkFaults result (S.faults out.old) (S.faults out.new) }

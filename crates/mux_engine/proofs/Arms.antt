@@ -18,6 +18,7 @@ use Rattle.mux_machine.specs.declared.event.Event.TheVariants.{Accepted, FromCli
 use Rattle.mux_machine.specs.State.{State, numbers, queue_in}
 use Rattle.mux_machine.specs.Events.{Keeps, MayEnd, SameStreams, Tells, here}
 use Rattle.mux_engine.specs.Counted.{Counts, Cut, Waited, Well}
+use Rattle.mux_engine.proofs.Comes.{came-none, came-one, came-then, came-wait}
 use Rattle.mux_engine.specs.Serving.{StaysOrFails}
 
 -- ---- calls
@@ -39,28 +40,28 @@ waited-on m n k a b c e v w =
     record { most = omega arith; least = omega arith; fits = λ h. w.fits (v.fits h) }
 
 pub well-none : (c : Calls) → Well 0 c c
-well-none c = record { waited = waited-none c.waits; wants = refl; late = λ z. refl }
+well-none c = record { waited = waited-none c.waits; wants = refl; late = λ z. refl; came = came-none c }
 
 late-one : (c : Calls) (b : Bool) → c.wants ≡ 0 → (calls_after_one b c).late ≡ c.late
 late-one c b e = ap (λ t. cond t c.late (counted c.late)) (eq-eqb c.wants 0 e)
 
 pub well-one : (c : Calls) → Well 0 c (calls_after_one false c)
-well-one c = record { waited = waited-none c.waits; wants = refl; late = late-one c false }
+well-one c = record { waited = waited-none c.waits; wants = refl; late = late-one c false; came = came-one false c }
 
 -- a call of wait that found memory
 pub well-wait : (t : Turn) (c : Calls) → is_starved t ≡ false → Well 1 c (calls_after_wait t c)
-well-wait t c e = record { waited = waited-one c.waits; wants = ap (λ b. cond b (counted c.wants) c.wants) e; late = late-one c (is_starved t) }
+well-wait t c e = record { waited = waited-one c.waits; wants = ap (λ b. cond b (counted c.wants) c.wants) e; late = late-one c (is_starved t); came = came-wait t c }
 
 -- first so many waits, then so many
 pub well-on : (m n k : ℕ) (a b c : Calls) → m + n ≡ k → Well m a b → Well n b c → Well k a c
-well-on m n k a b c e v w = record { waited = waited-on m n k a.waits b.waits c.waits e v.waited w.waited; wants = w.wants ∙ v.wants; late = λ z. w.late (v.wants ∙ z) ∙ v.late z }
+well-on m n k a b c e v w = record { waited = waited-on m n k a.waits b.waits c.waits e v.waited w.waited; wants = w.wants ∙ v.wants; late = λ z. w.late (v.wants ∙ z) ∙ v.late z; came = came-then a b c v.came w.came }
 
 pub well-then : (a b c : Calls) → Well 0 a b → Well 0 b c → Well 0 a c
 well-then a b c v w = well-on 0 0 0 a b c (omega arith) v w
 
 pub cut-then : (a b c : Calls) → Well 0 a b → Cut 0 b c → Cut 0 a c
 cut-then a b c v w = let f : b.waits ≤ a.waits + 0 = v.waited.most in let g : c.waits ≤ b.waits + 0 = w.few in let e : b.wants ≡ a.wants = v.wants in let h : c.wants ≤ b.wants + 1 = w.wants in
-    record { few = omega arith; wants = omega arith; late = λ z. w.late (v.wants ∙ z) ∙ v.late z }
+    record { few = omega arith; wants = omega arith; late = λ z. w.late (v.wants ∙ z) ∙ v.late z; came = came-then a b c v.came w.came }
 
 -- ---- the end
 

@@ -21,6 +21,7 @@ use Rattle.mux_engine.specs.Rests.{IsByRow}
 use Rattle.mux_engine.specs.Serving.{StaysOrFails}
 use Rattle.mux_engine.specs.Turns.{IsEventOf}
 use Rattle.mux_engine.proofs.Arms.{well-wait}
+use Rattle.mux_engine.proofs.Comes.{came-none, came-wait}
 
 -- ---- calls
 
@@ -36,7 +37,7 @@ wants-wait false c = omega arith
 
 -- a call of wait, whether or not it found memory
 pub cut-wait : (t : Turn) (c : Calls) → Cut 1 c (calls_after_wait t c)
-cut-wait t c = record { few = counted-most c.waits; wants = wants-wait (is_starved t) c; late = late-wait t c }
+cut-wait t c = record { few = counted-most c.waits; wants = wants-wait (is_starved t) c; late = late-wait t c; came = came-wait t c }
 
 -- one that found memory, where its turn told an event
 tells-event : (e : Event) (t : Turn) (bytes : List ℕ) → IsEventOf e t bytes → is_starved t ≡ false
@@ -53,7 +54,7 @@ counts-event (Ok x) e t bytes c next = well-wait t c (tells-event e t bytes next
 counts-event (Err x) e t bytes c next = cut-wait t c
 
 pub cut-none : (n : ℕ) (c : Calls) → Cut n c c
-cut-none n c = record { few = omega arith; wants = omega arith; late = λ z. refl }
+cut-none n c = record { few = omega arith; wants = omega arith; late = λ z. refl; came = came-none c }
 
 -- ---- what a whole run counts
 

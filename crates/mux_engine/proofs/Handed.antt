@@ -29,7 +29,7 @@ use Rattle.mux_history.specs.Policy.{Policy}
 use Rattle.mux_clients.specs.Asked.{known_after}
 use Rattle.mux_machine.specs.State.{State}
 use Rattle.mux_machine.specs.Stands.{CutsShort}
-use Rattle.mux_machine.specs.Events.{MayEnd, here}
+use Rattle.mux_machine.specs.Events.{here}
 use Rattle.mux_machine.specs.declared.event.Event.{Event}
 use Rattle.mux_engine.specs.Asking.{Heeded, HeedsSo}
 use Rattle.mux_engine.specs.Owned.{waits_for}
@@ -39,6 +39,7 @@ use Rattle.mux_engine.specs.Sides.{Housed, Resting, RestsOf, SameHouse, Side, no
 use Rattle.mux_engine.specs.Turns.{IsEventOf, IsOwnOf, failed_heard, held_heard, own_heard, want_of}
 use Rattle.mux_engine.proofs.Cuts.{cut-here, cut-still}
 use Rattle.mux_engine.proofs.Called.{calling}
+use Rattle.mux_engine.proofs.Causes.{EndsSo}
 use Rattle.mux_engine.proofs.Lists.{among-last, among-other-last, or-last, true-false}
 use Rattle.mux_engine.proofs.Marks.{serve-alone, serve-on}
 use Rattle.mux_engine.proofs.OwnMarks.{test-same}
@@ -168,8 +169,8 @@ module _ {May : HouseReply → Type 0} {Rest : Resting} {before : Option (List H
         event-heeds told-waiting a.live e (seen-then t bytes) (given + 1) (event-there e next) r s' asks told told' known known' seen' seen'' w.seen_is same_told same_asks same_present h
 
     -- it may end so
-    pub turn-ends : {A E : Type 0} (r : Result A E) (e : Event) → IsEventOf e t bytes → (s' : State) (asks : List HouseMark) (told told' : Option (List HouseMark)) (known known' : Known) (seen'' : Seen) → Heeded r May e s s' asks told told' known known' seen' seen'' → OnOk r (MayEnd e s'.ended)
-    turn-ends (Ok x) e next s' asks told told' known known' seen'' h = event-ends (now-waiting v a.none a.admitted a.live a.offered a.hears a.all_noted a.rests) a.live e (seen-then t bytes) (given + 1) (event-there e next) s' h.ends
+    pub turn-ends : {A E : Type 0} (r : Result A E) (e : Event) → IsEventOf e t bytes → (s' : State) (asks : List HouseMark) (told told' : Option (List HouseMark)) (known known' : Known) (seen'' : Seen) → Heeded r May e s s' asks told told' known known' seen' seen'' → OnOk r (EndsSo e s'.ended)
+    turn-ends (Ok x) e next s' asks told told' known known' seen'' h = event-ends (now-waiting v a.none a.admitted a.live a.offered a.hears a.all_noted a.rests) a.live e (seen-then t bytes) (given + 1) (event-there e next) s' asks told told' known known' seen' seen'' (length asks) h
     turn-ends (Err x) e next s' asks told told' known known' seen'' h = tt
 
     -- one of the master's own listeners or streams told something

@@ -23,6 +23,7 @@ use Rattle.mux_machine.specs.Events.{EndsBy, Keeps, Tells, here}
 use Rattle.mux_machine.specs.Stands.{GoesAlone, GoesOn, Stands}
 use Rattle.mux_engine.specs.Called.{Handed}
 use Rattle.mux_engine.specs.Counted.{Cut, Well}
+use Rattle.mux_engine.proofs.Comes.{came-none}
 use Rattle.mux_engine.specs.Serving.{Promised, Serving}
 use Rattle.mux_engine.specs.Sides.{Housed, Resting, SameHouse, SamePlaces, Side, noted, noting}
 use Rattle.mux_engine.proofs.Arms.{cut-then}
@@ -117,7 +118,7 @@ replied {May} {Rest} {before} {now} {policy} {pid} {start} {seen} {held} {failed
 
 -- calls that ended well, before one that made none and found no memory
 pub cut-well : (a b c : Calls) → Well 0 a b → c ≡ b → Cut 0 a c
-cut-well a b c w e = subst (Cut 0 a) (sym e) (cut-then a b b w (record { few = omega arith; wants = omega arith; late = λ z. refl }))
+cut-well a b c w e = subst (Cut 0 a) (sym e) (cut-then a b b w (record { few = omega arith; wants = omega arith; late = λ z. refl; came = came-none b }))
 
 pub well-still : (a b c : Calls) → Well 0 a b → c ≡ b → Well 0 a c
 well-still a b c w e = subst (Well 0 a) (sym e) w

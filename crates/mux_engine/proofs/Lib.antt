@@ -3,10 +3,13 @@ mod Arms
 mod Asks
 mod CallLaws
 mod Called
+mod Causes
 mod Closed
+mod Comes
 mod Counting
 mod Cuts
 mod Ending
+mod Fates
 mod First
 mod Handed
 mod Happened

@@ -1,13 +1,16 @@
 -- What the turns of a run count, and how the run counts behind them.
 use Rattle.std.proofs.Common.{◌≡◌, ◌≢◌, ◌≤◌, ◌<◌, ◌+◌, ◌-◌, ◌^◌, ℕ, Bool, true, false, refl, sym, ◌∙◌, subst, inl, inr, arith}
-use Rattle.std.specs.Prelude.{min}
+use Rattle.std.specs.Prelude.{min, Result, Ok, Err, IsErr}
+use Rattle.std.specs.Result.{result_unwrap_or}
 use Rattle.std.proofs.lemmas.Bool.Decides.{eqb_tells}
 use Rattle.mux_outside.specs.Counts.{counted}
 use Rattle.mux_outside.specs.Seen.{Calls}
 use Rattle.mux_history.specs.declared.ended.Ended.{Ended}
 use Rattle.mux_history.specs.declared.ended.Ended.TheVariants as ended
+use Rattle.mux_engine.specs.Came.{Came}
 use Rattle.mux_engine.specs.Counted.{Cut, Spent, Stops, Turned, Waited, Well}
 use Rattle.mux_engine.proofs.Arms.{well-none, well-on}
+use Rattle.mux_engine.proofs.Comes.{came-none, came-then}
 use Rattle.mux_engine.proofs.Lists.{true-false}
 
 -- ---- turns
@@ -19,10 +22,11 @@ spent-none present c = record {
   one = λ p q. true-false q;
   wants = refl;
   late = λ z. refl;
+  came = came-none c;
 }
 
 as-well : (present : Bool) (n : ℕ) (a b : Calls) → Spent present true n a b → present ≡ false → Well n a b
-as-well present n a b s p = record { waited = s.all_waited p refl; wants = s.wants; late = s.late }
+as-well present n a b s p = record { waited = s.all_waited p refl; wants = s.wants; late = s.late; came = s.came }
 
 -- one turn more
 pub spent-on : (present : Bool) (n : ℕ) (a b c : Calls) → Spent present true n a b → Turned present true b c → Spent present true (n + 1) a c
@@ -32,6 +36,7 @@ spent-on present n a b c s (inl w) = let f : b.waits ≤ a.waits + n = s.few in 
   one = λ p q. true-false q;
   wants = w.wants ∙ s.wants;
   late = λ z. w.late (s.wants ∙ z) ∙ s.late z;
+  came = came-then a b c s.came w.came;
 }
 spent-on present n a b c s (inr w) = let f : b.waits ≤ a.waits + n = s.few in let m : c.waits ≤ b.waits + 0 = w.0.waited.most in record {
   few = omega arith;
@@ -39,6 +44,7 @@ spent-on present n a b c s (inr w) = let f : b.waits ≤ a.waits + n = s.few in 
   one = λ p q. true-false q;
   wants = w.0.wants ∙ s.wants;
   late = λ z. w.0.late (s.wants ∙ z) ∙ s.late z;
+  came = came-then a b c s.came w.0.came;
 }
 
 counted-on : (n a b c : ℕ) → n ≢ 0 → Waited n a b → min b (2 ^ 64 - 1) ≤ c → counted a ≤ c
@@ -55,6 +61,10 @@ few-more : (on present : Bool) (b c : Calls) → Turned present on b c → (c.wa
 few-more on present b c (inl w) = (w.waited.most, w.wants, w.late)
 few-more on present b c (inr w) = let l : c.waits ≤ b.waits + 0 = w.0.waited.most in (omega arith, w.0.wants, w.0.late)
 
+pub came-turned : (on present : Bool) (b c : Calls) → Turned present on b c → Came b c
+came-turned on present b c (inl w) = w.came
+came-turned on present b c (inr w) = w.0.came
+
 -- the last one
 pub spent-over : (present : Bool) (n turns : ℕ) (a b c : Calls) → n < turns → Spent present true n a b → Turned present false b c → (n ≡ 0 → present ≡ false → Well 1 b c) → Spent present false turns a c
 spent-over present n turns a b c less s t first =
@@ -66,6 +76,7 @@ spent-over present n turns a b c less s t first =
       one = λ p q. one p;
       wants = m.1 ∙ s.wants;
       late = λ z. m.2 (s.wants ∙ z) ∙ s.late z;
+      came = came-then a b c s.came (came-turned false present b c t);
     }
   where
     one : present ≡ false → counted a.waits ≤ c.waits
@@ -78,7 +89,7 @@ spent-over present n turns a b c less s t first =
 pub spent-cut : (present : Bool) (n turns : ℕ) (a b c : Calls) → n < turns → Spent present true n a b → Cut 1 b c → Cut turns a c
 spent-cut present n turns a b c less s w =
     let f : b.waits ≤ a.waits + n = s.few in let g : c.waits ≤ b.waits + 1 = w.few in let e : b.wants ≡ a.wants = s.wants in let h : c.wants ≤ b.wants + 1 = w.wants in
-    record { few = omega arith; wants = omega arith; late = λ z. w.late (s.wants ∙ z) ∙ s.late z }
+    record { few = omega arith; wants = omega arith; late = λ z. w.late (s.wants ∙ z) ∙ s.late z; came = came-then a b c s.came w.came }
 
 pub spent-all : (present : Bool) (n turns : ℕ) (a b : Calls) → n ≡ turns → Spent present true n a b → Spent present true turns a b
 spent-all present n turns a b e s = subst (λ k. Spent present true k a b) e s
@@ -102,14 +113,25 @@ stops-cut present turns a b c = record {
   late = c.late;
 }
 
+pub stops-starved : {E : Type 0} (r : Result Ended E) (present : Bool) (turns : ℕ) (a b : Calls) → IsErr r → Cut turns a b → Stops present turns (result_unwrap_or r ended.OutOfMemory) a b
+stops-starved (Ok x) present turns a b h c = absurd (let z : false ≡ true = h in cc)
+stops-starved (Err e) present turns a b h c = stops-cut present turns a b c
+
+-- turns that were given, and then calls that want of memory cut short
+pub spent-cuts : (present all : Bool) (turns : ℕ) (a b c : Calls) → Spent present all turns a b → Cut 0 b c → Cut turns a c
+spent-cuts present all turns a b c s w =
+    let f : b.waits ≤ a.waits + turns = s.few in let g : c.waits ≤ b.waits + 0 = w.few in let e : b.wants ≡ a.wants = s.wants in let h : c.wants ≤ b.wants + 1 = w.wants in
+    record { few = omega arith; wants = omega arith; late = λ z. w.late (s.wants ∙ z) ∙ s.late z; came = came-then a b c s.came w.came }
+
 -- turns that were given, and then no wait
 pub spent-then : (present all : Bool) (turns : ℕ) (a b c : Calls) → Spent present all turns a b → Well 0 b c → Spent present all turns a c
 spent-then present all turns a b c s w = let f : b.waits ≤ a.waits + turns = s.few in let m : c.waits ≤ b.waits + 0 = w.waited.most in record {
   few = omega arith;
-  all_waited = λ p q. let v : Well turns a c = well-on turns 0 turns a b c (omega arith) (record { waited = s.all_waited p q; wants = s.wants; late = s.late }) w in v.waited;
+  all_waited = λ p q. let v : Well turns a c = well-on turns 0 turns a b c (omega arith) (record { waited = s.all_waited p q; wants = s.wants; late = s.late; came = s.came }) w in v.waited;
   one = λ p q. kept (s.one p q);
   wants = w.wants ∙ s.wants;
   late = λ z. w.late (s.wants ∙ z) ∙ s.late z;
+  came = came-then a b c s.came w.came;
 }
   where
     kept : counted a.waits ≤ b.waits → counted a.waits ≤ c.waits

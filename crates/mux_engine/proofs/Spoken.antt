@@ -19,14 +19,16 @@ use Rattle.mux_history.specs.declared.limits.TheConstants.{HOUSE, READING_STOPS_
 use Rattle.mux_history.specs.Policy.{Policy}
 use Rattle.mux_clients.specs.Asked.{TellsAsks}
 use Rattle.mux_machine.specs.State.{State, queue_in}
-use Rattle.mux_machine.specs.Events.{MayEnd, Tells, here}
+use Rattle.mux_machine.specs.Events.{Tells, here}
 use Rattle.mux_machine.specs.declared.event.Event.{Event}
 use Rattle.mux_machine.specs.declared.event.Event.TheVariants.{Accepted, FromClient, ClientEnd, ClientFailed, HouseSays, FromServer, ServerEnd, ServerFailed}
 use Rattle.mux_engine.specs.Asking.{Heeded}
+use Rattle.mux_engine.specs.Came.{EndsFor}
 use Rattle.mux_engine.specs.Rests.{EndsByAsk, IsByRow}
 use Rattle.mux_engine.specs.Serving.{Promised, Serving}
 use Rattle.mux_engine.specs.Sides.{Resting, Side, noted}
 use Rattle.mux_engine.specs.Turns.{want_of}
+use Rattle.mux_engine.proofs.Causes.{EndsSo}
 use Rattle.mux_engine.proofs.Cuts.{cut-here, serve-told}
 use Rattle.mux_engine.proofs.Handed.{event-heeds}
 use Rattle.mux_engine.proofs.HouseTakes.{house-said}
@@ -55,16 +57,24 @@ ok-serves r P Q is m = subst (λ (q : Result _ _). MatchResult q P Q) is m
 pub err-serves : {A E : Type 0} (r : Result A E) {x : E} (P : A → Type 0) (Q : E → Type 0) → r ≡ Err x → MatchResult r P Q → Q x
 err-serves r P Q is m = subst (λ (q : Result _ _). MatchResult q P Q) is m
 
--- a run that ends by what a stream said
-pub asks-ends : (e : Event) (bytes : List ℕ) (o : Option Ended) → Tells e (Gets HOUSE bytes) → MayEnd e o → EndsByAsk o
-asks-ends (FromClient k said) bytes o t may = record { lives = may.0; by_row = record { unspent = may.1; permitted = may.2 } }
-asks-ends (FromServer said) bytes o t may = record { lives = may.0; by_row = record { unspent = may.1; permitted = may.2 } }
-asks-ends ServerEnd bytes o t may = record { lives = may.0; by_row = record { unspent = may.1; permitted = may.2 } }
-asks-ends (Accepted k) bytes o t may = absurd (let z = t in cc)
-asks-ends (ClientEnd k) bytes o t may = absurd (let z = t.1 in cc)
-asks-ends (ClientFailed k) bytes o t may = absurd (elim t.1 [ inl z ↦ cc | inr z ↦ cc ])
-asks-ends (HouseSays k id reply) bytes o t may = absurd (let z = t.1 in cc)
-asks-ends ServerFailed bytes o t may = absurd (elim t [ inl z ↦ cc | inr z ↦ cc ])
+-- a run that ends by what the house said
+abbrev stream-of : Mark → ℕ
+stream-of (Gets k bytes) = k
+stream-of mark = 0
+
+pub asks-ends : (e : Event) (bytes : List ℕ) (o : Option Ended) → Tells e (Gets HOUSE bytes) → EndsSo e o → EndsByAsk o
+asks-ends (FromClient k said) bytes o t h = record {
+  lives = h.may.0;
+  by_row = record { unspent = h.may.1; permitted = h.may.2 };
+  by_house = subst (λ (n : ℕ). EndsFor n o) (sym (ap stream-of t.1)) h.by;
+}
+asks-ends (FromServer said) bytes o t h = absurd (let z : HOUSE ≡ 0 = ap stream-of t in omega (arith, z))
+asks-ends ServerEnd bytes o t h = absurd (let z = t in cc)
+asks-ends (Accepted k) bytes o t h = absurd (let z = t in cc)
+asks-ends (ClientEnd k) bytes o t h = absurd (let z = t.1 in cc)
+asks-ends (ClientFailed k) bytes o t h = absurd (elim t.1 [ inl z ↦ cc | inr z ↦ cc ])
+asks-ends (HouseSays k id reply) bytes o t h = absurd (let z = t.1 in cc)
+asks-ends ServerFailed bytes o t h = absurd (elim t [ inl z ↦ cc | inr z ↦ cc ])
 
 -- what was told with what it said
 pub told-nothing : {E : Type 0} (r : Result Bool E) (bytes : List ℕ) (told told' : Option (List HouseMark)) → r ≡ Ok false → told' ≡ option_map (λ marks. marks ++ says_marks r bytes) told → TellsAsks told told' []
@@ -104,6 +114,6 @@ module _ {May : HouseReply → Type 0} {Rest : Resting} {before : Option (List H
         → Heeded r May e s s' asks told' told'' known' known'' seen0 seen'' → MatchResult r (λ x. Serving May Rest before (noted told'' known'' ((calls ++ calls_of (HouseSaid bytes ∷ [])) ++ calls_of asks)) policy pid start seen'' held failed (given + 1) (0 ∷ here s') s') (λ x. Promised May Rest before told'' policy pid start seen''.told (given + 1))
     said-heeds r s' asks told'' known'' seen0 seen'' after h = event-heeds saying live e (seen-with (HouseSaid bytes ∷ []) seen) (given + 1) said-at r s' asks told' told'' known' known'' seen0 seen'' after refl refl refl h
 
-    pub said-ends : {A E : Type 0} (r : Result A E) (s' : State) (asks : List HouseMark) (told'' : Option (List HouseMark)) (known'' : Known) (seen0 seen'' : Seen) → Heeded r May e s s' asks told' told'' known' known'' seen0 seen'' → OnOk r (MayEnd e s'.ended)
-    said-ends (Ok x) s' asks told'' known'' seen0 seen'' h = event-ends saying live e (seen-with (HouseSaid bytes ∷ []) seen) (given + 1) said-at s' h.ends
+    pub said-ends : {A E : Type 0} (r : Result A E) (s' : State) (asks : List HouseMark) (told'' : Option (List HouseMark)) (known'' : Known) (seen0 seen'' : Seen) → Heeded r May e s s' asks told' told'' known' known'' seen0 seen'' → OnOk r (EndsSo e s'.ended)
+    said-ends (Ok x) s' asks told'' known'' seen0 seen'' h = event-ends saying live e (seen-with (HouseSaid bytes ∷ []) seen) (given + 1) said-at s' asks told' told'' known' known'' seen0 seen'' (length asks) h
     said-ends (Err x) s' asks told'' known'' seen0 seen'' h = tt

@@ -24,7 +24,7 @@ use Rattle.mux_clients.specs.Starved.{BeginsWith}
 use Rattle.mux_machine.specs.State.{State, numbers}
 use Rattle.mux_machine.specs.declared.event.Event.{Event}
 use Rattle.mux_machine.specs.declared.event.Event.TheVariants.{Accepted, FromClient, ClientEnd, ClientFailed, HouseSays, FromServer, ServerEnd, ServerFailed}
-use Rattle.mux_machine.specs.Events.{Arrives, EndsBy, MayEnd, SameStreams, Tells, here}
+use Rattle.mux_machine.specs.Events.{Arrives, SameStreams, Tells, here}
 use Rattle.mux_machine.specs.Stands.{AsksFirst, CutsShort, GoesBy, IsAllowed, log}
 use Rattle.mux_machine.specs.Twins.{AreAlike}
 use Rattle.mux_machine.proofs.Twins.{stands-alike}
@@ -36,6 +36,7 @@ use Rattle.mux_engine.specs.Serving.{Promised, Serving}
 use Rattle.mux_engine.specs.Sides.{Resting, Side, asks_in, house_mark}
 use Rattle.mux_engine.proofs.Asks.{EachAsked, SaidBy, all-asks, asked-accepted, begins-asked, goes-asked}
 use Rattle.mux_engine.proofs.Called.{CallsOn, calls-told}
+use Rattle.mux_engine.proofs.Causes.{EndsSo, event-by}
 use Rattle.mux_engine.proofs.Cuts.{cut-next, now-asked, of-streams}
 use Rattle.mux_engine.proofs.Happened.{serve-event}
 use Rattle.mux_engine.proofs.Logs.{accepted-more}
@@ -147,8 +148,11 @@ module _ {May : HouseReply → Type 0} {Rest : Resting} {before : Option (List H
       (note-some n asks (λ k. is_accepted k (at.mark ∷ v.journal) ≡ true) each first refl))
 
   -- and may end by it
-  pub event-ends : (e : Event) (seen' : Seen) (given' : ℕ) (at : EventAt e seen' given') (s' : State) → ((mark : Mark) → Tells e mark → EndsBy e s s' mark) → MayEnd e s'.ended
-  event-ends e seen' given' at s' ends = ends at.twin at.tells v.picked v.replies v.journal v.closed v.stands at.allowed live
+  pub event-ends : (e : Event) (seen' : Seen) (given' : ℕ) (at : EventAt e seen' given') (s' : State) (asks : List HouseMark) (told told' : Option (List HouseMark)) (known known' : Known) (seen0 seen'' : Seen) (n : ℕ) → HeedsSo May e s s' asks told told' known known' seen0 seen'' n → EndsSo e s'.ended
+  event-ends e seen' given' at s' asks told told' known known' seen0 seen'' n h = record {
+    may = h.ends at.twin at.tells v.picked v.replies v.journal v.closed v.stands at.allowed live;
+    by = event-by v.stands (h.goes at.twin at.tells v.picked v.replies v.journal v.closed v.stands at.allowed) h.keeps.policy h.keeps.pid live e at.tells;
+  }
 
   -- there was no memory for it: what it was asked by then comes first of what the mark asks
   cut-asks : (e : Event) (seen' : Seen) (given' : ℕ) (at : EventAt e seen' given') (told' : Option (List HouseMark)) (a : AsksFirst May now.told told' v.picked v.replies s at.twin v.journal) → AsksOn May policy pid v.picked v.replies (at.mark ∷ v.journal) v.stands.asks (asks_in a.asks)

@@ -4,6 +4,7 @@ use Rattle.mux_outside.specs.Counts.{counted}
 use Rattle.mux_outside.specs.Seen.{Calls}
 use Rattle.mux_history.specs.declared.ended.Ended.{Ended}
 use Rattle.mux_history.specs.declared.ended.Ended.TheVariants.{OutOfMemory, Spent as TurnsSpent}
+use Rattle.mux_engine.specs.Came.{Came}
 
 -- so many calls of `wait` were counted, whose count stays at the end of its type
 pub record Waited (waits old new : ℕ) : Type 0 where
@@ -11,17 +12,20 @@ pub record Waited (waits old new : ℕ) : Type 0 where
   pub least : min (old + waits) (2 ^ 64 - 1) ≤ new
   pub fits : old < 2 ^ 64 → new < 2 ^ 64
 
--- so many calls of `wait`, none that wanted memory, and none behind one that did
+-- so many calls of `wait`, none that wanted memory, and none behind one that did; no count of what
+-- came fell
 pub record Well (waits : ℕ) (old new : Calls) : Type 0 where
   pub waited : Waited waits old.waits new.waits
   pub wants : new.wants ≡ old.wants
   pub late : old.wants ≡ 0 → new.late ≡ old.late
+  pub came : Came old new
 
 -- at most so many calls of `wait`, and at most one call that wanted memory, which was the last
 pub record Cut (waits : ℕ) (old new : Calls) : Type 0 where
   pub few : new.waits ≤ old.waits + waits
   pub wants : new.wants ≤ old.wants + 1
   pub late : old.wants ≡ 0 → new.late ≡ old.late
+  pub came : Came old new
 
 -- want of memory cuts a call short
 abbrev pub Counts : {A E : Type 0} → ℕ → Result A E → Calls → Calls → Type 0
@@ -42,6 +46,7 @@ pub record Spent (present all : Bool) (turns : ℕ) (old new : Calls) : Type 0 w
   pub one : present ≡ false → all ≡ false → counted old.waits ≤ new.waits
   pub wants : new.wants ≡ old.wants
   pub late : old.wants ≡ 0 → new.late ≡ old.late
+  pub came : Came old new
 
 -- of a run: it made no more calls of `wait` than it has turns; where there is no house, it made as
 -- many with its turns spent, and no other end but for want of memory comes without one; where a call

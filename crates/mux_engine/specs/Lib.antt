@@ -1,6 +1,7 @@
 pub mod Asking
 pub mod CallLaws
 pub mod Called
+pub mod Came
 pub mod Counted
 pub mod Orders
 pub mod OwnFaults

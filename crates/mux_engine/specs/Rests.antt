@@ -5,7 +5,9 @@ use Rattle.mux_outside.specs.Streams.{among}
 use Rattle.mux_outside.specs.declared.turn.Want.TheVariants.{Read}
 use Rattle.mux_history.specs.declared.ended.Ended.{Ended}
 use Rattle.mux_history.specs.declared.ended.Ended.TheVariants.{ServerFailed, Spent, StartRefused}
+use Rattle.mux_history.specs.declared.limits.TheConstants.{HOUSE}
 use Rattle.mux_machine.specs.State.{State}
+use Rattle.mux_engine.specs.Came.{EndsFor}
 use Rattle.mux_engine.specs.Owned.{IsOffered}
 use Rattle.mux_engine.specs.Turns.{want_of}
 
@@ -33,10 +35,11 @@ pub record IsByRow (ended : Option Ended) : Type 0 where
   pub unspent : ended ≢ Some Spent
   pub permitted : (index : ℕ) → ended ≢ Some (StartRefused index)
 
--- one that goes on or that ended by what a client said
+-- one that goes on or that ended by what the house said as a client
 pub record EndsByAsk (ended : Option Ended) : Type 0 where
   pub lives : ended ≢ Some ServerFailed
   pub by_row : IsByRow ended
+  pub by_house : EndsFor HOUSE ended
 
 -- the forwarding of the start that was refused, where there is a house and none may be
 abbrev pub refused_if : Bool → Bool → Option ℕ → Option ℕ

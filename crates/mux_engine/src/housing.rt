@@ -12,6 +12,7 @@ ghost use Rattle.mux_outside.specs.Counts.{Rose};
 ghost use Rattle.mux_outside.specs.declared.turn.Want.TheVariants.{Read as ToRead};
 ghost use Rattle.mux_machine.specs.Events.{here};
 ghost use Rattle.mux_machine.specs.Stands.{Stands};
+ghost use Rattle.mux_engine.specs.Came.{OverBy};
 ghost use Rattle.mux_engine.specs.Counted.{Counts};
 ghost use Rattle.mux_engine.specs.OwnFaults.{OwnCounted};
 ghost use Rattle.mux_engine.specs.Owned.{IsOffered};
@@ -371,6 +372,8 @@ pub fn step_house<W: Wire, H: House>(
     ensures failed { OnOk result (engine.new.ended ≡ Some ServerFailed
         → Rose (W.server_faults wire.old) (W.server_faults wire.new)) }
     ensures by_row { OnOk result (IsByRow engine.new.ended) }
+    ensures ended_by { OnOk result (OverBy (H.known house.old).present engine.new.ended
+        (W.calls wire.old) (W.calls wire.new)) }
     ensures idle { engine.old.waiting ≡ [] → (H.known house.old).present ≡ false
         → OnOk result (engine.new.ended ≡ None) }
     ensures unopened { (H.known house.old).present ≡ false

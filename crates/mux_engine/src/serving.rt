@@ -12,6 +12,7 @@ ghost use Rattle.mux_history.specs.declared.limits.TheConstants.{HOUSE as TheHou
 ghost use Rattle.mux_history.specs.Policy.{Policy as ThePolicy};
 ghost use Rattle.mux_machine.specs.Events.{went_of, here};
 ghost use Rattle.mux_engine.specs.Called.{Handed};
+ghost use Rattle.mux_engine.specs.Came.{Came, EndedBy, OverBy};
 ghost use Rattle.mux_engine.specs.Counted.{Counts, Cut, Spent, Stops, Turned, Well};
 ghost use Rattle.mux_engine.specs.OwnFaults.{OwnCounted};
 ghost use Rattle.mux_engine.specs.Rests.{IsAlone, IsByRow, IsReady, ended_as, refused_if};
@@ -94,6 +95,8 @@ fn turn<W: Wire, H: House>(
     ensures failed { OnOk result (engine.new.ended ≡ Some ServerFailed
         → Rose (W.server_faults wire.old) (W.server_faults wire.new)) }
     ensures by_row { OnOk result (IsByRow engine.new.ended) }
+    ensures ended_by { OnOk result (OverBy (H.known house.old).present engine.new.ended
+        (W.calls wire.old) (W.calls wire.new)) }
     ensures unopened { (H.known house.old).present ≡ false
         → (W.seen wire.new).last_own ≡ (W.seen wire.old).last_own }
     ensures later { W.server_faults wire.old ≤ W.server_faults wire.new }
@@ -194,6 +197,8 @@ fn one_turn<W: Wire, H: House>(
     ensures failed { OnOk result (engine.new.ended ≡ Some ServerFailed
         → Rose (W.server_faults wire.old) (W.server_faults wire.new)) }
     ensures by_row { OnOk result (IsByRow engine.new.ended) }
+    ensures ended_by { OnOk result (OverBy (H.known house.old).present engine.new.ended
+        (W.calls wire.old) (W.calls wire.new)) }
     ensures idle { engine.old.waiting ≡ [] → (H.known house.old).present ≡ false
         → IfOk result (λ on. Well 1 (W.calls wire.old) (W.calls wire.new)) }
     ensures unopened { (H.known house.old).present ≡ false
@@ -266,6 +271,8 @@ fn turns_of<W: Wire, H: House>(
     ensures failed { OnOk result (engine.new.ended ≡ Some ServerFailed
         → Rose (W.server_faults wire.old) (W.server_faults wire.new)) }
     ensures by_row { OnOk result (IsByRow engine.new.ended) }
+    ensures ended_by { OnOk result (OverBy (H.known house.old).present engine.new.ended
+        (W.calls wire.old) (W.calls wire.new)) }
     ensures unopened { (H.known house.old).present ≡ false
         → (W.seen wire.new).last_own ≡ (W.seen wire.old).last_own }
     ensures later { W.server_faults wire.old ≤ W.server_faults wire.new }
@@ -474,6 +481,9 @@ fn run<W: Wire, H: House>(
         ≡ Some index) }
     ensures failed { IfOk result (λ answer. answer ≡ ServerFailed
         → Rose (W.server_faults wire.old) (W.server_faults wire.new)) }
+    ensures came { Came (W.calls wire.old) (W.calls wire.new) }
+    ensures ended_by { IfOk result (λ answer. EndedBy (H.known house.old).present answer
+        (W.calls wire.old) (W.calls wire.new)) }
     ensures calls { Stops (H.known house.old).present turns (result_unwrap_or result WantOfMemory)
         (W.calls wire.old) (W.calls wire.new) }
     ensures unopened { (H.known house.old).present ≡ false
@@ -511,7 +521,10 @@ fn run<W: Wire, H: House>(
 /// listeners and streams are at the end, too, those that the house ordered, and knows; without a
 /// house none was opened. The forwarding of the start that an answer names was refused, where none
 /// may be. Each order of the house to listen or to connect that got no number is an own fault that
-/// was counted, unless that count stands at its last value.
+/// was counted, unless that count stands at its last value. Whatever the wire tells, its counts show
+/// what came: the run ends as the server disconnects or breaks the protocol only where a piece of it
+/// came, or its end inside a frame, as it ends only where its end came, and as a client says only
+/// where a piece of a client came, unless that is the house.
 pub fn serve<W: Wire, H: House>(
     alloc: Global,
     policy: Policy,
@@ -538,6 +551,9 @@ pub fn serve<W: Wire, H: House>(
         ≡ Some index }
     ensures failed { result ≡ ServerFailed
         → Rose (W.server_faults wire.old) (W.server_faults wire.new) }
+    ensures came { Came (W.calls wire.old) (W.calls wire.new) }
+    ensures ended_by { EndedBy (H.known house.old).present result (W.calls wire.old)
+        (W.calls wire.new) }
     ensures calls { Stops (H.known house.old).present turns result (W.calls wire.old)
         (W.calls wire.new) }
     ensures unopened { (H.known house.old).present ≡ false

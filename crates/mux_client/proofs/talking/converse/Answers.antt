@@ -1,8 +1,11 @@
+use Rattle.std.specs.Prelude.{Err}
 use Rattle.std.proofs.Common.{◌≡◌, ◌∙◌, ◌+◌, [], refl, sym, ap, subst, ℕ, List, inl, arith}
+use Rattle.mux_client.specs.declared.stage.Stage.TheVariants.{Greets}
 use Rattle.mux_client.specs.declared.talked.Talked.TheVariants.{OutOfMemory}
 use Rattle.mux_client.specs.Client.{ClientState}
+use Rattle.mux_client.specs.Counted.{AnsweredBy}
 use Rattle.mux_client.specs.Talking.{IsTalk, Talking, WholeTalk}
-use Rattle.mux_client.proofs.Counts.{well-none, well-on}
+use Rattle.mux_client.proofs.Counts.{answered-later, decided-answered, heard-offered, heard-then, well-none, well-on}
 use Rattle.mux_client.proofs.ShowLines.{last-here, last-none, last-then, shows-none, shows-then}
 use Rattle.mux_client.proofs.TalkSteps.{talk-decided}
 use Rattle.mux_client.proofs.WholeTalks.{accepts-then, decided-talk, handed-as, same-then, starts-starved, talk-starts}
@@ -31,6 +34,7 @@ loop-init g c = let told = (g.W.Wire.seen c.args.wire.now).told in record {
   blocked = c.requires.none_blocked ∙ sym c.new-held.ensures;
   held = inl c.new-held.ensures;
   first = λ z. ap (λ (s : ClientState). s.stage) c.in_ok-client.ensures.new;
+  heard = inl (ap (λ (s : ClientState). s.stage) c.in_ok-client.ensures.new);
   none_accepted = record { streams = refl; listens = refl; last = refl; listeners = refl; own = refl };
   calls = well-none (g.W.Wire.calls c.args.wire.now);
   cause = record { same_server = refl; same_client = refl };
@@ -67,6 +71,9 @@ loop-preserved g c =
       held = t.held;
       first = λ z. absurd (let w : c.loop.counter + 1 ≡ 0 = z in omega arith);
       none_accepted = accepts-then (accepts-then i.none_accepted c.offer.ensures.none_accepted) c.turn.ensures.none_accepted;
+      heard = heard-then c.loop.counter 1 Greets c.offer.new.client.stage c.turn.new.client.stage (g.W.Wire.calls c.args.wire.now) (g.W.Wire.calls c.offer.new.wire) (g.W.Wire.calls c.turn.new.wire)
+          (well-on c.loop.counter 0 c.loop.counter _ _ _ (omega arith) i.calls o.calls)
+          (heard-offered 0 Greets c.loop.client.stage c.offer.new.client.stage (g.W.Wire.calls c.args.wire.now) (g.W.Wire.calls c.loop.wire) (g.W.Wire.calls c.offer.new.wire) o.stage i.heard o.calls) t.calls t.heard;
       calls = well-on c.loop.counter 1 (c.loop.counter + 1) _ _ _ (omega arith) (well-on c.loop.counter 0 c.loop.counter _ _ _ (omega arith) i.calls o.calls) t.calls;
       cause = same-then (same-then i.cause o.cause) t.cause;
       sink = t.sink ∙ i.sink;
@@ -79,3 +86,22 @@ returns-clause-talks g c =
     let told = (g.W.Wire.seen c.args.wire.now).told in
     let f = c.loop.invariant.talking in
     last-here f (decided-talk (c.in_ok-offer-2.ensures.talking c.args.asks.now told f.more f.holds) c.in_ok-offer-2.ensures.settled c.in_ok-offer-2.ensures.offered c.decided-2.result c.decided-2.ensures)
+
+-- ---- what came
+
+pub returns-in_err-decided-clause-answered : goal.returns-in_err-decided-clause-answered
+returns-in_err-decided-clause-answered g c = let W = g.W.Wire in
+    handed-as c.from_residual-in_err-decided.result c.in_err-decided.field-0.0 (λ answer. AnsweredBy answer (W.calls c.args.wire.now) (W.calls c.offer.new.wire)) c.from_residual-in_err-decided.ensures.1
+    (decided-answered c.offer.new.client (Err c.in_err-decided.field-0.0) (W.calls c.args.wire.now) (W.calls c.offer.new.wire) c.in_err-decided.ensures
+    (heard-offered 0 Greets c.loop.client.stage c.offer.new.client.stage (W.calls c.args.wire.now) (W.calls c.loop.wire) (W.calls c.offer.new.wire) c.in_ok-offer.ensures.stage c.loop.invariant.heard c.in_ok-offer.ensures.calls))
+
+pub returns-in_err-turn-clause-answered : goal.returns-in_err-turn-clause-answered
+returns-in_err-turn-clause-answered g c = let W = g.W.Wire in
+    handed-as c.from_residual-in_err-turn.result c.in_err-turn.field-0.0 (λ answer. AnsweredBy answer (W.calls c.args.wire.now) (W.calls c.turn.new.wire)) c.from_residual-in_err-turn.ensures.1
+    (answered-later c.loop.counter c.in_err-turn.field-0.0 (W.calls c.args.wire.now) (W.calls c.offer.new.wire) (W.calls c.turn.new.wire)
+    (well-on c.loop.counter 0 c.loop.counter _ _ _ (omega arith) c.loop.invariant.calls c.in_ok-offer.ensures.calls) c.in_err-turn.ensures.answered)
+
+pub returns-clause-answered : goal.returns-clause-answered
+returns-clause-answered g c = let W = g.W.Wire in
+    decided-answered c.offer-2.new.client c.decided-2.result (W.calls c.args.wire.now) (W.calls c.offer-2.new.wire) c.decided-2.ensures
+    (heard-offered 0 Greets c.loop.client.stage c.offer-2.new.client.stage (W.calls c.args.wire.now) (W.calls c.loop.wire) (W.calls c.offer-2.new.wire) c.in_ok-offer-2.ensures.stage c.loop.invariant.heard c.in_ok-offer-2.ensures.calls)

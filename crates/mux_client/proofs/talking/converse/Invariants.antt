@@ -2,7 +2,7 @@ use Rattle.std.proofs.Common.{◌≡◌}
 use Rattle.mux_outside.specs.Wire.{SameFaults}
 use Rattle.mux_client.specs.declared.stage.Stage.TheVariants.{Greets}
 use Rattle.mux_client.specs.Client.{IsSettled}
-use Rattle.mux_client.specs.Counted.{Well}
+use Rattle.mux_client.specs.Counted.{HasHeard, Well}
 use Rattle.mux_client.specs.Talking.{AcceptsNone, IsHeld, ShowsOn, Talking}
 use Rattle.mux_client.proofs.talking.converse.Given as goal
 
@@ -13,6 +13,7 @@ invariant-loop g l = let W = g.W.Wire in let S = g.S.Sink in record {
   blocked : (W.seen l.wire).blocked ≡ l.held;
   held : IsHeld l.held;
   first : l.counter ≡ 0 → l.client.stage ≡ Greets;
+  heard : HasHeard Greets l.client.stage (W.calls l.fn.wire) (W.calls l.wire);
   none_accepted : AcceptsNone (W.seen l.fn.wire) (W.seen l.wire);
   calls : Well l.counter (W.calls l.fn.wire) (W.calls l.wire);
   cause : SameFaults (W.server_faults l.fn.wire) (W.server_faults l.wire) (W.client_faults l.fn.wire) (W.client_faults l.wire);

@@ -1,7 +1,11 @@
-use Rattle.std.proofs.Common.{◌≡◌, ◌∙◌, ◌++◌, [], ap, subst, sym, ℕ, List}
+use Rattle.std.proofs.Common.{◌≡◌, ◌∙◌, ◌++◌, [], ap, refl, subst, sym, ℕ, List}
+use Rattle.mux_outside.specs.Seen.{Calls}
 use Rattle.mux_outside.specs.Streams.{without}
 use Rattle.mux_client.specs.declared.talked.Talked.TheVariants.{BadMaster, OutOfMemory, ServerFailed}
+use Rattle.mux_outside.specs.declared.turn.Turn.TheVariants as turn
 use Rattle.mux_client.specs.Client.{heard}
+use Rattle.mux_client.specs.Counted.{Counts, WentUp}
+use Rattle.mux_client.proofs.Counts.{counts-wait, end-came, heard-so, off-answered, piece-came, read-answered}
 use Rattle.mux_client.specs.Talking.{IsTalk, Talking}
 use Rattle.mux_client.proofs.ShowLines.{last-none, shows-none}
 use Rattle.mux_client.proofs.TalkSteps.{want-of-memory}
@@ -52,3 +56,26 @@ pub returns-in-NoMemory-clause-talking : goal.returns-in-NoMemory-clause-talking
 returns-in-NoMemory-clause-talking g c start shown v =
     last-none (g.S.Sink.told c.args.out.now) c.args.out.now (λ more due. IsTalk c.args.asks.now OutOfMemory start (g.W.Wire.seen c.wait.new.self).told (shown ++ more) (shown ++ due))
     (turn-starved (g.W.Wire.seen c.args.wire.now) v c.requires.settled c.requires.offered c.requires.going (g.W.Wire.seen c.wait.new.self) c.wait.new.into c.in-NoMemory.ensures.seen)
+
+-- ---- what came
+
+pub returns-in_ok-hears-in-Got-clause-calls : goal.returns-in_ok-hears-in-Got-clause-calls
+returns-in_ok-hears-in-Got-clause-calls g c = subst (Counts 1 c.read.result (g.W.Wire.calls c.args.wire.now)) (sym c.in-Got.ensures.calls) (counts-wait c.read.result (turn.Got c.in-Got.field-0) (g.W.Wire.calls c.args.wire.now) refl)
+
+pub returns-in_ok-hears-in-Got-clause-heard : goal.returns-in_ok-hears-in-Got-clause-heard
+returns-in_ok-hears-in-Got-clause-heard g c = let W = g.W.Wire in
+    heard-so c.read.result c.args.client.now.stage c.read.new.client.stage (W.calls c.args.wire.now) (W.calls c.wait.new.self)
+    (subst (λ (x : Calls). WentUp (W.calls c.args.wire.now).server_pieces x.server_pieces) (sym c.in-Got.ensures.calls) (piece-came c.in-Got.field-0 (W.calls c.args.wire.now) (is-zero c.in-Got.field-0 _ c.requires.alone.streams c.in-Got.ensures.turn.1)))
+
+pub returns-in_ok-hears-in-Got-clause-answered : goal.returns-in_ok-hears-in-Got-clause-answered
+returns-in_ok-hears-in-Got-clause-answered g c = let W = g.W.Wire in
+    read-answered c.read.result (W.calls c.args.wire.now) (W.calls c.wait.new.self) c.read.ensures.own
+    (subst (λ (x : Calls). WentUp (W.calls c.args.wire.now).server_pieces x.server_pieces) (sym c.in-Got.ensures.calls) (piece-came c.in-Got.field-0 (W.calls c.args.wire.now) (is-zero c.in-Got.field-0 _ c.requires.alone.streams c.in-Got.ensures.turn.1)))
+
+pub returns-in-End-clause-calls : goal.returns-in-End-clause-calls
+returns-in-End-clause-calls g c = subst (Counts 1 c.broken_off.result (g.W.Wire.calls c.args.wire.now)) (sym c.in-End.ensures.calls) (counts-wait c.broken_off.result (turn.End c.in-End.field-0) (g.W.Wire.calls c.args.wire.now) refl)
+
+pub returns-in-End-clause-answered : goal.returns-in-End-clause-answered
+returns-in-End-clause-answered g c = let W = g.W.Wire in
+    off-answered c.args.client.now c.broken_off.result (W.calls c.args.wire.now) (W.calls c.wait.new.self) c.broken_off.ensures
+    (subst (λ (x : Calls). WentUp (W.calls c.args.wire.now).server_ends x.server_ends) (sym c.in-End.ensures.calls) (end-came c.in-End.field-0 (W.calls c.args.wire.now) (is-zero c.in-End.field-0 _ c.requires.alone.streams c.in-End.ensures.turn.1)))

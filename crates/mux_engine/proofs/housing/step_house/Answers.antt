@@ -13,6 +13,7 @@ use Rattle.mux_engine.proofs.Arms.{on-err, on-ok}
 use Rattle.mux_engine.proofs.Runs.{promised-more}
 use Rattle.mux_engine.proofs.Spoken.{err-serves, ok-serves}
 use Rattle.mux_engine.proofs.Stepping.{handed-again, match-ok, runs-same, to-flush}
+use Rattle.mux_engine.proofs.Comes.{over-house, over-live, over-offered}
 use Rattle.mux_engine.proofs.housing.step_house.Goals as goal
 
 -- ---- an order
@@ -123,6 +124,25 @@ returns-clause-by_row g c =
     let s = c.requires.served in
     let h = ok-serves c.ask_house.result _ _ is (c.ask_house.ensures.serving s.first s.calls s.before s.policy s.pid s.start s.given s.hands s.serving) in
     on-ok c.speak.result (λ (e : EndsByAsk c.speak.new.engine.ended). e.by_row) (c.speak.ensures.ends c.flush.new.held lists.failed record { first = s.first; calls = h.all; hands = h.hands; before = s.before; policy = s.policy; pid = s.pid; start = s.start; given = s.given; serving = subst (λ (b : Bool). Serving H.may (RestsOf H.told H.known H.quiet H.must H.refused H.stands b s.first) s.before (noted (H.told house) (H.known house) h.all) s.policy s.pid s.start (W.seen c.flush.new.wire) c.flush.new.held lists.failed s.given [] c.flush.new.engine) (sym c.in_ok-ask_house.ensures.present) (ok-serves c.flush.result _ _ c.in_ok-flush.was (c.flush.ensures.serving [] (H.known c.args.house.now).present s.first s.before (noted (H.told house) (H.known house) h.all) s.policy s.pid s.start lists.failed s.given (to-flush h.so))) })
+
+pub returns-clause-ended_by : goal.returns-clause-ended_by
+returns-clause-ended_by g c =
+    let H = g.H.House in
+    let W = g.W.Wire in
+    let house = c.ask_house.new.house in
+    let lists = c.ask_house.new.lists in
+    let is : c.ask_house.result ≡ Ok false = c.in_ok-ask_house.was ∙ ap (λ (b : Bool). Ok b) c.if-branch.false in
+    let s = c.requires.served in
+    let h = ok-serves c.ask_house.result _ _ is (c.ask_house.ensures.serving s.first s.calls s.before s.policy s.pid s.start s.given s.hands s.serving) in
+    on-ok c.speak.result (λ (e : EndsByAsk c.speak.new.engine.ended). over-house (H.known c.args.house.now).present c.speak.new.engine.ended (W.calls c.args.wire.now) (W.calls c.speak.new.wire) (sym c.in_ok-ask_house.ensures.present ∙ (sym c.present.ensures.present ∙ c.if-not-present.false)) e.by_house) (c.speak.ensures.ends c.flush.new.held lists.failed record { first = s.first; calls = h.all; hands = h.hands; before = s.before; policy = s.policy; pid = s.pid; start = s.start; given = s.given; serving = subst (λ (b : Bool). Serving H.may (RestsOf H.told H.known H.quiet H.must H.refused H.stands b s.first) s.before (noted (H.told house) (H.known house) h.all) s.policy s.pid s.start (W.seen c.flush.new.wire) c.flush.new.held lists.failed s.given [] c.flush.new.engine) (sym c.in_ok-ask_house.ensures.present) (ok-serves c.flush.result _ _ c.in_ok-flush.was (c.flush.ensures.serving [] (H.known c.args.house.now).present s.first s.before (noted (H.told house) (H.known house) h.all) s.policy s.pid s.start lists.failed s.given (to-flush h.so))) })
+
+pub returns-then-not-present-clause-ended_by : goal.returns-then-not-present-clause-ended_by
+returns-then-not-present-clause-ended_by g c = let W = g.W.Wire in let p = (g.H.House.known c.args.house.now).present in let f = c.in_ok-flush.ensures in
+    over-offered p c.ask_house.new.engine.ended c.flush.new.engine.ended _ _ (W.calls c.args.wire.now) (W.calls c.ask_house.new.wire) (W.calls c.flush.new.wire) f.ended
+    (over-live p c.ask_house.new.engine.ended (W.calls c.args.wire.now) (W.calls c.ask_house.new.wire) c.in_ok-ask_house.ensures.on) f.calls.came
+
+pub returns-then-branch-clause-ended_by : goal.returns-then-branch-clause-ended_by
+returns-then-branch-clause-ended_by g c = let W = g.W.Wire in over-live (g.H.House.known c.args.house.now).present c.ask_house.new.engine.ended (W.calls c.args.wire.now) (W.calls c.ask_house.new.wire) c.in_ok-ask_house.ensures.on
 
 pub returns-then-not-present-clause-held_is : goal.returns-then-not-present-clause-held_is
 returns-then-not-present-clause-held_is g c =

@@ -1,4 +1,4 @@
-use Rattle.std.proofs.Common.{◌∷◌, [], refl, sym, inl, inr}
+use Rattle.std.proofs.Common.{◌∷◌, [], refl, sym, inl, inr, ◌∙◌, subst}
 use Rattle.mux_history.specs.declared.limits.TheConstants.{HOUSE}
 use Rattle.mux_machine.specs.Events.{here}
 use Rattle.mux_engine.proofs.OwnFaults.{own-then}
@@ -7,6 +7,8 @@ use Rattle.mux_engine.proofs.Arms.{on-err}
 use Rattle.mux_engine.proofs.Called.{handed-so}
 use Rattle.mux_engine.proofs.HouseCalls.{housed-still, same-house}
 use Rattle.mux_engine.proofs.Running.{all-left, present-is, promised-is, step-took, step-waits}
+use Rattle.mux_engine.proofs.Comes.{over-later, over-present, over-same}
+use Rattle.mux_engine.specs.Came.{Came}
 use Rattle.mux_engine.proofs.serving.one_turn.Goals as goal
 
 -- ---- the house took a turn
@@ -133,6 +135,19 @@ returns-clause-serving g c first calls before policy pid start given hands v =
     let hushed = c.hush.ensures.serving (H.known c.args.house.now).present first before (noted (H.told house) (H.known house) h.all) policy pid start c.close_lost.new.held lists.failed given [] closed in
     let t = c.in_ok-went.ensures.serving first h.all before policy pid start given h.hands (present-is (λ b. RestsOf H.told H.known H.quiet H.must H.refused H.stands b first) _ _ (sym c.in_ok-step_house.ensures.present) hushed) in
     handed-so t (inl (present-is (λ b. RestsOf H.told H.known H.quiet H.must H.refused H.stands b first) _ _ c.in_ok-step_house.ensures.present t.so))
+
+-- ---- what came
+
+pub returns-then-is_over-clause-ended_by : goal.returns-then-is_over-clause-ended_by
+returns-then-is_over-clause-ended_by g c = let W = g.W.Wire in
+    over-same (g.H.House.known c.args.house.now).present c.step_house.new.engine.ended c.close_lost.new.engine.ended (W.calls c.args.wire.now) (W.calls c.step_house.new.wire) (W.calls c.hush.new.wire)
+    c.close_lost.ensures.ended (c.hush.ensures.calls ∙ c.close_lost.ensures.calls) c.in_ok-step_house.ensures.ended_by
+
+pub returns-clause-ended_by : goal.returns-clause-ended_by
+returns-clause-ended_by g c = let W = g.W.Wire in
+    over-present (g.H.House.known c.step_house.new.house).present (g.H.House.known c.args.house.now).present c.turn.new.engine.ended (W.calls c.args.wire.now) (W.calls c.turn.new.wire) c.in_ok-step_house.ensures.present
+    (over-later (g.H.House.known c.step_house.new.house).present c.turn.new.engine.ended (W.calls c.args.wire.now) (W.calls c.hush.new.wire) (W.calls c.turn.new.wire)
+    (subst (Came (W.calls c.args.wire.now)) (sym (c.hush.ensures.calls ∙ c.close_lost.ensures.calls)) c.in_ok-step_house.ensures.calls.came) c.in_ok-went.ensures.ended_by)
 
 -- ---- own faults
 

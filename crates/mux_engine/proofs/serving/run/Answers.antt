@@ -3,9 +3,11 @@ use Rattle.mux_outside.proofs.HouseCalls.{hands-none}
 use Rattle.mux_machine.specs.State.{State}
 use Rattle.mux_engine.proofs.OwnFaults.{own-then}
 use Rattle.mux_engine.specs.Sides.{RestsOf}
-use Rattle.mux_engine.proofs.Answering.{answer-is, none-given, none-held, over-still, ran-starved, ran-whole, refused-whole, stops-whole}
+use Rattle.mux_engine.proofs.Answering.{answer-is, none-given, none-held, over-still, ran-starved, ran-whole, refused-whole, spent-from, stops-whole}
+use Rattle.mux_engine.proofs.Comes.{came-same, came-then, over-answer, over-later, over-offered}
 use Rattle.mux_engine.proofs.Counting.{none-more}
 use Rattle.mux_engine.proofs.Running.{given-is, present-is, promised-is}
+use Rattle.mux_engine.proofs.Spending.{spent-cuts, stops-starved}
 use Rattle.mux_engine.proofs.serving.run.Goals as goal
 
 pub returns-in_err-enter-clause-ran : goal.returns-in_err-enter-clause-ran
@@ -73,6 +75,10 @@ returns-clause-permitted g c index e = let t = c.in_ok-all.ensures in let f = c.
     refused-whole c.answer_of.result c.turns_of.new.engine.ended c.finish.new.engine.ended _ _ _ index t.by_row f.ended
     (answer-is c.answer_of.result c.finish.new.engine.ended _ _ _ _ (f.known.present ∙ t.present) c.answer_of.ensures) e
 
+pub returns-in_err-finish-clause-calls : goal.returns-in_err-finish-clause-calls
+returns-in_err-finish-clause-calls g c = let r = c.from_residual-in_err-finish in
+    stops-starved r.result _ c.args.turns _ _ r.ensures.0 (spent-cuts _ _ c.args.turns _ _ _ (spent-from _ _ c.args.turns _ _ _ c.enter.ensures.calls c.in_ok-all.ensures.calls) c.in_err-finish.ensures.calls)
+
 pub returns-clause-calls : goal.returns-clause-calls
 returns-clause-calls g c = let H = g.H.House in let t = c.in_ok-all.ensures in let f = c.in_ok-finish.ensures in
     stops-whole (H.known c.args.house.now).present _ (H.must c.finish.new.house) c.args.turns c.answer_of.result _ _ _ _ c.turns_of.new.engine.ended c.finish.new.engine.ended _ _ (H.refused c.finish.new.house)
@@ -81,6 +87,27 @@ returns-clause-calls g c = let H = g.H.House in let t = c.in_ok-all.ensures in l
     (λ p none. let i = t.idle none in let a = c.enter.ensures.alone p in
     ap (λ (s : State). s.ended) ((f.idle (ap (λ (s : State). s.waiting) (i.1 ∙ a.0) ∙ c.requires.quiet) (t.present ∙ p)).0 ∙ (i.1 ∙ a.0)) ∙ c.requires.on)
     (answer-is c.answer_of.result c.finish.new.engine.ended _ _ _ _ (f.known.present ∙ t.present) c.answer_of.ensures)
+
+-- ---- what came
+
+pub returns-in_err-enter-clause-came : goal.returns-in_err-enter-clause-came
+returns-in_err-enter-clause-came g c = came-same _ _ c.enter.ensures.calls
+
+pub returns-in_err-all-clause-came : goal.returns-in_err-all-clause-came
+returns-in_err-all-clause-came g c = came-then _ _ _ (came-same _ _ c.enter.ensures.calls) c.in_err-all.ensures.calls.came
+
+pub returns-in_err-finish-clause-came : goal.returns-in_err-finish-clause-came
+returns-in_err-finish-clause-came g c = came-then _ _ _ (came-then _ _ _ (came-same _ _ c.enter.ensures.calls) c.in_ok-all.ensures.calls.came) c.in_err-finish.ensures.calls.came
+
+pub returns-clause-came : goal.returns-clause-came
+returns-clause-came g c = came-then _ _ _ (came-then _ _ _ (came-same _ _ c.enter.ensures.calls) c.in_ok-all.ensures.calls.came) c.in_ok-finish.ensures.calls.came
+
+pub returns-clause-ended_by : goal.returns-clause-ended_by
+returns-clause-ended_by g c = let W = g.W.Wire in let p = (g.H.House.known c.args.house.now).present in let t = c.in_ok-all.ensures in let f = c.in_ok-finish.ensures in
+    over-answer p c.answer_of.result c.finish.new.engine.ended _ (W.calls c.args.wire.now) (W.calls c.finish.new.wire) c.answer_of.ensures
+    (over-offered p c.turns_of.new.engine.ended c.finish.new.engine.ended _ _ (W.calls c.args.wire.now) (W.calls c.turns_of.new.wire) (W.calls c.finish.new.wire) f.ended
+    (over-later p c.turns_of.new.engine.ended (W.calls c.args.wire.now) (W.calls c.enter.new.wire) (W.calls c.turns_of.new.wire) (came-same _ _ c.enter.ensures.calls) t.ended_by)
+    f.calls.came)
 
 -- ---- own faults
 

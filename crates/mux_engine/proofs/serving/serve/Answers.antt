@@ -4,6 +4,7 @@ use Rattle.mux_outside.proofs.HouseCalls.{hands-none}
 use Rattle.mux_engine.proofs.OwnFaults.{own-same}
 use Rattle.mux_engine.specs.Sides.{RestsOf, outside}
 use Rattle.mux_engine.proofs.Answering.{alone-blank, housed-blank}
+use Rattle.mux_engine.proofs.Comes.{came-none}
 use Rattle.mux_engine.proofs.Counting.{cut-none, same-faults}
 use Rattle.mux_engine.proofs.Runs.{ends-starved, starts, starts-starved}
 use Rattle.mux_engine.proofs.Spending.{stops-cut}
@@ -58,6 +59,9 @@ returns-clause-kept g c = let H = g.H.House in let r = c.requires in let e = c.i
     let start = starts H.may (RestsOf H.told H.known H.quiet H.must H.refused H.stands (H.known c.args.house.now).present c.args.house.now) (outside (H.told c.args.house.now) (H.known c.args.house.now) []) c.args.policy c.args.pid (g.W.Wire.seen c.args.wire.now) c.in-Ok.engine
     e.stands e.policy e.pid e.clients e.refused (ap (λ (k : Known). k.asks) r.blank) refl refl refl r.server_alone r.none_blocked r.listens r.own r.listeners in
     c.in-Err.ensures.ran (H.told c.args.house.now) c.args.policy c.args.pid (g.W.Wire.seen c.args.wire.now).told start.0 start.1
+
+pub returns-in_default-clause-came : goal.returns-in_default-clause-came
+returns-in_default-clause-came g c = came-none _
 
 -- ---- own faults
 

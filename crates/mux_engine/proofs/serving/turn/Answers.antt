@@ -7,12 +7,15 @@ use Rattle.mux_outside.specs.Streams.{among}
 use Rattle.mux_machine.specs.Events.{here}
 use Rattle.mux_engine.proofs.OwnAsks.{heeded-counted, turn-comes}
 use Rattle.mux_engine.proofs.OwnFaults.{own-same, own-then, own-turn}
+use Rattle.mux_engine.specs.Came.{OverBy}
 use Rattle.mux_engine.specs.Owned.{waits_for}
 use Rattle.mux_engine.specs.Serving.{Serving}
 use Rattle.mux_engine.specs.Sides.{RestsOf, SameHouse, noted}
 use Rattle.mux_engine.specs.Turns.{IsEventOf, IsOwnOf}
 use Rattle.mux_engine.proofs.Arms.{on-err, on-ok}
 use Rattle.mux_engine.proofs.Called.{handed-more, handed-none}
+use Rattle.mux_engine.proofs.Causes.{turn-over}
+use Rattle.mux_engine.proofs.Comes.{over-live}
 use Rattle.mux_engine.proofs.Counting.{turn-by-row, turn-rose}
 use Rattle.mux_engine.proofs.Cuts.{cut-here, cut-still}
 use Rattle.mux_engine.proofs.Handed.{AtWait, HasWaited, alone-as, alone-heard, at-wait, own-noted, has-waited, turn-ends, turn-fits, turn-frees, turn-heeds, turn-house, turn-housed, turn-own-housed, turn-owns, turn-starved}
@@ -125,8 +128,8 @@ returns-in-Event-clause-failed g c =
     let w : HasWaited seen (W.seen c.wait-told.new.self) lists.own lists.failed (H.queue house) c.args.engine.now c.wait-told.result c.wait-told.new.into =
     has-waited seen (W.seen c.wait-told.new.self) lists.own lists.failed (H.queue house) c.args.engine.now c.wait-told.result c.wait-told.new.into c.as_bytes.result.now c.list_waiting.new.todo c.waiting.result.now c.wanted.result c.wait-told.ensures.seen c.in_ok-list_waiting.ensures c.waiting.ensures.exact c.wanted.ensures c.next_of.ensures.bytes c.as_bytes.ensures.bytes c.wait-told.ensures.turn c.wait-told.ensures.own_turn in
     let next : IsEventOf c.in-Event.e c.wait-told.result c.wait-told.new.into = subst (λ (b : List ℕ). IsEventOf c.in-Event.e c.wait-told.result b) c.as_bytes.ensures.bytes c.in-Event.ensures.next in
-    on-ok c.heed.result (λ may over. subst (λ (n : ℕ). Rose (W.server_faults c.args.wire.now) n) (sym c.heed.ensures.faults)
-    (turn-rose c.in-Event.e c.heed.new.engine.ended c.wait-told.result c.wait-told.new.into _ _ _ _ may next c.wait-told.ensures.cause over))
+    on-ok c.heed.result (λ so over. subst (λ (n : ℕ). Rose (W.server_faults c.args.wire.now) n) (sym c.heed.ensures.faults)
+    (turn-rose c.in-Event.e c.heed.new.engine.ended c.wait-told.result c.wait-told.new.into _ _ _ _ so.may next c.wait-told.ensures.cause over))
     (turn-ends c.requires.served.serving a w c.heed.result c.in-Event.e next c.heed.new.engine c.heed.new.asks (H.told house) (H.told c.heed.new.house) (H.known house) (H.known c.heed.new.house) (W.seen c.heed.new.wire) c.heed.ensures.heeded)
 
 pub returns-in-Event-clause-by_row : goal.returns-in-Event-clause-by_row
@@ -141,8 +144,30 @@ returns-in-Event-clause-by_row g c =
     let w : HasWaited seen (W.seen c.wait-told.new.self) lists.own lists.failed (H.queue house) c.args.engine.now c.wait-told.result c.wait-told.new.into =
     has-waited seen (W.seen c.wait-told.new.self) lists.own lists.failed (H.queue house) c.args.engine.now c.wait-told.result c.wait-told.new.into c.as_bytes.result.now c.list_waiting.new.todo c.waiting.result.now c.wanted.result c.wait-told.ensures.seen c.in_ok-list_waiting.ensures c.waiting.ensures.exact c.wanted.ensures c.next_of.ensures.bytes c.as_bytes.ensures.bytes c.wait-told.ensures.turn c.wait-told.ensures.own_turn in
     let next : IsEventOf c.in-Event.e c.wait-told.result c.wait-told.new.into = subst (λ (b : List ℕ). IsEventOf c.in-Event.e c.wait-told.result b) c.as_bytes.ensures.bytes c.in-Event.ensures.next in
-    on-ok c.heed.result (λ may. turn-by-row c.in-Event.e c.heed.new.engine.ended may)
+    on-ok c.heed.result (λ so. turn-by-row c.in-Event.e c.heed.new.engine.ended so.may)
     (turn-ends c.requires.served.serving a w c.heed.result c.in-Event.e next c.heed.new.engine c.heed.new.asks (H.told house) (H.told c.heed.new.house) (H.known house) (H.known c.heed.new.house) (W.seen c.heed.new.wire) c.heed.ensures.heeded)
+
+pub returns-in-Event-clause-ended_by : goal.returns-in-Event-clause-ended_by
+returns-in-Event-clause-ended_by g c =
+    let H = g.H.House in
+    let W = g.W.Wire in
+    let house = c.args.house.now in
+    let lists = c.args.lists.now in
+    let seen : Seen = W.seen c.args.wire.now in
+    let a : AtWait (RestsOf H.told H.known H.quiet H.must H.refused H.stands (H.known house).present c.requires.served.first) (noted (H.told house) (H.known house) c.requires.served.calls) seen lists.own lists.held lists.failed (H.queue house) c.args.engine.now =
+    at-wait H.told H.known H.quiet H.must H.refused H.stands c.requires.served.first house seen lists.own lists.held lists.failed (H.queue house) c.args.engine.now c.requires.housed c.requires.ready c.requires.permitted c.requires.closed c.requires.refused c.requires.on c.requires.hears c.requires.served.hands in
+    let w : HasWaited seen (W.seen c.wait-told.new.self) lists.own lists.failed (H.queue house) c.args.engine.now c.wait-told.result c.wait-told.new.into =
+    has-waited seen (W.seen c.wait-told.new.self) lists.own lists.failed (H.queue house) c.args.engine.now c.wait-told.result c.wait-told.new.into c.as_bytes.result.now c.list_waiting.new.todo c.waiting.result.now c.wanted.result c.wait-told.ensures.seen c.in_ok-list_waiting.ensures c.waiting.ensures.exact c.wanted.ensures c.next_of.ensures.bytes c.as_bytes.ensures.bytes c.wait-told.ensures.turn c.wait-told.ensures.own_turn in
+    let next : IsEventOf c.in-Event.e c.wait-told.result c.wait-told.new.into = subst (λ (b : List ℕ). IsEventOf c.in-Event.e c.wait-told.result b) c.as_bytes.ensures.bytes c.in-Event.ensures.next in
+    on-ok c.heed.result (λ so. subst (OverBy (H.known house).present c.heed.new.engine.ended (W.calls c.args.wire.now)) (sym (c.heed.ensures.calls ∙ c.wait-told.ensures.calls))
+    (turn-over (H.known house).present c.in-Event.e c.heed.new.engine.ended c.wait-told.result c.wait-told.new.into (W.calls c.args.wire.now) so next))
+    (turn-ends c.requires.served.serving a w c.heed.result c.in-Event.e next c.heed.new.engine c.heed.new.asks (H.told house) (H.told c.heed.new.house) (H.known house) (H.known c.heed.new.house) (W.seen c.heed.new.wire) c.heed.ensures.heeded)
+
+pub returns-in_ok-hear-in-Own-clause-ended_by : goal.returns-in_ok-hear-in-Own-clause-ended_by
+returns-in_ok-hear-in-Own-clause-ended_by g c = over-live (g.H.House.known c.args.house.now).present c.args.engine.now.ended (g.W.Wire.calls c.args.wire.now) (g.W.Wire.calls c.wait-told.new.self) c.requires.on
+
+pub returns-in-Freed-clause-ended_by : goal.returns-in-Freed-clause-ended_by
+returns-in-Freed-clause-ended_by g c = over-live (g.H.House.known c.args.house.now).present c.args.engine.now.ended (g.W.Wire.calls c.args.wire.now) (g.W.Wire.calls c.wait-told.new.self) c.requires.on
 
 -- ---- something of the master's own listeners and streams
 

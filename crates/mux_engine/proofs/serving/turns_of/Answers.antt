@@ -5,6 +5,7 @@ use Rattle.mux_engine.proofs.OwnFaults.{own-same, own-then}
 use Rattle.mux_engine.specs.Sides.{RestsOf}
 use Rattle.mux_engine.proofs.Arms.{on-err}
 use Rattle.mux_engine.proofs.Called.{handed-none, handed-so}
+use Rattle.mux_engine.proofs.Comes.{over-later, over-live, over-present}
 use Rattle.mux_engine.proofs.Counting.{cut-none, later-on, rose-behind}
 use Rattle.mux_engine.proofs.Cuts.{cut-still}
 use Rattle.mux_engine.proofs.Lists.{true-false}
@@ -88,6 +89,8 @@ returns-then-not-branch g c = let H = g.H.House in let i = c.loop.invariant in l
   over = λ e. o.over c.if-not-branch.true;
   failed = λ e. rose-behind _ _ _ i.later (o.failed e);
   by_row = o.by_row;
+  ended_by = let W = g.W.Wire in over-present (H.known c.loop.house).present (H.known c.args.house.now).present c.one_turn.new.engine.ended (W.calls c.args.wire.now) (W.calls c.one_turn.new.wire) i.present
+      (over-later (H.known c.loop.house).present c.one_turn.new.engine.ended (W.calls c.args.wire.now) (W.calls c.loop.wire) (W.calls c.one_turn.new.wire) i.calls.came o.ended_by);
   unopened = λ p. c.one_turn.ensures.unopened (i.present ∙ p) ∙ i.unopened p;
   later = later-on _ _ _ i.later c.one_turn.ensures.later;
   calls = spent-over _ c.loop.counter c.args.turns _ _ _ (omega arith) i.calls (turned-is _ _ _ _ _ _ i.present c.if-not-branch.true o.calls)
@@ -111,6 +114,7 @@ returns g c = let W = g.W.Wire in let i = c.loop.invariant in record {
   over = λ e. true-false e;
   failed = λ e. let z : None ≡ Some ServerFailed = sym i.on ∙ e in absurd (let h = z in cc);
   by_row = row-live _ i.on;
+  ended_by = over-live (g.H.House.known c.args.house.now).present c.loop.engine.ended (W.calls c.args.wire.now) (W.calls c.loop.wire) i.on;
   unopened = i.unopened;
   later = i.later;
   calls = spent-all _ c.loop.counter c.args.turns _ _ (omega arith) i.calls;
@@ -136,6 +140,7 @@ returns-in_err-one_turn g c = let H = g.H.House in let i = c.loop.invariant in l
   over = on-err r.result _ _ r.ensures.0 tt;
   failed = on-err r.result _ _ r.ensures.0 tt;
   by_row = on-err r.result _ _ r.ensures.0 tt;
+  ended_by = on-err r.result _ _ r.ensures.0 tt;
   unopened = λ p. c.one_turn.ensures.unopened (i.present ∙ p) ∙ i.unopened p;
   later = later-on _ _ _ i.later c.one_turn.ensures.later;
   calls = on-err r.result _ _ r.ensures.0 (spent-cut _ c.loop.counter c.args.turns _ _ _ (omega arith) i.calls c.in_err-one_turn.ensures.calls);
@@ -156,6 +161,7 @@ returns-in_err-piece g c = let r = c.from_residual in record {
   over = on-err r.result _ _ r.ensures.0 tt;
   failed = on-err r.result _ _ r.ensures.0 tt;
   by_row = on-err r.result _ _ r.ensures.0 tt;
+  ended_by = on-err r.result _ _ r.ensures.0 tt;
   unopened = λ p. refl;
   later = omega arith;
   calls = on-err r.result _ _ r.ensures.0 (cut-none c.args.turns _);
