@@ -37,20 +37,19 @@ use Rattle.ssh_mux.proofs.MisreadLemmas.{some-ran}
 
 -- of a configuration that is refused
 pub refused-cause : (e : ResolveError) (f f' r r' : ℕ) → HasCauses {A = List Given} (Err e) f f' r r' → EndCause (shown (refused_as e)) f f' r r'
-refused-cause OutOfMemory f f' r r' h = (omega (arith, h.0), omega (arith, h.1))
+refused-cause OutOfMemory f f' r r' h = h
 refused-cause (At file line ReadFault) f f' r r' h = h
 refused-cause (At file line RunFault) f f' r r' h = h
 refused-cause (At file line cause) f f' r r' h = h
 
 -- of settings that can't be listed
 pub unlisted-cause : (e : ListError) (f f' r r' : ℕ) → (f' ≡ f) × (r' ≡ r) → EndCause (shown (unlisted_as e)) f f' r r'
-unlisted-cause list_errors.OutOfMemory f f' r r' h = (omega (arith, h.0), omega (arith, h.1))
+unlisted-cause list_errors.OutOfMemory f f' r r' h = h
 unlisted-cause (list_errors.Token key error) f f' r r' h = h
 
 -- of a listing that was handed over
 pub written-cause : (result : Result Status MeantEnding) (f f' r r' : ℕ) → may_write (so_far result) ≡ true → (f' ≡ f) × (r' ≡ r) → Caused result f f' r r'
 written-cause (Ok status) f f' r r' e h = h
-written-cause (Err endings.NoMemory) f f' r r' e h = (omega (arith, h.0), omega (arith, h.1))
 written-cause (Err (endings.BadLine file line ReadFault)) f f' r r' e h = absurd cc
 written-cause (Err (endings.BadLine file line RunFault)) f f' r r' e h = absurd cc
 written-cause (Err ending) f f' r r' e h = h
@@ -58,7 +57,6 @@ written-cause (Err ending) f f' r r' e h = h
 -- of a master that was opened
 pub shared-cause : (result : Result Status MeantEnding) (f f' r r' : ℕ) → EndsMaster result → (f' ≡ f) × (r' ≡ r) → Caused result f f' r r'
 shared-cause (Ok status) f f' r r' e h = h
-shared-cause (Err endings.NoMemory) f f' r r' e h = (omega (arith, h.0), omega (arith, h.1))
 shared-cause (Err (endings.BadLine file line ReadFault)) f f' r r' e h = absurd cc
 shared-cause (Err (endings.BadLine file line RunFault)) f f' r r' e h = absurd cc
 shared-cause (Err ending) f f' r r' e h = h
@@ -68,18 +66,17 @@ pub fault-cause : (ending : Ending) (f f' r r' : ℕ) → EndCause ending f f' r
 fault-cause (ends.BadLine (At file line ReadFault)) f f' r r' h = inl h
 fault-cause (ends.BadLine (At file line RunFault)) f f' r r' h = inr h
 fault-cause (ends.BadLine (At file line cause)) f f' r r' h = h
-fault-cause (ends.BadLine OutOfMemory) f f' r r' h = (omega (arith, h.0), omega (arith, h.1))
-fault-cause (ends.BadListing list_errors.OutOfMemory) f f' r r' h = (omega (arith, h.0), omega (arith, h.1))
+fault-cause (ends.BadLine OutOfMemory) f f' r r' h = inr h
+fault-cause (ends.BadListing list_errors.OutOfMemory) f f' r r' h = inr h
 fault-cause (ends.BadListing (list_errors.Token key error)) f f' r r' h = h
-fault-cause ends.NoMemory f f' r r' h = h
+fault-cause ends.NoMemory f f' r r' h = inr h
 fault-cause ending f f' r r' h = h
 
--- counts never fall
+-- where there was no memory for its line
 pub fault-later : (status : Status) (f f' r r' : ℕ) → FaultCause status f f' r r' → FaultCause statuses.Memory f f' r r'
-fault-later statuses.Outside f f' r r' (inl h) = (h.0.later, omega (arith, h.1))
-fault-later statuses.Outside f f' r r' (inr h) = (omega (arith, h.0), h.1.later)
+fault-later statuses.Outside f f' r r' h = inl h
 fault-later statuses.Memory f f' r r' h = h
-fault-later status f f' r r' h = (omega (arith, h.0), omega (arith, h.1))
+fault-later status f f' r r' h = inr h
 
 -- ---- commands
 
