@@ -1,5 +1,5 @@
 -- How a drill goes, from what was served and what was handed over to what the program tells.
-use Rattle.std.proofs.Common.{◌≡◌, ◌⊎◌, inl, inr, ℕ, Bool, true, false, List, [], Option, None, Result, Ok, Err, refl, sym, subst, ◌∙◌, arith}
+use Rattle.std.proofs.Common.{◌≡◌, ◌⊎◌, ◌&&◌, inl, inr, ℕ, Bool, true, false, List, [], Option, None, Result, Ok, Err, refl, sym, subst, ◌∙◌, arith}
 use Rattle.std.specs.Bool.{OnTrue}
 use Rattle.conf_rules.specs.declared.causes.Cause.TheVariants.{ReadFault, RunFault}
 use Rattle.conf_rules.specs.Outcome.{Ends, Writes, Opens, Drills, Joins}
@@ -21,7 +21,7 @@ use Rattle.ssh_mux.specs.Err.{Reports}
 use Rattle.ssh_mux.specs.Master.{EndsMaster}
 use Rattle.ssh_mux.specs.Out.{HandsOver, OutTakes}
 use Rattle.ssh_mux.specs.Outcomes.{Known, Certain, Listing, Master, Client, drills}
-use Rattle.ssh_mux.specs.Sharing.{CallsEnd, IdleCause, IsShared, OpensAt, Shares, StartCause, WaitsFor, WireCause, told_as}
+use Rattle.ssh_mux.specs.Sharing.{CallsEnd, CameFor, IdleCause, IsShared, OpensAt, Shares, StartCause, WaitsFor, WireCause, told_as}
 use Rattle.ssh_mux.specs.Status.{status_of}
 use Rattle.ssh_mux.proofs.EndLemmas.{reported}
 use Rattle.ssh_mux.proofs.StillLemmas.{loud, quiet-out}
@@ -52,6 +52,11 @@ drill-opens (Err ending) h = absurd cc
 
 pub drill-touches : (seed clients messages : ℕ) (result : Result Status Ending) → EndsDrill result → touches (Certain (Drills seed clients messages)) (so_far result) ≡ true
 drill-touches seed clients messages result h = rw (drill-opens result h) refl
+
+-- it serves no house
+pub drilled-came : (present : Bool) (status : Status) (old new : Calls) → CameFor false status old new → CameFor (present && false) status old new
+drilled-came true status old new h = h
+drilled-came false status old new h = h
 
 -- files and commands have no part in it
 pub drill-cause : (result : Result Status Ending) (f r : ℕ) → EndsDrill result → Caused result f f r r
@@ -128,13 +133,22 @@ summed-cause text (Err endings.NoMemory) before now s s' c c' d = tt
 summed-cause text (Err ending) before now s s' c c' d = absurd d
 
 pub summed-calls : (turns : ℕ) (due : Status) (text : Bytes) (result : Result Status Ending) (before now : Option (List ℕ)) (old new : Calls) → EndsMaster (Ok due) → HandsOver result text before now → CallsEnd turns due old new → CallsEnd turns (so_far result) old new
-summed-calls turns due text result before now old new is d h = record { few = h.few; wants = h.wants; starved = λ ne. absurd (unstarved (sym is ∙ h.starved ne)); late = h.late } where
+summed-calls turns due text result before now old new is d h = record { few = h.few; opens = h.opens; wants = h.wants; starved = λ ne. absurd (unstarved (sym is ∙ h.starved ne)); late = h.late } where
   unstarved : statuses.Done ≡ statuses.Memory → ⊥
   unstarved e = absurd cc
 
 pub summed-waits : (turns : ℕ) (due : Status) (text : Bytes) (result : Result Status Ending) (before now : Option (List ℕ)) (old new : Calls) → EndsMaster (Ok due) → HandsOver result text before now → WaitsFor turns due old new → WaitsFor turns (so_far result) old new
 summed-waits turns due text result before now old new is d h = on result d (subst (λ x. WaitsFor turns x old new) is h) where
   on : (r : Result Status Ending) → HandsOver r text before now → WaitsFor turns statuses.Done old new → WaitsFor turns (so_far r) old new
+  on (Ok statuses.Done) d h = h
+  on (Ok statuses.Write) d h = h
+  on (Ok status) d h = absurd d
+  on (Err endings.NoMemory) d h = tt
+  on (Err ending) d h = absurd d
+
+pub summed-came : (due : Status) (text : Bytes) (result : Result Status Ending) (before now : Option (List ℕ)) (old new : Calls) → EndsMaster (Ok due) → HandsOver result text before now → CameFor false due old new → CameFor false (so_far result) old new
+summed-came due text result before now old new is d h = on result d (subst (λ x. CameFor false x old new) is h) where
+  on : (r : Result Status Ending) → HandsOver r text before now → CameFor false statuses.Done old new → CameFor false (so_far r) old new
   on (Ok statuses.Done) d h = h
   on (Ok statuses.Write) d h = h
   on (Ok status) d h = absurd d

@@ -29,7 +29,7 @@ use Rattle.ssh_mux.specs.Out.{OutStays, OutTakes}
 use Rattle.ssh_mux.specs.Outcomes.{Known, Certain, Listing, Master, Client, asks, drills, opens}
 use Rattle.ssh_mux.specs.Master.{ends_sharing}
 use Rattle.ssh_mux.specs.Places.{EndPlace}
-use Rattle.ssh_mux.specs.Sharing.{CallsEnd, IdleCause, IsServed, IsShared, OpensOnce, Serves, Shares, StartCause, TellsEnd, WaitsFor, WireCause}
+use Rattle.ssh_mux.specs.Sharing.{CallsEnd, CameFor, IdleCause, IsServed, IsShared, OpensOnce, Serves, Shares, StartCause, TellsEnd, WaitsFor, WireCause}
 use Rattle.ssh_mux.specs.Sharing.{told_as}
 use Rattle.ssh_mux.specs.Starts.{BeganWith, Begun, MustsAs}
 use Rattle.ssh_mux.specs.Status.{status_of}
@@ -226,7 +226,7 @@ shared_well May Rest stands by policy pid turns before now start seen refused b 
 shared_well May Rest stands by policy pid turns before now start seen refused b f true status h = record { starts = h.starts; due = h.due; so = shared-well-now May (Rest h.starts) (BeganWith h.starts) stands policy pid turns before now start seen refused b f status h.so }
 
 pub calls_after : (turns : ℕ) (status : Status) (ending : Ending) (b n : Option (List ℕ)) (f f' : ℕ) (old calls : Calls) → Reports status ending b n f f' → CallsEnd turns (status_of ending) old calls → CallsEnd turns status old calls
-calls_after turns status ending b n f f' old calls r h = carried (λ s. CallsEnd turns s old calls) status ending (reported status ending b n f f' r) (record { few = h.few; wants = h.wants; starved = λ ne. refl; late = h.late }) h
+calls_after turns status ending b n f f' old calls r h = carried (λ s. CallsEnd turns s old calls) status ending (reported status ending b n f f' r) (record { few = h.few; opens = h.opens; wants = h.wants; starved = λ ne. refl; late = h.late }) h
 
 pub on-memory : (b : Bool) → OnTrue b Unit
 on-memory true = tt
@@ -234,6 +234,13 @@ on-memory false = tt
 
 pub wire_after : (k : Known) (status : Status) (ending : Ending) (b n : Option (List ℕ)) (f f' s s' c c' : ℕ) → Reports status ending b n f f' → OnTrue (touches k (status_of ending)) (WireCause (status_of ending) s s' c c') → OnTrue (touches k status) (WireCause status s s' c c')
 wire_after k status ending b n f f' s s' c c' r h = carried (λ x. OnTrue (touches k x) (WireCause x s s' c c')) status ending (reported status ending b n f f' r) (on-memory (opens k || drills k)) h
+
+pub came_after : (k : Known) (housed : Bool) (status : Status) (ending : Ending) (b n : Option (List ℕ)) (f f' : ℕ) (old calls : Calls) → Reports status ending b n f f' → OnTrue (touches k (status_of ending)) (CameFor housed (status_of ending) old calls) → OnTrue (touches k status) (CameFor housed status old calls)
+came_after k housed status ending b n f f' old calls r h = carried (λ x. OnTrue (touches k x) (CameFor housed x old calls)) status ending (reported status ending b n f f' r) (on-memory-of housed) h
+  where
+    on-memory-of : (housed : Bool) → OnTrue (opens k || drills k) (CameFor housed statuses.Memory old calls)
+    on-memory-of true = on-memory (opens k || drills k)
+    on-memory-of false = on-memory (opens k || drills k)
 
 pub start_after : (k : Known) (status : Status) (ending : Ending) (b n : Option (List ℕ)) (f f' : ℕ) (refused : Option ℕ) → Reports status ending b n f f' → OnTrue (may_share k (status_of ending)) (StartCause (status_of ending) refused) → OnTrue (may_share k status) (StartCause status refused)
 start_after k status ending b n f f' refused r h = carried (λ x. OnTrue (may_share k x) (StartCause x refused)) status ending (reported status ending b n f f' r) (on-memory (opens k)) h

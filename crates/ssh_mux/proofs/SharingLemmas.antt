@@ -1,16 +1,22 @@
 -- What a master leaves behind that was opened, and what others leave.
-use Rattle.std.proofs.Common.{◌≡◌, ◌⊎◌, inl, inr, ℕ, Bool, true, false, List, Option, Some, None, unwrap_or, IsSome, Result, Ok, Err, refl, sym, subst, ◌∙◌}
+use Rattle.std.proofs.Common.{◌≡◌, ◌⊎◌, ◌≤◌, ◌+◌, inl, inr, ap, arith, ℕ, Bool, true, false, List, Option, Some, None, unwrap_or, IsSome, Result, Ok, Err, refl, sym, subst, ◌∙◌}
 use Rattle.std.specs.Bool.{OnFalse, OnTrue}
 use Rattle.conf_rules.specs.Outcome.{Ends, Writes, Drills, Opens, Joins}
 use Rattle.conf_rules.specs.Texts.{Bytes}
+use Rattle.mux_engine.specs.Came.{BrokenBy, Came, EndedBy, WentUp}
 use Rattle.mux_engine.specs.Counted.{Stops}
 use Rattle.mux_engine.specs.Run.{IsRun}
 use Rattle.mux_engine.specs.Sides.{Resting}
+use Rattle.mux_history.specs.declared.broke.Break.{Break}
+use Rattle.mux_history.specs.declared.broke.Break.TheVariants as broke
 use Rattle.mux_history.specs.declared.ended.Ended.{Ended}
 use Rattle.mux_history.specs.declared.ended.Ended.TheVariants as ends
 use Rattle.mux_history.specs.Policy.{Policy}
+use Rattle.mux_outside.specs.Calls.{calls_after}
 use Rattle.mux_outside.specs.HouseCalls.{HouseCall}
-use Rattle.mux_outside.specs.Seen.{Calls, Seen}
+use Rattle.mux_outside.specs.Seen.{Calls, Seen, calls_after_open}
+use Rattle.mux_outside.specs.declared.file_error.FileError.{FileError}
+use Rattle.mux_outside.specs.declared.file_error.FileError.TheVariants as faults
 use Rattle.mux_outside.specs.Wire.{SameFaults}
 use Rattle.mux_outside.specs.declared.house.HouseReply.{HouseReply}
 use Rattle.mux_outside.specs.declared.house_mark.HouseMark.{HouseMark}
@@ -26,9 +32,29 @@ use Rattle.ssh_mux.specs.Ending.{shown}
 use Rattle.ssh_mux.specs.Master.{EndsMaster}
 use Rattle.ssh_mux.specs.Out.{OutTakes}
 use Rattle.ssh_mux.specs.Outcomes.{Known, Certain, Listing, Master, Client, opens_at, opens, writes_out}
-use Rattle.ssh_mux.specs.Sharing.{IdleCause, OpensAt, OpensOnce, Shares, StartCause, WaitsFor, pid_of, told_as}
+use Rattle.ssh_mux.specs.Sharing.{CallsEnd, CameFor, IdleCause, OpensAt, OpensOnce, Shares, StartCause, WaitsFor, pid_of, told_as}
 use Rattle.ssh_mux.specs.Status.{status_of}
 use Rattle.ssh_mux.proofs.StillLemmas.{follows, loud, on_true, quiet-count, served-house}
+
+-- ---- what is counted
+
+-- an opening counts one at most
+opens-most : (answer : Result (Unit {0}) FileError) (n : ℕ) → calls_after answer n ≤ n + 1
+opens-most (Ok x) n = omega arith
+opens-most (Err faults.Failed) n = omega arith
+opens-most (Err faults.OutOfMemory) n = omega arith
+
+-- what came where the server broke the protocol
+broken_end : (why : Break) (old new : Calls) → BrokenBy why old new → WentUp old.server_pieces new.server_pieces ⊎ WentUp old.server_ends new.server_ends
+broken_end (broke.Cut have) old new h = inr h
+broken_end (broke.Frame fault) old new h = inl h
+broken_end (broke.Message bad) old new h = inl h
+broken_end broke.NoAsker old new h = inl h
+broken_end (broke.BadReply size) old new h = inl h
+broken_end (broke.NumberInUse n) old new h = inl h
+broken_end (broke.NotPending n) old new h = inl h
+broken_end (broke.NoChannel n) old new h = inl h
+broken_end (broke.Channel n breach) old new h = inl h
 
 -- ---- how a run that was served ends
 
@@ -55,6 +81,36 @@ waits_end false turns ends.Disconnected old new h = h.ends refl (λ e. absurd cc
 waits_end false turns (ends.Terminated client id) old new h = h.ends refl (λ e. absurd cc) (λ e. absurd cc)
 waits_end false turns ends.ServerFailed old new h = h.ends refl (λ e. absurd cc) (λ e. absurd cc)
 waits_end false turns (ends.Broke index why) old new h = h.ends refl (λ e. absurd cc) (λ e. absurd cc)
+
+-- what came by the end of one
+pub came_end : (present : Bool) (ended : Ended) (old new : Calls) → EndedBy present ended old new → CameFor present (so_far (told_as ended)) old new
+came_end true ends.ServerEnd old new h = tt
+came_end true ends.Disconnected old new h = tt
+came_end true (ends.Terminated client id) old new h = tt
+came_end true ends.ServerFailed old new h = tt
+came_end true (ends.Broke index why) old new h = broken_end why old new h
+came_end true (ends.StartRefused index) old new h = tt
+came_end true ends.Spent old new h = tt
+came_end true ends.OutOfMemory old new h = tt
+came_end false ends.ServerEnd old new h = inl h
+came_end false ends.Disconnected old new h = inr (inl h)
+came_end false (ends.Terminated client id) old new h = inr (inr (h (λ e. absurd (let z : false ≡ true = e in cc))))
+came_end false ends.ServerFailed old new h = tt
+came_end false (ends.Broke index why) old new h = broken_end why old new h
+came_end false (ends.StartRefused index) old new h = tt
+came_end false ends.Spent old new h = tt
+came_end false ends.OutOfMemory old new h = tt
+
+-- where nothing but an opening was asked of the wire
+pub opening_calls : (answer : Result (Unit {0}) FileError) (turns : ℕ) (status : Status) (old new : Calls) → new ≡ calls_after_open answer old → CallsEnd turns status old new
+opening_calls answer turns status old new e = subst (CallsEnd turns status old) (sym e) (record { few = omega arith; opens = opens-most answer old.opens; wants = omega arith; starved = λ ne. absurd (ne refl); late = λ z. refl })
+
+-- behind it the wire was served
+pub serving_calls : (answer : Result (Unit {0}) FileError) (present : Bool) (turns : ℕ) (ended : Ended) (old mid new : Calls) → mid ≡ calls_after_open answer old → Stops present turns ended mid new → Came mid new → CallsEnd turns (so_far (told_as ended)) old new
+serving_calls answer present turns ended old mid new e stops came =
+    let s : Stops present turns ended (calls_after_open answer old) new = subst (λ (x : Calls). Stops present turns ended x new) e stops in
+    let c : Came (calls_after_open answer old) new = subst (λ (x : Calls). Came x new) e came in
+    record { few = s.few; opens = subst (λ (n : ℕ). n ≤ old.opens + 1) (sym c.opens) (opens-most answer old.opens); wants = s.wants; starved = λ ne. ap (λ (x : Ended). so_far (told_as x)) (s.starved ne); late = s.late }
 
 pub idle_end : (present : Bool) (ended : Ended) (s s' s'' c c' c'' : ℕ) → SameFaults s s' c c' → (present ≡ false → SameFaults s' s'' c' c'') → OnFalse present (IdleCause (so_far (told_as ended)) s s'' c c'')
 idle_end true ended s s' s'' c c' c'' a b = tt
@@ -134,6 +190,13 @@ opens-for k transport os ls control (inr e) = subst (λ x. opens x ≡ true) (sy
 
 pub master-waits : (k : Known) (transport : Bytes) (os ls : List Bytes) (control : Bytes) (present : Bool) (turns : ℕ) (status : Status) (old new : Calls) → IsMaster k transport os ls control → OnFalse present (WaitsFor turns status old new) → OnFalse (serves_house present k) (OnTrue (may_share k status) (WaitsFor turns status old new))
 master-waits k transport os ls control present turns status old new m h = served-house present (opens k) (OnTrue (may_share k status) (WaitsFor turns status old new)) (opens-for k transport os ls control m) (follows present (WaitsFor turns status old new) (OnTrue (may_share k status) (WaitsFor turns status old new)) (on_true (may_share k status) (WaitsFor turns status old new)) h)
+
+pub master-came : (k : Known) (transport : Bytes) (os ls : List Bytes) (control : Bytes) (present : Bool) (status : Status) (old new : Calls) → IsMaster k transport os ls control → CameFor present status old new → OnTrue (may_share k status) (CameFor (serves_house present k) status old new)
+master-came k transport os ls control present status old new m h = on_true (may_share k status) (CameFor (serves_house present k) status old new) (by_house present h)
+  where
+    by_house : (p : Bool) → CameFor p status old new → CameFor (serves_house p k) status old new
+    by_house true h = subst (λ (b : Bool). CameFor b status old new) (sym (opens-for k transport os ls control m)) h
+    by_house false h = h
 
 pub master-idle : (k : Known) (transport : Bytes) (os ls : List Bytes) (control : Bytes) (present : Bool) (status : Status) (s s' c c' : ℕ) → IsMaster k transport os ls control → OnFalse present (IdleCause status s s' c c') → OnFalse (serves_house present k) (IdleCause status s s' c c')
 master-idle k transport os ls control present status s s' c c' m h = served-house present (opens k) (IdleCause status s s' c c') (opens-for k transport os ls control m) h

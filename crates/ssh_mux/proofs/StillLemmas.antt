@@ -26,7 +26,7 @@ use Rattle.ssh_mux.specs.Causes.{OutCause}
 use Rattle.ssh_mux.specs.Ending.{shown}
 use Rattle.ssh_mux.specs.Out.{OutStays, OutTakes}
 use Rattle.ssh_mux.specs.Outcomes.{Known, Certain, Listing, Master, Client, drills, opens}
-use Rattle.ssh_mux.specs.Sharing.{CallsEnd, IdleCause, OpensOnce, Shares, StartCause, WaitsFor, WireCause}
+use Rattle.ssh_mux.specs.Sharing.{CallsEnd, CameFor, IdleCause, OpensOnce, Shares, StartCause, WaitsFor, WireCause}
 use Rattle.ssh_mux.specs.Starts.{BeganWith, Begun, MustsAs, starts_due}
 use Rattle.ssh_mux.specs.Status.{status_of, refusal_status, listing_status}
 
@@ -240,13 +240,23 @@ starved-due (Master transport os ls) = tt
 
 -- the wire wasn't called
 pub still-calls : (turns : ℕ) (status : Status) (calls : Calls) → CallsEnd turns status calls calls
-still-calls turns status calls = record { few = omega arith; wants = omega arith; starved = λ ne. absurd (ne refl); late = λ e. refl }
+still-calls turns status calls = record { few = omega arith; opens = omega arith; wants = omega arith; starved = λ ne. absurd (ne refl); late = λ e. refl }
 
 pub still-wire : (k : Known) (ending : Ending) (s s' c c' : ℕ) → IsRefused k ending → OnTrue (may_share k (status_of ending)) (WireCause (status_of ending) s s' c c')
 still-wire k ending s s' c c' h = on (unshared k ending h) where
   on : Unshared k ending → OnTrue (may_share k (status_of ending)) (WireCause (status_of ending) s s' c c')
   on (inl e) = not_true (may_share k (status_of ending)) (WireCause (status_of ending) s s' c c') e
   on (inr e) = subst (λ x. OnTrue (may_share k x) (WireCause x s s' c c')) (sym e) (on_true (may_share k statuses.Memory) (WireCause statuses.Memory s s' c c') tt)
+
+pub memory-came : (housed : Bool) (old new : Calls) → CameFor housed statuses.Memory old new
+memory-came true old new = tt
+memory-came false old new = tt
+
+pub still-came : (k : Known) (ending : Ending) (housed : Bool) (old new : Calls) → IsRefused k ending → OnTrue (may_share k (status_of ending)) (CameFor housed (status_of ending) old new)
+still-came k ending housed old new h = on (unshared k ending h) where
+  on : Unshared k ending → OnTrue (may_share k (status_of ending)) (CameFor housed (status_of ending) old new)
+  on (inl e) = not_true (may_share k (status_of ending)) (CameFor housed (status_of ending) old new) e
+  on (inr e) = subst (λ x. OnTrue (may_share k x) (CameFor housed x old new)) (sym e) (on_true (may_share k statuses.Memory) (CameFor housed statuses.Memory old new) (memory-came housed old new))
 
 pub still-start : (k : Known) (ending : Ending) (refused : Option ℕ) → IsRefused k ending → OnTrue (may_share k (status_of ending)) (StartCause (status_of ending) refused)
 still-start k ending refused h = on (unshared k ending h) where
@@ -298,6 +308,12 @@ still-caused k ending s s' c c' h = by_drill (drills k) refl where
   by_drill : (d : Bool) → drills k ≡ d → OnTrue (touches k (status_of ending)) (WireCause (status_of ending) s s' c c')
   by_drill true e = subst (λ x. OnTrue (touches k x) (WireCause x s s' c c')) (sym (drill-starved k ending h e)) (on_true (touches k statuses.Memory) (WireCause statuses.Memory s s' c c') tt)
   by_drill false e = for-master (may_open (status_of ending)) (opens k) (drills k) (WireCause (status_of ending) s s' c c') e (still-wire k ending s s' c c' h)
+
+pub refused-came : (k : Known) (ending : Ending) (housed : Bool) (old new : Calls) → IsRefused k ending → OnTrue (touches k (status_of ending)) (CameFor housed (status_of ending) old new)
+refused-came k ending housed old new h = by_drill (drills k) refl where
+  by_drill : (d : Bool) → drills k ≡ d → OnTrue (touches k (status_of ending)) (CameFor housed (status_of ending) old new)
+  by_drill true e = subst (λ x. OnTrue (touches k x) (CameFor housed x old new)) (sym (drill-starved k ending h e)) (on_true (touches k statuses.Memory) (CameFor housed statuses.Memory old new) (memory-came housed old new))
+  by_drill false e = for-master (may_open (status_of ending)) (opens k) (drills k) (CameFor housed (status_of ending) old new) e (still-came k ending housed old new h)
 
 -- what opens nothing
 pub shut-all : (k : Known) (status : Status) → opens k ≡ false → drills k ≡ false → touches k status ≡ false

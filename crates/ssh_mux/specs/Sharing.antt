@@ -1,10 +1,11 @@
 -- What a master opens, and how its run goes.
-use Rattle.std.specs.Prelude.{◌≡◌, ◌≢◌, ◌≤◌, ◌<◌, ◌+◌, ◌-◌, ◌^◌, min, ℕ, ◌⊎◌, List, [], ◌∷◌, ◌++◌, Option, Some, None, option_map, IsSome, Result, Ok, Err}
+use Rattle.std.specs.Prelude.{◌≡◌, ◌≢◌, ◌≤◌, ◌<◌, ◌+◌, ◌-◌, ◌^◌, min, ℕ, Bool, false, ◌⊎◌, List, [], ◌∷◌, ◌++◌, Option, Some, None, option_map, IsSome, Result, Ok, Err}
 use Rattle.std.specs.Bool.{OnTrue}
 use Rattle.conf_rules.specs.Outcome.{Drills, Opens}
 use Rattle.conf_rules.specs.Texts.{Bytes}
 use Rattle.conf_rules.specs.Told.{Told}
 use Rattle.forward_rules.specs.Allows.{read_policy}
+use Rattle.mux_engine.specs.Came.{WentUp}
 use Rattle.mux_engine.specs.Run.{IsRun}
 use Rattle.mux_engine.specs.Sides.{Resting}
 use Rattle.mux_history.specs.declared.ended.Ended.{Ended}
@@ -208,9 +209,10 @@ abbrev pub StartCause : Status → Option ℕ → Type 0
 StartCause StartRefused refused = IsSome refused
 StartCause status refused = Unit
 
--- `wait` is called at most so many times, and a call that finds no memory is the last
+-- `wait` is called at most so many times and `open` once, and a call that finds no memory is the last
 pub record CallsEnd (turns : ℕ) (status : Status) (old new : Calls) : Type 0 where
   pub few : new.waits ≤ old.waits + turns
+  pub opens : new.opens ≤ old.opens + 1
   pub wants : new.wants ≤ old.wants + 1
   pub starved : new.wants ≢ old.wants → status ≡ Memory
   pub late : old.wants ≡ 0 → new.late ≡ old.late
@@ -226,6 +228,20 @@ WaitsFor turns Write old new = counted old.waits ≤ new.waits
 WaitsFor turns Transport old new = counted old.waits ≤ new.waits
 WaitsFor turns Broke old new = counted old.waits ≤ new.waits
 WaitsFor turns status old new = Unit
+
+-- What came at the wire by then: where the server broke the protocol a piece of it, or its end inside
+-- a frame; and where a run without a house ended well its end, a piece of it or of a client. A count
+-- that went up may stand at the end of its type.
+abbrev pub EndsCame : Calls → Calls → Type 0
+EndsCame old new = WentUp old.server_ends new.server_ends
+    ⊎ (WentUp old.server_pieces new.server_pieces ⊎ WentUp old.client_pieces new.client_pieces)
+
+abbrev pub CameFor : Bool → Status → Calls → Calls → Type 0
+CameFor housed Broke old new =
+    WentUp old.server_pieces new.server_pieces ⊎ WentUp old.server_ends new.server_ends
+CameFor false Done old new = EndsCame old new
+CameFor false Write old new = EndsCame old new
+CameFor housed status old new = Unit
 
 -- what a run without turns and without a house leaves of the counts of faults: both, but where the
 -- sockets weren't opened or memory was wanting

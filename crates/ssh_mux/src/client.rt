@@ -56,6 +56,7 @@ pub fn ask_master<W: Wire, F: Files, R: Runner, S: Sink>(
         (W.client_faults wire.old) (W.client_faults wire.new)) }
     ensures out_cause { OutCause (so_far result) (S.faults out.old) (S.faults out.new) }
     ensures calls { CallsEnd turns (so_far result) (W.calls wire.old) (W.calls wire.new) }
+    ensures unopened { (W.calls wire.new).opens ≡ (W.calls wire.old).opens }
     ensures waited { OnTrue (may_ask
         (of_command (machine (F.told files.old) (R.told runner.old) facts.now)
         (commands.Control asked.now control)) (so_far result))
@@ -107,6 +108,7 @@ fn join_and_talk<W: Wire, S: Sink>(
         (W.client_faults wire.old) (W.client_faults wire.new) }
     ensures out_cause { OutCause (so_far result) (S.faults out.old) (S.faults out.new) }
     ensures calls { CallsEnd turns (so_far result) (W.calls wire.old) (W.calls wire.new) }
+    ensures unopened { (W.calls wire.new).opens ≡ (W.calls wire.old).opens }
     ensures waited { TalksFor turns (so_far result) (W.calls wire.old) (W.calls wire.new) }
     ensures idle { turns ≡ 0 → IdleCause (so_far result)
         (W.server_faults wire.old) (W.server_faults wire.new)

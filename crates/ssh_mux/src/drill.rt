@@ -1,4 +1,4 @@
-ghost use Rattle.std.specs.Prelude.{◌≡◌, ◌++◌, ◌∷◌, [], None, IfOk, OnOk};
+ghost use Rattle.std.specs.Prelude.{◌≡◌, ◌++◌, ◌∷◌, [], None, false, IfOk, OnOk};
 ghost use Rattle.std.specs.Bool.{OnFalse};
 ghost use Rattle.mux_history.specs.Policy.{any_policy};
 ghost use Rattle.ssh_mux.specs.Answers.{may_write, so_far};
@@ -8,7 +8,7 @@ ghost use Rattle.ssh_mux.specs.Drill.{AnyCalls, DrillGoes, NoneRests, RefusesAll
 ghost use Rattle.ssh_mux.specs.Master.{EndsMaster};
 ghost use Rattle.ssh_mux.specs.Out.{HandsOver};
 ghost use Rattle.ssh_mux.specs.Puts.{PutsOnce};
-ghost use Rattle.ssh_mux.specs.Sharing.{CallsEnd, IdleCause, OpensAt, Shares};
+ghost use Rattle.ssh_mux.specs.Sharing.{CallsEnd, CameFor, IdleCause, OpensAt, Shares};
 ghost use Rattle.ssh_mux.specs.Sharing.{StartCause, WaitsFor, WireCause};
 
 use crate::ending::Ending;
@@ -40,6 +40,7 @@ pub fn drill<W: Wire, S: Sink>(
     ensures out_cause { OutCause (so_far result) (S.faults out.old) (S.faults out.new) }
     ensures once { PutsOnce (so_far result) (S.puts out.old) (S.puts out.new) }
     ensures calls { CallsEnd turns (so_far result) (W.calls wire.old) (W.calls wire.new) }
+    ensures came { CameFor false (so_far result) (W.calls wire.old) (W.calls wire.new) }
     ensures waited { WaitsFor turns (so_far result) (W.calls wire.old) (W.calls wire.new) }
     ensures idle { turns ≡ 0 → IdleCause (so_far result)
         (W.server_faults wire.old) (W.server_faults wire.new)
@@ -67,6 +68,7 @@ fn serve_drill<W: Wire>(
     ensures cause { WireCause (so_far result) (W.server_faults wire.old) (W.server_faults wire.new)
         (W.client_faults wire.old) (W.client_faults wire.new) }
     ensures calls { CallsEnd turns (so_far result) (W.calls wire.old) (W.calls wire.new) }
+    ensures came { CameFor false (so_far result) (W.calls wire.old) (W.calls wire.new) }
     ensures waited { WaitsFor turns (so_far result) (W.calls wire.old) (W.calls wire.new) }
     ensures idle { turns ≡ 0 → IdleCause (so_far result)
         (W.server_faults wire.old) (W.server_faults wire.new)

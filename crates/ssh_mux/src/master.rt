@@ -14,7 +14,7 @@ ghost use Rattle.ssh_mux.specs.Master.{EndsMaster, OnlyStarves};
 ghost use Rattle.ssh_mux.specs.Outcomes.{Client, Master, joins_at, machine, of_command, opens_at};
 ghost use Rattle.ssh_mux.specs.Places.{Placed, told_over};
 ghost use Rattle.ssh_mux.specs.Reads.{ReadsFor, ReadsUnless};
-ghost use Rattle.ssh_mux.specs.Sharing.{CallsEnd, IdleCause, OpensAt, OpensOnce, Shares};
+ghost use Rattle.ssh_mux.specs.Sharing.{CallsEnd, CameFor, IdleCause, OpensAt, OpensOnce, Shares};
 ghost use Rattle.ssh_mux.specs.Sharing.{StartCause, WaitsFor, WireCause, pid_of, policy_of as the_policy_of, told_as};
 ghost use Rattle.ssh_mux.specs.Starts.{BeganWith, Begun, BegunRests, MustsAs, SettledFor};
 ghost use Rattle.ssh_mux.specs.Starts.{must_for, starts_for};
@@ -94,6 +94,13 @@ pub fn share<W: Wire, F: Files, R: Runner, H: House>(
         (WireCause (so_far result) (W.server_faults wire.old) (W.server_faults wire.new)
         (W.client_faults wire.old) (W.client_faults wire.new)) }
     ensures calls { CallsEnd turns (so_far result) (W.calls wire.old) (W.calls wire.new) }
+    ensures came { OnTrue (may_share
+        (of_command (machine (F.told files.old) (R.told runner.old) facts.now)
+        (commands.Master asked.now transport.now opens.now listens.now)) (so_far result))
+        (CameFor (serves_house (H.known house.old).present
+        (of_command (machine (F.told files.old) (R.told runner.old) facts.now)
+        (commands.Master asked.now transport.now opens.now listens.now))) (so_far result)
+        (W.calls wire.old) (W.calls wire.new)) }
     ensures waited { OnFalse (serves_house (H.known house.old).present
         (of_command (machine (F.told files.old) (R.told runner.old) facts.now)
         (commands.Master asked.now transport.now opens.now listens.now)))
@@ -276,6 +283,8 @@ fn begin_and_serve<W: Wire, H: House>(
     ensures cause { WireCause (so_far result) (W.server_faults wire.old) (W.server_faults wire.new)
         (W.client_faults wire.old) (W.client_faults wire.new) }
     ensures calls { CallsEnd turns (so_far result) (W.calls wire.old) (W.calls wire.new) }
+    ensures came { CameFor (H.known house.old).present (so_far result) (W.calls wire.old)
+        (W.calls wire.new) }
     ensures waited { OnFalse (H.known house.old).present
         (WaitsFor turns (so_far result) (W.calls wire.old) (W.calls wire.new)) }
     ensures idle { turns ≡ 0 → OnFalse (H.known house.old).present (IdleCause (so_far result)
@@ -322,6 +331,8 @@ pub fn open_and_serve<W: Wire, H: House>(
     ensures cause { WireCause (so_far result) (W.server_faults wire.old) (W.server_faults wire.new)
         (W.client_faults wire.old) (W.client_faults wire.new) }
     ensures calls { CallsEnd turns (so_far result) (W.calls wire.old) (W.calls wire.new) }
+    ensures came { CameFor (H.known house.old).present (so_far result) (W.calls wire.old)
+        (W.calls wire.new) }
     ensures waited { OnFalse (H.known house.old).present
         (WaitsFor turns (so_far result) (W.calls wire.old) (W.calls wire.new)) }
     ensures idle { turns ≡ 0 → OnFalse (H.known house.old).present (IdleCause (so_far result)

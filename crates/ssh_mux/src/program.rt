@@ -13,7 +13,7 @@ ghost use Rattle.ssh_mux.specs.Outcomes.{machine, known_of, drills};
 ghost use Rattle.ssh_mux.specs.Places.{Placed, told_for};
 ghost use Rattle.ssh_mux.specs.Puts.{PutsOnce, prints};
 ghost use Rattle.ssh_mux.specs.Reads.{ReadsFor};
-ghost use Rattle.ssh_mux.specs.Sharing.{CallsEnd, IdleCause, OpensOnce, ServesFor, SharesFor};
+ghost use Rattle.ssh_mux.specs.Sharing.{CallsEnd, CameFor, IdleCause, OpensOnce, ServesFor, SharesFor};
 ghost use Rattle.ssh_mux.specs.Sharing.{StartCause, WaitsFor, WireCause, pid_of};
 ghost use Rattle.ssh_mux.specs.Starts.{BegunRests, MustsAs, must_for};
 
@@ -117,6 +117,14 @@ pub fn run<W: Wire, F: Files, R: Runner, S: Sink, H: House>(
         (known_of (F.told files.old) (R.told runner.old) facts.now words.now)
         result) (TalksFor turns result (W.calls wire.old) (W.calls wire.new)) }
     ensures calls { CallsEnd turns result (W.calls wire.old) (W.calls wire.new) }
+    ensures unopened { OnFalse (touches
+        (known_of (F.told files.old) (R.told runner.old) facts.now words.now)
+        result) ((W.calls wire.new).opens ≡ (W.calls wire.old).opens) }
+    ensures came { OnTrue (touches
+        (known_of (F.told files.old) (R.told runner.old) facts.now words.now)
+        result) (CameFor (serves_house (H.known house.old).present
+        (known_of (F.told files.old) (R.told runner.old) facts.now words.now)) result
+        (W.calls wire.old) (W.calls wire.new)) }
     ensures waited { OnFalse (serves_house (H.known house.old).present
         (known_of (F.told files.old) (R.told runner.old) facts.now words.now))
         (OnTrue (touches
@@ -219,6 +227,14 @@ fn obey<W: Wire, F: Files, R: Runner, S: Sink, H: House>(
         (known_of (F.told files.old) (R.told runner.old) facts.now words.now)
         (so_far result)) (TalksFor turns (so_far result) (W.calls wire.old) (W.calls wire.new)) }
     ensures calls { CallsEnd turns (so_far result) (W.calls wire.old) (W.calls wire.new) }
+    ensures unopened { OnFalse (touches
+        (known_of (F.told files.old) (R.told runner.old) facts.now words.now)
+        (so_far result)) ((W.calls wire.new).opens ≡ (W.calls wire.old).opens) }
+    ensures came { OnTrue (touches
+        (known_of (F.told files.old) (R.told runner.old) facts.now words.now)
+        (so_far result)) (CameFor (serves_house (H.known house.old).present
+        (known_of (F.told files.old) (R.told runner.old) facts.now words.now)) (so_far result)
+        (W.calls wire.old) (W.calls wire.new)) }
     ensures waited { OnFalse (serves_house (H.known house.old).present
         (known_of (F.told files.old) (R.told runner.old) facts.now words.now))
         (OnTrue (touches

@@ -1,6 +1,6 @@
 use Rattle.std.proofs.lemmas.Result.{err_from_is_err_and}
 use Rattle.ssh_mux.specs.Drill.{drill_text}
-use Rattle.ssh_mux.proofs.DrillLemmas.{summed-calls, summed-cause, summed-goes, summed-idle, summed-waits, unsummed-goes}
+use Rattle.ssh_mux.proofs.DrillLemmas.{summed-calls, summed-came, summed-cause, summed-goes, summed-idle, summed-waits, unsummed-goes}
 use Rattle.ssh_mux.proofs.ListLemmas.{handed-tried}
 use Rattle.ssh_mux.proofs.PutLemmas.{quiet-puts}
 use Rattle.ssh_mux.proofs.StillLemmas.{loud, not_false, on_false, quiet-count}
@@ -47,3 +47,9 @@ returns-clause-idle g c = λ z. summed-idle _ (drill_text c.tally-tally.result) 
 
 pub returns-in_err-serve_drill-clause-once : goal.returns-in_err-serve_drill-clause-once
 returns-in_err-serve_drill-clause-once g c = let p = err_from_is_err_and c.from_residual.result c.from_residual.ensures.1 in rw (p.1, p.2) (quiet-puts _ _ (loud _))
+
+pub returns-in_err-serve_drill-clause-came : goal.returns-in_err-serve_drill-clause-came
+returns-in_err-serve_drill-clause-came g c = let p = err_from_is_err_and c.from_residual.result c.from_residual.ensures.1 in rw (p.1, p.2) c.in_err-serve_drill.ensures.came
+
+pub returns-clause-came : goal.returns-clause-came
+returns-clause-came g c = summed-came _ (drill_text c.tally-tally.result) c.sum_up.result (g.S.Sink.told c.args.out.now) (g.S.Sink.told c.sum_up.new.out) _ _ c.in_ok-serve_drill.ensures.ends c.sum_up.ensures.handed c.in_ok-serve_drill.ensures.came

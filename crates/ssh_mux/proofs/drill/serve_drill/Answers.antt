@@ -71,3 +71,9 @@ returns-in_err-transport-clause-start g c = let p = err_from_is_err_and c.from_r
 
 pub returns-in_err-policy-clause-start : goal.returns-in_err-policy-clause-start
 returns-in_err-policy-clause-start g c = let p = err_from_is_err_and c.from_residual-in_err-policy.result c.from_residual-in_err-policy.ensures.1 in let e = c.in_err-policy.ensures.err in rw (p.1, p.2, e) tt
+
+pub returns-in_err-transport-clause-came : goal.returns-in_err-transport-clause-came
+returns-in_err-transport-clause-came g c = let p = err_from_is_err_and c.from_residual.result c.from_residual.ensures.1 in rw (p.1, p.2) tt
+
+pub returns-in_err-policy-clause-came : goal.returns-in_err-policy-clause-came
+returns-in_err-policy-clause-came g c = let p = err_from_is_err_and c.from_residual-in_err-policy.result c.from_residual-in_err-policy.ensures.1 in let e = c.in_err-policy.ensures.err in rw (p.1, p.2, e) tt

@@ -1,7 +1,7 @@
 use Rattle.std.proofs.Common.{inl, refl, ◌∙◌}
 use Rattle.std.proofs.lemmas.Result.{err_from_is_err_and}
 use Rattle.ssh_mux.proofs.StartLemmas.{musts-begun, shares-begun}
-use Rattle.ssh_mux.proofs.StillLemmas.{still-calls, where_false}
+use Rattle.ssh_mux.proofs.StillLemmas.{memory-came, still-calls, where_false}
 use Rattle.ssh_mux.proofs.master.begin_and_serve.Goals as goal
 
 pub returns-in_err-begin-clause-ends : goal.returns-in_err-begin-clause-ends
@@ -45,3 +45,9 @@ returns-in_err-begin-clause-must g c = λ x. let p = err_from_is_err_and c.from_
 
 pub returns-clause-must : goal.returns-clause-must
 returns-clause-must g c = λ x. musts-begun _ _ _ (c.open_and_serve.ensures.must ∙ c.in_ok-begin.ensures.must x)
+
+pub returns-in_err-begin-clause-came : goal.returns-in_err-begin-clause-came
+returns-in_err-begin-clause-came g c = let p = err_from_is_err_and c.from_residual.result c.from_residual.ensures.1 in let e = c.in_err-begin.ensures.err in rw (p.1, p.2, e) (memory-came _ _ _)
+
+pub returns-clause-came : goal.returns-clause-came
+returns-clause-came g c = rw c.in_ok-begin.ensures.known at c.open_and_serve.ensures.came

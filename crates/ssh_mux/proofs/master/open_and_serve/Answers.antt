@@ -1,4 +1,4 @@
-use Rattle.ssh_mux.proofs.SharingLemmas.{shares_end, idle_end, start_end, waits_end}
+use Rattle.ssh_mux.proofs.SharingLemmas.{came_end, idle_end, serving_calls, shares_end, start_end, waits_end}
 use Rattle.ssh_mux.proofs.master.open_and_serve.Goals as goal
 
 pub returns-in-Ok-clause-served : goal.returns-in-Ok-clause-served
@@ -12,3 +12,9 @@ returns-in-Ok-clause-idle g c = λ z. rw c.ending_of.ensures.told (idle_end _ _ 
 
 pub returns-in-Ok-clause-start : goal.returns-in-Ok-clause-start
 returns-in-Ok-clause-start g c = rw c.ending_of.ensures.told (start_end _ _ c.serve.ensures.permitted)
+
+pub returns-in-Ok-clause-calls : goal.returns-in-Ok-clause-calls
+returns-in-Ok-clause-calls g c = rw c.ending_of.ensures.told (serving_calls _ _ _ _ _ _ _ c.in-Ok.ensures.calls c.serve.ensures.calls c.serve.ensures.came)
+
+pub returns-in-Ok-clause-came : goal.returns-in-Ok-clause-came
+returns-in-Ok-clause-came g c = rw c.ending_of.ensures.told (came_end _ _ _ _ (rw c.in-Ok.ensures.calls at c.serve.ensures.ended_by))

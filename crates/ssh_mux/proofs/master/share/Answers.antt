@@ -11,9 +11,9 @@ use Rattle.ssh_mux.specs.Sharing.{Shares, pid_of, policy_of}
 use Rattle.ssh_mux.specs.Starts.{BeganWith, Begun, BegunRests, must_for}
 use Rattle.ssh_mux.proofs.CauseLemmas.{shared-cause, all-ran}
 use Rattle.ssh_mux.proofs.ReadLemmas.{all-read}
-use Rattle.ssh_mux.proofs.SharingLemmas.{pid_is, master-comes, master-opens, master-opened, master-shares, master-idle, master-waits}
+use Rattle.ssh_mux.proofs.SharingLemmas.{master-came, pid_is, master-comes, master-opens, master-opened, master-shares, master-idle, master-waits}
 use Rattle.ssh_mux.proofs.StartLemmas.{musts-told, starts-told}
-use Rattle.ssh_mux.proofs.StillLemmas.{still-must, on_false, on_true, not_false, still-due, still-opened, still-shared, still-wire, still-calls, still-idle, starved-due, still-start, unshared-waits, where_false}
+use Rattle.ssh_mux.proofs.StillLemmas.{still-must, on_false, on_true, not_false, still-due, still-opened, still-shared, still-came, still-wire, still-calls, still-idle, starved-due, still-start, unshared-waits, where_false}
 use Rattle.ssh_mux.proofs.master.share.Goals as goal
 
 pub returns-in_err-found-clause-exact : goal.returns-in_err-found-clause-exact
@@ -141,3 +141,12 @@ returns-in_err-policy-clause-must g c = λ x. let p = err_from_is_err_and c.from
 
 pub returns-clause-must : goal.returns-clause-must
 returns-clause-must g c = λ x. on_true _ _ (musts-told _ _ _ _ c.in_ok-found.ensures.settled (c.begin_and_serve.ensures.must x))
+
+pub returns-in_err-found-clause-came : goal.returns-in_err-found-clause-came
+returns-in_err-found-clause-came g c = let p = err_from_is_err_and c.from_residual.result c.from_residual.ensures.1 in rw (p.1, p.2) (still-came _ _ (serves_house (g.H.House.known c.args.house.now).present (of_command (machine (g.F.Files.told c.args.files.now) (g.R.Runner.told c.args.runner.now) c.args.facts.now) (commands.Master c.args.asked.now c.args.transport.now c.args.opens.now c.args.listens.now))) _ _ (c.in_err-found.ensures.exact _ _ _))
+
+pub returns-in_err-policy-clause-came : goal.returns-in_err-policy-clause-came
+returns-in_err-policy-clause-came g c = let p = err_from_is_err_and c.from_residual-in_err-policy.result c.from_residual-in_err-policy.ensures.1 in let e = c.in_err-policy.ensures.err in rw (p.1, p.2, e) (still-came (of_command (machine (g.F.Files.told c.args.files.now) (g.R.Runner.told c.args.runner.now) c.args.facts.now) (commands.Master c.args.asked.now c.args.transport.now c.args.opens.now c.args.listens.now)) ends.NoMemory (serves_house (g.H.House.known c.args.house.now).present (of_command (machine (g.F.Files.told c.args.files.now) (g.R.Runner.told c.args.runner.now) c.args.facts.now) (commands.Master c.args.asked.now c.args.transport.now c.args.opens.now c.args.listens.now))) (g.W.Wire.calls c.args.wire.now) (g.W.Wire.calls c.args.wire.now) (starved-due (of_command (machine (g.F.Files.told c.args.files.now) (g.R.Runner.told c.args.runner.now) c.args.facts.now) (commands.Master c.args.asked.now c.args.transport.now c.args.opens.now c.args.listens.now))))
+
+pub returns-clause-came : goal.returns-clause-came
+returns-clause-came g c = master-came (of_command (machine (g.F.Files.told c.args.files.now) (g.R.Runner.told c.args.runner.now) c.args.facts.now) (commands.Master c.args.asked.now c.args.transport.now c.args.opens.now c.args.listens.now)) c.args.transport.now c.args.opens.now c.args.listens.now _ (g.H.House.known c.args.house.now).present (so_far c.begin_and_serve.result) (g.W.Wire.calls c.args.wire.now) (g.W.Wire.calls c.begin_and_serve.new.wire) (c.in_ok-found.ensures.exact c.args.transport.now c.args.opens.now c.args.listens.now) c.begin_and_serve.ensures.came

@@ -1,4 +1,4 @@
-use Rattle.std.proofs.Common.{◌≡◌, refl}
+use Rattle.std.proofs.Common.{◌≡◌, ap, refl}
 use Rattle.std.proofs.lemmas.Result.{err_from_is_err_and}
 use Rattle.conf_rules.specs.declared.command.Command.TheVariants as commands
 use Rattle.mux_engine.specs.Rests.{refused_if}
@@ -6,9 +6,9 @@ use Rattle.ssh_mux.specs.Answers.{may_ask, may_open, may_write, serves_house, so
 use Rattle.conf_rules.specs.Outcome.{Drills}
 use Rattle.ssh_mux.specs.Outcomes.{Certain, drills, known_of, machine, of_command, opens}
 use Rattle.ssh_mux.specs.Places.{told_over}
-use Rattle.ssh_mux.specs.Sharing.{Shares, WaitsFor, WireCause, pid_of}
+use Rattle.ssh_mux.specs.Sharing.{CameFor, Shares, WaitsFor, WireCause, pid_of}
 use Rattle.ssh_mux.specs.Starts.{BeganWith, Begun, BegunRests}
-use Rattle.ssh_mux.proofs.DrillLemmas.{drill-cause, drill-comes, drill-takes, drill-touches, still-drill}
+use Rattle.ssh_mux.proofs.DrillLemmas.{drill-cause, drill-comes, drill-takes, drill-touches, drilled-came, still-drill}
 use Rattle.ssh_mux.proofs.EndLemmas.{same_told}
 use Rattle.ssh_mux.proofs.JoinLemmas.{client-looks, client-shut, client-taken, client-undrilled, list-unasked, master-unasked, unlisted-client}
 use Rattle.ssh_mux.proofs.NamedLemmas.{names-forwards}
@@ -16,7 +16,7 @@ use Rattle.ssh_mux.proofs.PolicyLemmas.{are-permitted, with-policy}
 use Rattle.ssh_mux.proofs.RefusalLemmas.{list-looks, list-shut, list-undrilled, master-looks, master-quiet, master-undrilled}
 use Rattle.ssh_mux.proofs.SharingLemmas.{none-opened, none-taken, none-counted}
 use Rattle.ssh_mux.proofs.MisreadLemmas.{of-drill, of-read, for-read, misread, misread-runs, misread-cause, drilled-runs}
-use Rattle.ssh_mux.proofs.StillLemmas.{on_false, not_false, not_true, shut, loud, quiet-out, quiet-count, still-due, still-opened, still-shared, still-caused, still-calls, still-idle, shut-all, for-master, on_true, or-else, else-or, untouched, follows, refused-waits, still-must, still-start, unopened-waits, where_false}
+use Rattle.ssh_mux.proofs.StillLemmas.{on_false, not_false, not_true, shut, loud, quiet-out, quiet-count, still-due, still-opened, still-shared, still-caused, still-calls, still-idle, shut-all, for-master, on_true, or-else, else-or, untouched, follows, refused-came, refused-waits, still-must, still-start, unopened-waits, where_false}
 use Rattle.ssh_mux.proofs.PlaceLemmas.{client-told, misread-place, list-told, master-told}
 use Rattle.ssh_mux.proofs.PutLemmas.{client-unprinted, quiet-puts, unprinted}
 use Rattle.ssh_mux.proofs.ReadLemmas.{drilled-reads, misread-reads}
@@ -363,3 +363,35 @@ returns-in-Control-clause-out_once g c = rw (of-read _ _ _ (rw c.in-Control.is a
 
 pub returns-in-Drill-clause-out_once : goal.returns-in-Drill-clause-out_once
 returns-in-Drill-clause-out_once g c = on_true _ _ c.drill.ensures.once
+
+-- ---- what came
+
+pub returns-in_err-command-clause-unopened : goal.returns-in_err-command-clause-unopened
+returns-in_err-command-clause-unopened g c = where_false _ _ refl
+
+pub returns-in_err-command-clause-came : goal.returns-in_err-command-clause-came
+returns-in_err-command-clause-came g c = let p = err_from_is_err_and c.from_residual.result c.from_residual.ensures.1 in rw (p.1, p.2) (refused-came _ _ (serves_house (g.H.House.known c.args.house.now).present (known_of (g.F.Files.told c.args.files.now) (g.R.Runner.told c.args.runner.now) c.args.facts.now c.args.words.now)) _ _ (misread _ _ _ c.in_err-command.ensures.exact))
+
+pub returns-in-List-clause-unopened : goal.returns-in-List-clause-unopened
+returns-in-List-clause-unopened g c = where_false _ _ refl
+
+pub returns-in-List-clause-came : goal.returns-in-List-clause-came
+returns-in-List-clause-came g c = rw (of-read _ _ _ (rw c.in-List.is at c.in_ok-command.ensures.exact)) (not_true _ _ (shut-all _ _ (list-shut _ _) (list-undrilled _ _)))
+
+pub returns-in-Master-clause-unopened : goal.returns-in-Master-clause-unopened
+returns-in-Master-clause-unopened g c = rw (of-read _ _ _ (rw c.in-Master.is at c.in_ok-command.ensures.exact)) (follows _ _ _ (λ same. ap (λ w. (g.W.Wire.calls w).opens) same) (untouched (may_open (so_far c.share.result)) (opens (of_command (machine (g.F.Files.told c.args.files.now) (g.R.Runner.told c.args.runner.now) c.args.facts.now) (commands.Master c.in-Master.asked c.in-Master.transport c.in-Master.opens c.in-Master.listens))) (drills (of_command (machine (g.F.Files.told c.args.files.now) (g.R.Runner.told c.args.runner.now) c.args.facts.now) (commands.Master c.in-Master.asked c.in-Master.transport c.in-Master.opens c.in-Master.listens))) (c.share.new.wire ≡ c.args.wire.now) c.share.ensures.wire))
+
+pub returns-in-Master-clause-came : goal.returns-in-Master-clause-came
+returns-in-Master-clause-came g c = rw (of-read _ _ _ (rw c.in-Master.is at c.in_ok-command.ensures.exact)) (for-master (may_open (so_far c.share.result)) (opens (of_command (machine (g.F.Files.told c.args.files.now) (g.R.Runner.told c.args.runner.now) c.args.facts.now) (commands.Master c.in-Master.asked c.in-Master.transport c.in-Master.opens c.in-Master.listens))) (drills (of_command (machine (g.F.Files.told c.args.files.now) (g.R.Runner.told c.args.runner.now) c.args.facts.now) (commands.Master c.in-Master.asked c.in-Master.transport c.in-Master.opens c.in-Master.listens))) (CameFor (serves_house (g.H.House.known c.args.house.now).present (of_command (machine (g.F.Files.told c.args.files.now) (g.R.Runner.told c.args.runner.now) c.args.facts.now) (commands.Master c.in-Master.asked c.in-Master.transport c.in-Master.opens c.in-Master.listens))) (so_far c.share.result) (g.W.Wire.calls c.args.wire.now) (g.W.Wire.calls c.share.new.wire)) (master-undrilled (machine (g.F.Files.told c.args.files.now) (g.R.Runner.told c.args.runner.now) c.args.facts.now) c.in-Master.asked c.in-Master.transport c.in-Master.opens c.in-Master.listens) c.share.ensures.came)
+
+pub returns-in-Drill-clause-unopened : goal.returns-in-Drill-clause-unopened
+returns-in-Drill-clause-unopened g c = rw (of-drill _ _ _ _ _ (rw c.in-Drill.is at c.in_ok-command.ensures.exact)) (not_false _ _ (drill-touches c.in-Drill.seed c.in-Drill.clients c.in-Drill.messages c.drill.result c.drill.ensures.goes.ends))
+
+pub returns-in-Drill-clause-came : goal.returns-in-Drill-clause-came
+returns-in-Drill-clause-came g c = rw (of-drill _ _ _ _ _ (rw c.in-Drill.is at c.in_ok-command.ensures.exact)) (on_true _ _ (drilled-came (g.H.House.known c.args.house.now).present (so_far c.drill.result) _ _ c.drill.ensures.came))
+
+pub returns-in-Control-clause-unopened : goal.returns-in-Control-clause-unopened
+returns-in-Control-clause-unopened g c = where_false _ _ c.ask_master.ensures.unopened
+
+pub returns-in-Control-clause-came : goal.returns-in-Control-clause-came
+returns-in-Control-clause-came g c = rw (of-read _ _ _ (rw c.in-Control.is at c.in_ok-command.ensures.exact)) (not_true _ _ (shut-all _ _ (client-shut _ _ _) (client-undrilled _ _ _)))

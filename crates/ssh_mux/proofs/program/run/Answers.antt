@@ -4,7 +4,7 @@ use Rattle.ssh_mux.proofs.AnswerLemmas.{asked_after, asked_cause_after, asked_wa
 use Rattle.ssh_mux.proofs.DrillLemmas.{drill_after, drill_well}
 use Rattle.ssh_mux.proofs.PutLemmas.{loud-puts, puts_after, well-puts}
 use Rattle.ssh_mux.proofs.ReadLemmas.{reads_after}
-use Rattle.ssh_mux.proofs.EndLemmas.{ended, ended-well, well-cause, out_after, untouched_after, fault_after, runs_after, sink_after, opened_after, shared_after, shared_well, calls_after, idle_after, waits_after, wire_after, wire_stays_after, stays_after, same_told, told_after, start_after, must_after}
+use Rattle.ssh_mux.proofs.EndLemmas.{ended, ended-well, well-cause, out_after, untouched_after, fault_after, runs_after, sink_after, opened_after, shared_after, shared_well, calls_after, came_after, idle_after, waits_after, wire_after, wire_stays_after, stays_after, same_told, told_after, start_after, must_after}
 use Rattle.ssh_mux.proofs.StillLemmas.{on_true, follows}
 use Rattle.ssh_mux.proofs.program.run.Goals as goal
 
@@ -104,3 +104,9 @@ returns-in-Ok-clause-err_once g c = well-puts _ _ _ c.in-Ok.ensures.exact
 
 pub returns-in-Err-clause-err_once : goal.returns-in-Err-clause-err_once
 returns-in-Err-clause-err_once g c = loud-puts _ _ c.report.ensures.once
+
+pub returns-in-Err-clause-unopened : goal.returns-in-Err-clause-unopened
+returns-in-Err-clause-unopened g c = stays_after _ _ _ _ _ _ _ _ c.report.ensures.told c.in-Err.ensures.unopened
+
+pub returns-in-Err-clause-came : goal.returns-in-Err-clause-came
+returns-in-Err-clause-came g c = came_after _ _ _ _ _ _ _ _ _ _ c.report.ensures.told c.in-Err.ensures.came
