@@ -101,6 +101,36 @@ came_end false (ends.StartRefused index) old new h = tt
 came_end false ends.Spent old new h = tt
 came_end false ends.OutOfMemory old new h = tt
 
+-- an opening before it leaves all that these count but itself
+pub opened_stops : (answer : Result (Unit {0}) FileError) (present : Bool) (turns : ℕ) (ended : Ended) (old mid new : Calls) → mid ≡ calls_after_open answer old → Stops present turns ended mid new → Stops present turns ended old new
+opened_stops answer present turns ended old mid new e stops =
+    let s : Stops present turns ended (calls_after_open answer old) new = subst (λ (x : Calls). Stops present turns ended x new) e stops in
+    record { few = s.few; spent = s.spent; ends = s.ends; wants = s.wants; starved = s.starved; late = s.late }
+
+opened_broken : (answer : Result (Unit {0}) FileError) (why : Break) (old new : Calls) → BrokenBy why (calls_after_open answer old) new → BrokenBy why old new
+opened_broken answer (broke.Cut have) old new h = h
+opened_broken answer (broke.Frame fault) old new h = h
+opened_broken answer (broke.Message bad) old new h = h
+opened_broken answer broke.NoAsker old new h = h
+opened_broken answer (broke.BadReply size) old new h = h
+opened_broken answer (broke.NumberInUse n) old new h = h
+opened_broken answer (broke.NotPending n) old new h = h
+opened_broken answer (broke.NoChannel n) old new h = h
+opened_broken answer (broke.Channel n breach) old new h = h
+
+opened_by : (answer : Result (Unit {0}) FileError) (present : Bool) (ended : Ended) (old new : Calls) → EndedBy present ended (calls_after_open answer old) new → EndedBy present ended old new
+opened_by answer present ends.ServerEnd old new h = h
+opened_by answer present ends.Disconnected old new h = h
+opened_by answer present (ends.Terminated client id) old new h = h
+opened_by answer present ends.ServerFailed old new h = h
+opened_by answer present (ends.Broke index why) old new h = opened_broken answer why old new h
+opened_by answer present (ends.StartRefused index) old new h = h
+opened_by answer present ends.Spent old new h = h
+opened_by answer present ends.OutOfMemory old new h = h
+
+pub opened_ended : (answer : Result (Unit {0}) FileError) (present : Bool) (ended : Ended) (old mid new : Calls) → mid ≡ calls_after_open answer old → EndedBy present ended mid new → EndedBy present ended old new
+opened_ended answer present ended old mid new e h = opened_by answer present ended old new (subst (λ (x : Calls). EndedBy present ended x new) e h)
+
 -- where nothing but an opening was asked of the wire
 pub opening_calls : (answer : Result (Unit {0}) FileError) (turns : ℕ) (status : Status) (old new : Calls) → new ≡ calls_after_open answer old → CallsEnd turns status old new
 opening_calls answer turns status old new e = subst (CallsEnd turns status old) (sym e) (record { few = omega arith; opens = opens-most answer old.opens; wants = omega arith; starved = λ ne. absurd (ne refl); late = λ z. refl })

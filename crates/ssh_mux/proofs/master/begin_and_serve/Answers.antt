@@ -47,7 +47,7 @@ pub returns-clause-must : goal.returns-clause-must
 returns-clause-must g c = λ x. musts-begun _ _ _ (c.open_and_serve.ensures.must ∙ c.in_ok-begin.ensures.must x)
 
 pub returns-in_err-begin-clause-came : goal.returns-in_err-begin-clause-came
-returns-in_err-begin-clause-came g c = let p = err_from_is_err_and c.from_residual.result c.from_residual.ensures.1 in let e = c.in_err-begin.ensures.err in rw (p.1, p.2, e) (memory-came _ _ _)
+returns-in_err-begin-clause-came g c = let p = err_from_is_err_and c.from_residual.result c.from_residual.ensures.1 in let e = c.in_err-begin.ensures.err in rw (p.1, p.2, e) (memory-came (g.H.House.known c.args.house.now).present (g.W.Wire.calls c.args.wire.now) (g.W.Wire.calls c.args.wire.now))
 
 pub returns-clause-came : goal.returns-clause-came
 returns-clause-came g c = rw c.in_ok-begin.ensures.known at c.open_and_serve.ensures.came

@@ -1,11 +1,12 @@
-use Rattle.ssh_mux.proofs.SharingLemmas.{came_end, idle_end, serving_calls, shares_end, start_end, waits_end}
+use Rattle.std.specs.Prelude.{Ok}
+use Rattle.ssh_mux.proofs.SharingLemmas.{came_end, idle_end, opened_ended, opened_stops, serving_calls, shares_end, start_end, waits_end}
 use Rattle.ssh_mux.proofs.master.open_and_serve.Goals as goal
 
 pub returns-in-Ok-clause-served : goal.returns-in-Ok-clause-served
 returns-in-Ok-clause-served g c = shares_end _ _ _ _ _ _ _ _ _ _ _ _ _ _ c.ending_of.ensures.told (rw c.in-Ok.ensures.seen at c.serve.ensures.kept)
 
 pub returns-in-Ok-clause-waited : goal.returns-in-Ok-clause-waited
-returns-in-Ok-clause-waited g c = rw c.ending_of.ensures.told (waits_end _ _ _ _ _ (rw c.in-Ok.ensures.calls at c.serve.ensures.calls))
+returns-in-Ok-clause-waited g c = rw c.ending_of.ensures.told (waits_end _ _ _ _ _ (opened_stops (Ok c.in-Ok.field-0) (g.H.House.known c.args.house.now).present c.args.turns c.serve.result (g.W.Wire.calls c.args.wire.now) (g.W.Wire.calls c.open.new.self) (g.W.Wire.calls c.serve.new.wire) c.in-Ok.ensures.calls c.serve.ensures.calls))
 
 pub returns-in-Ok-clause-idle : goal.returns-in-Ok-clause-idle
 returns-in-Ok-clause-idle g c = λ z. rw c.ending_of.ensures.told (idle_end _ _ _ _ _ _ _ _ c.in-Ok.ensures.cause (c.serve.ensures.idle z))
@@ -14,7 +15,7 @@ pub returns-in-Ok-clause-start : goal.returns-in-Ok-clause-start
 returns-in-Ok-clause-start g c = rw c.ending_of.ensures.told (start_end _ _ c.serve.ensures.permitted)
 
 pub returns-in-Ok-clause-calls : goal.returns-in-Ok-clause-calls
-returns-in-Ok-clause-calls g c = rw c.ending_of.ensures.told (serving_calls _ _ _ _ _ _ _ c.in-Ok.ensures.calls c.serve.ensures.calls c.serve.ensures.came)
+returns-in-Ok-clause-calls g c = rw c.ending_of.ensures.told (serving_calls (Ok c.in-Ok.field-0) _ _ _ _ _ _ c.in-Ok.ensures.calls c.serve.ensures.calls c.serve.ensures.came)
 
 pub returns-in-Ok-clause-came : goal.returns-in-Ok-clause-came
-returns-in-Ok-clause-came g c = rw c.ending_of.ensures.told (came_end _ _ _ _ (rw c.in-Ok.ensures.calls at c.serve.ensures.ended_by))
+returns-in-Ok-clause-came g c = rw c.ending_of.ensures.told (came_end _ _ _ _ (opened_ended (Ok c.in-Ok.field-0) (g.H.House.known c.args.house.now).present c.serve.result (g.W.Wire.calls c.args.wire.now) (g.W.Wire.calls c.open.new.self) (g.W.Wire.calls c.serve.new.wire) c.in-Ok.ensures.calls c.serve.ensures.ended_by))
