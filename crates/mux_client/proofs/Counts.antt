@@ -3,7 +3,7 @@ use Rattle.std.proofs.Common.{◌≡◌, ◌≤◌, ◌+◌, ◌-◌, ◌^◌, �
 use Rattle.std.specs.Prelude.{min, Result, Ok, Err, IfErr, OnOk, ◌==◌}
 use Rattle.std.proofs.lemmas.Bool.{eq-eqb}
 use Rattle.mux_outside.specs.Counts.{counted}
-use Rattle.mux_outside.specs.Seen.{Calls, calls_after_wait, counted_if, is_server_end, is_server_piece, is_starved, late_after}
+use Rattle.mux_outside.specs.CallCounts.{CallCounts, calls_after_wait, counted_if, is_server_end, is_server_piece, is_starved, late_after}
 use Rattle.mux_outside.specs.declared.turn.Turn.{Turn}
 use Rattle.mux_outside.specs.declared.turn.Turn.TheVariants as turn
 use Rattle.mux_client.specs.declared.stage.Stage.{Stage}
@@ -35,17 +35,17 @@ fell-if : (b : Bool) (n : ℕ) → min n (2 ^ 64 - 1) ≤ counted_if b n
 fell-if true n = omega arith
 fell-if false n = omega arith
 
-pub well-none : (c : Calls) → Well 0 c c
+pub well-none : (c : CallCounts) → Well 0 c c
 well-none c = record { waited = waited-none c.waits; wants = refl; late = λ z. refl; opens = refl; server_pieces = fell-never c.server_pieces; server_ends = fell-never c.server_ends }
 
-pub well-on : (m n k : ℕ) (a b c : Calls) → m + n ≡ k → Well m a b → Well n b c → Well k a c
+pub well-on : (m n k : ℕ) (a b c : CallCounts) → m + n ≡ k → Well m a b → Well n b c → Well k a c
 well-on m n k a b c e v w = record { waited = waited-on m n k a.waits b.waits c.waits e v.waited w.waited; wants = w.wants ∙ v.wants; late = λ z. w.late (v.wants ∙ z) ∙ v.late z; opens = w.opens ∙ v.opens; server_pieces = fell-then a.server_pieces b.server_pieces c.server_pieces v.server_pieces w.server_pieces; server_ends = fell-then a.server_ends b.server_ends c.server_ends v.server_ends w.server_ends }
 
 -- a call of wait that found memory
-late-one : (c : Calls) → c.wants ≡ 0 → late_after c ≡ c.late
+late-one : (c : CallCounts) → c.wants ≡ 0 → late_after c ≡ c.late
 late-one c e = ap (λ b. cond b c.late (counted c.late)) (eq-eqb c.wants 0 e)
 
-pub well-wait : (t : Turn) (c : Calls) → is_starved t ≡ false → Well 1 c (calls_after_wait t c)
+pub well-wait : (t : Turn) (c : CallCounts) → is_starved t ≡ false → Well 1 c (calls_after_wait t c)
 well-wait t c e = record {
   waited = record { most = omega arith; least = omega arith; fits = λ h. omega arith };
   wants = ap (λ b. cond b (counted c.wants) c.wants) e;
@@ -55,7 +55,7 @@ well-wait t c e = record {
   server_ends = fell-if (is_server_end t) c.server_ends;
 }
 
-pub counts-wait : {A : Type 0} (r : Result A Talked) (t : Turn) (c : Calls) → is_starved t ≡ false → Counts 1 r c (calls_after_wait t c)
+pub counts-wait : {A : Type 0} (r : Result A Talked) (t : Turn) (c : CallCounts) → is_starved t ≡ false → Counts 1 r c (calls_after_wait t c)
 counts-wait (Ok x) t c e = well-wait t c e
 counts-wait (Err answer) t c e = let w : Well 1 c (calls_after_wait t c) = well-wait t c e in record {
   waited = w.waited;
@@ -80,13 +80,13 @@ up-if true n e = omega arith
 up-if false n e = absurd (cc)
 
 -- stream 0 gave a piece, or its end
-pub piece-came : (k : ℕ) (c : Calls) → k ≡ 0 → WentUp c.server_pieces (calls_after_wait (turn.Got k) c).server_pieces
+pub piece-came : (k : ℕ) (c : CallCounts) → k ≡ 0 → WentUp c.server_pieces (calls_after_wait (turn.Got k) c).server_pieces
 piece-came k c zero = up-if (k == 0) c.server_pieces (eq-eqb k 0 zero)
 
-pub end-came : (k : ℕ) (c : Calls) → k ≡ 0 → WentUp c.server_ends (calls_after_wait (turn.End k) c).server_ends
+pub end-came : (k : ℕ) (c : CallCounts) → k ≡ 0 → WentUp c.server_ends (calls_after_wait (turn.End k) c).server_ends
 end-came k c zero = up-if (k == 0) c.server_ends (eq-eqb k 0 zero)
 
-pub wire-answered : (answer : Talked) (a b : Calls) → IsOfWire answer → AnsweredBy answer a b
+pub wire-answered : (answer : Talked) (a b : CallCounts) → IsOfWire answer → AnsweredBy answer a b
 wire-answered talked.ServerFailed a b h = tt
 wire-answered talked.OutOfMemory a b h = tt
 wire-answered talked.Done a b h = absurd h
@@ -95,7 +95,7 @@ wire-answered (talked.BadMaster at) a b h = absurd h
 wire-answered talked.WriteFault a b h = absurd h
 wire-answered talked.Spent a b h = absurd h
 
-sink-answered : (answer : Talked) (a b : Calls) → IsOfSink answer → WentUp a.server_pieces b.server_pieces → AnsweredBy answer a b
+sink-answered : (answer : Talked) (a b : CallCounts) → IsOfSink answer → WentUp a.server_pieces b.server_pieces → AnsweredBy answer a b
 sink-answered talked.WriteFault a b h up = up
 sink-answered talked.OutOfMemory a b h up = tt
 sink-answered talked.ServerFailed a b h up = absurd h
@@ -104,20 +104,20 @@ sink-answered (talked.Refused id) a b h up = absurd h
 sink-answered (talked.BadMaster at) a b h up = absurd h
 sink-answered talked.Spent a b h up = absurd h
 
-pub read-answered : {A : Type 0} (r : Result A Talked) (a b : Calls) → IfErr r IsOfSink → WentUp a.server_pieces b.server_pieces → IfErr r (λ answer. AnsweredBy answer a b)
+pub read-answered : {A : Type 0} (r : Result A Talked) (a b : CallCounts) → IfErr r IsOfSink → WentUp a.server_pieces b.server_pieces → IfErr r (λ answer. AnsweredBy answer a b)
 read-answered (Ok x) a b h up = tt
 read-answered (Err answer) a b h up = sink-answered answer a b h up
 
-pub off-answered : (s : ClientState) (r : Result (Unit {0}) Talked) (a b : Calls) → BreaksOff s r → WentUp a.server_ends b.server_ends → IfErr r (λ answer. AnsweredBy answer a b)
+pub off-answered : (s : ClientState) (r : Result (Unit {0}) Talked) (a b : CallCounts) → BreaksOff s r → WentUp a.server_ends b.server_ends → IfErr r (λ answer. AnsweredBy answer a b)
 off-answered s (Ok x) a b h up = tt
 off-answered s (Err answer) a b h up = subst (λ (x : Talked). AnsweredBy x a b) (sym h.2) (inr up)
 
-pub heard-so : {A : Type 0} (r : Result A Talked) (before now : Stage) (a b : Calls) → WentUp a.server_pieces b.server_pieces → OnOk r (HasHeard before now a b)
+pub heard-so : {A : Type 0} (r : Result A Talked) (before now : Stage) (a b : CallCounts) → WentUp a.server_pieces b.server_pieces → OnOk r (HasHeard before now a b)
 heard-so (Ok x) before now a b up = inr up
 heard-so (Err answer) before now a b up = tt
 
 -- an answer by the stage of the talk
-at-answered : (answer : Talked) (at : Stage) (queue : List ℕ) (a b : Calls) → IsAnswerAt answer at queue → HasHeard stage.Greets at a b → AnsweredBy answer a b
+at-answered : (answer : Talked) (at : Stage) (queue : List ℕ) (a b : CallCounts) → IsAnswerAt answer at queue → HasHeard stage.Greets at a b → AnsweredBy answer a b
 at-answered talked.Done at queue a b h (inl e) = absurd (let z : stage.Granted ≡ stage.Greets = sym h.0 ∙ e in cc)
 at-answered talked.Done at queue a b h (inr up) = up
 at-answered (talked.Refused id) at queue a b h (inl e) = absurd (let z : stage.Refused id ≡ stage.Greets = sym h ∙ e in cc)
@@ -129,12 +129,12 @@ at-answered talked.ServerFailed at queue a b h heard = absurd h
 at-answered talked.Spent at queue a b h heard = absurd h
 at-answered talked.OutOfMemory at queue a b h heard = absurd h
 
-pub decided-answered : (s : ClientState) (r : Result (Unit {0}) Talked) (a b : Calls) → IsDecided s r → HasHeard stage.Greets s.stage a b → AnsweredBy (talked_of r) a b
+pub decided-answered : (s : ClientState) (r : Result (Unit {0}) Talked) (a b : CallCounts) → IsDecided s r → HasHeard stage.Greets s.stage a b → AnsweredBy (talked_of r) a b
 decided-answered s (Ok x) a b h heard = tt
 decided-answered s (Err answer) a b h heard = at-answered answer s.stage s.queue a b h heard
 
 -- where some calls came before, or behind
-pub answered-later : (n : ℕ) (answer : Talked) (a b c : Calls) → Well n a b → AnsweredBy answer b c → AnsweredBy answer a c
+pub answered-later : (n : ℕ) (answer : Talked) (a b c : CallCounts) → Well n a b → AnsweredBy answer b c → AnsweredBy answer a c
 answered-later n talked.Done a b c w h = up-later a.server_pieces b.server_pieces c.server_pieces w.server_pieces h
 answered-later n (talked.Refused id) a b c w h = up-later a.server_pieces b.server_pieces c.server_pieces w.server_pieces h
 answered-later n talked.WriteFault a b c w h = up-later a.server_pieces b.server_pieces c.server_pieces w.server_pieces h
@@ -144,11 +144,11 @@ answered-later n talked.ServerFailed a b c w h = tt
 answered-later n talked.Spent a b c w h = tt
 answered-later n talked.OutOfMemory a b c w h = tt
 
-pub heard-offered : (n : ℕ) (first before now : Stage) (a b c : Calls) → now ≡ before → HasHeard first before a b → Well n b c → HasHeard first now a c
+pub heard-offered : (n : ℕ) (first before now : Stage) (a b c : CallCounts) → now ≡ before → HasHeard first before a b → Well n b c → HasHeard first now a c
 heard-offered n first before now a b c same (inl e) w = inl (same ∙ e)
 heard-offered n first before now a b c same (inr up) w = inr (up-stays a.server_pieces b.server_pieces c.server_pieces up w.server_pieces)
 
-pub heard-then : (m n : ℕ) (first before now : Stage) (a b c : Calls) → Well m a b → HasHeard first before a b → Well n b c → HasHeard before now b c → HasHeard first now a c
+pub heard-then : (m n : ℕ) (first before now : Stage) (a b c : CallCounts) → Well m a b → HasHeard first before a b → Well n b c → HasHeard before now b c → HasHeard first now a c
 heard-then m n first before now a b c v (inl e) w (inl f) = inl (f ∙ e)
 heard-then m n first before now a b c v (inr up) w (inl f) = inr (up-stays a.server_pieces b.server_pieces c.server_pieces up w.server_pieces)
 heard-then m n first before now a b c v heard w (inr up) = inr (up-later a.server_pieces b.server_pieces c.server_pieces v.server_pieces up)

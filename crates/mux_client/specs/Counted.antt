@@ -1,7 +1,7 @@
 -- The calls of a wire and the faults that a talk counts.
 use Rattle.std.specs.Prelude.{◌≡◌, ◌≢◌, ◌≤◌, ◌<◌, ◌+◌, ◌-◌, ◌^◌, ◌⊎◌, min, ℕ, Result, Ok, Err}
 use Rattle.mux_outside.specs.Counts.{Rose, counted}
-use Rattle.mux_outside.specs.Seen.{Calls}
+use Rattle.mux_outside.specs.CallCounts.{CallCounts}
 use Rattle.mux_outside.specs.Wire.{SameFaults}
 use Rattle.mux_client.specs.declared.stage.Stage.{Stage}
 use Rattle.mux_client.specs.declared.talked.Talked.{Talked}
@@ -18,7 +18,7 @@ pub record Waited (waits old new : ℕ) : Type 0 where
 -- so many calls of `wait`, none that wanted memory, and none behind one that did; the wire was not
 -- opened, and the counts of what the master said and of its end didn't fall, but for one that stood
 -- behind the end of its type
-pub record Well (waits : ℕ) (old new : Calls) : Type 0 where
+pub record Well (waits : ℕ) (old new : CallCounts) : Type 0 where
   pub waited : Waited waits old.waits new.waits
   pub wants : new.wants ≡ old.wants
   pub late : old.wants ≡ 0 → new.late ≡ old.late
@@ -28,7 +28,7 @@ pub record Well (waits : ℕ) (old new : Calls) : Type 0 where
 
 -- so many calls of `wait`, and at most one call that wanted memory, which was the last, and behind
 -- which the talk is over for want of memory
-pub record Cut (waits : ℕ) (answer : Talked) (old new : Calls) : Type 0 where
+pub record Cut (waits : ℕ) (answer : Talked) (old new : CallCounts) : Type 0 where
   pub waited : Waited waits old.waits new.waits
   pub wants : new.wants ≤ old.wants + 1
   pub starved : new.wants ≢ old.wants → answer ≡ OutOfMemory
@@ -38,14 +38,14 @@ pub record Cut (waits : ℕ) (answer : Talked) (old new : Calls) : Type 0 where
   pub server_ends : min old.server_ends (2 ^ 64 - 1) ≤ new.server_ends
 
 -- an answer cuts a call short
-abbrev pub Counts : {A : Type 0} → ℕ → Result A Talked → Calls → Calls → Type 0
+abbrev pub Counts : {A : Type 0} → ℕ → Result A Talked → CallCounts → CallCounts → Type 0
 Counts waits (Ok x) old new = Well waits old new
 Counts waits (Err answer) old new = Cut waits answer old new
 
 -- of a whole talk: with its turns spent it made as many calls of `wait` as it has turns, and no
 -- answer of the master, no fault of the sink comes without one; where a call wanted memory it was
 -- the last, and the talk ended for want of memory; it opened nothing
-pub record Stops (turns : ℕ) (answer : Talked) (old new : Calls) : Type 0 where
+pub record Stops (turns : ℕ) (answer : Talked) (old new : CallCounts) : Type 0 where
   pub few : new.waits ≤ old.waits + turns
   pub spent : answer ≡ Spent → old.waits < 2 ^ 64 → new.waits ≡ min (old.waits + turns) (2 ^ 64 - 1)
   pub ends : answer ≢ Spent → answer ≢ OutOfMemory → answer ≢ ServerFailed
@@ -63,7 +63,7 @@ WentUp before now = counted before ≤ now
 
 -- a piece of the master came where it granted or refused what was asked, or where a line couldn't be
 -- shown; a piece or its end did where it broke the protocol
-abbrev pub AnsweredBy : Talked → Calls → Calls → Type 0
+abbrev pub AnsweredBy : Talked → CallCounts → CallCounts → Type 0
 AnsweredBy Done old new = WentUp old.server_pieces new.server_pieces
 AnsweredBy (Refused id) old new = WentUp old.server_pieces new.server_pieces
 AnsweredBy WriteFault old new = WentUp old.server_pieces new.server_pieces
@@ -72,7 +72,7 @@ AnsweredBy (BadMaster at) old new =
 AnsweredBy answer old new = Unit {0}
 
 -- the talk stands as it stood, or a piece of the master came
-abbrev pub HasHeard : Stage → Stage → Calls → Calls → Type 0
+abbrev pub HasHeard : Stage → Stage → CallCounts → CallCounts → Type 0
 HasHeard before now old new = (now ≡ before) ⊎ WentUp old.server_pieces new.server_pieces
 
 -- ---- faults

@@ -5,7 +5,8 @@ use Rattle.std.specs.Result.{result_unwrap_or}
 use Rattle.mux_outside.specs.House.{Known, nothing_known}
 use Rattle.mux_outside.specs.HouseCalls.{HandsOn, HouseCall}
 use Rattle.mux_outside.specs.OwnStreams.{is_one, is_own, numbers_of}
-use Rattle.mux_outside.specs.Seen.{Calls, Seen}
+use Rattle.mux_outside.specs.Seen.{Seen}
+use Rattle.mux_outside.specs.CallCounts.{CallCounts}
 use Rattle.mux_outside.specs.Streams.{among}
 use Rattle.mux_outside.specs.declared.house.HouseReply.{HouseReply}
 use Rattle.mux_outside.specs.declared.house_mark.HouseMark.{HouseMark}
@@ -86,10 +87,10 @@ module _ {May : HouseReply → Type 0} {Rest : Resting} {before : Option (List H
 -- ---- what is counted
 
 -- behind calls that left the counts as they were
-pub spent-from : (present all : Bool) (turns : ℕ) (a b c : Calls) → b ≡ a → Spent present all turns b c → Spent present all turns a c
-spent-from present all turns a b c e s = subst (λ (x : Calls). Spent present all turns x c) e s
+pub spent-from : (present all : Bool) (turns : ℕ) (a b c : CallCounts) → b ≡ a → Spent present all turns b c → Spent present all turns a c
+spent-from present all turns a b c e s = subst (λ (x : CallCounts). Spent present all turns x c) e s
 
-pub stops-whole : (present all must : Bool) (turns : ℕ) (answer : Ended) (a b c d : Calls) (mid new : Option Ended) (m n : ℕ) (refused : Option ℕ)
+pub stops-whole : (present all must : Bool) (turns : ℕ) (answer : Ended) (a b c d : CallCounts) (mid new : Option Ended) (m n : ℕ) (refused : Option ℕ)
     → b ≡ a → Spent present all turns b c → Well 0 c d → StaysOrFails mid new m n → IsByRow mid → (all ≡ false → mid ≡ None → refused_if present must refused ≢ None) → (present ≡ false → turns ≡ 0 → new ≡ None) → answer ≡ ended_as new (refused_if present must refused)
     → Stops present turns answer a d
 stops-whole present all must turns answer a b c d mid new m n refused same spent well stays row over idle is =

@@ -5,7 +5,7 @@ use Rattle.std.specs.Bool.{MatchBool}
 use Rattle.std.proofs.lemmas.Bool.{eqb-true, eq-eqb}
 use Rattle.std.proofs.lemmas.Bool.Decides.{eqb_tells}
 use Rattle.mux_outside.specs.Counts.{Rose, counted}
-use Rattle.mux_outside.specs.Seen.{Calls, calls_after_one, calls_after_wait, is_starved}
+use Rattle.mux_outside.specs.CallCounts.{CallCounts, calls_after_one, calls_after_wait, is_starved}
 use Rattle.mux_outside.specs.OwnStreams.{is_own}
 use Rattle.mux_outside.specs.Wire.{StreamFault}
 use Rattle.mux_outside.specs.declared.mark.Mark.{Mark}
@@ -39,27 +39,27 @@ waited-on m n k a b c e v w =
     let p : min (a + m) (2 ^ 64 - 1) ≤ b = v.least in let q : min (b + n) (2 ^ 64 - 1) ≤ c = w.least in
     record { most = omega arith; least = omega arith; fits = λ h. w.fits (v.fits h) }
 
-pub well-none : (c : Calls) → Well 0 c c
+pub well-none : (c : CallCounts) → Well 0 c c
 well-none c = record { waited = waited-none c.waits; wants = refl; late = λ z. refl; came = came-none c }
 
-late-one : (c : Calls) (b : Bool) → c.wants ≡ 0 → (calls_after_one b c).late ≡ c.late
+late-one : (c : CallCounts) (b : Bool) → c.wants ≡ 0 → (calls_after_one b c).late ≡ c.late
 late-one c b e = ap (λ t. cond t c.late (counted c.late)) (eq-eqb c.wants 0 e)
 
-pub well-one : (c : Calls) → Well 0 c (calls_after_one false c)
+pub well-one : (c : CallCounts) → Well 0 c (calls_after_one false c)
 well-one c = record { waited = waited-none c.waits; wants = refl; late = late-one c false; came = came-one false c }
 
 -- a call of wait that found memory
-pub well-wait : (t : Turn) (c : Calls) → is_starved t ≡ false → Well 1 c (calls_after_wait t c)
+pub well-wait : (t : Turn) (c : CallCounts) → is_starved t ≡ false → Well 1 c (calls_after_wait t c)
 well-wait t c e = record { waited = waited-one c.waits; wants = ap (λ b. cond b (counted c.wants) c.wants) e; late = late-one c (is_starved t); came = came-wait t c }
 
 -- first so many waits, then so many
-pub well-on : (m n k : ℕ) (a b c : Calls) → m + n ≡ k → Well m a b → Well n b c → Well k a c
+pub well-on : (m n k : ℕ) (a b c : CallCounts) → m + n ≡ k → Well m a b → Well n b c → Well k a c
 well-on m n k a b c e v w = record { waited = waited-on m n k a.waits b.waits c.waits e v.waited w.waited; wants = w.wants ∙ v.wants; late = λ z. w.late (v.wants ∙ z) ∙ v.late z; came = came-then a b c v.came w.came }
 
-pub well-then : (a b c : Calls) → Well 0 a b → Well 0 b c → Well 0 a c
+pub well-then : (a b c : CallCounts) → Well 0 a b → Well 0 b c → Well 0 a c
 well-then a b c v w = well-on 0 0 0 a b c (omega arith) v w
 
-pub cut-then : (a b c : Calls) → Well 0 a b → Cut 0 b c → Cut 0 a c
+pub cut-then : (a b c : CallCounts) → Well 0 a b → Cut 0 b c → Cut 0 a c
 cut-then a b c v w = let f : b.waits ≤ a.waits + 0 = v.waited.most in let g : c.waits ≤ b.waits + 0 = w.few in let e : b.wants ≡ a.wants = v.wants in let h : c.wants ≤ b.wants + 1 = w.wants in
     record { few = omega arith; wants = omega arith; late = λ z. w.late (v.wants ∙ z) ∙ v.late z; came = came-then a b c v.came w.came }
 
@@ -218,6 +218,6 @@ on-ok (Ok x) f p = f p
 on-ok (Err e) f p = tt
 
 -- calls that ended well come before
-pub counts-then : {A E : Type 0} (r : Result A E) (a b c : Calls) → Well 0 a b → Counts 0 r b c → Counts 0 r a c
+pub counts-then : {A E : Type 0} (r : Result A E) (a b c : CallCounts) → Well 0 a b → Counts 0 r b c → Counts 0 r a c
 counts-then (Ok x) a b c v w = well-then a b c v w
 counts-then (Err e) a b c v w = cut-then a b c v w

@@ -4,7 +4,7 @@ use Rattle.std.specs.Prelude.{◌==◌, ◌&&◌, not}
 use Rattle.std.proofs.lemmas.Bool.{eq-eqb, eqb-true}
 use Rattle.ssh_grammar.specs.Said.{InProxy, parse, said}
 use Rattle.mux_outside.specs.OwnStreams.{is_own}
-use Rattle.mux_outside.specs.Seen.{Calls, calls_after_wait, is_client_piece}
+use Rattle.mux_outside.specs.CallCounts.{CallCounts, calls_after_wait, is_client_piece}
 use Rattle.mux_outside.specs.declared.house.HouseReply.{HouseReply}
 use Rattle.mux_outside.specs.declared.house_mark.HouseMark.{HouseMark as Asked}
 use Rattle.mux_outside.specs.declared.mark.Mark.{Mark}
@@ -102,7 +102,7 @@ stream-of (Ends k) = k
 stream-of mark = 0
 
 -- it is that of a client's piece
-by-client : (p : Bool) (k : ℕ) (said : List ℕ) (o : Option Ended) (j : ℕ) (bytes : List ℕ) (c : Calls) → k ≢ 0 → Gets j bytes ≡ Gets k said → is_own j ≡ false → EndsFor k o → OverBy p o c (calls_after_wait (turn.Got j) c)
+by-client : (p : Bool) (k : ℕ) (said : List ℕ) (o : Option Ended) (j : ℕ) (bytes : List ℕ) (c : CallCounts) → k ≢ 0 → Gets j bytes ≡ Gets k said → is_own j ≡ false → EndsFor k o → OverBy p o c (calls_after_wait (turn.Got j) c)
 by-client p k said o j bytes c nz is own h = by_end o h
   where
     same : j ≡ k
@@ -126,7 +126,7 @@ by-client p k said o j bytes c nz is own h = by_end o h
     by_end (Some ended.Spent) h = absurd h
     by_end (Some ended.OutOfMemory) h = absurd h
 
-uncut-broken : (why : Break) (a b : Calls) → Uncut why → WentUp a.server_pieces b.server_pieces → BrokenBy why a b
+uncut-broken : (why : Break) (a b : CallCounts) → Uncut why → WentUp a.server_pieces b.server_pieces → BrokenBy why a b
 uncut-broken (broke.Cut have) a b h up = absurd h
 uncut-broken (broke.Frame fault) a b h up = up
 uncut-broken (broke.Message bad) a b h up = up
@@ -138,7 +138,7 @@ uncut-broken (broke.NoChannel n) a b h up = up
 uncut-broken (broke.Channel n breach) a b h up = up
 
 -- that of a piece of the server
-by-server : (p : Bool) (said : List ℕ) (o : Option Ended) (j : ℕ) (bytes : List ℕ) (c : Calls) → Gets j bytes ≡ Gets 0 said → EndsHeard o → OverBy p o c (calls_after_wait (turn.Got j) c)
+by-server : (p : Bool) (said : List ℕ) (o : Option Ended) (j : ℕ) (bytes : List ℕ) (c : CallCounts) → Gets j bytes ≡ Gets 0 said → EndsHeard o → OverBy p o c (calls_after_wait (turn.Got j) c)
 by-server p said o j bytes c is h = by_end o h
   where
     up : WentUp c.server_pieces (calls_after_wait (turn.Got j) c).server_pieces
@@ -156,7 +156,7 @@ by-server p said o j bytes c is h = by_end o h
     by_end (Some ended.OutOfMemory) h = absurd h
 
 -- that of its end
-by-its-end : (p : Bool) (o : Option Ended) (j : ℕ) (c : Calls) → Ends j ≡ Ends 0 → EndsCut o → OverBy p o c (calls_after_wait (turn.End j) c)
+by-its-end : (p : Bool) (o : Option Ended) (j : ℕ) (c : CallCounts) → Ends j ≡ Ends 0 → EndsCut o → OverBy p o c (calls_after_wait (turn.End j) c)
 by-its-end p o j c is h = by_end o h
   where
     up : WentUp c.server_ends (calls_after_wait (turn.End j) c).server_ends
@@ -182,7 +182,7 @@ by-its-end p o j c is h = by_end o h
     by_end (Some ended.OutOfMemory) h = absurd h
 
 -- what came where a turn ended the run
-pub turn-over : (p : Bool) (e : Event) (o : Option Ended) (t : Turn) (bytes : List ℕ) (c : Calls) → EndsSo e o → IsEventOf e t bytes → OverBy p o c (calls_after_wait t c)
+pub turn-over : (p : Bool) (e : Event) (o : Option Ended) (t : Turn) (bytes : List ℕ) (c : CallCounts) → EndsSo e o → IsEventOf e t bytes → OverBy p o c (calls_after_wait t c)
 turn-over p (Accepted k) o t bytes c h next = over-live p o c (calls_after_wait t c) h.may
 turn-over p (ClientEnd k) o t bytes c h next = over-live p o c (calls_after_wait t c) h.may
 turn-over p (ClientFailed k) o t bytes c h next = over-live p o c (calls_after_wait t c) h.may

@@ -4,7 +4,7 @@ use Rattle.std.specs.Prelude.{◌==◌, Result, Ok, Err}
 use Rattle.std.specs.Bool.{MatchBool}
 use Rattle.std.proofs.lemmas.Bool.{eq-eqb}
 use Rattle.mux_outside.specs.Counts.{Rose, counted}
-use Rattle.mux_outside.specs.Seen.{Calls, calls_after_wait, is_starved}
+use Rattle.mux_outside.specs.CallCounts.{CallCounts, calls_after_wait, is_starved}
 use Rattle.mux_outside.specs.OwnStreams.{is_own}
 use Rattle.mux_outside.specs.Wire.{SameFaults, TurnFaults}
 use Rattle.mux_outside.specs.declared.mark.Mark.{Mark}
@@ -28,15 +28,15 @@ use Rattle.mux_engine.proofs.Comes.{came-none, came-wait}
 counted-most : (n : ℕ) → counted n ≤ n + 1
 counted-most n = omega arith
 
-late-wait : (t : Turn) (c : Calls) → c.wants ≡ 0 → (calls_after_wait t c).late ≡ c.late
+late-wait : (t : Turn) (c : CallCounts) → c.wants ≡ 0 → (calls_after_wait t c).late ≡ c.late
 late-wait t c e = ap (λ b. cond b c.late (counted c.late)) (eq-eqb c.wants 0 e)
 
-wants-wait : (b : Bool) (c : Calls) → cond b (counted c.wants) c.wants ≤ c.wants + 1
+wants-wait : (b : Bool) (c : CallCounts) → cond b (counted c.wants) c.wants ≤ c.wants + 1
 wants-wait true c = counted-most c.wants
 wants-wait false c = omega arith
 
 -- a call of wait, whether or not it found memory
-pub cut-wait : (t : Turn) (c : Calls) → Cut 1 c (calls_after_wait t c)
+pub cut-wait : (t : Turn) (c : CallCounts) → Cut 1 c (calls_after_wait t c)
 cut-wait t c = record { few = counted-most c.waits; wants = wants-wait (is_starved t) c; late = late-wait t c; came = came-wait t c }
 
 -- one that found memory, where its turn told an event
@@ -49,11 +49,11 @@ tells-event e (turn.Writable k) bytes next = absurd next
 tells-event e (turn.Joined l k) bytes next = absurd next
 tells-event e turn.NoMemory bytes next = absurd next
 
-pub counts-event : {A E : Type 0} (r : Result A E) (e : Event) (t : Turn) (bytes : List ℕ) (c : Calls) → IsEventOf e t bytes → Counts 1 r c (calls_after_wait t c)
+pub counts-event : {A E : Type 0} (r : Result A E) (e : Event) (t : Turn) (bytes : List ℕ) (c : CallCounts) → IsEventOf e t bytes → Counts 1 r c (calls_after_wait t c)
 counts-event (Ok x) e t bytes c next = well-wait t c (tells-event e t bytes next)
 counts-event (Err x) e t bytes c next = cut-wait t c
 
-pub cut-none : (n : ℕ) (c : Calls) → Cut n c c
+pub cut-none : (n : ℕ) (c : CallCounts) → Cut n c c
 cut-none n c = record { few = omega arith; wants = omega arith; late = λ z. refl; came = came-none c }
 
 -- ---- what a whole run counts

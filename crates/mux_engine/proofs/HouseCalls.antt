@@ -5,7 +5,8 @@ use Rattle.std.proofs.lemmas.List.Folds.{list_any-append}
 use Rattle.mux_outside.specs.House.{Known, OpenAsk, ReplyFits, without_ask}
 use Rattle.mux_outside.specs.HouseCalls.{HandsOn, Hears, HouseCall, calls_of}
 use Rattle.mux_outside.specs.OwnStreams.{is_one, numbers_of}
-use Rattle.mux_outside.specs.Seen.{Calls, Seen}
+use Rattle.mux_outside.specs.Seen.{Seen}
+use Rattle.mux_outside.specs.CallCounts.{CallCounts}
 use Rattle.mux_outside.specs.Streams.{among, without}
 use Rattle.mux_outside.specs.declared.house.HouseReply.{HouseReply}
 use Rattle.mux_outside.specs.declared.house_mark.HouseMark.{HouseMark}
@@ -117,10 +118,10 @@ replied {May} {Rest} {before} {now} {policy} {pid} {start} {seen} {held} {failed
 -- ---- calls
 
 -- calls that ended well, before one that made none and found no memory
-pub cut-well : (a b c : Calls) → Well 0 a b → c ≡ b → Cut 0 a c
+pub cut-well : (a b c : CallCounts) → Well 0 a b → c ≡ b → Cut 0 a c
 cut-well a b c w e = subst (Cut 0 a) (sym e) (cut-then a b b w (record { few = omega arith; wants = omega arith; late = λ z. refl; came = came-none b }))
 
-pub well-still : (a b c : Calls) → Well 0 a b → c ≡ b → Well 0 a c
+pub well-still : (a b c : CallCounts) → Well 0 a b → c ≡ b → Well 0 a c
 well-still a b c w e = subst (Well 0 a) (sym e) w
 
 -- ---- other asks are open

@@ -3,7 +3,8 @@ use Rattle.std.proofs.Common.{◌≡◌, ◌≢◌, ℕ, Bool, true, false, not,
 use Rattle.std.specs.Prelude.{◌==◌, Result, Ok, Err, IsErr}
 use Rattle.std.proofs.lemmas.Bool.Decides.{eqb_tells}
 use Rattle.std.proofs.lemmas.List.Folds.{list_any-append}
-use Rattle.mux_outside.specs.Seen.{Calls, Seen}
+use Rattle.mux_outside.specs.Seen.{Seen}
+use Rattle.mux_outside.specs.CallCounts.{CallCounts}
 use Rattle.mux_outside.specs.Streams.{among, without}
 use Rattle.mux_outside.specs.declared.house.HouseReply.{HouseReply}
 use Rattle.mux_outside.specs.declared.house_mark.HouseMark.{HouseMark}
@@ -49,7 +50,7 @@ pub on-done : {May : HouseReply → Type 0} {Rest : Resting} {before : Option (L
 on-done {May} {Rest} {before} {now} {policy} {pid} {start} {seen} {held} {failed} {given} {s} k todo more e v =
     narrower k (subst (λ (m : Bool). Serving May Rest before now policy pid start seen held failed given (cond m (k ∷ (k ∷ todo)) (without k (k ∷ todo))) s) e v)
 
-pub counts-err : {A E : Type 0} (r : Result A E) (waits : ℕ) (old new : Calls) → IsErr r → Cut waits old new → Counts waits r old new
+pub counts-err : {A E : Type 0} (r : Result A E) (waits : ℕ) (old new : CallCounts) → IsErr r → Cut waits old new → Counts waits r old new
 counts-err (Ok x) waits old new h c = absurd (let z : false ≡ true = h in cc)
 counts-err (Err e) waits old new h c = c
 

@@ -14,7 +14,8 @@ use Rattle.mux_outside.specs.declared.house.HouseReply.{HouseReply}
 use Rattle.mux_outside.specs.declared.house_mark.HouseMark.{HouseMark}
 use Rattle.mux_outside.specs.declared.mark.Mark.{Mark}
 use Rattle.mux_outside.specs.declared.mark.Mark.TheVariants.{Takes, Holds, WriteFails}
-use Rattle.mux_outside.specs.Wire.{WroteFits, blocked_after_write, write_marks}
+use Rattle.mux_outside.specs.Wire.{WroteFits}
+use Rattle.mux_outside.specs.Seen.{blocked_after_write, write_marks}
 use Rattle.mux_outside.specs.declared.turn.Wrote.{Wrote}
 use Rattle.mux_outside.specs.declared.turn.Wrote.TheVariants as wrote
 use Rattle.mux_history.specs.declared.limits.TheConstants.{HOUSE}

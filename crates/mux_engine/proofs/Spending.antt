@@ -4,7 +4,7 @@ use Rattle.std.specs.Prelude.{min, Result, Ok, Err, IsErr}
 use Rattle.std.specs.Result.{result_unwrap_or}
 use Rattle.std.proofs.lemmas.Bool.Decides.{eqb_tells}
 use Rattle.mux_outside.specs.Counts.{counted}
-use Rattle.mux_outside.specs.Seen.{Calls}
+use Rattle.mux_outside.specs.CallCounts.{CallCounts}
 use Rattle.mux_history.specs.declared.ended.Ended.{Ended}
 use Rattle.mux_history.specs.declared.ended.Ended.TheVariants as ended
 use Rattle.mux_engine.specs.Came.{Came}
@@ -15,7 +15,7 @@ use Rattle.mux_engine.proofs.Lists.{true-false}
 
 -- ---- turns
 
-pub spent-none : (present : Bool) (c : Calls) → Spent present true 0 c c
+pub spent-none : (present : Bool) (c : CallCounts) → Spent present true 0 c c
 spent-none present c = record {
   few = omega arith;
   all_waited = λ p q. let w : Well 0 c c = well-none c in w.waited;
@@ -25,11 +25,11 @@ spent-none present c = record {
   came = came-none c;
 }
 
-as-well : (present : Bool) (n : ℕ) (a b : Calls) → Spent present true n a b → present ≡ false → Well n a b
+as-well : (present : Bool) (n : ℕ) (a b : CallCounts) → Spent present true n a b → present ≡ false → Well n a b
 as-well present n a b s p = record { waited = s.all_waited p refl; wants = s.wants; late = s.late; came = s.came }
 
 -- one turn more
-pub spent-on : (present : Bool) (n : ℕ) (a b c : Calls) → Spent present true n a b → Turned present true b c → Spent present true (n + 1) a c
+pub spent-on : (present : Bool) (n : ℕ) (a b c : CallCounts) → Spent present true n a b → Turned present true b c → Spent present true (n + 1) a c
 spent-on present n a b c s (inl w) = let f : b.waits ≤ a.waits + n = s.few in let m : c.waits ≤ b.waits + 1 = w.waited.most in record {
   few = omega arith;
   all_waited = λ p q. let v : Well (n + 1) a c = well-on n 1 (n + 1) a b c refl (as-well present n a b s p) w in v.waited;
@@ -53,20 +53,20 @@ counted-on n a b c nz w le = let l : min (a + n) (2 ^ 64 - 1) ≤ b = w.least in
 counted-one : (a b c : ℕ) → Waited 0 a b → Waited 1 b c → counted a ≤ c
 counted-one a b c v w = let l : min (a + 0) (2 ^ 64 - 1) ≤ b = v.least in let m : min (b + 1) (2 ^ 64 - 1) ≤ c = w.least in omega arith
 
-none-lost : (on present : Bool) (b c : Calls) → Turned present on b c → min b.waits (2 ^ 64 - 1) ≤ c.waits
+none-lost : (on present : Bool) (b c : CallCounts) → Turned present on b c → min b.waits (2 ^ 64 - 1) ≤ c.waits
 none-lost on present b c (inl w) = let l : min (b.waits + 1) (2 ^ 64 - 1) ≤ c.waits = w.waited.least in omega arith
 none-lost on present b c (inr w) = let l : min (b.waits + 0) (2 ^ 64 - 1) ≤ c.waits = w.0.waited.least in omega arith
 
-few-more : (on present : Bool) (b c : Calls) → Turned present on b c → (c.waits ≤ b.waits + 1) × (c.wants ≡ b.wants) × (b.wants ≡ 0 → c.late ≡ b.late)
+few-more : (on present : Bool) (b c : CallCounts) → Turned present on b c → (c.waits ≤ b.waits + 1) × (c.wants ≡ b.wants) × (b.wants ≡ 0 → c.late ≡ b.late)
 few-more on present b c (inl w) = (w.waited.most, w.wants, w.late)
 few-more on present b c (inr w) = let l : c.waits ≤ b.waits + 0 = w.0.waited.most in (omega arith, w.0.wants, w.0.late)
 
-pub came-turned : (on present : Bool) (b c : Calls) → Turned present on b c → Came b c
+pub came-turned : (on present : Bool) (b c : CallCounts) → Turned present on b c → Came b c
 came-turned on present b c (inl w) = w.came
 came-turned on present b c (inr w) = w.0.came
 
 -- the last one
-pub spent-over : (present : Bool) (n turns : ℕ) (a b c : Calls) → n < turns → Spent present true n a b → Turned present false b c → (n ≡ 0 → present ≡ false → Well 1 b c) → Spent present false turns a c
+pub spent-over : (present : Bool) (n turns : ℕ) (a b c : CallCounts) → n < turns → Spent present true n a b → Turned present false b c → (n ≡ 0 → present ≡ false → Well 1 b c) → Spent present false turns a c
 spent-over present n turns a b c less s t first =
     let m = few-more false present b c t in
     let f : b.waits ≤ a.waits + n = s.few in let g : c.waits ≤ b.waits + 1 = m.0 in
@@ -86,12 +86,12 @@ spent-over present n turns a b c less s t first =
     ]
 
 -- one that want of memory cut short
-pub spent-cut : (present : Bool) (n turns : ℕ) (a b c : Calls) → n < turns → Spent present true n a b → Cut 1 b c → Cut turns a c
+pub spent-cut : (present : Bool) (n turns : ℕ) (a b c : CallCounts) → n < turns → Spent present true n a b → Cut 1 b c → Cut turns a c
 spent-cut present n turns a b c less s w =
     let f : b.waits ≤ a.waits + n = s.few in let g : c.waits ≤ b.waits + 1 = w.few in let e : b.wants ≡ a.wants = s.wants in let h : c.wants ≤ b.wants + 1 = w.wants in
     record { few = omega arith; wants = omega arith; late = λ z. w.late (s.wants ∙ z) ∙ s.late z; came = came-then a b c s.came w.came }
 
-pub spent-all : (present : Bool) (n turns : ℕ) (a b : Calls) → n ≡ turns → Spent present true n a b → Spent present true turns a b
+pub spent-all : (present : Bool) (n turns : ℕ) (a b : CallCounts) → n ≡ turns → Spent present true n a b → Spent present true turns a b
 spent-all present n turns a b e s = subst (λ k. Spent present true k a b) e s
 
 -- ---- a run
@@ -103,7 +103,7 @@ some-waited : (n a b : ℕ) → n ≢ 0 → Waited n a b → counted a ≤ b
 some-waited n a b nz w = let l : min (a + n) (2 ^ 64 - 1) ≤ b = w.least in omega arith
 
 -- one that want of memory cut short
-pub stops-cut : (present : Bool) (turns : ℕ) (a b : Calls) → Cut turns a b → Stops present turns ended.OutOfMemory a b
+pub stops-cut : (present : Bool) (turns : ℕ) (a b : CallCounts) → Cut turns a b → Stops present turns ended.OutOfMemory a b
 stops-cut present turns a b c = record {
   few = c.few;
   spent = λ p e h. absurd (let z : ended.OutOfMemory ≡ ended.Spent = e in cc);
@@ -113,18 +113,18 @@ stops-cut present turns a b c = record {
   late = c.late;
 }
 
-pub stops-starved : {E : Type 0} (r : Result Ended E) (present : Bool) (turns : ℕ) (a b : Calls) → IsErr r → Cut turns a b → Stops present turns (result_unwrap_or r ended.OutOfMemory) a b
+pub stops-starved : {E : Type 0} (r : Result Ended E) (present : Bool) (turns : ℕ) (a b : CallCounts) → IsErr r → Cut turns a b → Stops present turns (result_unwrap_or r ended.OutOfMemory) a b
 stops-starved (Ok x) present turns a b h c = absurd (let z : false ≡ true = h in cc)
 stops-starved (Err e) present turns a b h c = stops-cut present turns a b c
 
 -- turns that were given, and then calls that want of memory cut short
-pub spent-cuts : (present all : Bool) (turns : ℕ) (a b c : Calls) → Spent present all turns a b → Cut 0 b c → Cut turns a c
+pub spent-cuts : (present all : Bool) (turns : ℕ) (a b c : CallCounts) → Spent present all turns a b → Cut 0 b c → Cut turns a c
 spent-cuts present all turns a b c s w =
     let f : b.waits ≤ a.waits + turns = s.few in let g : c.waits ≤ b.waits + 0 = w.few in let e : b.wants ≡ a.wants = s.wants in let h : c.wants ≤ b.wants + 1 = w.wants in
     record { few = omega arith; wants = omega arith; late = λ z. w.late (s.wants ∙ z) ∙ s.late z; came = came-then a b c s.came w.came }
 
 -- turns that were given, and then no wait
-pub spent-then : (present all : Bool) (turns : ℕ) (a b c : Calls) → Spent present all turns a b → Well 0 b c → Spent present all turns a c
+pub spent-then : (present all : Bool) (turns : ℕ) (a b c : CallCounts) → Spent present all turns a b → Well 0 b c → Spent present all turns a c
 spent-then present all turns a b c s w = let f : b.waits ≤ a.waits + turns = s.few in let m : c.waits ≤ b.waits + 0 = w.waited.most in record {
   few = omega arith;
   all_waited = λ p q. let v : Well turns a c = well-on turns 0 turns a b c (omega arith) (record { waited = s.all_waited p q; wants = s.wants; late = s.late; came = s.came }) w in v.waited;
@@ -138,7 +138,7 @@ spent-then present all turns a b c s w = let f : b.waits ≤ a.waits + turns = s
     kept h = let l : min (b.waits + 0) (2 ^ 64 - 1) ≤ c.waits = w.waited.least in omega arith
 
 -- a run whose turns were spent, or that something ended
-pub stops-spent : (present all : Bool) (turns : ℕ) (answer : Ended) (a b : Calls) → Spent present all turns a b → (present ≡ false → all ≡ false → answer ≢ ended.Spent) → (present ≡ false → turns ≡ 0 → answer ≡ ended.Spent) → Stops present turns answer a b
+pub stops-spent : (present all : Bool) (turns : ℕ) (answer : Ended) (a b : CallCounts) → Spent present all turns a b → (present ≡ false → all ≡ false → answer ≢ ended.Spent) → (present ≡ false → turns ≡ 0 → answer ≡ ended.Spent) → Stops present turns answer a b
 stops-spent present true turns answer a b s unless none = let e : b.wants ≡ a.wants = s.wants in record {
   few = s.few;
   spent = λ p is h. all-waited turns a.waits b.waits (s.all_waited p refl) h;
@@ -156,5 +156,5 @@ stops-spent present false turns answer a b s unless none = let e : b.wants ≡ a
   late = s.late;
 }
 
-pub turned-is : (p q on on' : Bool) (b c : Calls) → p ≡ q → on ≡ on' → Turned p on b c → Turned q on' b c
+pub turned-is : (p q on on' : Bool) (b c : CallCounts) → p ≡ q → on ≡ on' → Turned p on b c → Turned q on' b c
 turned-is p q on on' b c e f t = subst (λ (x : Bool). Turned q x b c) f (subst (λ (x : Bool). Turned x on b c) e t)

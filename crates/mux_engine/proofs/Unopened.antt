@@ -4,7 +4,8 @@ use Rattle.std.specs.Prelude.{Result, Ok, Err}
 use Rattle.mux_outside.specs.House.{Known}
 use Rattle.mux_outside.specs.Seen.{Seen, seen_after_turn}
 use Rattle.mux_outside.specs.Streams.{among}
-use Rattle.mux_outside.specs.Wire.{OwnFits, last_own_after}
+use Rattle.mux_outside.specs.Wire.{OwnFits}
+use Rattle.mux_outside.specs.Seen.{last_own_after}
 use Rattle.mux_outside.specs.declared.house.HouseReply.{HouseReply}
 use Rattle.mux_outside.specs.declared.house_mark.HouseMark.{HouseMark}
 use Rattle.mux_outside.specs.declared.own_streams.OwnStream.{OwnStream}

@@ -8,7 +8,8 @@ use Rattle.mux_outside.specs.HouseCalls.{End, Failed, Got, Turns}
 use Rattle.mux_outside.specs.OwnStreams.{is_own}
 use Rattle.mux_outside.specs.Seen.{Seen, seen_after_turn}
 use Rattle.mux_outside.specs.Streams.{among}
-use Rattle.mux_outside.specs.Wire.{OwnFits, TurnFits, wait_marks, open_after, blocked_after, last_after}
+use Rattle.mux_outside.specs.Wire.{OwnFits, TurnFits}
+use Rattle.mux_outside.specs.Seen.{wait_marks, open_after, blocked_after, last_after}
 use Rattle.mux_outside.specs.declared.house.HouseReply.{HouseReply}
 use Rattle.mux_outside.specs.declared.house_mark.HouseMark.{HouseMark}
 use Rattle.mux_outside.specs.declared.mark.Mark.{Mark}

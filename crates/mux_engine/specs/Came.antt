@@ -1,7 +1,7 @@
 -- What came at a wire by the time that a run ends, by its counts alone.
 use Rattle.std.specs.Prelude.{◌≡◌, ◌≢◌, ◌≤◌, ◌-◌, ◌^◌, min, ℕ, Bool, true, Option, Some, None}
 use Rattle.mux_outside.specs.Counts.{counted}
-use Rattle.mux_outside.specs.Seen.{Calls}
+use Rattle.mux_outside.specs.CallCounts.{CallCounts}
 use Rattle.mux_history.specs.declared.broke.Break.{Break}
 use Rattle.mux_history.specs.declared.broke.Break.TheVariants.{Cut}
 use Rattle.mux_history.specs.declared.ended.Ended.{Ended}
@@ -17,7 +17,7 @@ abbrev pub NeverFell : ℕ → ℕ → Type 0
 NeverFell before now = min before (2 ^ 64 - 1) ≤ now
 
 -- a wire was not opened again, and no count of what came fell
-pub record Came (old new : Calls) : Type 0 where
+pub record Came (old new : CallCounts) : Type 0 where
   pub opens : new.opens ≡ old.opens
   pub accepts : NeverFell old.accepts new.accepts
   pub server_pieces : NeverFell old.server_pieces new.server_pieces
@@ -25,14 +25,14 @@ pub record Came (old new : Calls) : Type 0 where
   pub server_ends : NeverFell old.server_ends new.server_ends
 
 -- the server broke the protocol by a piece that it said, or by an end inside a frame
-abbrev pub BrokenBy : Break → Calls → Calls → Type 0
+abbrev pub BrokenBy : Break → CallCounts → CallCounts → Type 0
 BrokenBy (Cut have) old new = WentUp old.server_ends new.server_ends
 BrokenBy why old new = WentUp old.server_pieces new.server_pieces
 
 -- what came where a run ended so: a piece of the server where it disconnected or broke the protocol,
 -- its end where it ended, and a piece of a client where one ended the run, unless that is a house,
 -- which is no stream of the wire
-abbrev pub EndedBy : Bool → Ended → Calls → Calls → Type 0
+abbrev pub EndedBy : Bool → Ended → CallCounts → CallCounts → Type 0
 EndedBy present ServerEnd old new = WentUp old.server_ends new.server_ends
 EndedBy present Disconnected old new = WentUp old.server_pieces new.server_pieces
 EndedBy present (Broke index why) old new = BrokenBy why old new
@@ -41,7 +41,7 @@ EndedBy present (Terminated client id) old new =
 EndedBy present cause old new = Unit {0}
 
 -- where it goes on nothing need have come
-abbrev pub OverBy : Bool → Option Ended → Calls → Calls → Type 0
+abbrev pub OverBy : Bool → Option Ended → CallCounts → CallCounts → Type 0
 OverBy present None old new = Unit {0}
 OverBy present (Some cause) old new = EndedBy present cause old new
 

@@ -1,7 +1,8 @@
 ghost use Rattle.std.specs.Prelude.{◌≡◌, ◌<◌, ◌≤◌, ◌+◌, ◌++◌, ℕ, true, false, filter, length, List, None, OnOk, IfOk, IsTrue};
 ghost use Rattle.ssh_fields.specs.Fields.{AreBytes};
 ghost use Rattle.mux_outside.specs.OwnStreams.{is_finished, is_one, is_own};
-ghost use Rattle.mux_outside.specs.Seen.{calls_after_write, seen_after_write};
+ghost use Rattle.mux_outside.specs.Seen.{seen_after_write};
+ghost use Rattle.mux_outside.specs.CallCounts.{calls_after_write};
 ghost use Rattle.mux_outside.specs.Wire.{WroteFaults, WroteFits};
 ghost use Rattle.mux_outside.specs.Streams.{among};
 ghost use Rattle.mux_engine.specs.Counted.{Counts};

@@ -3,7 +3,8 @@ use Rattle.std.proofs.Common.{◌≡◌, ℕ, Some, None, ◌≤◌, ◌<◌, Li
 use Rattle.std.specs.Prelude.{◌==◌, ◌||◌, ◌&&◌, not, reverse, All, IsTrue, if◌then◌else◌}
 use Rattle.std.proofs.lemmas.Bool.Decides.{nat_tests}
 use Rattle.mux_outside.specs.Streams.{among, without}
-use Rattle.mux_outside.specs.Wire.{IsNewOwn, OwnFits, TurnFits, WroteFits, blocked_after, blocked_after_write, last_after, open_after, wait_marks, write_marks}
+use Rattle.mux_outside.specs.Wire.{IsNewOwn, OwnFits, TurnFits, WroteFits}
+use Rattle.mux_outside.specs.Seen.{blocked_after, blocked_after_write, last_after, open_after, wait_marks, write_marks}
 use Rattle.mux_outside.specs.OwnStreams.{is_own}
 use Rattle.mux_outside.specs.declared.house_mark.HouseMark.{HouseMark}
 use Rattle.mux_outside.specs.declared.house_mark.HouseMark.TheVariants.{HouseOrder}

@@ -14,7 +14,8 @@ use Rattle.mux_outside.specs.declared.turn.Want.{Want}
 use Rattle.mux_outside.specs.declared.turn.Want.TheVariants.{Read}
 use Rattle.mux_outside.specs.declared.turn.Wrote.{Wrote}
 use Rattle.mux_outside.specs.Streams.{among, without}
-use Rattle.mux_outside.specs.Wire.{OwnFits, TurnFits, WroteFits, blocked_after, blocked_after_write, last_after, open_after, wait_marks, write_marks}
+use Rattle.mux_outside.specs.Wire.{OwnFits, TurnFits, WroteFits}
+use Rattle.mux_outside.specs.Seen.{blocked_after, blocked_after_write, last_after, open_after, wait_marks, write_marks}
 use Rattle.ssh_fields.specs.Fields.{AreBytes}
 use Rattle.mux_history.specs.Journal.{IsLawful, LawfulHouse, is_own_stream, is_blocked, is_known, last_client}
 use Rattle.mux_history.specs.Promises.{Throughout}

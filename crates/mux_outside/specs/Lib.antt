@@ -1,5 +1,7 @@
+pub mod CallCounts
 pub mod Calls
 pub mod Counts
+pub mod Faults
 pub mod Files
 pub mod House
 pub mod HouseCalls
@@ -13,5 +15,7 @@ pub mod Seen
 pub mod Sink
 pub mod Streams
 pub mod Tally
+pub mod Whose
 pub mod Wire
 pub mod WireLog
+pub mod WireState

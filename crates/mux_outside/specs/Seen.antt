@@ -1,21 +1,18 @@
--- What is seen of a wire, how often it was called, and what each call leaves of both.
-use Rattle.std.specs.Prelude.{ℕ, Bool, true, false, not, if◌then◌else◌, ◌&&◌, ◌==◌, List, [], ◌∷◌, ◌++◌, Result, Ok, Err, Option}
+-- What is seen of a wire, and what each call leaves of it.
+use Rattle.std.specs.Prelude.{ℕ, Bool, true, false, List, [], ◌∷◌, ◌++◌, take, Result, Ok, Err, Option}
 use Rattle.std.specs.Option.{option_map}
-use Rattle.mux_outside.specs.Counts.{counted}
+use Rattle.mux_outside.specs.OwnStreams.{new_stream, with_end, with_finish, with_pause, without_stream}
 use Rattle.mux_outside.specs.Streams.{without}
-use Rattle.mux_outside.specs.Calls.{calls_after}
-use Rattle.mux_outside.specs.OwnStreams.{is_own, new_stream, with_pause, with_finish, without_stream}
-use Rattle.mux_outside.specs.Wire.{wait_marks, open_after, blocked_after, last_after, own_after, last_own_after, write_marks, blocked_after_write}
 use Rattle.mux_outside.specs.declared.file_error.FileError.{FileError}
-use Rattle.mux_outside.specs.declared.turn.Want.{Want}
-use Rattle.mux_outside.specs.declared.turn.Turn.{Turn}
-use Rattle.mux_outside.specs.declared.turn.Turn.TheVariants.{Accepted, Got, End, Writable, Failed, Joined, NoMemory}
-use Rattle.mux_outside.specs.declared.turn.Wrote.{Wrote}
-use Rattle.mux_outside.specs.declared.turn.Wrote.TheVariants.{Took, Later, Failed as FailedWrite, NoMemory as NoMemoryToWrite}
 use Rattle.mux_outside.specs.declared.house_mark.HouseMark.{HouseMark}
 use Rattle.mux_outside.specs.declared.mark.Mark.{Mark}
-use Rattle.mux_outside.specs.declared.mark.Mark.TheVariants.{House}
+use Rattle.mux_outside.specs.declared.mark.Mark.TheVariants.{Waits, Accepts, Gets, Ends, Frees, Fails, Takes, Holds, WriteFails, Joins, House}
 use Rattle.mux_outside.specs.declared.own_streams.OwnStream.{OwnStream}
+use Rattle.mux_outside.specs.declared.turn.Turn.{Turn}
+use Rattle.mux_outside.specs.declared.turn.Turn.TheVariants.{Accepted, Got, End, Writable, Failed, Joined, NoMemory}
+use Rattle.mux_outside.specs.declared.turn.Want.{Want}
+use Rattle.mux_outside.specs.declared.turn.Wrote.{Wrote}
+use Rattle.mux_outside.specs.declared.turn.Wrote.TheVariants.{Took, Later, Failed as FailedWrite, NoMemory as NoMemoryToWrite}
 
 -- what is seen of a wire: its marks so far, where they are told; the open streams, in the order in
 -- which they were opened; those that take no bytes for now; whether clients are accepted; the last
@@ -32,20 +29,99 @@ pub record Seen : Type 0 where
   pub own : List OwnStream
   pub last_own : ℕ
 
--- how often `open` was called, but for want of memory, and `wait`; how many calls of `wait` and `write`
--- found no memory; how many came behind one that found none; and how often `wait` gave a client that
--- came, a piece of the server or of a client, and the server's end
-pub record Calls : Type 0 where
-  pub opens : ℕ
-  pub waits : ℕ
-  pub wants : ℕ
-  pub late : ℕ
-  pub accepts : ℕ
-  pub server_pieces : ℕ
-  pub client_pieces : ℕ
-  pub server_ends : ℕ
+-- ---- marks and streams after a turn and after a write
 
--- ---- what is seen
+-- the mark of a turn, for want of memory none
+abbrev pub turn_marks : Turn → List ℕ → List Mark
+turn_marks (Accepted k) bytes = Accepts k ∷ []
+turn_marks (Got t) bytes = Gets t bytes ∷ []
+turn_marks (End t) bytes = Ends t ∷ []
+turn_marks (Writable t) bytes = Frees t ∷ []
+turn_marks (Failed t) bytes = Fails t ∷ []
+turn_marks (Joined l t) bytes = Joins l t ∷ []
+turn_marks NoMemory bytes = []
+
+-- the marks that a call of wait adds: the call and its turn, for want of memory none
+abbrev pub wait_marks : Turn → List ℕ → Want → List ℕ → Bool → List ℕ → List Mark
+wait_marks (Accepted k) waiting want streams listens bytes =
+    Waits waiting want streams listens ∷ Accepts k ∷ []
+wait_marks (Got t) waiting want streams listens bytes =
+    Waits waiting want streams listens ∷ Gets t bytes ∷ []
+wait_marks (End t) waiting want streams listens bytes =
+    Waits waiting want streams listens ∷ Ends t ∷ []
+wait_marks (Writable t) waiting want streams listens bytes =
+    Waits waiting want streams listens ∷ Frees t ∷ []
+wait_marks (Failed t) waiting want streams listens bytes =
+    Waits waiting want streams listens ∷ Fails t ∷ []
+wait_marks (Joined l t) waiting want streams listens bytes =
+    Waits waiting want streams listens ∷ Joins l t ∷ []
+wait_marks NoMemory waiting want streams listens bytes = []
+
+-- the streams that are open after a turn
+abbrev pub open_after : Turn → List ℕ → List ℕ
+open_after (Accepted k) streams = streams ++ k ∷ []
+open_after (Got t) streams = streams
+open_after (End t) streams = streams
+open_after (Writable t) streams = streams
+open_after (Failed t) streams = streams
+open_after (Joined l t) streams = streams ++ t ∷ []
+open_after NoMemory streams = streams
+
+-- the streams that are blocked after a turn
+abbrev pub blocked_after : Turn → List ℕ → List ℕ
+blocked_after (Accepted k) blocked = blocked
+blocked_after (Got t) blocked = blocked
+blocked_after (End t) blocked = blocked
+blocked_after (Writable t) blocked = without t blocked
+blocked_after (Failed t) blocked = blocked
+blocked_after (Joined l t) blocked = blocked
+blocked_after NoMemory blocked = blocked
+
+-- the last client accepted after a turn
+abbrev pub last_after : Turn → ℕ → ℕ
+last_after (Accepted k) last = k
+last_after (Got t) last = last
+last_after (End t) last = last
+last_after (Writable t) last = last
+last_after (Failed t) last = last
+last_after (Joined l t) last = last
+last_after NoMemory last = last
+
+-- the own streams that are open after a turn, and how they stand
+abbrev pub own_after : Turn → List OwnStream → List OwnStream
+own_after (Accepted k) own = own
+own_after (Got t) own = own
+own_after (End t) own = with_end t own
+own_after (Writable t) own = own
+own_after (Failed t) own = own
+own_after (Joined l t) own = own ++ new_stream t ∷ []
+own_after NoMemory own = own
+
+-- the last number of an own stream or listener after a turn
+abbrev pub last_own_after : Turn → ℕ → ℕ
+last_own_after (Accepted k) last = last
+last_own_after (Got t) last = last
+last_own_after (End t) last = last
+last_own_after (Writable t) last = last
+last_own_after (Failed t) last = last
+last_own_after (Joined l t) last = t
+last_own_after NoMemory last = last
+
+-- the mark that a write adds, for want of memory none
+abbrev pub write_marks : Wrote → ℕ → List ℕ → List Mark
+write_marks (Took n) t bytes = Takes t (take n bytes) ∷ []
+write_marks Later t bytes = Holds t ∷ []
+write_marks FailedWrite t bytes = WriteFails t ∷ []
+write_marks NoMemoryToWrite t bytes = []
+
+-- the streams that are blocked after a write
+abbrev pub blocked_after_write : Wrote → ℕ → List ℕ → List ℕ
+blocked_after_write (Took n) t blocked = blocked
+blocked_after_write Later t blocked = blocked ++ t ∷ []
+blocked_after_write FailedWrite t blocked = blocked
+blocked_after_write NoMemoryToWrite t blocked = blocked
+
+-- ---- what each call leaves of it
 
 -- after a call of open: the server's stream alone is open, no listener is, and clients are accepted
 abbrev pub seen_after_open : Result (Unit {0}) FileError → Seen → Seen
@@ -131,107 +207,6 @@ seen_after_pause b stream seen = record seen { own = with_pause b stream seen.ow
 abbrev pub seen_after_finish : ℕ → Seen → Seen
 seen_after_finish stream seen = record seen { own = with_finish stream seen.own }
 
--- ---- how often it was called
-
--- nothing was called
-abbrev pub no_calls : Calls
-no_calls = record {
-  opens = 0;
-  waits = 0;
-  wants = 0;
-  late = 0;
-  accepts = 0;
-  server_pieces = 0;
-  client_pieces = 0;
-  server_ends = 0;
-}
-
--- after a call of open
-abbrev pub calls_after_open : Result (Unit {0}) FileError → Calls → Calls
-calls_after_open answer calls = record calls { opens = calls_after answer calls.opens }
-
--- how many calls came behind one that found no memory, after one call more
-abbrev pub late_after : Calls → ℕ
-late_after calls = if calls.wants == 0 then calls.late else counted calls.late
-
--- after a call of wait or write that found no memory, or did
-abbrev pub calls_after_one : Bool → Calls → Calls
-calls_after_one starved calls = record calls {
-  wants = if starved then counted calls.wants else calls.wants;
-  late = late_after calls;
-}
-
--- whether there was no memory for a turn
-abbrev pub is_starved : Turn → Bool
-is_starved NoMemory = true
-is_starved (Accepted k) = false
-is_starved (Got t) = false
-is_starved (End t) = false
-is_starved (Writable t) = false
-is_starved (Failed t) = false
-is_starved (Joined l t) = false
-
--- whether there was none for the answer to a write
-abbrev pub is_starved_write : Wrote → Bool
-is_starved_write NoMemoryToWrite = true
-is_starved_write (Took n) = false
-is_starved_write Later = false
-is_starved_write FailedWrite = false
-
--- whether a client came
-abbrev pub is_accept : Turn → Bool
-is_accept (Accepted k) = true
-is_accept (Got t) = false
-is_accept (End t) = false
-is_accept (Writable t) = false
-is_accept (Failed t) = false
-is_accept (Joined l t) = false
-is_accept NoMemory = false
-
--- whether the server's stream gave a piece
-abbrev pub is_server_piece : Turn → Bool
-is_server_piece (Got t) = t == 0
-is_server_piece (Accepted k) = false
-is_server_piece (End t) = false
-is_server_piece (Writable t) = false
-is_server_piece (Failed t) = false
-is_server_piece (Joined l t) = false
-is_server_piece NoMemory = false
-
--- whether a client's stream gave a piece
-abbrev pub is_client_piece : Turn → Bool
-is_client_piece (Got t) = not (t == 0) && not (is_own t)
-is_client_piece (Accepted k) = false
-is_client_piece (End t) = false
-is_client_piece (Writable t) = false
-is_client_piece (Failed t) = false
-is_client_piece (Joined l t) = false
-is_client_piece NoMemory = false
-
--- whether the server's stream ended
-abbrev pub is_server_end : Turn → Bool
-is_server_end (End t) = t == 0
-is_server_end (Accepted k) = false
-is_server_end (Got t) = false
-is_server_end (Writable t) = false
-is_server_end (Failed t) = false
-is_server_end (Joined l t) = false
-is_server_end NoMemory = false
-
--- a count after a turn: one more where it is one of those that are counted
-abbrev pub counted_if : Bool → ℕ → ℕ
-counted_if is_one count = if is_one then counted count else count
-
--- after a call of wait, which is counted, and so is what it gave
-abbrev pub calls_after_wait : Turn → Calls → Calls
-calls_after_wait turn calls = record (calls_after_one (is_starved turn) calls) {
-  waits = counted calls.waits;
-  accepts = counted_if (is_accept turn) calls.accepts;
-  server_pieces = counted_if (is_server_piece turn) calls.server_pieces;
-  client_pieces = counted_if (is_client_piece turn) calls.client_pieces;
-  server_ends = counted_if (is_server_end turn) calls.server_ends;
-}
-
--- after a call of write
-abbrev pub calls_after_write : Wrote → Calls → Calls
-calls_after_write wrote calls = calls_after_one (is_starved_write wrote) calls
+-- after clients are accepted no more
+abbrev pub seen_after_silence : Seen → Seen
+seen_after_silence seen = record seen { listens = false }

@@ -1,6 +1,7 @@
 -- What a wire in memory keeps of its calls.
 use Rattle.std.specs.Prelude.{◌≡◌, ◌<◌, ◌≤◌, ◌⊎◌, ℕ, Bool, true, false, List, [], ◌++◌, Some, Result, Ok, Err}
-use Rattle.mux_outside.specs.Seen.{Calls, Seen, no_calls, calls_after_open, calls_after_wait, calls_after_write}
+use Rattle.mux_outside.specs.Seen.{Seen}
+use Rattle.mux_outside.specs.CallCounts.{CallCounts, no_calls, calls_after_open, calls_after_wait, calls_after_write}
 use Rattle.mux_outside.specs.Seen.{seen_after_open, seen_after_join, seen_after_turn, seen_after_write, seen_after_close}
 use Rattle.mux_outside.specs.Counts.{HasCause}
 use Rattle.mux_outside.specs.Script.{Standing}
@@ -30,7 +31,7 @@ pub record Logged : Type 0 where
   pub listeners : List ℕ
   pub own : List OwnStream
   pub last_own : ℕ
-  pub calls : Calls
+  pub calls : CallCounts
   pub server_faults : ℕ
   pub client_faults : ℕ
   pub own_faults : ℕ

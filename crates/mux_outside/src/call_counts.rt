@@ -1,6 +1,6 @@
 ghost use Rattle.std.specs.Prelude.{◌≡◌};
 ghost use Rattle.mux_outside.specs.Counts.{counted as count_after};
-ghost use Rattle.mux_outside.specs.Seen.{no_calls, calls_after_one, calls_after_wait, calls_after_write};
+ghost use Rattle.mux_outside.specs.CallCounts.{no_calls, calls_after_one, calls_after_wait, calls_after_write};
 
 use crate::counts::counted;
 use crate::own_streams::is_own;
@@ -21,7 +21,7 @@ pub struct CallCounts {
 }
 
 impl Model for CallCounts {
-    ghost use Rattle.mux_outside.specs.Seen.{Calls as TheCalls};
+    ghost use Rattle.mux_outside.specs.CallCounts.{CallCounts as TheCalls};
 
     ghost Value = { TheCalls };
 

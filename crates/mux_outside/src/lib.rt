@@ -39,6 +39,7 @@ mod starts;
 mod statuses;
 mod streams;
 mod turn;
+mod whose;
 mod wire;
 mod wire_log;
 
@@ -74,5 +75,6 @@ pub use starts::Starts;
 pub use statuses::{CommandStatus, Statuses};
 pub use streams::Streams;
 pub use turn::{Tally, Turn, Want, Wrote};
+pub use whose::{Whose, whose};
 pub use wire::Wire;
 pub use wire_log::WireLog;

@@ -1,6 +1,7 @@
 //! What a wire in memory records of its calls: all of it, or nothing for want of memory.
 ghost use Rattle.std.specs.Prelude.{◌≡◌, ◌≢◌, ◌++◌, OnOk, OnErr, IfOk, ◌∷◌, [], length};
-ghost use Rattle.mux_outside.specs.Wire.{turn_marks, wait_marks, open_after, WroteFits, write_marks, blocked_after_write};
+ghost use Rattle.mux_outside.specs.Wire.{WroteFits};
+ghost use Rattle.mux_outside.specs.Seen.{turn_marks, wait_marks, open_after, write_marks, blocked_after_write};
 ghost use Rattle.mux_outside.specs.declared.turn.Turn.TheVariants.{NoMemory};
 ghost use Rattle.mux_outside.specs.declared.turn.Wrote.TheVariants.{NoMemory as NoMemoryToWrite};
 

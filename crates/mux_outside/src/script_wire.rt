@@ -8,7 +8,7 @@ ghost use Rattle.mux_outside.specs.declared.turn.Wrote.TheVariants.{NoMemory as 
 ghost use Rattle.mux_outside.specs.Wire.{openings_of, OpenFaults, joinings_of, JoinFaults, TurnFits, TurnFaults, WroteFits, WroteFaults};
 ghost use Rattle.mux_outside.specs.Script.{bytes_in};
 ghost use Rattle.mux_outside.specs.Seen.{seen_after_close, seen_after_join, seen_after_open, seen_after_turn, seen_after_write};
-ghost use Rattle.mux_outside.specs.Seen.{calls_after_wait, calls_after_write};
+ghost use Rattle.mux_outside.specs.CallCounts.{calls_after_wait, calls_after_write};
 ghost use Rattle.mux_outside.specs.Seen.{seen_after_note, seen_after_listen, seen_after_connect, seen_after_unlisten, seen_after_pause, seen_after_finish};
 ghost use Rattle.mux_outside.specs.Counts.{HasCause};
 ghost use Rattle.mux_outside.specs.OwnStreams.{is_finished};

@@ -8,7 +8,8 @@ use Rattle.mux_history.specs.Policy.{any_policy}
 use Rattle.mux_outside.specs.declared.mark.Mark.{Mark}
 use Rattle.mux_outside.specs.declared.mark.Opening.{Opening}
 use Rattle.mux_outside.specs.declared.turn.Tally.{Tally}
-use Rattle.mux_outside.specs.Seen.{Calls, Seen}
+use Rattle.mux_outside.specs.Seen.{Seen}
+use Rattle.mux_outside.specs.CallCounts.{CallCounts}
 use Rattle.ssh_mux.specs.declared.ending.Ending.{Ending}
 use Rattle.ssh_mux.specs.declared.ending.Ending.TheVariants as endings
 use Rattle.ssh_mux.specs.declared.status.Status.{Status}
@@ -54,7 +55,7 @@ pub drill-touches : (seed clients messages : ℕ) (result : Result Status Ending
 drill-touches seed clients messages result h = rw (drill-opens result h) refl
 
 -- it serves no house
-pub drilled-came : (present : Bool) (status : Status) (old new : Calls) → CameFor false status old new → CameFor (present && false) status old new
+pub drilled-came : (present : Bool) (status : Status) (old new : CallCounts) → CameFor false status old new → CameFor (present && false) status old new
 drilled-came true status old new h = h
 drilled-came false status old new h = h
 
@@ -132,12 +133,12 @@ summed-cause text (Ok status) before now s s' c c' d = absurd d
 summed-cause text (Err endings.NoMemory) before now s s' c c' d = tt
 summed-cause text (Err ending) before now s s' c c' d = absurd d
 
-pub summed-calls : (turns : ℕ) (due : Status) (text : Bytes) (result : Result Status Ending) (before now : Option (List ℕ)) (old new : Calls) → EndsMaster (Ok due) → HandsOver result text before now → CallsEnd turns due old new → CallsEnd turns (so_far result) old new
+pub summed-calls : (turns : ℕ) (due : Status) (text : Bytes) (result : Result Status Ending) (before now : Option (List ℕ)) (old new : CallCounts) → EndsMaster (Ok due) → HandsOver result text before now → CallsEnd turns due old new → CallsEnd turns (so_far result) old new
 summed-calls turns due text result before now old new is d h = record { few = h.few; opens = h.opens; wants = h.wants; starved = λ ne. absurd (unstarved (sym is ∙ h.starved ne)); late = h.late } where
   unstarved : statuses.Done ≡ statuses.Memory → ⊥
   unstarved e = absurd cc
 
-pub summed-waits : (turns : ℕ) (due : Status) (text : Bytes) (result : Result Status Ending) (before now : Option (List ℕ)) (old new : Calls) → EndsMaster (Ok due) → HandsOver result text before now → WaitsFor turns due old new → WaitsFor turns (so_far result) old new
+pub summed-waits : (turns : ℕ) (due : Status) (text : Bytes) (result : Result Status Ending) (before now : Option (List ℕ)) (old new : CallCounts) → EndsMaster (Ok due) → HandsOver result text before now → WaitsFor turns due old new → WaitsFor turns (so_far result) old new
 summed-waits turns due text result before now old new is d h = on result d (subst (λ x. WaitsFor turns x old new) is h) where
   on : (r : Result Status Ending) → HandsOver r text before now → WaitsFor turns statuses.Done old new → WaitsFor turns (so_far r) old new
   on (Ok statuses.Done) d h = h
@@ -146,7 +147,7 @@ summed-waits turns due text result before now old new is d h = on result d (subs
   on (Err endings.NoMemory) d h = tt
   on (Err ending) d h = absurd d
 
-pub summed-came : (due : Status) (text : Bytes) (result : Result Status Ending) (before now : Option (List ℕ)) (old new : Calls) → EndsMaster (Ok due) → HandsOver result text before now → CameFor false due old new → CameFor false (so_far result) old new
+pub summed-came : (due : Status) (text : Bytes) (result : Result Status Ending) (before now : Option (List ℕ)) (old new : CallCounts) → EndsMaster (Ok due) → HandsOver result text before now → CameFor false due old new → CameFor false (so_far result) old new
 summed-came due text result before now old new is d h = on result d (subst (λ x. CameFor false x old new) is h) where
   on : (r : Result Status Ending) → HandsOver r text before now → CameFor false statuses.Done old new → CameFor false (so_far r) old new
   on (Ok statuses.Done) d h = h

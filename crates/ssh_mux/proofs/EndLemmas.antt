@@ -15,7 +15,8 @@ use Rattle.mux_outside.specs.declared.mark.Opening.{Opening}
 use Rattle.mux_outside.specs.declared.starts.Starts.{Starts}
 use Rattle.mux_history.specs.declared.ended.Ended.TheVariants as answers
 use Rattle.mux_history.specs.Policy.{Policy}
-use Rattle.mux_outside.specs.Seen.{Calls, Seen}
+use Rattle.mux_outside.specs.Seen.{Seen}
+use Rattle.mux_outside.specs.CallCounts.{CallCounts}
 use Rattle.ssh_mux.specs.declared.ending.Ending.{Ending as MeantEnding}
 use Rattle.ssh_mux.specs.declared.ending.Ending.TheVariants as endings
 use Rattle.ssh_mux.specs.declared.status.Status.{Status}
@@ -225,7 +226,7 @@ pub shared_well : (May : HouseReply → Type 0) (Rest : Starts → Resting) (sta
 shared_well May Rest stands by policy pid turns before now start seen refused b f false status h = tt
 shared_well May Rest stands by policy pid turns before now start seen refused b f true status h = record { starts = h.starts; due = h.due; so = shared-well-now May (Rest h.starts) (BeganWith h.starts) stands policy pid turns before now start seen refused b f status h.so }
 
-pub calls_after : (turns : ℕ) (status : Status) (ending : Ending) (b n : Option (List ℕ)) (f f' : ℕ) (old calls : Calls) → Reports status ending b n f f' → CallsEnd turns (status_of ending) old calls → CallsEnd turns status old calls
+pub calls_after : (turns : ℕ) (status : Status) (ending : Ending) (b n : Option (List ℕ)) (f f' : ℕ) (old calls : CallCounts) → Reports status ending b n f f' → CallsEnd turns (status_of ending) old calls → CallsEnd turns status old calls
 calls_after turns status ending b n f f' old calls r h = carried (λ s. CallsEnd turns s old calls) status ending (reported status ending b n f f' r) (record { few = h.few; opens = h.opens; wants = h.wants; starved = λ ne. refl; late = h.late }) h
 
 pub on-memory : (b : Bool) → OnTrue b Unit
@@ -235,7 +236,7 @@ on-memory false = tt
 pub wire_after : (k : Known) (status : Status) (ending : Ending) (b n : Option (List ℕ)) (f f' s s' c c' : ℕ) → Reports status ending b n f f' → OnTrue (touches k (status_of ending)) (WireCause (status_of ending) s s' c c') → OnTrue (touches k status) (WireCause status s s' c c')
 wire_after k status ending b n f f' s s' c c' r h = carried (λ x. OnTrue (touches k x) (WireCause x s s' c c')) status ending (reported status ending b n f f' r) (on-memory (opens k || drills k)) h
 
-pub came_after : (k : Known) (housed : Bool) (status : Status) (ending : Ending) (b n : Option (List ℕ)) (f f' : ℕ) (old calls : Calls) → Reports status ending b n f f' → OnTrue (touches k (status_of ending)) (CameFor housed (status_of ending) old calls) → OnTrue (touches k status) (CameFor housed status old calls)
+pub came_after : (k : Known) (housed : Bool) (status : Status) (ending : Ending) (b n : Option (List ℕ)) (f f' : ℕ) (old calls : CallCounts) → Reports status ending b n f f' → OnTrue (touches k (status_of ending)) (CameFor housed (status_of ending) old calls) → OnTrue (touches k status) (CameFor housed status old calls)
 came_after k housed status ending b n f f' old calls r h = carried (λ x. OnTrue (touches k x) (CameFor housed x old calls)) status ending (reported status ending b n f f' r) (on-memory-of housed) h
   where
     on-memory-of : (housed : Bool) → OnTrue (opens k || drills k) (CameFor housed statuses.Memory old calls)
@@ -248,7 +249,7 @@ start_after k status ending b n f f' refused r h = carried (λ x. OnTrue (may_sh
 pub must_after : (k : Known) (due : Option Bool) (must : Bool) (status : Status) (ending : Ending) (b n : Option (List ℕ)) (f f' : ℕ) → Reports status ending b n f f' → OnTrue (may_share k (status_of ending)) (MustsAs (status_of ending) due must) → OnTrue (may_share k status) (MustsAs status due must)
 must_after k due must status ending b n f f' r h = carried (λ x. OnTrue (may_share k x) (MustsAs x due must)) status ending (reported status ending b n f f' r) (on-memory (opens k)) h
 
-pub waits_after : (k : Known) (turns : ℕ) (status : Status) (ending : Ending) (b n : Option (List ℕ)) (f f' : ℕ) (old calls : Calls) → Reports status ending b n f f' → OnTrue (touches k (status_of ending)) (WaitsFor turns (status_of ending) old calls) → OnTrue (touches k status) (WaitsFor turns status old calls)
+pub waits_after : (k : Known) (turns : ℕ) (status : Status) (ending : Ending) (b n : Option (List ℕ)) (f f' : ℕ) (old calls : CallCounts) → Reports status ending b n f f' → OnTrue (touches k (status_of ending)) (WaitsFor turns (status_of ending) old calls) → OnTrue (touches k status) (WaitsFor turns status old calls)
 waits_after k turns status ending b n f f' old calls r h = carried (λ x. OnTrue (touches k x) (WaitsFor turns x old calls)) status ending (reported status ending b n f f' r) (on-memory (opens k || drills k)) h
 
 pub idle_after : (status : Status) (ending : Ending) (b n : Option (List ℕ)) (f f' s s' c c' : ℕ) → Reports status ending b n f f' → IdleCause (status_of ending) s s' c c' → IdleCause status s s' c c'

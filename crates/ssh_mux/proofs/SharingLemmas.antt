@@ -14,7 +14,8 @@ use Rattle.mux_history.specs.declared.ended.Ended.TheVariants as ends
 use Rattle.mux_history.specs.Policy.{Policy}
 use Rattle.mux_outside.specs.Calls.{calls_after}
 use Rattle.mux_outside.specs.HouseCalls.{HouseCall}
-use Rattle.mux_outside.specs.Seen.{Calls, Seen, calls_after_open}
+use Rattle.mux_outside.specs.Seen.{Seen}
+use Rattle.mux_outside.specs.CallCounts.{CallCounts, calls_after_open}
 use Rattle.mux_outside.specs.declared.file_error.FileError.{FileError}
 use Rattle.mux_outside.specs.declared.file_error.FileError.TheVariants as faults
 use Rattle.mux_outside.specs.Wire.{SameFaults}
@@ -45,7 +46,7 @@ opens-most (Err faults.Failed) n = omega arith
 opens-most (Err faults.OutOfMemory) n = omega arith
 
 -- what came where the server broke the protocol
-broken_end : (why : Break) (old new : Calls) → BrokenBy why old new → WentUp old.server_pieces new.server_pieces ⊎ WentUp old.server_ends new.server_ends
+broken_end : (why : Break) (old new : CallCounts) → BrokenBy why old new → WentUp old.server_pieces new.server_pieces ⊎ WentUp old.server_ends new.server_ends
 broken_end (broke.Cut have) old new h = inr h
 broken_end (broke.Frame fault) old new h = inl h
 broken_end (broke.Message bad) old new h = inl h
@@ -71,7 +72,7 @@ shares_end May Rest stands stands' policy pid turns before now start seen refuse
   by_end ends.Spent run = record { answer = ends.Spent; is_told = refl; run = run }
 
 -- a house, where one is present, may wait in place of the wire
-pub waits_end : (present : Bool) (turns : ℕ) (ended : Ended) (old new : Calls) → Stops present turns ended old new → OnFalse present (WaitsFor turns (so_far (told_as ended)) old new)
+pub waits_end : (present : Bool) (turns : ℕ) (ended : Ended) (old new : CallCounts) → Stops present turns ended old new → OnFalse present (WaitsFor turns (so_far (told_as ended)) old new)
 waits_end true turns ended old new h = tt
 waits_end false turns ends.Spent old new h = h.spent refl refl
 waits_end false turns ends.OutOfMemory old new h = tt
@@ -83,7 +84,7 @@ waits_end false turns ends.ServerFailed old new h = h.ends refl (λ e. absurd cc
 waits_end false turns (ends.Broke index why) old new h = h.ends refl (λ e. absurd cc) (λ e. absurd cc)
 
 -- what came by the end of one
-pub came_end : (present : Bool) (ended : Ended) (old new : Calls) → EndedBy present ended old new → CameFor present (so_far (told_as ended)) old new
+pub came_end : (present : Bool) (ended : Ended) (old new : CallCounts) → EndedBy present ended old new → CameFor present (so_far (told_as ended)) old new
 came_end true ends.ServerEnd old new h = tt
 came_end true ends.Disconnected old new h = tt
 came_end true (ends.Terminated client id) old new h = tt
@@ -102,12 +103,12 @@ came_end false ends.Spent old new h = tt
 came_end false ends.OutOfMemory old new h = tt
 
 -- an opening before it leaves all that these count but itself
-pub opened_stops : (answer : Result (Unit {0}) FileError) (present : Bool) (turns : ℕ) (ended : Ended) (old mid new : Calls) → mid ≡ calls_after_open answer old → Stops present turns ended mid new → Stops present turns ended old new
+pub opened_stops : (answer : Result (Unit {0}) FileError) (present : Bool) (turns : ℕ) (ended : Ended) (old mid new : CallCounts) → mid ≡ calls_after_open answer old → Stops present turns ended mid new → Stops present turns ended old new
 opened_stops answer present turns ended old mid new e stops =
-    let s : Stops present turns ended (calls_after_open answer old) new = subst (λ (x : Calls). Stops present turns ended x new) e stops in
+    let s : Stops present turns ended (calls_after_open answer old) new = subst (λ (x : CallCounts). Stops present turns ended x new) e stops in
     record { few = s.few; spent = s.spent; ends = s.ends; wants = s.wants; starved = s.starved; late = s.late }
 
-opened_broken : (answer : Result (Unit {0}) FileError) (why : Break) (old new : Calls) → BrokenBy why (calls_after_open answer old) new → BrokenBy why old new
+opened_broken : (answer : Result (Unit {0}) FileError) (why : Break) (old new : CallCounts) → BrokenBy why (calls_after_open answer old) new → BrokenBy why old new
 opened_broken answer (broke.Cut have) old new h = h
 opened_broken answer (broke.Frame fault) old new h = h
 opened_broken answer (broke.Message bad) old new h = h
@@ -118,7 +119,7 @@ opened_broken answer (broke.NotPending n) old new h = h
 opened_broken answer (broke.NoChannel n) old new h = h
 opened_broken answer (broke.Channel n breach) old new h = h
 
-opened_by : (answer : Result (Unit {0}) FileError) (present : Bool) (ended : Ended) (old new : Calls) → EndedBy present ended (calls_after_open answer old) new → EndedBy present ended old new
+opened_by : (answer : Result (Unit {0}) FileError) (present : Bool) (ended : Ended) (old new : CallCounts) → EndedBy present ended (calls_after_open answer old) new → EndedBy present ended old new
 opened_by answer present ends.ServerEnd old new h = h
 opened_by answer present ends.Disconnected old new h = h
 opened_by answer present (ends.Terminated client id) old new h = h
@@ -128,18 +129,18 @@ opened_by answer present (ends.StartRefused index) old new h = h
 opened_by answer present ends.Spent old new h = h
 opened_by answer present ends.OutOfMemory old new h = h
 
-pub opened_ended : (answer : Result (Unit {0}) FileError) (present : Bool) (ended : Ended) (old mid new : Calls) → mid ≡ calls_after_open answer old → EndedBy present ended mid new → EndedBy present ended old new
-opened_ended answer present ended old mid new e h = opened_by answer present ended old new (subst (λ (x : Calls). EndedBy present ended x new) e h)
+pub opened_ended : (answer : Result (Unit {0}) FileError) (present : Bool) (ended : Ended) (old mid new : CallCounts) → mid ≡ calls_after_open answer old → EndedBy present ended mid new → EndedBy present ended old new
+opened_ended answer present ended old mid new e h = opened_by answer present ended old new (subst (λ (x : CallCounts). EndedBy present ended x new) e h)
 
 -- where nothing but an opening was asked of the wire
-pub opening_calls : (answer : Result (Unit {0}) FileError) (turns : ℕ) (status : Status) (old new : Calls) → new ≡ calls_after_open answer old → CallsEnd turns status old new
+pub opening_calls : (answer : Result (Unit {0}) FileError) (turns : ℕ) (status : Status) (old new : CallCounts) → new ≡ calls_after_open answer old → CallsEnd turns status old new
 opening_calls answer turns status old new e = subst (CallsEnd turns status old) (sym e) (record { few = omega arith; opens = opens-most answer old.opens; wants = omega arith; starved = λ ne. absurd (ne refl); late = λ z. refl })
 
 -- behind it the wire was served
-pub serving_calls : (answer : Result (Unit {0}) FileError) (present : Bool) (turns : ℕ) (ended : Ended) (old mid new : Calls) → mid ≡ calls_after_open answer old → Stops present turns ended mid new → Came mid new → CallsEnd turns (so_far (told_as ended)) old new
+pub serving_calls : (answer : Result (Unit {0}) FileError) (present : Bool) (turns : ℕ) (ended : Ended) (old mid new : CallCounts) → mid ≡ calls_after_open answer old → Stops present turns ended mid new → Came mid new → CallsEnd turns (so_far (told_as ended)) old new
 serving_calls answer present turns ended old mid new e stops came =
-    let s : Stops present turns ended (calls_after_open answer old) new = subst (λ (x : Calls). Stops present turns ended x new) e stops in
-    let c : Came (calls_after_open answer old) new = subst (λ (x : Calls). Came x new) e came in
+    let s : Stops present turns ended (calls_after_open answer old) new = subst (λ (x : CallCounts). Stops present turns ended x new) e stops in
+    let c : Came (calls_after_open answer old) new = subst (λ (x : CallCounts). Came x new) e came in
     record { few = s.few; opens = subst (λ (n : ℕ). n ≤ old.opens + 1) (sym c.opens) (opens-most answer old.opens); wants = s.wants; starved = λ ne. ap (λ (x : Ended). so_far (told_as x)) (s.starved ne); late = s.late }
 
 pub idle_end : (present : Bool) (ended : Ended) (s s' s'' c c' c'' : ℕ) → SameFaults s s' c c' → (present ≡ false → SameFaults s' s'' c' c'') → OnFalse present (IdleCause (so_far (told_as ended)) s s'' c c'')
@@ -218,10 +219,10 @@ pub opens-for : (k : Known) (transport : Bytes) (os ls : List Bytes) (control : 
 opens-for k transport os ls control (inl e) = subst (λ x. opens x ≡ true) (sym e) refl
 opens-for k transport os ls control (inr e) = subst (λ x. opens x ≡ true) (sym e) refl
 
-pub master-waits : (k : Known) (transport : Bytes) (os ls : List Bytes) (control : Bytes) (present : Bool) (turns : ℕ) (status : Status) (old new : Calls) → IsMaster k transport os ls control → OnFalse present (WaitsFor turns status old new) → OnFalse (serves_house present k) (OnTrue (may_share k status) (WaitsFor turns status old new))
+pub master-waits : (k : Known) (transport : Bytes) (os ls : List Bytes) (control : Bytes) (present : Bool) (turns : ℕ) (status : Status) (old new : CallCounts) → IsMaster k transport os ls control → OnFalse present (WaitsFor turns status old new) → OnFalse (serves_house present k) (OnTrue (may_share k status) (WaitsFor turns status old new))
 master-waits k transport os ls control present turns status old new m h = served-house present (opens k) (OnTrue (may_share k status) (WaitsFor turns status old new)) (opens-for k transport os ls control m) (follows present (WaitsFor turns status old new) (OnTrue (may_share k status) (WaitsFor turns status old new)) (on_true (may_share k status) (WaitsFor turns status old new)) h)
 
-pub master-came : (k : Known) (transport : Bytes) (os ls : List Bytes) (control : Bytes) (present : Bool) (status : Status) (old new : Calls) → IsMaster k transport os ls control → CameFor present status old new → OnTrue (may_share k status) (CameFor (serves_house present k) status old new)
+pub master-came : (k : Known) (transport : Bytes) (os ls : List Bytes) (control : Bytes) (present : Bool) (status : Status) (old new : CallCounts) → IsMaster k transport os ls control → CameFor present status old new → OnTrue (may_share k status) (CameFor (serves_house present k) status old new)
 master-came k transport os ls control present status old new m h = on_true (may_share k status) (CameFor (serves_house present k) status old new) (by_house present h)
   where
     by_house : (p : Bool) → CameFor p status old new → CameFor (serves_house p k) status old new

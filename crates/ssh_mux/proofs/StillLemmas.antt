@@ -12,7 +12,8 @@ use Rattle.conf_rules.specs.Told.{Told}
 use Rattle.mux_engine.specs.Sides.{Resting}
 use Rattle.mux_history.specs.Policy.{Policy}
 use Rattle.mux_outside.specs.HouseCalls.{HouseCall}
-use Rattle.mux_outside.specs.Seen.{Calls, Seen}
+use Rattle.mux_outside.specs.Seen.{Seen}
+use Rattle.mux_outside.specs.CallCounts.{CallCounts}
 use Rattle.mux_outside.specs.declared.house.HouseReply.{HouseReply}
 use Rattle.mux_outside.specs.declared.house_mark.HouseMark.{HouseMark}
 use Rattle.mux_outside.specs.declared.mark.Opening.{Opening}
@@ -239,7 +240,7 @@ starved-due (Client asked what) = tt
 starved-due (Master transport os ls) = tt
 
 -- the wire wasn't called
-pub still-calls : (turns : ℕ) (status : Status) (calls : Calls) → CallsEnd turns status calls calls
+pub still-calls : (turns : ℕ) (status : Status) (calls : CallCounts) → CallsEnd turns status calls calls
 still-calls turns status calls = record { few = omega arith; opens = omega arith; wants = omega arith; starved = λ ne. absurd (ne refl); late = λ e. refl }
 
 pub still-wire : (k : Known) (ending : Ending) (s s' c c' : ℕ) → IsRefused k ending → OnTrue (may_share k (status_of ending)) (WireCause (status_of ending) s s' c c')
@@ -248,11 +249,11 @@ still-wire k ending s s' c c' h = on (unshared k ending h) where
   on (inl e) = not_true (may_share k (status_of ending)) (WireCause (status_of ending) s s' c c') e
   on (inr e) = subst (λ x. OnTrue (may_share k x) (WireCause x s s' c c')) (sym e) (on_true (may_share k statuses.Memory) (WireCause statuses.Memory s s' c c') tt)
 
-pub memory-came : (housed : Bool) (old new : Calls) → CameFor housed statuses.Memory old new
+pub memory-came : (housed : Bool) (old new : CallCounts) → CameFor housed statuses.Memory old new
 memory-came true old new = tt
 memory-came false old new = tt
 
-pub still-came : (k : Known) (ending : Ending) (housed : Bool) (old new : Calls) → IsRefused k ending → OnTrue (may_share k (status_of ending)) (CameFor housed (status_of ending) old new)
+pub still-came : (k : Known) (ending : Ending) (housed : Bool) (old new : CallCounts) → IsRefused k ending → OnTrue (may_share k (status_of ending)) (CameFor housed (status_of ending) old new)
 still-came k ending housed old new h = on (unshared k ending h) where
   on : Unshared k ending → OnTrue (may_share k (status_of ending)) (CameFor housed (status_of ending) old new)
   on (inl e) = not_true (may_share k (status_of ending)) (CameFor housed (status_of ending) old new) e
@@ -270,7 +271,7 @@ still-must k ending due must h = on (unshared k ending h) where
   on (inl e) = not_true (may_share k (status_of ending)) (MustsAs (status_of ending) due must) e
   on (inr e) = subst (λ x. OnTrue (may_share k x) (MustsAs x due must)) (sym e) (on_true (may_share k statuses.Memory) (MustsAs statuses.Memory due must) tt)
 
-pub still-waits : (k : Known) (ending : Ending) (turns : ℕ) (old new : Calls) → IsRefused k ending → OnTrue (may_share k (status_of ending)) (WaitsFor turns (status_of ending) old new)
+pub still-waits : (k : Known) (ending : Ending) (turns : ℕ) (old new : CallCounts) → IsRefused k ending → OnTrue (may_share k (status_of ending)) (WaitsFor turns (status_of ending) old new)
 still-waits k ending turns old new h = on (unshared k ending h) where
   on : Unshared k ending → OnTrue (may_share k (status_of ending)) (WaitsFor turns (status_of ending) old new)
   on (inl e) = not_true (may_share k (status_of ending)) (WaitsFor turns (status_of ending) old new) e
@@ -297,7 +298,7 @@ for-master true true drilled P e h = h
 for-master true false true P e h = absurd cc
 for-master true false false P e h = h
 
-pub still-waited : (k : Known) (ending : Ending) (turns : ℕ) (old new : Calls) → IsRefused k ending → OnTrue (touches k (status_of ending)) (WaitsFor turns (status_of ending) old new)
+pub still-waited : (k : Known) (ending : Ending) (turns : ℕ) (old new : CallCounts) → IsRefused k ending → OnTrue (touches k (status_of ending)) (WaitsFor turns (status_of ending) old new)
 still-waited k ending turns old new h = by_drill (drills k) refl where
   by_drill : (d : Bool) → drills k ≡ d → OnTrue (touches k (status_of ending)) (WaitsFor turns (status_of ending) old new)
   by_drill true e = subst (λ x. OnTrue (touches k x) (WaitsFor turns x old new)) (sym (drill-starved k ending h e)) (on_true (touches k statuses.Memory) (WaitsFor turns statuses.Memory old new) tt)
@@ -309,7 +310,7 @@ still-caused k ending s s' c c' h = by_drill (drills k) refl where
   by_drill true e = subst (λ x. OnTrue (touches k x) (WireCause x s s' c c')) (sym (drill-starved k ending h e)) (on_true (touches k statuses.Memory) (WireCause statuses.Memory s s' c c') tt)
   by_drill false e = for-master (may_open (status_of ending)) (opens k) (drills k) (WireCause (status_of ending) s s' c c') e (still-wire k ending s s' c c' h)
 
-pub refused-came : (k : Known) (ending : Ending) (housed : Bool) (old new : Calls) → IsRefused k ending → OnTrue (touches k (status_of ending)) (CameFor housed (status_of ending) old new)
+pub refused-came : (k : Known) (ending : Ending) (housed : Bool) (old new : CallCounts) → IsRefused k ending → OnTrue (touches k (status_of ending)) (CameFor housed (status_of ending) old new)
 refused-came k ending housed old new h = by_drill (drills k) refl where
   by_drill : (d : Bool) → drills k ≡ d → OnTrue (touches k (status_of ending)) (CameFor housed (status_of ending) old new)
   by_drill true e = subst (λ x. OnTrue (touches k x) (CameFor housed x old new)) (sym (drill-starved k ending h e)) (on_true (touches k statuses.Memory) (CameFor housed statuses.Memory old new) (memory-came housed old new))
@@ -323,15 +324,15 @@ shut-all k status e d = rw (e, d) (and-false (may_open status)) where
   and-false false = refl
 
 -- of a command that opens nothing
-pub unopened-waits : (b : Bool) (k : Known) (status : Status) (turns : ℕ) (old new : Calls) → opens k ≡ false → drills k ≡ false → OnFalse b (OnTrue (touches k status) (WaitsFor turns status old new))
+pub unopened-waits : (b : Bool) (k : Known) (status : Status) (turns : ℕ) (old new : CallCounts) → opens k ≡ false → drills k ≡ false → OnFalse b (OnTrue (touches k status) (WaitsFor turns status old new))
 unopened-waits b k status turns old new e d = where_false b (OnTrue (touches k status) (WaitsFor turns status old new)) (not_true (touches k status) (WaitsFor turns status old new) (shut-all k status e d))
 
 -- of one that was refused
-pub refused-waits : (b : Bool) (k : Known) (ending : Ending) (turns : ℕ) (old new : Calls) → IsRefused k ending → OnFalse b (OnTrue (touches k (status_of ending)) (WaitsFor turns (status_of ending) old new))
+pub refused-waits : (b : Bool) (k : Known) (ending : Ending) (turns : ℕ) (old new : CallCounts) → IsRefused k ending → OnFalse b (OnTrue (touches k (status_of ending)) (WaitsFor turns (status_of ending) old new))
 refused-waits b k ending turns old new h = where_false b (OnTrue (touches k (status_of ending)) (WaitsFor turns (status_of ending) old new)) (still-waited k ending turns old new h)
 
 -- of a master that was refused
-pub unshared-waits : (b : Bool) (k : Known) (ending : Ending) (turns : ℕ) (old new : Calls) → IsRefused k ending → OnFalse b (OnTrue (may_share k (status_of ending)) (WaitsFor turns (status_of ending) old new))
+pub unshared-waits : (b : Bool) (k : Known) (ending : Ending) (turns : ℕ) (old new : CallCounts) → IsRefused k ending → OnFalse b (OnTrue (may_share k (status_of ending)) (WaitsFor turns (status_of ending) old new))
 unshared-waits b k ending turns old new h = where_false b (OnTrue (may_share k (status_of ending)) (WaitsFor turns (status_of ending) old new)) (still-waits k ending turns old new h)
 
 pub still-idle : (status : Status) (s c : ℕ) → IdleCause status s s c c

@@ -11,7 +11,7 @@ use Rattle.conf_rules.specs.Outcome.{Ends, Writes, Opens, Drills, Joins}
 use Rattle.conf_rules.specs.Texts.{Bytes}
 use Rattle.mux_client.specs.declared.asks.Asks.{Asks}
 use Rattle.mux_outside.specs.declared.mark.Mark.{Mark}
-use Rattle.mux_outside.specs.Seen.{Calls}
+use Rattle.mux_outside.specs.CallCounts.{CallCounts}
 use Rattle.ssh_mux.specs.declared.ending.Ending.{Ending as MeantEnding}
 use Rattle.ssh_mux.specs.declared.ending.Ending.TheVariants as endings
 use Rattle.ssh_mux.specs.declared.status.Status.{Status}
@@ -79,7 +79,7 @@ pub still-asked-cause : (k : Known) (ending : Ending) (s s' c c' : ℕ) → Unjo
 still-asked-cause k ending s s' c c' (inl e) = not_true (may_ask k (status_of ending)) (WireCause (status_of ending) s s' c c') e
 still-asked-cause k ending s s' c c' (inr e) = subst (λ x. OnTrue (may_ask k x) (WireCause x s s' c c')) (sym e) (on_true (may_ask k statuses.Memory) (WireCause statuses.Memory s s' c c') tt)
 
-pub still-asked-waits : (k : Known) (ending : Ending) (turns : ℕ) (old new : Calls) → Unjoined k ending → OnTrue (may_ask k (status_of ending)) (TalksFor turns (status_of ending) old new)
+pub still-asked-waits : (k : Known) (ending : Ending) (turns : ℕ) (old new : CallCounts) → Unjoined k ending → OnTrue (may_ask k (status_of ending)) (TalksFor turns (status_of ending) old new)
 still-asked-waits k ending turns old new (inl e) = not_true (may_ask k (status_of ending)) (TalksFor turns (status_of ending) old new) e
 still-asked-waits k ending turns old new (inr e) = subst (λ x. OnTrue (may_ask k x) (TalksFor turns x old new)) (sym e) (on_true (may_ask k statuses.Memory) (TalksFor turns statuses.Memory old new) tt)
 

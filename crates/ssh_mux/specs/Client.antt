@@ -10,7 +10,7 @@ use Rattle.mux_client.specs.declared.talked.Talked.TheVariants as talks
 use Rattle.mux_client.specs.Journal.{TalksTold, ShowsTold}
 use Rattle.mux_outside.specs.Counts.{counted}
 use Rattle.mux_outside.specs.declared.mark.Mark.{Mark}
-use Rattle.mux_outside.specs.Seen.{Calls}
+use Rattle.mux_outside.specs.CallCounts.{CallCounts}
 use Rattle.ssh_mux.specs.declared.ending.Ending.{Ending as MeantEnding}
 use Rattle.ssh_mux.specs.declared.ending.Ending.TheVariants as endings
 use Rattle.ssh_mux.specs.declared.status.Status.{Status}
@@ -168,7 +168,7 @@ AnswersFor known start told out out' status err err' faults faults' =
 -- Where all turns were taken `wait` was called once for each, and a talk with another end but for
 -- want of memory or a failed connection called it at least once; its count stays at the end of its
 -- type.
-abbrev pub TalksFor : ℕ → Status → Calls → Calls → Type 0
+abbrev pub TalksFor : ℕ → Status → CallCounts → CallCounts → Type 0
 TalksFor turns Spent old new =
     old.waits < 2 ^ 64 → new.waits ≡ min (old.waits + turns) (2 ^ 64 - 1)
 TalksFor turns Done old new = counted old.waits ≤ new.waits

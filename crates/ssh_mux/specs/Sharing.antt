@@ -18,7 +18,8 @@ use Rattle.mux_outside.specs.declared.house_mark.HouseMark.{HouseMark}
 use Rattle.mux_outside.specs.declared.mark.Mark.{Mark}
 use Rattle.mux_outside.specs.declared.mark.Opening.{Opening}
 use Rattle.mux_outside.specs.declared.starts.Starts.{Starts}
-use Rattle.mux_outside.specs.Seen.{Calls, Seen}
+use Rattle.mux_outside.specs.Seen.{Seen}
+use Rattle.mux_outside.specs.CallCounts.{CallCounts}
 use Rattle.mux_outside.specs.Wire.{SameFaults, SomeFault}
 use Rattle.ssh_mux.specs.declared.ending.Ending.{Ending as MeantEnding}
 use Rattle.ssh_mux.specs.declared.ending.Ending.TheVariants as endings
@@ -210,7 +211,7 @@ StartCause StartRefused refused = IsSome refused
 StartCause status refused = Unit
 
 -- `wait` is called at most so many times and `open` once, and a call that finds no memory is the last
-pub record CallsEnd (turns : ℕ) (status : Status) (old new : Calls) : Type 0 where
+pub record CallsEnd (turns : ℕ) (status : Status) (old new : CallCounts) : Type 0 where
   pub few : new.waits ≤ old.waits + turns
   pub opens : new.opens ≤ old.opens + 1
   pub wants : new.wants ≤ old.wants + 1
@@ -220,7 +221,7 @@ pub record CallsEnd (turns : ℕ) (status : Status) (old new : Calls) : Type 0 w
 -- of a run without a house: where all turns were taken `wait` was called once for each, and with
 -- another end but for want of memory it was called at least once; its count stays at the end of its
 -- type
-abbrev pub WaitsFor : ℕ → Status → Calls → Calls → Type 0
+abbrev pub WaitsFor : ℕ → Status → CallCounts → CallCounts → Type 0
 WaitsFor turns Spent old new =
     old.waits < 2 ^ 64 → new.waits ≡ min (old.waits + turns) (2 ^ 64 - 1)
 WaitsFor turns Done old new = counted old.waits ≤ new.waits
@@ -232,11 +233,11 @@ WaitsFor turns status old new = Unit
 -- What came at the wire by then: where the server broke the protocol a piece of it, or its end inside
 -- a frame; and where a run without a house ended well its end, a piece of it or of a client. A count
 -- that went up may stand at the end of its type.
-abbrev pub EndsCame : Calls → Calls → Type 0
+abbrev pub EndsCame : CallCounts → CallCounts → Type 0
 EndsCame old new = WentUp old.server_ends new.server_ends
     ⊎ (WentUp old.server_pieces new.server_pieces ⊎ WentUp old.client_pieces new.client_pieces)
 
-abbrev pub CameFor : Bool → Status → Calls → Calls → Type 0
+abbrev pub CameFor : Bool → Status → CallCounts → CallCounts → Type 0
 CameFor housed Broke old new =
     WentUp old.server_pieces new.server_pieces ⊎ WentUp old.server_ends new.server_ends
 CameFor false Done old new = EndsCame old new

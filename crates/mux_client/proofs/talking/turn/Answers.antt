@@ -1,5 +1,5 @@
 use Rattle.std.proofs.Common.{◌≡◌, ◌∙◌, ◌++◌, [], ap, refl, subst, sym, ℕ, List}
-use Rattle.mux_outside.specs.Seen.{Calls}
+use Rattle.mux_outside.specs.CallCounts.{CallCounts}
 use Rattle.mux_outside.specs.Streams.{without}
 use Rattle.mux_client.specs.declared.talked.Talked.TheVariants.{BadMaster, OutOfMemory, ServerFailed}
 use Rattle.mux_outside.specs.declared.turn.Turn.TheVariants as turn
@@ -65,12 +65,12 @@ returns-in_ok-hears-in-Got-clause-calls g c = subst (Counts 1 c.read.result (g.W
 pub returns-in_ok-hears-in-Got-clause-heard : goal.returns-in_ok-hears-in-Got-clause-heard
 returns-in_ok-hears-in-Got-clause-heard g c = let W = g.W.Wire in
     heard-so c.read.result c.args.client.now.stage c.read.new.client.stage (W.calls c.args.wire.now) (W.calls c.wait.new.self)
-    (subst (λ (x : Calls). WentUp (W.calls c.args.wire.now).server_pieces x.server_pieces) (sym c.in-Got.ensures.calls) (piece-came c.in-Got.field-0 (W.calls c.args.wire.now) (is-zero c.in-Got.field-0 _ c.requires.alone.streams c.in-Got.ensures.turn.1)))
+    (subst (λ (x : CallCounts). WentUp (W.calls c.args.wire.now).server_pieces x.server_pieces) (sym c.in-Got.ensures.calls) (piece-came c.in-Got.field-0 (W.calls c.args.wire.now) (is-zero c.in-Got.field-0 _ c.requires.alone.streams c.in-Got.ensures.turn.1)))
 
 pub returns-in_ok-hears-in-Got-clause-answered : goal.returns-in_ok-hears-in-Got-clause-answered
 returns-in_ok-hears-in-Got-clause-answered g c = let W = g.W.Wire in
     read-answered c.read.result (W.calls c.args.wire.now) (W.calls c.wait.new.self) c.read.ensures.own
-    (subst (λ (x : Calls). WentUp (W.calls c.args.wire.now).server_pieces x.server_pieces) (sym c.in-Got.ensures.calls) (piece-came c.in-Got.field-0 (W.calls c.args.wire.now) (is-zero c.in-Got.field-0 _ c.requires.alone.streams c.in-Got.ensures.turn.1)))
+    (subst (λ (x : CallCounts). WentUp (W.calls c.args.wire.now).server_pieces x.server_pieces) (sym c.in-Got.ensures.calls) (piece-came c.in-Got.field-0 (W.calls c.args.wire.now) (is-zero c.in-Got.field-0 _ c.requires.alone.streams c.in-Got.ensures.turn.1)))
 
 pub returns-in-End-clause-calls : goal.returns-in-End-clause-calls
 returns-in-End-clause-calls g c = subst (Counts 1 c.broken_off.result (g.W.Wire.calls c.args.wire.now)) (sym c.in-End.ensures.calls) (counts-wait c.broken_off.result (turn.End c.in-End.field-0) (g.W.Wire.calls c.args.wire.now) refl)
@@ -78,4 +78,4 @@ returns-in-End-clause-calls g c = subst (Counts 1 c.broken_off.result (g.W.Wire.
 pub returns-in-End-clause-answered : goal.returns-in-End-clause-answered
 returns-in-End-clause-answered g c = let W = g.W.Wire in
     off-answered c.args.client.now c.broken_off.result (W.calls c.args.wire.now) (W.calls c.wait.new.self) c.broken_off.ensures
-    (subst (λ (x : Calls). WentUp (W.calls c.args.wire.now).server_ends x.server_ends) (sym c.in-End.ensures.calls) (end-came c.in-End.field-0 (W.calls c.args.wire.now) (is-zero c.in-End.field-0 _ c.requires.alone.streams c.in-End.ensures.turn.1)))
+    (subst (λ (x : CallCounts). WentUp (W.calls c.args.wire.now).server_ends x.server_ends) (sym c.in-End.ensures.calls) (end-came c.in-End.field-0 (W.calls c.args.wire.now) (is-zero c.in-End.field-0 _ c.requires.alone.streams c.in-End.ensures.turn.1)))

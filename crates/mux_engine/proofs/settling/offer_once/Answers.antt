@@ -1,6 +1,7 @@
 use Rattle.std.proofs.Common.{◌≤◌, ◌<◌, ◌∷◌, [], ◌++◌, ◌∙◌, sym, ap, subst, refl, ℕ, List, length, take}
 use Rattle.std.proofs.lemmas.List.{length-take-le}
-use Rattle.mux_outside.specs.Seen.{Calls, Seen, seen_after_write}
+use Rattle.mux_outside.specs.Seen.{Seen, seen_after_write}
+use Rattle.mux_outside.specs.CallCounts.{CallCounts}
 use Rattle.mux_outside.specs.Streams.{among, without}
 use Rattle.mux_outside.specs.declared.mark.Mark.TheVariants.{Takes, Holds, WriteFails}
 use Rattle.mux_outside.specs.declared.turn.Wrote.TheVariants as wrote
@@ -76,7 +77,7 @@ pub returns-in-Took-clause-later : goal.returns-in-Took-clause-later
 returns-in-Took-clause-later g c = le-of _ _ (sym c.in-Took.ensures.cause.same_server)
 
 pub returns-in-Took-clause-calls : goal.returns-in-Took-clause-calls
-returns-in-Took-clause-calls g c = subst (λ (x : Calls). Well 0 (g.W.Wire.calls c.args.wire.now) x) (sym c.in-Took.ensures.calls) (well-one (g.W.Wire.calls c.args.wire.now))
+returns-in-Took-clause-calls g c = subst (λ (x : CallCounts). Well 0 (g.W.Wire.calls c.args.wire.now) x) (sym c.in-Took.ensures.calls) (well-one (g.W.Wire.calls c.args.wire.now))
 
 -- ---- a stream that is blocked now
 
@@ -140,7 +141,7 @@ pub returns-in_err-event-in-Failed-clause-later : goal.returns-in_err-event-in-F
 returns-in_err-event-in-Failed-clause-later g c = fault-later c.args.stream _ _ _ _ c.in-Failed.ensures.cause
 
 pub returns-in_ok-event-in-Failed-clause-calls : goal.returns-in_ok-event-in-Failed-clause-calls
-returns-in_ok-event-in-Failed-clause-calls g c = subst (λ (x : Calls). Well 0 (g.W.Wire.calls c.args.wire.now) x) (sym c.in-Failed.ensures.calls) (well-one (g.W.Wire.calls c.args.wire.now))
+returns-in_ok-event-in-Failed-clause-calls g c = subst (λ (x : CallCounts). Well 0 (g.W.Wire.calls c.args.wire.now) x) (sym c.in-Failed.ensures.calls) (well-one (g.W.Wire.calls c.args.wire.now))
 
 -- ---- no memory for the write
 

@@ -1,0 +1,57 @@
+-- What is always known of a wire, and what each call leaves of it.
+use Rattle.std.specs.Prelude.{ℕ, List, ◌++◌, Result, Option}
+use Rattle.std.specs.Option.{option_map}
+use Rattle.mux_outside.specs.CallCounts.{CallCounts, calls_after_open, calls_after_wait, calls_after_write}
+use Rattle.mux_outside.specs.Seen.{Seen, seen_after_open, seen_after_join, seen_after_turn, seen_after_write}
+use Rattle.mux_outside.specs.Wire.{openings_of, joinings_of}
+use Rattle.mux_outside.specs.declared.file_error.FileError.{FileError}
+use Rattle.mux_outside.specs.declared.mark.Opening.{Opening}
+use Rattle.mux_outside.specs.declared.turn.Tally.{Tally}
+use Rattle.mux_outside.specs.declared.turn.Turn.{Turn}
+use Rattle.mux_outside.specs.declared.turn.Want.{Want}
+use Rattle.mux_outside.specs.declared.turn.Wrote.{Wrote}
+
+-- what is seen of it: its marks, where they are told, its streams and its clients; the arguments of
+-- each call of `open` and of `join`, where they are told; how often it was called, and gave what; and
+-- what it counted of a drill
+pub record WireState : Type 0 where
+  pub seen : Seen
+  pub openings : Option (List Opening)
+  pub joinings : Option (List (List ℕ))
+  pub calls : CallCounts
+  pub tally : Tally
+
+-- after a call of open
+abbrev pub state_after_open : Result (Unit {0}) FileError → List ℕ → List ℕ → WireState → WireState
+state_after_open answer control transport state = record state {
+  seen = seen_after_open answer state.seen;
+  openings = option_map (λ os. os ++ openings_of answer control transport) state.openings;
+  calls = calls_after_open answer state.calls;
+}
+
+-- after a call of join
+abbrev pub state_after_join : Result (Unit {0}) FileError → List ℕ → WireState → WireState
+state_after_join answer control state = record state {
+  seen = seen_after_join answer state.seen;
+  joinings = option_map (λ js. js ++ joinings_of answer control) state.joinings;
+}
+
+-- after a call of wait that gave this turn, and counted this of a drill
+abbrev pub state_after_wait : Turn → List ℕ → Want → List ℕ → Tally → WireState → WireState
+state_after_wait turn waiting want bytes tally state = record state {
+  seen = seen_after_turn turn waiting want bytes state.seen;
+  calls = calls_after_wait turn state.calls;
+  tally = tally;
+}
+
+-- after a call of write that had this answer, and counted this of a drill
+abbrev pub state_after_write : Wrote → ℕ → List ℕ → Tally → WireState → WireState
+state_after_write wrote stream bytes tally state = record state {
+  seen = seen_after_write wrote stream bytes state.seen;
+  calls = calls_after_write wrote state.calls;
+  tally = tally;
+}
+
+-- after a call that changes only what is seen
+abbrev pub seeing : (Seen → Seen) → WireState → WireState
+seeing change state = record state { seen = change state.seen }

@@ -1,0 +1,26 @@
+ghost use Rattle.std.specs.Prelude.{◌≡◌};
+ghost use Rattle.mux_outside.specs.Whose.{whose as whose_it_is};
+
+use crate::own_streams::is_own;
+
+/// Whose a stream is.
+#[derive(Clone, Copy, Debug, PartialEq, Eq)]
+pub enum Whose {
+    /// The server's, which is stream 0.
+    Server,
+    /// This client's: they are numbered from 1 on.
+    Client(u64),
+    /// One of the master's own, which are numbered from 2^63 on.
+    Own,
+}
+
+/// Whose this stream is.
+pub fn whose(stream: u64) -> Whose
+    ensures { result ≡ whose_it_is stream }
+{
+    match stream {
+        0 => Whose::Server,
+        own if is_own(own) => Whose::Own,
+        client => Whose::Client(client),
+    }
+}
