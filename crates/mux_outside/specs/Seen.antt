@@ -1,5 +1,5 @@
 -- What is seen of a wire, and what each call leaves of it.
-use Rattle.std.specs.Prelude.{ℕ, Bool, true, false, List, [], ◌∷◌, ◌++◌, take, Result, Ok, Err, Option}
+use Rattle.std.specs.Prelude.{ℕ, Bool, true, false, List, [], ◌∷◌, ◌++◌, take, Result, Ok, Err, Option, None}
 use Rattle.std.specs.Option.{option_map}
 use Rattle.mux_outside.specs.OwnStreams.{new_stream, with_end, with_finish, with_pause, without_stream}
 use Rattle.mux_outside.specs.Streams.{without}
@@ -8,6 +8,7 @@ use Rattle.mux_outside.specs.declared.house_mark.HouseMark.{HouseMark}
 use Rattle.mux_outside.specs.declared.mark.Mark.{Mark}
 use Rattle.mux_outside.specs.declared.mark.Mark.TheVariants.{Waits, Accepts, Gets, Ends, Frees, Fails, Takes, Holds, WriteFails, Joins, House}
 use Rattle.mux_outside.specs.declared.own_streams.OwnStream.{OwnStream}
+use Rattle.mux_outside.specs.declared.own_streams.TheConstants.{LAST_CLIENT}
 use Rattle.mux_outside.specs.declared.turn.Turn.{Turn}
 use Rattle.mux_outside.specs.declared.turn.Turn.TheVariants.{Accepted, Got, End, Writable, Failed, Joined, NoMemory}
 use Rattle.mux_outside.specs.declared.turn.Want.{Want}
@@ -28,6 +29,23 @@ pub record Seen : Type 0 where
   pub listeners : List ℕ
   pub own : List OwnStream
   pub last_own : ℕ
+
+-- of a wire that was never called and tells nothing
+abbrev pub nothing_seen : Seen
+nothing_seen = record {
+  told = None;
+  streams = [];
+  blocked = [];
+  listens = false;
+  last = 0;
+  listeners = [];
+  own = [];
+  last_own = LAST_CLIENT;
+}
+
+-- the same but for what is told
+abbrev pub untold : Seen → Seen
+untold seen = record seen { told = None }
 
 -- ---- marks and streams after a turn and after a write
 

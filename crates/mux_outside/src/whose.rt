@@ -1,5 +1,5 @@
 ghost use Rattle.std.specs.Prelude.{◌≡◌};
-ghost use Rattle.mux_outside.specs.Whose.{whose as whose_it_is};
+ghost use Rattle.mux_outside.specs.Whose.{whose};
 
 use crate::own_streams::is_own;
 
@@ -14,13 +14,15 @@ pub enum Whose {
     Own,
 }
 
-/// Whose this stream is.
-pub fn whose(stream: u64) -> Whose
-    ensures { result ≡ whose_it_is stream }
-{
-    match stream {
-        0 => Whose::Server,
-        own if is_own(own) => Whose::Own,
-        client => Whose::Client(client),
+impl Whose {
+    /// Whose this stream is.
+    pub fn of(stream: u64) -> Whose
+        ensures { result ≡ whose stream }
+    {
+        match stream {
+            0 => Whose::Server,
+            own if is_own(own) => Whose::Own,
+            client => Whose::Client(client),
+        }
     }
 }
