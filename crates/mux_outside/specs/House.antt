@@ -1,6 +1,8 @@
 -- What is known of a house, the marks that its calls add, and what each call leaves.
-use Rattle.std.specs.Prelude.{◌≡◌, ◌≢◌, ◌<◌, ◌≤◌, ℕ, Bool, true, false, not, ◌&&◌, ◌==◌, if◌then◌else◌, List, [], ◌∷◌, ◌++◌, length, drop, IsTrue, Result, Ok, Err, Option, Some, None}
+use Rattle.std.specs.Prelude.{◌≡◌, ◌<◌, ◌≤◌, ℕ, Bool, true, false, not, ◌&&◌, ◌==◌, if◌then◌else◌, List, [], ◌∷◌, ◌++◌, length, drop, IfOk, IsTrue, OnOk, Result, Ok, Err, Option, Some, None}
 use Rattle.std.specs.List.{list_any}
+use Rattle.std.specs.Option.{option_map}
+use Rattle.mux_outside.specs.HouseCalls.{HandsOn, HouseCall, calls_of}
 use Rattle.mux_outside.specs.OwnStreams.{new_stream, is_one, is_silent, with_pause, with_finish, with_end, without_stream}
 use Rattle.mux_outside.specs.Streams.{among, without}
 use Rattle.mux_outside.specs.declared.house.FwdAsk.{FwdAsk}
@@ -58,6 +60,53 @@ NoMark (Some marks) = marks ≡ []
 pub record IsBlank (known : Known) (told : Option (List HouseMark)) : Type 0 where
   pub nothing : known ≡ nothing_known known.present
   pub no_mark : NoMark told
+
+-- all that is known of a house, whatever it is: its marks, where they are told; what is always known;
+-- whether it has nothing to say, to order and to answer; what waits for each stream; the first of the
+-- forwardings asked for at the start that was refused, if any was; whether the run ends where one is;
+-- and which calls it stands for, each with its answer, the oldest first
+pub record HouseState : Type 1 where
+  pub told : Option (List HouseMark)
+  pub known : Known
+  pub quiet : Quiet
+  pub queue : ℕ → List ℕ
+  pub refused : Option ℕ
+  pub must : Bool
+  pub stands : List HouseCall → Type 0
+
+-- one that was never called
+pub record IsFresh (state : HouseState) : Type 0 where
+  pub blank : IsBlank state.known state.told
+  pub unrefused : state.refused ≡ None
+  pub stands : state.stands []
+
+-- ---- what a call leaves
+
+-- the marks that are told after these more
+abbrev pub told_more : List HouseMark → Option (List HouseMark) → Option (List HouseMark)
+told_more more told = option_map (λ marks. marks ++ more) told
+
+-- after a call that gave this: what is known changes so, and the house stands for it
+pub record Gave (marks : List HouseMark) (change : Known → Known) (old new : HouseState) :
+    Type 0 where
+  pub known : new.known ≡ change old.known
+  pub must : new.must ≡ old.must
+  pub told : new.told ≡ told_more marks old.told
+  pub stands : HandsOn old.stands new.stands (calls_of marks)
+
+-- the same where there may have been no memory for it: then only its marks are known, and whether the
+-- run ends where a forwarding of the start is refused
+pub record GaveOr {A E : Type 0} (result : Result A E) (marks : List HouseMark)
+    (change : A → Known → Known) (old new : HouseState) : Type 0 where
+  pub known : IfOk result (λ answer. new.known ≡ change answer old.known)
+  pub must : new.must ≡ old.must
+  pub told : new.told ≡ told_more marks old.told
+  pub stands : OnOk result (HandsOn old.stands new.stands (calls_of marks))
+
+-- it offers what it did before
+pub record OffersSame (old new : HouseState) : Type 0 where
+  pub quiet : new.quiet ≡ old.quiet
+  pub queues : (t : ℕ) → new.queue t ≡ old.queue t
 
 -- ---- ask
 

@@ -3,9 +3,11 @@ pub mod Calls
 pub mod Counts
 pub mod Faults
 pub mod Files
+pub mod Greeting
 pub mod House
 pub mod HouseCalls
 pub mod Marks
+pub mod NoHouse
 pub mod OwnStreams
 pub mod Piece
 pub mod Runner

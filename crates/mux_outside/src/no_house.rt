@@ -1,8 +1,8 @@
-ghost use Rattle.std.specs.Prelude.{◌≡◌, true, false, [], None};
+ghost use Rattle.std.specs.Prelude.{◌≡◌};
 ghost use Rattle.mux_outside.specs.declared.house.HouseReply.TheVariants.{Refused};
-ghost use Rattle.mux_outside.specs.House.{nothing_known};
+ghost use Rattle.mux_outside.specs.NoHouse.{no_house};
 
-use crate::house::{FwdAsk, House, HouseReply};
+use crate::house::{Asks, FwdAsk, House, HouseReply};
 use crate::order::Order;
 use crate::own_turn::OwnTurn;
 use crate::piece::Piece;
@@ -13,34 +13,10 @@ use ssh_fields::OutOfMemory;
 #[derive(Clone, Copy, Debug)]
 pub struct NoHouse;
 
-impl House for NoHouse {
+impl Asks for NoHouse {
     ghost may = { λ reply. reply ≡ Refused };
 
-    ghost told = { λ _. None };
-
-    ghost known = { λ _. nothing_known false };
-
-    ghost quiet = { λ _. record { says = true; orders = true; answers = true } };
-
-    ghost queue = { λ _ _. [] };
-
-    ghost refused = { λ _. None };
-
-    ghost stands = { λ _ _. Unit {0} };
-
-    ghost fresh = { λ _. Unit {0} };
-
-    ghost begun = { λ _. Unit {0} };
-
-    ghost must = { λ _. false };
-
-    fn present(&self) -> bool {
-        false
-    }
-
-    fn begin(&mut self, _starts: &Starts) -> Result<(), OutOfMemory> {
-        Ok(())
-    }
+    ghost state = { λ _. no_house };
 
     fn ask(
         &mut self,
@@ -50,6 +26,20 @@ impl House for NoHouse {
         _what: &FwdAsk<'_>,
     ) -> Result<HouseReply, OutOfMemory> {
         Ok(HouseReply::Refused)
+    }
+}
+
+impl House for NoHouse {
+    ghost fresh = { λ _. Unit {0} };
+
+    ghost begun = { λ _. Unit {0} };
+
+    fn present(&self) -> bool {
+        false
+    }
+
+    fn begin(&mut self, _starts: &Starts) -> Result<(), OutOfMemory> {
+        Ok(())
     }
 
     fn answer(&mut self) -> Option<(u64, u32, HouseReply)> {
