@@ -68,7 +68,8 @@ pub record SameScript (old new : ScriptWire) : Type 0 where
 -- what a wait gives
 pub record GivesNext (want : Want) (waiting : List ℕ) (old new : ScriptWire) (turn : Turn)
     (before after : List ℕ) : Type 0 where
-  pub gives : GivesAt want waiting old.log.state.seen old.steps old.place new.place turn before after
+  pub gives : GivesAt want waiting old.log.state.seen old.steps old.place new.place turn
+      before after
   pub steps_kept : new.steps ≡ old.steps
 
 -- a write followed its entry

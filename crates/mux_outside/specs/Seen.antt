@@ -17,9 +17,9 @@ use Rattle.mux_outside.specs.declared.turn.Wrote.TheVariants.{Took, Later, Faile
 
 -- what is seen of a wire: its marks so far, where they are told; the open streams, in the order in
 -- which they were opened; those that take no bytes for now; whether clients are accepted; the last
--- client accepted, 0 before the first; the master's own listeners that are open; its own streams that
--- are open, which stand among the open streams too; and the last number of either, the last one of a
--- client before the first
+-- client accepted, 0 before the first; the master's own listeners that are open; its own streams
+-- that are open, which stand among the open streams too; and the last number of either, the last
+-- one of a client before the first
 pub record Seen : Type 0 where
   pub told : Option (List Mark)
   pub streams : List ℕ
@@ -164,11 +164,9 @@ seen_after_join (Ok x) seen = record seen {
 }
 seen_after_join (Err e) seen = seen
 
--- after a turn
-abbrev pub seen_after_turn : Turn → List ℕ → Want → List ℕ → Seen → Seen
-seen_after_turn turn waiting want bytes seen = record seen {
-  told = option_map (λ m.
-      m ++ wait_marks turn waiting want seen.streams seen.listens bytes) seen.told;
+-- the streams and clients after a turn
+abbrev pub moved_by_turn : Turn → Seen → Seen
+moved_by_turn turn seen = record seen {
   streams = open_after turn seen.streams;
   blocked = blocked_after turn seen.blocked;
   last = last_after turn seen.last;
@@ -176,11 +174,22 @@ seen_after_turn turn waiting want bytes seen = record seen {
   last_own = last_own_after turn seen.last_own;
 }
 
+-- after a turn
+abbrev pub seen_after_turn : Turn → List ℕ → Want → List ℕ → Seen → Seen
+seen_after_turn turn waiting want bytes seen = record (moved_by_turn turn seen) {
+  told = option_map (λ m.
+      m ++ wait_marks turn waiting want seen.streams seen.listens bytes) seen.told;
+}
+
+-- the streams after a write
+abbrev pub moved_by_write : Wrote → ℕ → Seen → Seen
+moved_by_write wrote stream seen =
+    record seen { blocked = blocked_after_write wrote stream seen.blocked }
+
 -- after a write
 abbrev pub seen_after_write : Wrote → ℕ → List ℕ → Seen → Seen
-seen_after_write wrote stream bytes seen = record seen {
+seen_after_write wrote stream bytes seen = record (moved_by_write wrote stream seen) {
   told = option_map (λ m. m ++ write_marks wrote stream bytes) seen.told;
-  blocked = blocked_after_write wrote stream seen.blocked;
 }
 
 -- after a stream was closed

@@ -2,7 +2,7 @@
 use Rattle.std.specs.Prelude.{ℕ, List, [], ◌∷◌, ◌++◌, Result, Ok, Err, Option, Some, None}
 use Rattle.std.specs.Option.{option_map}
 use Rattle.mux_outside.specs.CallCounts.{CallCounts, no_calls, calls_after_open, calls_after_wait, calls_after_write}
-use Rattle.mux_outside.specs.Seen.{Seen, nothing_seen, seen_after_open, seen_after_join, seen_after_turn, seen_after_write}
+use Rattle.mux_outside.specs.Seen.{Seen, nothing_seen, seen_after_open, seen_after_join, seen_after_turn, seen_after_write, moved_by_turn, moved_by_write, untold}
 use Rattle.mux_outside.specs.Tally.{no_tally}
 use Rattle.mux_outside.specs.Wire.{openings_of, joinings_of}
 use Rattle.mux_outside.specs.declared.file_error.FileError.{FileError}
@@ -16,8 +16,8 @@ use Rattle.mux_outside.specs.declared.turn.Wrote.{Wrote}
 use Rattle.mux_outside.specs.declared.turn.Wrote.TheVariants.{NoMemory as NoMemoryToWrite}
 
 -- what is seen of it: its marks, where they are told, its streams and its clients; the arguments of
--- each call of `open` and of `join`, where they are told; how often it was called, and gave what; and
--- what it counted of a drill
+-- each call of `open` and of `join`, where they are told; how often it was called, and gave what;
+-- and what it counted of a drill
 pub record WireState : Type 0 where
   pub seen : Seen
   pub openings : Option (List Opening)
@@ -42,6 +42,17 @@ telling openings joinings marks state = record state {
   openings = Some openings;
   joinings = Some joinings;
 }
+
+-- the same of a wire that tells nothing, and counts nothing of a drill
+abbrev pub untelling : WireState → WireState
+untelling state = record state {
+  seen = untold state.seen;
+  openings = None;
+  joinings = None;
+  tally = no_tally;
+}
+
+-- ---- what each call leaves of it
 
 -- after a call of open
 abbrev pub state_after_open : Result (Unit {0}) FileError → List ℕ → List ℕ → WireState → WireState
@@ -78,9 +89,29 @@ state_after_write wrote stream bytes tally state = record state {
 abbrev pub seeing : (Seen → Seen) → WireState → WireState
 seeing change state = record state { seen = change state.seen }
 
+-- ---- the same but for what is told, and for what is counted of a drill
+
+abbrev pub state_opened : Result (Unit {0}) FileError → WireState → WireState
+state_opened answer state = record state {
+  seen = seen_after_open answer state.seen;
+  calls = calls_after_open answer state.calls;
+}
+
+abbrev pub state_waited : Turn → WireState → WireState
+state_waited turn state = record state {
+  seen = moved_by_turn turn state.seen;
+  calls = calls_after_wait turn state.calls;
+}
+
+abbrev pub state_written : Wrote → ℕ → WireState → WireState
+state_written answer stream state = record state {
+  seen = moved_by_write answer stream state.seen;
+  calls = calls_after_write answer state.calls;
+}
+
 -- while a write is under way: there is room for a stream that may block
-abbrev pub state_while_writing : ℕ → WireState → WireState
-state_while_writing stream state =
+abbrev pub state_in_write : ℕ → WireState → WireState
+state_in_write stream state =
     seeing (λ seen. record seen { blocked = seen.blocked ++ stream ∷ [] }) state
 
 -- the turn that a wait gives: there may be no memory to keep it

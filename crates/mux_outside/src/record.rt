@@ -1,4 +1,4 @@
-//! The marks that a wire in memory records of its calls. Room for them is kept before they are told.
+//! The marks that a wire in memory records of its calls. There is room before they are told.
 ghost use Rattle.std.specs.Prelude.{◌≡◌, ◌≢◌, ◌≤◌, ◌+◌, OnOk, IfOk, ◌∷◌, [], length, vec_len, vec_capacity};
 ghost use Rattle.mux_outside.specs.Wire.{WroteFits};
 ghost use Rattle.mux_outside.specs.Seen.{turn_marks, wait_marks, write_marks};

@@ -4,6 +4,7 @@ ghost use Rattle.mux_outside.specs.Script.{bytes_in};
 ghost use Rattle.mux_outside.specs.ScriptWire.{FollowsEntry, GivesAt, GivesNext, KeepsOpens, KeepsSteps, KeepsWrites, MakesByNumber, OpensByNumber, SameScript, Starts};
 ghost use Rattle.mux_outside.specs.Seen.{seen_after_close, seen_after_connect, seen_after_finish, seen_after_listen, seen_after_note, seen_after_pause, seen_after_silence, seen_after_unlisten};
 ghost use Rattle.mux_outside.specs.Streams.{among};
+ghost use Rattle.mux_outside.specs.Tally.{no_tally};
 ghost use Rattle.mux_outside.specs.Wire.{JoinFaults, MakeFaults, NumberFits, OpenFaults, OwnFits, TurnFaults, TurnFits, WroteFaults, WroteFits};
 ghost use Rattle.mux_outside.specs.WireState.{seeing, state_after_join, state_after_open, state_after_wait, state_after_write};
 ghost use Rattle.mux_outside.specs.declared.turn.Turn.TheVariants.{NoMemory};
@@ -98,7 +99,7 @@ fn given<'a>(
 }
 
 impl Wire for ScriptWire {
-    ghost state = { λ w. w.log.state };
+    ghost state = { λ w. record w.log.state { tally = no_tally } };
 
     ghost faults = { λ w. w.log.faults };
 
@@ -135,8 +136,10 @@ impl Wire for ScriptWire {
     }
 
     fn wait(&mut self, waiting: &Streams, want: Want, into: &mut Piece) -> Turn
-        requires waiting_blocked { All (λ t. IsTrue (among t self.old.log.state.seen.blocked)) waiting.now }
-        requires waiting_open { All (λ t. IsTrue (among t self.old.log.state.seen.streams)) waiting.now }
+        requires waiting_blocked { All (λ t. IsTrue (among t self.old.log.state.seen.blocked))
+            waiting.now }
+        requires waiting_open { All (λ t. IsTrue (among t self.old.log.state.seen.streams))
+            waiting.now }
         requires server { IsTrue (among 0 self.old.log.state.seen.streams) }
         requires some { want ≡ WriteOnly → 0 < length waiting.now }
         ensures turn { TurnFits result want self.old.log.state.seen into.new }
@@ -278,6 +281,6 @@ impl Wire for ScriptWire {
     }
 
     fn tally(&self) -> Tally {
-        self.log.tally()
+        Tally::zero()
     }
 }

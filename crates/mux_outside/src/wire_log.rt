@@ -1,11 +1,12 @@
 //! What a wire in memory keeps of its calls.
-ghost use Rattle.std.specs.Prelude.{◌≡◌, ◌≢◌, Some, IfOk, OnOk, length};
+ghost use Rattle.std.specs.Prelude.{◌≡◌, ◌≢◌, ◌≤◌, Some, IfOk, OnOk, length};
 ghost use Rattle.std.specs.Option.{option_map};
 ghost use Rattle.mux_outside.specs.Marks.{bytes_taken as all_taken};
 ghost use Rattle.mux_outside.specs.Seen.{seen_after_close, seen_after_connect, seen_after_finish, seen_after_listen, seen_after_note, seen_after_pause, seen_after_silence, seen_after_unlisten, untold};
 ghost use Rattle.mux_outside.specs.Wire.{JoinFaults, MakeFaults, NumberFits, OpenFaults, OwnFits, TurnFaults, WroteFaults, WroteFits};
 ghost use Rattle.mux_outside.specs.WireLog.{MakesAs, OpensAs, nothing_logged};
 ghost use Rattle.mux_outside.specs.WireState.{answer_kept, seeing, state_after_join, state_after_open, state_after_wait, state_after_write, turn_kept};
+ghost use Rattle.mux_outside.specs.declared.own_streams.TheConstants.{LAST_CLIENT};
 ghost use Rattle.mux_outside.specs.declared.turn.Turn.TheVariants.{NoMemory};
 
 use crate::fault_counts::FaultCounts;
@@ -16,7 +17,7 @@ use crate::mark::{Mark, Opening, bytes_taken};
 use crate::marks::Marks;
 use crate::record::{mark_of_write, marks_of_wait};
 use crate::streams::Streams;
-use crate::turn::{Tally, Turn, Want, Wrote};
+use crate::turn::{Turn, Want, Wrote};
 use crate::whose::Whose;
 use crate::wire_state::WireState;
 use ssh_fields::{OutOfMemory, Text};
@@ -82,9 +83,11 @@ impl WireLog {
         self.state.is_listening()
     }
 
-    /// The last client accepted, 0 before the first.
+    /// The last client accepted, 0 before the first. The numbers of the master's own are above
+    /// those of all clients.
     pub fn last(&self) -> u64
-        ensures { result ≡ self.now.state.seen.last }
+        ensures value { result ≡ self.now.state.seen.last }
+        ensures own_above { LAST_CLIENT ≤ self.now.state.seen.last_own }
     {
         self.state.last()
     }
@@ -118,15 +121,8 @@ impl WireLog {
         bytes_taken(self.alloc, &self.marks.told, stream)
     }
 
-    /// What was counted of a drill: nothing.
-    pub fn tally(&self) -> Tally
-        ensures { result ≡ self.now.state.tally }
-    {
-        self.state.tally()
-    }
-
-    /// Keeps a call of `open` with these arguments, which succeeds or fails. A failure counts as the
-    /// server's.
+    /// Keeps a call of `open` with these arguments, which succeeds or fails. A failure counts as
+    /// the server's.
     pub fn opened(&mut self, control: &[u8], transport: &[u8], opens: bool) -> Result<(), FileError>
         ensures opens { OpensAs opens result }
         ensures state { self.new.state

@@ -1,13 +1,12 @@
 //! What is always known of a wire.
-ghost use Rattle.std.specs.Prelude.{◌≡◌, ◌<◌, ◌≤◌, ◌+◌, ◌⊎◌, [], ◌∷◌, ◌++◌, List, ℕ, Ok, Err, false, true, IfNone, IfOk, IfSome, OnErr, OnOk};
+ghost use Rattle.std.specs.Prelude.{◌≡◌, ◌<◌, ◌≤◌, ◌+◌, ◌⊎◌, [], ◌∷◌, ◌++◌, Ok, Err, false, true, IfNone, IfOk, IfSome, OnErr, OnOk};
 ghost use Rattle.mux_outside.specs.OwnStreams.{new_stream};
-ghost use Rattle.mux_outside.specs.Seen.{seen_after_close, seen_after_connect, seen_after_finish, seen_after_listen, seen_after_pause, seen_after_silence, seen_after_turn, seen_after_unlisten};
+ghost use Rattle.mux_outside.specs.Seen.{moved_by_turn, seen_after_close, seen_after_connect, seen_after_finish, seen_after_join, seen_after_listen, seen_after_pause, seen_after_silence, seen_after_unlisten};
 ghost use Rattle.mux_outside.specs.Wire.{IsNewOwn, OwnFits};
-ghost use Rattle.mux_outside.specs.WireState.{WireState as TheState, answer_kept, nothing_called, seeing, state_after_join, state_after_open, state_after_wait, state_after_write, state_while_writing, turn_kept};
+ghost use Rattle.mux_outside.specs.WireState.{WireState as TheState, answer_kept, nothing_called, seeing, state_in_write, state_opened, state_waited, state_written, turn_kept};
 ghost use Rattle.mux_outside.specs.declared.file_error.FileError.TheVariants.{Failed as FailedFile};
 ghost use Rattle.mux_outside.specs.declared.own_streams.TheConstants.{LAST_CLIENT as THE_LAST_CLIENT, LAST_OWN as THE_LAST_OWN};
 ghost use Rattle.mux_outside.specs.declared.turn.Turn.TheVariants.{NoMemory};
-ghost use Rattle.mux_outside.specs.declared.turn.Want.{Want as TheWant};
 ghost use Rattle.mux_outside.specs.declared.turn.Wrote.TheVariants.{NoMemory as NoMemoryToWrite};
 
 use crate::call_counts::CallCounts;
@@ -15,7 +14,7 @@ use crate::kept_streams::KeptStreams;
 use crate::open_streams::OpenStreams;
 use crate::own_streams::{LAST_CLIENT, LAST_OWN, OwnStreams};
 use crate::streams::Streams;
-use crate::turn::{Tally, Turn, Wrote};
+use crate::turn::{Turn, Wrote};
 use ssh_fields::OutOfMemory;
 use std::alloc::Global;
 use std::marker::Model;
@@ -102,9 +101,11 @@ impl WireState {
         self.listening
     }
 
-    /// The last client accepted, 0 before the first.
+    /// The last client accepted, 0 before the first. The numbers of the master's own are above
+    /// those of all clients.
     pub fn last(&self) -> u64
-        ensures { result ≡ self.now.seen.last }
+        ensures value { result ≡ self.now.seen.last }
+        ensures own_above { THE_LAST_CLIENT ≤ self.now.seen.last_own }
     {
         self.last
     }
@@ -129,13 +130,6 @@ impl WireState {
         ensures least { THE_LAST_CLIENT ≤ result }
     {
         self.last_own
-    }
-
-    /// What was counted of a drill: nothing.
-    pub fn tally(&self) -> Tally
-        ensures { result ≡ self.now.tally }
-    {
-        Tally::zero()
     }
 
     /// The number of the client that may come now, if clients are accepted and one is left.
@@ -181,8 +175,7 @@ impl WireState {
     /// A call of `open` succeeded: from now on the server's stream alone is open.
     pub fn opened(&mut self, server: Streams)
         requires { server ≡ 0 ∷ [] }
-        ensures { (control : List ℕ) → (transport : List ℕ)
-            → self.new ≡ state_after_open (Ok tt) control transport self.old }
+        ensures { self.new ≡ state_opened (Ok tt) self.old }
     {
         self.begin(server, true);
         self.calls.opened();
@@ -190,8 +183,7 @@ impl WireState {
 
     /// A call of `open` failed.
     pub fn not_opened(&mut self)
-        ensures { (control : List ℕ) → (transport : List ℕ)
-            → self.new ≡ state_after_open (Err FailedFile) control transport self.old }
+        ensures { self.new ≡ state_opened (Err FailedFile) self.old }
     {
         self.calls.opened();
     }
@@ -199,7 +191,7 @@ impl WireState {
     /// A call of `join` succeeded: from now on the server's stream alone is open.
     pub fn joined(&mut self, server: Streams)
         requires { server ≡ 0 ∷ [] }
-        ensures { (control : List ℕ) → self.new ≡ state_after_join (Ok tt) control self.old }
+        ensures { self.new ≡ seeing (seen_after_join (Ok tt)) self.old }
     {
         self.begin(server, false);
     }
@@ -229,9 +221,7 @@ impl WireState {
     /// one that found none.
     pub fn waited(&mut self, turn: Turn) -> Result<(), OutOfMemory>
         requires { OwnFits turn self.old.seen }
-        ensures { (waiting : List ℕ) → (want : TheWant) → (bytes : List ℕ)
-            → self.new ≡ state_after_wait (turn_kept result turn) waiting want bytes
-            self.old.tally self.old }
+        ensures { self.new ≡ state_waited (turn_kept result turn) self.old }
     {
         if self.moved(turn).is_err() {
             self.starved();
@@ -243,8 +233,7 @@ impl WireState {
 
     /// A call of `wait` found no memory.
     pub fn starved(&mut self)
-        ensures { (waiting : List ℕ) → (want : TheWant) → (bytes : List ℕ)
-            → self.new ≡ state_after_wait NoMemory waiting want bytes self.old.tally self.old }
+        ensures { self.new ≡ state_waited NoMemory self.old }
     {
         self.calls.waited(Turn::NoMemory);
     }
@@ -252,8 +241,7 @@ impl WireState {
     // The streams and clients after a turn. An `Err` changes nothing.
     fn moved(&mut self, turn: Turn) -> Result<(), OutOfMemory>
         requires { OwnFits turn self.old.seen }
-        ensures ok { OnOk result ((waiting : List ℕ) → (want : TheWant) → (bytes : List ℕ)
-            → self.new ≡ seeing (seen_after_turn turn waiting want bytes) self.old) }
+        ensures ok { OnOk result (self.new ≡ seeing (moved_by_turn turn) self.old) }
         ensures err { OnErr result (self.new ≡ self.old) }
     {
         match turn {
@@ -295,8 +283,7 @@ impl WireState {
     /// A call of `write` has this answer. Where there is no memory for it, the call is counted as
     /// one that found none.
     pub fn wrote(&mut self, wrote: Wrote, stream: u64) -> Result<(), OutOfMemory>
-        ensures { (bytes : List ℕ) → self.new
-            ≡ state_after_write (answer_kept result wrote) stream bytes self.old.tally self.old }
+        ensures { self.new ≡ state_written (answer_kept result wrote) stream self.old }
     {
         if wrote == Wrote::Later && self.blocked.push(stream).is_err() {
             self.starved_write(stream);
@@ -309,9 +296,8 @@ impl WireState {
     /// Keeps room for a stream that may block at a write, which can't be taken back. Where there
     /// is none, the call is counted as one that found no memory.
     pub fn hold(&mut self, stream: u64) -> Result<(), OutOfMemory>
-        ensures ok { OnOk result (self.new ≡ state_while_writing stream self.old) }
-        ensures err { OnErr result ((bytes : List ℕ) → self.new
-            ≡ state_after_write NoMemoryToWrite stream bytes self.old.tally self.old) }
+        ensures ok { OnOk result (self.new ≡ state_in_write stream self.old) }
+        ensures err { OnErr result (self.new ≡ state_written NoMemoryToWrite stream self.old) }
     {
         if self.blocked.push(stream).is_err() {
             self.starved_write(stream);
@@ -322,9 +308,8 @@ impl WireState {
 
     /// A write for which there is room has this answer.
     pub fn held(&mut self, wrote: Wrote, stream: u64)
-        ensures { (before : TheState) → (bytes : List ℕ)
-            → self.old ≡ state_while_writing stream before
-            → self.new ≡ state_after_write wrote stream bytes before.tally before }
+        ensures { (before : TheState) → self.old ≡ state_in_write stream before
+            → self.new ≡ state_written wrote stream before }
     {
         if wrote != Wrote::Later {
             let _ = self.blocked.pop();
@@ -334,8 +319,7 @@ impl WireState {
 
     /// A call of `write` found no memory.
     pub fn starved_write(&mut self, stream: u64)
-        ensures { (bytes : List ℕ) → self.new
-            ≡ state_after_write NoMemoryToWrite stream bytes self.old.tally self.old }
+        ensures { self.new ≡ state_written NoMemoryToWrite stream self.old }
     {
         self.calls.wrote(Wrote::NoMemory);
     }

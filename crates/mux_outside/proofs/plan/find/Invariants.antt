@@ -4,5 +4,5 @@ use Rattle.mux_outside.proofs.plan.find.Given as goal
 
 abbrev pub invariant-loop-step : goal.invariant-loop-step
 invariant-loop-step l =
-    from_first (is_given l.state.now.seen) (cut_first l.offset (drop l.step l.steps))
-    ≡ from_first (is_given l.state.now.seen) (steps_from l.steps l.fn.place)
+    from_first (is_given l.state.seen) (cut_first l.offset (drop l.step l.steps))
+    ≡ from_first (is_given l.state.seen) (steps_from l.steps l.fn.place)

@@ -10,17 +10,17 @@ give-requires c =
     let seen = c.args.log.now.state.seen in
     let all = steps_from c.args.steps.now c.args.place in
     let found : steps_from c.args.steps.now c.find-place.result ≡ from_first (is_given seen) all =
-    c.find-place.ensures ∙ same_steps _ _ c.state.ensures all in
-    rw c.last-in-Read.ensures (found_gives seen all _ found)
+    c.find-place.ensures ∙ same_steps c.state.result.now.seen seen c.state.ensures all in
+    rw c.last.ensures.value (found_gives seen all _ found)
 
 pub returns-in-Read-clause-turn : goal.returns-in-Read-clause-turn
 returns-in-Read-clause-turn c = λ piece.
     let seen = c.args.log.now.state.seen in
     let all = steps_from c.args.steps.now c.args.place in
     let found : steps_from c.args.steps.now c.find-place.result ≡ from_first (is_given seen) all =
-    c.find-place.ensures ∙ same_steps _ _ c.state.ensures all in
+    c.find-place.ensures ∙ same_steps c.state.result.now.seen seen c.state.ensures all in
     let gives = c.give.ensures.turn
-    ∙ ap (λ last. turn_of last (steps_from c.args.steps.now c.find-place.result)) c.last-in-Read.ensures in
+    ∙ ap (λ last. turn_of last (steps_from c.args.steps.now c.find-place.result)) c.last.ensures.value in
     let fills = ap (λ (b : Option (List ℕ)). unwrap_or b piece) c.give.ensures.bytes in
     given_fits seen all _ piece _ _ _ c.in-Read.is found gives fills c.requires.server
 
@@ -29,10 +29,10 @@ returns-in-Read-clause-own_turn c =
     let seen = c.args.log.now.state.seen in
     let all = steps_from c.args.steps.now c.args.place in
     let found : steps_from c.args.steps.now c.find-place.result ≡ from_first (is_given seen) all =
-    c.find-place.ensures ∙ same_steps _ _ c.state.ensures all in
+    c.find-place.ensures ∙ same_steps c.state.result.now.seen seen c.state.ensures all in
     let gives = c.give.ensures.turn
-    ∙ ap (λ last. turn_of last (steps_from c.args.steps.now c.find-place.result)) c.last-in-Read.ensures in
-    let least : LAST_CLIENT ≤ seen.last_own = rw (sym c.last_own.ensures.value) c.last_own.ensures.least in
+    ∙ ap (λ last. turn_of last (steps_from c.args.steps.now c.find-place.result)) c.last.ensures.value in
+    let least : LAST_CLIENT ≤ seen.last_own = c.last.ensures.own_above in
     given_owns seen all _ _ found gives least
 
 pub returns-in-Read-clause-script : goal.returns-in-Read-clause-script
@@ -40,10 +40,10 @@ returns-in-Read-clause-script c = λ piece.
     let seen = c.args.log.now.state.seen in
     let all = steps_from c.args.steps.now c.args.place in
     let ahead : steps_from c.args.steps.now c.find-place.result ≡ from_first (is_given seen) all =
-    c.find-place.ensures ∙ same_steps _ _ c.state.ensures all in
+    c.find-place.ensures ∙ same_steps c.state.result.now.seen seen c.state.ensures all in
     rw c.in-Read.is (record {
       turn_is = c.give.ensures.turn
-          ∙ ap (λ last. turn_of last (steps_from c.args.steps.now c.find-place.result)) c.last-in-Read.ensures
+          ∙ ap (λ last. turn_of last (steps_from c.args.steps.now c.find-place.result)) c.last.ensures.value
           ∙ ap (turn_of seen.last) ahead;
       piece_is = ap (λ (b : Option (List ℕ)). unwrap_or b piece) c.give.ensures.bytes
           ∙ ap (λ s. piece_of s piece) ahead;
