@@ -26,17 +26,17 @@ fn offer_once<W: Wire>(
     wire: &mut W,
     held: &mut Streams,
 ) -> Result<bool, Talked>
-    requires alone { IsAlone (W.seen wire.old) }
-    requires blocked { (W.seen wire.old).blocked ≡ [] }
+    requires alone { IsAlone (W.state wire.old).seen }
+    requires blocked { (W.state wire.old).seen.blocked ≡ [] }
     requires held { held.old ≡ [] }
     requires settled { IsSettled client.old }
     ensures talking { (asks : TheAsks) (start : Option (List TheMark)) (shown : List ℕ)
-        → Talking asks start (W.seen wire.old).told held.old shown client.old
+        → Talking asks start (W.state wire.old).seen.told held.old shown client.old
         → TalksOn result
-        (λ more. Talking asks start (W.seen wire.new).told held.new shown client.new)
-        (λ answer. IsTalk asks answer start (W.seen wire.new).told shown shown) }
+        (λ more. Talking asks start (W.state wire.new).seen.told held.new shown client.new)
+        (λ answer. IsTalk asks answer start (W.state wire.new).seen.told shown shown) }
     ensures settled { OnOk result (IsSettled client.new) }
-    ensures blocked { OnOk result ((W.seen wire.new).blocked ≡ held.new) }
+    ensures blocked { OnOk result ((W.state wire.new).seen.blocked ≡ held.new) }
     ensures held { OnOk result (IsHeld held.new) }
     ensures more { IfOk result (λ more. more ≡ true → held.new ≡ []) }
     ensures less { IfOk result (λ more. more ≡ true
@@ -44,12 +44,12 @@ fn offer_once<W: Wire>(
     ensures offered { IfOk result (λ more. more ≡ false → IsOffered held.new client.new) }
     ensures own { IfErr result IsOfWire }
     ensures stage { OnOk result (client.new.stage ≡ client.old.stage) }
-    ensures none_accepted { AcceptsNone (W.seen wire.old) (W.seen wire.new) }
-    ensures calls { Counts 0 result (W.calls wire.old) (W.calls wire.new) }
-    ensures cause { StepFaults result (W.server_faults wire.old) (W.server_faults wire.new)
-        (W.client_faults wire.old) (W.client_faults wire.new) }
-    ensures openings { W.openings wire.new ≡ W.openings wire.old }
-    ensures joinings { W.joinings wire.new ≡ W.joinings wire.old }
+    ensures none_accepted { AcceptsNone (W.state wire.old).seen (W.state wire.new).seen }
+    ensures calls { Counts 0 result (W.state wire.old).calls (W.state wire.new).calls }
+    ensures cause { StepFaults result (W.faults wire.old).server (W.faults wire.new).server
+        (W.faults wire.old).client (W.faults wire.new).client }
+    ensures openings { (W.state wire.new).openings ≡ (W.state wire.old).openings }
+    ensures joinings { (W.state wire.new).joinings ≡ (W.state wire.old).joinings }
 {
     let bytes = client.front();
     if bytes.is_empty() {
@@ -72,27 +72,27 @@ fn offer_once<W: Wire>(
 // Offers the master what is to be sent, until all is taken, or it takes no more for now, or its
 // stream fails.
 fn offer<W: Wire>(client: &mut Client, wire: &mut W, held: &mut Streams) -> Result<(), Talked>
-    requires alone { IsAlone (W.seen wire.old) }
-    requires blocked { (W.seen wire.old).blocked ≡ held.old }
+    requires alone { IsAlone (W.state wire.old).seen }
+    requires blocked { (W.state wire.old).seen.blocked ≡ held.old }
     requires held { IsHeld held.old }
     requires settled { IsSettled client.old }
     ensures talking { (asks : TheAsks) (start : Option (List TheMark)) (shown : List ℕ)
-        → Talking asks start (W.seen wire.old).told held.old shown client.old
+        → Talking asks start (W.state wire.old).seen.told held.old shown client.old
         → TalksOn result
-        (λ done. Talking asks start (W.seen wire.new).told held.new shown client.new)
-        (λ answer. IsTalk asks answer start (W.seen wire.new).told shown shown) }
+        (λ done. Talking asks start (W.state wire.new).seen.told held.new shown client.new)
+        (λ answer. IsTalk asks answer start (W.state wire.new).seen.told shown shown) }
     ensures settled { OnOk result (IsSettled client.new) }
-    ensures blocked { OnOk result ((W.seen wire.new).blocked ≡ held.new) }
+    ensures blocked { OnOk result ((W.state wire.new).seen.blocked ≡ held.new) }
     ensures held { OnOk result (IsHeld held.new) }
     ensures offered { OnOk result (IsOffered held.new client.new) }
     ensures own { IfErr result IsOfWire }
     ensures stage { OnOk result (client.new.stage ≡ client.old.stage) }
-    ensures none_accepted { AcceptsNone (W.seen wire.old) (W.seen wire.new) }
-    ensures calls { Counts 0 result (W.calls wire.old) (W.calls wire.new) }
-    ensures cause { StepFaults result (W.server_faults wire.old) (W.server_faults wire.new)
-        (W.client_faults wire.old) (W.client_faults wire.new) }
-    ensures openings { W.openings wire.new ≡ W.openings wire.old }
-    ensures joinings { W.joinings wire.new ≡ W.joinings wire.old }
+    ensures none_accepted { AcceptsNone (W.state wire.old).seen (W.state wire.new).seen }
+    ensures calls { Counts 0 result (W.state wire.old).calls (W.state wire.new).calls }
+    ensures cause { StepFaults result (W.faults wire.old).server (W.faults wire.new).server
+        (W.faults wire.old).client (W.faults wire.new).client }
+    ensures openings { (W.state wire.new).openings ≡ (W.state wire.old).openings }
+    ensures joinings { (W.state wire.new).joinings ≡ (W.state wire.old).joinings }
 {
     if held.len() > 0 {
         return Ok(());
@@ -206,35 +206,35 @@ fn turn<W: Wire, S: Sink>(
     piece: &mut Piece,
 ) -> Result<(), Talked>
     requires may { MayAsk asks.now }
-    requires alone { IsAlone (W.seen wire.old) }
-    requires blocked { (W.seen wire.old).blocked ≡ held.old }
+    requires alone { IsAlone (W.state wire.old).seen }
+    requires blocked { (W.state wire.old).seen.blocked ≡ held.old }
     requires held { IsHeld held.old }
     requires settled { IsSettled client.old }
     requires offered { IsOffered held.old client.old }
     requires going { IsGoing client.old.stage client.old.queue }
     ensures talking { (start : Option (List TheMark)) (shown : List ℕ)
-        → Talking asks.now start (W.seen wire.old).told held.old shown client.old
+        → Talking asks.now start (W.state wire.old).seen.told held.old shown client.old
         → TalksOn result
         (λ done. ShowsOn (S.told out.old) (S.told out.new) out.old out.new
-        (λ more. Talking asks.now start (W.seen wire.new).told held.new (shown ++ more) client.new))
+        (λ more. Talking asks.now start (W.state wire.new).seen.told held.new (shown ++ more) client.new))
         (λ answer. ShowsLast (S.told out.old) (S.told out.new) out.old out.new
-        (λ more due. IsTalk asks.now answer start (W.seen wire.new).told (shown ++ more)
+        (λ more due. IsTalk asks.now answer start (W.state wire.new).seen.told (shown ++ more)
         (shown ++ due))) }
     ensures settled { OnOk result (IsSettled client.new) }
-    ensures blocked { OnOk result ((W.seen wire.new).blocked ≡ held.new) }
+    ensures blocked { OnOk result ((W.state wire.new).seen.blocked ≡ held.new) }
     ensures held { OnOk result (IsHeld held.new) }
     ensures unspent { IfErr result (λ answer. answer ≢ SpentTurns) }
-    ensures none_accepted { AcceptsNone (W.seen wire.old) (W.seen wire.new) }
-    ensures calls { Counts 1 result (W.calls wire.old) (W.calls wire.new) }
-    ensures heard { OnOk result (HasHeard client.old.stage client.new.stage (W.calls wire.old)
-        (W.calls wire.new)) }
-    ensures answered { IfErr result (λ answer. AnsweredBy answer (W.calls wire.old)
-        (W.calls wire.new)) }
-    ensures cause { StepFaults result (W.server_faults wire.old) (W.server_faults wire.new)
-        (W.client_faults wire.old) (W.client_faults wire.new) }
+    ensures none_accepted { AcceptsNone (W.state wire.old).seen (W.state wire.new).seen }
+    ensures calls { Counts 1 result (W.state wire.old).calls (W.state wire.new).calls }
+    ensures heard { OnOk result (HasHeard client.old.stage client.new.stage (W.state wire.old).calls
+        (W.state wire.new).calls) }
+    ensures answered { IfErr result (λ answer. AnsweredBy answer (W.state wire.old).calls
+        (W.state wire.new).calls) }
+    ensures cause { StepFaults result (W.faults wire.old).server (W.faults wire.new).server
+        (W.faults wire.old).client (W.faults wire.new).client }
     ensures sink { StepSinkFaults result (S.faults out.old) (S.faults out.new) }
-    ensures openings { W.openings wire.new ≡ W.openings wire.old }
-    ensures joinings { W.joinings wire.new ≡ W.joinings wire.old }
+    ensures openings { (W.state wire.new).openings ≡ (W.state wire.old).openings }
+    ensures joinings { (W.state wire.new).joinings ≡ (W.state wire.old).joinings }
 {
     match wire.wait(held, Want::Read, piece) {
         Turn::Got(_) => {
@@ -261,18 +261,18 @@ fn converse<W: Wire, S: Sink>(
     turns: u64,
 ) -> Result<(), Talked>
     requires may { MayAsk asks.now }
-    requires alone { IsAlone (W.seen wire.old) }
-    requires none_blocked { (W.seen wire.old).blocked ≡ [] }
-    ensures talks { WholeTalk asks.now (talked_of result) (W.seen wire.old).told
-        (W.seen wire.new).told (S.told out.old) (S.told out.new) out.old out.new }
-    ensures none_accepted { AcceptsNone (W.seen wire.old) (W.seen wire.new) }
-    ensures calls { Stops turns (talked_of result) (W.calls wire.old) (W.calls wire.new) }
-    ensures answered { AnsweredBy (talked_of result) (W.calls wire.old) (W.calls wire.new) }
-    ensures cause { WireFaults (talked_of result) (W.server_faults wire.old)
-        (W.server_faults wire.new) (W.client_faults wire.old) (W.client_faults wire.new) }
+    requires alone { IsAlone (W.state wire.old).seen }
+    requires none_blocked { (W.state wire.old).seen.blocked ≡ [] }
+    ensures talks { WholeTalk asks.now (talked_of result) (W.state wire.old).seen.told
+        (W.state wire.new).seen.told (S.told out.old) (S.told out.new) out.old out.new }
+    ensures none_accepted { AcceptsNone (W.state wire.old).seen (W.state wire.new).seen }
+    ensures calls { Stops turns (talked_of result) (W.state wire.old).calls (W.state wire.new).calls }
+    ensures answered { AnsweredBy (talked_of result) (W.state wire.old).calls (W.state wire.new).calls }
+    ensures cause { WireFaults (talked_of result) (W.faults wire.old).server
+        (W.faults wire.new).server (W.faults wire.old).client (W.faults wire.new).client }
     ensures sink { SinkFaults (talked_of result) (S.faults out.old) (S.faults out.new) }
-    ensures openings { W.openings wire.new ≡ W.openings wire.old }
-    ensures joinings { W.joinings wire.new ≡ W.joinings wire.old }
+    ensures openings { (W.state wire.new).openings ≡ (W.state wire.old).openings }
+    ensures joinings { (W.state wire.new).joinings ≡ (W.state wire.old).joinings }
 {
     let mut client = Client::new(alloc)?;
     let mut piece = Piece::new(alloc)?;
@@ -297,33 +297,33 @@ pub fn talk<W: Wire, S: Sink>(
     turns: u64,
 ) -> Talked
     requires asks { MayAsk asks.now }
-    requires server_alone { (W.seen wire.old).streams ≡ 0 ∷ [] }
-    requires none_blocked { (W.seen wire.old).blocked ≡ [] }
-    requires silent { (W.seen wire.old).listens ≡ false }
-    requires listeners { (W.seen wire.old).listeners ≡ [] }
-    requires own { (W.seen wire.old).own ≡ [] }
+    requires server_alone { (W.state wire.old).seen.streams ≡ 0 ∷ [] }
+    requires none_blocked { (W.state wire.old).seen.blocked ≡ [] }
+    requires silent { (W.state wire.old).seen.listens ≡ false }
+    requires listeners { (W.state wire.old).seen.listeners ≡ [] }
+    requires own { (W.state wire.old).seen.own ≡ [] }
 
     // What was told, and what was shown.
-    ensures whole { WholeTalk asks.now result (W.seen wire.old).told (W.seen wire.new).told
+    ensures whole { WholeTalk asks.now result (W.state wire.old).seen.told (W.state wire.new).seen.told
         (S.told out.old) (S.told out.new) out.old out.new }
-    ensures talks { TalksTold asks.now result (W.seen wire.old).told (W.seen wire.new).told }
-    ensures shows { ShowsTold asks.now result (W.seen wire.old).told (W.seen wire.new).told
+    ensures talks { TalksTold asks.now result (W.state wire.old).seen.told (W.state wire.new).seen.told }
+    ensures shows { ShowsTold asks.now result (W.state wire.old).seen.told (W.state wire.new).seen.told
         (S.told out.old) (S.told out.new) }
 
     // The calls, and whose fault it was.
-    ensures calls { Stops turns result (W.calls wire.old) (W.calls wire.new) }
-    ensures answered { AnsweredBy result (W.calls wire.old) (W.calls wire.new) }
-    ensures cause { WireFaults result (W.server_faults wire.old) (W.server_faults wire.new)
-        (W.client_faults wire.old) (W.client_faults wire.new) }
+    ensures calls { Stops turns result (W.state wire.old).calls (W.state wire.new).calls }
+    ensures answered { AnsweredBy result (W.state wire.old).calls (W.state wire.new).calls }
+    ensures cause { WireFaults result (W.faults wire.old).server (W.faults wire.new).server
+        (W.faults wire.old).client (W.faults wire.new).client }
     ensures sink { SinkFaults result (S.faults out.old) (S.faults out.new) }
     ensures failed { result ≡ FailedServer
-        → Rose (W.server_faults wire.old) (W.server_faults wire.new) }
+        → Rose (W.faults wire.old).server (W.faults wire.new).server }
     ensures fault { result ≡ FailedSink → Rose (S.faults out.old) (S.faults out.new) }
 
     // What stays.
-    ensures none_accepted { AcceptsNone (W.seen wire.old) (W.seen wire.new) }
-    ensures openings { W.openings wire.new ≡ W.openings wire.old }
-    ensures joinings { W.joinings wire.new ≡ W.joinings wire.old }
+    ensures none_accepted { AcceptsNone (W.state wire.old).seen (W.state wire.new).seen }
+    ensures openings { (W.state wire.new).openings ≡ (W.state wire.old).openings }
+    ensures joinings { (W.state wire.new).joinings ≡ (W.state wire.old).joinings }
     ensures idle { turns ≡ 0 → (wire.new ≡ wire.old) × (out.new ≡ out.old) }
 {
     // Without a turn nothing is written, so nothing can fail.

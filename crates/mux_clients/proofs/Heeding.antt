@@ -1,13 +1,17 @@
 -- What the house tells.
-use Rattle.std.proofs.Common.{◌≡◌, List, [], ◌∷◌, ◌++◌, Option, Some, None, Result, Ok, Err, true, false, refl, sym, ap, ◌∙◌, append_assoc, append-nil, subst}
+use Rattle.std.proofs.Common.{◌≡◌, ℕ, Bool, List, [], ◌∷◌, ◌++◌, Option, Some, None, Result, Ok, Err, true, false, refl, sym, ap, ◌∙◌, append_assoc, append-nil, subst}
+use Rattle.std.specs.Prelude.{OnOk}
 use Rattle.std.specs.Option.{option_map}
 use Rattle.std.specs.Result.{IsErr}
+use Rattle.std.proofs.lemmas.Result.{on_ok_weaker}
+use Rattle.mux_outside.specs.declared.house.FwdAsk.{FwdAsk}
+use Rattle.mux_outside.specs.declared.house.HouseReply.{HouseReply}
 use Rattle.mux_outside.specs.declared.house_mark.HouseMark.{HouseMark as Asked}
-use Rattle.mux_outside.specs.House.{Known, known_after_ask}
 use Rattle.mux_outside.specs.declared.house_mark.HouseMark.TheVariants.{HouseAsked}
+use Rattle.mux_outside.specs.House.{GaveOr, HouseState, Known, ask_of, known_after_ask}
 use Rattle.mux_outside.specs.HouseCalls.{HandsOn, HouseCall, calls_of}
 use Rattle.mux_outside.proofs.HouseCalls.{calls-append, hands-none, hands-then}
-use Rattle.mux_clients.specs.Asked.{HandsAsks, Heeds, IsAsked, IsAskedSome, TellsAsks, known_after}
+use Rattle.mux_clients.specs.Asked.{Heeds, TellsAsks, known_after}
 
 pub tells_none : (told : Option (List Asked)) → TellsAsks told told []
 tells_none None = refl
@@ -23,67 +27,111 @@ tells_then before mid now a b first then = then ∙ (ap (λ (told : Option (List
 
 -- ---- what is noted of the asks
 
-pub asked_none : (asks : List Asked) (told : Option (List Asked)) (known : Known) → IsAsked asks asks told told known known
-asked_none asks told known = record { more = []; noted = sym (append-nil asks); told_is = tells_none told; known_is = refl }
+on-any : {A E P : Type 0} (r : Result A E) → P → OnOk r P
+on-any (Ok x) p = p
+on-any (Err e) p = tt
 
-pub asked_none_some : (asks : List Asked) (told : Option (List Asked)) → IsAskedSome asks asks told told
-asked_none_some asks told = record { more = []; unnoted = []; noted = sym (append-nil asks); told_is = tells_none told }
+on-none : {A E P : Type 0} (r : Result A E) → IsErr r → OnOk r P
+on-none (Ok x) bad = absurd (let no : false ≡ true = bad in cc)
+on-none (Err e) bad = tt
 
-pub asked_some : (asks asks' : List Asked) (told told' : Option (List Asked)) (known known' : Known) → IsAsked asks asks' told told' known known' → IsAskedSome asks asks' told told'
-asked_some asks asks' told told' known known' a = record {
-  more = a.more;
+on-both : {A E P Q R : Type 0} (r : Result A E) → (P → Q → R) → OnOk r P → OnOk r Q → OnOk r R
+on-both (Ok x) f p q = f p q
+on-both (Err e) f p q = tt
+
+-- nothing was asked
+pub heeds_none : {A E : Type 0} (r : Result A E) (asks : List Asked) (state : HouseState) → Heeds r asks asks state state
+heeds_none r asks state = record {
+  more = [];
   unnoted = [];
-  noted = a.noted;
-  told_is = subst (λ (l : List Asked). TellsAsks told told' l) (sym (append-nil a.more)) a.told_is;
+  noted = sym (append-nil asks);
+  all_noted = on-any r refl;
+  told = tells_none state.told;
+  known = on-any r refl;
+  must = refl;
+  stands = on-any r (hands-none state.stands);
 }
+
+-- it was asked this
+pub heeds_ask : {A E F : Type 0} (r : Result A E) (client id : ℕ) (opening : Bool) (what : FwdAsk) (reply : HouseReply) {asks asks' : List Asked} {old new : HouseState} → asks' ≡ asks ++ HouseAsked client id opening (ask_of what) reply ∷ []
+    → GaveOr {HouseReply} {F} (Ok reply) (HouseAsked client id opening (ask_of what) reply ∷ []) (λ given. known_after_ask given client id opening) old new → Heeds r asks asks' old new
+heeds_ask r client id opening what reply noted gave = record {
+  more = HouseAsked client id opening (ask_of what) reply ∷ [];
+  unnoted = [];
+  noted = noted;
+  all_noted = on-any r refl;
+  told = gave.told;
+  known = on-any r gave.known;
+  must = gave.must;
+  stands = on-any r gave.stands;
+}
+
+-- it was asked this, which isn't noted
+pub heeds_unnoted : {A E : Type 0} (r : Result A E) (unnoted : List Asked) {asks asks' : List Asked} {old new : HouseState} → IsErr r → asks' ≡ asks → TellsAsks old.told new.told unnoted → new.must ≡ old.must → Heeds r asks asks' old new
+heeds_unnoted r unnoted {asks} bad same told must = record {
+  more = [];
+  unnoted = unnoted;
+  noted = same ∙ sym (append-nil asks);
+  all_noted = on-none r bad;
+  told = told;
+  known = on-none r bad;
+  must = must;
+  stands = on-none r bad;
+}
+
+-- of a call that answers otherwise
+pub heeds_any : {A E B F : Type 0} (r : Result A E) {x : B} {asks asks' : List Asked} {old new : HouseState} → Heeds {B} {F} (Ok x) asks asks' old new → Heeds r asks asks' old new
+heeds_any r h = record {
+  more = h.more;
+  unnoted = h.unnoted;
+  noted = h.noted;
+  all_noted = on-any r h.all_noted;
+  told = h.told;
+  known = on-any r h.known;
+  must = h.must;
+  stands = on-any r h.stands;
+}
+
+-- of a call that found no memory
+pub heeds_err : {A E B F : Type 0} (r : Result A E) {s : Result B F} {asks asks' : List Asked} {old new : HouseState} → IsErr r → Heeds s asks asks' old new → Heeds r asks asks' old new
+heeds_err r bad h = record {
+  more = h.more;
+  unnoted = h.unnoted;
+  noted = h.noted;
+  all_noted = on-none r bad;
+  told = h.told;
+  known = on-none r bad;
+  must = h.must;
+  stands = on-none r bad;
+}
+
+-- all that it was asked is noted
+pub heeds_told : {A E : Type 0} {x : A} {asks asks' : List Asked} {old new : HouseState} → (h : Heeds {A} {E} (Ok x) asks asks' old new) → TellsAsks old.told new.told h.more
+heeds_told {asks} {asks'} {old} {new} h = subst (λ (l : List Asked). TellsAsks old.told new.told l) (ap (λ (l : List Asked). h.more ++ l) h.all_noted ∙ append-nil h.more) h.told
 
 after_twice : (a b : List Asked) (known : Known) → known_after b (known_after a known) ≡ known_after (a ++ b) known
 after_twice [] b known = refl
 after_twice (HouseAsked client id opening ask reply ∷ a) b known = after_twice a b (known_after_ask reply client id opening known)
 after_twice (mark ∷ a) b known = after_twice a b known
 
-pub asked_then : (a b c : List Asked) (s t u : Option (List Asked)) (k l m : Known) → IsAsked a b s t k l → IsAsked b c t u l m → IsAsked a c s u k m
-asked_then a b c s t u k l m x y = record {
-  more = x.more ++ y.more;
-  noted = y.noted ∙ (ap (λ (z : List Asked). z ++ y.more) x.noted ∙ append_assoc a x.more y.more);
-  told_is = tells_then s t u x.more y.more x.told_is y.told_is;
-  known_is = y.known_is ∙ (ap (known_after y.more) x.known_is ∙ after_twice x.more y.more k);
-}
-
-pub asked_then_some : (a b c : List Asked) (s t u : Option (List Asked)) (k l : Known) → IsAsked a b s t k l → IsAskedSome b c t u → IsAskedSome a c s u
-asked_then_some a b c s t u k l x y = record {
-  more = x.more ++ y.more;
-  unnoted = y.unnoted;
-  noted = y.noted ∙ (ap (λ (z : List Asked). z ++ y.more) x.noted ∙ append_assoc a x.more y.more);
-  told_is = subst (λ (z : List Asked). TellsAsks s u z) (sym (append_assoc x.more y.more y.unnoted)) (tells_then s t u x.more (y.more ++ y.unnoted) x.told_is y.told_is);
+-- first these, then those
+pub heeds_then : {A E B F : Type 0} {x : A} {r : Result B F} {a b c : List Asked} {s t u : HouseState} → Heeds {A} {E} (Ok x) a b s t → Heeds r b c t u → Heeds r a c s u
+heeds_then {A} {E} {B} {F} {x} {r} {a} {b} {c} {s} {t} {u} h i = record {
+  more = h.more ++ i.more;
+  unnoted = i.unnoted;
+  noted = i.noted ∙ (ap (λ (z : List Asked). z ++ i.more) h.noted ∙ append_assoc a h.more i.more);
+  all_noted = i.all_noted;
+  told = subst (λ (z : List Asked). TellsAsks s.told u.told z) (sym (append_assoc h.more i.more i.unnoted)) (tells_then s.told t.told u.told h.more (i.more ++ i.unnoted) (heeds_told h) i.told);
+  known = on_ok_weaker r (λ k. k ∙ (ap (known_after i.more) h.known ∙ after_twice h.more i.more s.known)) i.known;
+  must = i.must ∙ h.must;
+  stands = on_ok_weaker r (λ k. subst (λ (l : List HouseCall). HandsOn s.stands u.stands l) (sym (calls-append h.more i.more)) (hands-then s.stands t.stands u.stands (calls_of h.more) (calls_of i.more) h.stands k)) i.stands;
 }
 
 -- an ask is no order
-pub ordering_after : (more : List Asked) (known : Known) → (known_after more known).ordering ≡ known.ordering
+ordering_after : (more : List Asked) (known : Known) → (known_after more known).ordering ≡ known.ordering
 ordering_after [] known = refl
 ordering_after (HouseAsked client id opening ask reply ∷ more) known = ordering_after more (known_after_ask reply client id opening known)
 ordering_after (mark ∷ more) known = ordering_after more known
 
-pub ordering_kept : (asks asks' : List Asked) (told told' : Option (List Asked)) (known known' : Known) → IsAsked asks asks' told told' known known' → known'.ordering ≡ known.ordering
-ordering_kept asks asks' told told' known known' a = ap (λ (k : Known). k.ordering) a.known_is ∙ ordering_after a.more known
-
--- of a call that found no memory
-pub heeds_err : {A E : Type 0} (r : Result A E) (asks asks' : List Asked) (told told' : Option (List Asked)) (known known' : Known) → IsErr r → IsAskedSome asks asks' told told' → Heeds r asks asks' told told' known known'
-heeds_err (Ok x) asks asks' told told' known known' bad some = let no : false ≡ true = bad in cc
-heeds_err (Err e) asks asks' told told' known known' bad some = some
-
--- it was asked once more, and that is noted, or not
-pub asked_not : (asks : List Asked) (told told' : Option (List Asked)) (unnoted : List Asked) → TellsAsks told told' unnoted → IsAskedSome asks asks told told'
-asked_not asks told told' unnoted told_is = record { more = []; unnoted = unnoted; noted = sym (append-nil asks); told_is = told_is }
-
--- ---- what it was handed
-
-pub handed_none : (asks : List Asked) (stands : List HouseCall → Type 0) → HandsAsks asks asks stands stands
-handed_none asks stands = record { more = []; noted = sym (append-nil asks); hands = hands-none stands }
-
-pub handed_then : (a b c : List Asked) (s t u : List HouseCall → Type 0) → HandsAsks a b s t → HandsAsks b c t u → HandsAsks a c s u
-handed_then a b c s t u x y = record {
-  more = x.more ++ y.more;
-  noted = y.noted ∙ (ap (λ (z : List Asked). z ++ y.more) x.noted ∙ append_assoc a x.more y.more);
-  hands = subst (λ (l : List HouseCall). HandsOn s u l) (sym (calls-append x.more y.more)) (hands-then s t u (calls_of x.more) (calls_of y.more) x.hands y.hands);
-}
+pub ordering_kept : {A E : Type 0} {x : A} {asks asks' : List Asked} {old new : HouseState} → Heeds {A} {E} (Ok x) asks asks' old new → new.known.ordering ≡ old.known.ordering
+ordering_kept {old} h = ap (λ (k : Known). k.ordering) h.known ∙ ordering_after h.more old.known

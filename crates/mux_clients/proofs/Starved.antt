@@ -2,7 +2,7 @@
 use Rattle.std.proofs.Common.{◌≡◌, ◌<◌, ◌&&◌, ℕ, zero, suc, get_or, Bool, true, false, List, [], ◌∷◌, ◌++◌, length, map, Option, Some, None, Ok, Err, Result, refl, sym, ap, ◌∙◌, subst, inl, inr, ◌⊎◌, append_assoc, append-nil, cond, arith}
 use Rattle.std.specs.Prelude.{◌==◌, MatchBool, OnErr, is_some}
 use Rattle.std.proofs.lemmas.List.{append_cancel_left}
-use Rattle.mux_outside.specs.House.{Known}
+use Rattle.mux_outside.specs.House.{HouseState}
 use Rattle.mux_outside.specs.declared.house_mark.HouseMark.{HouseMark as Asked}
 use Rattle.mux_outside.specs.declared.house.HouseReply.{HouseReply}
 use Rattle.ssh_grammar.specs.Control.{ForwardAsk, OpenForward, CloseForward}
@@ -28,12 +28,12 @@ use Rattle.mux_clients.specs.State.{ClientState, SeatState}
 use Rattle.mux_clients.specs.Stands.{is_greeted, is_proxied, is_read, mode_of, standing_of}
 use Rattle.mux_clients.specs.Stands as stands
 use Rattle.mux_clients.specs.Among.{client_index}
-use Rattle.mux_clients.specs.Asked.{IsAsked, TellsAsks, ask_of, asked_by, asked_of, item_asks, reading_asks, saying_asks}
+use Rattle.mux_clients.specs.Asked.{Heeds, TellsAsks, ask_of, asked_by, asked_of, item_asks, reading_asks, saying_asks}
 use Rattle.mux_clients.specs.Decisions.{DecidesBy, reply_list}
 use Rattle.mux_clients.specs.Pieces.{Hearing, HearsPiece, ReadsOn, ReplyNext, RunsTo, behind, rows_said}
 use Rattle.mux_clients.specs.Starved.{AsksAtMost, AsksBody, AsksFront, AsksNext, AsksThis, BeginsWith, HearsSome, OneIs}
 use Rattle.mux_clients.proofs.Fronts.{Cuts, client_of, front_at, front_was}
-use Rattle.mux_clients.proofs.Heeding.{tells_none, tells_then}
+use Rattle.mux_clients.proofs.Heeding.{heeds_told, tells_none, tells_then}
 use Rattle.mux_clients.proofs.Journaled.{map-append, more-append}
 use Rattle.mux_clients.proofs.Looped.{control-says, may_both}
 use Rattle.mux_clients.proofs.Mores.{body-row, parts-of, reply-after, reply-first}
@@ -69,16 +69,16 @@ held : (a b : List Asked) → Some a ≡ Some b → a ≡ b
 held a b e = cc
 
 -- what the house was asked is what was noted of it
-pub told-noted : (asks asks' : List Asked) (told told' : Option (List Asked)) (known known' : Known) (xs : List Asked) → IsAsked asks asks' told told' known known' → TellsAsks (Some asks) (Some asks') xs → TellsAsks told told' xs
-told-noted asks asks' told told' known known' xs a tells = subst (TellsAsks told told') (append_cancel_left asks a.more xs (sym a.noted ∙ held asks' (asks ++ xs) tells)) a.told_is
+pub told-noted : {A E : Type 0} {x : A} {asks asks' : List Asked} {old new : HouseState} (xs : List Asked) → Heeds {A} {E} (Ok x) asks asks' old new → TellsAsks (Some asks) (Some asks') xs → TellsAsks old.told new.told xs
+told-noted {asks} {asks'} {old} {new} xs h tells = subst (TellsAsks old.told new.told) (append_cancel_left asks h.more xs (sym h.noted ∙ held asks' (asks ++ xs) tells)) (heeds_told h)
 
 asks-given : (May : HouseReply → Type 0) (told told' : Option (List Asked)) (k : ℕ) (greets : Bool) (body : List ℕ) (given : Option HouseReply) → MayGive May (reply_list given) → is_some given ≡ (greets && body_asks body) → TellsAsks told told' (saying_asks k (Body body) given) → AsksAtMost May told told' k greets body
 asks-given May told told' k greets body None may asked tells = inl (tells ∙ sym (tells_none told))
 asks-given May told told' k greets body (Some given) may asked tells = inr (record { asks = sym asked; this = (given, (may.0, tells)) })
 
 -- of a body of which all was decided
-pub asks-decided : (May : HouseReply → Type 0) (asks asks' : List Asked) (told told' : Option (List Asked)) (known known' : Known) (pid k : ℕ) (greets : Bool) (body : List ℕ) (d : Decision) → DecidesBy May (Some asks) (Some asks') pid k greets body d → IsAsked asks asks' told told' known known' → AsksAtMost May told told' k greets body
-asks-decided May asks asks' told told' known known' pid k greets body d by a = asks-given May told told' k greets body by.given by.may by.decides.asked (told-noted asks asks' told told' known known' (saying_asks k (Body body) by.given) a by.told)
+pub asks-decided : {A E : Type 0} {x : A} (May : HouseReply → Type 0) {asks asks' : List Asked} {old new : HouseState} (pid k : ℕ) (greets : Bool) (body : List ℕ) (d : Decision) → DecidesBy May (Some asks) (Some asks') pid k greets body d → Heeds {A} {E} (Ok x) asks asks' old new → AsksAtMost May old.told new.told k greets body
+asks-decided May {asks} {asks'} {old} {new} pid k greets body d by h = asks-given May old.told new.told k greets body by.given by.may by.decides.asked (told-noted (saying_asks k (Body body) by.given) h by.told)
 
 -- ---- the frame at the front
 
@@ -163,24 +163,24 @@ asked-row policy pid picks given k mode all picked used asks rows core up now he
     ∙ (ap (λ (l : List Asked). l ++ more) r.asked ∙ append_assoc (asked_of rows) asks more)))
 
 -- what was asked so far, and what the front asks
-pub hears-some : (May : HouseReply → Type 0) (asks asks' : List Asked) (told mid told' : Option (List Asked)) (known known' : Known) (pid : ℕ) (bytes : List ℕ) (core0 core : CoreState) (up0 up : QueueState) (first now : ClientState) (heard : Heard) → is_read first.seat.standing ≡ true → is_read now.seat.standing ≡ true
-    → Hearing May (Some asks) (Some asks') pid (first.rest ++ bytes) core0 up0 first core up now heard → IsAsked asks asks' told mid known known' → AsksNext May mid told' now.seat.number now.seat.standing (first_in (mode_of now.seat.standing) now.rest) → HearsSome May told told' pid bytes core0 up0 first
-hears-some May asks asks' told mid told' known known' pid bytes core0 core up0 up first now heard read0 read h a next = by_next next
+pub hears-some : {A E : Type 0} {x : A} (May : HouseReply → Type 0) {asks asks' : List Asked} {old mid : HouseState} (told' : Option (List Asked)) (pid : ℕ) (bytes : List ℕ) (core0 core : CoreState) (up0 up : QueueState) (first now : ClientState) (heard : Heard) → is_read first.seat.standing ≡ true → is_read now.seat.standing ≡ true
+    → Hearing May (Some asks) (Some asks') pid (first.rest ++ bytes) core0 up0 first core up now heard → Heeds {A} {E} (Ok x) asks asks' old mid → AsksNext May mid.told told' now.seat.number now.seat.standing (first_in (mode_of now.seat.standing) now.rest) → HearsSome May old.told told' pid bytes core0 up0 first
+hears-some May {asks} {asks'} {old} {mid} told' pid bytes core0 core up0 up first now heard read0 read h a next = by_next next
   where
-    so-far : TellsAsks told mid h.asks
-    so-far = told-noted asks asks' told mid known known' h.asks a h.tells
+    so-far : TellsAsks old.told mid.told h.asks
+    so-far = told-noted h.asks a h.tells
 
     all : Parsed
     all = parse (mode_of first.seat.standing) (first.rest ++ bytes)
 
-    by_next : AsksNext May mid told' now.seat.number now.seat.standing (first_in (mode_of now.seat.standing) now.rest) → HearsSome May told told' pid bytes core0 up0 first
+    by_next : AsksNext May mid.told told' now.seat.number now.seat.standing (first_in (mode_of now.seat.standing) now.rest) → HearsSome May old.told told' pid bytes core0 up0 first
     by_next (inl same) = record {
       read = read0;
       picked = h.picked;
       used = h.used;
       asks = h.asks;
       may = h.may;
-      tells = subst (λ (t : Option (List Asked)). TellsAsks told t h.asks) (sym same) so-far;
+      tells = subst (λ (t : Option (List Asked)). TellsAsks old.told t h.asks) (sym same) so-far;
       begins = λ picks given rows fits live come reply.
           let r = h.goes picks given rows fits live come reply in
           begins-on core0.policy pid picks given first.seat.number rows r.says (parse (mode_of now.seat.standing) now.rest).says all.says h.asks (ap (λ (p : Parsed). p.says) (r.reads read).rest) r.asked;
@@ -196,7 +196,7 @@ hears-some May asks asks' told mid told' known known' pid bytes core0 core up0 u
           used = h.used ++ given ∷ [];
           asks = h.asks ++ more;
           may = may_both May h.used (given ∷ []) h.may (f.asks.this.1.0, tt);
-          tells = tells_then told mid told' h.asks more so-far f.asks.this.1.1;
+          tells = tells_then old.told mid.told told' h.asks more so-far f.asks.this.1.1;
           begins = λ picks replies rows fits live come reply.
               let r = h.goes picks replies rows fits live come (reply-first h.used (given ∷ []) rows replies reply) in
               let left : Parsed = parse (mode_after (mode_of s) f.body) f.rest in
@@ -206,9 +206,9 @@ hears-some May asks asks' told mid told' known known' pid bytes core0 core up0 u
         }
 
 -- all of it was taken in, and then there was no memory
-pub hears-all : (May : HouseReply → Type 0) (asks asks' : List Asked) (told told' : Option (List Asked)) (known known' : Known) (pid : ℕ) (bytes : List ℕ) (core0 core : CoreState) (up0 up : QueueState) (first now : ClientState) (heard : Heard)
-    → is_read first.seat.standing ≡ true → HearsPiece May (Some asks) (Some asks') pid bytes core0 up0 first core up now heard → IsAsked asks asks' told told' known known' → HearsSome May told told' pid bytes core0 up0 first
-hears-all May asks asks' told told' known known' pid bytes core0 core up0 up first now heard read0 piece a =
+pub hears-all : {A E : Type 0} {x : A} (May : HouseReply → Type 0) {asks asks' : List Asked} {old new : HouseState} (pid : ℕ) (bytes : List ℕ) (core0 core : CoreState) (up0 up : QueueState) (first now : ClientState) (heard : Heard)
+    → is_read first.seat.standing ≡ true → HearsPiece May (Some asks) (Some asks') pid bytes core0 up0 first core up now heard → Heeds {A} {E} (Ok x) asks asks' old new → HearsSome May old.told new.told pid bytes core0 up0 first
+hears-all May {asks} {asks'} {old} {new} pid bytes core0 core up0 up first now heard read0 piece a =
     let h = piece.hearing in
     record {
       read = read0;
@@ -216,7 +216,7 @@ hears-all May asks asks' told told' known known' pid bytes core0 core up0 up fir
       used = h.used;
       asks = h.asks;
       may = h.may;
-      tells = told-noted asks asks' told told' known known' h.asks a h.tells;
+      tells = told-noted h.asks a h.tells;
       begins = λ picks given rows fits live come reply.
           let r = h.goes picks given rows fits live come reply in
           by_read picks given rows r (is_read now.seat.standing) refl;

@@ -5,7 +5,7 @@ ghost use Rattle.ssh_grammar.specs.declared.framing.Framing.TheVariants.{Proxy};
 ghost use Rattle.ssh_grammar.specs.IsFrame.{IsContent};
 ghost use Rattle.ssh_grammar.specs.Frames.{frame_payload};
 ghost use Rattle.mux_clients.specs.State.{refusals_of};
-ghost use Rattle.mux_clients.specs.Asked.{HandsAsks, Heeds};
+ghost use Rattle.mux_clients.specs.Asked.{Heeds};
 ghost use Rattle.mux_clients.specs.Among.{ChangesOne, HearsAt, IsUntouched, client_index, is_present, numbers};
 ghost use Rattle.mux_clients.specs.Pieces.{HearsIn, unheard};
 ghost use Rattle.mux_clients.specs.Starved.{HearsSome, OneIs};
@@ -13,13 +13,13 @@ ghost use Rattle.mux_clients.specs.Losing.{LosesIn, loss_between};
 ghost use Rattle.mux_clients.specs.Room.{HasRoom};
 ghost use Rattle.mux_clients.specs.Answering.{AnswersAt};
 
-use crate::asks::Asks;
+use crate::ask_log::AskLog;
 use crate::client::Client;
 use crate::heard::Heard;
 use crate::standing::Standing;
 use mux_core::Core;
 use mux_history::Why;
-use mux_outside::{House, HouseReply};
+use mux_outside::{Asks, HouseReply};
 use proxy_frames::Queue;
 use ssh_fields::OutOfMemory;
 
@@ -119,33 +119,29 @@ pub fn answer_at(
 }
 
 /// A piece of the bytes of the client of a number, where it is read: what it did beyond the client.
-#[tactic(auto, using(crate::proofs::Heeding::asked_none, crate::proofs::Heeding::handed_none))]
-pub fn got_at<H: House>(
+#[tactic(auto, using(crate::proofs::Heeding::heeds_none))]
+pub fn got_at<H: Asks>(
     clients: &mut [Client],
     number: u64,
     pid: u32,
     bytes: &[u8],
     house: &mut H,
-    asks: &mut Asks,
+    asks: &mut AskLog,
     core: &mut Core,
     up: &mut Queue,
 ) -> Result<Heard, OutOfMemory>
     requires room { HasRoom clients.old up.old }
-    requires ordering { (H.known house.old).ordering ≡ None }
+    requires ordering { (H.state house.old).known.ordering ≡ None }
     ensures hears { IfOk result (λ heard. is_present clients.old number ≡ true
         → ChangesOne number (HearsIn H.may (Some asks.old) (Some asks.new) pid bytes.now
         core.old core.new up.old up.new heard) clients.old clients.new) }
     ensures absent { is_present clients.old number ≡ false
         → IsUntouched clients.old clients.new core.old core.new up.old up.new }
     ensures silent { is_present clients.old number ≡ false → result ≡ Ok unheard }
-    ensures heeds { Heeds result asks.old asks.new (H.told house.old) (H.told house.new)
-        (H.known house.old) (H.known house.new) }
-    ensures handed { OnOk result (HandsAsks asks.old asks.new (H.stands house.old)
-        (H.stands house.new)) }
-    ensures must { H.must house.new ≡ H.must house.old }
+    ensures heeds { Heeds result asks.old asks.new (H.state house.old) (H.state house.new) }
     ensures untold { is_present clients.old number ≡ false → asks.new ≡ asks.old }
-    ensures cut { OnErr result (OneIs number (HearsSome H.may (H.told house.old)
-        (H.told house.new) pid bytes.now core.old up.old) clients.old) }
+    ensures cut { OnErr result (OneIs number (HearsSome H.may (H.state house.old).told
+        (H.state house.new).told pid bytes.now core.old up.old) clients.old) }
     ensures present { OnOk result ((j : ℕ) → is_present clients.new j ≡ is_present clients.old j) }
     ensures numbers { OnOk result (numbers clients.new ≡ numbers clients.old) }
     ensures room { OnOk result (HasRoom clients.old up.old → HasRoom clients.new up.new) }

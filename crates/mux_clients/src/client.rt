@@ -2,7 +2,7 @@ ghost use Rattle.std.specs.Prelude.{◌≡◌, ◌≤◌, ◌+◌, [], ◌∷◌
 ghost use Rattle.ssh_grammar.specs.declared.framing.Framing.TheVariants.{Proxy};
 ghost use Rattle.ssh_grammar.specs.IsFrame.{IsContent};
 ghost use Rattle.ssh_grammar.specs.Frames.{frame_payload};
-ghost use Rattle.mux_clients.specs.Asked.{HandsAsks, Heeds};
+ghost use Rattle.mux_clients.specs.Asked.{Heeds};
 ghost use Rattle.mux_clients.specs.State.{client_took, part, refusals_of, KeepsRoom};
 ghost use Rattle.mux_clients.specs.Hears.{HearsTold};
 ghost use Rattle.ssh_grammar.specs.Said.{first_in};
@@ -15,14 +15,14 @@ ghost use Rattle.mux_clients.specs.Losing.{LosesIn};
 ghost use Rattle.mux_clients.specs.Answering.{AnswersIn};
 ghost use Rattle.mux_clients.specs.Entering.{Enters, new_client};
 
-use crate::asks::Asks;
+use crate::ask_log::AskLog;
 use crate::decision::decide;
 use crate::heard::Heard;
 use crate::seat::Seat;
 use crate::standing::Standing;
 use client_teardown::FAREWELL_ROOM;
 use mux_core::Core;
-use mux_outside::{House, HouseReply};
+use mux_outside::{Asks, HouseReply};
 use proxy_frames::{Framer, Framing, Next, Queue};
 use ssh_fields::OutOfMemory;
 use std::alloc::Global;
@@ -107,29 +107,25 @@ impl Client {
     }
 
     /// A piece of its bytes, where it is read.
-    pub fn hear<H: House>(
+    pub fn hear<H: Asks>(
         &mut self,
         pid: u32,
         bytes: &[u8],
         house: &mut H,
-        asks: &mut Asks,
+        asks: &mut AskLog,
         core: &mut Core,
         up: &mut Queue,
     ) -> Result<Heard, OutOfMemory>
         requires room { is_read self.old.seat.standing ≡ true → FAREWELL_ROOM ≤ up.old.spare }
-        requires ordering { (H.known house.old).ordering ≡ None }
+        requires ordering { (H.state house.old).known.ordering ≡ None }
         ensures number { OnOk result (self.new.seat.number ≡ self.old.seat.number) }
         ensures room { OnOk result (LeavesRoom up.old up.new self.old self.new) }
         ensures hears { IfOk result (λ heard.
             HearsIn H.may (Some asks.old) (Some asks.new) pid bytes.now core.old core.new
             up.old up.new heard self.old self.new) }
-        ensures heeds { Heeds result asks.old asks.new (H.told house.old) (H.told house.new)
-            (H.known house.old) (H.known house.new) }
-        ensures handed { OnOk result (HandsAsks asks.old asks.new (H.stands house.old)
-            (H.stands house.new)) }
-        ensures must { H.must house.new ≡ H.must house.old }
-        ensures cut { OnErr result (HearsSome H.may (H.told house.old) (H.told house.new) pid
-            bytes.now core.old up.old self.old) }
+        ensures heeds { Heeds result asks.old asks.new (H.state house.old) (H.state house.new) }
+        ensures cut { OnErr result (HearsSome H.may (H.state house.old).told
+            (H.state house.new).told pid bytes.now core.old up.old self.old) }
         ensures policy { OnOk result (core.new.policy ≡ core.old.policy) }
     {
         if self.seat.is_read() {
@@ -230,28 +226,24 @@ impl Client {
     }
 
     // What it says next: whether anything whole was there.
-    fn say_next<H: House>(
+    fn say_next<H: Asks>(
         &mut self,
         pid: u32,
         heard: &mut Heard,
         house: &mut H,
-        asks: &mut Asks,
+        asks: &mut AskLog,
         core: &mut Core,
         up: &mut Queue,
     ) -> Result<bool, OutOfMemory>
         requires read { is_read self.old.seat.standing ≡ true }
         requires room { FAREWELL_ROOM ≤ up.old.spare }
-        requires ordering { (H.known house.old).ordering ≡ None }
-        ensures heeds { Heeds result asks.old asks.new (H.told house.old) (H.told house.new)
-            (H.known house.old) (H.known house.new) }
-        ensures handed { OnOk result (HandsAsks asks.old asks.new (H.stands house.old)
-            (H.stands house.new)) }
-        ensures must { H.must house.new ≡ H.must house.old }
+        requires ordering { (H.state house.old).known.ordering ≡ None }
+        ensures heeds { Heeds result asks.old asks.new (H.state house.old) (H.state house.new) }
         ensures next { IfOk result (λ more.
             SaysNext H.may (Some asks.old) (Some asks.new) pid more
             (first_in (mode_of self.old.seat.standing) self.old.rest) core.old core.new up.old
             up.new self.old heard.old self.new heard.new) }
-        ensures cut { OnErr result (AsksNext H.may (H.told house.old) (H.told house.new)
+        ensures cut { OnErr result (AsksNext H.may (H.state house.old).told (H.state house.new).told
             self.old.seat.number self.old.seat.standing
             (first_in (mode_of self.old.seat.standing) self.old.rest)) }
         ensures policy { core.new.policy ≡ core.old.policy }
@@ -288,28 +280,24 @@ impl Client {
     }
 
     /// Its stream gave bytes, where it is read: what they did beyond it.
-    pub fn got<H: House>(
+    pub fn got<H: Asks>(
         &mut self,
         pid: u32,
         bytes: &[u8],
         house: &mut H,
-        asks: &mut Asks,
+        asks: &mut AskLog,
         core: &mut Core,
         up: &mut Queue,
     ) -> Result<Heard, OutOfMemory>
         requires read { is_read self.old.seat.standing ≡ true }
         requires room { FAREWELL_ROOM ≤ up.old.spare }
-        requires ordering { (H.known house.old).ordering ≡ None }
-        ensures heeds { Heeds result asks.old asks.new (H.told house.old) (H.told house.new)
-            (H.known house.old) (H.known house.new) }
-        ensures handed { OnOk result (HandsAsks asks.old asks.new (H.stands house.old)
-            (H.stands house.new)) }
-        ensures must { H.must house.new ≡ H.must house.old }
+        requires ordering { (H.state house.old).known.ordering ≡ None }
+        ensures heeds { Heeds result asks.old asks.new (H.state house.old) (H.state house.new) }
         ensures hears { IfOk result (λ heard.
             HearsPiece H.may (Some asks.old) (Some asks.new) pid bytes.now core.old up.old
             self.old core.new up.new self.new heard) }
-        ensures cut { OnErr result (HearsSome H.may (H.told house.old) (H.told house.new) pid
-            bytes.now core.old up.old self.old) }
+        ensures cut { OnErr result (HearsSome H.may (H.state house.old).told
+            (H.state house.new).told pid bytes.now core.old up.old self.old) }
         ensures policy { OnOk result (core.new.policy ≡ core.old.policy) }
         ensures number { OnOk result (self.new.seat.number ≡ self.old.seat.number) }
         ensures spare { OnOk result (KeepsRoom up.old up.new self.new.seat.standing) }

@@ -181,7 +181,7 @@ serve-closed {May} {Rest} {before} {now} {policy} {pid} {start} {seen} {held} {f
       rested = v.rested;
       absent = v.absent;
       tells = v.tells;
-      of_wire = (wire-keeps seen.streams seen.blocked seen.last seen.listeners seen.own seen.last_own v.journal).close k v.of_wire;
+      of_wire = (wire-keeps seen v.journal).close k v.of_wire;
       places = record {
         own = stays-all k seen.own (none-closed v k first) ∙ v.places.own;
         listeners = v.places.listeners;

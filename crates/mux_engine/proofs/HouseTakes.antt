@@ -96,7 +96,7 @@ module _ {May : HouseReply → Type 0} {Rest : Resting} {before : Option (List H
         rested = λ picks later. tt;
         absent = λ e. true-false (sym (v.house_there within) ∙ e);
         turns = v.turns;
-        placed = placed-still v mark (seen-with (HouseTook n ∷ []) seen) s' ((wire-keeps seen.streams seen.blocked seen.last seen.listeners seen.own seen.last_own v.journal).note (HouseTook n) (v.house_in ∙ within) refl v.of_wire) refl refl refl refl refl same.streams (λ t. refl) (λ t. refl) (λ t. refl) (owns-plain v.journal seen (seen-with (HouseTook n ∷ []) seen) mark tt v.places refl refl refl);
+        placed = placed-still v mark (seen-with (HouseTook n ∷ []) seen) s' ((wire-keeps seen v.journal).note (HouseTook n) (v.house_in ∙ within) refl v.of_wire) refl refl refl refl refl same.streams (λ t. refl) (λ t. refl) (λ t. refl) (owns-plain v.journal seen (seen-with (HouseTook n ∷ []) seen) mark tt v.places refl refl refl);
         sound = λ picks later.
             let set : Setting = by_lists policy pid (v.picked ++ picks) (v.replies ++ later) in
             let old : IsSound set v.journal todo s = v.sound picks later in
@@ -119,7 +119,7 @@ module _ {May : HouseReply → Type 0} {Rest : Resting} {before : Option (List H
   house-said v live e bytes noted within tells some few are room =
       let mark : Mark = House (HouseSaid bytes) in
       let here_is : is_accepted HOUSE v.journal ≡ true = v.house_in ∙ within in
-      let of = (wire-keeps seen.streams seen.blocked seen.last seen.listeners seen.own seen.last_own v.journal).note (HouseSaid bytes) (here_is, some, few, are) refl v.of_wire in
+      let of = (wire-keeps seen v.journal).note (HouseSaid bytes) (here_is, some, few, are) refl v.of_wire in
       record {
         mark = mark;
         twin = Gets HOUSE bytes;

@@ -127,13 +127,13 @@ module _ {May : HouseReply → Type 0} {Rest : Resting} {before : Option (List H
       (λ j c e. true-false (sym c ∙ (ap (λ i. among i v.closed) (sym e) ∙ ((v.stands.at [] []).bytes.strange HOUSE (alone first)).not_closed_yet))) (λ picks later. tt)
       (subst (Notes now (record now { let_in = true }) (House HouseIn)) (sym (unasked-none May v.stands g1 none)) (record { more = []; told_is = tells-none now.told; noted_is = sym (append-nil now.unnoted); asks_are = refl })) (λ set. calls-none now)
       (askers-more v (House HouseIn)) refl (λ e. there) (λ set. tt) (λ e. true-false (sym there ∙ e)) v.turns refl
-      (placed-house-in v (seen-with (HouseIn ∷ []) seen) s' ((wire-keeps seen.streams seen.blocked seen.last seen.listeners seen.own seen.last_own v.journal).note HouseIn first refl v.of_wire) refl refl refl refl refl (came (Accepted HOUSE) HOUSE s s' refl admitted (keeps.streams live))
+      (placed-house-in v (seen-with (HouseIn ∷ []) seen) s' ((wire-keeps seen v.journal).note HouseIn first refl v.of_wire) refl refl refl refl refl (came (Accepted HOUSE) HOUSE s s' refl admitted (keeps.streams live))
       (owns-plain v.journal seen (seen-with (HouseIn ∷ []) seen) (House HouseIn) tt v.places refl refl refl))
 
   -- there was no memory to let it in
   pub cut-let-in : v.journal ≡ [] → Rest.present ≡ true → Promised May Rest before now.told policy pid start (seen-with (HouseIn ∷ []) seen).told given
   cut-let-in first there = cut-next v now.told (seen-with (HouseIn ∷ []) seen).told given (House HouseIn) [] now.unnoted refl (tells-none now.told) (sym (append-nil now.unnoted))
-      (of-streams seen.streams seen.blocked seen.last (House HouseIn ∷ v.journal) ((wire-keeps seen.streams seen.blocked seen.last seen.listeners seen.own seen.last_own v.journal).note HouseIn first refl v.of_wire)) (record { opened = tt; gives = tt; writes = tt; joins = tt })
+      (of-streams seen.streams seen.blocked seen.last (House HouseIn ∷ v.journal) ((wire-keeps seen v.journal).note HouseIn first refl v.of_wire)) (record { opened = tt; gives = tt; writes = tt; joins = tt })
       (let w : turns_in v.journal ≡ given = v.turns in omega arith) (λ set. tt) (λ e. true-false (sym there ∙ e)) (on-next v (House HouseIn)) (λ set. inr (0, refl)) (λ picks later. record { takes = tt; waits = tt; speaks = tt; open_streams = tt })
 
   -- ---- it answers
@@ -150,11 +150,11 @@ module _ {May : HouseReply → Type 0} {Rest : Resting} {before : Option (List H
       (subst (Notes now (record now { unnoted = rest }) (House m)) (sym (unasked-none May v.stands g1 none)) (record { more = []; told_is = tells-none now.told; noted_is = sym e ∙ sym (append-nil now.unnoted); asks_are = refl }))
       (λ set. calls-told now (record now { unnoted = rest }) (m ∷ []) [] (sym e ∙ sym (append-nil now.unnoted)) (sym (append-nil now.calls)))
       (askers-more v (House m)) v.house_in v.house_there (λ set. tt) (λ e. true-false (sym (v.house_there within) ∙ e)) v.turns refl
-      (placed-still v (House m) (seen-with (m ∷ []) seen) s' ((wire-keeps seen.streams seen.blocked seen.last seen.listeners seen.own seen.last_own v.journal).note m asked refl v.of_wire) refl refl refl refl refl (stayed (HouseSays client id reply) (House m) s s' (nz, refl) tt (keeps.streams live)) (λ t. refl) (λ t. refl) (λ t. refl)
+      (placed-still v (House m) (seen-with (m ∷ []) seen) s' ((wire-keeps seen v.journal).note m asked refl v.of_wire) refl refl refl refl refl (stayed (HouseSays client id reply) (House m) s s' (nz, refl) tt (keeps.streams live)) (λ t. refl) (λ t. refl) (λ t. refl)
       (owns-plain v.journal seen (seen-with (m ∷ []) seen) (House m) tt v.places refl refl refl))
 
   pub cut-answers : (client id : ℕ) (reply : HouseReply) (rest : List HouseMark) → now.unnoted ≡ HouseAnswer client id reply ∷ rest → now.let_in ≡ true → is_accepted client v.journal ≡ true → Promised May Rest before now.told policy pid start (seen-with (HouseAnswer client id reply ∷ []) seen).told given
   cut-answers client id reply rest e within asked = let m : HouseMark = HouseAnswer client id reply in
       cut-next v now.told (seen-with (m ∷ []) seen).told given (House m) [] rest refl (tells-none now.told) (sym e ∙ sym (append-nil now.unnoted))
-      (of-streams seen.streams seen.blocked seen.last (House m ∷ v.journal) ((wire-keeps seen.streams seen.blocked seen.last seen.listeners seen.own seen.last_own v.journal).note m asked refl v.of_wire)) (record { opened = tt; gives = tt; writes = tt; joins = tt })
+      (of-streams seen.streams seen.blocked seen.last (House m ∷ v.journal) ((wire-keeps seen v.journal).note m asked refl v.of_wire)) (record { opened = tt; gives = tt; writes = tt; joins = tt })
       (let w : turns_in v.journal ≡ given = v.turns in omega arith) (λ set. tt) (λ e. true-false (sym (v.house_there within) ∙ e)) (on-next v (House m)) (λ set. inr (0, refl)) (λ picks later. record { takes = tt; waits = tt; speaks = tt; open_streams = tt })

@@ -39,7 +39,7 @@ module _ {May : HouseReply → Type 0} {Rest : Resting} {before : Option (List H
       (record { more = []; told_is = tells-none now.told; noted_is = sym e ∙ sym (append-nil now.unnoted); asks_are = refl })
       (λ set. calls-told now (record now { unnoted = rest }) (m ∷ []) [] (sym e ∙ sym (append-nil now.unnoted)) (sym (append-nil now.calls)))
       refl refl refl v.turns
-      (placed-still v (House m) (seen-with (m ∷ []) seen) s ((wire-keeps seen.streams seen.blocked seen.last seen.listeners seen.own seen.last_own v.journal).note m tt refl v.of_wire) refl refl refl refl refl refl (λ t. refl) (λ t. refl) (λ t. refl)
+      (placed-still v (House m) (seen-with (m ∷ []) seen) s ((wire-keeps seen v.journal).note m tt refl v.of_wire) refl refl refl refl refl refl (λ t. refl) (λ t. refl) (λ t. refl)
       (owns-plain v.journal seen (seen-with (m ∷ []) seen) (House m) tt v.places refl refl refl))
 
   -- as many as were

@@ -82,7 +82,7 @@ next-takes {May} {Rest} {before} {now} {policy} {pid} {start} {seen} {held} {fai
       rested = λ picks later. tt;
       absent = λ e. refl;
       turns = v.turns;
-      placed = placed-still v mark (seen_after_write (wrote.Took n) k bytes seen) s' ((wire-keeps seen.streams seen.blocked seen.last seen.listeners seen.own seen.last_own v.journal).write (wrote.Took n) k bytes are (omega arith) (stream-open v k opened ne) (one, fits) v.of_wire)
+      placed = placed-still v mark (seen_after_write (wrote.Took n) k bytes seen) s' ((wire-keeps seen v.journal).write (wrote.Took n) k bytes are (omega arith) (stream-open v k opened ne) (one, fits) v.of_wire)
           refl refl refl refl refl same.streams (λ t. refl) (λ t. refl) (λ t. refl)
           (owns-as v.journal seen (seen_after_write (wrote.Took n) k bytes seen) mark v.places (takes-placed v.journal k (take n bytes) (writes-client v.journal k (open-own v k opened ne))) (λ o. refl) (λ l. refl) refl refl refl);
       sound = λ picks later.
@@ -124,7 +124,7 @@ next-holds {May} {Rest} {before} {now} {policy} {pid} {start} {seen} {held} {fai
       rested = λ picks later. tt;
       absent = λ e. refl;
       turns = v.turns;
-      placed = placed-by v mark (seen_after_write wrote.Later k bytes seen) (held ++ k ∷ []) failed s k there ((wire-keeps seen.streams seen.blocked seen.last seen.listeners seen.own seen.last_own v.journal).write wrote.Later k bytes are some there tt v.of_wire)
+      placed = placed-by v mark (seen_after_write wrote.Later k bytes seen) (held ++ k ∷ []) failed s k there ((wire-keeps seen v.journal).write wrote.Later k bytes are some there tt v.of_wire)
           refl refl refl refl refl (ap (λ l. l ++ k ∷ []) v.held_is) (now-blocked ∙ sym (holds-blocked k k v.journal true (test-same k))) (λ t q. among-other-last k t seen.blocked q) (λ t q. blocked-other mark v.journal t tt q) (λ t. refl) (λ t q. refl)
           (λ own f. v.failed_are k own there f) (λ t a. a)
           (owns-as v.journal seen (seen_after_write wrote.Later k bytes seen) mark v.places (holds-placed v.journal k (writes-client v.journal k (open-own v k opened ne))) (λ o. refl) (λ l. refl) refl refl refl);
@@ -169,7 +169,7 @@ next-fails {May} {Rest} {before} {now} {policy} {pid} {start} {seen} {held} {fai
       rested = λ picks later. tt;
       absent = λ e. refl;
       turns = v.turns;
-      placed = placed-by v mark (seen_after_write wrote.Failed k bytes seen) held failed s' k there ((wire-keeps seen.streams seen.blocked seen.last seen.listeners seen.own seen.last_own v.journal).write wrote.Failed k bytes are some there tt v.of_wire)
+      placed = placed-by v mark (seen_after_write wrote.Failed k bytes seen) held failed s' k there ((wire-keeps seen v.journal).write wrote.Failed k bytes are some there tt v.of_wire)
           refl refl refl refl same v.held_is (v.blocked_is k there) (λ t q. refl) (λ t q. refl) (λ t. refl) (λ t q. has-failed-other k t v.journal q)
           (λ own f. true-false (sym own ∙ open-own v k opened ne)) (λ t a. a)
           (owns-as v.journal seen (seen_after_write wrote.Failed k bytes seen) mark v.places (fails-placed v.journal k (writes-client v.journal k (open-own v k opened ne))) (λ o. refl) (λ l. refl) refl refl refl);
@@ -205,7 +205,7 @@ wrote-of-wire : {May : HouseReply → Type 0} {Rest : Resting} {before : Option 
     → among k seen.streams ≡ true → AreBytes bytes → 0 < length bytes → WroteFits answer (length bytes) → IsOfWire (reverse (write_marks answer k bytes) ++ v.journal)
 wrote-of-wire {seen = seen} v answer k bytes there are some fits =
     of-streams seen.streams (blocked_after_write answer k seen.blocked) seen.last (reverse (write_marks answer k bytes) ++ v.journal)
-    ((wire-keeps seen.streams seen.blocked seen.last seen.listeners seen.own seen.last_own v.journal).write answer k bytes are some there fits v.of_wire)
+    ((wire-keeps seen v.journal).write answer k bytes are some there fits v.of_wire)
 
 -- none to note that the stream is blocked
 pub cut-holds : {May : HouseReply → Type 0} {Rest : Resting} {before : Option (List HouseMark)} {now : Side} {policy : Policy} {pid : ℕ} {start : Option (List Mark)} {seen : Seen} {held failed : List ℕ} {given : ℕ} {todo : List ℕ} {s : State} (v : Serving May Rest before now policy pid start seen held failed given todo s) (seen' : Seen) (k : ℕ) (bytes : List ℕ)

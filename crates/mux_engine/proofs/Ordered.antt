@@ -77,7 +77,7 @@ module _ {May : HouseReply → Type 0} {Rest : Resting} {before : Option (List H
   placed-plain order number plain seen' streams blocked last last_own listens never owns =
       placed-still v (House (HouseOrder order number)) seen' s
       (subst (λ (l : List ℕ). OfWire l seen'.blocked seen'.last (House (HouseOrder order number) ∷ v.journal)) (sym streams) (subst (λ (l : List ℕ). OfWire seen.streams l seen'.last (House (HouseOrder order number) ∷ v.journal)) (sym blocked) (subst (λ (n : ℕ). OfWire seen.streams seen.blocked n (House (HouseOrder order number) ∷ v.journal)) (sym last)
-      ((wire-keeps seen.streams seen.blocked seen.last seen.listeners seen.own seen.last_own v.journal).note (HouseOrder order number) tt plain v.of_wire))))
+      ((wire-keeps seen v.journal).note (HouseOrder order number) tt plain v.of_wire))))
       streams blocked last last_own listens refl never (λ t. refl) (λ t. refl) owns
 
   -- an order changes nothing of which numbers are open, or as the wire does
@@ -95,7 +95,7 @@ module _ {May : HouseReply → Type 0} {Rest : Resting} {before : Option (List H
       let seen' : Seen = seen-noted m (seen_carried (Listen host port) (Some n) seen) in
       let u : (j : ℕ) → IsFree n j → IsUnused v.journal seen j = λ j free. v.unused j (later-free n j new free) in
       record {
-        of_wire = (wire-keeps seen.streams seen.blocked seen.last seen.listeners seen.own seen.last_own v.journal).note m tt refl v.of_wire;
+        of_wire = (wire-keeps seen v.journal).note m tt refl v.of_wire;
         open_are = v.open_are;
         apart = v.apart;
         held_is = v.held_is;
@@ -123,7 +123,7 @@ module _ {May : HouseReply → Type 0} {Rest : Resting} {before : Option (List H
       let m : HouseMark = HouseOrder (Connect host port) (Some n) in
       let fresh : IsUnused v.journal seen n = v.unused n (inl (new.own, new.above)) in
       record {
-        of_wire = (wire-keeps seen.streams seen.blocked seen.last seen.listeners seen.own seen.last_own v.journal).connect host port n (new-own n new) v.of_wire;
+        of_wire = (wire-keeps seen v.journal).connect host port n (new-own n new) v.of_wire;
         open_are = filter-append (λ (t : ℕ). not (is_own t)) seen.streams (n ∷ []) ∙ (ap (λ b. not_own seen.streams ++ cond (not b) (n ∷ []) []) new.own ∙ (append-nil (not_own seen.streams) ∙ v.open_are));
         apart = v.apart;
         held_is = ap (λ l. l ++ n ∷ []) v.held_is;
@@ -150,9 +150,9 @@ module _ {May : HouseReply → Type 0} {Rest : Resting} {before : Option (List H
   placed-closes : (k : ℕ) → IsTrue (is_own k) → (let m : HouseMark = HouseOrder (Close k) None in Placed s v.journal seen (seen-noted m (seen_carried (Close k) None seen)) (without k held) (without k failed) (House m))
   placed-closes k own =
       let m : HouseMark = HouseOrder (Close k) None in
-      let keeps = wire-keeps seen.streams seen.blocked seen.last seen.listeners seen.own seen.last_own v.journal in
+      let keeps = wire-keeps seen v.journal in
       record {
-        of_wire = (wire-keeps (without k seen.streams) (without k seen.blocked) seen.last seen.listeners seen.own seen.last_own v.journal).note m tt refl (keeps.close k v.of_wire);
+        of_wire = (wire-keeps (seen_after_close k seen) v.journal).note m tt refl (keeps.close k v.of_wire);
         open_are = both-tests (λ i. not (is_own i)) (λ i. not (i == k)) seen.streams ∙ (without-none k (not_own seen.streams) (not-among k seen.streams own) ∙ v.open_are);
         apart = v.apart;
         held_is = ap (without k) v.held_is;

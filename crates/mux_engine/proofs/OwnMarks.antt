@@ -60,7 +60,7 @@ module _ {May : HouseReply → Type 0} {Rest : Resting} {before : Option (List H
       (record { log = alike.log; blocked = λ t client. refl; unwritten = λ t client. failed-other mark v.journal t (apart-own t client); promise = λ set. record { takes = takes-own set (take n bytes); waits = tt; speaks = tt; open_streams = tt }; rested = λ set. tt; absent = λ e. refl; house = refl })
       (stands-alike v.journal (mark ∷ v.journal) v.picked v.replies s v.closed alike v.stands) (notes-calling now (call.Takes k n ∷ []) mark refl)
       (λ set. subst (λ (i : ℕ). CallsOn now (calling now (call.Takes k n ∷ [])) (if_own k (call.Takes k i))) (sym (length-take-le n bytes fits.1)) (calls-own now k (call.Takes k n) own none)) refl refl refl v.turns
-      (placed-still v mark (seen_after_write (wrote.Took n) k bytes seen) s ((wire-keeps seen.streams seen.blocked seen.last seen.listeners seen.own seen.last_own v.journal).write (wrote.Took n) k bytes are some found fits v.of_wire) refl refl refl refl refl refl (λ t. refl) (λ t. refl) (λ t. refl)
+      (placed-still v mark (seen_after_write (wrote.Took n) k bytes seen) s ((wire-keeps seen v.journal).write (wrote.Took n) k bytes are some found fits v.of_wire) refl refl refl refl refl refl (λ t. refl) (λ t. refl) (λ t. refl)
       (owns-as v.journal seen (seen_after_write (wrote.Took n) k bytes seen) mark v.places (takes-placed v.journal k (take n bytes) (taking seen v.journal v.places k found unfinished)) (λ o. refl) (λ l. refl) refl refl refl)))
 
   -- it is blocked now
@@ -74,7 +74,7 @@ module _ {May : HouseReply → Type 0} {Rest : Resting} {before : Option (List H
       (serve-quiet v now (seen_after_write wrote.Later k bytes seen) (held ++ k ∷ []) failed given mark
       (record { log = alike.log; blocked = λ t client. blocked-other mark v.journal t tt (apart-own t client); unwritten = λ t client. failed-other mark v.journal t (apart-own t client); promise = λ set. record { takes = tt; waits = tt; speaks = tt; open_streams = tt }; rested = λ set. tt; absent = λ e. refl; house = refl })
       (stands-alike v.journal (mark ∷ v.journal) v.picked v.replies s v.closed alike v.stands) (notes-none now mark refl) (λ set. calls-none now) refl refl refl v.turns
-      (placed-by v mark (seen_after_write wrote.Later k bytes seen) (held ++ k ∷ []) failed s k found ((wire-keeps seen.streams seen.blocked seen.last seen.listeners seen.own seen.last_own v.journal).write wrote.Later k bytes are some found tt v.of_wire)
+      (placed-by v mark (seen_after_write wrote.Later k bytes seen) (held ++ k ∷ []) failed s k found ((wire-keeps seen v.journal).write wrote.Later k bytes are some found tt v.of_wire)
       refl refl refl refl refl (ap (λ l. l ++ k ∷ []) v.held_is) (now-blocked ∙ sym (holds-blocked k k v.journal true (test-same k))) (λ t q. among-other-last k t seen.blocked q) (λ t q. blocked-other mark v.journal t tt q) (λ t. refl) (λ t q. refl)
       (λ is f. v.failed_are k is found f) (λ t a. a)
       (owns-as v.journal seen (seen_after_write wrote.Later k bytes seen) mark v.places (holds-placed v.journal k (taking seen v.journal v.places k found unfinished)) (λ o. refl) (λ l. refl) refl refl refl))))
@@ -90,7 +90,7 @@ module _ {May : HouseReply → Type 0} {Rest : Resting} {before : Option (List H
       (serve-quiet v (calling now (Turns (Failed k) ∷ [])) (seen_after_write wrote.Failed k bytes seen) held (failed ++ k ∷ []) given mark
       (record { log = alike.log; blocked = λ t client. refl; unwritten = λ t client. failed-other mark v.journal t (apart-own t client); promise = λ set. record { takes = tt; waits = tt; speaks = tt; open_streams = tt }; rested = λ set. tt; absent = λ e. refl; house = refl })
       (stands-alike v.journal (mark ∷ v.journal) v.picked v.replies s v.closed alike v.stands) (notes-calling now (Turns (Failed k) ∷ []) mark refl) (λ set. calls-own now k (Turns (Failed k)) own none) refl refl refl v.turns
-      (placed-by v mark (seen_after_write wrote.Failed k bytes seen) held (failed ++ k ∷ []) s k found ((wire-keeps seen.streams seen.blocked seen.last seen.listeners seen.own seen.last_own v.journal).write wrote.Failed k bytes are some found tt v.of_wire)
+      (placed-by v mark (seen_after_write wrote.Failed k bytes seen) held (failed ++ k ∷ []) s k found ((wire-keeps seen v.journal).write wrote.Failed k bytes are some found tt v.of_wire)
       refl refl refl refl refl v.held_is (v.blocked_is k found) (λ t q. refl) (λ t q. refl) (λ t. refl) (λ t q. has-failed-other k t v.journal q)
       (λ is x. noted) (λ t a. among-last k t failed ∙ ap (λ b. b || ((k == t) || false)) a)
       (owns-as v.journal seen (seen_after_write wrote.Failed k bytes seen) mark v.places (fails-placed v.journal k (taking seen v.journal v.places k found unfinished)) (λ o. refl) (λ l. refl) refl refl refl))))

@@ -1,7 +1,7 @@
 -- An event of the engine, with what the house was asked by it, noted at the wire.
 use Rattle.std.specs.Prelude.{◌≡◌, ◌⊎◌, ℕ, List, [], ◌++◌, length, map, take, Option, Some, Result, Ok, Err}
 use Rattle.std.specs.Option.{option_map}
-use Rattle.mux_outside.specs.House.{Known}
+use Rattle.mux_outside.specs.House.{HouseState, Known}
 use Rattle.mux_outside.specs.Seen.{Seen}
 use Rattle.mux_outside.specs.declared.house.HouseReply.{HouseReply}
 use Rattle.mux_outside.specs.declared.house_mark.HouseMark.{HouseMark}
@@ -41,3 +41,9 @@ Heeded (Ok x) May e s s' asks told told' known known' seen seen' =
 Heeded (Err x) May e s s' asks told told' known known' seen seen' =
     Unheeded May e s told told' seen seen'
     ⊎ ((n : ℕ) × HeedsSo May e s s' asks told told' known known' seen seen' n)
+
+-- the same of a house
+abbrev pub HeedsEvent : {A E : Type 0} → Result A E → (HouseReply → Type 0) → Event → State → State
+    → List HouseMark → HouseState → HouseState → Seen → Seen → Type 0
+HeedsEvent result May e s s' asks house house' seen seen' =
+    Heeded result May e s s' asks house.told house'.told house.known house'.known seen seen'

@@ -12,3 +12,4 @@ pub mod Run
 pub mod Serving
 pub mod Sides
 pub mod Turns
+pub mod Wires

@@ -1,6 +1,7 @@
 -- What carrying out an order leaves.
-use Rattle.std.specs.Prelude.{◌≡◌, ℕ, true, false, List, [], ◌∷◌, ◌++◌, Option, Some, None, Result, Ok, Err, IsErr}
-use Rattle.mux_outside.specs.House.{Known, OrderFits, known_after_order, known_after_ordered}
+use Rattle.std.specs.Prelude.{◌≡◌, ◌≤◌, ℕ, true, false, List, [], ◌∷◌, ◌++◌, Option, Some, None, Result, Ok, Err, IsErr}
+use Rattle.mux_outside.specs.House.{HouseState, Known, OrderFits, known_after_order, known_after_ordered, told_more}
+use Rattle.mux_outside.specs.HouseCalls.{HandsOn, calls_of}
 use Rattle.mux_outside.specs.Seen.{Seen, seen_after_close, seen_after_finish, seen_after_pause, seen_after_unlisten}
 use Rattle.mux_outside.specs.Streams.{without}
 use Rattle.mux_outside.specs.Wire.{IsNewOwn}
@@ -11,7 +12,9 @@ use Rattle.mux_outside.specs.declared.house_mark.HouseMark.TheVariants.{HouseOrd
 use Rattle.mux_outside.specs.declared.order.Order.{Order}
 use Rattle.mux_outside.specs.declared.order.Order.TheVariants.{Listen, Connect, Unlisten, Pause, Resume, Finish, Close}
 use Rattle.mux_outside.specs.OwnStreams.{new_stream}
+use Rattle.mux_engine.specs.OwnFaults.{OrderCounted}
 use Rattle.mux_engine.specs.Sides.{Housed}
+use Rattle.mux_engine.specs.declared.room.Lists.{Lists}
 
 -- what is seen then; the number is that of what was made
 abbrev pub seen_carried : Order → Option ℕ → Seen → Seen
@@ -81,3 +84,34 @@ abbrev pub IsMade : {E : Type 0} → Result ℕ FileError → Result (Option ℕ
 IsMade (Ok n) result = result ≡ Ok (Some n)
 IsMade (Err Failed) result = result ≡ Ok None
 IsMade (Err OutOfMemory) result = IsErr result
+
+-- ---- what carrying out leaves
+
+-- an order was carried out: what it made has this number
+pub record CarriedOut (order : Order) (number : Option ℕ) (seen seen' : Seen) (lists lists' : Lists)
+    (house house' : HouseState) : Type 0 where
+  pub made : MadeBy order number seen
+  pub seen_is : seen' ≡ seen_carried order number seen
+  pub own : lists'.own ≡ own_carried order number lists.own
+  pub held : lists'.held ≡ held_carried order number lists.held
+  pub failed : lists'.failed ≡ failed_carried order lists.failed
+  pub known : house'.known ≡ known_carried order number house.known
+  pub told : house'.told ≡ told_more (more_told order number) house.told
+  pub stands : HandsOn house.stands house'.stands (calls_of (more_told order number))
+
+-- there was no memory for it: nothing more was told
+pub record NotCarried (seen seen' : Seen) (house house' : HouseState) : Type 0 where
+  pub marks : seen'.told ≡ seen.told
+  pub told : house'.told ≡ house.told
+
+abbrev pub Carries : {E : Type 0} → Result (Option ℕ) E → Order → Seen → Seen → Lists → Lists
+    → HouseState → HouseState → Type 0
+Carries (Ok number) order seen seen' lists lists' house house' =
+    CarriedOut order number seen seen' lists lists' house house'
+Carries (Err e) order seen seen' lists lists' house house' = NotCarried seen seen' house house'
+
+-- one that got no number was counted as an own fault; for want of memory none need be, and the count
+-- does not fall
+abbrev pub CarryCounted : {E : Type 0} → Result (Option ℕ) E → Order → ℕ → ℕ → Type 0
+CarryCounted (Ok number) order faults faults' = OrderCounted order number faults faults'
+CarryCounted (Err e) order faults faults' = faults ≤ faults'

@@ -1,6 +1,9 @@
 -- What was offered to the master's own streams.
-use Rattle.std.specs.Prelude.{◌≡◌, ◌⊎◌, ◌&&◌, ℕ, Bool, not, List, [], filter, length, IsTrue}
+use Rattle.std.specs.Prelude.{◌≡◌, ◌<◌, ◌≤◌, ◌+◌, ◌⊎◌, ◌&&◌, ℕ, Bool, true, false, not, List, [], filter, length, IsTrue, None}
 use Rattle.mux_history.specs.Promises.{is_empty}
+use Rattle.mux_outside.specs.House.{HouseState}
+use Rattle.mux_outside.specs.OwnStreams.{is_one, is_own}
+use Rattle.mux_outside.specs.Seen.{Seen}
 use Rattle.mux_outside.specs.Streams.{among}
 
 -- nothing waits for it, or it is blocked, or it failed
@@ -14,3 +17,32 @@ waits_for queue failed t = not (among t failed) && not (is_empty (queue t))
 -- how many did not fail
 abbrev pub left_of : List ℕ → List ℕ → ℕ
 left_of failed own = length (filter (λ t. not (among t failed)) own)
+
+-- a house and the wire know the same streams, and which are blocked; it waits for no number
+pub record OwnsStreams (house : HouseState) (seen : Seen) (held : List ℕ) : Type 0 where
+  pub ordering : house.known.ordering ≡ None
+  pub same : house.known.streams ≡ seen.own
+  pub held_is : held ≡ seen.blocked
+
+-- an open stream of the master's own
+pub record IsOpenOwn (house : HouseState) (seen : Seen) (t : ℕ) : Type 0 where
+  pub one : IsTrue (is_one t house.known.streams)
+  pub own : IsTrue (is_own t)
+  pub stream_open : IsTrue (among t seen.streams)
+
+-- a stream took some of what waits for it, or it was offered that
+abbrev pub TookOrOffered : Bool → (queue queue' : ℕ → List ℕ) → List ℕ → List ℕ → ℕ → Type 0
+TookOrOffered true queue queue' held failed t = length (queue' t) < length (queue t)
+TookOrOffered false queue queue' held failed t = IsOffered (queue' t) held failed t
+
+-- as long as none failed, what was offered to the others stays offered
+abbrev pub StayOffered : (queue queue' : ℕ → List ℕ) → (held held' failed failed' : List ℕ) → Type 0
+StayOffered queue queue' held held' failed failed' =
+    length failed' ≡ length failed → (t : ℕ) → IsOffered (queue t) held failed t
+    → IsOffered (queue' t) held' failed' t
+
+-- those that failed get no fewer, and by each one more of them there is one less that did not
+pub record FailsFurther (todo failed failed' : List ℕ) : Type 0 where
+  pub grows : length failed ≤ length failed'
+  pub fewer : (own : List ℕ) → ((t : ℕ) → among t todo ≡ true → among t own ≡ true)
+      → left_of failed' own + length failed' ≤ left_of failed own + length failed

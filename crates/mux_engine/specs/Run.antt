@@ -1,6 +1,7 @@
 -- What is promised of a whole run.
 use Rattle.std.specs.Prelude.{◌≡◌, ◌≢◌, ◌≤◌, ◌<◌, ℕ, Bool, false, not, List, ◌++◌, length, All, Option}
 use Rattle.std.specs.Option.{option_map}
+use Rattle.mux_outside.specs.House.{HouseState}
 use Rattle.mux_outside.specs.HouseCalls.{HandsOn, HouseCall}
 use Rattle.mux_outside.specs.declared.house_mark.HouseMark.{HouseMark}
 use Rattle.mux_outside.specs.declared.house.HouseReply.{HouseReply}
@@ -30,7 +31,8 @@ use Rattle.mux_clients.specs.Asked.{asked_of, TellsAsks}
 use Rattle.mux_clients.specs.Starved.{BeginsWith}
 use Rattle.mux_engine.specs.Called.{calls_in}
 use Rattle.mux_engine.specs.Places.{HasPlaces, KeepsOwn, listeners_in, own_in}
-use Rattle.mux_engine.specs.Sides.{AtWaits, asks_in, house_marks}
+use Rattle.mux_engine.specs.Rests.{refusal_after}
+use Rattle.mux_engine.specs.Sides.{AtWaits, RestsOf, asks_in, house_marks}
 
 -- a journal that a wire can give: it is lawful, and the wire read and accepted only right behind a
 -- wait for that
@@ -153,3 +155,12 @@ pub record IsRun (May : HouseReply → Type 0)
   pub absent : present ≡ false → All (λ (mark : Mark). is_by_house mark ≡ false) journal
   pub ends : answer ≢ OutOfMemory
       → EndsRight (by_lists policy pid picks replies) turns journal refused answer
+
+-- the same of a run of this house, which has become another, over a wire of which this was seen as it
+-- began, and that as it ended
+abbrev pub RunKept : {T : Type 0} → Ended → Policy → ℕ → ℕ → (HouseReply → Type 0)
+    → (T → HouseState) → T → T → Seen → Seen → Type 0
+RunKept answer policy pid turns May state house house' seen seen' =
+    IsRun May (RestsOf state (state house).known.present house).rests (state house).stands
+    (state house').stands (state house).known.present policy pid turns (state house).told
+    (state house').told seen.told seen' (refusal_after (state house) (state house')) answer

@@ -1,11 +1,13 @@
 -- What holds between an engine and its wire while it is served.
-use Rattle.std.specs.Prelude.{◌≡◌, ◌≤◌, ◌<◌, ◌+◌, ◌⊎◌, ◌||◌, ◌==◌, ℕ, Bool, true, false, List, [], ◌∷◌, ◌++◌, length, IsTrue, All, Option, Some, None, Result, MatchResult}
+use Rattle.std.specs.Prelude.{◌≡◌, ◌≢◌, ◌≤◌, ◌<◌, ◌+◌, ◌⊎◌, ◌||◌, ◌==◌, ℕ, Bool, true, false, List, [], ◌∷◌, ◌++◌, length, IsTrue, All, Option, Some, None, Result, MatchResult}
 use Rattle.mux_outside.specs.Counts.{Rose}
-use Rattle.mux_outside.specs.House.{OpenAsk}
+use Rattle.mux_outside.specs.Faults.{Faults}
+use Rattle.mux_outside.specs.House.{HouseState, OpenAsk}
 use Rattle.mux_outside.specs.HouseCalls.{HandsOn, HouseCall, calls_of}
 use Rattle.mux_outside.specs.OwnStreams.{is_own}
 use Rattle.mux_outside.specs.Seen.{Seen}
 use Rattle.mux_outside.specs.Streams.{among}
+use Rattle.mux_outside.specs.WireState.{WireState}
 use Rattle.mux_outside.specs.declared.house.HouseReply.{HouseReply}
 use Rattle.mux_outside.specs.declared.house_mark.HouseMark.{HouseMark}
 use Rattle.mux_outside.specs.declared.mark.Mark.{Mark}
@@ -24,13 +26,15 @@ use Rattle.mux_history.specs.Promises.{IsSettled, MayGive, OpenStreams, Written,
 use Rattle.mux_history.specs.Wires.{OfWire}
 use Rattle.mux_bounds.specs.Bounds.{IsLog}
 use Rattle.mux_clients.specs.Asked.{asked_of, TellsAsks}
-use Rattle.mux_machine.specs.State.{State, is_here}
+use Rattle.mux_machine.specs.State.{State, is_here, queue_in}
 use Rattle.mux_machine.specs.Events.{here}
 use Rattle.mux_machine.specs.Stands.{Stands}
 use Rattle.mux_engine.specs.Called.{Handed, calls_in}
 use Rattle.mux_engine.specs.Places.{HasPlaces, KeepsOwn}
-use Rattle.mux_engine.specs.Run.{AsksOn, IsOfWire, Rested, is_by_house}
-use Rattle.mux_engine.specs.Sides.{Resting, Side, asks_in, house_marks}
+use Rattle.mux_engine.specs.Rests.{refusal_after}
+use Rattle.mux_engine.specs.Run.{AsksOn, IsOfWire, IsRun, Rested, is_by_house}
+use Rattle.mux_engine.specs.Sides.{Resting, RestsOf, Side, asks_in, house_marks, noted, outside}
+use Rattle.mux_engine.specs.declared.room.Lists.{Lists}
 
 -- a stream that is open: the server's, and that of a client that is here
 abbrev pub is_open : State → ℕ → Bool
@@ -120,10 +124,27 @@ pub record Serving (May : HouseReply → Type 0) (Rest : Resting)
   pub sound : (picks : List ℕ) (given_later : List HouseReply)
       → IsSound (by_lists policy pid (picked ++ picks) (replies ++ given_later)) journal todo s
 
--- the same, whatever came before, and whichever streams are to be offered what waits for them
-pub record IsServed {T : Type 0} (May : HouseReply → Type 0)
-    (Rest : Bool → T → Resting) (seen : Seen) (held : List ℕ) (s : State) :
-    Type 0 where
+-- ---- what is so between two calls
+
+-- the streams and the engine of a run: what is seen of the wire, which streams are blocked, and which
+-- of the master's own failed
+pub record Scene : Type 0 where
+  pub seen : Seen
+  pub held : List ℕ
+  pub failed : List ℕ
+  pub engine : State
+
+abbrev pub scene_of : WireState → List ℕ → List ℕ → State → Scene
+scene_of wire held failed engine =
+    record { seen = wire.seen; held = held; failed = failed; engine = engine }
+
+abbrev pub scene : WireState → Lists → State → Scene
+scene wire lists engine = scene_of wire lists.held lists.failed engine
+
+-- a run was served so far, whatever came before, and whichever streams are to be offered what waits
+-- for them
+pub record IsServed {T : Type 0} (May : HouseReply → Type 0) (state : T → HouseState) (seen : Seen)
+    (held : List ℕ) (s : State) : Type 0 where
   pub present : Bool
   pub first : T
   pub before : Option (List HouseMark)
@@ -134,23 +155,36 @@ pub record IsServed {T : Type 0} (May : HouseReply → Type 0)
   pub failed : List ℕ
   pub given : ℕ
   pub todo : List ℕ
-  pub serving :
-      Serving May (Rest present first) before now policy pid start seen held failed given todo s
+  pub serving : Serving May (RestsOf state present first) before now policy pid start seen held
+      failed given todo s
 
--- the same with this house, whatever came before it
-pub record ServedWith {T : Type 0} (stands : T → List HouseCall → Type 0) (house : T)
-    (May : HouseReply → Type 0) (Rest : T → Resting) (now : List HouseCall → Side) (seen : Seen)
-    (held failed todo : List ℕ) (s : State) : Type 0 where
+-- the same with this house, of which this is noted
+pub record ServedAs {T : Type 0} (noted_of : HouseState → List HouseCall → Side)
+    (May : HouseReply → Type 0) (state : T → HouseState) (house : T) (now : Scene) (todo : List ℕ) :
+    Type 0 where
   pub first : T
   pub calls : List HouseCall
-  pub hands : HandsOn (stands first) (stands house) calls
+  pub hands : HandsOn (state first).stands (state house).stands calls
   pub before : Option (List HouseMark)
   pub policy : Policy
   pub pid : ℕ
   pub start : Option (List Mark)
   pub given : ℕ
-  pub serving :
-      Serving May (Rest first) before (now calls) policy pid start seen held failed given todo s
+  pub serving : Serving May (RestsOf state (state house).known.present first) before
+      (noted_of (state house) calls) policy pid start now.seen now.held now.failed given todo
+      now.engine
+
+-- all of it is noted, and it is let in where it is present
+abbrev pub ServedWith : {T : Type 0} → (HouseReply → Type 0) → (T → HouseState) → T → Scene
+    → List ℕ → Type 0
+ServedWith May state house now todo =
+    ServedAs (λ house calls. noted house.told house.known calls) May state house now todo
+
+-- it was not let in yet
+abbrev pub ServedOutside : {T : Type 0} → (HouseReply → Type 0) → (T → HouseState) → T → Scene
+    → List ℕ → Type 0
+ServedOutside May state house now todo =
+    ServedAs (λ house calls. outside house.told house.known calls) May state house now todo
 
 -- ---- want of memory
 
@@ -197,51 +231,77 @@ pub record Promised (May : HouseReply → Type 0) (Rest : Resting)
 -- whatever came before: a run that was served with `todo` still to be offered is served on with
 -- `rest`, or what was promised is left. The house is not called meanwhile
 abbrev pub ServesOn :
-    {A E T : Type 0} → Result A E → (HouseReply → Type 0)
-    → (Bool → T → Resting) → Seen → Seen → List ℕ → List ℕ → List ℕ
-    → (A → List ℕ) → State → State → Type 0
-ServesOn {T = T} result May Rest seen seen' held held' todo rest s s' =
+    {A E T : Type 0} → Result A E → (HouseReply → Type 0) → (T → HouseState) → Seen → Seen
+    → List ℕ → List ℕ → List ℕ → (A → List ℕ) → State → State → Type 0
+ServesOn {T = T} result May state seen seen' held held' todo rest s s' =
     (present : Bool) (first : T) (before : Option (List HouseMark)) (now : Side)
     (policy : Policy) (pid : ℕ) (start : Option (List Mark)) (failed : List ℕ) (given : ℕ)
-    → Serving May (Rest present first) before now policy pid start seen held failed given todo s
+    → Serving May (RestsOf state present first) before now policy pid start seen held failed given
+    todo s
     → MatchResult result
-    (λ x. Serving May (Rest present first) before now policy pid start seen' held' failed given
-    (rest x) s')
-    (λ e. Promised May (Rest present first) before now.told policy pid start seen'.told given)
+    (λ x. Serving May (RestsOf state present first) before now policy pid start seen' held' failed
+    given (rest x) s')
+    (λ e. Promised May (RestsOf state present first) before now.told policy pid start seen'.told
+    given)
+
+-- whatever came before, whatever is noted, and whichever streams are still to be offered what waits
+-- for them: a run that was served is served on
+abbrev pub StaysServed : {T : Type 0} → (HouseReply → Type 0) → (T → HouseState) → Seen → Seen
+    → List ℕ → List ℕ → State → State → Type 0
+StaysServed {T = T} May state seen seen' held held' s s' =
+    (present : Bool) (first : T) (before : Option (List HouseMark)) (now : Side)
+    (policy : Policy) (pid : ℕ) (start : Option (List Mark)) (failed : List ℕ) (given : ℕ)
+    (todo : List ℕ)
+    → Serving May (RestsOf state present first) before now policy pid start seen held failed given
+    todo s
+    → Serving May (RestsOf state present first) before now policy pid start seen' held' failed
+    given todo s'
 
 -- the same where streams of the master's own are offered what waits for them, and the house, all of
 -- which was noted, is told what they take and which of them fail
 abbrev pub OwnOn :
-    {A E T : Type 0} → Result A E → (T → List HouseCall → Type 0) → T → T
-    → (HouseReply → Type 0) → (Bool → T → Resting) → Seen → Seen → List ℕ → List ℕ → List ℕ
-    → List ℕ → Type 0
-OwnOn {T = T} result stands house house' May Rest seen seen' held held' failed failed' =
+    {A E T : Type 0} → Result A E → (HouseReply → Type 0) → (T → HouseState) → T → T → Seen → Seen
+    → List ℕ → List ℕ → List ℕ → List ℕ → Type 0
+OwnOn {T = T} result May state house house' seen seen' held held' failed failed' =
     (present : Bool) (first : T) (before : Option (List HouseMark)) (now : Side)
     (policy : Policy) (pid : ℕ) (start : Option (List Mark)) (given : ℕ) (todo : List ℕ)
-    (s : State) → now.unnoted ≡ [] → HandsOn (stands first) (stands house) now.calls
-    → Serving May (Rest present first) before now policy pid start seen held failed given todo s
+    (s : State) → now.unnoted ≡ []
+    → HandsOn (state first).stands (state house).stands now.calls
+    → Serving May (RestsOf state present first) before now policy pid start seen held failed given
+    todo s
     → MatchResult result
-    (λ x. Handed (stands first) (stands house') (λ calls. Serving May (Rest present first) before
-    (record now { calls = calls }) policy pid start seen' held' failed' given todo s))
-    (λ e. Promised May (Rest present first) before now.told policy pid start seen'.told given)
+    (λ x. Handed (state first).stands (state house').stands (λ calls.
+    Serving May (RestsOf state present first) before (record now { calls = calls }) policy pid start
+    seen' held' failed' given todo s))
+    (λ e. Promised May (RestsOf state present first) before now.told policy pid start seen'.told
+    given)
 
--- the same where the house is called: with so many turns more, or with so many at most
-abbrev pub RunsOn :
-    {A E T : Type 0} → Result A E → (T → List HouseCall → Type 0) → T → T
-    → (HouseReply → Type 0) → (T → Resting) → (List HouseCall → Side) → (List HouseCall → Side)
-    → Seen → Seen → List ℕ → List ℕ → List ℕ → List ℕ → ℕ → (A → ℕ) → List ℕ → (A → List ℕ)
-    → State → State → Type 0
-RunsOn {T = T} result stands house house' May Rest now now' seen seen' held held' failed failed'
-    most more todo rest s s' =
+-- the same where the house, of which this is noted before and all behind, is called: with so many
+-- turns more, or with so many at most
+abbrev pub RunsFrom :
+    {A E T : Type 0} → Result A E → (List HouseCall → Side) → (HouseReply → Type 0)
+    → (T → HouseState) → T → T → Scene → Scene → ℕ → (A → ℕ) → List ℕ → (A → List ℕ) → Type 0
+RunsFrom {T = T} result now May state house house' old new most more todo rest =
     (first : T) (calls : List HouseCall) (before : Option (List HouseMark)) (policy : Policy)
     (pid : ℕ) (start : Option (List Mark)) (given : ℕ)
-    → HandsOn (stands first) (stands house) calls
-    → Serving May (Rest first) before (now calls) policy pid start seen held failed given todo s
+    → HandsOn (state first).stands (state house).stands calls
+    → Serving May (RestsOf state (state house).known.present first) before (now calls) policy pid
+    start old.seen old.held old.failed given todo old.engine
     → MatchResult result
-    (λ x. Handed (stands first) (stands house') (λ all. Serving May (Rest first) before (now' all)
-    policy pid start seen' held' failed' (given + more x) (rest x) s'))
-    (λ e. Promised May (Rest first) before (now' []).told policy pid start seen'.told
-    (given + most))
+    (λ x. Handed (state first).stands (state house').stands (λ all.
+    Serving May (RestsOf state (state house).known.present first) before
+    (noted (state house').told (state house').known all) policy pid start new.seen new.held
+    new.failed (given + more x) (rest x) new.engine))
+    (λ e. Promised May (RestsOf state (state house).known.present first) before (state house').told
+    policy pid start new.seen.told (given + most))
+
+-- the same where all of it was noted before
+abbrev pub RunsOn :
+    {A E T : Type 0} → Result A E → (HouseReply → Type 0) → (T → HouseState) → T → T → Scene → Scene
+    → ℕ → (A → ℕ) → List ℕ → (A → List ℕ) → Type 0
+RunsOn result May state house house' old new most more todo rest =
+    RunsFrom result (noted (state house).told (state house).known) May state house house' old new
+    most more todo rest
 
 -- the streams that are to be offered what waits for them: where all were, the house may be left
 abbrev pub to_offer : Bool → State → List ℕ
@@ -267,9 +327,101 @@ pub record Spends (all : Bool) (turns : ℕ) (May : HouseReply → Type 0)
   pub all_given : all ≡ true → given ≡ turns
   pub serving : Serving May Rest before now policy pid start seen held failed given todo s
 
+-- a run whose house, of which all was noted, is called for one turn
+abbrev pub TurnsOn : {E T : Type 0} → Result Bool E → (HouseReply → Type 0) → (T → HouseState) → T
+    → T → Scene → Scene → Bool → Type 0
+TurnsOn {T = T} result May state house house' old new settled =
+    (first : T) (calls : List HouseCall) (before : Option (List HouseMark)) (policy : Policy)
+    (pid : ℕ) (start : Option (List Mark)) (given : ℕ)
+    → HandsOn (state first).stands (state house).stands calls
+    → Serving May (RestsOf state (state house).known.present first) before
+    (noted (state house).told (state house).known calls) policy pid start old.seen old.held
+    old.failed given (0 ∷ here old.engine) old.engine
+    → MatchResult result
+    (λ on. Handed (state first).stands (state house').stands (λ all.
+    EndsTurn on given May (RestsOf state (state house).known.present first) before
+    (noted (state house').told (state house').known all) policy pid start new.seen new.held
+    new.failed (to_offer settled new.engine) new.engine))
+    (λ e. Promised May (RestsOf state (state house).known.present first) before (state house').told
+    policy pid start new.seen.told (given + 1))
+
+-- the same for all turns of the run
+abbrev pub SpendsTurns : {E T : Type 0} → Result Bool E → ℕ → (HouseReply → Type 0)
+    → (T → HouseState) → T → T → Scene → Scene → Bool → Type 0
+SpendsTurns {T = T} result turns May state house house' old new settled =
+    (first : T) (calls : List HouseCall) (before : Option (List HouseMark)) (policy : Policy)
+    (pid : ℕ) (start : Option (List Mark))
+    → HandsOn (state first).stands (state house).stands calls
+    → Serving May (RestsOf state (state house).known.present first) before
+    (noted (state house).told (state house).known calls) policy pid start old.seen old.held
+    old.failed 0 (0 ∷ here old.engine) old.engine
+    → MatchResult result
+    (λ all. Handed (state first).stands (state house').stands (λ handed.
+    Spends all turns May (RestsOf state (state house).known.present first) before
+    (noted (state house').told (state house').known handed) policy pid start new.seen new.held
+    new.failed (to_offer settled new.engine) new.engine))
+    (λ e. Promised May (RestsOf state (state house).known.present first) before (state house').told
+    policy pid start new.seen.told turns)
+
+-- ---- the beginning
+
+-- before all else a house that is present is let in
+abbrev pub LetsIn : {A E T : Type 0} → Result A E → (HouseReply → Type 0) → (T → HouseState) → Seen
+    → Seen → State → State → Type 0
+LetsIn {T = T} result May state seen seen' s s' =
+    (present : Bool) (first : T) (before : Option (List HouseMark)) (now : Side) (policy : Policy)
+    (pid : ℕ) (start : Option (List Mark)) (held failed : List ℕ) (given : ℕ)
+    → (v : Serving May (RestsOf state present first) before now policy pid start seen held failed
+    given (0 ∷ here s) s) → v.journal ≡ [] → present ≡ true
+    → MatchResult result
+    (λ x. Serving May (RestsOf state present first) before (record now { let_in = true }) policy
+    pid start seen' held failed given (0 ∷ here s') s' × (s'.ended ≡ None))
+    (λ e. Promised May (RestsOf state present first) before now.told policy pid start seen'.told
+    given)
+
+-- before all else this house is let in, where it is present
+abbrev pub Enters : {A E T : Type 0} → Result A E → (HouseReply → Type 0) → (T → HouseState) → T
+    → Seen → Seen → State → State → Type 0
+Enters {T = T} result May state house seen seen' s s' =
+    (first : T) (calls : List HouseCall) (before : Option (List HouseMark)) (policy : Policy)
+    (pid : ℕ) (start : Option (List Mark)) (held failed : List ℕ) (given : ℕ)
+    → (v : Serving May (RestsOf state (state house).known.present first) before
+    (outside (state house).told (state house).known calls) policy pid start seen held failed given
+    (0 ∷ here s) s) → v.journal ≡ []
+    → MatchResult result
+    (λ done. Serving May (RestsOf state (state house).known.present first) before
+    (noted (state house).told (state house).known calls) policy pid start seen' held failed given
+    (0 ∷ here s') s' × (s'.ended ≡ None))
+    (λ e. Promised May (RestsOf state (state house).known.present first) before (state house).told
+    policy pid start seen'.told given)
+
+-- a whole run that begins with this house, of which nothing was noted
+abbrev pub RunsWhole : {T : Type 0} → Ended → ℕ → (HouseReply → Type 0) → (T → HouseState) → T → T
+    → Seen → Seen → State → Type 0
+RunsWhole answer turns May state house house' seen seen' s =
+    (before : Option (List HouseMark)) (policy : Policy) (pid : ℕ) (start : Option (List Mark))
+    → (v : Serving May (RestsOf state (state house).known.present house) before
+    (outside (state house).told (state house).known []) policy pid start seen [] [] 0
+    (0 ∷ here s) s) → v.journal ≡ []
+    → IsRun May (RestsOf state (state house).known.present house).rests (state house).stands
+    (state house').stands (state house).known.present policy pid turns before (state house').told
+    start seen' (refusal_after (state house) (state house')) answer
+
 -- ---- the end
 
--- it ended as before, or the server's stream failed, whose count rose; no count falls
-abbrev pub StaysOrFails : Option Ended → Option Ended → ℕ → ℕ → Type 0
-StaysOrFails old new faults faults' = ((new ≡ old) × (faults ≤ faults'))
-    ⊎ ((new ≡ Some ServerFailed) × Rose faults faults')
+-- it ended as before, or the server's stream failed, whose count rose
+abbrev pub StaysOrFails : Option Ended → Option Ended → Faults → Faults → Type 0
+StaysOrFails old new faults faults' = ((new ≡ old) × (faults.server ≤ faults'.server))
+    ⊎ ((new ≡ Some ServerFailed) × Rose faults.server faults'.server)
+
+-- a stream was offered what waits for it: those of the clients that are here stay, and only a failure
+-- of the server's stream ended the run
+pub record IsOfferedTo (stream : ℕ) (old new : State) (faults faults' : Faults) : Type 0 where
+  pub streams : here new ≡ here old
+  pub ended : StaysOrFails old.ended new.ended faults faults'
+  pub client : stream ≢ 0 → new.ended ≡ old.ended
+
+-- less waits for it, and it is not blocked
+pub record CanTakeMore (stream : ℕ) (old new : State) (seen : Seen) : Type 0 where
+  pub less : length (queue_in new stream) < length (queue_in old stream)
+  pub free : among stream seen.blocked ≡ false

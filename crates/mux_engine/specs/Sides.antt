@@ -1,20 +1,25 @@
 -- What is kept of a house, and what its marks and the wire's streams are to each other.
-use Rattle.std.specs.Prelude.{◌≡◌, ◌≤◌, ℕ, Bool, true, false, List, [], ◌∷◌, ◌++◌, filter, Option, Some, None, IsTrue}
-use Rattle.mux_outside.specs.House.{IsAtRest, Known, OpenAsk, Quiet}
+use Rattle.std.specs.Prelude.{◌≡◌, ◌<◌, ◌≤◌, ℕ, Bool, true, false, List, [], ◌∷◌, ◌++◌, filter, length, Option, Some, None, IsTrue, OnOk, Result}
+use Rattle.mux_outside.specs.House.{HouseState, IsAtRest, Known, OffersSame, OpenAsk, Quiet}
 use Rattle.mux_outside.specs.HouseCalls.{HandsOn, HouseCall}
 use Rattle.mux_outside.specs.OwnStreams.{is_one, is_own, numbers_of}
 use Rattle.mux_outside.specs.Seen.{Seen}
 use Rattle.mux_outside.specs.Streams.{among}
+use Rattle.mux_outside.specs.WireState.{WireState}
 use Rattle.mux_outside.specs.declared.house_mark.HouseMark.{HouseMark}
 use Rattle.mux_outside.specs.declared.turn.Want.{Want}
 use Rattle.mux_outside.specs.declared.turn.Want.TheVariants.{Read}
 use Rattle.mux_outside.specs.declared.own_streams.OwnStream.{OwnStream}
+use Rattle.mux_outside.specs.declared.own_turn.OwnTurn.{OwnTurn}
 use Rattle.mux_outside.specs.declared.house_mark.HouseMark.TheVariants.{HouseIn}
 use Rattle.mux_outside.specs.declared.mark.Mark.{Mark}
 use Rattle.mux_outside.specs.declared.mark.Mark.TheVariants.{House}
 use Rattle.mux_history.specs.declared.ended.Ended.{Ended}
 use Rattle.mux_history.specs.declared.limits.TheConstants.{HOUSE}
 use Rattle.mux_history.specs.Promises.{is_asked}
+use Rattle.mux_machine.specs.State.{State}
+use Rattle.mux_engine.specs.Turns.{failed_heard, held_heard, own_heard}
+use Rattle.mux_engine.specs.declared.room.Lists.{Lists}
 
 -- ---- the house's marks of a journal
 
@@ -88,15 +93,15 @@ pub record Resting : Type 1 where
 
 -- there is a house that has told this, knows these listeners and streams and is as it is right
 -- before a wait, and to which the first one came by these calls, unless none is present
-abbrev pub RestsOf : {T : Type 0} → (T → Option (List HouseMark)) → (T → Known) → (T → Quiet)
-    → (T → Bool) → (T → Option ℕ) → (T → List HouseCall → Type 0) → Bool → T → Resting
-RestsOf {T} told known quiet must refused stands present first = record {
+abbrev pub RestsOf : {T : Type 0} → (T → HouseState) → Bool → T → Resting
+RestsOf {T} state present first = record {
   present = present;
   rests = λ want now calls listeners own. IsTrue present
       → (house : T)
-      × (HouseWaits want (quiet house) (must house) (refused house) × (told house ≡ now)
-      × HandsOn (stands first) (stands house) calls
-      × Knows (known house) listeners own);
+      × (HouseWaits want (state house).quiet (state house).must (state house).refused
+      × ((state house).told ≡ now)
+      × HandsOn (state first).stands (state house).stands calls
+      × Knows (state house).known listeners own);
 }
 
 -- ---- its streams and listeners
@@ -107,6 +112,11 @@ pub record SamePlaces (old new : Seen) : Type 0 where
   pub listeners : new.listeners ≡ old.listeners
   pub own : new.own ≡ old.own
   pub last_own : new.last_own ≡ old.last_own
+
+-- and the same are blocked
+pub record SameStreams (old new : Seen) : Type 0 where
+  pub places : SamePlaces old new
+  pub blocked : new.blocked ≡ old.blocked
 
 -- the wire's own streams are the open ones with numbers of their own, and its listeners have such
 -- numbers as were given
@@ -125,6 +135,17 @@ pub record Housed (known : Known) (seen : Seen) (own : List ℕ) : Type 0 where
   pub own_is : own ≡ numbers_of seen.own
   pub places : OwnPlaces seen
 
+-- where there is no house, it has no listener and no stream
+pub record IsAlone (known : Known) : Type 0 where
+  pub listeners : known.present ≡ false → known.listeners ≡ []
+  pub streams : known.present ≡ false → known.streams ≡ []
+
+-- all of it, and which streams are blocked
+pub record Together (house : HouseState) (wire : WireState) (lists : Lists) : Type 0 where
+  pub housed : Housed house.known wire.seen lists.own
+  pub alone : IsAlone house.known
+  pub held_is : lists.held ≡ wire.seen.blocked
+
 -- nothing is left to be offered while the run goes on; at its end the house may be left
 abbrev pub unsettled : Option Ended → List ℕ
 unsettled None = []
@@ -136,3 +157,55 @@ pub record SameHouse (old new : Known) : Type 0 where
   pub ordering : new.ordering ≡ old.ordering
   pub listeners : new.listeners ≡ old.listeners
   pub streams : new.streams ≡ old.streams
+
+-- whether there is a house stays, and whether the run ends where a forwarding of the start is refused
+pub record StaysHouse {A E : Type 0} (result : Result A E) (old new : HouseState) : Type 0 where
+  pub present : OnOk result (new.known.present ≡ old.known.present)
+  pub must : new.must ≡ old.must
+
+-- of what is known of it only its asks changed
+pub record OnlyAsked {A E : Type 0} (result : Result A E) (old new : HouseState) : Type 0 where
+  pub known : OnOk result (SameHouse old.known new.known)
+  pub must : new.must ≡ old.must
+
+-- nothing of what is known of it changed
+pub record SameKnown {A E : Type 0} (result : Result A E) (old new : HouseState) : Type 0 where
+  pub known : OnOk result (new.known ≡ old.known)
+  pub must : new.must ≡ old.must
+
+-- nor did it tell anything
+pub record OnlyTook {A E : Type 0} (result : Result A E) (old new : HouseState) : Type 0 where
+  pub known : OnOk result (new.known ≡ old.known)
+  pub must : new.must ≡ old.must
+  pub told : new.told ≡ old.told
+
+-- it gave no order, and nothing changed but that
+pub record OrderedNothing (old new : HouseState) (lists lists' : Lists) : Type 0 where
+  pub same : OffersSame old new
+  pub orders : new.quiet.orders ≡ true
+  pub still : lists' ≡ lists
+
+-- it had no answer
+pub record AnsweredNothing (old new : HouseState) : Type 0 where
+  pub answers : new.quiet.answers ≡ true
+  pub queues : (t : ℕ) → new.queue t ≡ old.queue t
+
+-- it had an answer to one of its asks, or none
+abbrev pub AnsweredOr : Bool → HouseState → HouseState → Type 0
+AnsweredOr true old new = length new.known.asks < length old.known.asks
+AnsweredOr false old new = AnsweredNothing old new
+
+-- it had nothing to say, and nothing changed
+pub record SaidNothing (old new : HouseState) (seen seen' : Seen) (s s' : State) : Type 0 where
+  pub same : OffersSame old new
+  pub says : new.quiet.says ≡ true
+  pub engine : s' ≡ s
+  pub seen_is : seen' ≡ seen
+
+-- ---- what is heard of its streams
+
+-- the lists behind what one of them told
+pub record HeardBy (told : OwnTurn) (old new : Lists) : Type 0 where
+  pub own : new.own ≡ own_heard told old.own
+  pub held : new.held ≡ held_heard told old.held
+  pub failed : new.failed ≡ failed_heard told old.failed

@@ -27,7 +27,7 @@ use crate::orders::next_order;
 use crate::owned::own_rounds;
 use crate::room::Lists;
 use crate::settling::flush;
-use mux_clients::Asks;
+use mux_clients::AskLog;
 use mux_history::limits::{HOUSE, READING_STOPS_AT};
 use mux_machine::{Engine, Event};
 use mux_outside::{House, HouseMark, NoHouse, Piece, Want, Wire};
@@ -38,36 +38,15 @@ use std::alloc::Global;
 pub fn let_in<W: Wire, H: House>(
     engine: &mut Engine,
     wire: &mut W,
-    asks: &mut Asks,
+    asks: &mut AskLog,
 ) -> Result<(), OutOfMemory>
     requires on { engine.old.ended ≡ None }
     requires refused { engine.old.refused ≡ [] }
-    ensures serving { (present : Bool) (first : H) (before : Option (List TheHouseMark))
-        (now : TheSide) (policy : ThePolicy) (pid : ℕ) (start : Option (List TheMark))
-        (held failed : List ℕ) (given : ℕ) →
-        (v : Serving H.may (RestsOf H.told H.known H.quiet H.must H.refused H.stands present first) before
-        now policy pid start (W.seen wire.old) held failed given (0 ∷ here engine.old) engine.old) →
-        v.journal ≡ [] → present ≡ true → MatchResult result
-        (λ x. Serving H.may (RestsOf H.told H.known H.quiet H.must H.refused H.stands present first) before
-        (record now { let_in = true }) policy pid start (W.seen wire.new) held failed given
-        (0 ∷ here engine.new) engine.new)
-        (λ e. Promised H.may (RestsOf H.told H.known H.quiet H.must H.refused H.stands present first) before
-        now.told policy pid start (W.seen wire.new).told given) }
-    ensures places { SamePlaces (W.seen wire.old) (W.seen wire.new) }
-    ensures on { (present : Bool) (first : H) (before : Option (List TheHouseMark))
-        (now : TheSide) (policy : ThePolicy) (pid : ℕ) (start : Option (List TheMark))
-        (held failed : List ℕ) (given : ℕ) →
-        (v : Serving H.may (RestsOf H.told H.known H.quiet H.must H.refused H.stands present first) before
-        now policy pid start (W.seen wire.old) held failed given (0 ∷ here engine.old) engine.old) →
-        v.journal ≡ [] →
-        OnOk result (engine.new.ended ≡ None) }
-    ensures calls { W.calls wire.new ≡ W.calls wire.old }
-    ensures faults { W.server_faults wire.new ≡ W.server_faults wire.old }
-    ensures clients { W.client_faults wire.new ≡ W.client_faults wire.old }
-    ensures own_faults { OwnCounted (W.seen wire.old).told (W.seen wire.new).told
-        (W.own_faults wire.old) (W.own_faults wire.new) }
-    ensures openings { W.openings wire.new ≡ W.openings wire.old }
-    ensures joinings { W.joinings wire.new ≡ W.joinings wire.old }
+    ensures serving { LetsIn result H.may H.state (W.state wire.old).seen (W.state wire.new).seen
+        engine.old engine.new }
+    ensures places { SamePlaces (W.state wire.old).seen (W.state wire.new).seen }
+    ensures wire { IsIdle (W.state wire.old) (W.state wire.new) (W.faults wire.old)
+        (W.faults wire.new) }
 {
     wire.note(&HouseMark::HouseIn)?;
     engine.event(Event::Accepted(HOUSE), &mut NoHouse, asks)?;
@@ -80,26 +59,17 @@ fn hand_over<W: Wire, H: House>(
     wire: &mut W,
     house: &mut H,
 ) -> Result<(), OutOfMemory>
-    requires ordering { (H.known house.old).ordering ≡ None }
-    ensures serving { (held failed : List ℕ) → RunsOn result H.stands
-        house.old house.new H.may
-        (RestsOf H.told H.known H.quiet H.must H.refused H.stands (H.known house.old).present)
-        (noted (H.told house.old) (H.known house.old))
-        (noted (H.told house.new) (H.known house.new)) (W.seen wire.old) (W.seen wire.new) held held
-        failed failed 0 (λ done. 0) (0 ∷ here engine.old)
-        (λ done. 0 ∷ without TheHouse (here engine.new)) engine.old engine.new }
-    ensures known { OnOk result (H.known house.new ≡ H.known house.old) }
-    ensures must { H.must house.new ≡ H.must house.old }
+    requires ordering { (H.state house.old).known.ordering ≡ None }
+    ensures serving { (held failed : List ℕ) → RunsOn result H.may H.state house.old house.new
+        (scene_of (W.state wire.old) held failed engine.old)
+        (scene_of (W.state wire.new) held failed engine.new)
+        0 (λ done. 0) (0 ∷ here engine.old)
+        (λ done. 0 ∷ without TheHouse (here engine.new)) }
+    ensures house { SameKnown result (H.state house.old) (H.state house.new) }
     ensures ended { engine.new.ended ≡ engine.old.ended }
-    ensures places { SamePlaces (W.seen wire.old) (W.seen wire.new) }
-    ensures blocked { (W.seen wire.new).blocked ≡ (W.seen wire.old).blocked }
-    ensures calls { W.calls wire.new ≡ W.calls wire.old }
-    ensures faults { W.server_faults wire.new ≡ W.server_faults wire.old }
-    ensures clients { W.client_faults wire.new ≡ W.client_faults wire.old }
-    ensures own_faults { OwnCounted (W.seen wire.old).told (W.seen wire.new).told
-        (W.own_faults wire.old) (W.own_faults wire.new) }
-    ensures openings { W.openings wire.new ≡ W.openings wire.old }
-    ensures joinings { W.joinings wire.new ≡ W.joinings wire.old }
+    ensures streams { SameStreams (W.state wire.old).seen (W.state wire.new).seen }
+    ensures wire { IsIdle (W.state wire.old) (W.state wire.new) (W.faults wire.old)
+        (W.faults wire.new) }
 {
     let bytes = engine.queue_of(HOUSE);
     if bytes.is_empty() {
@@ -117,40 +87,26 @@ fn reply<W: Wire, H: House>(
     engine: &mut Engine,
     wire: &mut W,
     house: &mut H,
-    asks: &mut Asks,
+    asks: &mut AskLog,
 ) -> Result<bool, OutOfMemory>
-    requires ordering { (H.known house.old).ordering ≡ None }
-    requires present { (H.known house.old).present ≡ true }
+    requires ordering { (H.state house.old).known.ordering ≡ None }
+    requires present { (H.state house.old).known.present ≡ true }
     requires on { engine.old.ended ≡ None }
-    ensures serving { (held failed : List ℕ) → RunsOn result H.stands
-        house.old house.new H.may
-        (RestsOf H.told H.known H.quiet H.must H.refused H.stands (H.known house.old).present)
-        (noted (H.told house.old) (H.known house.old))
-        (noted (H.told house.new) (H.known house.new)) (W.seen wire.old) (W.seen wire.new) held held
-        failed failed 0 (λ more. 0) (0 ∷ without TheHouse (here engine.old))
-        (λ more. if more then 0 ∷ here engine.new else 0 ∷ without TheHouse (here engine.new))
-        engine.old engine.new }
-    ensures known { SameHouse (H.known house.old) (H.known house.new) }
-    ensures fewer { IfOk result (λ more. more ≡ true
-        → length (H.known house.new).asks < length (H.known house.old).asks) }
-    ensures answered { IfOk result (λ more. more ≡ false → (H.quiet house.new).answers ≡ true) }
-    ensures queues { IfOk result (λ more. more ≡ false
-        → (t : ℕ) → H.queue house.new t ≡ H.queue house.old t) }
-    ensures must { H.must house.new ≡ H.must house.old }
-    ensures on { (held failed todo : List ℕ) →
-        ServedWith H.stands house.old H.may
-        (RestsOf H.told H.known H.quiet H.must H.refused H.stands (H.known house.old).present)
-        (noted (H.told house.old) (H.known house.old)) (W.seen wire.old) held failed todo
-        engine.old → OnOk result (engine.new.ended ≡ None) }
-    ensures places { SamePlaces (W.seen wire.old) (W.seen wire.new) }
-    ensures blocked { (W.seen wire.new).blocked ≡ (W.seen wire.old).blocked }
-    ensures calls { W.calls wire.new ≡ W.calls wire.old }
-    ensures faults { W.server_faults wire.new ≡ W.server_faults wire.old }
-    ensures clients { W.client_faults wire.new ≡ W.client_faults wire.old }
-    ensures own_faults { OwnCounted (W.seen wire.old).told (W.seen wire.new).told
-        (W.own_faults wire.old) (W.own_faults wire.new) }
-    ensures openings { W.openings wire.new ≡ W.openings wire.old }
-    ensures joinings { W.joinings wire.new ≡ W.joinings wire.old }
+    ensures serving { (held failed : List ℕ) → RunsOn result H.may H.state house.old house.new
+        (scene_of (W.state wire.old) held failed engine.old)
+        (scene_of (W.state wire.new) held failed engine.new)
+        0 (λ more. 0) (0 ∷ without TheHouse (here engine.old))
+        (λ more. if more then 0 ∷ here engine.new
+        else 0 ∷ without TheHouse (here engine.new)) }
+    ensures house { OnlyAsked result (H.state house.old) (H.state house.new) }
+    ensures answered { IfOk result (λ more. AnsweredOr more (H.state house.old)
+        (H.state house.new)) }
+    ensures on { (held failed todo : List ℕ) → ServedWith H.may H.state house.old
+        (scene_of (W.state wire.old) held failed engine.old) todo
+        → OnOk result (engine.new.ended ≡ None) }
+    ensures streams { SameStreams (W.state wire.old).seen (W.state wire.new).seen }
+    ensures wire { IsIdle (W.state wire.old) (W.state wire.new) (W.faults wire.old)
+        (W.faults wire.new) }
 {
     let Some((client, id, given)) = house.answer() else {
         return Ok(false);
@@ -172,37 +128,23 @@ pub fn reply_all<W: Wire, H: House>(
     house: &mut H,
     lists: &mut Lists,
 ) -> Result<(), OutOfMemory>
-    requires served { ServedWith H.stands house.old H.may
-        (RestsOf H.told H.known H.quiet H.must H.refused H.stands (H.known house.old).present)
-        (noted (H.told house.old) (H.known house.old)) (W.seen wire.old) lists.old.held
-        lists.old.failed (0 ∷ here engine.old) engine.old }
-    requires housed { Housed (H.known house.old) (W.seen wire.old) lists.old.own }
-    requires present { (H.known house.old).present ≡ true }
-    requires held_is { lists.old.held ≡ (W.seen wire.old).blocked }
+    requires served { ServedWith H.may H.state house.old
+        (scene (W.state wire.old) lists.old engine.old) (0 ∷ here engine.old) }
+    requires together { Together (H.state house.old) (W.state wire.old) lists.old }
+    requires present { (H.state house.old).known.present ≡ true }
     requires on { engine.old.ended ≡ None }
-    ensures serving { RunsOn result H.stands house.old house.new H.may
-        (RestsOf H.told H.known H.quiet H.must H.refused H.stands (H.known house.old).present)
-        (noted (H.told house.old) (H.known house.old))
-        (noted (H.told house.new) (H.known house.new)) (W.seen wire.old) (W.seen wire.new)
-        lists.old.held lists.new.held lists.old.failed lists.new.failed 0 (λ done. 0)
-        (0 ∷ here engine.old) (λ done. 0 ∷ without TheHouse (here engine.new)) engine.old
-        engine.new }
-    ensures known { OnOk result (SameHouse (H.known house.old) (H.known house.new)) }
-    ensures places { SamePlaces (W.seen wire.old) (W.seen wire.new) }
-    ensures held_is { OnOk result (lists.new.held ≡ (W.seen wire.new).blocked) }
+    ensures serving { RunsOn result H.may H.state house.old house.new
+        (scene (W.state wire.old) lists.old engine.old)
+        (scene (W.state wire.new) lists.new engine.new) 0 (λ done. 0) (0 ∷ here engine.old)
+        (λ done. 0 ∷ without TheHouse (here engine.new)) }
+    ensures house { OnlyAsked result (H.state house.old) (H.state house.new) }
+    ensures places { SamePlaces (W.state wire.old).seen (W.state wire.new).seen }
+    ensures held_is { OnOk result (lists.new.held ≡ (W.state wire.new).seen.blocked) }
     ensures own { lists.new.own ≡ lists.old.own }
-    ensures answered { OnOk result ((H.quiet house.new).answers ≡ true) }
-    ensures offered { OnOk result ((t : ℕ) → among t lists.new.own ≡ true
-        → IsOffered (H.queue house.new t) lists.new.held lists.new.failed t) }
-    ensures must { H.must house.new ≡ H.must house.old }
+    ensures rests { OnOk result (HasAnswered (H.state house.new) lists.new) }
     ensures on { OnOk result (engine.new.ended ≡ None) }
-    ensures calls { Counts 0 result (W.calls wire.old) (W.calls wire.new) }
-    ensures faults { W.server_faults wire.new ≡ W.server_faults wire.old }
-    ensures clients { W.client_faults wire.new ≡ W.client_faults wire.old }
-    ensures own_faults { OwnCounted (W.seen wire.old).told (W.seen wire.new).told
-        (W.own_faults wire.old) (W.own_faults wire.new) }
-    ensures openings { W.openings wire.new ≡ W.openings wire.old }
-    ensures joinings { W.joinings wire.new ≡ W.joinings wire.old }
+    ensures wire { WorksOwn result (W.state wire.old) (W.state wire.new) (W.faults wire.old)
+        (W.faults wire.new) }
 {
     loop {
         hand_over(engine, wire, house)?;
@@ -238,45 +180,33 @@ fn speak<W: Wire, H: House>(
     engine: &mut Engine,
     wire: &mut W,
     house: &mut H,
-    asks: &mut Asks,
+    asks: &mut AskLog,
     piece: &mut Piece,
 ) -> Result<bool, OutOfMemory>
-    requires ordering { (H.known house.old).ordering ≡ None }
-    requires present { (H.known house.old).present ≡ true }
+    requires ordering { (H.state house.old).known.ordering ≡ None }
+    requires present { (H.state house.old).known.present ≡ true }
     requires on { engine.old.ended ≡ None }
     requires room { want_of engine.old ≡ ToRead }
-    ensures serving { (held failed : List ℕ) → RunsOn result H.stands
-        house.old house.new H.may
-        (RestsOf H.told H.known H.quiet H.must H.refused H.stands (H.known house.old).present)
-        (noted (H.told house.old) (H.known house.old))
-        (noted (H.told house.new) (H.known house.new)) (W.seen wire.old) (W.seen wire.new) held held
-        failed failed 1 (λ more. if more then 1 else 0) []
-        (λ more. if more then 0 ∷ here engine.new else []) engine.old engine.new }
-    ensures known { OnOk result (SameHouse (H.known house.old) (H.known house.new)) }
-    ensures quiet { IfOk result (λ more. more ≡ false → H.quiet house.new ≡ H.quiet house.old) }
-    ensures silent { IfOk result (λ more. more ≡ false → (H.quiet house.new).says ≡ true) }
-    ensures queues { IfOk result (λ more. more ≡ false
-        → (t : ℕ) → H.queue house.new t ≡ H.queue house.old t) }
-    ensures still { IfOk result (λ more. more ≡ false → (engine.new ≡ engine.old)
-        × (W.seen wire.new ≡ W.seen wire.old)) }
-    ensures must { H.must house.new ≡ H.must house.old }
-    ensures ends { (held failed : List ℕ) →
-        ServedWith H.stands house.old H.may
-        (RestsOf H.told H.known H.quiet H.must H.refused H.stands (H.known house.old).present)
-        (noted (H.told house.old) (H.known house.old)) (W.seen wire.old) held failed []
-        engine.old → OnOk result (EndsByAsk engine.new.ended) }
-    ensures places { SamePlaces (W.seen wire.old) (W.seen wire.new) }
-    ensures blocked { (W.seen wire.new).blocked ≡ (W.seen wire.old).blocked }
-    ensures calls { W.calls wire.new ≡ W.calls wire.old }
-    ensures faults { W.server_faults wire.new ≡ W.server_faults wire.old }
-    ensures clients { W.client_faults wire.new ≡ W.client_faults wire.old }
-    ensures own_faults { (picked : List ℕ) (replies : List TheReply) (journal : List TheMark)
+    ensures serving { (held failed : List ℕ) → RunsOn result H.may H.state house.old house.new
+        (scene_of (W.state wire.old) held failed engine.old)
+        (scene_of (W.state wire.new) held failed engine.new)
+        1 (λ more. if more then 1 else 0) []
+        (λ more. if more then 0 ∷ here engine.new else []) }
+    ensures house { OnlyAsked result (H.state house.old) (H.state house.new) }
+    ensures silent { IfOk result (λ more. more ≡ false
+        → SaidNothing (H.state house.old) (H.state house.new) (W.state wire.old).seen
+        (W.state wire.new).seen engine.old engine.new) }
+    ensures ends { (held failed : List ℕ) → ServedWith H.may H.state house.old
+        (scene_of (W.state wire.old) held failed engine.old) []
+        → OnOk result (EndsByAsk engine.new.ended) }
+    ensures streams { SameStreams (W.state wire.old).seen (W.state wire.new).seen }
+    ensures counted { (picked : List ℕ) (replies : List TheReply) (journal : List TheMark)
         (closed : List ℕ) → Stands picked replies engine.old journal closed
         → is_accepted TheHouse journal ≡ true
-        → OwnCounted (W.seen wire.old).told (W.seen wire.new).told (W.own_faults wire.old)
-        (W.own_faults wire.new) }
-    ensures openings { W.openings wire.new ≡ W.openings wire.old }
-    ensures joinings { W.joinings wire.new ≡ W.joinings wire.old }
+        → OwnCounted (W.state wire.old).seen.told (W.state wire.new).seen.told
+        (W.faults wire.old).own (W.faults wire.new).own }
+    ensures wire { Untouched (W.state wire.old) (W.state wire.new) (W.faults wire.old)
+        (W.faults wire.new) }
 {
     if !house.says(piece)? {
         return Ok(false);
@@ -295,38 +225,23 @@ fn ask_house<W: Wire, H: House>(
     house: &mut H,
     lists: &mut Lists,
 ) -> Result<bool, OutOfMemory>
-    requires served { ServedWith H.stands house.old H.may
-        (RestsOf H.told H.known H.quiet H.must H.refused H.stands (H.known house.old).present)
-        (noted (H.told house.old) (H.known house.old)) (W.seen wire.old) lists.old.held
-        lists.old.failed (0 ∷ here engine.old) engine.old }
-    requires housed { Housed (H.known house.old) (W.seen wire.old) lists.old.own }
-    requires alone { IsAlone (H.known house.old) }
-    requires held_is { lists.old.held ≡ (W.seen wire.old).blocked }
+    requires served { ServedWith H.may H.state house.old
+        (scene (W.state wire.old) lists.old engine.old) (0 ∷ here engine.old) }
+    requires together { Together (H.state house.old) (W.state wire.old) lists.old }
     requires on { engine.old.ended ≡ None }
-    ensures serving { RunsOn result H.stands house.old house.new H.may
-        (RestsOf H.told H.known H.quiet H.must H.refused H.stands (H.known house.old).present)
-        (noted (H.told house.old) (H.known house.old))
-        (noted (H.told house.new) (H.known house.new)) (W.seen wire.old) (W.seen wire.new)
-        lists.old.held lists.new.held lists.old.failed lists.new.failed 1
-        (λ more. if more then 1 else 0) (0 ∷ here engine.old)
-        (λ more. 0 ∷ without TheHouse (here engine.new)) engine.old engine.new }
-    ensures housed { OnOk result (Housed (H.known house.new) (W.seen wire.new) lists.new.own) }
-    ensures alone { OnOk result (IsAlone (H.known house.new)) }
-    ensures held_is { OnOk result (lists.new.held ≡ (W.seen wire.new).blocked) }
-    ensures present { OnOk result ((H.known house.new).present ≡ (H.known house.old).present) }
-    ensures none { (H.known house.old).present ≡ false → (house.new ≡ house.old)
+    ensures serving { RunsOn result H.may H.state house.old house.new
+        (scene (W.state wire.old) lists.old engine.old)
+        (scene (W.state wire.new) lists.new engine.new) 1 (λ more. if more then 1 else 0) (0 ∷ here engine.old)
+        (λ more. 0 ∷ without TheHouse (here engine.new)) }
+    ensures together { OnOk result (Together (H.state house.new) (W.state wire.new) lists.new) }
+    ensures house { StaysHouse result (H.state house.old) (H.state house.new) }
+    ensures none { (H.state house.old).known.present ≡ false → (house.new ≡ house.old)
         × (engine.new ≡ engine.old) × (wire.new ≡ wire.old) × (result ≡ Ok false) }
-    ensures ready { IfOk result (λ more. more ≡ false → HasNoMore (H.known house.new)
-        (H.quiet house.new) (H.queue house.new) lists.new.held lists.new.failed lists.new.own) }
-    ensures must { H.must house.new ≡ H.must house.old }
+    ensures ready { IfOk result (λ more. more ≡ false
+        → HasNoMoreFor (H.state house.new) lists.new) }
     ensures on { OnOk result (engine.new.ended ≡ None) }
-    ensures calls { Counts 0 result (W.calls wire.old) (W.calls wire.new) }
-    ensures faults { W.server_faults wire.new ≡ W.server_faults wire.old }
-    ensures clients { W.client_faults wire.new ≡ W.client_faults wire.old }
-    ensures own_faults { OwnCounted (W.seen wire.old).told (W.seen wire.new).told
-        (W.own_faults wire.old) (W.own_faults wire.new) }
-    ensures openings { W.openings wire.new ≡ W.openings wire.old }
-    ensures joinings { W.joinings wire.new ≡ W.joinings wire.old }
+    ensures wire { WorksOwn result (W.state wire.old) (W.state wire.new) (W.faults wire.old)
+        (W.faults wire.new) }
 {
     if !house.present() {
         return Ok(false);
@@ -346,44 +261,24 @@ pub fn step_house<W: Wire, H: House>(
     lists: &mut Lists,
     piece: &mut Piece,
 ) -> Result<bool, OutOfMemory>
-    requires served { ServedWith H.stands house.old H.may
-        (RestsOf H.told H.known H.quiet H.must H.refused H.stands (H.known house.old).present)
-        (noted (H.told house.old) (H.known house.old)) (W.seen wire.old) lists.old.held
-        lists.old.failed (0 ∷ here engine.old) engine.old }
-    requires housed { Housed (H.known house.old) (W.seen wire.old) lists.old.own }
-    requires alone { IsAlone (H.known house.old) }
+    requires served { ServedWith H.may H.state house.old
+        (scene (W.state wire.old) lists.old engine.old) (0 ∷ here engine.old) }
+    requires together { Together (H.state house.old) (W.state wire.old) lists.old }
     requires on { engine.old.ended ≡ None }
-    ensures serving { RunsOn result H.stands house.old house.new H.may
-        (RestsOf H.told H.known H.quiet H.must H.refused H.stands (H.known house.old).present)
-        (noted (H.told house.old) (H.known house.old))
-        (noted (H.told house.new) (H.known house.new)) (W.seen wire.old) (W.seen wire.new)
-        lists.old.held lists.new.held lists.old.failed lists.new.failed 1
-        (λ more. if more then 1 else 0) (0 ∷ here engine.old)
-        (λ more. if more then 0 ∷ here engine.new else []) engine.old engine.new }
-    ensures housed { OnOk result (Housed (H.known house.new) (W.seen wire.new) lists.new.own) }
-    ensures alone { OnOk result (IsAlone (H.known house.new)) }
-    ensures held_is { OnOk result (lists.new.held ≡ (W.seen wire.new).blocked) }
-    ensures present { OnOk result ((H.known house.new).present ≡ (H.known house.old).present) }
-    ensures waits { (H.known house.old).present ≡ false → result ≢ Ok true }
+    ensures serving { RunsOn result H.may H.state house.old house.new
+        (scene (W.state wire.old) lists.old engine.old)
+        (scene (W.state wire.new) lists.new engine.new) 1 (λ more. if more then 1 else 0) (0 ∷ here engine.old)
+        (λ more. if more then 0 ∷ here engine.new else []) }
+    ensures together { OnOk result (Together (H.state house.new) (W.state wire.new) lists.new) }
+    ensures house { StaysHouse result (H.state house.old) (H.state house.new) }
+    ensures alone { (H.state house.old).known.present ≡ false
+        → WaitsAlone result engine.old engine.new }
     ensures ready { IfOk result (λ more. more ≡ false → engine.new.ended ≡ None
-        → IsReady (H.known house.new) (H.quiet house.new) (H.queue house.new) lists.new.held
-        lists.new.failed lists.new.own engine.new) }
-    ensures must { H.must house.new ≡ H.must house.old }
-    ensures failed { OnOk result (engine.new.ended ≡ Some ServerFailed
-        → Rose (W.server_faults wire.old) (W.server_faults wire.new)) }
-    ensures by_row { OnOk result (IsByRow engine.new.ended) }
-    ensures ended_by { OnOk result (OverBy (H.known house.old).present engine.new.ended
-        (W.calls wire.old) (W.calls wire.new)) }
-    ensures idle { engine.old.waiting ≡ [] → (H.known house.old).present ≡ false
-        → OnOk result (engine.new.ended ≡ None) }
-    ensures unopened { (H.known house.old).present ≡ false
-        → (W.seen wire.new).last_own ≡ (W.seen wire.old).last_own }
-    ensures later { W.server_faults wire.old ≤ W.server_faults wire.new }
-    ensures calls { Counts 0 result (W.calls wire.old) (W.calls wire.new) }
-    ensures own_faults { OwnCounted (W.seen wire.old).told (W.seen wire.new).told
-        (W.own_faults wire.old) (W.own_faults wire.new) }
-    ensures openings { W.openings wire.new ≡ W.openings wire.old }
-    ensures joinings { W.joinings wire.new ≡ W.joinings wire.old }
+        → IsReadyFor (H.state house.new) lists.new engine.new) }
+    ensures ended { EndsSo result (H.state house.old).known.present engine.new.ended
+        (W.state wire.old) (W.state wire.new) (W.faults wire.old) (W.faults wire.new) }
+    ensures wire { Works 0 result (W.state wire.old) (W.state wire.new) (W.faults wire.old)
+        (W.faults wire.new) }
 {
     if ask_house(engine, wire, house, lists)? {
         return Ok(true);

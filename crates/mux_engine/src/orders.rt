@@ -33,34 +33,15 @@ fn add_stream<W: Wire, H: House>(
     host: &Text,
     port: u32,
 ) -> Result<Option<u64>, OutOfMemory>
-    requires ordered { HasOrdered (TheConnect host.now port) (H.known house.old)
-        (W.seen wire.old) lists.old.own }
-    ensures made { IfOk result (λ number. MadeBy (TheConnect host.now port) number (W.seen wire.old)) }
-    ensures seen { IfOk result (λ number. W.seen wire.new
-        ≡ seen_carried (TheConnect host.now port) number (W.seen wire.old)) }
-    ensures kept { OnErr result ((W.seen wire.new).told ≡ (W.seen wire.old).told) }
-    ensures own { IfOk result (λ number. lists.new.own
-        ≡ own_carried (TheConnect host.now port) number lists.old.own) }
-    ensures held { IfOk result (λ number. lists.new.held
-        ≡ held_carried (TheConnect host.now port) number lists.old.held) }
-    ensures failed { lists.new.failed ≡ lists.old.failed }
-    ensures known { IfOk result (λ number. H.known house.new
-        ≡ known_carried (TheConnect host.now port) number (H.known house.old)) }
-    ensures told { IfOk result (λ number. H.told house.new
-        ≡ option_map (λ marks. marks ++ more_told (TheConnect host.now port) number)
-        (H.told house.old)) }
-    ensures untold { OnErr result (H.told house.new ≡ H.told house.old) }
-    ensures stands { IfOk result (λ number. HandsOn (H.stands house.old) (H.stands house.new)
-        (calls_of (more_told (TheConnect host.now port) number))) }
-    ensures must { H.must house.new ≡ H.must house.old }
-    ensures calls { W.calls wire.new ≡ W.calls wire.old }
-    ensures faults { W.server_faults wire.new ≡ W.server_faults wire.old }
-    ensures clients { W.client_faults wire.new ≡ W.client_faults wire.old }
-    ensures own_faults { IfOk result (λ number. OrderCounted (TheConnect host.now port) number
-        (W.own_faults wire.old) (W.own_faults wire.new)) }
-    ensures own_later { W.own_faults wire.old ≤ W.own_faults wire.new }
-    ensures openings { W.openings wire.new ≡ W.openings wire.old }
-    ensures joinings { W.joinings wire.new ≡ W.joinings wire.old }
+    requires ordered { HasOrdered (TheConnect host.now port) (H.state house.old).known
+        (W.state wire.old).seen lists.old.own }
+    ensures carried { Carries result (TheConnect host.now port) (W.state wire.old).seen
+        (W.state wire.new).seen lists.old lists.new (H.state house.old) (H.state house.new) }
+    ensures counted { CarryCounted result (TheConnect host.now port) (W.faults wire.old).own
+        (W.faults wire.new).own }
+    ensures must { (H.state house.new).must ≡ (H.state house.old).must }
+    ensures wire { Untouched (W.state wire.old) (W.state wire.new) (W.faults wire.old)
+        (W.faults wire.new) }
 {
     let made = made_by(wire.connect(host.as_bytes(), port))?;
     if let Some(stream) = made {
@@ -78,34 +59,15 @@ fn carry_out<W: Wire, H: House>(
     lists: &mut Lists,
     order: &Order,
 ) -> Result<Option<u64>, OutOfMemory>
-    requires ordered { HasOrdered order.now (H.known house.old) (W.seen wire.old)
+    requires ordered { HasOrdered order.now (H.state house.old).known (W.state wire.old).seen
         lists.old.own }
-    ensures made { IfOk result (λ number. MadeBy order.now number (W.seen wire.old)) }
-    ensures seen { IfOk result (λ number. W.seen wire.new
-        ≡ seen_carried order.now number (W.seen wire.old)) }
-    ensures kept { OnErr result ((W.seen wire.new).told ≡ (W.seen wire.old).told) }
-    ensures own { IfOk result (λ number. lists.new.own
-        ≡ own_carried order.now number lists.old.own) }
-    ensures held { IfOk result (λ number. lists.new.held
-        ≡ held_carried order.now number lists.old.held) }
-    ensures failed { OnOk result (lists.new.failed ≡ failed_carried order.now lists.old.failed) }
-    ensures known { IfOk result (λ number. H.known house.new
-        ≡ known_carried order.now number (H.known house.old)) }
-    ensures told { IfOk result (λ number. H.told house.new
-        ≡ option_map (λ marks. marks ++ more_told order.now number)
-        (H.told house.old)) }
-    ensures untold { OnErr result (H.told house.new ≡ H.told house.old) }
-    ensures stands { IfOk result (λ number. HandsOn (H.stands house.old) (H.stands house.new)
-        (calls_of (more_told order.now number))) }
-    ensures must { H.must house.new ≡ H.must house.old }
-    ensures calls { W.calls wire.new ≡ W.calls wire.old }
-    ensures faults { W.server_faults wire.new ≡ W.server_faults wire.old }
-    ensures clients { W.client_faults wire.new ≡ W.client_faults wire.old }
-    ensures own_faults { IfOk result (λ number. OrderCounted order.now number
-        (W.own_faults wire.old) (W.own_faults wire.new)) }
-    ensures own_later { W.own_faults wire.old ≤ W.own_faults wire.new }
-    ensures openings { W.openings wire.new ≡ W.openings wire.old }
-    ensures joinings { W.joinings wire.new ≡ W.joinings wire.old }
+    ensures carried { Carries result order.now (W.state wire.old).seen (W.state wire.new).seen
+        lists.old lists.new (H.state house.old) (H.state house.new) }
+    ensures counted { CarryCounted result order.now (W.faults wire.old).own
+        (W.faults wire.new).own }
+    ensures must { (H.state house.new).must ≡ (H.state house.old).must }
+    ensures wire { Untouched (W.state wire.old) (W.state wire.new) (W.faults wire.old)
+        (W.faults wire.new) }
 {
     match order {
         Order::Listen { host, port } => {
@@ -135,26 +97,18 @@ fn obey<W: Wire, H: House>(
     lists: &mut Lists,
     order: Order,
 ) -> Result<(), OutOfMemory>
-    requires ordered { HasOrdered order (H.known house.old) (W.seen wire.old) lists.old.own }
-    requires present { (H.known house.old).present ≡ true }
-    ensures serving { (todo : List ℕ) (s : TheState) → RunsOn result H.stands
-        house.old house.new H.may
-        (RestsOf H.told H.known H.quiet H.must H.refused H.stands (H.known house.old).present)
-        (noting (order_marks (Some order)) (H.told house.old) (H.known house.old))
-        (noted (H.told house.new) (H.known house.new)) (W.seen wire.old) (W.seen wire.new)
-        lists.old.held lists.new.held lists.old.failed lists.new.failed 1 (λ done. 1) todo
-        (λ done. todo) s s }
-    ensures housed { OnOk result (Housed (H.known house.new) (W.seen wire.new) lists.new.own) }
-    ensures present { OnOk result
-        ((H.known house.new).present ≡ (H.known house.old).present) }
-    ensures must { H.must house.new ≡ H.must house.old }
-    ensures calls { W.calls wire.new ≡ W.calls wire.old }
-    ensures faults { W.server_faults wire.new ≡ W.server_faults wire.old }
-    ensures clients { W.client_faults wire.new ≡ W.client_faults wire.old }
-    ensures own_faults { OwnCounted (W.seen wire.old).told (W.seen wire.new).told
-        (W.own_faults wire.old) (W.own_faults wire.new) }
-    ensures openings { W.openings wire.new ≡ W.openings wire.old }
-    ensures joinings { W.joinings wire.new ≡ W.joinings wire.old }
+    requires ordered { HasOrdered order (H.state house.old).known (W.state wire.old).seen
+        lists.old.own }
+    requires present { (H.state house.old).known.present ≡ true }
+    ensures serving { (todo : List ℕ) (s : TheState) → RunsFrom result
+        (noting (order_marks (Some order)) (H.state house.old).told (H.state house.old).known)
+        H.may H.state house.old house.new (scene (W.state wire.old) lists.old s)
+        (scene (W.state wire.new) lists.new s) 1 (λ done. 1) todo (λ done. todo) }
+    ensures housed { OnOk result
+        (Housed (H.state house.new).known (W.state wire.new).seen lists.new.own) }
+    ensures house { StaysHouse result (H.state house.old) (H.state house.new) }
+    ensures wire { IsIdle (W.state wire.old) (W.state wire.new) (W.faults wire.old)
+        (W.faults wire.new) }
 {
     let number = carry_out(wire, house, lists, &order)?;
     wire.note(&HouseMark::HouseOrder { order, number })
@@ -166,31 +120,18 @@ pub fn next_order<W: Wire, H: House>(
     house: &mut H,
     lists: &mut Lists,
 ) -> Result<bool, OutOfMemory>
-    requires housed { Housed (H.known house.old) (W.seen wire.old) lists.old.own }
-    requires present { (H.known house.old).present ≡ true }
-    ensures serving { (todo : List ℕ) (s : TheState) → RunsOn result H.stands
-        house.old house.new H.may
-        (RestsOf H.told H.known H.quiet H.must H.refused H.stands (H.known house.old).present)
-        (noted (H.told house.old) (H.known house.old))
-        (noted (H.told house.new) (H.known house.new)) (W.seen wire.old) (W.seen wire.new)
-        lists.old.held lists.new.held lists.old.failed lists.new.failed 1
-        (λ more. if more then 1 else 0) todo (λ more. todo) s s }
-    ensures housed { OnOk result (Housed (H.known house.new) (W.seen wire.new) lists.new.own) }
-    ensures present { OnOk result
-        ((H.known house.new).present ≡ (H.known house.old).present) }
-    ensures quiet { IfOk result (λ more. more ≡ false → H.quiet house.new ≡ H.quiet house.old) }
-    ensures orders { IfOk result (λ more. more ≡ false → (H.quiet house.new).orders ≡ true) }
-    ensures queues { IfOk result (λ more. more ≡ false
-        → (t : ℕ) → H.queue house.new t ≡ H.queue house.old t) }
-    ensures still { IfOk result (λ more. more ≡ false → lists.new ≡ lists.old) }
-    ensures must { H.must house.new ≡ H.must house.old }
-    ensures calls { W.calls wire.new ≡ W.calls wire.old }
-    ensures faults { W.server_faults wire.new ≡ W.server_faults wire.old }
-    ensures clients { W.client_faults wire.new ≡ W.client_faults wire.old }
-    ensures own_faults { OwnCounted (W.seen wire.old).told (W.seen wire.new).told
-        (W.own_faults wire.old) (W.own_faults wire.new) }
-    ensures openings { W.openings wire.new ≡ W.openings wire.old }
-    ensures joinings { W.joinings wire.new ≡ W.joinings wire.old }
+    requires housed { Housed (H.state house.old).known (W.state wire.old).seen lists.old.own }
+    requires present { (H.state house.old).known.present ≡ true }
+    ensures serving { (todo : List ℕ) (s : TheState) → RunsOn result H.may H.state house.old
+        house.new (scene (W.state wire.old) lists.old s) (scene (W.state wire.new) lists.new s) 1
+        (λ more. if more then 1 else 0) todo (λ more. todo) }
+    ensures housed { OnOk result
+        (Housed (H.state house.new).known (W.state wire.new).seen lists.new.own) }
+    ensures house { StaysHouse result (H.state house.old) (H.state house.new) }
+    ensures none { IfOk result (λ more. more ≡ false
+        → OrderedNothing (H.state house.old) (H.state house.new) lists.old lists.new) }
+    ensures wire { IsIdle (W.state wire.old) (W.state wire.new) (W.faults wire.old)
+        (W.faults wire.new) }
 {
     let Some(order) = house.order() else {
         return Ok(false);

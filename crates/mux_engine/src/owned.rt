@@ -16,20 +16,15 @@ use ssh_fields::OutOfMemory;
 
 // Hands bytes to a stream.
 fn hand<W: Wire>(wire: &mut W, stream: u64, bytes: &[u8]) -> Wrote
-    requires stream_open { IsTrue (among stream (W.seen wire.old).streams) }
-    requires not_blocked { among stream (W.seen wire.old).blocked ≡ false }
-    requires not_finished { is_finished stream (W.seen wire.old).own ≡ false }
+    requires stream_open { IsTrue (among stream (W.state wire.old).seen.streams) }
+    requires not_blocked { among stream (W.state wire.old).seen.blocked ≡ false }
+    requires not_finished { is_finished stream (W.state wire.old).seen.own ≡ false }
     requires some { 0 < length bytes.now }
     ensures bytes { AreBytes bytes.now }
     ensures wrote { WroteFits result (length bytes.now) }
-    ensures seen { W.seen wire.new ≡ seen_after_write result stream bytes.now (W.seen wire.old) }
-    ensures calls { W.calls wire.new ≡ calls_after_write result (W.calls wire.old) }
-    ensures cause { WroteFaults result stream (W.server_faults wire.old)
-        (W.server_faults wire.new) (W.client_faults wire.old) (W.client_faults wire.new) }
-    ensures own_faults { OwnCounted (W.seen wire.old).told (W.seen wire.new).told
-        (W.own_faults wire.old) (W.own_faults wire.new) }
-    ensures openings { W.openings wire.new ≡ W.openings wire.old }
-    ensures joinings { W.joinings wire.new ≡ W.joinings wire.old }
+    ensures state { W.state wire.new ≡ state_after_write result stream bytes.now
+        (W.state wire.new).tally (W.state wire.old) }
+    ensures cause { WroteFaults result stream (W.faults wire.old) (W.faults wire.new) }
 {
     wire.write(stream, bytes)
 }
@@ -43,38 +38,20 @@ fn own_once<W: Wire, H: House>(
     failed: &mut Streams,
     stream: u64,
 ) -> Result<bool, OutOfMemory>
-    requires ordering { (H.known house.old).ordering ≡ None }
-    requires same { (H.known house.old).streams ≡ (W.seen wire.old).own }
-    requires one { IsTrue (is_one stream (H.known house.old).streams) }
-    requires own { IsTrue (is_own stream) }
-    requires stream_open { IsTrue (among stream (W.seen wire.old).streams) }
-    requires held_is { held.old ≡ (W.seen wire.old).blocked }
-    ensures serving { OwnOn result H.stands house.old house.new H.may
-        (RestsOf H.told H.known H.quiet H.must H.refused H.stands) (W.seen wire.old)
-        (W.seen wire.new) held.old held.new
-        failed.old failed.new }
-    ensures less { IfOk result (λ more. more ≡ true
-        → length (H.queue house.new stream) < length (H.queue house.old stream)) }
-    ensures offered { IfOk result (λ more. more ≡ false
-        → IsOffered (H.queue house.new stream) held.new failed.new stream) }
-    ensures known { OnOk result (H.known house.new ≡ H.known house.old) }
-    ensures told { H.told house.new ≡ H.told house.old }
-    ensures must { H.must house.new ≡ H.must house.old }
-    ensures places { SamePlaces (W.seen wire.old) (W.seen wire.new) }
-    ensures held_is { OnOk result (held.new ≡ (W.seen wire.new).blocked) }
-    ensures keeps { OnOk result (length failed.new ≡ length failed.old → (t : ℕ)
-        → IsOffered (H.queue house.old t) held.old failed.old t
-        → IsOffered (H.queue house.new t) held.new failed.new t) }
-    ensures grows { OnOk result (length failed.old ≤ length failed.new) }
-    ensures fewer { OnOk result ((own : List ℕ) → among stream own ≡ true
-        → left_of failed.new own + length failed.new ≤ left_of failed.old own + length failed.old) }
-    ensures faults { W.server_faults wire.new ≡ W.server_faults wire.old }
-    ensures clients { W.client_faults wire.new ≡ W.client_faults wire.old }
-    ensures calls { Counts 0 result (W.calls wire.old) (W.calls wire.new) }
-    ensures own_faults { OwnCounted (W.seen wire.old).told (W.seen wire.new).told
-        (W.own_faults wire.old) (W.own_faults wire.new) }
-    ensures openings { W.openings wire.new ≡ W.openings wire.old }
-    ensures joinings { W.joinings wire.new ≡ W.joinings wire.old }
+    requires knows { OwnsStreams (H.state house.old) (W.state wire.old).seen held.old }
+    requires stream { IsOpenOwn (H.state house.old) (W.state wire.old).seen stream }
+    ensures serving { OwnOn result H.may H.state house.old house.new (W.state wire.old).seen
+        (W.state wire.new).seen held.old held.new failed.old failed.new }
+    ensures offered { IfOk result (λ more. TookOrOffered more (H.state house.old).queue
+        (H.state house.new).queue held.new failed.new stream) }
+    ensures house { OnlyTook result (H.state house.old) (H.state house.new) }
+    ensures places { SamePlaces (W.state wire.old).seen (W.state wire.new).seen }
+    ensures held_is { OnOk result (held.new ≡ (W.state wire.new).seen.blocked) }
+    ensures keeps { OnOk result (StayOffered (H.state house.old).queue (H.state house.new).queue
+        held.old held.new failed.old failed.new) }
+    ensures fails { OnOk result (FailsFurther (stream ∷ []) failed.old failed.new) }
+    ensures wire { WorksOwn result (W.state wire.old) (W.state wire.new) (W.faults wire.old)
+        (W.faults wire.new) }
 {
     if held.contains(stream) || failed.contains(stream) {
         return Ok(false);
@@ -110,35 +87,20 @@ fn offer_own<W: Wire, H: House>(
     failed: &mut Streams,
     stream: u64,
 ) -> Result<(), OutOfMemory>
-    requires ordering { (H.known house.old).ordering ≡ None }
-    requires same { (H.known house.old).streams ≡ (W.seen wire.old).own }
-    requires one { IsTrue (is_one stream (H.known house.old).streams) }
-    requires own { IsTrue (is_own stream) }
-    requires stream_open { IsTrue (among stream (W.seen wire.old).streams) }
-    requires held_is { held.old ≡ (W.seen wire.old).blocked }
-    ensures serving { OwnOn result H.stands house.old house.new H.may
-        (RestsOf H.told H.known H.quiet H.must H.refused H.stands) (W.seen wire.old)
-        (W.seen wire.new) held.old held.new
-        failed.old failed.new }
-    ensures offered { OnOk result (IsOffered (H.queue house.new stream) held.new failed.new stream) }
-    ensures known { OnOk result (H.known house.new ≡ H.known house.old) }
-    ensures told { H.told house.new ≡ H.told house.old }
-    ensures must { H.must house.new ≡ H.must house.old }
-    ensures places { SamePlaces (W.seen wire.old) (W.seen wire.new) }
-    ensures held_is { OnOk result (held.new ≡ (W.seen wire.new).blocked) }
-    ensures keeps { OnOk result (length failed.new ≡ length failed.old → (t : ℕ)
-        → IsOffered (H.queue house.old t) held.old failed.old t
-        → IsOffered (H.queue house.new t) held.new failed.new t) }
-    ensures grows { OnOk result (length failed.old ≤ length failed.new) }
-    ensures fewer { OnOk result ((own : List ℕ) → among stream own ≡ true
-        → left_of failed.new own + length failed.new ≤ left_of failed.old own + length failed.old) }
-    ensures faults { W.server_faults wire.new ≡ W.server_faults wire.old }
-    ensures clients { W.client_faults wire.new ≡ W.client_faults wire.old }
-    ensures calls { Counts 0 result (W.calls wire.old) (W.calls wire.new) }
-    ensures own_faults { OwnCounted (W.seen wire.old).told (W.seen wire.new).told
-        (W.own_faults wire.old) (W.own_faults wire.new) }
-    ensures openings { W.openings wire.new ≡ W.openings wire.old }
-    ensures joinings { W.joinings wire.new ≡ W.joinings wire.old }
+    requires knows { OwnsStreams (H.state house.old) (W.state wire.old).seen held.old }
+    requires stream { IsOpenOwn (H.state house.old) (W.state wire.old).seen stream }
+    ensures serving { OwnOn result H.may H.state house.old house.new (W.state wire.old).seen
+        (W.state wire.new).seen held.old held.new failed.old failed.new }
+    ensures offered { OnOk result (IsOffered ((H.state house.new).queue stream) held.new failed.new
+        stream) }
+    ensures house { OnlyTook result (H.state house.old) (H.state house.new) }
+    ensures places { SamePlaces (W.state wire.old).seen (W.state wire.new).seen }
+    ensures held_is { OnOk result (held.new ≡ (W.state wire.new).seen.blocked) }
+    ensures keeps { OnOk result (StayOffered (H.state house.old).queue (H.state house.new).queue
+        held.old held.new failed.old failed.new) }
+    ensures fails { OnOk result (FailsFurther (stream ∷ []) failed.old failed.new) }
+    ensures wire { WorksOwn result (W.state wire.old) (W.state wire.new) (W.faults wire.old)
+        (W.faults wire.new) }
 {
     while own_once(wire, house, held, failed, stream)? {}
     Ok(())
@@ -153,36 +115,20 @@ fn own_round<W: Wire, H: House>(
     failed: &mut Streams,
     todo: &mut Streams,
 ) -> Result<(), OutOfMemory>
-    requires ordering { (H.known house.old).ordering ≡ None }
-    requires same { (H.known house.old).streams ≡ (W.seen wire.old).own }
+    requires knows { OwnsStreams (H.state house.old) (W.state wire.old).seen held.old }
     requires each { (t : ℕ) → among t todo.old ≡ true
-        → IsTrue (is_one t (H.known house.old).streams) }
-    requires each_own { (t : ℕ) → among t todo.old ≡ true → IsTrue (is_own t) }
-    requires each_open { (t : ℕ) → among t todo.old ≡ true
-        → IsTrue (among t (W.seen wire.old).streams) }
-    requires held_is { held.old ≡ (W.seen wire.old).blocked }
-    ensures serving { OwnOn result H.stands house.old house.new H.may
-        (RestsOf H.told H.known H.quiet H.must H.refused H.stands) (W.seen wire.old)
-        (W.seen wire.new) held.old held.new
-        failed.old failed.new }
+        → IsOpenOwn (H.state house.old) (W.state wire.old).seen t }
+    ensures serving { OwnOn result H.may H.state house.old house.new (W.state wire.old).seen
+        (W.state wire.new).seen held.old held.new failed.old failed.new }
     ensures offered { OnOk result (length failed.new ≡ length failed.old → (t : ℕ)
-        → among t todo.old ≡ true → IsOffered (H.queue house.new t) held.new failed.new t) }
-    ensures known { OnOk result (H.known house.new ≡ H.known house.old) }
-    ensures told { H.told house.new ≡ H.told house.old }
-    ensures must { H.must house.new ≡ H.must house.old }
-    ensures places { SamePlaces (W.seen wire.old) (W.seen wire.new) }
-    ensures held_is { OnOk result (held.new ≡ (W.seen wire.new).blocked) }
-    ensures grows { OnOk result (length failed.old ≤ length failed.new) }
-    ensures fewer { OnOk result ((own : List ℕ) → ((t : ℕ) → among t todo.old ≡ true
-        → among t own ≡ true)
-        → left_of failed.new own + length failed.new ≤ left_of failed.old own + length failed.old) }
-    ensures faults { W.server_faults wire.new ≡ W.server_faults wire.old }
-    ensures clients { W.client_faults wire.new ≡ W.client_faults wire.old }
-    ensures calls { Counts 0 result (W.calls wire.old) (W.calls wire.new) }
-    ensures own_faults { OwnCounted (W.seen wire.old).told (W.seen wire.new).told
-        (W.own_faults wire.old) (W.own_faults wire.new) }
-    ensures openings { W.openings wire.new ≡ W.openings wire.old }
-    ensures joinings { W.joinings wire.new ≡ W.joinings wire.old }
+        → among t todo.old ≡ true
+        → IsOffered ((H.state house.new).queue t) held.new failed.new t) }
+    ensures house { OnlyTook result (H.state house.old) (H.state house.new) }
+    ensures places { SamePlaces (W.state wire.old).seen (W.state wire.new).seen }
+    ensures held_is { OnOk result (held.new ≡ (W.state wire.new).seen.blocked) }
+    ensures fails { OnOk result (FailsFurther todo.old failed.old failed.new) }
+    ensures wire { WorksOwn result (W.state wire.old) (W.state wire.new) (W.faults wire.old)
+        (W.faults wire.new) }
 {
     while let Some(stream) = todo.get(0) {
         offer_own(wire, house, held, failed, stream)?;
@@ -201,26 +147,17 @@ pub fn own_rounds<W: Wire, H: House>(
     own: &Streams,
     todo: &mut Streams,
 ) -> Result<(), OutOfMemory>
-    requires housed { Housed (H.known house.old) (W.seen wire.old) own.now }
-    requires held_is { held.old ≡ (W.seen wire.old).blocked }
-    ensures serving { OwnOn result H.stands house.old house.new H.may
-        (RestsOf H.told H.known H.quiet H.must H.refused H.stands) (W.seen wire.old)
-        (W.seen wire.new) held.old held.new
-        failed.old failed.new }
+    requires housed { Housed (H.state house.old).known (W.state wire.old).seen own.now }
+    requires held_is { held.old ≡ (W.state wire.old).seen.blocked }
+    ensures serving { OwnOn result H.may H.state house.old house.new (W.state wire.old).seen
+        (W.state wire.new).seen held.old held.new failed.old failed.new }
     ensures offered { OnOk result ((t : ℕ) → among t own.now ≡ true
-        → IsOffered (H.queue house.new t) held.new failed.new t) }
-    ensures known { OnOk result (H.known house.new ≡ H.known house.old) }
-    ensures told { H.told house.new ≡ H.told house.old }
-    ensures must { H.must house.new ≡ H.must house.old }
-    ensures places { SamePlaces (W.seen wire.old) (W.seen wire.new) }
-    ensures held_is { OnOk result (held.new ≡ (W.seen wire.new).blocked) }
-    ensures faults { W.server_faults wire.new ≡ W.server_faults wire.old }
-    ensures clients { W.client_faults wire.new ≡ W.client_faults wire.old }
-    ensures calls { Counts 0 result (W.calls wire.old) (W.calls wire.new) }
-    ensures own_faults { OwnCounted (W.seen wire.old).told (W.seen wire.new).told
-        (W.own_faults wire.old) (W.own_faults wire.new) }
-    ensures openings { W.openings wire.new ≡ W.openings wire.old }
-    ensures joinings { W.joinings wire.new ≡ W.joinings wire.old }
+        → IsOffered ((H.state house.new).queue t) held.new failed.new t) }
+    ensures house { OnlyTook result (H.state house.old) (H.state house.new) }
+    ensures places { SamePlaces (W.state wire.old).seen (W.state wire.new).seen }
+    ensures held_is { OnOk result (held.new ≡ (W.state wire.new).seen.blocked) }
+    ensures wire { WorksOwn result (W.state wire.old) (W.state wire.new) (W.faults wire.old)
+        (W.faults wire.new) }
 {
     loop {
         let before = failed.len();
@@ -242,7 +179,7 @@ pub fn list_waiting<H: House>(
     todo: &mut Streams,
 ) -> Result<(), OutOfMemory>
     ensures { OnOk result (todo.new
-        ≡ waiting.now ++ filter (waits_for (H.queue house.now) failed.now) own.now) }
+        ≡ waiting.now ++ filter (waits_for (H.state house.now).queue failed.now) own.now) }
 {
     todo.refill(waiting.as_slice())?;
     for stream in own.as_slice() {

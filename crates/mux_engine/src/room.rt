@@ -1,6 +1,6 @@
 ghost use Rattle.std.specs.Prelude.{◌≡◌, [], false};
 
-use mux_clients::Asks;
+use mux_clients::AskLog;
 use mux_outside::Streams;
 use std::alloc::Global;
 
@@ -16,7 +16,7 @@ pub struct Lists {
     /// Room for the numbers of streams that are still to be offered something.
     pub todo: Streams,
     /// Room for what the house is asked at an event, until it is noted.
-    pub asks: Asks,
+    pub asks: AskLog,
     /// Whether the run is over and each stream was offered what waits for it.
     pub settled: bool,
 }
@@ -34,7 +34,7 @@ impl Lists {
             own: Streams::new(alloc),
             failed: Streams::new(alloc),
             todo: Streams::new(alloc),
-            asks: Asks::new(alloc),
+            asks: AskLog::new(alloc),
             settled: false,
         }
     }

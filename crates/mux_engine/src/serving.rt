@@ -28,7 +28,7 @@ use crate::owned::list_waiting;
 use crate::room::Lists;
 use crate::settling::{close_lost, flush, hush};
 use forward_rules::Policy;
-use mux_clients::Asks;
+use mux_clients::AskLog;
 use mux_history::Ended;
 use mux_machine::{Engine, Went};
 use mux_outside::{House, OwnTurn, Piece, Wire};
@@ -37,16 +37,14 @@ use std::alloc::Global;
 
 // Keeps what one of the master's own listeners and streams told, and hands it on.
 fn hear<H: House>(house: &mut H, lists: &mut Lists, told: OwnTurn<'_>) -> Result<(), OutOfMemory>
-    requires ordering { (H.known house.old).ordering ≡ None }
-    requires fits { OwnTurnFits told (H.known house.old) (H.quiet house.old) }
-    ensures known { OnOk result (H.known house.new
-        ≡ known_after_own_turn told.entry (H.known house.old)) }
-    ensures own { OnOk result (lists.new.own ≡ own_heard told.entry lists.old.own) }
-    ensures held { OnOk result (lists.new.held ≡ held_heard told.entry lists.old.held) }
-    ensures failed { OnOk result (lists.new.failed ≡ failed_heard told.entry lists.old.failed) }
-    ensures must { H.must house.new ≡ H.must house.old }
-    ensures told { H.told house.new ≡ H.told house.old }
-    ensures stands { OnOk result (HandsOn (H.stands house.old) (H.stands house.new)
+    requires ordering { (H.state house.old).known.ordering ≡ None }
+    requires fits { OwnTurnFits told (H.state house.old).known (H.state house.old).quiet }
+    ensures lists { OnOk result (HeardBy told.entry lists.old lists.new) }
+    ensures known { OnOk result ((H.state house.new).known
+        ≡ known_after_own_turn told.entry (H.state house.old).known) }
+    ensures must { (H.state house.new).must ≡ (H.state house.old).must }
+    ensures told { (H.state house.new).told ≡ (H.state house.old).told }
+    ensures stands { OnOk result (HandsOn (H.state house.old).stands (H.state house.new).stands
         (Turns (happening_of told.entry) ∷ [])) }
 {
     match told {
@@ -66,45 +64,25 @@ fn turn<W: Wire, H: House>(
     lists: &mut Lists,
     piece: &mut Piece,
 ) -> Result<Went, OutOfMemory>
-    requires served { ServedWith H.stands house.old H.may
-        (RestsOf H.told H.known H.quiet H.must H.refused H.stands (H.known house.old).present)
-        (noted (H.told house.old) (H.known house.old)) (W.seen wire.old) lists.old.held
-        lists.old.failed [] engine.old }
-    requires housed { Housed (H.known house.old) (W.seen wire.old) lists.old.own }
-    requires alone { IsAlone (H.known house.old) }
-    requires ready { IsReady (H.known house.old) (H.quiet house.old) (H.queue house.old)
-        lists.old.held lists.old.failed lists.old.own engine.old }
-    requires permitted { refused_if (H.known house.old).present (H.must house.old)
-        (H.refused house.old) ≡ None }
-    requires closed { engine.old.leaving ≡ [] }
-    requires refused { engine.old.refused ≡ [] }
+    requires served { ServedWith H.may H.state house.old
+        (scene (W.state wire.old) lists.old engine.old) [] }
+    requires together { Together (H.state house.old) (W.state wire.old) lists.old }
+    requires ready { IsReadyFor (H.state house.old) lists.old engine.old }
+    requires permitted { refusal_of (H.state house.old) ≡ None }
+    requires closed { HasNoneToClose engine.old }
     requires on { engine.old.ended ≡ None }
-    requires hears { (W.seen wire.old).listens ≡ engine.old.listening }
-    ensures serving { RunsOn result H.stands house.old house.new H.may
-        (RestsOf H.told H.known H.quiet H.must H.refused H.stands (H.known house.old).present)
-        (noted (H.told house.old) (H.known house.old))
-        (noted (H.told house.new) (H.known house.new)) (W.seen wire.old) (W.seen wire.new)
-        lists.old.held lists.new.held lists.old.failed lists.new.failed 1 (λ went. 1) []
-        (λ went. 0 ∷ here engine.new) engine.old engine.new }
-    ensures housed { OnOk result (Housed (H.known house.new) (W.seen wire.new) lists.new.own) }
-    ensures alone { OnOk result (IsAlone (H.known house.new)) }
-    ensures held_is { OnOk result (lists.new.held ≡ (W.seen wire.new).blocked) }
-    ensures present { OnOk result ((H.known house.new).present ≡ (H.known house.old).present) }
-    ensures must { H.must house.new ≡ H.must house.old }
+    requires hears { (W.state wire.old).seen.listens ≡ engine.old.listening }
+    ensures serving { RunsOn result H.may H.state house.old house.new
+        (scene (W.state wire.old) lists.old engine.old)
+        (scene (W.state wire.new) lists.new engine.new) 1 (λ went. 1) []
+        (λ went. 0 ∷ here engine.new) }
+    ensures together { OnOk result (Together (H.state house.new) (W.state wire.new) lists.new) }
+    ensures house { StaysHouse result (H.state house.old) (H.state house.new) }
     ensures went { IfOk result (λ went. went ≡ went_of engine.new.ended) }
-    ensures failed { OnOk result (engine.new.ended ≡ Some ServerFailed
-        → Rose (W.server_faults wire.old) (W.server_faults wire.new)) }
-    ensures by_row { OnOk result (IsByRow engine.new.ended) }
-    ensures ended_by { OnOk result (OverBy (H.known house.old).present engine.new.ended
-        (W.calls wire.old) (W.calls wire.new)) }
-    ensures unopened { (H.known house.old).present ≡ false
-        → (W.seen wire.new).last_own ≡ (W.seen wire.old).last_own }
-    ensures later { W.server_faults wire.old ≤ W.server_faults wire.new }
-    ensures calls { Counts 1 result (W.calls wire.old) (W.calls wire.new) }
-    ensures own_faults { OwnCounted (W.seen wire.old).told (W.seen wire.new).told
-        (W.own_faults wire.old) (W.own_faults wire.new) }
-    ensures openings { W.openings wire.new ≡ W.openings wire.old }
-    ensures joinings { W.joinings wire.new ≡ W.joinings wire.old }
+    ensures ended { EndsSo result (H.state house.old).known.present engine.new.ended
+        (W.state wire.old) (W.state wire.new) (W.faults wire.old) (W.faults wire.new) }
+    ensures wire { Works 1 result (W.state wire.old) (W.state wire.new) (W.faults wire.old)
+        (W.faults wire.new) }
 {
     list_waiting(
         house,
@@ -130,8 +108,7 @@ fn turn<W: Wire, H: House>(
 
 // The forwarding of the start that ends the run, since it was refused.
 fn refusal<H: House>(house: &H) -> Option<usize>
-    ensures { result ≡ refused_if (H.known house.now).present (H.must house.now)
-        (H.refused house.now) }
+    ensures { result ≡ refusal_of (H.state house.now) }
 {
     if !house.present() || !house.must() {
         return None;
@@ -142,10 +119,8 @@ fn refusal<H: House>(house: &H) -> Option<usize>
 // Whether the run goes on no more: it ended, or a forwarding of the start was refused.
 fn is_over<H: House>(engine: &Engine, house: &H) -> bool
     ensures on { result ≡ false → engine.now.ended ≡ None }
-    ensures over { result ≡ true → engine.now.ended ≡ None
-        → refused_if (H.known house.now).present (H.must house.now) (H.refused house.now) ≢ None }
-    ensures permitted { result ≡ false
-        → refused_if (H.known house.now).present (H.must house.now) (H.refused house.now) ≡ None }
+    ensures over { result ≡ true → engine.now.ended ≡ None → refusal_of (H.state house.now) ≢ None }
+    ensures permitted { result ≡ false → refusal_of (H.state house.now) ≡ None }
 {
     if engine.ended().is_some() {
         return true;
@@ -163,54 +138,27 @@ fn one_turn<W: Wire, H: House>(
     lists: &mut Lists,
     piece: &mut Piece,
 ) -> Result<bool, OutOfMemory>
-    requires served { ServedWith H.stands house.old H.may
-        (RestsOf H.told H.known H.quiet H.must H.refused H.stands (H.known house.old).present)
-        (noted (H.told house.old) (H.known house.old)) (W.seen wire.old) lists.old.held
-        lists.old.failed (0 ∷ here engine.old) engine.old }
-    requires housed { Housed (H.known house.old) (W.seen wire.old) lists.old.own }
-    requires alone { IsAlone (H.known house.old) }
+    requires served { ServedWith H.may H.state house.old
+        (scene (W.state wire.old) lists.old engine.old) (0 ∷ here engine.old) }
+    requires together { Together (H.state house.old) (W.state wire.old) lists.old }
     requires on { engine.old.ended ≡ None }
-    ensures serving { (first : H) (calls : List TheCall) (before : Option (List TheHouseMark))
-        (policy : ThePolicy) (pid : ℕ) (start : Option (List TheMark)) (given : ℕ) →
-        HandsOn (H.stands first) (H.stands house.old) calls →
-        Serving H.may
-        (RestsOf H.told H.known H.quiet H.must H.refused H.stands (H.known house.old).present first) before
-        (noted (H.told house.old) (H.known house.old) calls) policy pid start (W.seen wire.old)
-        lists.old.held lists.old.failed given (0 ∷ here engine.old) engine.old →
-        MatchResult result
-        (λ on. Handed (H.stands first) (H.stands house.new) (λ all. EndsTurn on given H.may
-        (RestsOf H.told H.known H.quiet H.must H.refused H.stands (H.known house.old).present first) before
-        (noted (H.told house.new) (H.known house.new) all) policy pid start (W.seen wire.new)
-        lists.new.held lists.new.failed (to_offer lists.new.settled engine.new) engine.new))
-        (λ e. Promised H.may
-        (RestsOf H.told H.known H.quiet H.must H.refused H.stands (H.known house.old).present first) before
-        (H.told house.new) policy pid start (W.seen wire.new).told (given + 1)) }
-    ensures housed { OnOk result (Housed (H.known house.new) (W.seen wire.new) lists.new.own) }
-    ensures alone { OnOk result (IsAlone (H.known house.new)) }
-    ensures held_is { OnOk result (lists.new.held ≡ (W.seen wire.new).blocked) }
-    ensures present { OnOk result ((H.known house.new).present ≡ (H.known house.old).present) }
-    ensures on { IfOk result (λ on. on ≡ true → engine.new.ended ≡ None) }
-    ensures settled { IfOk result (λ on. on ≡ true → lists.new.settled ≡ false) }
-    ensures must { H.must house.new ≡ H.must house.old }
-    ensures over { IfOk result (λ on. on ≡ false → engine.new.ended ≡ None
-        → refused_if (H.known house.new).present (H.must house.new) (H.refused house.new) ≢ None) }
-    ensures failed { OnOk result (engine.new.ended ≡ Some ServerFailed
-        → Rose (W.server_faults wire.old) (W.server_faults wire.new)) }
-    ensures by_row { OnOk result (IsByRow engine.new.ended) }
-    ensures ended_by { OnOk result (OverBy (H.known house.old).present engine.new.ended
-        (W.calls wire.old) (W.calls wire.new)) }
-    ensures idle { engine.old.waiting ≡ [] → (H.known house.old).present ≡ false
-        → IfOk result (λ on. Well 1 (W.calls wire.old) (W.calls wire.new)) }
-    ensures unopened { (H.known house.old).present ≡ false
-        → (W.seen wire.new).last_own ≡ (W.seen wire.old).last_own }
-    ensures later { W.server_faults wire.old ≤ W.server_faults wire.new }
+    ensures serving { TurnsOn result H.may H.state house.old house.new
+        (scene (W.state wire.old) lists.old engine.old)
+        (scene (W.state wire.new) lists.new engine.new) lists.new.settled }
+    ensures together { OnOk result (Together (H.state house.new) (W.state wire.new) lists.new) }
+    ensures house { StaysHouse result (H.state house.old) (H.state house.new) }
+    ensures goes { IfOk result (λ on. GoesOnSo on engine.new.ended lists.new.settled
+        (refusal_of (H.state house.new))) }
+    ensures ended { EndsSo result (H.state house.old).known.present engine.new.ended
+        (W.state wire.old) (W.state wire.new) (W.faults wire.old) (W.faults wire.new) }
+    ensures idle { engine.old.waiting ≡ [] → (H.state house.old).known.present ≡ false
+        → IfOk result (λ on. Well 1 (W.state wire.old).calls (W.state wire.new).calls) }
     ensures calls { MatchResult result
-        (λ on. Turned (H.known house.old).present on (W.calls wire.old) (W.calls wire.new))
-        (λ e. Cut 1 (W.calls wire.old) (W.calls wire.new)) }
-    ensures own_faults { OwnCounted (W.seen wire.old).told (W.seen wire.new).told
-        (W.own_faults wire.old) (W.own_faults wire.new) }
-    ensures openings { W.openings wire.new ≡ W.openings wire.old }
-    ensures joinings { W.joinings wire.new ≡ W.joinings wire.old }
+        (λ on. Turned (H.state house.old).known.present on (W.state wire.old).calls
+        (W.state wire.new).calls)
+        (λ e. Cut 1 (W.state wire.old).calls (W.state wire.new).calls) }
+    ensures wire { KeepsWire (W.state wire.old) (W.state wire.new) (W.faults wire.old)
+        (W.faults wire.new) }
 {
     if step_house(alloc, engine, wire, house, lists, piece)? {
         lists.settled = false;
@@ -236,56 +184,29 @@ fn turns_of<W: Wire, H: House>(
     lists: &mut Lists,
     turns: u64,
 ) -> Result<bool, OutOfMemory>
-    requires served { ServedWith H.stands house.old H.may
-        (RestsOf H.told H.known H.quiet H.must H.refused H.stands (H.known house.old).present)
-        (noted (H.told house.old) (H.known house.old)) (W.seen wire.old) lists.old.held
-        lists.old.failed (0 ∷ here engine.old) engine.old }
-    requires housed { Housed (H.known house.old) (W.seen wire.old) lists.old.own }
-    requires alone { IsAlone (H.known house.old) }
+    requires served { ServedWith H.may H.state house.old
+        (scene (W.state wire.old) lists.old engine.old) (0 ∷ here engine.old) }
+    requires together { Together (H.state house.old) (W.state wire.old) lists.old }
     requires on { engine.old.ended ≡ None }
     requires unsettled { lists.old.settled ≡ false }
-    requires quiet { (H.known house.old).present ≡ false → engine.old.waiting ≡ [] }
-    ensures serving { (first : H) (calls : List TheCall) (before : Option (List TheHouseMark))
-        (policy : ThePolicy) (pid : ℕ) (start : Option (List TheMark)) →
-        HandsOn (H.stands first) (H.stands house.old) calls →
-        Serving H.may
-        (RestsOf H.told H.known H.quiet H.must H.refused H.stands (H.known house.old).present first) before
-        (noted (H.told house.old) (H.known house.old) calls) policy pid start (W.seen wire.old)
-        lists.old.held lists.old.failed 0 (0 ∷ here engine.old) engine.old →
-        MatchResult result
-        (λ all. Handed (H.stands first) (H.stands house.new) (λ handed. Spends all turns H.may
-        (RestsOf H.told H.known H.quiet H.must H.refused H.stands (H.known house.old).present first) before
-        (noted (H.told house.new) (H.known house.new) handed) policy pid start
-        (W.seen wire.new) lists.new.held lists.new.failed (to_offer lists.new.settled engine.new)
-        engine.new))
-        (λ e. Promised H.may
-        (RestsOf H.told H.known H.quiet H.must H.refused H.stands (H.known house.old).present first) before
-        (H.told house.new) policy pid start (W.seen wire.new).told turns) }
-    ensures housed { OnOk result (Housed (H.known house.new) (W.seen wire.new) lists.new.own) }
-    ensures held_is { OnOk result (lists.new.held ≡ (W.seen wire.new).blocked) }
-    ensures present { OnOk result ((H.known house.new).present ≡ (H.known house.old).present) }
-    ensures on { IfOk result (λ all. all ≡ true → engine.new.ended ≡ None) }
-    ensures must { H.must house.new ≡ H.must house.old }
-    ensures over { IfOk result (λ all. all ≡ false → engine.new.ended ≡ None
-        → refused_if (H.known house.new).present (H.must house.new) (H.refused house.new) ≢ None) }
-    ensures failed { OnOk result (engine.new.ended ≡ Some ServerFailed
-        → Rose (W.server_faults wire.old) (W.server_faults wire.new)) }
-    ensures by_row { OnOk result (IsByRow engine.new.ended) }
-    ensures ended_by { OnOk result (OverBy (H.known house.old).present engine.new.ended
-        (W.calls wire.old) (W.calls wire.new)) }
-    ensures unopened { (H.known house.old).present ≡ false
-        → (W.seen wire.new).last_own ≡ (W.seen wire.old).last_own }
-    ensures later { W.server_faults wire.old ≤ W.server_faults wire.new }
+    requires quiet { (H.state house.old).known.present ≡ false → engine.old.waiting ≡ [] }
+    ensures serving { SpendsTurns result turns H.may H.state house.old house.new
+        (scene (W.state wire.old) lists.old engine.old)
+        (scene (W.state wire.new) lists.new engine.new) lists.new.settled }
+    ensures together { OnOk result (Together (H.state house.new) (W.state wire.new) lists.new) }
+    ensures house { StaysHouse result (H.state house.old) (H.state house.new) }
+    ensures goes { IfOk result (λ all. GoesOnSo all engine.new.ended lists.new.settled
+        (refusal_of (H.state house.new))) }
+    ensures ended { EndsSo result (H.state house.old).known.present engine.new.ended
+        (W.state wire.old) (W.state wire.new) (W.faults wire.old) (W.faults wire.new) }
     ensures calls { MatchResult result
-        (λ all. Spent (H.known house.old).present all turns (W.calls wire.old) (W.calls wire.new))
-        (λ e. Cut turns (W.calls wire.old) (W.calls wire.new)) }
+        (λ all. Spent (H.state house.old).known.present all turns (W.state wire.old).calls
+        (W.state wire.new).calls)
+        (λ e. Cut turns (W.state wire.old).calls (W.state wire.new).calls) }
     ensures idle { turns ≡ 0 → (house.new ≡ house.old) × (engine.new ≡ engine.old)
-        × SameFaults (W.server_faults wire.old) (W.server_faults wire.new)
-        (W.client_faults wire.old) (W.client_faults wire.new) }
-    ensures own_faults { OwnCounted (W.seen wire.old).told (W.seen wire.new).told
-        (W.own_faults wire.old) (W.own_faults wire.new) }
-    ensures openings { W.openings wire.new ≡ W.openings wire.old }
-    ensures joinings { W.joinings wire.new ≡ W.joinings wire.old }
+        × NoFault (W.faults wire.old) (W.faults wire.new) }
+    ensures wire { KeepsWire (W.state wire.old) (W.state wire.new) (W.faults wire.old)
+        (W.faults wire.new) }
 {
     let mut piece = Piece::new(alloc)?;
     for _ in 0..turns {
@@ -298,8 +219,7 @@ fn turns_of<W: Wire, H: House>(
 
 // Why a run ended, with its turns spent unless something else ended it.
 fn answer_of<H: House>(engine: &Engine, house: &H) -> Ended
-    ensures { result ≡ ended_as engine.now.ended
-        (refused_if (H.known house.now).present (H.must house.now) (H.refused house.now)) }
+    ensures { result ≡ ended_as engine.now.ended (refusal_of (H.state house.now)) }
 {
     if let Some(cause) = engine.ended() {
         return cause;
@@ -315,33 +235,17 @@ fn enter<W: Wire, H: House>(
     engine: &mut Engine,
     wire: &mut W,
     house: &H,
-    asks: &mut Asks,
+    asks: &mut AskLog,
 ) -> Result<(), OutOfMemory>
     requires on { engine.old.ended ≡ None }
     requires refused { engine.old.refused ≡ [] }
-    ensures serving { (first : H) (calls : List TheCall) (before : Option (List TheHouseMark))
-        (policy : ThePolicy) (pid : ℕ) (start : Option (List TheMark)) (held failed : List ℕ)
-        (given : ℕ) → (v : Serving H.may
-        (RestsOf H.told H.known H.quiet H.must H.refused H.stands (H.known house.now).present first) before
-        (outside (H.told house.now) (H.known house.now) calls) policy pid start (W.seen wire.old)
-        held failed given (0 ∷ here engine.old) engine.old) → v.journal ≡ [] →
-        MatchResult result
-        (λ done. Serving H.may
-        (RestsOf H.told H.known H.quiet H.must H.refused H.stands (H.known house.now).present first) before
-        (noted (H.told house.now) (H.known house.now) calls) policy pid start (W.seen wire.new) held
-        failed given (0 ∷ here engine.new) engine.new × (engine.new.ended ≡ None))
-        (λ e. Promised H.may
-        (RestsOf H.told H.known H.quiet H.must H.refused H.stands (H.known house.now).present first) before
-        (H.told house.now) policy pid start (W.seen wire.new).told given) }
-    ensures places { SamePlaces (W.seen wire.old) (W.seen wire.new) }
-    ensures alone { (H.known house.now).present ≡ false → (engine.new ≡ engine.old)
+    ensures serving { Enters result H.may H.state house.now (W.state wire.old).seen
+        (W.state wire.new).seen engine.old engine.new }
+    ensures places { SamePlaces (W.state wire.old).seen (W.state wire.new).seen }
+    ensures alone { (H.state house.now).known.present ≡ false → (engine.new ≡ engine.old)
         × (wire.new ≡ wire.old) }
-    ensures calls { W.calls wire.new ≡ W.calls wire.old }
-    ensures faults { W.server_faults wire.new ≡ W.server_faults wire.old }
-    ensures own_faults { OwnCounted (W.seen wire.old).told (W.seen wire.new).told
-        (W.own_faults wire.old) (W.own_faults wire.new) }
-    ensures openings { W.openings wire.new ≡ W.openings wire.old }
-    ensures joinings { W.joinings wire.new ≡ W.joinings wire.old }
+    ensures wire { IsIdle (W.state wire.old) (W.state wire.new) (W.faults wire.old)
+        (W.faults wire.new) }
 {
     if !house.present() {
         return Ok(());
@@ -357,32 +261,22 @@ fn last_replies<W: Wire, H: House>(
     lists: &mut Lists,
     all: bool,
 ) -> Result<(), OutOfMemory>
-    requires served { ServedWith H.stands house.old H.may
-        (RestsOf H.told H.known H.quiet H.must H.refused H.stands (H.known house.old).present)
-        (noted (H.told house.old) (H.known house.old)) (W.seen wire.old) lists.old.held
-        lists.old.failed (0 ∷ here engine.old) engine.old }
-    requires housed { Housed (H.known house.old) (W.seen wire.old) lists.old.own }
-    requires held_is { lists.old.held ≡ (W.seen wire.old).blocked }
+    requires served { ServedWith H.may H.state house.old
+        (scene (W.state wire.old) lists.old engine.old) (0 ∷ here engine.old) }
+    requires together { Together (H.state house.old) (W.state wire.old) lists.old }
     requires on { all ≡ true → engine.old.ended ≡ None }
-    ensures serving { RunsOn result H.stands house.old house.new H.may
-        (RestsOf H.told H.known H.quiet H.must H.refused H.stands (H.known house.old).present)
-        (noted (H.told house.old) (H.known house.old))
-        (noted (H.told house.new) (H.known house.new)) (W.seen wire.old) (W.seen wire.new)
-        lists.old.held lists.new.held lists.old.failed lists.new.failed 0 (λ done. 0)
-        (0 ∷ here engine.old) (λ done. 0 ∷ here engine.new) engine.old engine.new }
-    ensures known { OnOk result (SameHouse (H.known house.old) (H.known house.new)) }
-    ensures places { SamePlaces (W.seen wire.old) (W.seen wire.new) }
+    ensures serving { RunsOn result H.may H.state house.old house.new
+        (scene (W.state wire.old) lists.old engine.old)
+        (scene (W.state wire.new) lists.new engine.new) 0 (λ done. 0) (0 ∷ here engine.old)
+        (λ done. 0 ∷ here engine.new) }
+    ensures house { OnlyAsked result (H.state house.old) (H.state house.new) }
+    ensures places { SamePlaces (W.state wire.old).seen (W.state wire.new).seen }
     ensures unasked { all ≡ false → house.new ≡ house.old }
-    ensures must { H.must house.new ≡ H.must house.old }
     ensures ended { OnOk result (engine.new.ended ≡ engine.old.ended) }
-    ensures alone { (H.known house.old).present ≡ false → (engine.new ≡ engine.old)
+    ensures alone { (H.state house.old).known.present ≡ false → (engine.new ≡ engine.old)
         × (wire.new ≡ wire.old) }
-    ensures calls { Counts 0 result (W.calls wire.old) (W.calls wire.new) }
-    ensures faults { W.server_faults wire.new ≡ W.server_faults wire.old }
-    ensures own_faults { OwnCounted (W.seen wire.old).told (W.seen wire.new).told
-        (W.own_faults wire.old) (W.own_faults wire.new) }
-    ensures openings { W.openings wire.new ≡ W.openings wire.old }
-    ensures joinings { W.joinings wire.new ≡ W.joinings wire.old }
+    ensures wire { WorksOwn result (W.state wire.old) (W.state wire.new) (W.faults wire.old)
+        (W.faults wire.new) }
 {
     if !all {
         return Ok(());
@@ -402,34 +296,24 @@ fn finish<W: Wire, H: House>(
     lists: &mut Lists,
     all: bool,
 ) -> Result<(), OutOfMemory>
-    requires served { ServedWith H.stands house.old H.may
-        (RestsOf H.told H.known H.quiet H.must H.refused H.stands (H.known house.old).present)
-        (noted (H.told house.old) (H.known house.old)) (W.seen wire.old) lists.old.held
-        lists.old.failed (to_offer lists.old.settled engine.old) engine.old }
-    requires housed { Housed (H.known house.old) (W.seen wire.old) lists.old.own }
-    requires held_is { lists.old.held ≡ (W.seen wire.old).blocked }
+    requires served { ServedWith H.may H.state house.old
+        (scene (W.state wire.old) lists.old engine.old)
+        (to_offer lists.old.settled engine.old) }
+    requires together { Together (H.state house.old) (W.state wire.old) lists.old }
     requires on { all ≡ true → engine.old.ended ≡ None }
-    ensures serving { RunsOn result H.stands house.old house.new H.may
-        (RestsOf H.told H.known H.quiet H.must H.refused H.stands (H.known house.old).present)
-        (noted (H.told house.old) (H.known house.old))
-        (noted (H.told house.new) (H.known house.new)) (W.seen wire.old) (W.seen wire.new)
-        lists.old.held lists.new.held lists.old.failed lists.new.failed 0 (λ done. 0)
-        (to_offer lists.old.settled engine.old) (λ done. TheHouse ∷ []) engine.old engine.new }
-    ensures known { OnOk result (SameHouse (H.known house.old) (H.known house.new)) }
-    ensures places { SamePlaces (W.seen wire.old) (W.seen wire.new) }
+    ensures serving { RunsOn result H.may H.state house.old house.new
+        (scene (W.state wire.old) lists.old engine.old)
+        (scene (W.state wire.new) lists.new engine.new) 0 (λ done. 0) (to_offer lists.old.settled engine.old)
+        (λ done. TheHouse ∷ []) }
+    ensures house { OnlyAsked result (H.state house.old) (H.state house.new) }
+    ensures places { SamePlaces (W.state wire.old).seen (W.state wire.new).seen }
     ensures unasked { all ≡ false → house.new ≡ house.old }
-    ensures must { H.must house.new ≡ H.must house.old }
     ensures ended { OnOk result (StaysOrFails engine.old.ended engine.new.ended
-        (W.server_faults wire.old) (W.server_faults wire.new)) }
-    ensures calls { Counts 0 result (W.calls wire.old) (W.calls wire.new) }
-    ensures own_faults { OwnCounted (W.seen wire.old).told (W.seen wire.new).told
-        (W.own_faults wire.old) (W.own_faults wire.new) }
-    ensures openings { W.openings wire.new ≡ W.openings wire.old }
-    ensures joinings { W.joinings wire.new ≡ W.joinings wire.old }
-    ensures idle { engine.old.waiting ≡ [] → (H.known house.old).present ≡ false
-        → (engine.new ≡ engine.old)
-        × SameFaults (W.server_faults wire.old) (W.server_faults wire.new)
-        (W.client_faults wire.old) (W.client_faults wire.new) }
+        (W.faults wire.old) (W.faults wire.new)) }
+    ensures idle { engine.old.waiting ≡ [] → (H.state house.old).known.present ≡ false
+        → (engine.new ≡ engine.old) × NoFault (W.faults wire.old) (W.faults wire.new) }
+    ensures wire { Works 0 result (W.state wire.old) (W.state wire.new) (W.faults wire.old)
+        (W.faults wire.new) }
 {
     if lists.settled {
         return Ok(());
@@ -452,51 +336,27 @@ fn run<W: Wire, H: House>(
     house: &mut H,
     turns: u64,
 ) -> Result<Ended, OutOfMemory>
-    requires running { (v : ServedWith H.stands house.old H.may
-        (RestsOf H.told H.known H.quiet H.must H.refused H.stands (H.known house.old).present)
-        (outside (H.told house.old) (H.known house.old)) (W.seen wire.old) [] []
-        (0 ∷ here engine.old) engine.old) × (v.serving.journal ≡ []) }
-    requires housed { Housed (H.known house.old) (W.seen wire.old) [] }
-    requires alone { IsAlone (H.known house.old) }
+    requires running { (v : ServedOutside H.may H.state house.old (scene_of (W.state wire.old) [] [] engine.old) (0 ∷ here engine.old)) × (v.serving.journal ≡ []) }
+    requires housed { Housed (H.state house.old).known (W.state wire.old).seen [] }
+    requires alone { IsAlone (H.state house.old).known }
     requires on { engine.old.ended ≡ None }
     requires refused { engine.old.refused ≡ [] }
     requires quiet { engine.old.waiting ≡ [] }
-    ensures ran { (before : Option (List TheHouseMark)) (policy : ThePolicy) (pid : ℕ)
-        (start : Option (List TheMark)) →
-        (v : Serving H.may
-        (RestsOf H.told H.known H.quiet H.must H.refused H.stands (H.known house.old).present house.old)
-        before
-        (outside (H.told house.old) (H.known house.old) []) policy pid start (W.seen wire.old) [] []
-        0 (0 ∷ here engine.old) engine.old) → v.journal ≡ [] →
-        IsRun H.may
-        (RestsOf H.told H.known H.quiet H.must H.refused H.stands (H.known house.old).present
-        house.old).rests
-        (H.stands house.old) (H.stands house.new) (H.known house.old).present policy pid turns
-        before (H.told house.new) start (W.seen wire.new)
-        (refused_if (H.known house.old).present (H.must house.new) (H.refused house.new))
-        (result_unwrap_or result WantOfMemory) }
-    ensures must { H.must house.new ≡ H.must house.old }
-    ensures permitted { IfOk result (λ answer. (index : ℕ) → answer ≡ StartWasRefused index
-        → refused_if (H.known house.old).present (H.must house.new) (H.refused house.new)
-        ≡ Some index) }
-    ensures failed { IfOk result (λ answer. answer ≡ ServerFailed
-        → Rose (W.server_faults wire.old) (W.server_faults wire.new)) }
-    ensures came { Came (W.calls wire.old) (W.calls wire.new) }
-    ensures ended_by { IfOk result (λ answer. EndedBy (H.known house.old).present answer
-        (W.calls wire.old) (W.calls wire.new)) }
-    ensures calls { Stops (H.known house.old).present turns (result_unwrap_or result WantOfMemory)
-        (W.calls wire.old) (W.calls wire.new) }
-    ensures unopened { (H.known house.old).present ≡ false
-        → (W.seen wire.new).last_own ≡ (W.seen wire.old).last_own }
-    ensures places { OnOk result (((W.seen wire.new).listeners ≡ (H.known house.new).listeners)
-        × ((W.seen wire.new).own ≡ (H.known house.new).streams)) }
-    ensures own_faults { OwnCounted (W.seen wire.old).told (W.seen wire.new).told
-        (W.own_faults wire.old) (W.own_faults wire.new) }
-    ensures openings { W.openings wire.new ≡ W.openings wire.old }
-    ensures joinings { W.joinings wire.new ≡ W.joinings wire.old }
-    ensures idle { turns ≡ 0 → (H.known house.old).present ≡ false
-        → SameFaults (W.server_faults wire.old) (W.server_faults wire.new)
-        (W.client_faults wire.old) (W.client_faults wire.new) }
+    ensures ran { RunsWhole (result_unwrap_or result WantOfMemory) turns H.may H.state house.old
+        house.new (W.state wire.old).seen (W.state wire.new).seen engine.old }
+    ensures must { (H.state house.new).must ≡ (H.state house.old).must }
+    ensures ended { IfOk result (λ answer. HasEnded (H.state house.old).known.present
+        (refusal_after (H.state house.old) (H.state house.new)) answer (W.state wire.old)
+        (W.state wire.new) (W.faults wire.old) (W.faults wire.new)) }
+    ensures calls { HasCalled (H.state house.old).known.present turns
+        (result_unwrap_or result WantOfMemory) (W.state wire.old) (W.state wire.new) }
+    ensures unopened { (H.state house.old).known.present ≡ false
+        → (W.state wire.new).seen.last_own ≡ (W.state wire.old).seen.last_own }
+    ensures places { OnOk result (KnowsPlaces (H.state house.new) (W.state wire.new).seen) }
+    ensures idle { turns ≡ 0 → (H.state house.old).known.present ≡ false
+        → NoFault (W.faults wire.old) (W.faults wire.new) }
+    ensures wire { KeepsWire (W.state wire.old) (W.state wire.new) (W.faults wire.old)
+        (W.faults wire.new) }
 {
     let mut lists = Lists::new(alloc);
     enter(engine, wire, house, &mut lists.asks)?;
@@ -533,41 +393,24 @@ pub fn serve<W: Wire, H: House>(
     house: &mut H,
     turns: u64,
 ) -> Ended
-    requires server_alone { (W.seen wire.old).streams ≡ 0 ∷ [] }
-    requires none_blocked { (W.seen wire.old).blocked ≡ [] }
-    requires listens { (W.seen wire.old).listens ≡ true }
-    requires own { (W.seen wire.old).own ≡ [] }
-    requires listeners { (W.seen wire.old).listeners ≡ [] }
-    requires blank { H.known house.old ≡ nothing_known (H.known house.old).present }
-    ensures kept { IsRun H.may
-        (RestsOf H.told H.known H.quiet H.must H.refused H.stands (H.known house.old).present
-        house.old).rests
-        (H.stands house.old) (H.stands house.new) (H.known house.old).present policy pid turns
-        (H.told house.old) (H.told house.new) (W.seen wire.old).told (W.seen wire.new)
-        (refused_if (H.known house.old).present (H.must house.new) (H.refused house.new)) result }
-    ensures must { H.must house.new ≡ H.must house.old }
-    ensures permitted { (index : ℕ) → result ≡ StartWasRefused index
-        → refused_if (H.known house.old).present (H.must house.new) (H.refused house.new)
-        ≡ Some index }
-    ensures failed { result ≡ ServerFailed
-        → Rose (W.server_faults wire.old) (W.server_faults wire.new) }
-    ensures came { Came (W.calls wire.old) (W.calls wire.new) }
-    ensures ended_by { EndedBy (H.known house.old).present result (W.calls wire.old)
-        (W.calls wire.new) }
-    ensures calls { Stops (H.known house.old).present turns result (W.calls wire.old)
-        (W.calls wire.new) }
-    ensures unopened { (H.known house.old).present ≡ false
-        → (W.seen wire.new).last_own ≡ (W.seen wire.old).last_own }
+    requires opened { IsOpened (W.state wire.old).seen }
+    requires blank { (H.state house.old).known ≡ nothing_known (H.state house.old).known.present }
+    ensures kept { RunKept result policy pid turns H.may H.state house.old house.new
+        (W.state wire.old).seen (W.state wire.new).seen }
+    ensures must { (H.state house.new).must ≡ (H.state house.old).must }
+    ensures ended { HasEnded (H.state house.old).known.present
+        (refusal_after (H.state house.old) (H.state house.new)) result (W.state wire.old)
+        (W.state wire.new) (W.faults wire.old) (W.faults wire.new) }
+    ensures calls { HasCalled (H.state house.old).known.present turns result (W.state wire.old)
+        (W.state wire.new) }
+    ensures unopened { (H.state house.old).known.present ≡ false
+        → (W.state wire.new).seen.last_own ≡ (W.state wire.old).seen.last_own }
     ensures places { result ≢ WantOfMemory
-        → ((W.seen wire.new).listeners ≡ (H.known house.new).listeners)
-        × ((W.seen wire.new).own ≡ (H.known house.new).streams) }
-    ensures own_faults { OwnCounted (W.seen wire.old).told (W.seen wire.new).told
-        (W.own_faults wire.old) (W.own_faults wire.new) }
-    ensures openings { W.openings wire.new ≡ W.openings wire.old }
-    ensures joinings { W.joinings wire.new ≡ W.joinings wire.old }
-    ensures idle { turns ≡ 0 → (H.known house.old).present ≡ false
-        → SameFaults (W.server_faults wire.old) (W.server_faults wire.new)
-        (W.client_faults wire.old) (W.client_faults wire.new) }
+        → KnowsPlaces (H.state house.new) (W.state wire.new).seen }
+    ensures idle { turns ≡ 0 → (H.state house.old).known.present ≡ false
+        → NoFault (W.faults wire.old) (W.faults wire.new) }
+    ensures wire { KeepsWire (W.state wire.old) (W.state wire.new) (W.faults wire.old)
+        (W.faults wire.new) }
 {
     let Ok(mut engine) = Engine::new(alloc, policy, pid) else {
         return Ended::OutOfMemory;

@@ -17,7 +17,7 @@ ghost use Rattle.mux_engine.specs.Serving.{IsServed, Serving, ServesOn, StaysOrF
 ghost use Rattle.mux_engine.specs.Sides.{Housed, RestsOf, SamePlaces, Side as TheSide};
 
 use crate::events::event_of_fault;
-use mux_clients::Asks;
+use mux_clients::AskLog;
 use mux_history::limits::HOUSE;
 use mux_machine::Engine;
 use mux_outside::{House, NoHouse, Streams, Wire, Wrote};
@@ -30,39 +30,29 @@ fn offer_once<W: Wire, H: House>(
     engine: &mut Engine,
     wire: &mut W,
     held: &mut Streams,
-    asks: &mut Asks,
+    asks: &mut AskLog,
     stream: u64,
 ) -> Result<bool, OutOfMemory>
-    requires served { IsServed H.may
-        (RestsOf H.told H.known H.quiet H.must H.refused H.stands) (W.seen wire.old) held.old
-        engine.old }
+    requires served { IsServed H.may H.state (W.state wire.old).seen held.old engine.old }
     requires stream_open { is_open engine.old stream ≡ true }
     requires no_house { stream ≢ TheHouse }
-    requires free { among stream (W.seen wire.old).blocked ≡ false }
-    requires numbered { (t : ℕ) → IsTrue (is_one t (W.seen wire.old).own) → IsTrue (is_own t) }
+    requires free { among stream (W.state wire.old).seen.blocked ≡ false }
+    requires numbered { (t : ℕ) → IsTrue (is_one t (W.state wire.old).seen.own)
+        → IsTrue (is_own t) }
     ensures serving { (todo : List ℕ) → among 0 (stream ∷ todo) ≡ true →
-        ServesOn result H.may
-        (RestsOf H.told H.known H.quiet H.must H.refused H.stands) (W.seen wire.old) (W.seen wire.new)
-        held.old held.new todo (λ more. if more then stream ∷ todo else without stream todo)
-        engine.old engine.new }
-    ensures streams { OnOk result (here engine.new ≡ here engine.old) }
+        ServesOn result H.may H.state (W.state wire.old).seen (W.state wire.new).seen held.old
+        held.new todo (λ more. if more then stream ∷ todo else without stream todo) engine.old
+        engine.new }
+    ensures engine { OnOk result (IsOfferedTo stream engine.old engine.new (W.faults wire.old)
+        (W.faults wire.new)) }
     ensures holds { OnOk result ((t : ℕ) → among t held.old ≡ true → among t held.new ≡ true) }
-    ensures places { SamePlaces (W.seen wire.old) (W.seen wire.new) }
-    ensures less { IfOk result (λ more. more ≡ true →
-        length (queue_in engine.new stream) < length (queue_in engine.old stream)) }
-    ensures free { IfOk result (λ more. more ≡ true →
-        among stream (W.seen wire.new).blocked ≡ false) }
-    ensures ended { OnOk result (StaysOrFails engine.old.ended engine.new.ended
-        (W.server_faults wire.old) (W.server_faults wire.new)) }
-    ensures client { OnOk result (stream ≢ 0 → engine.new.ended ≡ engine.old.ended) }
-    ensures later { W.server_faults wire.old ≤ W.server_faults wire.new }
-    ensures calls { Counts 0 result (W.calls wire.old) (W.calls wire.new) }
-    ensures own_faults { OwnCounted (W.seen wire.old).told (W.seen wire.new).told
-        (W.own_faults wire.old) (W.own_faults wire.new) }
-    ensures openings { W.openings wire.new ≡ W.openings wire.old }
-    ensures joinings { W.joinings wire.new ≡ W.joinings wire.old }
-    ensures idle { queue_in engine.old stream ≡ [] → (engine.new ≡ engine.old)
-        × (wire.new ≡ wire.old) }
+    ensures places { SamePlaces (W.state wire.old).seen (W.state wire.new).seen }
+    ensures more { IfOk result (λ more. more ≡ true
+        → CanTakeMore stream engine.old engine.new (W.state wire.new).seen) }
+    ensures wire { Works 0 result (W.state wire.old) (W.state wire.new) (W.faults wire.old)
+        (W.faults wire.new) }
+    ensures idle { queue_in engine.old stream ≡ []
+        → (engine.new ≡ engine.old) × (wire.new ≡ wire.old) }
 {
     let bytes = engine.queue_of(stream);
     if bytes.is_empty() {
@@ -90,33 +80,25 @@ fn offer<W: Wire, H: House>(
     engine: &mut Engine,
     wire: &mut W,
     held: &mut Streams,
-    asks: &mut Asks,
+    asks: &mut AskLog,
     stream: u64,
 ) -> Result<(), OutOfMemory>
-    requires served { IsServed H.may
-        (RestsOf H.told H.known H.quiet H.must H.refused H.stands) (W.seen wire.old) held.old
-        engine.old }
+    requires served { IsServed H.may H.state (W.state wire.old).seen held.old engine.old }
     requires stream_open { is_open engine.old stream ≡ true }
     requires no_house { stream ≢ TheHouse }
-    requires numbered { (t : ℕ) → IsTrue (is_one t (W.seen wire.old).own) → IsTrue (is_own t) }
+    requires numbered { (t : ℕ) → IsTrue (is_one t (W.state wire.old).seen.own)
+        → IsTrue (is_own t) }
     ensures serving { (todo : List ℕ) → among 0 (stream ∷ todo) ≡ true →
-        ServesOn result H.may
-        (RestsOf H.told H.known H.quiet H.must H.refused H.stands) (W.seen wire.old) (W.seen wire.new)
-        held.old held.new (stream ∷ todo) (λ done. todo) engine.old engine.new }
-    ensures streams { OnOk result (here engine.new ≡ here engine.old) }
+        ServesOn result H.may H.state (W.state wire.old).seen (W.state wire.new).seen held.old
+        held.new (stream ∷ todo) (λ done. todo) engine.old engine.new }
+    ensures engine { OnOk result (IsOfferedTo stream engine.old engine.new (W.faults wire.old)
+        (W.faults wire.new)) }
     ensures holds { OnOk result ((t : ℕ) → among t held.old ≡ true → among t held.new ≡ true) }
-    ensures places { SamePlaces (W.seen wire.old) (W.seen wire.new) }
-    ensures ended { OnOk result (StaysOrFails engine.old.ended engine.new.ended
-        (W.server_faults wire.old) (W.server_faults wire.new)) }
-    ensures client { OnOk result (stream ≢ 0 → engine.new.ended ≡ engine.old.ended) }
-    ensures later { W.server_faults wire.old ≤ W.server_faults wire.new }
-    ensures calls { Counts 0 result (W.calls wire.old) (W.calls wire.new) }
-    ensures own_faults { OwnCounted (W.seen wire.old).told (W.seen wire.new).told
-        (W.own_faults wire.old) (W.own_faults wire.new) }
-    ensures openings { W.openings wire.new ≡ W.openings wire.old }
-    ensures joinings { W.joinings wire.new ≡ W.joinings wire.old }
-    ensures idle { queue_in engine.old stream ≡ [] → (engine.new ≡ engine.old)
-        × (wire.new ≡ wire.old) }
+    ensures places { SamePlaces (W.state wire.old).seen (W.state wire.new).seen }
+    ensures wire { Works 0 result (W.state wire.old) (W.state wire.new) (W.faults wire.old)
+        (W.faults wire.new) }
+    ensures idle { queue_in engine.old stream ≡ []
+        → (engine.new ≡ engine.old) × (wire.new ≡ wire.old) }
 {
     if held.contains(stream) {
         return Ok(());
@@ -131,26 +113,21 @@ fn offer_clients<W: Wire, H: House>(
     wire: &mut W,
     held: &mut Streams,
     todo: &mut Streams,
-    asks: &mut Asks,
+    asks: &mut AskLog,
 ) -> Result<(), OutOfMemory>
-    requires served { IsServed H.may
-        (RestsOf H.told H.known H.quiet H.must H.refused H.stands) (W.seen wire.old) held.old
-        engine.old }
-    requires numbered { (t : ℕ) → IsTrue (is_one t (W.seen wire.old).own) → IsTrue (is_own t) }
-    ensures serving { (left : List ℕ) → ServesOn result H.may
-        (RestsOf H.told H.known H.quiet H.must H.refused H.stands)
-        (W.seen wire.old) (W.seen wire.new) held.old held.new
-        (0 ∷ (without TheHouse (here engine.old) ++ left)) (λ done. 0 ∷ left) engine.old engine.new }
+    requires served { IsServed H.may H.state (W.state wire.old).seen held.old engine.old }
+    requires numbered { (t : ℕ) → IsTrue (is_one t (W.state wire.old).seen.own)
+        → IsTrue (is_own t) }
+    ensures serving { (left : List ℕ) → ServesOn result H.may H.state (W.state wire.old).seen
+        (W.state wire.new).seen held.old held.new
+        (0 ∷ (without TheHouse (here engine.old) ++ left)) (λ done. 0 ∷ left) engine.old
+        engine.new }
     ensures streams { OnOk result (here engine.new ≡ here engine.old) }
-    ensures holds { OnOk result ((t : ℕ) → among t held.old ≡ true → among t held.new ≡ true) }
-    ensures places { SamePlaces (W.seen wire.old) (W.seen wire.new) }
     ensures ended { OnOk result (engine.new.ended ≡ engine.old.ended) }
-    ensures later { W.server_faults wire.old ≤ W.server_faults wire.new }
-    ensures calls { Counts 0 result (W.calls wire.old) (W.calls wire.new) }
-    ensures own_faults { OwnCounted (W.seen wire.old).told (W.seen wire.new).told
-        (W.own_faults wire.old) (W.own_faults wire.new) }
-    ensures openings { W.openings wire.new ≡ W.openings wire.old }
-    ensures joinings { W.joinings wire.new ≡ W.joinings wire.old }
+    ensures holds { OnOk result ((t : ℕ) → among t held.old ≡ true → among t held.new ≡ true) }
+    ensures places { SamePlaces (W.state wire.old).seen (W.state wire.new).seen }
+    ensures wire { Works 0 result (W.state wire.old) (W.state wire.new) (W.faults wire.old)
+        (W.faults wire.new) }
     ensures idle { engine.old.waiting ≡ [] → (engine.new ≡ engine.old) × (wire.new ≡ wire.old) }
 {
     todo.refill(engine.waiting().as_slice())?;
@@ -165,25 +142,14 @@ fn offer_clients<W: Wire, H: House>(
 // Accepts no more clients where the engine wants none, or its run is over.
 pub fn hush<W: Wire, H: House>(engine: &Engine, wire: &mut W)
     requires hears { engine.now.ended ≡ None → engine.now.listening ≡ true
-        → (W.seen wire.old).listens ≡ true }
-    ensures serving { (present : Bool) (first : H) (before : Option (List TheHouseMark))
-        (now : TheSide) (policy : ThePolicy) (pid : ℕ) (start : Option (List TheMark))
-        (held failed : List ℕ) (given : ℕ) (todo : List ℕ) →
-        Serving H.may (RestsOf H.told H.known H.quiet H.must H.refused H.stands present first) before
-        now policy pid start
-        (W.seen wire.old) held failed given todo engine.now →
-        Serving H.may (RestsOf H.told H.known H.quiet H.must H.refused H.stands present first) before
-        now policy pid start
-        (W.seen wire.new) held failed given todo engine.now }
-    ensures hears { engine.now.ended ≡ None → (W.seen wire.new).listens ≡ engine.now.listening }
-    ensures places { SamePlaces (W.seen wire.old) (W.seen wire.new) }
-    ensures faults { W.server_faults wire.new ≡ W.server_faults wire.old }
-    ensures client { W.client_faults wire.new ≡ W.client_faults wire.old }
-    ensures calls { W.calls wire.new ≡ W.calls wire.old }
-    ensures own_faults { OwnCounted (W.seen wire.old).told (W.seen wire.new).told
-        (W.own_faults wire.old) (W.own_faults wire.new) }
-    ensures openings { W.openings wire.new ≡ W.openings wire.old }
-    ensures joinings { W.joinings wire.new ≡ W.joinings wire.old }
+        → (W.state wire.old).seen.listens ≡ true }
+    ensures serving { (held : List ℕ) → StaysServed H.may H.state (W.state wire.old).seen
+        (W.state wire.new).seen held held engine.now engine.now }
+    ensures hears { engine.now.ended ≡ None
+        → (W.state wire.new).seen.listens ≡ engine.now.listening }
+    ensures places { SamePlaces (W.state wire.old).seen (W.state wire.new).seen }
+    ensures wire { IsIdle (W.state wire.old) (W.state wire.new) (W.faults wire.old)
+        (W.faults wire.new) }
 {
     if engine.listening() && engine.ended().is_none() {
         return;
@@ -199,30 +165,23 @@ pub fn flush<W: Wire, H: House>(
     wire: &mut W,
     held: &mut Streams,
     todo: &mut Streams,
-    asks: &mut Asks,
+    asks: &mut AskLog,
 ) -> Result<(), OutOfMemory>
-    requires served { IsServed H.may
-        (RestsOf H.told H.known H.quiet H.must H.refused H.stands) (W.seen wire.old) held.old
-        engine.old }
-    requires numbered { (t : ℕ) → IsTrue (is_one t (W.seen wire.old).own) → IsTrue (is_own t) }
-    ensures serving { (left : List ℕ) → ServesOn result H.may
-        (RestsOf H.told H.known H.quiet H.must H.refused H.stands)
-        (W.seen wire.old) (W.seen wire.new) held.old held.new
+    requires served { IsServed H.may H.state (W.state wire.old).seen held.old engine.old }
+    requires numbered { (t : ℕ) → IsTrue (is_one t (W.state wire.old).seen.own)
+        → IsTrue (is_own t) }
+    ensures serving { (left : List ℕ) → ServesOn result H.may H.state (W.state wire.old).seen
+        (W.state wire.new).seen held.old held.new
         (0 ∷ (without TheHouse (here engine.old) ++ left)) (λ done. left) engine.old engine.new }
     ensures streams { OnOk result (here engine.new ≡ here engine.old) }
-    ensures holds { OnOk result ((t : ℕ) → among t held.old ≡ true → among t held.new ≡ true) }
-    ensures places { SamePlaces (W.seen wire.old) (W.seen wire.new) }
     ensures ended { OnOk result (StaysOrFails engine.old.ended engine.new.ended
-        (W.server_faults wire.old) (W.server_faults wire.new)) }
-    ensures later { W.server_faults wire.old ≤ W.server_faults wire.new }
-    ensures calls { Counts 0 result (W.calls wire.old) (W.calls wire.new) }
-    ensures own_faults { OwnCounted (W.seen wire.old).told (W.seen wire.new).told
-        (W.own_faults wire.old) (W.own_faults wire.new) }
-    ensures openings { W.openings wire.new ≡ W.openings wire.old }
-    ensures joinings { W.joinings wire.new ≡ W.joinings wire.old }
-    ensures idle { engine.old.waiting ≡ [] → (engine.new ≡ engine.old)
-        × SameFaults (W.server_faults wire.old) (W.server_faults wire.new)
-        (W.client_faults wire.old) (W.client_faults wire.new) }
+        (W.faults wire.old) (W.faults wire.new)) }
+    ensures holds { OnOk result ((t : ℕ) → among t held.old ≡ true → among t held.new ≡ true) }
+    ensures places { SamePlaces (W.state wire.old).seen (W.state wire.new).seen }
+    ensures wire { Works 0 result (W.state wire.old) (W.state wire.new) (W.faults wire.old)
+        (W.faults wire.new) }
+    ensures idle { engine.old.waiting ≡ []
+        → (engine.new ≡ engine.old) × NoFault (W.faults wire.old) (W.faults wire.new) }
 {
     hush::<W, H>(engine, wire);
     offer_clients::<W, H>(engine, wire, held, todo, asks)?;
@@ -231,34 +190,16 @@ pub fn flush<W: Wire, H: House>(
 
 // Closes the streams of the clients that are lost or refused.
 pub fn close_lost<W: Wire, H: House>(engine: &mut Engine, wire: &mut W, held: &mut Streams)
-    requires served { IsServed H.may
-        (RestsOf H.told H.known H.quiet H.must H.refused H.stands) (W.seen wire.old) held.old
-        engine.old }
-    ensures serving { (present : Bool) (first : H) (before : Option (List TheHouseMark))
-        (now : TheSide) (policy : ThePolicy) (pid : ℕ) (start : Option (List TheMark))
-        (failed : List ℕ) (given : ℕ) (todo : List ℕ) →
-        Serving H.may (RestsOf H.told H.known H.quiet H.must H.refused H.stands present first) before
-        now policy pid start
-        (W.seen wire.old) held.old failed given todo engine.old →
-        Serving H.may (RestsOf H.told H.known H.quiet H.must H.refused H.stands present first) before
-        now policy pid start
-        (W.seen wire.new) held.new failed given todo engine.new }
-    ensures housed { (known : TheKnown) (own : List ℕ) → Housed known (W.seen wire.old) own
-        → Housed known (W.seen wire.new) own }
-    ensures ready { (known : TheKnown) (quiet : TheQuiet) (queue : ℕ → List ℕ)
-        (failed own : List ℕ) → Housed known (W.seen wire.old) own
-        → IsReady known quiet queue held.old failed own engine.old
-        → IsReady known quiet queue held.new failed own engine.new }
-    ensures closed { engine.new.leaving ≡ [] }
-    ensures refused { engine.new.refused ≡ [] }
+    requires served { IsServed H.may H.state (W.state wire.old).seen held.old engine.old }
+    ensures serving { StaysServed H.may H.state (W.state wire.old).seen (W.state wire.new).seen
+        held.old held.new engine.old engine.new }
+    ensures ready { StaysReady (W.state wire.old).seen (W.state wire.new).seen held.old held.new
+        engine.old engine.new }
+    ensures closed { HasNoneToClose engine.new }
     ensures ended { engine.new.ended ≡ engine.old.ended }
-    ensures unopened { (W.seen wire.new).last_own ≡ (W.seen wire.old).last_own }
-    ensures faults { W.server_faults wire.new ≡ W.server_faults wire.old }
-    ensures calls { W.calls wire.new ≡ W.calls wire.old }
-    ensures own_faults { OwnCounted (W.seen wire.old).told (W.seen wire.new).told
-        (W.own_faults wire.old) (W.own_faults wire.new) }
-    ensures openings { W.openings wire.new ≡ W.openings wire.old }
-    ensures joinings { W.joinings wire.new ≡ W.joinings wire.old }
+    ensures unopened { (W.state wire.new).seen.last_own ≡ (W.state wire.old).seen.last_own }
+    ensures wire { IsIdle (W.state wire.old) (W.state wire.new) (W.faults wire.old)
+        (W.faults wire.new) }
 {
     while let Some((client, _)) = engine.closing() {
         wire.close(client);

@@ -4,12 +4,11 @@ use Rattle.std.specs.Prelude.{◌==◌, ◌||◌, ◌&&◌, not, reverse, All, I
 use Rattle.std.proofs.lemmas.Bool.Decides.{nat_tests}
 use Rattle.mux_outside.specs.Streams.{among, without}
 use Rattle.mux_outside.specs.Wire.{IsNewOwn, OwnFits, TurnFits, WroteFits}
-use Rattle.mux_outside.specs.Seen.{blocked_after, blocked_after_write, last_after, open_after, wait_marks, write_marks}
+use Rattle.mux_outside.specs.Seen.{Seen, blocked_after, blocked_after_write, last_after, open_after, wait_marks, write_marks}
 use Rattle.mux_outside.specs.OwnStreams.{is_own}
 use Rattle.mux_outside.specs.declared.house_mark.HouseMark.{HouseMark}
 use Rattle.mux_outside.specs.declared.house_mark.HouseMark.TheVariants.{HouseOrder}
 use Rattle.mux_outside.specs.declared.order.Order.TheVariants.{Connect}
-use Rattle.mux_outside.specs.declared.own_streams.OwnStream.{OwnStream}
 use Rattle.mux_outside.specs.declared.own_streams.TheConstants.{LAST_OWN}
 use Rattle.mux_outside.specs.declared.mark.Mark.{Mark}
 use Rattle.mux_history.specs.declared.limits.TheConstants.{HOUSE}
@@ -145,63 +144,63 @@ still before mark quiet reading = absurd (let bad : true ≡ false = sym reading
 read-after : (waiting streams : List ℕ) (wanted : Want) (listens : Bool) (before : List Mark) → wanted ≡ want.Read → FollowsRead (wire.Waits waiting wanted streams listens ∷ before)
 read-after waiting streams wanted listens before e = subst (λ (x : Want). FollowsRead (wire.Waits waiting x streams listens ∷ before)) (sym e) tt
 
-module _ (streams blocked : List ℕ) (last : ℕ) (listeners : List ℕ) (own : List OwnStream) (last_own : ℕ) (marks : List Mark) where
-  all-held : OfWire streams blocked last marks → (waiting : List ℕ) → All (λ t. IsTrue (among t blocked)) waiting → All (λ t. IsTrue (is_blocked t marks)) waiting
+module _ (seen : Seen) (marks : List Mark) where
+  all-held : OfWire seen.streams seen.blocked seen.last marks → (waiting : List ℕ) → All (λ t. IsTrue (among t seen.blocked)) waiting → All (λ t. IsTrue (is_blocked t marks)) waiting
   all-held of waiting all k d lt = of.holds _ (all k d lt)
 
-  turn-kept : (given : Turn) (waiting : List ℕ) (wanted : Want) (listens : Bool) (bytes : List ℕ) → AreBytes bytes → All (λ t. IsTrue (among t blocked)) waiting → TurnFits given wanted listens last streams blocked bytes → OwnFits given listeners own last_own → OfWire streams blocked last marks → OfWire (open_after given streams) (blocked_after given blocked) (last_after given last) (reverse (wait_marks given waiting wanted streams listens bytes) ++ marks)
-  turn-kept (turns.Accepted k) waiting wanted listens bytes are all fits own_fits of =
+  turn-kept : (given : Turn) (waiting : List ℕ) (wanted : Want) (bytes : List ℕ) → AreBytes bytes → All (λ t. IsTrue (among t seen.blocked)) waiting → TurnFits given wanted seen bytes → OwnFits given seen → OfWire seen.streams seen.blocked seen.last marks → OfWire (open_after given seen.streams) (blocked_after given seen.blocked) (last_after given seen.last) (reverse (wait_marks given waiting wanted seen.streams seen.listens bytes) ++ marks)
+  turn-kept (turns.Accepted k) waiting wanted bytes are all fits own_fits of =
       let low = of.below in
       let next = fits.2 in
       let most = fits.3 in
       record {
         lawful = ((omega (arith, low, next), omega (arith, next, most)), (all-held of waiting all, of.lawful));
-        asked = (λ reading. read-after waiting streams wanted listens marks fits.0, (still marks (wire.Waits waiting wanted streams listens) refl, of.asked));
-        known = λ t there. among-last (is_known t (wire.Accepts k ∷ marks) ≡ true) t k streams (λ old. known-before t k marks (of.known t old)) (λ same. known-new t k marks same) there;
+        asked = (λ reading. read-after waiting seen.streams wanted seen.listens marks fits.0, (still marks (wire.Waits waiting wanted seen.streams seen.listens) refl, of.asked));
+        known = λ t there. among-last (is_known t (wire.Accepts k ∷ marks) ≡ true) t k seen.streams (λ old. known-before t k marks (of.known t old)) (λ same. known-new t k marks same) there;
         holds = of.holds;
         below = omega arith;
       }
-  turn-kept (turns.Got t) waiting wanted listens bytes are all fits own_fits of = record {
+  turn-kept (turns.Got t) waiting wanted bytes are all fits own_fits of = record {
     lawful = ((of.known t fits.1, fits.2, fits.3, are), (all-held of waiting all, of.lawful));
-    asked = (λ reading. read-after waiting streams wanted listens marks fits.0, (still marks (wire.Waits waiting wanted streams listens) refl, of.asked));
+    asked = (λ reading. read-after waiting seen.streams wanted seen.listens marks fits.0, (still marks (wire.Waits waiting wanted seen.streams seen.listens) refl, of.asked));
     known = of.known;
     holds = of.holds;
     below = of.below;
   }
-  turn-kept (turns.End t) waiting wanted listens bytes are all fits own_fits of = record {
+  turn-kept (turns.End t) waiting wanted bytes are all fits own_fits of = record {
     lawful = (of.known t fits.1, (all-held of waiting all, of.lawful));
-    asked = (still (wire.Waits waiting wanted streams listens ∷ marks) (wire.Ends t) refl, (still marks (wire.Waits waiting wanted streams listens) refl, of.asked));
+    asked = (still (wire.Waits waiting wanted seen.streams seen.listens ∷ marks) (wire.Ends t) refl, (still marks (wire.Waits waiting wanted seen.streams seen.listens) refl, of.asked));
     known = of.known;
     holds = of.holds;
     below = of.below;
   }
-  turn-kept (turns.Writable t) waiting wanted listens bytes are all fits own_fits of = record {
+  turn-kept (turns.Writable t) waiting wanted bytes are all fits own_fits of = record {
     lawful = (of.holds t fits.1, (all-held of waiting all, of.lawful));
-    asked = (still (wire.Waits waiting wanted streams listens ∷ marks) (wire.Frees t) refl, (still marks (wire.Waits waiting wanted streams listens) refl, of.asked));
+    asked = (still (wire.Waits waiting wanted seen.streams seen.listens ∷ marks) (wire.Frees t) refl, (still marks (wire.Waits waiting wanted seen.streams seen.listens) refl, of.asked));
     known = of.known;
-    holds = λ s there. ap (λ b. elim b as (λ _. Bool) [ true ↦ false | false ↦ is_blocked s marks ]) (other-than t s blocked there) ∙ of.holds s (was-among t s blocked there);
+    holds = λ s there. ap (λ b. elim b as (λ _. Bool) [ true ↦ false | false ↦ is_blocked s marks ]) (other-than t s seen.blocked there) ∙ of.holds s (was-among t s seen.blocked there);
     below = of.below;
   }
-  turn-kept (turns.Failed t) waiting wanted listens bytes are all fits own_fits of = record {
+  turn-kept (turns.Failed t) waiting wanted bytes are all fits own_fits of = record {
     lawful = (of.known t fits, (all-held of waiting all, of.lawful));
-    asked = (still (wire.Waits waiting wanted streams listens ∷ marks) (wire.Fails t) refl, (still marks (wire.Waits waiting wanted streams listens) refl, of.asked));
+    asked = (still (wire.Waits waiting wanted seen.streams seen.listens ∷ marks) (wire.Fails t) refl, (still marks (wire.Waits waiting wanted seen.streams seen.listens) refl, of.asked));
     known = of.known;
     holds = of.holds;
     below = of.below;
   }
-  turn-kept (turns.Joined l t) waiting wanted listens bytes are all fits own_fits of = record {
+  turn-kept (turns.Joined l t) waiting wanted bytes are all fits own_fits of = record {
     lawful = (tt, (all-held of waiting all, of.lawful));
-    asked = (λ reading. read-after waiting streams wanted listens marks fits, (still marks (wire.Waits waiting wanted streams listens) refl, of.asked));
-    known = λ s there. among-last (is_known s marks ≡ true) s t streams (λ old. of.known s old) (λ same. own-known s marks (same-own t s same (new-own last_own t own_fits.1))) there;
+    asked = (λ reading. read-after waiting seen.streams wanted seen.listens marks fits, (still marks (wire.Waits waiting wanted seen.streams seen.listens) refl, of.asked));
+    known = λ s there. among-last (is_known s marks ≡ true) s t seen.streams (λ old. of.known s old) (λ same. own-known s marks (same-own t s same (new-own seen.last_own t own_fits.1))) there;
     holds = of.holds;
     below = of.below;
   }
-  turn-kept turns.NoMemory waiting wanted listens bytes are all fits own_fits of = of
+  turn-kept turns.NoMemory waiting wanted bytes are all fits own_fits of = of
 
   some-taken : (n : ℕ) (bytes : List ℕ) → 1 ≤ n → n ≤ length bytes → 0 < length (take n bytes)
   some-taken n bytes some most = omega (arith, length-take n bytes)
 
-  write-kept : (answer : Wrote) (t : ℕ) (bytes : List ℕ) → AreBytes bytes → 0 < length bytes → IsTrue (among t streams) → WroteFits answer (length bytes) → OfWire streams blocked last marks → OfWire streams (blocked_after_write answer t blocked) last (reverse (write_marks answer t bytes) ++ marks)
+  write-kept : (answer : Wrote) (t : ℕ) (bytes : List ℕ) → AreBytes bytes → 0 < length bytes → IsTrue (among t seen.streams) → WroteFits answer (length bytes) → OfWire seen.streams seen.blocked seen.last marks → OfWire seen.streams (blocked_after_write answer t seen.blocked) seen.last (reverse (write_marks answer t bytes) ++ marks)
   write-kept (wrote.Took n) t bytes are some there fits of = record {
     lawful = ((of.known t there, some-taken n bytes fits.0 fits.1, AreBytes-take n bytes are), of.lawful);
     asked = (still marks (wire.Takes t (take n bytes)) refl, of.asked);
@@ -213,7 +212,7 @@ module _ (streams blocked : List ℕ) (last : ℕ) (listeners : List ℕ) (own :
     lawful = (of.known t there, of.lawful);
     asked = (still marks (wire.Holds t) refl, of.asked);
     known = of.known;
-    holds = λ s held. among-last (is_blocked s (wire.Holds t ∷ marks) ≡ true) s t blocked (λ old. held-more t s marks (of.holds s old)) (λ same. ap (λ b. elim b as (λ _. Bool) [ true ↦ true | false ↦ is_blocked s marks ]) same) held;
+    holds = λ s held. among-last (is_blocked s (wire.Holds t ∷ marks) ≡ true) s t seen.blocked (λ old. held-more t s marks (of.holds s old)) (λ same. ap (λ b. elim b as (λ _. Bool) [ true ↦ true | false ↦ is_blocked s marks ]) same) held;
     below = of.below;
   }
   write-kept wrote.Failed t bytes are some there fits of = record {
@@ -225,16 +224,16 @@ module _ (streams blocked : List ℕ) (last : ℕ) (listeners : List ℕ) (own :
   }
   write-kept wrote.NoMemory t bytes are some there fits of = of
 
-  close-kept : (t : ℕ) → OfWire streams blocked last marks → OfWire (without t streams) (without t blocked) last marks
+  close-kept : (t : ℕ) → OfWire seen.streams seen.blocked seen.last marks → OfWire (without t seen.streams) (without t seen.blocked) seen.last marks
   close-kept t of = record {
     lawful = of.lawful;
     asked = of.asked;
-    known = λ s there. of.known s (was-among t s streams there);
-    holds = λ s there. of.holds s (was-among t s blocked there);
+    known = λ s there. of.known s (was-among t s seen.streams there);
+    holds = λ s there. of.holds s (was-among t s seen.blocked there);
     below = of.below;
   }
 
-  note-kept : (mark : HouseMark) → LawfulHouse marks mark → is_connect mark ≡ false → OfWire streams blocked last marks → OfWire streams blocked last (wire.House mark ∷ marks)
+  note-kept : (mark : HouseMark) → LawfulHouse marks mark → is_connect mark ≡ false → OfWire seen.streams seen.blocked seen.last marks → OfWire seen.streams seen.blocked seen.last (wire.House mark ∷ marks)
   note-kept mark lawful other of = record {
     lawful = (lawful, of.lawful);
     asked = (still marks (wire.House mark) refl, of.asked);
@@ -243,19 +242,19 @@ module _ (streams blocked : List ℕ) (last : ℕ) (listeners : List ℕ) (own :
     below = of.below;
   }
 
-  connect-kept : (host : List ℕ) (port n : ℕ) → is_own_stream n ≡ true → OfWire streams blocked last marks → OfWire (streams ++ n ∷ []) (blocked ++ n ∷ []) last (wire.House (HouseOrder (Connect host port) (Some n)) ∷ marks)
+  connect-kept : (host : List ℕ) (port n : ℕ) → is_own_stream n ≡ true → OfWire seen.streams seen.blocked seen.last marks → OfWire (seen.streams ++ n ∷ []) (seen.blocked ++ n ∷ []) seen.last (wire.House (HouseOrder (Connect host port) (Some n)) ∷ marks)
   connect-kept host port n own_n of = record {
     lawful = (tt, of.lawful);
     asked = (still marks (wire.House (HouseOrder (Connect host port) (Some n))) refl, of.asked);
-    known = λ t there. among-last (is_known t (wire.House (HouseOrder (Connect host port) (Some n)) ∷ marks) ≡ true) t n streams (λ old. known-house t (HouseOrder (Connect host port) (Some n)) marks (of.known t old)) (λ same. own-known t (wire.House (HouseOrder (Connect host port) (Some n)) ∷ marks) (same-own n t same own_n)) there;
-    holds = λ s held. among-last (is_blocked s (wire.House (HouseOrder (Connect host port) (Some n)) ∷ marks) ≡ true) s n blocked (λ old. held-house s (HouseOrder (Connect host port) (Some n)) marks (of.holds s old)) (λ same. ap (λ b. elim b as (λ _. Bool) [ true ↦ true | false ↦ is_blocked s marks ]) same) held;
+    known = λ t there. among-last (is_known t (wire.House (HouseOrder (Connect host port) (Some n)) ∷ marks) ≡ true) t n seen.streams (λ old. known-house t (HouseOrder (Connect host port) (Some n)) marks (of.known t old)) (λ same. own-known t (wire.House (HouseOrder (Connect host port) (Some n)) ∷ marks) (same-own n t same own_n)) there;
+    holds = λ s held. among-last (is_blocked s (wire.House (HouseOrder (Connect host port) (Some n)) ∷ marks) ≡ true) s n seen.blocked (λ old. held-house s (HouseOrder (Connect host port) (Some n)) marks (of.holds s old)) (λ same. ap (λ b. elim b as (λ _. Bool) [ true ↦ true | false ↦ is_blocked s marks ]) same) held;
     below = of.below;
   }
 
   no-stream : (t : ℕ) → IsTrue (among t []) → IsTrue (is_blocked t [])
   no-stream t there = there
 
-  pub wire-keeps : WireKeeps streams blocked last listeners own last_own marks
+  pub wire-keeps : WireKeeps seen marks
   wire-keeps = record {
     none = record { lawful = tt; asked = tt; known = server-known; holds = no-stream; below = omega arith };
     turn = turn-kept;

@@ -7,7 +7,6 @@ use Rattle.mux_outside.specs.declared.house_mark.HouseMark.{HouseMark}
 use Rattle.mux_outside.specs.declared.house_mark.HouseMark.TheVariants.{HouseOrder}
 use Rattle.mux_outside.specs.declared.order.Order.{Order}
 use Rattle.mux_outside.specs.declared.order.Order.TheVariants.{Connect}
-use Rattle.mux_outside.specs.declared.own_streams.OwnStream.{OwnStream}
 use Rattle.mux_outside.specs.OwnStreams.{is_own}
 use Rattle.mux_outside.specs.declared.turn.Turn.{Turn}
 use Rattle.mux_outside.specs.declared.turn.Want.{Want}
@@ -15,7 +14,7 @@ use Rattle.mux_outside.specs.declared.turn.Want.TheVariants.{Read}
 use Rattle.mux_outside.specs.declared.turn.Wrote.{Wrote}
 use Rattle.mux_outside.specs.Streams.{among, without}
 use Rattle.mux_outside.specs.Wire.{OwnFits, TurnFits, WroteFits}
-use Rattle.mux_outside.specs.Seen.{blocked_after, blocked_after_write, last_after, open_after, wait_marks, write_marks}
+use Rattle.mux_outside.specs.Seen.{Seen, blocked_after, blocked_after_write, last_after, open_after, wait_marks, write_marks}
 use Rattle.ssh_fields.specs.Fields.{AreBytes}
 use Rattle.mux_history.specs.Journal.{IsLawful, LawfulHouse, is_own_stream, is_blocked, is_known, last_client}
 use Rattle.mux_history.specs.Promises.{Throughout}
@@ -54,31 +53,30 @@ is_connect mark = false
 -- give, where only streams that hold back are waited for; at each answer that it may give to a
 -- write of some bytes to a stream that is open; where a stream is closed; where a house's mark is
 -- noted; and where a stream is made, once that is noted too
-pub record WireKeeps (streams blocked : List ℕ) (last : ℕ) (listeners : List ℕ)
-    (own : List OwnStream) (last_own : ℕ) (marks : List Mark) : Type 0 where
-  pub none : OfWire (0 ∷ []) [] last []
-  pub turn : (given : Turn) (waiting : List ℕ) (want : Want) (listens : Bool) (bytes : List ℕ)
-      → AreBytes bytes → All (λ t. IsTrue (among t blocked)) waiting
-      → TurnFits given want listens last streams blocked bytes
-      → OwnFits given listeners own last_own → OfWire streams blocked last marks
-      → OfWire (open_after given streams) (blocked_after given blocked) (last_after given last)
-      (reverse (wait_marks given waiting want streams listens bytes) ++ marks)
+pub record WireKeeps (seen : Seen) (marks : List Mark) : Type 0 where
+  pub none : OfWire (0 ∷ []) [] seen.last []
+  pub turn : (given : Turn) (waiting : List ℕ) (want : Want) (bytes : List ℕ)
+      → AreBytes bytes → All (λ t. IsTrue (among t seen.blocked)) waiting
+      → TurnFits given want seen bytes → OwnFits given seen
+      → OfWire seen.streams seen.blocked seen.last marks
+      → OfWire (open_after given seen.streams) (blocked_after given seen.blocked)
+      (last_after given seen.last)
+      (reverse (wait_marks given waiting want seen.streams seen.listens bytes) ++ marks)
   pub write : (answer : Wrote) (t : ℕ) (bytes : List ℕ) → AreBytes bytes → 0 < length bytes
-      → IsTrue (among t streams) → WroteFits answer (length bytes)
-      → OfWire streams blocked last marks
-      → OfWire streams (blocked_after_write answer t blocked) last
+      → IsTrue (among t seen.streams) → WroteFits answer (length bytes)
+      → OfWire seen.streams seen.blocked seen.last marks
+      → OfWire seen.streams (blocked_after_write answer t seen.blocked) seen.last
       (reverse (write_marks answer t bytes) ++ marks)
-  pub close : (t : ℕ) → OfWire streams blocked last marks
-      → OfWire (without t streams) (without t blocked) last marks
+  pub close : (t : ℕ) → OfWire seen.streams seen.blocked seen.last marks
+      → OfWire (without t seen.streams) (without t seen.blocked) seen.last marks
   pub note : (mark : HouseMark) → LawfulHouse marks mark → is_connect mark ≡ false
-      → OfWire streams blocked last marks → OfWire streams blocked last (House mark ∷ marks)
+      → OfWire seen.streams seen.blocked seen.last marks
+      → OfWire seen.streams seen.blocked seen.last (House mark ∷ marks)
   pub connect : (host : List ℕ) (port n : ℕ) → is_own_stream n ≡ true
-      → OfWire streams blocked last marks
-      → OfWire (streams ++ n ∷ []) (blocked ++ n ∷ []) last
+      → OfWire seen.streams seen.blocked seen.last marks
+      → OfWire (seen.streams ++ n ∷ []) (seen.blocked ++ n ∷ []) seen.last
       (House (HouseOrder (Connect host port) (Some n)) ∷ marks)
 
 -- of every wire
 abbrev pub WiresKeepTheLaw : Type 0
-WiresKeepTheLaw = (streams blocked : List ℕ) (last : ℕ) (listeners : List ℕ)
-    (own : List OwnStream) (last_own : ℕ) (marks : List Mark)
-    → WireKeeps streams blocked last listeners own last_own marks
+WiresKeepTheLaw = (seen : Seen) (marks : List Mark) → WireKeeps seen marks

@@ -1,9 +1,9 @@
 -- What the house was asked by an event for which there was no memory.
-use Rattle.std.proofs.Common.{◌≡◌, ◌≢◌, ℕ, Bool, true, false, List, [], ◌∷◌, ◌++◌, length, drop, map, Option, Some, None, refl, sym, ap, ◌∙◌, subst, append_assoc}
+use Rattle.std.proofs.Common.{◌≡◌, ◌≢◌, ℕ, Bool, true, false, List, [], ◌∷◌, ◌++◌, length, drop, map, Option, Some, None, Ok, refl, sym, ap, ◌∙◌, subst, append_assoc}
 use Rattle.std.specs.Prelude.{◌==◌, MatchBool, is_some}
 use Rattle.ssh_grammar.specs.Said.{parse}
 use Rattle.proxy_frames.specs.State.{QueueState}
-use Rattle.mux_outside.specs.House.{Known}
+use Rattle.mux_outside.specs.House.{HouseState}
 use Rattle.mux_outside.specs.declared.house_mark.HouseMark.{HouseMark as Asked}
 use Rattle.mux_outside.specs.declared.house.HouseReply.{HouseReply}
 use Rattle.mux_outside.specs.declared.mark.Mark.{Mark}
@@ -16,7 +16,7 @@ use Rattle.mux_clients.specs.declared.heard.Heard.{Heard}
 use Rattle.mux_clients.specs.State.{ClientState}
 use Rattle.mux_clients.specs.Stands.{is_read, mode_of}
 use Rattle.mux_clients.specs.Among.{ChangesOne, EachFits, InFits, is_present}
-use Rattle.mux_clients.specs.Asked.{IsAsked, asked_of}
+use Rattle.mux_clients.specs.Asked.{Heeds, asked_of}
 use Rattle.mux_clients.specs.Pieces.{HearsIn, ReplyNext, rows_said}
 use Rattle.mux_clients.specs.Says.{ComeNext}
 use Rattle.mux_clients.specs.Starved.{BeginsWith, HearsSome, OneIs}
@@ -72,13 +72,13 @@ some-shown May told told' k bytes parts s lent view lends h =
     (subst (λ (l : List ClientState). OneIs k (HearsSome May told told' parts.pid bytes parts.core parts.up) l) lends h)
 
 -- all was taken in, and then there was no memory
-pub some-heard : (May : HouseReply → Type 0) (asks asks' : List Asked) (told told' : Option (List Asked)) (known known' : Known) (pid : ℕ) (bytes : List ℕ) (core core' : CoreState) (up up' : QueueState) (heard : Heard) (k : ℕ) (lent cs : List ClientState) → is_heard lent k ≡ true
-    → (is_present lent k ≡ true → ChangesOne k (HearsIn May (Some asks) (Some asks') pid bytes core core' up up' heard) lent cs) → IsAsked asks asks' told told' known known' → OneIs k (HearsSome May told told' pid bytes core up) lent
-some-heard May asks asks' told told' known known' pid bytes core core' up up' heard k lent cs read hears a =
+pub some-heard : {A E : Type 0} {a : A} (May : HouseReply → Type 0) {asks asks' : List Asked} {old new : HouseState} (pid : ℕ) (bytes : List ℕ) (core core' : CoreState) (up up' : QueueState) (heard : Heard) (k : ℕ) (lent cs : List ClientState) → is_heard lent k ≡ true
+    → (is_present lent k ≡ true → ChangesOne k (HearsIn May (Some asks) (Some asks') pid bytes core core' up up' heard) lent cs) → Heeds {A} {E} (Ok a) asks asks' old new → OneIs k (HearsSome May old.told new.told pid bytes core up) lent
+some-heard May {asks} {asks'} {old} {new} pid bytes core core' up up' heard k lent cs read hears h =
     let here : is_present lent k ≡ true = so-here is_read k lent read in
     let R : ClientState → ClientState → Type 0 = HearsIn May (Some asks) (Some asks') pid bytes core core' up up' heard in
-    changes-one k (λ x y. (is_read x.seat.standing ≡ true) × R x y) (HearsSome May told told' pid bytes core up) lent cs
-    (λ x y r. hears-all May asks asks' told told' known known' pid bytes core core' up up' x y heard r.0 (hears-of May (Some asks) (Some asks') pid bytes core core' up up' heard x y r.0 r.1) a)
+    changes-one k (λ x y. (is_read x.seat.standing ≡ true) × R x y) (HearsSome May old.told new.told pid bytes core up) lent cs
+    (λ x y r. hears-all May pid bytes core core' up up' x y heard r.0 (hears-of May (Some asks) (Some asks') pid bytes core core' up up' heard x y r.0 r.1) h)
     here (changes-so is_read k R lent cs read (hears here))
 
 -- ---- an event

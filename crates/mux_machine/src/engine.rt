@@ -2,7 +2,7 @@ ghost use Rattle.std.specs.Prelude.{◌≡◌, ◌≤◌, ◌*◌, [], true, fal
 ghost use Rattle.mux_outside.specs.declared.mark.Mark.{Mark as TheMark};
 ghost use Rattle.client_teardown.specs.declared.farewell.TheConstants.{FAREWELL_ROOM as TheRoom};
 ghost use Rattle.mux_history.specs.declared.limits.TheConstants.{MAX_CLIENTS as TheMost};
-ghost use Rattle.mux_clients.specs.Asked.{HandsAsks, Heeds};
+ghost use Rattle.mux_clients.specs.Asked.{Heeds};
 ghost use Rattle.mux_clients.specs.Starved.{HearsSome, OneIs};
 ghost use Rattle.mux_machine.specs.Bounds.{QueuesShort};
 ghost use Rattle.mux_machine.specs.Events.{EndsBy, Keeps, Tells, went_of};
@@ -18,10 +18,10 @@ mod views;
 use crate::clients::*;
 use crate::event::{Event, Went};
 use forward_rules::Policy;
-use mux_clients::{Asks, Client, Server, answer_at, got_at, lose_at};
+use mux_clients::{AskLog, Client, Server, answer_at, got_at, lose_at};
 use mux_core::Core;
 use mux_history::{Ended, Why};
-use mux_outside::{House, HouseReply, Streams};
+use mux_outside::{Asks, HouseReply, Streams};
 use proxy_frames::Queue;
 use ssh_fields::OutOfMemory;
 use std::alloc::Global;
@@ -110,22 +110,18 @@ impl Engine {
     /// asks by it, and that is added to `asks`. A client
     /// is accepted once, with a number from 1 on, and all other events of clients name one that was
     /// accepted. Once there was no memory there is none for any later event.
-    pub fn event<H: House>(
+    pub fn event<H: Asks>(
         &mut self,
         e: Event<'_>,
         house: &mut H,
-        asks: &mut Asks,
+        asks: &mut AskLog,
     ) -> Result<Went, OutOfMemory>
-        requires ordering { (H.known house.old).ordering ≡ None }
+        requires ordering { (H.state house.old).known.ordering ≡ None }
         ensures stands { OnOk result ((mark : TheMark) → Tells e.entry mark
             → GoesOn H.may (Some asks.old) (Some asks.new) self.old self.new mark) }
-        ensures heeds { Heeds result asks.old asks.new (H.told house.old) (H.told house.new)
-            (H.known house.old) (H.known house.new) }
-        ensures handed { OnOk result (HandsAsks asks.old asks.new (H.stands house.old)
-            (H.stands house.new)) }
-        ensures must { H.must house.new ≡ H.must house.old }
+        ensures heeds { Heeds result asks.old asks.new (H.state house.old) (H.state house.new) }
         ensures cut { OnErr result ((mark : TheMark) → Tells e.entry mark
-            → CutsShort H.may (H.told house.old) (H.told house.new) self.old mark) }
+            → CutsShort H.may (H.state house.old).told (H.state house.new).told self.old mark) }
         ensures keeps { OnOk result (Keeps e.entry self.old self.new) }
         ensures others { OnOk result (ServerLeavesIdle e.entry self.old self.new) }
         ensures ends { OnOk result ((mark : TheMark) → Tells e.entry mark
@@ -151,25 +147,21 @@ impl Engine {
 
 impl Engine {
     // What an event does while the run goes on.
-    fn step<H: House>(
+    fn step<H: Asks>(
         &mut self,
         e: Event<'_>,
         house: &mut H,
-        asks: &mut Asks,
+        asks: &mut AskLog,
     ) -> Result<(), OutOfMemory>
-        requires ordering { (H.known house.old).ordering ≡ None }
+        requires ordering { (H.state house.old).known.ordering ≡ None }
         requires goes { self.old.ended ≡ None }
         requires starved { self.old.starved ≡ true }
         requires ready { IsReady self.old }
         ensures stands { OnOk result ((mark : TheMark) → Tells e.entry mark
             → GoesOn H.may (Some asks.old) (Some asks.new) self.old self.new mark) }
-        ensures heeds { Heeds result asks.old asks.new (H.told house.old) (H.told house.new)
-            (H.known house.old) (H.known house.new) }
-        ensures handed { OnOk result (HandsAsks asks.old asks.new (H.stands house.old)
-            (H.stands house.new)) }
-        ensures must { H.must house.new ≡ H.must house.old }
+        ensures heeds { Heeds result asks.old asks.new (H.state house.old) (H.state house.new) }
         ensures cut { OnErr result ((mark : TheMark) → Tells e.entry mark
-            → CutsShort H.may (H.told house.old) (H.told house.new) self.old mark) }
+            → CutsShort H.may (H.state house.old).told (H.state house.new).told self.old mark) }
         ensures keeps { OnOk result (Keeps e.entry self.old self.new) }
         ensures others { OnOk result (ServerLeavesIdle e.entry self.old self.new) }
         ensures ends { OnOk result ((mark : TheMark) → Tells e.entry mark
@@ -217,14 +209,14 @@ impl Engine {
     }
 
     // A client's stream gave bytes, which are read as long as it is.
-    fn got<H: House>(
+    fn got<H: Asks>(
         &mut self,
         client: u64,
         bytes: &[u8],
         house: &mut H,
-        asks: &mut Asks,
+        asks: &mut AskLog,
     ) -> Result<(), OutOfMemory>
-        requires ordering { (H.known house.old).ordering ≡ None }
+        requires ordering { (H.state house.old).known.ordering ≡ None }
         requires goes { self.old.ended ≡ None }
         requires starved { self.old.starved ≡ true }
         requires ready { IsReady self.old }
@@ -235,13 +227,9 @@ impl Engine {
             → self.new ≡ self.old) }
         ensures untold { is_heard self.old.clients client ≡ false
             → asks.new ≡ asks.old }
-        ensures heeds { Heeds result asks.old asks.new (H.told house.old) (H.told house.new)
-            (H.known house.old) (H.known house.new) }
-        ensures handed { OnOk result (HandsAsks asks.old asks.new (H.stands house.old)
-            (H.stands house.new)) }
-        ensures must { H.must house.new ≡ H.must house.old }
-        ensures cut { OnErr result (OneIs client (HearsSome H.may (H.told house.old)
-            (H.told house.new) self.old.pid bytes.now self.old.core self.old.up) self.old.clients) }
+        ensures heeds { Heeds result asks.old asks.new (H.state house.old) (H.state house.new) }
+        ensures cut { OnErr result (OneIs client (HearsSome H.may (H.state house.old).told
+            (H.state house.new).told self.old.pid bytes.now self.old.core self.old.up) self.old.clients) }
         ensures policy { OnOk result (self.new.core.policy ≡ self.old.core.policy) }
         ensures numbers { OnOk result (numbers self.new.clients ≡ numbers self.old.clients) }
         ensures ready { OnOk result (IsReady self.new) }

@@ -4,7 +4,7 @@ ghost use Rattle.mux_machine.specs.Moves.{AnsweredGoesOn, ClosedGoesOn, EnteredG
 ghost use Rattle.mux_machine.specs.Others.{HeardLeavesIdle, KeptByOwnRows};
 ghost use Rattle.mux_machine.specs.Twins.{HouseIsClient, OwnIsSilent, StandsAlike};
 
-use mux_outside::House;
+use mux_outside::Asks;
 
 /// The stream of the client that was lost first is closed.
 pub fn a_stream_is_closed()
@@ -37,12 +37,12 @@ pub fn a_client_is_lost()
 {}
 
 /// A client that is read gave bytes, by which a house may have been asked.
-pub fn a_client_is_heard<H: House>()
+pub fn a_client_is_heard<H: Asks>()
     ensures { GainedGoesOn H.may }
 {}
 
 /// Bytes of a client that isn't read are passed over.
-pub fn a_client_is_not_read<H: House>()
+pub fn a_client_is_not_read<H: Asks>()
     ensures { UnheardStays H.may }
 {}
 

@@ -30,21 +30,21 @@ pub fn drill<W: Wire, S: Sink>(
     out: &mut S,
     turns: u64,
 ) -> Result<Status, Ending>
-    ensures goes { DrillGoes words.now turns result (W.openings wire.old) (W.openings wire.new)
-        (W.seen wire.old).told (W.seen wire.new) (W.tally wire.new)
+    ensures goes { DrillGoes words.now turns result (W.state wire.old).openings (W.state wire.new).openings
+        (W.state wire.old).seen.told (W.state wire.new).seen (W.state wire.new).tally
         (S.told out.old) (S.told out.new) }
-    ensures joinings { W.joinings wire.new ≡ W.joinings wire.old }
-    ensures cause { WireCause (so_far result) (W.server_faults wire.old) (W.server_faults wire.new)
-        (W.client_faults wire.old) (W.client_faults wire.new) }
+    ensures joinings { (W.state wire.new).joinings ≡ (W.state wire.old).joinings }
+    ensures cause { WireCause (so_far result) (W.faults wire.old).server (W.faults wire.new).server
+        (W.faults wire.old).client (W.faults wire.new).client }
     ensures unwritten { OnFalse (may_write (so_far result)) (out.new ≡ out.old) }
     ensures out_cause { OutCause (so_far result) (S.faults out.old) (S.faults out.new) }
     ensures once { PutsOnce (so_far result) (S.puts out.old) (S.puts out.new) }
-    ensures calls { CallsEnd turns (so_far result) (W.calls wire.old) (W.calls wire.new) }
-    ensures came { CameFor false (so_far result) (W.calls wire.old) (W.calls wire.new) }
-    ensures waited { WaitsFor turns (so_far result) (W.calls wire.old) (W.calls wire.new) }
+    ensures calls { CallsEnd turns (so_far result) (W.state wire.old).calls (W.state wire.new).calls }
+    ensures came { CameFor false (so_far result) (W.state wire.old).calls (W.state wire.new).calls }
+    ensures waited { WaitsFor turns (so_far result) (W.state wire.old).calls (W.state wire.new).calls }
     ensures idle { turns ≡ 0 → IdleCause (so_far result)
-        (W.server_faults wire.old) (W.server_faults wire.new)
-        (W.client_faults wire.old) (W.client_faults wire.new) }
+        (W.faults wire.old).server (W.faults wire.new).server
+        (W.faults wire.old).client (W.faults wire.new).client }
 {
     serve_drill(alloc, words, wire, turns)?;
     let tally = wire.tally();
@@ -60,19 +60,19 @@ fn serve_drill<W: Wire>(
 ) -> Result<Status, Ending>
     ensures ends { EndsMaster result }
     ensures opened { OpensAt [] (drill_transport words.now) (so_far result)
-        (W.openings wire.old) (W.openings wire.new) }
+        (W.state wire.old).openings (W.state wire.new).openings }
     ensures served { Shares RefusesAll NoneRests AnyCalls AnyCalls any_policy 0 turns None None
-        (W.seen wire.old).told (W.seen wire.new) None result }
+        (W.state wire.old).seen.told (W.state wire.new).seen None result }
     ensures start { StartCause (so_far result) None }
-    ensures joinings { W.joinings wire.new ≡ W.joinings wire.old }
-    ensures cause { WireCause (so_far result) (W.server_faults wire.old) (W.server_faults wire.new)
-        (W.client_faults wire.old) (W.client_faults wire.new) }
-    ensures calls { CallsEnd turns (so_far result) (W.calls wire.old) (W.calls wire.new) }
-    ensures came { CameFor false (so_far result) (W.calls wire.old) (W.calls wire.new) }
-    ensures waited { WaitsFor turns (so_far result) (W.calls wire.old) (W.calls wire.new) }
+    ensures joinings { (W.state wire.new).joinings ≡ (W.state wire.old).joinings }
+    ensures cause { WireCause (so_far result) (W.faults wire.old).server (W.faults wire.new).server
+        (W.faults wire.old).client (W.faults wire.new).client }
+    ensures calls { CallsEnd turns (so_far result) (W.state wire.old).calls (W.state wire.new).calls }
+    ensures came { CameFor false (so_far result) (W.state wire.old).calls (W.state wire.new).calls }
+    ensures waited { WaitsFor turns (so_far result) (W.state wire.old).calls (W.state wire.new).calls }
     ensures idle { turns ≡ 0 → IdleCause (so_far result)
-        (W.server_faults wire.old) (W.server_faults wire.new)
-        (W.client_faults wire.old) (W.client_faults wire.new) }
+        (W.faults wire.old).server (W.faults wire.new).server
+        (W.faults wire.old).client (W.faults wire.new).client }
 {
     let transport = transport_of(alloc, words.as_slice())?;
     let none = Texts::new(alloc);

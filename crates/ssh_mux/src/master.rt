@@ -59,78 +59,78 @@ pub fn share<W: Wire, F: Files, R: Runner, H: House>(
 ) -> Result<Status, Ending>
     requires permitted { IsOk (read_policy opens.now listens.now) }
     requires fresh { H.fresh house.old }
-    ensures exact { Comes (of_command (machine (F.told files.old) (R.told runner.old) facts.now)
+    ensures exact { Comes (of_command (machine (F.state files.old).told (R.told runner.old) facts.now)
         (commands.Master asked.now transport.now opens.now listens.now)) result }
     ensures opened { OpensOnce
-        (of_command (machine (F.told files.old) (R.told runner.old) facts.now)
+        (of_command (machine (F.state files.old).told (R.told runner.old) facts.now)
         (commands.Master asked.now transport.now opens.now listens.now)) (so_far result)
-        (W.openings wire.old) (W.openings wire.new) }
-    ensures joinings { W.joinings wire.new ≡ W.joinings wire.old }
+        (W.state wire.old).openings (W.state wire.new).openings }
+    ensures joinings { (W.state wire.new).joinings ≡ (W.state wire.old).joinings }
     ensures served { OnTrue (may_share
-        (of_command (machine (F.told files.old) (R.told runner.old) facts.now)
+        (of_command (machine (F.state files.old).told (R.told runner.old) facts.now)
         (commands.Master asked.now transport.now opens.now listens.now)) (so_far result))
-        (Begun (told_over (machine (F.told files.old) (R.told runner.old) facts.now) asked.now)
+        (Begun (told_over (machine (F.state files.old).told (R.told runner.old) facts.now) asked.now)
         (λ starts. Shares H.may
-        (BegunRests H.told H.known H.quiet H.must H.refused H.stands (H.known house.old).present starts)
+        (BegunRests H.told H.known H.quiet H.must H.refused H.stands (H.state house.old).known.present starts)
         (BeganWith starts)
-        (H.stands house.new) (the_policy_of opens.now listens.now) (pid_of facts.now.pid) turns
-        (H.told house.old) (H.told house.new) (W.seen wire.old).told (W.seen wire.new)
-        (refused_if (H.known house.old).present (H.must house.new) (H.refused house.new))
+        (H.state house.new).stands (the_policy_of opens.now listens.now) (pid_of facts.now.pid) turns
+        (H.state house.old).told (H.state house.new).told (W.state wire.old).seen.told (W.state wire.new).seen
+        (refused_if (H.state house.old).known.present (H.state house.new).must (H.state house.new).refused)
         result)) }
     ensures start { OnTrue (may_share
-        (of_command (machine (F.told files.old) (R.told runner.old) facts.now)
+        (of_command (machine (F.state files.old).told (R.told runner.old) facts.now)
         (commands.Master asked.now transport.now opens.now listens.now)) (so_far result))
         (StartCause (so_far result)
-        (refused_if (H.known house.old).present (H.must house.new) (H.refused house.new))) }
-    ensures must { IsTrue (H.known house.old).present → OnTrue (may_share
-        (of_command (machine (F.told files.old) (R.told runner.old) facts.now)
+        (refused_if (H.state house.old).known.present (H.state house.new).must (H.state house.new).refused)) }
+    ensures must { IsTrue (H.state house.old).known.present → OnTrue (may_share
+        (of_command (machine (F.state files.old).told (R.told runner.old) facts.now)
         (commands.Master asked.now transport.now opens.now listens.now)) (so_far result))
         (MustsAs (so_far result)
-        (must_for (told_over (machine (F.told files.old) (R.told runner.old) facts.now) asked.now))
-        (H.must house.new)) }
+        (must_for (told_over (machine (F.state files.old).told (R.told runner.old) facts.now) asked.now))
+        (H.state house.new).must) }
     ensures wire_cause { OnTrue (may_share
-        (of_command (machine (F.told files.old) (R.told runner.old) facts.now)
+        (of_command (machine (F.state files.old).told (R.told runner.old) facts.now)
         (commands.Master asked.now transport.now opens.now listens.now)) (so_far result))
-        (WireCause (so_far result) (W.server_faults wire.old) (W.server_faults wire.new)
-        (W.client_faults wire.old) (W.client_faults wire.new)) }
-    ensures calls { CallsEnd turns (so_far result) (W.calls wire.old) (W.calls wire.new) }
+        (WireCause (so_far result) (W.faults wire.old).server (W.faults wire.new).server
+        (W.faults wire.old).client (W.faults wire.new).client) }
+    ensures calls { CallsEnd turns (so_far result) (W.state wire.old).calls (W.state wire.new).calls }
     ensures came { OnTrue (may_share
-        (of_command (machine (F.told files.old) (R.told runner.old) facts.now)
+        (of_command (machine (F.state files.old).told (R.told runner.old) facts.now)
         (commands.Master asked.now transport.now opens.now listens.now)) (so_far result))
-        (CameFor (serves_house (H.known house.old).present
-        (of_command (machine (F.told files.old) (R.told runner.old) facts.now)
+        (CameFor (serves_house (H.state house.old).known.present
+        (of_command (machine (F.state files.old).told (R.told runner.old) facts.now)
         (commands.Master asked.now transport.now opens.now listens.now))) (so_far result)
-        (W.calls wire.old) (W.calls wire.new)) }
-    ensures waited { OnFalse (serves_house (H.known house.old).present
-        (of_command (machine (F.told files.old) (R.told runner.old) facts.now)
+        (W.state wire.old).calls (W.state wire.new).calls) }
+    ensures waited { OnFalse (serves_house (H.state house.old).known.present
+        (of_command (machine (F.state files.old).told (R.told runner.old) facts.now)
         (commands.Master asked.now transport.now opens.now listens.now)))
         (OnTrue (may_share
-        (of_command (machine (F.told files.old) (R.told runner.old) facts.now)
+        (of_command (machine (F.state files.old).told (R.told runner.old) facts.now)
         (commands.Master asked.now transport.now opens.now listens.now)) (so_far result))
-        (WaitsFor turns (so_far result) (W.calls wire.old) (W.calls wire.new))) }
-    ensures idle { turns ≡ 0 → OnFalse (serves_house (H.known house.old).present
-        (of_command (machine (F.told files.old) (R.told runner.old) facts.now)
+        (WaitsFor turns (so_far result) (W.state wire.old).calls (W.state wire.new).calls)) }
+    ensures idle { turns ≡ 0 → OnFalse (serves_house (H.state house.old).known.present
+        (of_command (machine (F.state files.old).told (R.told runner.old) facts.now)
         (commands.Master asked.now transport.now opens.now listens.now)))
-        (IdleCause (so_far result) (W.server_faults wire.old) (W.server_faults wire.new)
-        (W.client_faults wire.old) (W.client_faults wire.new)) }
+        (IdleCause (so_far result) (W.faults wire.old).server (W.faults wire.new).server
+        (W.faults wire.old).client (W.faults wire.new).client) }
     ensures wire { OnFalse (may_share
-        (of_command (machine (F.told files.old) (R.told runner.old) facts.now)
+        (of_command (machine (F.state files.old).told (R.told runner.old) facts.now)
         (commands.Master asked.now transport.now opens.now listens.now)) (so_far result))
         (wire.new ≡ wire.old) }
     ensures house { OnFalse (may_share
-        (of_command (machine (F.told files.old) (R.told runner.old) facts.now)
+        (of_command (machine (F.state files.old).told (R.told runner.old) facts.now)
         (commands.Master asked.now transport.now opens.now listens.now)) (so_far result))
         (house.new ≡ house.old) }
     ensures ran { RunsFor
-        (commands_of (machine (F.told files.old) (R.told runner.old) facts.now)
+        (commands_of (machine (F.state files.old).told (R.told runner.old) facts.now)
         (commands.Master asked.now transport.now opens.now listens.now)) (so_far result)
         (R.ran runner.old) (R.ran runner.new) }
     ensures place { Placed
-        (told_over (machine (F.told files.old) (R.told runner.old) facts.now) asked.now)
+        (told_over (machine (F.state files.old).told (R.told runner.old) facts.now) asked.now)
         result (R.ran runner.old) (R.ran runner.new)
         (F.failed files.old) (F.failed files.new) }
     ensures read { ReadsFor
-        (told_over (machine (F.told files.old) (R.told runner.old) facts.now) asked.now)
+        (told_over (machine (F.state files.old).told (R.told runner.old) facts.now) asked.now)
         (so_far result) (F.readings files.old) (F.readings files.new) }
     ensures cause { Caused result (F.faults files.old) (F.faults files.new)
         (R.faults runner.old) (R.faults runner.new) }
@@ -153,28 +153,28 @@ fn found_of<F: Files, R: Runner>(
     ensures exact { (transport : Bytes) (opens listens : List Bytes) →
         Finds (λ found. opens_at transport opens listens found.control)
         (Master transport opens listens)
-        (of_command (machine (F.told files.old) (R.told runner.old) facts.now)
+        (of_command (machine (F.state files.old).told (R.told runner.old) facts.now)
         (commands.Master asked.now transport opens listens)) result }
     ensures ran { (transport : Bytes) (opens listens : List Bytes) →
-        RunsUnless (commands_of (machine (F.told files.old) (R.told runner.old) facts.now)
+        RunsUnless (commands_of (machine (F.state files.old).told (R.told runner.old) facts.now)
         (commands.Master asked.now transport opens listens)) result
         (R.ran runner.old) (R.ran runner.new) }
     ensures client { (what : Control) →
         Finds (λ found. joins_at asked.now what found.control) (Client asked.now what)
-        (of_command (machine (F.told files.old) (R.told runner.old) facts.now)
+        (of_command (machine (F.state files.old).told (R.told runner.old) facts.now)
         (commands.Control asked.now what)) result }
     ensures client_ran { (what : Control) → RunsUnless
-        (commands_of (machine (F.told files.old) (R.told runner.old) facts.now)
+        (commands_of (machine (F.state files.old).told (R.told runner.old) facts.now)
         (commands.Control asked.now what)) result (R.ran runner.old) (R.ran runner.new) }
     ensures place { Placed
-        (told_over (machine (F.told files.old) (R.told runner.old) facts.now) asked.now)
+        (told_over (machine (F.state files.old).told (R.told runner.old) facts.now) asked.now)
         result (R.ran runner.old) (R.ran runner.new)
         (F.failed files.old) (F.failed files.new) }
     ensures read { ReadsUnless
-        (told_over (machine (F.told files.old) (R.told runner.old) facts.now) asked.now)
+        (told_over (machine (F.state files.old).told (R.told runner.old) facts.now) asked.now)
         result (F.readings files.old) (F.readings files.new) }
     ensures settled { IfOk result (λ found. SettledFor
-        (told_over (machine (F.told files.old) (R.told runner.old) facts.now) asked.now)
+        (told_over (machine (F.state files.old).told (R.told runner.old) facts.now) asked.now)
         found.settings) }
     ensures cause { Caused result (F.faults files.old) (F.faults files.new)
         (R.faults runner.old) (R.faults runner.new) }
@@ -197,24 +197,24 @@ pub fn control_of<F: Files, R: Runner>(
 ) -> Result<Text, Ending>
     ensures exact { (transport : Bytes) (opens listens : List Bytes) →
         Finds (opens_at transport opens listens) (Master transport opens listens)
-        (of_command (machine (F.told files.old) (R.told runner.old) facts.now)
+        (of_command (machine (F.state files.old).told (R.told runner.old) facts.now)
         (commands.Master asked.now transport opens listens)) result }
     ensures ran { (transport : Bytes) (opens listens : List Bytes) →
-        RunsUnless (commands_of (machine (F.told files.old) (R.told runner.old) facts.now)
+        RunsUnless (commands_of (machine (F.state files.old).told (R.told runner.old) facts.now)
         (commands.Master asked.now transport opens listens)) result
         (R.ran runner.old) (R.ran runner.new) }
     ensures client { (what : Control) → Finds (joins_at asked.now what) (Client asked.now what)
-        (of_command (machine (F.told files.old) (R.told runner.old) facts.now)
+        (of_command (machine (F.state files.old).told (R.told runner.old) facts.now)
         (commands.Control asked.now what)) result }
     ensures client_ran { (what : Control) → RunsUnless
-        (commands_of (machine (F.told files.old) (R.told runner.old) facts.now)
+        (commands_of (machine (F.state files.old).told (R.told runner.old) facts.now)
         (commands.Control asked.now what)) result (R.ran runner.old) (R.ran runner.new) }
     ensures place { Placed
-        (told_over (machine (F.told files.old) (R.told runner.old) facts.now) asked.now)
+        (told_over (machine (F.state files.old).told (R.told runner.old) facts.now) asked.now)
         result (R.ran runner.old) (R.ran runner.new)
         (F.failed files.old) (F.failed files.new) }
     ensures read { ReadsUnless
-        (told_over (machine (F.told files.old) (R.told runner.old) facts.now) asked.now)
+        (told_over (machine (F.state files.old).told (R.told runner.old) facts.now) asked.now)
         result (F.readings files.old) (F.readings files.new) }
     ensures cause { Caused result (F.faults files.old) (F.faults files.new)
         (R.faults runner.old) (R.faults runner.new) }
@@ -240,11 +240,11 @@ pub fn policy_of(alloc: Global, opens: &Texts, listens: &Texts) -> Result<Policy
 fn begin<H: House>(alloc: Global, settings: &Settings, house: &mut H) -> Result<(), Ending>
     requires fresh { H.fresh house.old }
     ensures begun { OnOk result (H.begun house.new) }
-    ensures known { OnOk result (H.known house.new ≡ H.known house.old) }
-    ensures must { OnOk result (IsTrue (H.known house.old).present
-        → H.must house.new ≡ (starts_for settings.now).must) }
-    ensures told { H.told house.new ≡ H.told house.old }
-    ensures stands { OnOk result (H.stands house.new (Begins (starts_for settings.now) ∷ [])) }
+    ensures known { OnOk result ((H.state house.new).known ≡ (H.state house.old).known) }
+    ensures must { OnOk result (IsTrue (H.state house.old).known.present
+        → (H.state house.new).must ≡ (starts_for settings.now).must) }
+    ensures told { (H.state house.new).told ≡ (H.state house.old).told }
+    ensures stands { OnOk result ((H.state house.new).stands (Begins (starts_for settings.now) ∷ [])) }
     ensures err { OnlyStarves result }
 {
     // A house that was never called says by this that it stands for no call.
@@ -268,28 +268,28 @@ fn begin_and_serve<W: Wire, H: House>(
     requires fresh { H.fresh house.old }
     ensures ends { EndsMaster result }
     ensures opened { OpensAt found.now.control transport.now (so_far result)
-        (W.openings wire.old) (W.openings wire.new) }
-    ensures joinings { W.joinings wire.new ≡ W.joinings wire.old }
+        (W.state wire.old).openings (W.state wire.new).openings }
+    ensures joinings { (W.state wire.new).joinings ≡ (W.state wire.old).joinings }
     ensures served { Shares H.may
-        (BegunRests H.told H.known H.quiet H.must H.refused H.stands (H.known house.old).present
+        (BegunRests H.told H.known H.quiet H.must H.refused H.stands (H.state house.old).known.present
         (starts_for found.now.settings)) (BeganWith (starts_for found.now.settings))
-        (H.stands house.new) policy pid turns (H.told house.old) (H.told house.new)
-        (W.seen wire.old).told (W.seen wire.new)
-        (refused_if (H.known house.old).present (H.must house.new) (H.refused house.new)) result }
+        (H.state house.new).stands policy pid turns (H.state house.old).told (H.state house.new).told
+        (W.state wire.old).seen.told (W.state wire.new).seen
+        (refused_if (H.state house.old).known.present (H.state house.new).must (H.state house.new).refused) result }
     ensures start { StartCause (so_far result)
-        (refused_if (H.known house.old).present (H.must house.new) (H.refused house.new)) }
-    ensures must { IsTrue (H.known house.old).present → MustsAs (so_far result)
-        (Some (starts_for found.now.settings).must) (H.must house.new) }
-    ensures cause { WireCause (so_far result) (W.server_faults wire.old) (W.server_faults wire.new)
-        (W.client_faults wire.old) (W.client_faults wire.new) }
-    ensures calls { CallsEnd turns (so_far result) (W.calls wire.old) (W.calls wire.new) }
-    ensures came { CameFor (H.known house.old).present (so_far result) (W.calls wire.old)
-        (W.calls wire.new) }
-    ensures waited { OnFalse (H.known house.old).present
-        (WaitsFor turns (so_far result) (W.calls wire.old) (W.calls wire.new)) }
-    ensures idle { turns ≡ 0 → OnFalse (H.known house.old).present (IdleCause (so_far result)
-        (W.server_faults wire.old) (W.server_faults wire.new)
-        (W.client_faults wire.old) (W.client_faults wire.new)) }
+        (refused_if (H.state house.old).known.present (H.state house.new).must (H.state house.new).refused) }
+    ensures must { IsTrue (H.state house.old).known.present → MustsAs (so_far result)
+        (Some (starts_for found.now.settings).must) (H.state house.new).must }
+    ensures cause { WireCause (so_far result) (W.faults wire.old).server (W.faults wire.new).server
+        (W.faults wire.old).client (W.faults wire.new).client }
+    ensures calls { CallsEnd turns (so_far result) (W.state wire.old).calls (W.state wire.new).calls }
+    ensures came { CameFor (H.state house.old).known.present (so_far result) (W.state wire.old).calls
+        (W.state wire.new).calls }
+    ensures waited { OnFalse (H.state house.old).known.present
+        (WaitsFor turns (so_far result) (W.state wire.old).calls (W.state wire.new).calls) }
+    ensures idle { turns ≡ 0 → OnFalse (H.state house.old).known.present (IdleCause (so_far result)
+        (W.faults wire.old).server (W.faults wire.new).server
+        (W.faults wire.old).client (W.faults wire.new).client) }
 {
     begin(alloc, &found.settings, house)?;
     open_and_serve(
@@ -318,26 +318,26 @@ pub fn open_and_serve<W: Wire, H: House>(
     requires begun { H.begun house.old }
     ensures ends { EndsMaster result }
     ensures opened { OpensAt control.now transport.now (so_far result)
-        (W.openings wire.old) (W.openings wire.new) }
-    ensures joinings { W.joinings wire.new ≡ W.joinings wire.old }
+        (W.state wire.old).openings (W.state wire.new).openings }
+    ensures joinings { (W.state wire.new).joinings ≡ (W.state wire.old).joinings }
     ensures served { Shares H.may
-        (RestsOf H.told H.known H.quiet H.must H.refused H.stands (H.known house.old).present house.old)
-        (H.stands house.old) (H.stands house.new) policy pid turns (H.told house.old)
-        (H.told house.new) (W.seen wire.old).told (W.seen wire.new)
-        (refused_if (H.known house.old).present (H.must house.new) (H.refused house.new)) result }
+        (RestsOf H.state (H.state house.old).known.present house.old)
+        (H.state house.old).stands (H.state house.new).stands policy pid turns (H.state house.old).told
+        (H.state house.new).told (W.state wire.old).seen.told (W.state wire.new).seen
+        (refused_if (H.state house.old).known.present (H.state house.new).must (H.state house.new).refused) result }
     ensures start { StartCause (so_far result)
-        (refused_if (H.known house.old).present (H.must house.new) (H.refused house.new)) }
-    ensures must { H.must house.new ≡ H.must house.old }
-    ensures cause { WireCause (so_far result) (W.server_faults wire.old) (W.server_faults wire.new)
-        (W.client_faults wire.old) (W.client_faults wire.new) }
-    ensures calls { CallsEnd turns (so_far result) (W.calls wire.old) (W.calls wire.new) }
-    ensures came { CameFor (H.known house.old).present (so_far result) (W.calls wire.old)
-        (W.calls wire.new) }
-    ensures waited { OnFalse (H.known house.old).present
-        (WaitsFor turns (so_far result) (W.calls wire.old) (W.calls wire.new)) }
-    ensures idle { turns ≡ 0 → OnFalse (H.known house.old).present (IdleCause (so_far result)
-        (W.server_faults wire.old) (W.server_faults wire.new)
-        (W.client_faults wire.old) (W.client_faults wire.new)) }
+        (refused_if (H.state house.old).known.present (H.state house.new).must (H.state house.new).refused) }
+    ensures must { (H.state house.new).must ≡ (H.state house.old).must }
+    ensures cause { WireCause (so_far result) (W.faults wire.old).server (W.faults wire.new).server
+        (W.faults wire.old).client (W.faults wire.new).client }
+    ensures calls { CallsEnd turns (so_far result) (W.state wire.old).calls (W.state wire.new).calls }
+    ensures came { CameFor (H.state house.old).known.present (so_far result) (W.state wire.old).calls
+        (W.state wire.new).calls }
+    ensures waited { OnFalse (H.state house.old).known.present
+        (WaitsFor turns (so_far result) (W.state wire.old).calls (W.state wire.new).calls) }
+    ensures idle { turns ≡ 0 → OnFalse (H.state house.old).known.present (IdleCause (so_far result)
+        (W.faults wire.old).server (W.faults wire.new).server
+        (W.faults wire.old).client (W.faults wire.new).client) }
 {
     // A house that has only begun says by this that nothing is known of it.
     let _blank = house.present();

@@ -13,20 +13,20 @@ use Rattle.mux_client.proofs.talking.converse.Goals as goal
 
 pub returns-in_err-client-clause-talks : goal.returns-in_err-client-clause-talks
 returns-in_err-client-clause-talks g c =
-    let told = (g.W.Wire.seen c.args.wire.now).told in
+    let told = (g.W.Wire.state c.args.wire.now).seen.told in
     let out = g.S.Sink.told c.args.out.now in
     handed-as c.from_residual.result OutOfMemory (λ answer. WholeTalk c.args.asks.now answer told told out out c.args.out.now c.args.out.now) c.from_residual.ensures.1
     (last-none out c.args.out.now (λ shown due. IsTalk c.args.asks.now OutOfMemory told told shown due) (starts-starved c.args.asks.now told))
 
 pub returns-in_err-piece-clause-talks : goal.returns-in_err-piece-clause-talks
 returns-in_err-piece-clause-talks g c =
-    let told = (g.W.Wire.seen c.args.wire.now).told in
+    let told = (g.W.Wire.state c.args.wire.now).seen.told in
     let out = g.S.Sink.told c.args.out.now in
     handed-as c.from_residual-in_err-piece.result OutOfMemory (λ answer. WholeTalk c.args.asks.now answer told told out out c.args.out.now c.args.out.now) c.from_residual-in_err-piece.ensures.1
     (last-none out c.args.out.now (λ shown due. IsTalk c.args.asks.now OutOfMemory told told shown due) (starts-starved c.args.asks.now told))
 
 pub loop-init : goal.loop-init
-loop-init g c = let told = (g.W.Wire.seen c.args.wire.now).told in record {
+loop-init g c = let told = (g.W.Wire.state c.args.wire.now).seen.told in record {
   talking = shows-none (g.S.Sink.told c.args.out.now) c.args.out.now (λ shown. Talking c.args.asks.now told told c.new-held.result shown c.in_ok-client.client)
       (subst (λ (h : List ℕ). Talking c.args.asks.now told told h [] c.in_ok-client.client) (sym c.new-held.ensures)
       (subst (Talking c.args.asks.now told told [] []) (sym c.in_ok-client.ensures.new) (talk-starts c.args.asks.now told)));
@@ -36,7 +36,7 @@ loop-init g c = let told = (g.W.Wire.seen c.args.wire.now).told in record {
   first = λ z. ap (λ (s : ClientState). s.stage) c.in_ok-client.ensures.new;
   heard = inl (ap (λ (s : ClientState). s.stage) c.in_ok-client.ensures.new);
   none_accepted = record { streams = refl; listens = refl; last = refl; listeners = refl; own = refl };
-  calls = well-none (g.W.Wire.calls c.args.wire.now);
+  calls = well-none (g.W.Wire.state c.args.wire.now).calls;
   cause = record { same_server = refl; same_client = refl };
   sink = refl;
   openings = refl;
@@ -45,23 +45,23 @@ loop-init g c = let told = (g.W.Wire.seen c.args.wire.now).told in record {
 
 pub returns-in_err-decided-clause-talks : goal.returns-in_err-decided-clause-talks
 returns-in_err-decided-clause-talks g c =
-    let told = (g.W.Wire.seen c.args.wire.now).told in
+    let told = (g.W.Wire.state c.args.wire.now).seen.told in
     let f = c.loop.invariant.talking in
     handed-as c.from_residual-in_err-decided.result c.in_err-decided.field-0.0
-    (λ answer. WholeTalk c.args.asks.now answer told (g.W.Wire.seen c.offer.new.wire).told (g.S.Sink.told c.args.out.now) (g.S.Sink.told c.loop.out) c.args.out.now c.loop.out) c.from_residual-in_err-decided.ensures.1
+    (λ answer. WholeTalk c.args.asks.now answer told (g.W.Wire.state c.offer.new.wire).seen.told (g.S.Sink.told c.args.out.now) (g.S.Sink.told c.loop.out) c.args.out.now c.loop.out) c.from_residual-in_err-decided.ensures.1
     (last-here f (talk-decided (c.in_ok-offer.ensures.talking c.args.asks.now told f.more f.holds) c.in_ok-offer.ensures.settled c.in_err-decided.field-0.0 c.in_err-decided.ensures))
 
 pub returns-in_err-turn-clause-talks : goal.returns-in_err-turn-clause-talks
 returns-in_err-turn-clause-talks g c =
-    let told = (g.W.Wire.seen c.args.wire.now).told in
+    let told = (g.W.Wire.state c.args.wire.now).seen.told in
     let f = c.loop.invariant.talking in
     handed-as c.from_residual-in_err-turn.result c.in_err-turn.field-0.0
-    (λ answer. WholeTalk c.args.asks.now answer told (g.W.Wire.seen c.turn.new.wire).told (g.S.Sink.told c.args.out.now) (g.S.Sink.told c.turn.new.out) c.args.out.now c.turn.new.out) c.from_residual-in_err-turn.ensures.1
+    (λ answer. WholeTalk c.args.asks.now answer told (g.W.Wire.state c.turn.new.wire).seen.told (g.S.Sink.told c.args.out.now) (g.S.Sink.told c.turn.new.out) c.args.out.now c.turn.new.out) c.from_residual-in_err-turn.ensures.1
     (last-then f (c.in_err-turn.ensures.talking told f.more (c.in_ok-offer.ensures.talking c.args.asks.now told f.more f.holds)))
 
 pub loop-preserved : goal.loop-preserved
 loop-preserved g c =
-    let told = (g.W.Wire.seen c.args.wire.now).told in
+    let told = (g.W.Wire.state c.args.wire.now).seen.told in
     let i = c.loop.invariant in
     let o = c.in_ok-offer.ensures in
     let t = c.in_ok-turn.ensures in record {
@@ -71,9 +71,9 @@ loop-preserved g c =
       held = t.held;
       first = λ z. absurd (let w : c.loop.counter + 1 ≡ 0 = z in omega arith);
       none_accepted = accepts-then (accepts-then i.none_accepted c.offer.ensures.none_accepted) c.turn.ensures.none_accepted;
-      heard = heard-then c.loop.counter 1 Greets c.offer.new.client.stage c.turn.new.client.stage (g.W.Wire.calls c.args.wire.now) (g.W.Wire.calls c.offer.new.wire) (g.W.Wire.calls c.turn.new.wire)
+      heard = heard-then c.loop.counter 1 Greets c.offer.new.client.stage c.turn.new.client.stage (g.W.Wire.state c.args.wire.now).calls (g.W.Wire.state c.offer.new.wire).calls (g.W.Wire.state c.turn.new.wire).calls
           (well-on c.loop.counter 0 c.loop.counter _ _ _ (omega arith) i.calls o.calls)
-          (heard-offered 0 Greets c.loop.client.stage c.offer.new.client.stage (g.W.Wire.calls c.args.wire.now) (g.W.Wire.calls c.loop.wire) (g.W.Wire.calls c.offer.new.wire) o.stage i.heard o.calls) t.calls t.heard;
+          (heard-offered 0 Greets c.loop.client.stage c.offer.new.client.stage (g.W.Wire.state c.args.wire.now).calls (g.W.Wire.state c.loop.wire).calls (g.W.Wire.state c.offer.new.wire).calls o.stage i.heard o.calls) t.calls t.heard;
       calls = well-on c.loop.counter 1 (c.loop.counter + 1) _ _ _ (omega arith) (well-on c.loop.counter 0 c.loop.counter _ _ _ (omega arith) i.calls o.calls) t.calls;
       cause = same-then (same-then i.cause o.cause) t.cause;
       sink = t.sink ∙ i.sink;
@@ -83,7 +83,7 @@ loop-preserved g c =
 
 pub returns-clause-talks : goal.returns-clause-talks
 returns-clause-talks g c =
-    let told = (g.W.Wire.seen c.args.wire.now).told in
+    let told = (g.W.Wire.state c.args.wire.now).seen.told in
     let f = c.loop.invariant.talking in
     last-here f (decided-talk (c.in_ok-offer-2.ensures.talking c.args.asks.now told f.more f.holds) c.in_ok-offer-2.ensures.settled c.in_ok-offer-2.ensures.offered c.decided-2.result c.decided-2.ensures)
 
@@ -91,17 +91,17 @@ returns-clause-talks g c =
 
 pub returns-in_err-decided-clause-answered : goal.returns-in_err-decided-clause-answered
 returns-in_err-decided-clause-answered g c = let W = g.W.Wire in
-    handed-as c.from_residual-in_err-decided.result c.in_err-decided.field-0.0 (λ answer. AnsweredBy answer (W.calls c.args.wire.now) (W.calls c.offer.new.wire)) c.from_residual-in_err-decided.ensures.1
-    (decided-answered c.offer.new.client (Err c.in_err-decided.field-0.0) (W.calls c.args.wire.now) (W.calls c.offer.new.wire) c.in_err-decided.ensures
-    (heard-offered 0 Greets c.loop.client.stage c.offer.new.client.stage (W.calls c.args.wire.now) (W.calls c.loop.wire) (W.calls c.offer.new.wire) c.in_ok-offer.ensures.stage c.loop.invariant.heard c.in_ok-offer.ensures.calls))
+    handed-as c.from_residual-in_err-decided.result c.in_err-decided.field-0.0 (λ answer. AnsweredBy answer (W.state c.args.wire.now).calls (W.state c.offer.new.wire).calls) c.from_residual-in_err-decided.ensures.1
+    (decided-answered c.offer.new.client (Err c.in_err-decided.field-0.0) (W.state c.args.wire.now).calls (W.state c.offer.new.wire).calls c.in_err-decided.ensures
+    (heard-offered 0 Greets c.loop.client.stage c.offer.new.client.stage (W.state c.args.wire.now).calls (W.state c.loop.wire).calls (W.state c.offer.new.wire).calls c.in_ok-offer.ensures.stage c.loop.invariant.heard c.in_ok-offer.ensures.calls))
 
 pub returns-in_err-turn-clause-answered : goal.returns-in_err-turn-clause-answered
 returns-in_err-turn-clause-answered g c = let W = g.W.Wire in
-    handed-as c.from_residual-in_err-turn.result c.in_err-turn.field-0.0 (λ answer. AnsweredBy answer (W.calls c.args.wire.now) (W.calls c.turn.new.wire)) c.from_residual-in_err-turn.ensures.1
-    (answered-later c.loop.counter c.in_err-turn.field-0.0 (W.calls c.args.wire.now) (W.calls c.offer.new.wire) (W.calls c.turn.new.wire)
+    handed-as c.from_residual-in_err-turn.result c.in_err-turn.field-0.0 (λ answer. AnsweredBy answer (W.state c.args.wire.now).calls (W.state c.turn.new.wire).calls) c.from_residual-in_err-turn.ensures.1
+    (answered-later c.loop.counter c.in_err-turn.field-0.0 (W.state c.args.wire.now).calls (W.state c.offer.new.wire).calls (W.state c.turn.new.wire).calls
     (well-on c.loop.counter 0 c.loop.counter _ _ _ (omega arith) c.loop.invariant.calls c.in_ok-offer.ensures.calls) c.in_err-turn.ensures.answered)
 
 pub returns-clause-answered : goal.returns-clause-answered
 returns-clause-answered g c = let W = g.W.Wire in
-    decided-answered c.offer-2.new.client c.decided-2.result (W.calls c.args.wire.now) (W.calls c.offer-2.new.wire) c.decided-2.ensures
-    (heard-offered 0 Greets c.loop.client.stage c.offer-2.new.client.stage (W.calls c.args.wire.now) (W.calls c.loop.wire) (W.calls c.offer-2.new.wire) c.in_ok-offer-2.ensures.stage c.loop.invariant.heard c.in_ok-offer-2.ensures.calls)
+    decided-answered c.offer-2.new.client c.decided-2.result (W.state c.args.wire.now).calls (W.state c.offer-2.new.wire).calls c.decided-2.ensures
+    (heard-offered 0 Greets c.loop.client.stage c.offer-2.new.client.stage (W.state c.args.wire.now).calls (W.state c.loop.wire).calls (W.state c.offer-2.new.wire).calls c.in_ok-offer-2.ensures.stage c.loop.invariant.heard c.in_ok-offer-2.ensures.calls)

@@ -9,16 +9,16 @@ use Rattle.mux_client.proofs.talking.offer.Given as goal
 
 abbrev pub invariant-loop : goal.invariant-loop
 invariant-loop g l = let W = g.W.Wire in record {
-  talking : (asks : Asks) (start : Option (List Mark)) (shown : List ℕ) → Talking asks start (W.seen l.fn.wire).told l.fn.held shown l.fn.client → Talking asks start (W.seen l.wire).told l.held shown l.client;
+  talking : (asks : Asks) (start : Option (List Mark)) (shown : List ℕ) → Talking asks start (W.state l.fn.wire).seen.told l.fn.held shown l.fn.client → Talking asks start (W.state l.wire).seen.told l.held shown l.client;
   settled : IsSettled l.client;
-  blocked : (W.seen l.wire).blocked ≡ [];
+  blocked : (W.state l.wire).seen.blocked ≡ [];
   held : l.held ≡ [];
   stage : l.client.stage ≡ l.fn.client.stage;
-  none_accepted : AcceptsNone (W.seen l.fn.wire) (W.seen l.wire);
-  calls : Well 0 (W.calls l.fn.wire) (W.calls l.wire);
-  cause : SameFaults (W.server_faults l.fn.wire) (W.server_faults l.wire) (W.client_faults l.fn.wire) (W.client_faults l.wire);
-  openings : W.openings l.wire ≡ W.openings l.fn.wire;
-  joinings : W.joinings l.wire ≡ W.joinings l.fn.wire;
+  none_accepted : AcceptsNone (W.state l.fn.wire).seen (W.state l.wire).seen;
+  calls : Well 0 (W.state l.fn.wire).calls (W.state l.wire).calls;
+  cause : SameFaults (W.faults l.fn.wire).server (W.faults l.wire).server (W.faults l.fn.wire).client (W.faults l.wire).client;
+  openings : (W.state l.wire).openings ≡ (W.state l.fn.wire).openings;
+  joinings : (W.state l.wire).joinings ≡ (W.state l.fn.wire).joinings;
 }
 
 abbrev pub decreases-loop : goal.decreases-loop

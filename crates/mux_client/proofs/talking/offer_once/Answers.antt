@@ -20,15 +20,15 @@ returns-in_err-push-in-Later-clause-talking g c asks start shown v =
 pub returns-in-Took-clause-talking : goal.returns-in-Took-clause-talking
 returns-in-Took-clause-talking g c asks start shown v =
     let s : ClientState = c.args.client.now in
-    let told : Option (List Mark) = (g.W.Wire.seen c.args.wire.now).told in
-    subst (λ k. Talking asks start (g.W.Wire.seen c.write.new.self).told c.args.held.now shown k) (sym c.took.ensures.exact)
+    let told : Option (List Mark) = (g.W.Wire.state c.args.wire.now).seen.told in
+    subst (λ k. Talking asks start (g.W.Wire.state c.write.new.self).seen.told c.args.held.now shown k) (sym c.took.ensures.exact)
     (subst (λ (x : Seen). Talking asks start x.told c.args.held.now shown (without_sent c.in-Took.n s)) (sym c.in-Took.ensures.seen)
     (subst (λ (q : List ℕ). Talking asks start (option_map (λ l. l ++ Takes 0 (take c.in-Took.n q) ∷ []) told) c.args.held.now shown (without_sent c.in-Took.n s)) (sym c.front-bytes.ensures)
     (talk-takes c.in-Took.n v)))
 
 pub returns-in_ok-push-in-Later-clause-talking : goal.returns-in_ok-push-in-Later-clause-talking
 returns-in_ok-push-in-Later-clause-talking g c asks start shown v =
-    subst (λ (h : List ℕ). Talking asks start (g.W.Wire.seen c.write.new.self).told h shown c.args.client.now) (sym (c.in_ok-push-in-Later.ensures.ok ∙ ap (λ h. h ++ 0 ∷ []) c.requires.held))
+    subst (λ (h : List ℕ). Talking asks start (g.W.Wire.state c.write.new.self).seen.told h shown c.args.client.now) (sym (c.in_ok-push-in-Later.ensures.ok ∙ ap (λ h. h ++ 0 ∷ []) c.requires.held))
     (subst (λ (x : Seen). Talking asks start x.told (0 ∷ []) shown c.args.client.now) (sym c.in-Later.ensures.seen) (talk-holds v))
 
 pub returns-in-Failed-clause-talking : goal.returns-in-Failed-clause-talking
@@ -38,5 +38,5 @@ returns-in-Failed-clause-talking g c asks start shown v =
 pub returns-in-NoMemory-clause-talking : goal.returns-in-NoMemory-clause-talking
 returns-in-NoMemory-clause-talking g c asks start shown v =
     subst (λ (x : Seen). IsTalk asks OutOfMemory start x.told shown shown) (sym c.in-NoMemory.ensures.seen)
-    (subst (λ t. IsTalk asks OutOfMemory start t shown shown) (sym (told-none (g.W.Wire.seen c.args.wire.now).told))
+    (subst (λ t. IsTalk asks OutOfMemory start t shown shown) (sym (told-none (g.W.Wire.state c.args.wire.now).seen.told))
     (talk-starved v shown [] (sym (append-nil shown))))

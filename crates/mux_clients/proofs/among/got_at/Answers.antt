@@ -11,7 +11,7 @@ use Rattle.mux_clients.proofs.among.got_at.Goals as goal
 
 pub returns-then-i-clients-clause-hears : goal.returns-then-i-clients-clause-hears
 returns-then-i-clients-clause-hears g c = if-ok c.hear.result
-    (λ (heard : Heard) hears here. set-changes c.args.number c.index_of-i.result (HearsIn g.H.House.may (Some c.args.asks.now) (Some c.hear.new.asks) c.args.pid c.args.bytes.now c.args.core.now c.hear.new.core c.args.up.now c.hear.new.up heard) c.index-clients-i.result c.hear.new.self c.args.clients.now
+    (λ (heard : Heard) hears here. set-changes c.args.number c.index_of-i.result (HearsIn g.H.Asks.may (Some c.args.asks.now) (Some c.hear.new.asks) c.args.pid c.args.bytes.now c.args.core.now c.hear.new.core c.args.up.now c.hear.new.up heard) c.index-clients-i.result c.hear.new.self c.args.clients.now
     c.index_of-i.ensures c.if-i-clients.true hears)
     c.hear.ensures.hears
 
@@ -41,5 +41,5 @@ returns-then-i-clients-clause-room g c = on-ok c.hear.result (room-set c.index_o
 
 pub returns-then-i-clients-clause-cut : goal.returns-then-i-clients-clause-cut
 returns-then-i-clients-clause-cut g c = err-then c.hear.result
-    (one-is c.args.number c.index_of-i.result (HearsSome g.H.House.may (g.H.House.told c.args.house.now) (g.H.House.told c.hear.new.house) c.args.pid c.args.bytes.now c.args.core.now c.args.up.now) c.index-clients-i.result c.args.clients.now c.index_of-i.ensures c.if-i-clients.true)
+    (one-is c.args.number c.index_of-i.result (HearsSome g.H.Asks.may (g.H.Asks.state c.args.house.now).told (g.H.Asks.state c.hear.new.house).told c.args.pid c.args.bytes.now c.args.core.now c.args.up.now) c.index-clients-i.result c.args.clients.now c.index_of-i.ensures c.if-i-clients.true)
     c.hear.ensures.cut

@@ -6,9 +6,9 @@ use Rattle.mux_engine.proofs.asking.heed.Goals as goal
 pub returns-in_err-note-clause-heeded : goal.returns-in_err-note-clause-heeded
 returns-in_err-note-clause-heeded g c =
     let o = c.in_ok-went.ensures in
-    heeded-some c.from_residual-in_err-note.result c.args.e c.args.engine.now c.event.new.self c.event.new.asks _ _ _ _ (g.W.Wire.seen c.args.wire.now) (g.W.Wire.seen c.note.new.self) c.loop-mark.mark-index c.from_residual-in_err-note.ensures.0
-    (heeds-so c.args.e c.args.engine.now c.event.new.self c.clear.new.self c.event.new.asks _ _ _ _ (g.W.Wire.seen c.args.wire.now) (g.W.Wire.seen c.note.new.self) c.loop-mark.mark-index c.clear.ensures o.stands o.heeds o.keeps o.ends
-    (c.in_err-note.ensures.seen ∙ (c.loop-mark.invariant.seen ∙ ap (λ l. seen-with (take c.loop-mark.mark-index l) (g.W.Wire.seen c.args.wire.now)) c.as_slice-mark-items.ensures)))
+    heeded-some c.from_residual-in_err-note.result c.args.e c.args.engine.now c.event.new.self c.event.new.asks _ _ _ _ (g.W.Wire.state c.args.wire.now).seen (g.W.Wire.state c.note.new.self).seen c.loop-mark.mark-index c.from_residual-in_err-note.ensures.0
+    (heeds-so c.args.e c.args.engine.now c.event.new.self c.clear.new.self c.event.new.asks _ _ _ _ (g.W.Wire.state c.args.wire.now).seen (g.W.Wire.state c.note.new.self).seen c.loop-mark.mark-index c.clear.ensures o.stands o.heeds o.keeps o.ends
+    (c.in_err-note.ensures.seen ∙ (c.loop-mark.invariant.seen ∙ ap (λ l. seen-with (take c.loop-mark.mark-index l) (g.W.Wire.state c.args.wire.now).seen) c.as_slice-mark-items.ensures)))
 
 pub loop-mark-preserved : goal.loop-mark-preserved
 loop-mark-preserved g c = record {

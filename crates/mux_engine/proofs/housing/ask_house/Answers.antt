@@ -23,7 +23,7 @@ pub returns-then-not-present-clause-serving : goal.returns-then-not-present-clau
 returns-then-not-present-clause-serving g c first calls before policy pid start given hands v = handed-none _ hands (none-handed v (sym c.present.ensures.present ∙ c.if-not-present.true))
 
 pub returns-then-not-present-clause-ready : goal.returns-then-not-present-clause-ready
-returns-then-not-present-clause-ready g c = λ e. none-more _ _ _ (g.W.Wire.seen c.args.wire.now) _ _ _ (sym c.present.ensures.present ∙ c.if-not-present.true) c.requires.alone c.requires.housed
+returns-then-not-present-clause-ready g c = λ e. none-more _ _ _ (g.W.Wire.state c.args.wire.now).seen _ _ _ (sym c.present.ensures.present ∙ c.if-not-present.true) c.requires.alone c.requires.housed
 
 -- ---- a house
 
@@ -33,69 +33,69 @@ returns-in_err-reply_all-clause-serving g c first calls before policy pid start 
 
 pub next_order-requires : goal.next_order-requires
 next_order-requires g c =
-    let H = g.H.House in
+    let H = g.H.Asks in
     let W = g.W.Wire in
-    let here_is : (H.known c.args.house.now).present ≡ true = sym c.present.ensures.present ∙ c.if-not-present.false in
-    let same : SameHouse (H.known c.args.house.now) (H.known c.reply_all.new.house) = c.in_ok-reply_all.ensures.known in
-    record { housed = subst (λ (l : List ℕ). Housed (H.known c.reply_all.new.house) (W.seen c.reply_all.new.wire) l) (sym c.reply_all.ensures.own) (housed-still _ _ _ _ c.args.lists.now.own same c.reply_all.ensures.places c.requires.housed); present = same.present ∙ here_is }
+    let here_is : (H.state c.args.house.now).known.present ≡ true = sym c.present.ensures.present ∙ c.if-not-present.false in
+    let same : SameHouse (H.state c.args.house.now).known (H.state c.reply_all.new.house).known = c.in_ok-reply_all.ensures.known in
+    record { housed = subst (λ (l : List ℕ). Housed (H.state c.reply_all.new.house).known (W.state c.reply_all.new.wire).seen l) (sym c.reply_all.ensures.own) (housed-still _ _ _ _ c.args.lists.now.own same c.reply_all.ensures.places c.requires.housed); present = same.present ∙ here_is }
 
 pub returns-clause-serving : goal.returns-clause-serving
 returns-clause-serving g c first calls before policy pid start given hands v =
-    let H = g.H.House in
+    let H = g.H.Asks in
     let W = g.W.Wire in
-    let here_is : (H.known c.args.house.now).present ≡ true = sym c.present.ensures.present ∙ c.if-not-present.false in
-    let same : SameHouse (H.known c.args.house.now) (H.known c.reply_all.new.house) = c.in_ok-reply_all.ensures.known in
+    let here_is : (H.state c.args.house.now).known.present ≡ true = sym c.present.ensures.present ∙ c.if-not-present.false in
+    let same : SameHouse (H.state c.args.house.now).known (H.state c.reply_all.new.house).known = c.in_ok-reply_all.ensures.known in
     let h = ok-serves c.reply_all.result _ _ c.in_ok-reply_all.was (c.reply_all.ensures.serving first calls before policy pid start given hands v) in
-    (runs-same c.next_order.result H.stands c.reply_all.new.house c.next_order.new.house H.may H.told H.known H.quiet H.must H.refused (noted (H.told c.reply_all.new.house) (H.known c.reply_all.new.house)) (noted (H.told c.next_order.new.house) (H.known c.next_order.new.house)) (W.seen c.reply_all.new.wire) (W.seen c.next_order.new.wire) c.reply_all.new.lists.held c.next_order.new.lists.held c.reply_all.new.lists.failed c.next_order.new.lists.failed 1 (λ (more : Bool). cond more 1 0) (0 ∷ without HOUSE (here c.reply_all.new.engine)) (λ (more : Bool). 0 ∷ without HOUSE (here c.reply_all.new.engine)) c.reply_all.new.engine c.reply_all.new.engine (H.known c.args.house.now).present (H.known c.reply_all.new.house).present same.present
+    (runs-same c.next_order.result (H.state c.reply_all.new.house).stands c.next_order.new.house H.may H.told H.known H.quiet H.must H.refused (noted (H.state c.reply_all.new.house).told (H.state c.reply_all.new.house).known) (noted (H.state c.next_order.new.house).told (H.state c.next_order.new.house).known) (W.state c.reply_all.new.wire).seen (W.state c.next_order.new.wire).seen c.reply_all.new.lists.held c.next_order.new.lists.held c.reply_all.new.lists.failed c.next_order.new.lists.failed 1 (λ (more : Bool). cond more 1 0) (0 ∷ without HOUSE (here c.reply_all.new.engine)) (λ (more : Bool). 0 ∷ without HOUSE (here c.reply_all.new.engine)) c.reply_all.new.engine c.reply_all.new.engine (H.state c.args.house.now).known.present (H.state c.reply_all.new.house).known.present same.present
     (c.next_order.ensures.serving (0 ∷ without HOUSE (here c.reply_all.new.engine)) c.reply_all.new.engine)) first h.all before policy pid start given h.hands
     (a-turn h.so)
 
 pub returns-clause-held_is : goal.returns-clause-held_is
 returns-clause-held_is g c =
-    let H = g.H.House in
+    let H = g.H.Asks in
     let W = g.W.Wire in
-    let here_is : (H.known c.args.house.now).present ≡ true = sym c.present.ensures.present ∙ c.if-not-present.false in
-    let same : SameHouse (H.known c.args.house.now) (H.known c.reply_all.new.house) = c.in_ok-reply_all.ensures.known in
+    let here_is : (H.state c.args.house.now).known.present ≡ true = sym c.present.ensures.present ∙ c.if-not-present.false in
+    let same : SameHouse (H.state c.args.house.now).known (H.state c.reply_all.new.house).known = c.in_ok-reply_all.ensures.known in
     let s = c.requires.served in
     let h = ok-serves c.reply_all.result _ _ c.in_ok-reply_all.was (c.reply_all.ensures.serving s.first s.calls s.before s.policy s.pid s.start s.given s.hands s.serving) in
-    match-ok c.next_order.result (λ (more : Bool). Handed (H.stands s.first) (H.stands c.next_order.new.house) (λ (all : List HouseCall). Serving H.may (RestsOf H.told H.known H.quiet H.must H.refused H.stands (H.known c.args.house.now).present s.first) s.before (noted (H.told c.next_order.new.house) (H.known c.next_order.new.house) all) s.policy s.pid s.start (W.seen c.next_order.new.wire) c.next_order.new.lists.held c.next_order.new.lists.failed (s.given + cond more 1 0) (0 ∷ without HOUSE (here c.reply_all.new.engine)) c.reply_all.new.engine)) _ _ (λ (more : Bool) x. x.so.held_is) ((runs-same c.next_order.result H.stands c.reply_all.new.house c.next_order.new.house H.may H.told H.known H.quiet H.must H.refused (noted (H.told c.reply_all.new.house) (H.known c.reply_all.new.house)) (noted (H.told c.next_order.new.house) (H.known c.next_order.new.house)) (W.seen c.reply_all.new.wire) (W.seen c.next_order.new.wire) c.reply_all.new.lists.held c.next_order.new.lists.held c.reply_all.new.lists.failed c.next_order.new.lists.failed 1 (λ (more : Bool). cond more 1 0) (0 ∷ without HOUSE (here c.reply_all.new.engine)) (λ (more : Bool). 0 ∷ without HOUSE (here c.reply_all.new.engine)) c.reply_all.new.engine c.reply_all.new.engine (H.known c.args.house.now).present (H.known c.reply_all.new.house).present same.present
+    match-ok c.next_order.result (λ (more : Bool). Handed (H.state s.first).stands (H.state c.next_order.new.house).stands (λ (all : List HouseCall). Serving H.may (RestsOf H.state (H.state c.args.house.now).known.present s.first) s.before (noted (H.state c.next_order.new.house).told (H.state c.next_order.new.house).known all) s.policy s.pid s.start (W.state c.next_order.new.wire).seen c.next_order.new.lists.held c.next_order.new.lists.failed (s.given + cond more 1 0) (0 ∷ without HOUSE (here c.reply_all.new.engine)) c.reply_all.new.engine)) _ _ (λ (more : Bool) x. x.so.held_is) ((runs-same c.next_order.result (H.state c.reply_all.new.house).stands c.next_order.new.house H.may H.told H.known H.quiet H.must H.refused (noted (H.state c.reply_all.new.house).told (H.state c.reply_all.new.house).known) (noted (H.state c.next_order.new.house).told (H.state c.next_order.new.house).known) (W.state c.reply_all.new.wire).seen (W.state c.next_order.new.wire).seen c.reply_all.new.lists.held c.next_order.new.lists.held c.reply_all.new.lists.failed c.next_order.new.lists.failed 1 (λ (more : Bool). cond more 1 0) (0 ∷ without HOUSE (here c.reply_all.new.engine)) (λ (more : Bool). 0 ∷ without HOUSE (here c.reply_all.new.engine)) c.reply_all.new.engine c.reply_all.new.engine (H.state c.args.house.now).known.present (H.state c.reply_all.new.house).known.present same.present
     (c.next_order.ensures.serving (0 ∷ without HOUSE (here c.reply_all.new.engine)) c.reply_all.new.engine)) s.first h.all s.before s.policy s.pid s.start s.given h.hands
     (a-turn h.so))
 
 pub returns-clause-alone : goal.returns-clause-alone
 returns-clause-alone g c =
-    let H = g.H.House in
+    let H = g.H.Asks in
     let W = g.W.Wire in
-    let here_is : (H.known c.args.house.now).present ≡ true = sym c.present.ensures.present ∙ c.if-not-present.false in
-    let same : SameHouse (H.known c.args.house.now) (H.known c.reply_all.new.house) = c.in_ok-reply_all.ensures.known in
-    on-ok c.next_order.result (λ (p : (H.known c.next_order.new.house).present ≡ (H.known c.reply_all.new.house).present). present-alone (H.known c.next_order.new.house) (p ∙ (same.present ∙ here_is))) c.next_order.ensures.present
+    let here_is : (H.state c.args.house.now).known.present ≡ true = sym c.present.ensures.present ∙ c.if-not-present.false in
+    let same : SameHouse (H.state c.args.house.now).known (H.state c.reply_all.new.house).known = c.in_ok-reply_all.ensures.known in
+    on-ok c.next_order.result (λ (p : (H.state c.next_order.new.house).known.present ≡ (H.state c.reply_all.new.house).known.present). present-alone (H.state c.next_order.new.house).known (p ∙ (same.present ∙ here_is))) c.next_order.ensures.present
 
 pub returns-clause-present : goal.returns-clause-present
 returns-clause-present g c =
-    let H = g.H.House in
+    let H = g.H.Asks in
     let W = g.W.Wire in
-    let here_is : (H.known c.args.house.now).present ≡ true = sym c.present.ensures.present ∙ c.if-not-present.false in
-    let same : SameHouse (H.known c.args.house.now) (H.known c.reply_all.new.house) = c.in_ok-reply_all.ensures.known in
-    on-ok c.next_order.result (λ (p : (H.known c.next_order.new.house).present ≡ (H.known c.reply_all.new.house).present). p ∙ same.present) c.next_order.ensures.present
+    let here_is : (H.state c.args.house.now).known.present ≡ true = sym c.present.ensures.present ∙ c.if-not-present.false in
+    let same : SameHouse (H.state c.args.house.now).known (H.state c.reply_all.new.house).known = c.in_ok-reply_all.ensures.known in
+    on-ok c.next_order.result (λ (p : (H.state c.next_order.new.house).known.present ≡ (H.state c.reply_all.new.house).known.present). p ∙ same.present) c.next_order.ensures.present
 
 pub returns-clause-none : goal.returns-clause-none
 returns-clause-none g c out =
-    let H = g.H.House in
+    let H = g.H.Asks in
     let W = g.W.Wire in
-    let here_is : (H.known c.args.house.now).present ≡ true = sym c.present.ensures.present ∙ c.if-not-present.false in
-    let same : SameHouse (H.known c.args.house.now) (H.known c.reply_all.new.house) = c.in_ok-reply_all.ensures.known in
+    let here_is : (H.state c.args.house.now).known.present ≡ true = sym c.present.ensures.present ∙ c.if-not-present.false in
+    let same : SameHouse (H.state c.args.house.now).known (H.state c.reply_all.new.house).known = c.in_ok-reply_all.ensures.known in
     true-false (sym here_is ∙ out)
 
 pub returns-clause-ready : goal.returns-clause-ready
 returns-clause-ready g c =
-    let H = g.H.House in
+    let H = g.H.Asks in
     let W = g.W.Wire in
-    let here_is : (H.known c.args.house.now).present ≡ true = sym c.present.ensures.present ∙ c.if-not-present.false in
-    let same : SameHouse (H.known c.args.house.now) (H.known c.reply_all.new.house) = c.in_ok-reply_all.ensures.known in
+    let here_is : (H.state c.args.house.now).known.present ≡ true = sym c.present.ensures.present ∙ c.if-not-present.false in
+    let same : SameHouse (H.state c.args.house.now).known (H.state c.reply_all.new.house).known = c.in_ok-reply_all.ensures.known in
     where-false c.next_order.result
-    (λ (q : H.quiet c.next_order.new.house ≡ H.quiet c.reply_all.new.house) (o : (H.quiet c.next_order.new.house).orders ≡ true) (u : (t : ℕ) → H.queue c.next_order.new.house t ≡ H.queue c.reply_all.new.house t) (l : c.next_order.new.lists ≡ c.reply_all.new.lists).
-    subst (λ (x : Lists). HasNoMore (H.known c.next_order.new.house) (H.quiet c.next_order.new.house) (H.queue c.next_order.new.house) x.held x.failed x.own) (sym l)
-    (no-more (H.known c.next_order.new.house) (H.quiet c.reply_all.new.house) (H.quiet c.next_order.new.house) (H.queue c.reply_all.new.house) (H.queue c.next_order.new.house) c.reply_all.new.lists.held c.reply_all.new.lists.failed c.reply_all.new.lists.own o c.in_ok-reply_all.ensures.answered q u c.in_ok-reply_all.ensures.offered))
+    (λ (q : (H.state c.next_order.new.house).quiet ≡ (H.state c.reply_all.new.house).quiet) (o : (H.state c.next_order.new.house).quiet.orders ≡ true) (u : (t : ℕ) → (H.state c.next_order.new.house).queue t ≡ (H.state c.reply_all.new.house).queue t) (l : c.next_order.new.lists ≡ c.reply_all.new.lists).
+    subst (λ (x : Lists). HasNoMore (H.state c.next_order.new.house).known (H.state c.next_order.new.house).quiet (H.state c.next_order.new.house).queue x.held x.failed x.own) (sym l)
+    (no-more (H.state c.next_order.new.house).known (H.state c.reply_all.new.house).quiet (H.state c.next_order.new.house).quiet (H.state c.reply_all.new.house).queue (H.state c.next_order.new.house).queue c.reply_all.new.lists.held c.reply_all.new.lists.failed c.reply_all.new.lists.own o c.in_ok-reply_all.ensures.answered q u c.in_ok-reply_all.ensures.offered))
     c.next_order.ensures.quiet c.next_order.ensures.orders c.next_order.ensures.queues c.next_order.ensures.still
 
 -- ---- own faults

@@ -32,11 +32,11 @@ took-requires g c = subst (λ (b : List ℕ). length c.queue_of-bytes.result.now
 
 pub returns-clause-serving : goal.returns-clause-serving
 returns-clause-serving g c held failed first calls before policy pid start given hands v =
-    let H = g.H.House in
+    let H = g.H.Asks in
     let bytes : List ℕ = c.queue_of-bytes.result.now in
     handed-more _ (Hears bytes ∷ []) hands c.in_ok-takes.ensures.stands
-    (subst (λ (x : Seen). Serving H.may (RestsOf H.told H.known H.quiet H.must H.refused H.stands (H.known c.args.house.now).present first) before (noted (H.told c.takes.new.self) (H.known c.takes.new.self) (calls ++ Hears bytes ∷ [])) policy pid start x held failed (given + 0) (0 ∷ without HOUSE (here c.took.new.self)) c.took.new.self) (sym c.in_ok-note.ensures.seen)
-    (no-turns (handed (H.known c.takes.new.self) v c.took.new.self bytes c.in_ok-takes.ensures.told c.in_ok-takes.ensures.known c.queue_of-bytes.ensures.exact (some-bytes bytes (sym c.if-is_empty.ensures)) c.queue_of-bytes.ensures.waits c.took.ensures.exact (c.took.ensures.stands bytes refl))))
+    (subst (λ (x : Seen). Serving H.may (RestsOf H.state (H.state c.args.house.now).known.present first) before (noted (H.state c.takes.new.self).told (H.state c.takes.new.self).known (calls ++ Hears bytes ∷ [])) policy pid start x held failed (given + 0) (0 ∷ without HOUSE (here c.took.new.self)) c.took.new.self) (sym c.in_ok-note.ensures.seen)
+    (no-turns (handed (H.state c.takes.new.self).known v c.took.new.self bytes c.in_ok-takes.ensures.told c.in_ok-takes.ensures.known c.queue_of-bytes.ensures.exact (some-bytes bytes (sym c.if-is_empty.ensures)) c.queue_of-bytes.ensures.waits c.took.ensures.exact (c.took.ensures.stands bytes refl))))
 
 -- ---- own faults
 

@@ -19,11 +19,11 @@ returns-in_err-note-clause-serving g c present first before now policy pid start
 
 pub returns-in_err-event-clause-serving : goal.returns-in_err-event-clause-serving
 returns-in_err-event-clause-serving g c present first before now policy pid start held failed given v none there = on-err c.from_residual-in_err-event.result _ _ c.from_residual-in_err-event.ensures.0
-    (subst (λ (x : Seen). Promised g.H.House.may (RestsOf g.H.House.told g.H.House.known g.H.House.quiet g.H.House.must g.H.House.refused g.H.House.stands present first) before now.told policy pid start x.told given) (sym c.in_ok-note.ensures.seen) (cut-let-in v none there))
+    (subst (λ (x : Seen). Promised g.H.Asks.may (RestsOf g.H.Asks.state present first) before now.told policy pid start x.told given) (sym c.in_ok-note.ensures.seen) (cut-let-in v none there))
 
 pub returns-clause-serving : goal.returns-clause-serving
 returns-clause-serving g c present first before now policy pid start held failed given v none there =
-    subst (λ (x : Seen). Serving g.H.House.may (RestsOf g.H.House.told g.H.House.known g.H.House.quiet g.H.House.must g.H.House.refused g.H.House.stands present first) before (record now { let_in = true }) policy pid start x held failed given (0 ∷ here c.event.new.self) c.event.new.self) (sym c.in_ok-note.ensures.seen)
+    subst (λ (x : Seen). Serving g.H.Asks.may (RestsOf g.H.Asks.state present first) before (record now { let_in = true }) policy pid start x held failed given (0 ∷ here c.event.new.self) c.event.new.self) (sym c.in_ok-note.ensures.seen)
     (let-in v c.event.new.self none there c.requires.on c.requires.refused (c.in_ok-event.ensures.stands (Accepts HOUSE) refl) c.in_ok-event.ensures.keeps)
 
 pub returns-clause-on : goal.returns-clause-on

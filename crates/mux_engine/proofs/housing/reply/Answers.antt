@@ -20,29 +20,29 @@ returns-in_err-note-clause-serving g c held failed first calls before policy pid
 
 pub returns-in_err-event-clause-serving : goal.returns-in_err-event-clause-serving
 returns-in_err-event-clause-serving g c held failed first calls before policy pid start given hands v =
-    let H = g.H.House in
+    let H = g.H.Asks in
     on-err c.from_residual-in_err-event.result _ _ c.from_residual-in_err-event.ensures.0
-    (subst (λ (x : Seen). Promised H.may (RestsOf H.told H.known H.quiet H.must H.refused H.stands (H.known c.args.house.now).present first) before (H.told c.answer.new.self) policy pid start x.told (given + 0)) (sym c.in_ok-note.ensures.seen)
-    (no-turns-left (cut-answered (H.known c.args.house.now) v c.in-Some.client c.in-Some.id c.in-Some.given c.requires.present c.in-Some.ensures.fits c.in-Some.ensures.told)))
+    (subst (λ (x : Seen). Promised H.may (RestsOf H.state (H.state c.args.house.now).known.present first) before (H.state c.answer.new.self).told policy pid start x.told (given + 0)) (sym c.in_ok-note.ensures.seen)
+    (no-turns-left (cut-answered (H.state c.args.house.now).known v c.in-Some.client c.in-Some.id c.in-Some.given c.requires.present c.in-Some.ensures.fits c.in-Some.ensures.told)))
 
 pub returns-clause-serving : goal.returns-clause-serving
 returns-clause-serving g c held failed first calls before policy pid start given hands v =
-    let H = g.H.House in
+    let H = g.H.Asks in
     let more : List HouseCall = calls_of (HouseAnswer c.in-Some.client c.in-Some.id c.in-Some.given ∷ []) in
     handed-more _ more hands c.in-Some.ensures.stands
-    (subst (λ (x : Seen). Serving H.may (RestsOf H.told H.known H.quiet H.must H.refused H.stands (H.known c.args.house.now).present first) before (noted (H.told c.answer.new.self) (H.known c.answer.new.self) (calls ++ more)) policy pid start x held failed (given + 0) (0 ∷ here c.event.new.self) c.event.new.self) (sym c.in_ok-note.ensures.seen)
-    (no-turns (answered (H.known c.args.house.now) (H.known c.answer.new.self) v c.event.new.self c.in-Some.client c.in-Some.id c.in-Some.given c.requires.present c.requires.on c.in-Some.ensures.fits c.in-Some.ensures.told c.in-Some.ensures.known c.in_ok-event.ensures.stands c.in_ok-event.ensures.keeps)))
+    (subst (λ (x : Seen). Serving H.may (RestsOf H.state (H.state c.args.house.now).known.present first) before (noted (H.state c.answer.new.self).told (H.state c.answer.new.self).known (calls ++ more)) policy pid start x held failed (given + 0) (0 ∷ here c.event.new.self) c.event.new.self) (sym c.in_ok-note.ensures.seen)
+    (no-turns (answered (H.state c.args.house.now).known (H.state c.answer.new.self).known v c.event.new.self c.in-Some.client c.in-Some.id c.in-Some.given c.requires.present c.requires.on c.in-Some.ensures.fits c.in-Some.ensures.told c.in-Some.ensures.known c.in_ok-event.ensures.stands c.in_ok-event.ensures.keeps)))
 
 pub returns-clause-on : goal.returns-clause-on
-returns-clause-on g c held failed todo w = answered-live (g.H.House.known c.args.house.now) w.serving c.event.new.self c.in-Some.client c.in-Some.id c.in-Some.given c.requires.on c.in-Some.ensures.fits c.in_ok-event.ensures.ends
+returns-clause-on g c held failed todo w = answered-live (g.H.Asks.state c.args.house.now).known w.serving c.event.new.self c.in-Some.client c.in-Some.id c.in-Some.given c.requires.on c.in-Some.ensures.fits c.in_ok-event.ensures.ends
 
 pub returns-clause-fewer : goal.returns-clause-fewer
-returns-clause-fewer g c = λ more. subst (λ (k : Known). length k.asks < length (g.H.House.known c.args.house.now).asks) (sym c.in-Some.ensures.known) (reply-fewer c.in-Some.given c.in-Some.client c.in-Some.id (g.H.House.known c.args.house.now).asks c.in-Some.ensures.fits)
+returns-clause-fewer g c = λ more. subst (λ (k : Known). length k.asks < length (g.H.Asks.state c.args.house.now).known.asks) (sym c.in-Some.ensures.known) (reply-fewer c.in-Some.given c.in-Some.client c.in-Some.id (g.H.Asks.state c.args.house.now).known.asks c.in-Some.ensures.fits)
 
 -- ---- no answer
 
 pub returns-in_default-clause-serving : goal.returns-in_default-clause-serving
-returns-in_default-clause-serving g c held failed first calls before policy pid start given hands v = still-handed (g.H.House.known c.answer.new.self) hands c.in_default.ensures.stands c.in_default.ensures.told c.in_default.ensures.known v
+returns-in_default-clause-serving g c held failed first calls before policy pid start given hands v = still-handed (g.H.Asks.state c.answer.new.self).known hands c.in_default.ensures.stands c.in_default.ensures.told c.in_default.ensures.known v
 
 -- ---- own faults
 

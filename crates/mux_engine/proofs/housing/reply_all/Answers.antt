@@ -36,9 +36,9 @@ pub hand_over-requires : goal.hand_over-requires
 hand_over-requires g c = record { ordering = c.loop-wire.invariant.known.ordering ∙ c.requires.housed.ordering }
 
 pub own_rounds-requires : goal.own_rounds-requires
-own_rounds-requires g c = let H = g.H.House in let W = g.W.Wire in record {
-  housed = housed-still (H.known c.args.house.now) (H.known c.hand_over.new.house) (W.seen c.args.wire.now) (W.seen c.hand_over.new.wire) c.loop-wire.lists.own
-      (subst (λ (own : List ℕ). Housed (H.known c.args.house.now) (W.seen c.args.wire.now) own) (sym c.loop-wire.invariant.own) c.requires.housed) (house-then _ _ _ c.loop-wire.invariant.known (same-house _ _ c.in_ok-hand_over.ensures.known)) (places-then _ _ _ c.loop-wire.invariant.places c.hand_over.ensures.places);
+own_rounds-requires g c = let H = g.H.Asks in let W = g.W.Wire in record {
+  housed = housed-still (H.state c.args.house.now).known (H.state c.hand_over.new.house).known (W.state c.args.wire.now).seen (W.state c.hand_over.new.wire).seen c.loop-wire.lists.own
+      (subst (λ (own : List ℕ). Housed (H.state c.args.house.now).known (W.state c.args.wire.now).seen own) (sym c.loop-wire.invariant.own) c.requires.housed) (house-then _ _ _ c.loop-wire.invariant.known (same-house _ _ c.in_ok-hand_over.ensures.known)) (places-then _ _ _ c.loop-wire.invariant.places c.hand_over.ensures.places);
   held_is = c.loop-wire.invariant.held_is ∙ sym c.hand_over.ensures.blocked;
 }
 
@@ -50,14 +50,14 @@ reply-requires g c = record {
 }
 
 pub loop-wire-preserved : goal.loop-wire-preserved
-loop-wire-preserved g c = let H = g.H.House in let w = c.requires.served in record {
+loop-wire-preserved g c = let H = g.H.Asks in let w = c.requires.served in record {
   serving = λ first calls before policy pid start given hands v.
       let h0 = c.loop-wire.invariant.serving first calls before policy pid start given hands v in
-      let h1 = c.in_ok-hand_over.ensures.serving c.loop-wire.lists.held c.loop-wire.lists.failed first h0.all before policy pid start given h0.hands (same-rests (λ b. RestsOf H.told H.known H.quiet H.must H.refused H.stands b first) _ _ (sym c.loop-wire.invariant.known.present) h0.so) in
-      let h2 = c.in_ok-own_rounds.ensures.serving (H.known c.args.house.now).present first before (noted (H.told c.hand_over.new.house) (H.known c.hand_over.new.house) h1.all) policy pid start given (0 ∷ without HOUSE (here c.hand_over.new.engine)) c.hand_over.new.engine refl h1.hands (none-given (same-rests (λ b. RestsOf H.told H.known H.quiet H.must H.refused H.stands b first) _ _ c.loop-wire.invariant.known.present h1.so)) in
-      let v2 = same-rests (λ b. RestsOf H.told H.known H.quiet H.must H.refused H.stands b first) _ _ (sym (ap (λ (k : Known). k.present) c.in_ok-own_rounds.ensures.known ∙ (ap (λ (k : Known). k.present) c.in_ok-hand_over.ensures.known ∙ c.loop-wire.invariant.known.present))) (same-noted (H.told c.hand_over.new.house) (H.told c.own_rounds.new.house) (H.known c.hand_over.new.house) (H.known c.own_rounds.new.house) c.own_rounds.ensures.told c.in_ok-own_rounds.ensures.known h2.so) in
+      let h1 = c.in_ok-hand_over.ensures.serving c.loop-wire.lists.held c.loop-wire.lists.failed first h0.all before policy pid start given h0.hands (same-rests (λ b. RestsOf H.state b first) _ _ (sym c.loop-wire.invariant.known.present) h0.so) in
+      let h2 = c.in_ok-own_rounds.ensures.serving (H.state c.args.house.now).known.present first before (noted (H.state c.hand_over.new.house).told (H.state c.hand_over.new.house).known h1.all) policy pid start given (0 ∷ without HOUSE (here c.hand_over.new.engine)) c.hand_over.new.engine refl h1.hands (none-given (same-rests (λ b. RestsOf H.state b first) _ _ c.loop-wire.invariant.known.present h1.so)) in
+      let v2 = same-rests (λ b. RestsOf H.state b first) _ _ (sym (ap (λ (k : Known). k.present) c.in_ok-own_rounds.ensures.known ∙ (ap (λ (k : Known). k.present) c.in_ok-hand_over.ensures.known ∙ c.loop-wire.invariant.known.present))) (same-noted (H.state c.hand_over.new.house).told (H.state c.own_rounds.new.house).told (H.state c.hand_over.new.house).known (H.state c.own_rounds.new.house).known c.own_rounds.ensures.told c.in_ok-own_rounds.ensures.known h2.so) in
       let h3 = c.in_ok-reply.ensures.serving c.own_rounds.new.held c.own_rounds.new.failed first h2.all before policy pid start given h2.hands v2 in
-      handed-so h3 (none-given (same-rests (λ b. RestsOf H.told H.known H.quiet H.must H.refused H.stands b first) _ _ (ap (λ (k : Known). k.present) c.in_ok-own_rounds.ensures.known ∙ (ap (λ (k : Known). k.present) c.in_ok-hand_over.ensures.known ∙ c.loop-wire.invariant.known.present)) (replied (0 ∷ here c.reply.new.engine) (0 ∷ without HOUSE (here c.reply.new.engine)) _ true c.if-not-branch.false h3.so)));
+      handed-so h3 (none-given (same-rests (λ b. RestsOf H.state b first) _ _ (ap (λ (k : Known). k.present) c.in_ok-own_rounds.ensures.known ∙ (ap (λ (k : Known). k.present) c.in_ok-hand_over.ensures.known ∙ c.loop-wire.invariant.known.present)) (replied (0 ∷ here c.reply.new.engine) (0 ∷ without HOUSE (here c.reply.new.engine)) _ true c.if-not-branch.false h3.so)));
   known = house-then _ _ _ (house-then _ _ _ (house-then _ _ _ c.loop-wire.invariant.known (same-house _ _ c.in_ok-hand_over.ensures.known)) (same-house _ _ c.in_ok-own_rounds.ensures.known)) c.reply.ensures.known;
   places = (places-then _ _ _ (places-then _ _ _ (places-then _ _ _ c.loop-wire.invariant.places c.hand_over.ensures.places) c.own_rounds.ensures.places) c.reply.ensures.places);
   held_is = c.in_ok-own_rounds.ensures.held_is ∙ sym c.reply.ensures.blocked;
@@ -65,9 +65,9 @@ loop-wire-preserved g c = let H = g.H.House in let w = c.requires.served in reco
   must = c.reply.ensures.must ∙ (c.own_rounds.ensures.must ∙ (c.hand_over.ensures.must ∙ c.loop-wire.invariant.must));
   on =
       let h0 = c.loop-wire.invariant.serving w.first w.calls w.before w.policy w.pid w.start w.given w.hands w.serving in
-      let h1 = c.in_ok-hand_over.ensures.serving c.loop-wire.lists.held c.loop-wire.lists.failed w.first h0.all w.before w.policy w.pid w.start w.given h0.hands (same-rests (λ b. RestsOf H.told H.known H.quiet H.must H.refused H.stands b w.first) _ _ (sym c.loop-wire.invariant.known.present) h0.so) in
-      let h2 = c.in_ok-own_rounds.ensures.serving (H.known c.args.house.now).present w.first w.before (noted (H.told c.hand_over.new.house) (H.known c.hand_over.new.house) h1.all) w.policy w.pid w.start w.given (0 ∷ without HOUSE (here c.hand_over.new.engine)) c.hand_over.new.engine refl h1.hands (none-given (same-rests (λ b. RestsOf H.told H.known H.quiet H.must H.refused H.stands b w.first) _ _ c.loop-wire.invariant.known.present h1.so)) in
-      let v2 = same-rests (λ b. RestsOf H.told H.known H.quiet H.must H.refused H.stands b w.first) _ _ (sym (ap (λ (k : Known). k.present) c.in_ok-own_rounds.ensures.known ∙ (ap (λ (k : Known). k.present) c.in_ok-hand_over.ensures.known ∙ c.loop-wire.invariant.known.present))) (same-noted (H.told c.hand_over.new.house) (H.told c.own_rounds.new.house) (H.known c.hand_over.new.house) (H.known c.own_rounds.new.house) c.own_rounds.ensures.told c.in_ok-own_rounds.ensures.known h2.so) in
+      let h1 = c.in_ok-hand_over.ensures.serving c.loop-wire.lists.held c.loop-wire.lists.failed w.first h0.all w.before w.policy w.pid w.start w.given h0.hands (same-rests (λ b. RestsOf H.state b w.first) _ _ (sym c.loop-wire.invariant.known.present) h0.so) in
+      let h2 = c.in_ok-own_rounds.ensures.serving (H.state c.args.house.now).known.present w.first w.before (noted (H.state c.hand_over.new.house).told (H.state c.hand_over.new.house).known h1.all) w.policy w.pid w.start w.given (0 ∷ without HOUSE (here c.hand_over.new.engine)) c.hand_over.new.engine refl h1.hands (none-given (same-rests (λ b. RestsOf H.state b w.first) _ _ c.loop-wire.invariant.known.present h1.so)) in
+      let v2 = same-rests (λ b. RestsOf H.state b w.first) _ _ (sym (ap (λ (k : Known). k.present) c.in_ok-own_rounds.ensures.known ∙ (ap (λ (k : Known). k.present) c.in_ok-hand_over.ensures.known ∙ c.loop-wire.invariant.known.present))) (same-noted (H.state c.hand_over.new.house).told (H.state c.own_rounds.new.house).told (H.state c.hand_over.new.house).known (H.state c.own_rounds.new.house).known c.own_rounds.ensures.told c.in_ok-own_rounds.ensures.known h2.so) in
       c.in_ok-reply.ensures.on c.own_rounds.new.held c.own_rounds.new.failed (0 ∷ without HOUSE (here c.hand_over.new.engine)) record {
         first = w.first;
         calls = h2.all;
@@ -88,18 +88,18 @@ loop-wire-preserved g c = let H = g.H.House in let w = c.requires.served in reco
 }
 
 pub loop-wire-smaller : goal.loop-wire-smaller
-loop-wire-smaller g c = let H = g.H.House in
-    subst (λ (k : Known). length (H.known c.reply.new.house).asks < length k.asks) (c.in_ok-own_rounds.ensures.known ∙ c.in_ok-hand_over.ensures.known) (c.in_ok-reply.ensures.fewer c.if-not-branch.false)
+loop-wire-smaller g c = let H = g.H.Asks in
+    subst (λ (k : Known). length (H.state c.reply.new.house).known.asks < length k.asks) (c.in_ok-own_rounds.ensures.known ∙ c.in_ok-hand_over.ensures.known) (c.in_ok-reply.ensures.fewer c.if-not-branch.false)
 
 pub returns-then-not-branch : goal.returns-then-not-branch
-returns-then-not-branch g c = let H = g.H.House in let w = c.requires.served in record {
+returns-then-not-branch g c = let H = g.H.Asks in let w = c.requires.served in record {
   serving = λ first calls before policy pid start given hands v.
       let h0 = c.loop-wire.invariant.serving first calls before policy pid start given hands v in
-      let h1 = c.in_ok-hand_over.ensures.serving c.loop-wire.lists.held c.loop-wire.lists.failed first h0.all before policy pid start given h0.hands (same-rests (λ b. RestsOf H.told H.known H.quiet H.must H.refused H.stands b first) _ _ (sym c.loop-wire.invariant.known.present) h0.so) in
-      let h2 = c.in_ok-own_rounds.ensures.serving (H.known c.args.house.now).present first before (noted (H.told c.hand_over.new.house) (H.known c.hand_over.new.house) h1.all) policy pid start given (0 ∷ without HOUSE (here c.hand_over.new.engine)) c.hand_over.new.engine refl h1.hands (none-given (same-rests (λ b. RestsOf H.told H.known H.quiet H.must H.refused H.stands b first) _ _ c.loop-wire.invariant.known.present h1.so)) in
-      let v2 = same-rests (λ b. RestsOf H.told H.known H.quiet H.must H.refused H.stands b first) _ _ (sym (ap (λ (k : Known). k.present) c.in_ok-own_rounds.ensures.known ∙ (ap (λ (k : Known). k.present) c.in_ok-hand_over.ensures.known ∙ c.loop-wire.invariant.known.present))) (same-noted (H.told c.hand_over.new.house) (H.told c.own_rounds.new.house) (H.known c.hand_over.new.house) (H.known c.own_rounds.new.house) c.own_rounds.ensures.told c.in_ok-own_rounds.ensures.known h2.so) in
+      let h1 = c.in_ok-hand_over.ensures.serving c.loop-wire.lists.held c.loop-wire.lists.failed first h0.all before policy pid start given h0.hands (same-rests (λ b. RestsOf H.state b first) _ _ (sym c.loop-wire.invariant.known.present) h0.so) in
+      let h2 = c.in_ok-own_rounds.ensures.serving (H.state c.args.house.now).known.present first before (noted (H.state c.hand_over.new.house).told (H.state c.hand_over.new.house).known h1.all) policy pid start given (0 ∷ without HOUSE (here c.hand_over.new.engine)) c.hand_over.new.engine refl h1.hands (none-given (same-rests (λ b. RestsOf H.state b first) _ _ c.loop-wire.invariant.known.present h1.so)) in
+      let v2 = same-rests (λ b. RestsOf H.state b first) _ _ (sym (ap (λ (k : Known). k.present) c.in_ok-own_rounds.ensures.known ∙ (ap (λ (k : Known). k.present) c.in_ok-hand_over.ensures.known ∙ c.loop-wire.invariant.known.present))) (same-noted (H.state c.hand_over.new.house).told (H.state c.own_rounds.new.house).told (H.state c.hand_over.new.house).known (H.state c.own_rounds.new.house).known c.own_rounds.ensures.told c.in_ok-own_rounds.ensures.known h2.so) in
       let h3 = c.in_ok-reply.ensures.serving c.own_rounds.new.held c.own_rounds.new.failed first h2.all before policy pid start given h2.hands v2 in
-      handed-so h3 (same-rests (λ b. RestsOf H.told H.known H.quiet H.must H.refused H.stands b first) _ _ (ap (λ (k : Known). k.present) c.in_ok-own_rounds.ensures.known ∙ (ap (λ (k : Known). k.present) c.in_ok-hand_over.ensures.known ∙ c.loop-wire.invariant.known.present)) (replied (0 ∷ here c.reply.new.engine) (0 ∷ without HOUSE (here c.reply.new.engine)) _ false c.if-not-branch.true h3.so));
+      handed-so h3 (same-rests (λ b. RestsOf H.state b first) _ _ (ap (λ (k : Known). k.present) c.in_ok-own_rounds.ensures.known ∙ (ap (λ (k : Known). k.present) c.in_ok-hand_over.ensures.known ∙ c.loop-wire.invariant.known.present)) (replied (0 ∷ here c.reply.new.engine) (0 ∷ without HOUSE (here c.reply.new.engine)) _ false c.if-not-branch.true h3.so));
   known = house-then _ _ _ (house-then _ _ _ (house-then _ _ _ c.loop-wire.invariant.known (same-house _ _ c.in_ok-hand_over.ensures.known)) (same-house _ _ c.in_ok-own_rounds.ensures.known)) c.reply.ensures.known;
   places = (places-then _ _ _ (places-then _ _ _ (places-then _ _ _ c.loop-wire.invariant.places c.hand_over.ensures.places) c.own_rounds.ensures.places) c.reply.ensures.places);
   held_is = c.in_ok-own_rounds.ensures.held_is ∙ sym c.reply.ensures.blocked;
@@ -109,9 +109,9 @@ returns-then-not-branch g c = let H = g.H.House in let w = c.requires.served in 
   must = c.reply.ensures.must ∙ (c.own_rounds.ensures.must ∙ (c.hand_over.ensures.must ∙ c.loop-wire.invariant.must));
   on =
       let h0 = c.loop-wire.invariant.serving w.first w.calls w.before w.policy w.pid w.start w.given w.hands w.serving in
-      let h1 = c.in_ok-hand_over.ensures.serving c.loop-wire.lists.held c.loop-wire.lists.failed w.first h0.all w.before w.policy w.pid w.start w.given h0.hands (same-rests (λ b. RestsOf H.told H.known H.quiet H.must H.refused H.stands b w.first) _ _ (sym c.loop-wire.invariant.known.present) h0.so) in
-      let h2 = c.in_ok-own_rounds.ensures.serving (H.known c.args.house.now).present w.first w.before (noted (H.told c.hand_over.new.house) (H.known c.hand_over.new.house) h1.all) w.policy w.pid w.start w.given (0 ∷ without HOUSE (here c.hand_over.new.engine)) c.hand_over.new.engine refl h1.hands (none-given (same-rests (λ b. RestsOf H.told H.known H.quiet H.must H.refused H.stands b w.first) _ _ c.loop-wire.invariant.known.present h1.so)) in
-      let v2 = same-rests (λ b. RestsOf H.told H.known H.quiet H.must H.refused H.stands b w.first) _ _ (sym (ap (λ (k : Known). k.present) c.in_ok-own_rounds.ensures.known ∙ (ap (λ (k : Known). k.present) c.in_ok-hand_over.ensures.known ∙ c.loop-wire.invariant.known.present))) (same-noted (H.told c.hand_over.new.house) (H.told c.own_rounds.new.house) (H.known c.hand_over.new.house) (H.known c.own_rounds.new.house) c.own_rounds.ensures.told c.in_ok-own_rounds.ensures.known h2.so) in
+      let h1 = c.in_ok-hand_over.ensures.serving c.loop-wire.lists.held c.loop-wire.lists.failed w.first h0.all w.before w.policy w.pid w.start w.given h0.hands (same-rests (λ b. RestsOf H.state b w.first) _ _ (sym c.loop-wire.invariant.known.present) h0.so) in
+      let h2 = c.in_ok-own_rounds.ensures.serving (H.state c.args.house.now).known.present w.first w.before (noted (H.state c.hand_over.new.house).told (H.state c.hand_over.new.house).known h1.all) w.policy w.pid w.start w.given (0 ∷ without HOUSE (here c.hand_over.new.engine)) c.hand_over.new.engine refl h1.hands (none-given (same-rests (λ b. RestsOf H.state b w.first) _ _ c.loop-wire.invariant.known.present h1.so)) in
+      let v2 = same-rests (λ b. RestsOf H.state b w.first) _ _ (sym (ap (λ (k : Known). k.present) c.in_ok-own_rounds.ensures.known ∙ (ap (λ (k : Known). k.present) c.in_ok-hand_over.ensures.known ∙ c.loop-wire.invariant.known.present))) (same-noted (H.state c.hand_over.new.house).told (H.state c.own_rounds.new.house).told (H.state c.hand_over.new.house).known (H.state c.own_rounds.new.house).known c.own_rounds.ensures.told c.in_ok-own_rounds.ensures.known h2.so) in
       c.in_ok-reply.ensures.on c.own_rounds.new.held c.own_rounds.new.failed (0 ∷ without HOUSE (here c.hand_over.new.engine)) record {
         first = w.first;
         calls = h2.all;
@@ -134,10 +134,10 @@ returns-then-not-branch g c = let H = g.H.House in let w = c.requires.served in 
 -- ---- want of memory
 
 pub returns-in_err-hand_over : goal.returns-in_err-hand_over
-returns-in_err-hand_over g c = let H = g.H.House in record {
+returns-in_err-hand_over g c = let H = g.H.Asks in record {
   serving = λ first calls before policy pid start given hands v.
       let h0 = c.loop-wire.invariant.serving first calls before policy pid start given hands v in
-      on-err c.from_residual.result _ _ c.from_residual.ensures.0 (same-rests-left (λ b. RestsOf H.told H.known H.quiet H.must H.refused H.stands b first) _ _ c.loop-wire.invariant.known.present (c.in_err-hand_over.ensures.serving c.loop-wire.lists.held c.loop-wire.lists.failed first h0.all before policy pid start given h0.hands (same-rests (λ b. RestsOf H.told H.known H.quiet H.must H.refused H.stands b first) _ _ (sym c.loop-wire.invariant.known.present) h0.so)));
+      on-err c.from_residual.result _ _ c.from_residual.ensures.0 (same-rests-left (λ b. RestsOf H.state b first) _ _ c.loop-wire.invariant.known.present (c.in_err-hand_over.ensures.serving c.loop-wire.lists.held c.loop-wire.lists.failed first h0.all before policy pid start given h0.hands (same-rests (λ b. RestsOf H.state b first) _ _ (sym c.loop-wire.invariant.known.present) h0.so)));
   known = on-err c.from_residual.result _ _ c.from_residual.ensures.0 tt;
   places = (places-then _ _ _ c.loop-wire.invariant.places c.hand_over.ensures.places);
   held_is = on-err c.from_residual.result _ _ c.from_residual.ensures.0 tt;
@@ -155,11 +155,11 @@ returns-in_err-hand_over g c = let H = g.H.House in record {
 }
 
 pub returns-in_err-own_rounds : goal.returns-in_err-own_rounds
-returns-in_err-own_rounds g c = let H = g.H.House in record {
+returns-in_err-own_rounds g c = let H = g.H.Asks in record {
   serving = λ first calls before policy pid start given hands v.
       let h0 = c.loop-wire.invariant.serving first calls before policy pid start given hands v in
-      let h1 = c.in_ok-hand_over.ensures.serving c.loop-wire.lists.held c.loop-wire.lists.failed first h0.all before policy pid start given h0.hands (same-rests (λ b. RestsOf H.told H.known H.quiet H.must H.refused H.stands b first) _ _ (sym c.loop-wire.invariant.known.present) h0.so) in
-      on-err c.from_residual-in_err-own_rounds.result _ _ c.from_residual-in_err-own_rounds.ensures.0 (no-turns-left (subst (λ (told : Option (List HouseMark)). Promised H.may (RestsOf H.told H.known H.quiet H.must H.refused H.stands (H.known c.args.house.now).present first) before told policy pid start (g.W.Wire.seen c.own_rounds.new.wire).told given) (sym c.own_rounds.ensures.told) (c.in_err-own_rounds.ensures.serving (H.known c.args.house.now).present first before (noted (H.told c.hand_over.new.house) (H.known c.hand_over.new.house) h1.all) policy pid start given (0 ∷ without HOUSE (here c.hand_over.new.engine)) c.hand_over.new.engine refl h1.hands (none-given (same-rests (λ b. RestsOf H.told H.known H.quiet H.must H.refused H.stands b first) _ _ c.loop-wire.invariant.known.present h1.so)))));
+      let h1 = c.in_ok-hand_over.ensures.serving c.loop-wire.lists.held c.loop-wire.lists.failed first h0.all before policy pid start given h0.hands (same-rests (λ b. RestsOf H.state b first) _ _ (sym c.loop-wire.invariant.known.present) h0.so) in
+      on-err c.from_residual-in_err-own_rounds.result _ _ c.from_residual-in_err-own_rounds.ensures.0 (no-turns-left (subst (λ (told : Option (List HouseMark)). Promised H.may (RestsOf H.state (H.state c.args.house.now).known.present first) before told policy pid start (g.W.Wire.state c.own_rounds.new.wire).seen.told given) (sym c.own_rounds.ensures.told) (c.in_err-own_rounds.ensures.serving (H.state c.args.house.now).known.present first before (noted (H.state c.hand_over.new.house).told (H.state c.hand_over.new.house).known h1.all) policy pid start given (0 ∷ without HOUSE (here c.hand_over.new.engine)) c.hand_over.new.engine refl h1.hands (none-given (same-rests (λ b. RestsOf H.state b first) _ _ c.loop-wire.invariant.known.present h1.so)))));
   known = on-err c.from_residual-in_err-own_rounds.result _ _ c.from_residual-in_err-own_rounds.ensures.0 tt;
   places = (places-then _ _ _ (places-then _ _ _ c.loop-wire.invariant.places c.hand_over.ensures.places) c.own_rounds.ensures.places);
   held_is = on-err c.from_residual-in_err-own_rounds.result _ _ c.from_residual-in_err-own_rounds.ensures.0 tt;
@@ -177,13 +177,13 @@ returns-in_err-own_rounds g c = let H = g.H.House in record {
 }
 
 pub returns-in_err-reply : goal.returns-in_err-reply
-returns-in_err-reply g c = let H = g.H.House in record {
+returns-in_err-reply g c = let H = g.H.Asks in record {
   serving = λ first calls before policy pid start given hands v.
       let h0 = c.loop-wire.invariant.serving first calls before policy pid start given hands v in
-      let h1 = c.in_ok-hand_over.ensures.serving c.loop-wire.lists.held c.loop-wire.lists.failed first h0.all before policy pid start given h0.hands (same-rests (λ b. RestsOf H.told H.known H.quiet H.must H.refused H.stands b first) _ _ (sym c.loop-wire.invariant.known.present) h0.so) in
-      let h2 = c.in_ok-own_rounds.ensures.serving (H.known c.args.house.now).present first before (noted (H.told c.hand_over.new.house) (H.known c.hand_over.new.house) h1.all) policy pid start given (0 ∷ without HOUSE (here c.hand_over.new.engine)) c.hand_over.new.engine refl h1.hands (none-given (same-rests (λ b. RestsOf H.told H.known H.quiet H.must H.refused H.stands b first) _ _ c.loop-wire.invariant.known.present h1.so)) in
-      let v2 = same-rests (λ b. RestsOf H.told H.known H.quiet H.must H.refused H.stands b first) _ _ (sym (ap (λ (k : Known). k.present) c.in_ok-own_rounds.ensures.known ∙ (ap (λ (k : Known). k.present) c.in_ok-hand_over.ensures.known ∙ c.loop-wire.invariant.known.present))) (same-noted (H.told c.hand_over.new.house) (H.told c.own_rounds.new.house) (H.known c.hand_over.new.house) (H.known c.own_rounds.new.house) c.own_rounds.ensures.told c.in_ok-own_rounds.ensures.known h2.so) in
-      on-err c.from_residual-in_err-reply.result _ _ c.from_residual-in_err-reply.ensures.0 (same-rests-left (λ b. RestsOf H.told H.known H.quiet H.must H.refused H.stands b first) _ _ (ap (λ (k : Known). k.present) c.in_ok-own_rounds.ensures.known ∙ (ap (λ (k : Known). k.present) c.in_ok-hand_over.ensures.known ∙ c.loop-wire.invariant.known.present)) (c.in_err-reply.ensures.serving c.own_rounds.new.held c.own_rounds.new.failed first h2.all before policy pid start given h2.hands v2));
+      let h1 = c.in_ok-hand_over.ensures.serving c.loop-wire.lists.held c.loop-wire.lists.failed first h0.all before policy pid start given h0.hands (same-rests (λ b. RestsOf H.state b first) _ _ (sym c.loop-wire.invariant.known.present) h0.so) in
+      let h2 = c.in_ok-own_rounds.ensures.serving (H.state c.args.house.now).known.present first before (noted (H.state c.hand_over.new.house).told (H.state c.hand_over.new.house).known h1.all) policy pid start given (0 ∷ without HOUSE (here c.hand_over.new.engine)) c.hand_over.new.engine refl h1.hands (none-given (same-rests (λ b. RestsOf H.state b first) _ _ c.loop-wire.invariant.known.present h1.so)) in
+      let v2 = same-rests (λ b. RestsOf H.state b first) _ _ (sym (ap (λ (k : Known). k.present) c.in_ok-own_rounds.ensures.known ∙ (ap (λ (k : Known). k.present) c.in_ok-hand_over.ensures.known ∙ c.loop-wire.invariant.known.present))) (same-noted (H.state c.hand_over.new.house).told (H.state c.own_rounds.new.house).told (H.state c.hand_over.new.house).known (H.state c.own_rounds.new.house).known c.own_rounds.ensures.told c.in_ok-own_rounds.ensures.known h2.so) in
+      on-err c.from_residual-in_err-reply.result _ _ c.from_residual-in_err-reply.ensures.0 (same-rests-left (λ b. RestsOf H.state b first) _ _ (ap (λ (k : Known). k.present) c.in_ok-own_rounds.ensures.known ∙ (ap (λ (k : Known). k.present) c.in_ok-hand_over.ensures.known ∙ c.loop-wire.invariant.known.present)) (c.in_err-reply.ensures.serving c.own_rounds.new.held c.own_rounds.new.failed first h2.all before policy pid start given h2.hands v2));
   known = on-err c.from_residual-in_err-reply.result _ _ c.from_residual-in_err-reply.ensures.0 tt;
   places = (places-then _ _ _ (places-then _ _ _ (places-then _ _ _ c.loop-wire.invariant.places c.hand_over.ensures.places) c.own_rounds.ensures.places) c.reply.ensures.places);
   held_is = on-err c.from_residual-in_err-reply.result _ _ c.from_residual-in_err-reply.ensures.0 tt;

@@ -12,22 +12,22 @@ use Rattle.mux_engine.specs.Sides.{RestsOf, SameHouse, SamePlaces, noted}
 use Rattle.mux_engine.proofs.housing.reply_all.Given as goal
 
 abbrev pub invariant-loop-wire : goal.invariant-loop-wire
-invariant-loop-wire g l = let W = g.W.Wire in let H = g.H.House in record {
-  serving : (first : _) (calls : List HouseCall) (before : Option (List HouseMark)) (policy : Policy) (pid : ℕ) (start : Option (List Mark)) (given : ℕ) → HandsOn (H.stands first) (H.stands l.fn.house) calls → Serving H.may (RestsOf H.told H.known H.quiet H.must H.refused H.stands (H.known l.fn.house).present first) before (noted (H.told l.fn.house) (H.known l.fn.house) calls) policy pid start (W.seen l.fn.wire) l.fn.lists.held l.fn.lists.failed given (0 ∷ here l.fn.engine) l.fn.engine
-      → Handed (H.stands first) (H.stands l.house) (λ (all : List HouseCall). Serving H.may (RestsOf H.told H.known H.quiet H.must H.refused H.stands (H.known l.fn.house).present first) before (noted (H.told l.house) (H.known l.house) all) policy pid start (W.seen l.wire) l.lists.held l.lists.failed given (0 ∷ here l.engine) l.engine);
-  known : SameHouse (H.known l.fn.house) (H.known l.house);
-  places : SamePlaces (W.seen l.fn.wire) (W.seen l.wire);
-  held_is : l.lists.held ≡ (W.seen l.wire).blocked;
+invariant-loop-wire g l = let W = g.W.Wire in let H = g.H.Asks in record {
+  serving : (first : _) (calls : List HouseCall) (before : Option (List HouseMark)) (policy : Policy) (pid : ℕ) (start : Option (List Mark)) (given : ℕ) → HandsOn (H.state first).stands (H.state l.fn.house).stands calls → Serving H.may (RestsOf H.state (H.state l.fn.house).known.present first) before (noted (H.state l.fn.house).told (H.state l.fn.house).known calls) policy pid start (W.state l.fn.wire).seen l.fn.lists.held l.fn.lists.failed given (0 ∷ here l.fn.engine) l.fn.engine
+      → Handed (H.state first).stands (H.state l.house).stands (λ (all : List HouseCall). Serving H.may (RestsOf H.state (H.state l.fn.house).known.present first) before (noted (H.state l.house).told (H.state l.house).known all) policy pid start (W.state l.wire).seen l.lists.held l.lists.failed given (0 ∷ here l.engine) l.engine);
+  known : SameHouse (H.state l.fn.house).known (H.state l.house).known;
+  places : SamePlaces (W.state l.fn.wire).seen (W.state l.wire).seen;
+  held_is : l.lists.held ≡ (W.state l.wire).seen.blocked;
   own : l.lists.own ≡ l.fn.lists.own;
-  must : H.must l.house ≡ H.must l.fn.house;
+  must : (H.state l.house).must ≡ (H.state l.fn.house).must;
   on : l.engine.ended ≡ None;
-  faults : W.server_faults l.wire ≡ W.server_faults l.fn.wire;
-  clients : W.client_faults l.wire ≡ W.client_faults l.fn.wire;
-  calls : Well 0 (W.calls l.fn.wire) (W.calls l.wire);
-  own_faults : OwnCounted (W.seen l.fn.wire).told (W.seen l.wire).told (W.own_faults l.fn.wire) (W.own_faults l.wire);
-  openings : W.openings l.wire ≡ W.openings l.fn.wire;
-  joinings : W.joinings l.wire ≡ W.joinings l.fn.wire;
+  faults : (W.faults l.wire).server ≡ (W.faults l.fn.wire).server;
+  clients : (W.faults l.wire).client ≡ (W.faults l.fn.wire).client;
+  calls : Well 0 (W.state l.fn.wire).calls (W.state l.wire).calls;
+  own_faults : OwnCounted (W.state l.fn.wire).seen.told (W.state l.wire).seen.told (W.faults l.fn.wire).own (W.faults l.wire).own;
+  openings : (W.state l.wire).openings ≡ (W.state l.fn.wire).openings;
+  joinings : (W.state l.wire).joinings ≡ (W.state l.fn.wire).joinings;
 }
 
 abbrev pub decreases-loop-wire : goal.decreases-loop-wire
-decreases-loop-wire g l = length (g.H.House.known l.house).asks
+decreases-loop-wire g l = length (g.H.Asks.state l.house).known.asks

@@ -13,29 +13,29 @@ use Rattle.mux_engine.proofs.orders.next_order.Goals as goal
 
 pub returns-in_err-obey-clause-serving : goal.returns-in_err-obey-clause-serving
 returns-in_err-obey-clause-serving g c todo s first calls before policy pid start given hands v =
-    let H = g.H.House in
+    let H = g.H.Asks in
     let side = given-side c.in-Some.order _ _ c.in-Some.ensures.known in
     let more : List HouseCall = calls_of (order_marks (Some c.in-Some.order)) in
     on-err c.from_residual.result _ _ c.from_residual.ensures.0
-    (subst (λ (b : Bool). Promised H.may (RestsOf H.told H.known H.quiet H.must H.refused H.stands b first) before (H.told c.obey.new.house) policy pid start (g.W.Wire.seen c.obey.new.wire).told (given + 1)) side.present
-    (c.in_err-obey.ensures.serving todo s first (calls ++ more) before policy pid start given (hands-then (H.stands first) (H.stands c.args.house.now) (H.stands c.order.new.self) calls more hands c.in-Some.ensures.stands)
-    (subst (λ (b : Bool). Serving H.may (RestsOf H.told H.known H.quiet H.must H.refused H.stands b first) before (noting (order_marks (Some c.in-Some.order)) (H.told c.order.new.self) (H.known c.order.new.self) (calls ++ more)) policy pid start (g.W.Wire.seen c.args.wire.now) c.args.lists.now.held c.args.lists.now.failed given todo s) (sym side.present)
+    (subst (λ (b : Bool). Promised H.may (RestsOf H.state b first) before (H.state c.obey.new.house).told policy pid start (g.W.Wire.state c.obey.new.wire).seen.told (given + 1)) side.present
+    (c.in_err-obey.ensures.serving todo s first (calls ++ more) before policy pid start given (hands-then (H.state first).stands (H.state c.args.house.now).stands (H.state c.order.new.self).stands calls more hands c.in-Some.ensures.stands)
+    (subst (λ (b : Bool). Serving H.may (RestsOf H.state b first) before (noting (order_marks (Some c.in-Some.order)) (H.state c.order.new.self).told (H.state c.order.new.self).known (calls ++ more)) policy pid start (g.W.Wire.state c.args.wire.now).seen c.args.lists.now.held c.args.lists.now.failed given todo s) (sym side.present)
     (order-given c.in-Some.order _ _ _ _ c.in-Some.ensures.told c.in-Some.ensures.known v))))
 
 pub returns-clause-serving : goal.returns-clause-serving
 returns-clause-serving g c todo s first calls before policy pid start given hands v =
-    let H = g.H.House in
+    let H = g.H.Asks in
     let side = given-side c.in-Some.order _ _ c.in-Some.ensures.known in
     let more : List HouseCall = calls_of (order_marks (Some c.in-Some.order)) in
-    let obeyed = c.in_ok-obey.ensures.serving todo s first (calls ++ more) before policy pid start given (hands-then (H.stands first) (H.stands c.args.house.now) (H.stands c.order.new.self) calls more hands c.in-Some.ensures.stands)
-    (subst (λ (b : Bool). Serving H.may (RestsOf H.told H.known H.quiet H.must H.refused H.stands b first) before (noting (order_marks (Some c.in-Some.order)) (H.told c.order.new.self) (H.known c.order.new.self) (calls ++ more)) policy pid start (g.W.Wire.seen c.args.wire.now) c.args.lists.now.held c.args.lists.now.failed given todo s) (sym side.present)
+    let obeyed = c.in_ok-obey.ensures.serving todo s first (calls ++ more) before policy pid start given (hands-then (H.state first).stands (H.state c.args.house.now).stands (H.state c.order.new.self).stands calls more hands c.in-Some.ensures.stands)
+    (subst (λ (b : Bool). Serving H.may (RestsOf H.state b first) before (noting (order_marks (Some c.in-Some.order)) (H.state c.order.new.self).told (H.state c.order.new.self).known (calls ++ more)) policy pid start (g.W.Wire.state c.args.wire.now).seen c.args.lists.now.held c.args.lists.now.failed given todo s) (sym side.present)
     (order-given c.in-Some.order _ _ _ _ c.in-Some.ensures.told c.in-Some.ensures.known v)) in
-    handed-so obeyed (subst (λ (b : Bool). Serving H.may (RestsOf H.told H.known H.quiet H.must H.refused H.stands b first) before (noted (H.told c.obey.new.house) (H.known c.obey.new.house) obeyed.all) policy pid start (g.W.Wire.seen c.obey.new.wire) c.obey.new.lists.held c.obey.new.lists.failed (given + 1) todo s) side.present obeyed.so)
+    handed-so obeyed (subst (λ (b : Bool). Serving H.may (RestsOf H.state b first) before (noted (H.state c.obey.new.house).told (H.state c.obey.new.house).known obeyed.all) policy pid start (g.W.Wire.state c.obey.new.wire).seen c.obey.new.lists.held c.obey.new.lists.failed (given + 1) todo s) side.present obeyed.so)
 
 -- ---- no order
 
 pub returns-in_default-clause-serving : goal.returns-in_default-clause-serving
-returns-in_default-clause-serving g c todo s first calls before policy pid start given hands v = still-handed (g.H.House.known c.order.new.self) hands c.in_default.ensures.stands c.in_default.ensures.told c.in_default.ensures.known v
+returns-in_default-clause-serving g c todo s first calls before policy pid start given hands v = still-handed (g.H.Asks.state c.order.new.self).known hands c.in_default.ensures.stands c.in_default.ensures.told c.in_default.ensures.known v
 
 -- ---- own faults
 

@@ -18,12 +18,12 @@ returns-in_err-number-clause-serving g c todo s first calls before policy pid st
 
 pub returns-clause-serving : goal.returns-clause-serving
 returns-clause-serving g c todo s first calls before policy pid start given hands v =
-    let H = g.H.House in
+    let H = g.H.Asks in
     let o = c.in_ok-number.ensures in
     let side = side-carried c.args.order c.in_ok-number.number _ _ _ _ c.requires.ordered o.known in
     let more : List HouseCall = calls_of (more_told c.args.order c.in_ok-number.number) in
     match-more c.note.result _ (λ served. handed-more _ more hands o.stands served)
-    (order-noted v c.note.result c.args.order c.in_ok-number.number (noted (H.told c.carry_out.new.house) (H.known c.carry_out.new.house) (calls ++ more)) _ _ _ _ c.requires.present o.made (closes-own c.args.order _ _ _ c.requires.ordered) refl o.told side.asks refl side.present refl o.seen (ap (λ x. x.told) o.seen ∙ carried-told c.args.order c.in_ok-number.number _) c.note.ensures.seen o.held o.failed)
+    (order-noted v c.note.result c.args.order c.in_ok-number.number (noted (H.state c.carry_out.new.house).told (H.state c.carry_out.new.house).known (calls ++ more)) _ _ _ _ c.requires.present o.made (closes-own c.args.order _ _ _ c.requires.ordered) refl o.told side.asks refl side.present refl o.seen (ap (λ x. x.told) o.seen ∙ carried-told c.args.order c.in_ok-number.number _) c.note.ensures.seen o.held o.failed)
 
 pub returns-clause-housed : goal.returns-clause-housed
 returns-clause-housed g c =
@@ -36,4 +36,4 @@ pub returns-in_err-number-clause-own_faults : goal.returns-in_err-number-clause-
 returns-in_err-number-clause-own_faults g c = own-still _ _ _ _ c.in_err-number.ensures.kept c.carry_out.ensures.own_later
 
 pub returns-clause-own_faults : goal.returns-clause-own_faults
-returns-clause-own_faults g c = let o = c.in_ok-number.ensures in own-ordered c.note.result c.args.order c.in_ok-number.number (g.W.Wire.seen c.args.wire.now) (g.W.Wire.seen c.carry_out.new.wire) _ _ _ _ (ap (λ x. x.told) o.seen ∙ carried-told c.args.order c.in_ok-number.number _) o.own_faults c.note.ensures.seen c.note.ensures.own
+returns-clause-own_faults g c = let o = c.in_ok-number.ensures in own-ordered c.note.result c.args.order c.in_ok-number.number (g.W.Wire.state c.args.wire.now).seen (g.W.Wire.state c.carry_out.new.wire).seen _ _ _ _ (ap (λ x. x.told) o.seen ∙ carried-told c.args.order c.in_ok-number.number _) o.own_faults c.note.ensures.seen c.note.ensures.own

@@ -5,5 +5,5 @@ use Rattle.mux_engine.proofs.owned.list_waiting.Given as goal
 
 abbrev pub invariant-loop-stream : goal.invariant-loop-stream
 invariant-loop-stream g l = record {
-  listed : l.todo ≡ l.waiting ++ filter (waits_for (g.H.House.queue l.house) l.failed) (take l.stream-index l.stream-items);
+  listed : l.todo ≡ l.waiting ++ filter (waits_for (g.H.Asks.state l.house).queue l.failed) (take l.stream-index l.stream-items);
 }

@@ -64,7 +64,7 @@ loop-stream-preserved g c = let v = c.loop-stream.invariant in let o = c.in_ok-o
   offered = λ same t h. elim (v.offered (omega (arith, v.grows, o.grows, same)) t h) [
     | inl a ↦ elim (rest-or c.in-Some.stream t c.loop-stream.todo a) [
       | inl r ↦ inl (ap (among t) c.remove.ensures ∙ r)
-      | inr is ↦ inr (subst (λ (j : ℕ). IsOffered (g.H.House.queue c.offer_own.new.house j) c.offer_own.new.held c.offer_own.new.failed j) is o.offered)
+      | inr is ↦ inr (subst (λ (j : ℕ). IsOffered ((g.H.Asks.state c.offer_own.new.house).queue j) c.offer_own.new.held c.offer_own.new.failed j) is o.offered)
     ]
     | inr q ↦ inr (o.keeps (omega (arith, v.grows, o.grows, same)) t q)
   ];

@@ -13,20 +13,20 @@ use Rattle.mux_engine.specs.Sides.{RestsOf, SamePlaces, Side}
 use Rattle.mux_engine.proofs.owned.own_rounds.Given as goal
 
 abbrev pub invariant-loop-wire : goal.invariant-loop-wire
-invariant-loop-wire g l = let W = g.W.Wire in let H = g.H.House in record {
-  serving : (present : Bool) (first : _) (before : Option (List HouseMark)) (now : Side) (policy : Policy) (pid : ℕ) (start : Option (List Mark)) (given : ℕ) (todo : List ℕ) (s : State) → now.unnoted ≡ [] → HandsOn (H.stands first) (H.stands l.fn.house) now.calls → Serving H.may (RestsOf H.told H.known H.quiet H.must H.refused H.stands present first) before now policy pid start (W.seen l.fn.wire) l.fn.held l.fn.failed given todo s
-      → Handed (H.stands first) (H.stands l.house) (λ (calls : List HouseCall). Serving H.may (RestsOf H.told H.known H.quiet H.must H.refused H.stands present first) before (record now { calls = calls }) policy pid start (W.seen l.wire) l.held l.failed given todo s);
-  known : H.known l.house ≡ H.known l.fn.house;
-  told : H.told l.house ≡ H.told l.fn.house;
-  must : H.must l.house ≡ H.must l.fn.house;
-  places : SamePlaces (W.seen l.fn.wire) (W.seen l.wire);
-  held_is : l.held ≡ (W.seen l.wire).blocked;
-  faults : W.server_faults l.wire ≡ W.server_faults l.fn.wire;
-  clients : W.client_faults l.wire ≡ W.client_faults l.fn.wire;
-  calls : Well 0 (W.calls l.fn.wire) (W.calls l.wire);
-  own_faults : OwnCounted (W.seen l.fn.wire).told (W.seen l.wire).told (W.own_faults l.fn.wire) (W.own_faults l.wire);
-  openings : W.openings l.wire ≡ W.openings l.fn.wire;
-  joinings : W.joinings l.wire ≡ W.joinings l.fn.wire;
+invariant-loop-wire g l = let W = g.W.Wire in let H = g.H.Asks in record {
+  serving : (present : Bool) (first : _) (before : Option (List HouseMark)) (now : Side) (policy : Policy) (pid : ℕ) (start : Option (List Mark)) (given : ℕ) (todo : List ℕ) (s : State) → now.unnoted ≡ [] → HandsOn (H.state first).stands (H.state l.fn.house).stands now.calls → Serving H.may (RestsOf H.state present first) before now policy pid start (W.state l.fn.wire).seen l.fn.held l.fn.failed given todo s
+      → Handed (H.state first).stands (H.state l.house).stands (λ (calls : List HouseCall). Serving H.may (RestsOf H.state present first) before (record now { calls = calls }) policy pid start (W.state l.wire).seen l.held l.failed given todo s);
+  known : (H.state l.house).known ≡ (H.state l.fn.house).known;
+  told : (H.state l.house).told ≡ (H.state l.fn.house).told;
+  must : (H.state l.house).must ≡ (H.state l.fn.house).must;
+  places : SamePlaces (W.state l.fn.wire).seen (W.state l.wire).seen;
+  held_is : l.held ≡ (W.state l.wire).seen.blocked;
+  faults : (W.faults l.wire).server ≡ (W.faults l.fn.wire).server;
+  clients : (W.faults l.wire).client ≡ (W.faults l.fn.wire).client;
+  calls : Well 0 (W.state l.fn.wire).calls (W.state l.wire).calls;
+  own_faults : OwnCounted (W.state l.fn.wire).seen.told (W.state l.wire).seen.told (W.faults l.fn.wire).own (W.faults l.wire).own;
+  openings : (W.state l.wire).openings ≡ (W.state l.fn.wire).openings;
+  joinings : (W.state l.wire).joinings ≡ (W.state l.fn.wire).joinings;
 }
 
 abbrev pub decreases-loop-wire : goal.decreases-loop-wire

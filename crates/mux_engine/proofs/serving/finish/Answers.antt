@@ -20,13 +20,13 @@ pub last_replies-requires : goal.last_replies-requires
 last_replies-requires g c = let w = c.requires.served in record { served = record { first = w.first; calls = w.calls; hands = w.hands; before = w.before; policy = w.policy; pid = w.pid; start = w.start; given = w.given; serving = none-settled _ c.if-lists.false w.serving }; housed = c.requires.housed; held_is = c.requires.held_is; on = c.requires.on }
 
 pub flush-requires : goal.flush-requires
-flush-requires g c = let H = g.H.House in let w = c.requires.served in
+flush-requires g c = let H = g.H.Asks in let w = c.requires.served in
     let h = c.in_ok-last_replies.ensures.serving w.first w.calls w.before w.policy w.pid w.start w.given w.hands (none-settled _ c.if-lists.false w.serving) in record {
       served = record {
-        present = (H.known c.args.house.now).present;
+        present = (H.state c.args.house.now).known.present;
         first = w.first;
         before = w.before;
-        now = noted (H.told c.last_replies.new.house) (H.known c.last_replies.new.house) h.all;
+        now = noted (H.state c.last_replies.new.house).told (H.state c.last_replies.new.house).known h.all;
         policy = w.policy;
         pid = w.pid;
         start = w.start;
@@ -50,11 +50,11 @@ returns-in_err-last_replies g c = let W = g.W.Wire in let r = c.from_residual in
   own_faults = c.last_replies.ensures.own_faults;
   openings = c.last_replies.ensures.openings;
   joinings = c.last_replies.ensures.joinings;
-  idle = λ none p. let a = c.last_replies.ensures.alone p in (a.0, same-faults W.server_faults W.client_faults _ _ a.1);
+  idle = λ none p. let a = c.last_replies.ensures.alone p in (a.0, same-faults W.server_faults (W.faults _).client _ a.1);
 }
 
 pub returns : goal.returns
-returns g c = let H = g.H.House in let W = g.W.Wire in let o = c.in_ok-last_replies.ensures in record {
+returns g c = let H = g.H.Asks in let W = g.W.Wire in let o = c.in_ok-last_replies.ensures in record {
   serving = λ first calls before policy pid start given hands v.
       let h = o.serving first calls before policy pid start given hands (none-settled _ c.if-lists.false v) in
       match-more c.flush.result _ (λ x. handed-so h x) (c.flush.ensures.serving (HOUSE ∷ []) _ first before _ policy pid start _ (given + 0) (to-house h.so));
@@ -68,5 +68,5 @@ returns g c = let H = g.H.House in let W = g.W.Wire in let o = c.in_ok-last_repl
   openings = c.flush.ensures.openings ∙ c.last_replies.ensures.openings;
   joinings = c.flush.ensures.joinings ∙ c.last_replies.ensures.joinings;
   idle = λ none p. let a = c.last_replies.ensures.alone p in let b = c.flush.ensures.idle (ap (λ (s : State). s.waiting) a.0 ∙ none) in
-      (b.0 ∙ a.0, faults-then W.server_faults W.client_faults _ _ _ a.1 b.1);
+      (b.0 ∙ a.0, faults-then W.server_faults (W.faults _).client _ _ a.1 b.1);
 }

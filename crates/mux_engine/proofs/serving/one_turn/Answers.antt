@@ -26,16 +26,16 @@ returns-in_err-step_house-clause-serving g c first calls before policy pid start
 
 pub close_lost-requires : goal.close_lost-requires
 close_lost-requires g c =
-    let H = g.H.House in
+    let H = g.H.Asks in
     let house = c.step_house.new.house in
     let s = c.requires.served in
     let h = c.in_ok-step_house.ensures.serving s.first s.calls s.before s.policy s.pid s.start s.given s.hands s.serving in
     record {
       served = record {
-        present = (H.known c.args.house.now).present;
+        present = (H.state c.args.house.now).known.present;
         first = s.first;
         before = s.before;
-        now = noted (H.told house) (H.known house) h.all;
+        now = noted (H.state house).told (H.state house).known h.all;
         policy = s.policy;
         pid = s.pid;
         start = s.start;
@@ -48,11 +48,11 @@ close_lost-requires g c =
 
 pub hush-requires : goal.hush-requires
 hush-requires g c =
-    let H = g.H.House in
+    let H = g.H.Asks in
     let house = c.step_house.new.house in
     let s = c.requires.served in
     let h = c.in_ok-step_house.ensures.serving s.first s.calls s.before s.policy s.pid s.start s.given s.hands s.serving in
-    let v = c.close_lost.ensures.serving (H.known c.args.house.now).present s.first s.before (noted (H.told house) (H.known house) h.all) s.policy s.pid s.start c.step_house.new.lists.failed s.given []
+    let v = c.close_lost.ensures.serving (H.state c.args.house.now).known.present s.first s.before (noted (H.state house).told (H.state house).known h.all) s.policy s.pid s.start c.step_house.new.lists.failed s.given []
     (step-waits s.given (0 ∷ here c.step_house.new.engine) c.in_ok-step_house.field-0 c.if-branch.false h.so) in
     record { hears = v.hears }
 
@@ -60,42 +60,42 @@ hush-requires g c =
 
 pub returns-then-is_over-clause-serving : goal.returns-then-is_over-clause-serving
 returns-then-is_over-clause-serving g c first calls before policy pid start given hands v =
-    let H = g.H.House in
+    let H = g.H.Asks in
     let h = c.in_ok-step_house.ensures.serving first calls before policy pid start given hands v in
     let house = c.step_house.new.house in
     let lists = c.step_house.new.lists in
     let stepped = step-waits given (0 ∷ here c.step_house.new.engine) c.in_ok-step_house.field-0 c.if-branch.false h.so in
-    let closed = c.close_lost.ensures.serving (H.known c.args.house.now).present first before (noted (H.told house) (H.known house) h.all) policy pid start lists.failed given [] stepped in
-    handed-so h (inr (refl, all-left (HOUSE ∷ []) (c.hush.ensures.serving (H.known c.args.house.now).present first before (noted (H.told house) (H.known house) h.all) policy pid start c.close_lost.new.held lists.failed given [] closed)))
+    let closed = c.close_lost.ensures.serving (H.state c.args.house.now).known.present first before (noted (H.state house).told (H.state house).known h.all) policy pid start lists.failed given [] stepped in
+    handed-so h (inr (refl, all-left (HOUSE ∷ []) (c.hush.ensures.serving (H.state c.args.house.now).known.present first before (noted (H.state house).told (H.state house).known h.all) policy pid start c.close_lost.new.held lists.failed given [] closed)))
 
 pub returns-then-is_over-clause-housed : goal.returns-then-is_over-clause-housed
-returns-then-is_over-clause-housed g c = let H = g.H.House in let known = H.known c.step_house.new.house in let own = c.step_house.new.lists.own in
+returns-then-is_over-clause-housed g c = let H = g.H.Asks in let known = (H.state c.step_house.new.house).known in let own = c.step_house.new.lists.own in
     housed-still known known _ _ own (c.close_lost.ensures.housed known own c.in_ok-step_house.ensures.housed) (same-house known known refl) c.hush.ensures.places
 
 pub returns-then-is_over-clause-held_is : goal.returns-then-is_over-clause-held_is
 returns-then-is_over-clause-held_is g c =
-    let H = g.H.House in
+    let H = g.H.Asks in
     let house = c.step_house.new.house in
     let lists = c.step_house.new.lists in
     let s = c.requires.served in
     let h = c.in_ok-step_house.ensures.serving s.first s.calls s.before s.policy s.pid s.start s.given s.hands s.serving in
     let stepped = step-waits s.given (0 ∷ here c.step_house.new.engine) c.in_ok-step_house.field-0 c.if-branch.false h.so in
-    let closed = c.close_lost.ensures.serving (H.known c.args.house.now).present s.first s.before (noted (H.told house) (H.known house) h.all) s.policy s.pid s.start lists.failed s.given [] stepped in
-    let hushed = c.hush.ensures.serving (H.known c.args.house.now).present s.first s.before (noted (H.told house) (H.known house) h.all) s.policy s.pid s.start c.close_lost.new.held lists.failed s.given [] closed in
+    let closed = c.close_lost.ensures.serving (H.state c.args.house.now).known.present s.first s.before (noted (H.state house).told (H.state house).known h.all) s.policy s.pid s.start lists.failed s.given [] stepped in
+    let hushed = c.hush.ensures.serving (H.state c.args.house.now).known.present s.first s.before (noted (H.state house).told (H.state house).known h.all) s.policy s.pid s.start c.close_lost.new.held lists.failed s.given [] closed in
     hushed.held_is
 
 -- ---- a wait
 
 pub turn-requires-clause-served : goal.turn-requires-clause-served
 turn-requires-clause-served g c =
-    let H = g.H.House in
+    let H = g.H.Asks in
     let house = c.step_house.new.house in
     let lists = c.step_house.new.lists in
     let s = c.requires.served in
     let h = c.in_ok-step_house.ensures.serving s.first s.calls s.before s.policy s.pid s.start s.given s.hands s.serving in
     let stepped = step-waits s.given (0 ∷ here c.step_house.new.engine) c.in_ok-step_house.field-0 c.if-branch.false h.so in
-    let closed = c.close_lost.ensures.serving (H.known c.args.house.now).present s.first s.before (noted (H.told house) (H.known house) h.all) s.policy s.pid s.start lists.failed s.given [] stepped in
-    let hushed = c.hush.ensures.serving (H.known c.args.house.now).present s.first s.before (noted (H.told house) (H.known house) h.all) s.policy s.pid s.start c.close_lost.new.held lists.failed s.given [] closed in
+    let closed = c.close_lost.ensures.serving (H.state c.args.house.now).known.present s.first s.before (noted (H.state house).told (H.state house).known h.all) s.policy s.pid s.start lists.failed s.given [] stepped in
+    let hushed = c.hush.ensures.serving (H.state c.args.house.now).known.present s.first s.before (noted (H.state house).told (H.state house).known h.all) s.policy s.pid s.start c.close_lost.new.held lists.failed s.given [] closed in
     record {
       first = s.first;
       calls = h.all;
@@ -105,49 +105,49 @@ turn-requires-clause-served g c =
       pid = s.pid;
       start = s.start;
       given = s.given;
-      serving = present-is (λ b. RestsOf H.told H.known H.quiet H.must H.refused H.stands b s.first) _ _ (sym c.in_ok-step_house.ensures.present) hushed;
+      serving = present-is (λ b. RestsOf H.state b s.first) _ _ (sym c.in_ok-step_house.ensures.present) hushed;
     }
 
 pub turn-requires-clause-housed : goal.turn-requires-clause-housed
-turn-requires-clause-housed g c = let H = g.H.House in let known = H.known c.step_house.new.house in let own = c.step_house.new.lists.own in
+turn-requires-clause-housed g c = let H = g.H.Asks in let known = (H.state c.step_house.new.house).known in let own = c.step_house.new.lists.own in
     housed-still known known _ _ own (c.close_lost.ensures.housed known own c.in_ok-step_house.ensures.housed) (same-house known known refl) c.hush.ensures.places
 
 pub returns-in_err-went-clause-serving : goal.returns-in_err-went-clause-serving
 returns-in_err-went-clause-serving g c first calls before policy pid start given hands v =
-    let H = g.H.House in
+    let H = g.H.Asks in
     let h = c.in_ok-step_house.ensures.serving first calls before policy pid start given hands v in
     let house = c.step_house.new.house in
     let lists = c.step_house.new.lists in
     let stepped = step-waits given (0 ∷ here c.step_house.new.engine) c.in_ok-step_house.field-0 c.if-branch.false h.so in
-    let closed = c.close_lost.ensures.serving (H.known c.args.house.now).present first before (noted (H.told house) (H.known house) h.all) policy pid start lists.failed given [] stepped in
-    let hushed = c.hush.ensures.serving (H.known c.args.house.now).present first before (noted (H.told house) (H.known house) h.all) policy pid start c.close_lost.new.held lists.failed given [] closed in
-    on-err c.from_residual-in_err-went.result _ _ c.from_residual-in_err-went.ensures.0 (promised-is (λ b. RestsOf H.told H.known H.quiet H.must H.refused H.stands b first) _ _ c.in_ok-step_house.ensures.present
-    (c.in_err-went.ensures.serving first h.all before policy pid start given h.hands (present-is (λ b. RestsOf H.told H.known H.quiet H.must H.refused H.stands b first) _ _ (sym c.in_ok-step_house.ensures.present) hushed)))
+    let closed = c.close_lost.ensures.serving (H.state c.args.house.now).known.present first before (noted (H.state house).told (H.state house).known h.all) policy pid start lists.failed given [] stepped in
+    let hushed = c.hush.ensures.serving (H.state c.args.house.now).known.present first before (noted (H.state house).told (H.state house).known h.all) policy pid start c.close_lost.new.held lists.failed given [] closed in
+    on-err c.from_residual-in_err-went.result _ _ c.from_residual-in_err-went.ensures.0 (promised-is (λ b. RestsOf H.state b first) _ _ c.in_ok-step_house.ensures.present
+    (c.in_err-went.ensures.serving first h.all before policy pid start given h.hands (present-is (λ b. RestsOf H.state b first) _ _ (sym c.in_ok-step_house.ensures.present) hushed)))
 
 pub returns-clause-serving : goal.returns-clause-serving
 returns-clause-serving g c first calls before policy pid start given hands v =
-    let H = g.H.House in
+    let H = g.H.Asks in
     let h = c.in_ok-step_house.ensures.serving first calls before policy pid start given hands v in
     let house = c.step_house.new.house in
     let lists = c.step_house.new.lists in
     let stepped = step-waits given (0 ∷ here c.step_house.new.engine) c.in_ok-step_house.field-0 c.if-branch.false h.so in
-    let closed = c.close_lost.ensures.serving (H.known c.args.house.now).present first before (noted (H.told house) (H.known house) h.all) policy pid start lists.failed given [] stepped in
-    let hushed = c.hush.ensures.serving (H.known c.args.house.now).present first before (noted (H.told house) (H.known house) h.all) policy pid start c.close_lost.new.held lists.failed given [] closed in
-    let t = c.in_ok-went.ensures.serving first h.all before policy pid start given h.hands (present-is (λ b. RestsOf H.told H.known H.quiet H.must H.refused H.stands b first) _ _ (sym c.in_ok-step_house.ensures.present) hushed) in
-    handed-so t (inl (present-is (λ b. RestsOf H.told H.known H.quiet H.must H.refused H.stands b first) _ _ c.in_ok-step_house.ensures.present t.so))
+    let closed = c.close_lost.ensures.serving (H.state c.args.house.now).known.present first before (noted (H.state house).told (H.state house).known h.all) policy pid start lists.failed given [] stepped in
+    let hushed = c.hush.ensures.serving (H.state c.args.house.now).known.present first before (noted (H.state house).told (H.state house).known h.all) policy pid start c.close_lost.new.held lists.failed given [] closed in
+    let t = c.in_ok-went.ensures.serving first h.all before policy pid start given h.hands (present-is (λ b. RestsOf H.state b first) _ _ (sym c.in_ok-step_house.ensures.present) hushed) in
+    handed-so t (inl (present-is (λ b. RestsOf H.state b first) _ _ c.in_ok-step_house.ensures.present t.so))
 
 -- ---- what came
 
 pub returns-then-is_over-clause-ended_by : goal.returns-then-is_over-clause-ended_by
 returns-then-is_over-clause-ended_by g c = let W = g.W.Wire in
-    over-same (g.H.House.known c.args.house.now).present c.step_house.new.engine.ended c.close_lost.new.engine.ended (W.calls c.args.wire.now) (W.calls c.step_house.new.wire) (W.calls c.hush.new.wire)
+    over-same (g.H.Asks.state c.args.house.now).known.present c.step_house.new.engine.ended c.close_lost.new.engine.ended (W.state c.args.wire.now).calls (W.state c.step_house.new.wire).calls (W.state c.hush.new.wire).calls
     c.close_lost.ensures.ended (c.hush.ensures.calls ∙ c.close_lost.ensures.calls) c.in_ok-step_house.ensures.ended_by
 
 pub returns-clause-ended_by : goal.returns-clause-ended_by
 returns-clause-ended_by g c = let W = g.W.Wire in
-    over-present (g.H.House.known c.step_house.new.house).present (g.H.House.known c.args.house.now).present c.turn.new.engine.ended (W.calls c.args.wire.now) (W.calls c.turn.new.wire) c.in_ok-step_house.ensures.present
-    (over-later (g.H.House.known c.step_house.new.house).present c.turn.new.engine.ended (W.calls c.args.wire.now) (W.calls c.hush.new.wire) (W.calls c.turn.new.wire)
-    (subst (Came (W.calls c.args.wire.now)) (sym (c.hush.ensures.calls ∙ c.close_lost.ensures.calls)) c.in_ok-step_house.ensures.calls.came) c.in_ok-went.ensures.ended_by)
+    over-present (g.H.Asks.state c.step_house.new.house).known.present (g.H.Asks.state c.args.house.now).known.present c.turn.new.engine.ended (W.state c.args.wire.now).calls (W.state c.turn.new.wire).calls c.in_ok-step_house.ensures.present
+    (over-later (g.H.Asks.state c.step_house.new.house).known.present c.turn.new.engine.ended (W.state c.args.wire.now).calls (W.state c.hush.new.wire).calls (W.state c.turn.new.wire).calls
+    (subst (Came (W.state c.args.wire.now).calls) (sym (c.hush.ensures.calls ∙ c.close_lost.ensures.calls)) c.in_ok-step_house.ensures.calls.came) c.in_ok-went.ensures.ended_by)
 
 -- ---- own faults
 

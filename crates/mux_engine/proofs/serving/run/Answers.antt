@@ -34,10 +34,10 @@ turns_of-requires-clause-on g c = let w = c.requires.running.0 in
 pub returns-in_err-all-clause-ran : goal.returns-in_err-all-clause-ran
 returns-in_err-all-clause-ran g c before policy pid start v z = let r = c.from_residual-in_err-all in
     ran-starved _ _ c.args.turns c.args.turns r.result r.ensures.0 (omega arith)
-    (c.in_err-all.ensures.serving c.args.house.now [] before policy pid start (hands-none (g.H.House.stands c.args.house.now)) (none-held _ _ c.new-lists.ensures.held c.new-lists.ensures.failed (c.in_ok-enter.ensures.serving c.args.house.now [] before policy pid start [] [] 0 v z).0))
+    (c.in_err-all.ensures.serving c.args.house.now [] before policy pid start (hands-none (g.H.Asks.state c.args.house.now).stands) (none-held _ _ c.new-lists.ensures.held c.new-lists.ensures.failed (c.in_ok-enter.ensures.serving c.args.house.now [] before policy pid start [] [] 0 v z).0))
 
 pub finish-requires-clause-served : goal.finish-requires-clause-served
-finish-requires-clause-served g c = let H = g.H.House in let w = c.requires.running.0 in
+finish-requires-clause-served g c = let H = g.H.Asks in let w = c.requires.running.0 in
     let entered = (c.in_ok-enter.ensures.serving w.first w.calls w.before w.policy w.pid w.start [] [] w.given w.serving c.requires.running.1).0 in
     let handed = c.in_ok-all.ensures.serving w.first w.calls w.before w.policy w.pid w.start w.hands (given-is w.given 0 (none-given w.serving c.requires.running.1) (none-held _ _ c.new-lists.ensures.held c.new-lists.ensures.failed entered)) in
     let spent = handed.so in record {
@@ -49,25 +49,25 @@ finish-requires-clause-served g c = let H = g.H.House in let w = c.requires.runn
       pid = w.pid;
       start = w.start;
       given = spent.given;
-      serving = present-is (λ b. RestsOf H.told H.known H.quiet H.must H.refused H.stands b w.first) _ _ (sym c.in_ok-all.ensures.present) spent.serving;
+      serving = present-is (λ b. RestsOf H.state b w.first) _ _ (sym c.in_ok-all.ensures.present) spent.serving;
     }
 
 pub returns-in_err-finish-clause-ran : goal.returns-in_err-finish-clause-ran
-returns-in_err-finish-clause-ran g c before policy pid start v z = let H = g.H.House in let r = c.from_residual-in_err-finish in
-    let handed = c.in_ok-all.ensures.serving c.args.house.now [] before policy pid start (hands-none (H.stands c.args.house.now)) (none-held _ _ c.new-lists.ensures.held c.new-lists.ensures.failed (c.in_ok-enter.ensures.serving c.args.house.now [] before policy pid start [] [] 0 v z).0) in
+returns-in_err-finish-clause-ran g c before policy pid start v z = let H = g.H.Asks in let r = c.from_residual-in_err-finish in
+    let handed = c.in_ok-all.ensures.serving c.args.house.now [] before policy pid start (hands-none (H.state c.args.house.now).stands) (none-held _ _ c.new-lists.ensures.held c.new-lists.ensures.failed (c.in_ok-enter.ensures.serving c.args.house.now [] before policy pid start [] [] 0 v z).0) in
     let spent = handed.so in
     ran-starved _ _ c.args.turns (spent.given + 0) r.result r.ensures.0 (none-more spent.given c.args.turns spent.most)
-    (promised-is (λ b. RestsOf H.told H.known H.quiet H.must H.refused H.stands b c.args.house.now) _ _ c.in_ok-all.ensures.present (c.in_err-finish.ensures.serving c.args.house.now handed.all before policy pid start spent.given handed.hands (present-is (λ b. RestsOf H.told H.known H.quiet H.must H.refused H.stands b c.args.house.now) _ _ (sym c.in_ok-all.ensures.present) spent.serving)))
+    (promised-is (λ b. RestsOf H.state b c.args.house.now) _ _ c.in_ok-all.ensures.present (c.in_err-finish.ensures.serving c.args.house.now handed.all before policy pid start spent.given handed.hands (present-is (λ b. RestsOf H.state b c.args.house.now) _ _ (sym c.in_ok-all.ensures.present) spent.serving)))
 
 pub returns-clause-ran : goal.returns-clause-ran
-returns-clause-ran g c before policy pid start v z = let H = g.H.House in let t = c.in_ok-all.ensures in let f = c.in_ok-finish.ensures in
-    let handed = t.serving c.args.house.now [] before policy pid start (hands-none (H.stands c.args.house.now)) (none-held _ _ c.new-lists.ensures.held c.new-lists.ensures.failed (c.in_ok-enter.ensures.serving c.args.house.now [] before policy pid start [] [] 0 v z).0) in
+returns-clause-ran g c before policy pid start v z = let H = g.H.Asks in let t = c.in_ok-all.ensures in let f = c.in_ok-finish.ensures in
+    let handed = t.serving c.args.house.now [] before policy pid start (hands-none (H.state c.args.house.now).stands) (none-held _ _ c.new-lists.ensures.held c.new-lists.ensures.failed (c.in_ok-enter.ensures.serving c.args.house.now [] before policy pid start [] [] 0 v z).0) in
     let spent = handed.so in
-    let last = f.serving c.args.house.now handed.all before policy pid start spent.given handed.hands (present-is (λ b. RestsOf H.told H.known H.quiet H.must H.refused H.stands b c.args.house.now) _ _ (sym t.present) spent.serving) in
-    ran-whole (H.stands c.args.house.now) (H.stands c.finish.new.house) c.args.turns spent.given _ c.turns_of.new.engine.ended _ _ _ c.answer_of.result
-    (present-is (λ b. RestsOf H.told H.known H.quiet H.must H.refused H.stands b c.args.house.now) _ _ t.present last.so)
+    let last = f.serving c.args.house.now handed.all before policy pid start spent.given handed.hands (present-is (λ b. RestsOf H.state b c.args.house.now) _ _ (sym t.present) spent.serving) in
+    ran-whole (H.state c.args.house.now).stands (H.state c.finish.new.house).stands c.args.turns spent.given _ c.turns_of.new.engine.ended _ _ _ c.answer_of.result
+    (present-is (λ b. RestsOf H.state b c.args.house.now) _ _ t.present last.so)
     refl last.hands spent.most spent.all_given f.ended
-    (λ q on. over-still (λ h. (H.known h).present) H.must H.refused c.turns_of.new.house c.finish.new.house _ (f.unasked q) t.present (t.over q on))
+    (λ q on. over-still (λ h. (H.state h).known.present) H.must (H.state c.turns_of.new.house).refused c.finish.new.house _ (f.unasked q) t.present (t.over q on))
     (answer-is c.answer_of.result c.finish.new.engine.ended _ _ _ _ (f.known.present ∙ t.present) c.answer_of.ensures)
 
 pub returns-clause-permitted : goal.returns-clause-permitted
@@ -80,10 +80,10 @@ returns-in_err-finish-clause-calls g c = let r = c.from_residual-in_err-finish i
     stops-starved r.result _ c.args.turns _ _ r.ensures.0 (spent-cuts _ _ c.args.turns _ _ _ (spent-from _ _ c.args.turns _ _ _ c.enter.ensures.calls c.in_ok-all.ensures.calls) c.in_err-finish.ensures.calls)
 
 pub returns-clause-calls : goal.returns-clause-calls
-returns-clause-calls g c = let H = g.H.House in let t = c.in_ok-all.ensures in let f = c.in_ok-finish.ensures in
-    stops-whole (H.known c.args.house.now).present _ (H.must c.finish.new.house) c.args.turns c.answer_of.result _ _ _ _ c.turns_of.new.engine.ended c.finish.new.engine.ended _ _ (H.refused c.finish.new.house)
+returns-clause-calls g c = let H = g.H.Asks in let t = c.in_ok-all.ensures in let f = c.in_ok-finish.ensures in
+    stops-whole (H.state c.args.house.now).known.present _ (H.state c.finish.new.house).must c.args.turns c.answer_of.result _ _ _ _ c.turns_of.new.engine.ended c.finish.new.engine.ended _ _ (H.state c.finish.new.house).refused
     c.enter.ensures.calls t.calls f.calls f.ended t.by_row
-    (λ q on. over-still (λ h. (H.known h).present) H.must H.refused c.turns_of.new.house c.finish.new.house _ (f.unasked q) t.present (t.over q on))
+    (λ q on. over-still (λ h. (H.state h).known.present) H.must (H.state c.turns_of.new.house).refused c.finish.new.house _ (f.unasked q) t.present (t.over q on))
     (λ p none. let i = t.idle none in let a = c.enter.ensures.alone p in
     ap (λ (s : State). s.ended) ((f.idle (ap (λ (s : State). s.waiting) (i.1 ∙ a.0) ∙ c.requires.quiet) (t.present ∙ p)).0 ∙ (i.1 ∙ a.0)) ∙ c.requires.on)
     (answer-is c.answer_of.result c.finish.new.engine.ended _ _ _ _ (f.known.present ∙ t.present) c.answer_of.ensures)
@@ -103,10 +103,10 @@ pub returns-clause-came : goal.returns-clause-came
 returns-clause-came g c = came-then _ _ _ (came-then _ _ _ (came-same _ _ c.enter.ensures.calls) c.in_ok-all.ensures.calls.came) c.in_ok-finish.ensures.calls.came
 
 pub returns-clause-ended_by : goal.returns-clause-ended_by
-returns-clause-ended_by g c = let W = g.W.Wire in let p = (g.H.House.known c.args.house.now).present in let t = c.in_ok-all.ensures in let f = c.in_ok-finish.ensures in
-    over-answer p c.answer_of.result c.finish.new.engine.ended _ (W.calls c.args.wire.now) (W.calls c.finish.new.wire) c.answer_of.ensures
-    (over-offered p c.turns_of.new.engine.ended c.finish.new.engine.ended _ _ (W.calls c.args.wire.now) (W.calls c.turns_of.new.wire) (W.calls c.finish.new.wire) f.ended
-    (over-later p c.turns_of.new.engine.ended (W.calls c.args.wire.now) (W.calls c.enter.new.wire) (W.calls c.turns_of.new.wire) (came-same _ _ c.enter.ensures.calls) t.ended_by)
+returns-clause-ended_by g c = let W = g.W.Wire in let p = (g.H.Asks.state c.args.house.now).known.present in let t = c.in_ok-all.ensures in let f = c.in_ok-finish.ensures in
+    over-answer p c.answer_of.result c.finish.new.engine.ended _ (W.state c.args.wire.now).calls (W.state c.finish.new.wire).calls c.answer_of.ensures
+    (over-offered p c.turns_of.new.engine.ended c.finish.new.engine.ended _ _ (W.state c.args.wire.now).calls (W.state c.turns_of.new.wire).calls (W.state c.finish.new.wire).calls f.ended
+    (over-later p c.turns_of.new.engine.ended (W.state c.args.wire.now).calls (W.state c.enter.new.wire).calls (W.state c.turns_of.new.wire).calls (came-same _ _ c.enter.ensures.calls) t.ended_by)
     f.calls.came)
 
 -- ---- own faults

@@ -35,7 +35,7 @@ loop-init g c = record {
 }
 
 pub one_turn-requires : goal.one_turn-requires
-one_turn-requires g c = let H = g.H.House in let w = c.requires.served in let i = c.loop.invariant in
+one_turn-requires g c = let H = g.H.Asks in let w = c.requires.served in let i = c.loop.invariant in
     let h = i.serving w.first w.calls w.before w.policy w.pid w.start w.given w.hands w.serving in record {
       served = record {
         first = w.first;
@@ -46,7 +46,7 @@ one_turn-requires g c = let H = g.H.House in let w = c.requires.served in let i 
         pid = w.pid;
         start = w.start;
         given = w.given + c.loop.counter;
-        serving = present-is (λ b. RestsOf H.told H.known H.quiet H.must H.refused H.stands b w.first) _ _ (sym i.present) h.so;
+        serving = present-is (λ b. RestsOf H.state b w.first) _ _ (sym i.present) h.so;
       };
       housed = i.housed;
       alone = i.alone;
@@ -54,12 +54,12 @@ one_turn-requires g c = let H = g.H.House in let w = c.requires.served in let i 
     }
 
 pub loop-preserved : goal.loop-preserved
-loop-preserved g c = let H = g.H.House in let i = c.loop.invariant in let o = c.in_ok-one_turn.ensures in record {
+loop-preserved g c = let H = g.H.Asks in let i = c.loop.invariant in let o = c.in_ok-one_turn.ensures in record {
   serving = λ first calls before policy pid start given hands v.
       let h = i.serving first calls before policy pid start given hands v in
-      let t = o.serving first h.all before policy pid start (given + c.loop.counter) h.hands (present-is (λ b. RestsOf H.told H.known H.quiet H.must H.refused H.stands b first) _ _ (sym i.present) h.so) in
+      let t = o.serving first h.all before policy pid start (given + c.loop.counter) h.hands (present-is (λ b. RestsOf H.state b first) _ _ (sym i.present) h.so) in
       handed-so t (given-is (given + c.loop.counter + 1) (given + (c.loop.counter + 1)) (omega arith)
-      (none-settled _ (o.settled c.if-not-branch.false) (went-on _ c.if-not-branch.false (ends-is (λ b. RestsOf H.told H.known H.quiet H.must H.refused H.stands b first) _ _ i.present t.so))));
+      (none-settled _ (o.settled c.if-not-branch.false) (went-on _ c.if-not-branch.false (ends-is (λ b. RestsOf H.state b first) _ _ i.present t.so))));
   housed = o.housed;
   alone = o.alone;
   held_is = o.held_is;
@@ -77,11 +77,11 @@ loop-preserved g c = let H = g.H.House in let i = c.loop.invariant in let o = c.
 }
 
 pub returns-then-not-branch : goal.returns-then-not-branch
-returns-then-not-branch g c = let H = g.H.House in let i = c.loop.invariant in let o = c.in_ok-one_turn.ensures in record {
+returns-then-not-branch g c = let H = g.H.Asks in let i = c.loop.invariant in let o = c.in_ok-one_turn.ensures in record {
   serving = λ first calls before policy pid start hands v.
       let h = i.serving first calls before policy pid start 0 hands v in
-      let t = o.serving first h.all before policy pid start c.loop.counter h.hands (present-is (λ b. RestsOf H.told H.known H.quiet H.must H.refused H.stands b first) _ _ (sym i.present) (given-is (0 + c.loop.counter) c.loop.counter (omega arith) h.so)) in
-      handed-so t (went-over c.loop.counter c.args.turns _ (omega arith) (ends-is (λ b. RestsOf H.told H.known H.quiet H.must H.refused H.stands b first) _ _ i.present t.so));
+      let t = o.serving first h.all before policy pid start c.loop.counter h.hands (present-is (λ b. RestsOf H.state b first) _ _ (sym i.present) (given-is (0 + c.loop.counter) c.loop.counter (omega arith) h.so)) in
+      handed-so t (went-over c.loop.counter c.args.turns _ (omega arith) (ends-is (λ b. RestsOf H.state b first) _ _ i.present t.so));
   housed = o.housed;
   held_is = o.held_is;
   present = o.present ∙ i.present;
@@ -89,8 +89,8 @@ returns-then-not-branch g c = let H = g.H.House in let i = c.loop.invariant in l
   over = λ e. o.over c.if-not-branch.true;
   failed = λ e. rose-behind _ _ _ i.later (o.failed e);
   by_row = o.by_row;
-  ended_by = let W = g.W.Wire in over-present (H.known c.loop.house).present (H.known c.args.house.now).present c.one_turn.new.engine.ended (W.calls c.args.wire.now) (W.calls c.one_turn.new.wire) i.present
-      (over-later (H.known c.loop.house).present c.one_turn.new.engine.ended (W.calls c.args.wire.now) (W.calls c.loop.wire) (W.calls c.one_turn.new.wire) i.calls.came o.ended_by);
+  ended_by = let W = g.W.Wire in over-present (H.state c.loop.house).known.present (H.state c.args.house.now).known.present c.one_turn.new.engine.ended (W.state c.args.wire.now).calls (W.state c.one_turn.new.wire).calls i.present
+      (over-later (H.state c.loop.house).known.present c.one_turn.new.engine.ended (W.state c.args.wire.now).calls (W.state c.loop.wire).calls (W.state c.one_turn.new.wire).calls i.calls.came o.ended_by);
   unopened = λ p. c.one_turn.ensures.unopened (i.present ∙ p) ∙ i.unopened p;
   later = later-on _ _ _ i.later c.one_turn.ensures.later;
   calls = spent-over _ c.loop.counter c.args.turns _ _ _ (omega arith) i.calls (turned-is _ _ _ _ _ _ i.present c.if-not-branch.true o.calls)
@@ -114,11 +114,11 @@ returns g c = let W = g.W.Wire in let i = c.loop.invariant in record {
   over = λ e. true-false e;
   failed = λ e. let z : None ≡ Some ServerFailed = sym i.on ∙ e in absurd (let h = z in cc);
   by_row = row-live _ i.on;
-  ended_by = over-live (g.H.House.known c.args.house.now).present c.loop.engine.ended (W.calls c.args.wire.now) (W.calls c.loop.wire) i.on;
+  ended_by = over-live (g.H.Asks.state c.args.house.now).known.present c.loop.engine.ended (W.state c.args.wire.now).calls (W.state c.loop.wire).calls i.on;
   unopened = i.unopened;
   later = i.later;
   calls = spent-all _ c.loop.counter c.args.turns _ _ (omega arith) i.calls;
-  idle = λ z. let f = i.first (omega (arith, z)) in (f.0, f.1, record { same_server = ap W.server_faults f.2; same_client = ap W.client_faults f.2 });
+  idle = λ z. let f = i.first (omega (arith, z)) in (f.0, f.1, record { same_server = ap (W.faults f.2).server; same_client = ap (W.faults f.2).client });
   must = i.must;
   own_faults = i.own_faults;
   openings = i.openings;
@@ -128,11 +128,11 @@ returns g c = let W = g.W.Wire in let i = c.loop.invariant in record {
 -- ---- want of memory
 
 pub returns-in_err-one_turn : goal.returns-in_err-one_turn
-returns-in_err-one_turn g c = let H = g.H.House in let i = c.loop.invariant in let r = c.from_residual-in_err-one_turn in record {
+returns-in_err-one_turn g c = let H = g.H.Asks in let i = c.loop.invariant in let r = c.from_residual-in_err-one_turn in record {
   serving = λ first calls before policy pid start hands v.
       let h = i.serving first calls before policy pid start 0 hands v in
-      on-err r.result _ _ r.ensures.0 (promised-more (c.loop.counter + 1) c.args.turns (omega arith) (promised-is (λ b. RestsOf H.told H.known H.quiet H.must H.refused H.stands b first) _ _ i.present
-      (c.in_err-one_turn.ensures.serving first h.all before policy pid start c.loop.counter h.hands (present-is (λ b. RestsOf H.told H.known H.quiet H.must H.refused H.stands b first) _ _ (sym i.present) (given-is (0 + c.loop.counter) c.loop.counter (omega arith) h.so)))));
+      on-err r.result _ _ r.ensures.0 (promised-more (c.loop.counter + 1) c.args.turns (omega arith) (promised-is (λ b. RestsOf H.state b first) _ _ i.present
+      (c.in_err-one_turn.ensures.serving first h.all before policy pid start c.loop.counter h.hands (present-is (λ b. RestsOf H.state b first) _ _ (sym i.present) (given-is (0 + c.loop.counter) c.loop.counter (omega arith) h.so)))));
   housed = on-err r.result _ _ r.ensures.0 tt;
   held_is = on-err r.result _ _ r.ensures.0 tt;
   present = on-err r.result _ _ r.ensures.0 tt;

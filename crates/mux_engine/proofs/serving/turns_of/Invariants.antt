@@ -13,21 +13,21 @@ use Rattle.mux_engine.specs.Sides.{Housed, RestsOf, noted}
 use Rattle.mux_engine.proofs.serving.turns_of.Given as goal
 
 abbrev pub invariant-loop : goal.invariant-loop
-invariant-loop g l = let W = g.W.Wire in let H = g.H.House in record {
-  serving : (first : _) (calls : List HouseCall) (before : Option (List HouseMark)) (policy : Policy) (pid : ℕ) (start : Option (List Mark)) (given : ℕ) → HandsOn (H.stands first) (H.stands l.fn.house) calls → Serving H.may (RestsOf H.told H.known H.quiet H.must H.refused H.stands (H.known l.fn.house).present first) before (noted (H.told l.fn.house) (H.known l.fn.house) calls) policy pid start (W.seen l.fn.wire) l.fn.lists.held l.fn.lists.failed given (0 ∷ here l.fn.engine) l.fn.engine
-      → Handed (H.stands first) (H.stands l.house) (λ (all : List HouseCall). Serving H.may (RestsOf H.told H.known H.quiet H.must H.refused H.stands (H.known l.fn.house).present first) before (noted (H.told l.house) (H.known l.house) all) policy pid start (W.seen l.wire) l.lists.held l.lists.failed (given + l.counter) (0 ∷ here l.engine) l.engine);
-  housed : Housed (H.known l.house) (W.seen l.wire) l.lists.own;
-  alone : IsAlone (H.known l.house);
-  held_is : l.lists.held ≡ (W.seen l.wire).blocked;
-  present : (H.known l.house).present ≡ (H.known l.fn.house).present;
+invariant-loop g l = let W = g.W.Wire in let H = g.H.Asks in record {
+  serving : (first : _) (calls : List HouseCall) (before : Option (List HouseMark)) (policy : Policy) (pid : ℕ) (start : Option (List Mark)) (given : ℕ) → HandsOn (H.state first).stands (H.state l.fn.house).stands calls → Serving H.may (RestsOf H.state (H.state l.fn.house).known.present first) before (noted (H.state l.fn.house).told (H.state l.fn.house).known calls) policy pid start (W.state l.fn.wire).seen l.fn.lists.held l.fn.lists.failed given (0 ∷ here l.fn.engine) l.fn.engine
+      → Handed (H.state first).stands (H.state l.house).stands (λ (all : List HouseCall). Serving H.may (RestsOf H.state (H.state l.fn.house).known.present first) before (noted (H.state l.house).told (H.state l.house).known all) policy pid start (W.state l.wire).seen l.lists.held l.lists.failed (given + l.counter) (0 ∷ here l.engine) l.engine);
+  housed : Housed (H.state l.house).known (W.state l.wire).seen l.lists.own;
+  alone : IsAlone (H.state l.house).known;
+  held_is : l.lists.held ≡ (W.state l.wire).seen.blocked;
+  present : (H.state l.house).known.present ≡ (H.state l.fn.house).known.present;
   on : l.engine.ended ≡ None;
   settled : l.lists.settled ≡ false;
   first : l.counter ≡ 0 → (l.house ≡ l.fn.house) × (l.engine ≡ l.fn.engine) × (l.wire ≡ l.fn.wire);
-  unopened : (H.known l.fn.house).present ≡ false → (W.seen l.wire).last_own ≡ (W.seen l.fn.wire).last_own;
-  later : W.server_faults l.fn.wire ≤ W.server_faults l.wire;
-  calls : Spent (H.known l.fn.house).present true l.counter (W.calls l.fn.wire) (W.calls l.wire);
-  must : H.must l.house ≡ H.must l.fn.house;
-  own_faults : OwnCounted (W.seen l.fn.wire).told (W.seen l.wire).told (W.own_faults l.fn.wire) (W.own_faults l.wire);
-  openings : W.openings l.wire ≡ W.openings l.fn.wire;
-  joinings : W.joinings l.wire ≡ W.joinings l.fn.wire;
+  unopened : (H.state l.fn.house).known.present ≡ false → (W.state l.wire).seen.last_own ≡ (W.state l.fn.wire).seen.last_own;
+  later : (W.faults l.fn.wire).server ≤ (W.faults l.wire).server;
+  calls : Spent (H.state l.fn.house).known.present true l.counter (W.state l.fn.wire).calls (W.state l.wire).calls;
+  must : (H.state l.house).must ≡ (H.state l.fn.house).must;
+  own_faults : OwnCounted (W.state l.fn.wire).seen.told (W.state l.wire).seen.told (W.faults l.fn.wire).own (W.faults l.wire).own;
+  openings : (W.state l.wire).openings ≡ (W.state l.fn.wire).openings;
+  joinings : (W.state l.wire).joinings ≡ (W.state l.fn.wire).joinings;
 }

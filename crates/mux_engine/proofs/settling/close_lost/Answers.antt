@@ -24,9 +24,9 @@ loop-client-preserved g c =
     let closes : Closes s (closed_by s k) k = subst (λ (t : State). Closes s t k) c.closed.ensures.exact c.closed.ensures.stands in
     record {
       serving = λ present first before now policy pid start failed given todo v.
-          subst (λ (x : Seen). Serving g.H.House.may (RestsOf g.H.House.told g.H.House.known g.H.House.quiet g.H.House.must g.H.House.refused g.H.House.stands present first) before now policy pid start x c.remove.new.self failed given todo c.closed.new.self) (sym c.close.ensures.seen)
-          (subst (λ h. Serving g.H.House.may (RestsOf g.H.House.told g.H.House.known g.H.House.quiet g.H.House.must g.H.House.refused g.H.House.stands present first) before now policy pid start (seen_after_close k (g.W.Wire.seen c.loop-client.wire)) h failed given todo c.closed.new.self) (sym c.remove.ensures)
-          (subst (λ (t : State). Serving g.H.House.may (RestsOf g.H.House.told g.H.House.known g.H.House.quiet g.H.House.must g.H.House.refused g.H.House.stands present first) before now policy pid start (seen_after_close k (g.W.Wire.seen c.loop-client.wire)) (without k c.loop-client.held) failed given todo t) (sym c.closed.ensures.exact)
+          subst (λ (x : Seen). Serving g.H.Asks.may (RestsOf g.H.Asks.state present first) before now policy pid start x c.remove.new.self failed given todo c.closed.new.self) (sym c.close.ensures.seen)
+          (subst (λ h. Serving g.H.Asks.may (RestsOf g.H.Asks.state present first) before now policy pid start (seen_after_close k (g.W.Wire.state c.loop-client.wire).seen) h failed given todo c.closed.new.self) (sym c.remove.ensures)
+          (subst (λ (t : State). Serving g.H.Asks.may (RestsOf g.H.Asks.state present first) before now policy pid start (seen_after_close k (g.W.Wire.state c.loop-client.wire).seen) (without k c.loop-client.held) failed given todo t) (sym c.closed.ensures.exact)
           (serve-closed (c.loop-client.invariant.serving present first before now policy pid start failed given todo v) k leaves closes)));
       housed = λ known own h. let w = c.requires.served in
           subst (λ (x : Seen). Housed known x own) (sym c.close.ensures.seen)

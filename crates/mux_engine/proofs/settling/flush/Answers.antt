@@ -64,7 +64,7 @@ returns-in_err-offer_clients-clause-later g c = le_trans (le-of _ _ (sym c.hush.
 
 pub returns-in_err-offer_clients-clause-calls : goal.returns-in_err-offer_clients-clause-calls
 returns-in_err-offer_clients-clause-calls g c = counts-err c.from_residual.result 0 _ _ c.from_residual.ensures.0
-    (subst (λ (x : CallCounts). Cut 0 x (g.W.Wire.calls c.offer_clients.new.wire)) c.hush.ensures.calls c.in_err-offer_clients.ensures.calls)
+    (subst (λ (x : CallCounts). Cut 0 x (g.W.Wire.state c.offer_clients.new.wire).calls) c.hush.ensures.calls c.in_err-offer_clients.ensures.calls)
 
 pub returns-clause-serving : goal.returns-clause-serving
 returns-clause-serving g c left present first before now policy pid start failed given v = c.offer.ensures.serving left refl present first before now policy pid start failed given
@@ -88,7 +88,7 @@ returns-clause-later g c = le_trans (le-of _ _ (sym c.hush.ensures.faults)) (le_
 
 pub returns-clause-calls : goal.returns-clause-calls
 returns-clause-calls g c = counts-then c.offer.result _ _ _
-    (subst (λ (x : CallCounts). Well 0 x (g.W.Wire.calls c.offer_clients.new.wire)) c.hush.ensures.calls c.in_ok-offer_clients.ensures.calls) c.offer.ensures.calls
+    (subst (λ (x : CallCounts). Well 0 x (g.W.Wire.state c.offer_clients.new.wire).calls) c.hush.ensures.calls c.in_ok-offer_clients.ensures.calls) c.offer.ensures.calls
 
 pub returns-clause-idle : goal.returns-clause-idle
 returns-clause-idle g c = λ none.

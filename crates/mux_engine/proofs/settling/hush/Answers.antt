@@ -18,10 +18,10 @@ silent g c live = elim c.else-listening.branch [
 
 pub returns-clause-serving : goal.returns-clause-serving
 returns-clause-serving g c present first before now policy pid start held failed given todo v =
-    subst (λ (x : Seen). Serving g.H.House.may (RestsOf g.H.House.told g.H.House.known g.H.House.quiet g.H.House.must g.H.House.refused g.H.House.stands present first) before now policy pid start x held failed given todo c.args.engine.now) (sym c.stop_listening.ensures.seen) (serve-hushed v (silent g c))
+    subst (λ (x : Seen). Serving g.H.Asks.may (RestsOf g.H.Asks.state present first) before now policy pid start x held failed given todo c.args.engine.now) (sym c.stop_listening.ensures.seen) (serve-hushed v (silent g c))
 
 pub returns-clause-places : goal.returns-clause-places
-returns-clause-places g c = subst (SamePlaces (g.W.Wire.seen c.args.wire.now)) (sym c.stop_listening.ensures.seen) record { streams = refl; listeners = refl; own = refl; last_own = refl }
+returns-clause-places g c = subst (SamePlaces (g.W.Wire.state c.args.wire.now).seen) (sym c.stop_listening.ensures.seen) record { streams = refl; listeners = refl; own = refl; last_own = refl }
 
 -- ---- own faults
 

@@ -34,7 +34,7 @@ write-requires-clause-stream_open g c = let w = c.requires.served in stream-open
 
 pub write-requires-clause-not_finished : goal.write-requires-clause-not_finished
 write-requires-clause-not_finished g c = let w = c.requires.served in
-    client-unfinished c.args.stream (g.W.Wire.seen c.args.wire.now).own c.requires.numbered (open-own w.serving c.args.stream c.requires.stream_open c.requires.no_house)
+    client-unfinished c.args.stream (g.W.Wire.state c.args.wire.now).seen.own c.requires.numbered (open-own w.serving c.args.stream c.requires.stream_open c.requires.no_house)
 
 -- ---- bytes that were taken
 
@@ -48,8 +48,8 @@ returns-in-Took-clause-serving g c todo zero present first before now policy pid
     let some : 0 < length bytes = some-bytes bytes (sym c.if-is_empty.ensures) in
     let same : SameRun s c.took.new.self = took-run s c.took.new.self k n c.took.ensures.exact in
     let at : AtStream s v.journal v.closed k = at-stream v.stands k c.requires.stream_open in
-    subst (λ (x : Seen). Serving g.H.House.may (RestsOf g.H.House.told g.H.House.known g.H.House.quiet g.H.House.must g.H.House.refused g.H.House.stands present first) before now policy pid start x c.args.held.now failed given (k ∷ todo) c.took.new.self) (sym c.in-Took.ensures.seen)
-    (serve-alone v now (seen_after_write (wrote.Took n) k bytes (g.W.Wire.seen c.args.wire.now)) c.args.held.now failed given (k ∷ todo) c.took.new.self (Takes k (take n bytes))
+    subst (λ (x : Seen). Serving g.H.Asks.may (RestsOf g.H.Asks.state present first) before now policy pid start x c.args.held.now failed given (k ∷ todo) c.took.new.self) (sym c.in-Took.ensures.seen)
+    (serve-alone v now (seen_after_write (wrote.Took n) k bytes (g.W.Wire.state c.args.wire.now).seen) c.args.held.now failed given (k ∷ todo) c.took.new.self (Takes k (take n bytes))
     (c.took.ensures.stands (take n bytes) (length-take-le n bytes fits) v.picked v.replies v.journal v.closed v.stands ((λ nz. queue-present s k bytes c.queue_of-bytes.ensures.exact some nz), not-own-stream k (open-own v k c.requires.stream_open c.requires.no_house)))
     (took-asks s c.took.new.self k (take n bytes) v.journal same)
     (next-takes v c.took.new.self k n bytes c.requires.stream_open c.requires.no_house same c.queue_of-bytes.ensures.bytes c.in-Took.ensures.wrote.0 fits (c.queue_of-bytes.ensures.waits v.picked v.replies v.journal v.closed v.stands at.not_closed)))
@@ -77,7 +77,7 @@ pub returns-in-Took-clause-later : goal.returns-in-Took-clause-later
 returns-in-Took-clause-later g c = le-of _ _ (sym c.in-Took.ensures.cause.same_server)
 
 pub returns-in-Took-clause-calls : goal.returns-in-Took-clause-calls
-returns-in-Took-clause-calls g c = subst (λ (x : CallCounts). Well 0 (g.W.Wire.calls c.args.wire.now) x) (sym c.in-Took.ensures.calls) (well-one (g.W.Wire.calls c.args.wire.now))
+returns-in-Took-clause-calls g c = subst (λ (x : CallCounts). Well 0 (g.W.Wire.state c.args.wire.now).calls x) (sym c.in-Took.ensures.calls) (well-one (g.W.Wire.state c.args.wire.now).calls)
 
 -- ---- a stream that is blocked now
 
@@ -86,9 +86,9 @@ returns-in_ok-push-in-Later-clause-serving g c todo zero present first before no
     let s : State = c.args.engine.now in
     let k : ℕ = c.args.stream in
     let bytes : List ℕ = c.queue_of-bytes.result.now in
-    subst (λ (x : Seen). Serving g.H.House.may (RestsOf g.H.House.told g.H.House.known g.H.House.quiet g.H.House.must g.H.House.refused g.H.House.stands present first) before now policy pid start x c.push.new.self failed given (without k todo) s) (sym c.in-Later.ensures.seen)
-    (subst (λ (h : List ℕ). Serving g.H.House.may (RestsOf g.H.House.told g.H.House.known g.H.House.quiet g.H.House.must g.H.House.refused g.H.House.stands present first) before now policy pid start (seen_after_write wrote.Later k bytes (g.W.Wire.seen c.args.wire.now)) h failed given (without k todo) s) (sym c.in_ok-push-in-Later.ensures.ok)
-    (serve-alone v now (seen_after_write wrote.Later k bytes (g.W.Wire.seen c.args.wire.now)) (c.args.held.now ++ k ∷ []) failed given (without k todo) s (Holds k)
+    subst (λ (x : Seen). Serving g.H.Asks.may (RestsOf g.H.Asks.state present first) before now policy pid start x c.push.new.self failed given (without k todo) s) (sym c.in-Later.ensures.seen)
+    (subst (λ (h : List ℕ). Serving g.H.Asks.may (RestsOf g.H.Asks.state present first) before now policy pid start (seen_after_write wrote.Later k bytes (g.W.Wire.state c.args.wire.now).seen) h failed given (without k todo) s) (sym c.in_ok-push-in-Later.ensures.ok)
+    (serve-alone v now (seen_after_write wrote.Later k bytes (g.W.Wire.state c.args.wire.now).seen) (c.args.held.now ++ k ∷ []) failed given (without k todo) s (Holds k)
     (stands-alike v.journal (Holds k ∷ v.journal) v.picked v.replies s v.closed (holds-alike k v.journal) v.stands) (λ picks replies. refl)
     (next-holds v k bytes c.requires.stream_open c.requires.no_house c.queue_of-bytes.ensures.bytes (some-bytes c.queue_of-bytes.result.now (sym c.if-is_empty.ensures)))))
 
@@ -116,10 +116,10 @@ returns-in_ok-event-in-Failed-clause-serving g c todo zero present first before 
     let f : Failing k s c.event.new.self = lost g c in
     let said = c.in_ok-event-in-Failed.ensures.stands (WriteFails k) c.event_of_fault.ensures.write v.picked v.replies v.journal v.closed v.stands (at.accepted, not-own-stream k (open-own v k c.requires.stream_open c.requires.no_house)) in
     let none = none-asked said.asks (goes-asked (λ j. ⊥) said f.policy f.pid tt) in
-    let on = goes-unasked {May = g.H.House.may} v.stands said none in
-    subst (λ (x : Seen). Serving g.H.House.may (RestsOf g.H.House.told g.H.House.known g.H.House.quiet g.H.House.must g.H.House.refused g.H.House.stands present first) before now policy pid start x c.args.held.now failed given (without k todo) c.event.new.self) (sym c.in-Failed.ensures.seen)
-    (serve-next v now (seen_after_write wrote.Failed k bytes (g.W.Wire.seen c.args.wire.now)) c.args.held.now failed given (without k todo) c.event.new.self (WriteFails k) on
-    (next-fails v k bytes on (unasked-none g.H.House.may v.stands said none) c.requires.stream_open c.requires.no_house c.queue_of-bytes.ensures.bytes (some-bytes c.queue_of-bytes.result.now (sym c.if-is_empty.ensures)) zero f.policy f.pid f.streams f.live f.over))
+    let on = goes-unasked {May = g.H.Asks.may} v.stands said none in
+    subst (λ (x : Seen). Serving g.H.Asks.may (RestsOf g.H.Asks.state present first) before now policy pid start x c.args.held.now failed given (without k todo) c.event.new.self) (sym c.in-Failed.ensures.seen)
+    (serve-next v now (seen_after_write wrote.Failed k bytes (g.W.Wire.state c.args.wire.now).seen) c.args.held.now failed given (without k todo) c.event.new.self (WriteFails k) on
+    (next-fails v k bytes on (unasked-none g.H.Asks.may v.stands said none) c.requires.stream_open c.requires.no_house c.queue_of-bytes.ensures.bytes (some-bytes c.queue_of-bytes.result.now (sym c.if-is_empty.ensures)) zero f.policy f.pid f.streams f.live f.over))
 
 pub returns-in_err-event-in-Failed-clause-serving : goal.returns-in_err-event-in-Failed-clause-serving
 returns-in_err-event-in-Failed-clause-serving g c todo zero present first before now policy pid start failed given v = on-err c.from_residual-in_err-event-in-Failed.result _ _ c.from_residual-in_err-event-in-Failed.ensures.0
@@ -141,7 +141,7 @@ pub returns-in_err-event-in-Failed-clause-later : goal.returns-in_err-event-in-F
 returns-in_err-event-in-Failed-clause-later g c = fault-later c.args.stream _ _ _ _ c.in-Failed.ensures.cause
 
 pub returns-in_ok-event-in-Failed-clause-calls : goal.returns-in_ok-event-in-Failed-clause-calls
-returns-in_ok-event-in-Failed-clause-calls g c = subst (λ (x : CallCounts). Well 0 (g.W.Wire.calls c.args.wire.now) x) (sym c.in-Failed.ensures.calls) (well-one (g.W.Wire.calls c.args.wire.now))
+returns-in_ok-event-in-Failed-clause-calls g c = subst (λ (x : CallCounts). Well 0 (g.W.Wire.state c.args.wire.now).calls x) (sym c.in-Failed.ensures.calls) (well-one (g.W.Wire.state c.args.wire.now).calls)
 
 -- ---- no memory for the write
 

@@ -2,4 +2,4 @@ use Rattle.mux_machine.proofs.Still.{goes-unheard}
 use Rattle.mux_machine.proofs.laws.a_client_is_not_read.Goals as goal
 
 pub returns : goal.returns
-returns g c = goes-unheard g.H.House.may
+returns g c = goes-unheard g.H.Asks.may

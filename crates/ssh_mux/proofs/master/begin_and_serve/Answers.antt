@@ -29,7 +29,7 @@ pub returns-in_err-begin-clause-idle : goal.returns-in_err-begin-clause-idle
 returns-in_err-begin-clause-idle g c = λ z. let p = err_from_is_err_and c.from_residual.result c.from_residual.ensures.1 in let e = c.in_err-begin.ensures.err in rw (p.1, p.2, e) (where_false _ _ tt)
 
 pub returns-clause-served : goal.returns-clause-served
-returns-clause-served g c = shares-begun g.H.House.told g.H.House.known g.H.House.quiet g.H.House.must g.H.House.refused g.H.House.stands _ _ _ c.in_ok-begin.ensures.stands _ _ _ _ _ _ _ _ _ _ _ (rw (c.in_ok-begin.ensures.known, c.in_ok-begin.ensures.told) at c.open_and_serve.ensures.served)
+returns-clause-served g c = shares-begun g.H.House.told g.H.House.known g.H.House.quiet g.H.House.must g.H.House.refused (g.H.Asks.state _).stands _ _ c.in_ok-begin.ensures.stands _ _ _ _ _ _ _ _ _ _ _ (rw (c.in_ok-begin.ensures.known, c.in_ok-begin.ensures.told) at c.open_and_serve.ensures.served)
 
 pub returns-clause-start : goal.returns-clause-start
 returns-clause-start g c = rw c.in_ok-begin.ensures.known at c.open_and_serve.ensures.start
@@ -47,7 +47,7 @@ pub returns-clause-must : goal.returns-clause-must
 returns-clause-must g c = λ x. musts-begun _ _ _ (c.open_and_serve.ensures.must ∙ c.in_ok-begin.ensures.must x)
 
 pub returns-in_err-begin-clause-came : goal.returns-in_err-begin-clause-came
-returns-in_err-begin-clause-came g c = let p = err_from_is_err_and c.from_residual.result c.from_residual.ensures.1 in let e = c.in_err-begin.ensures.err in rw (p.1, p.2, e) (memory-came (g.H.House.known c.args.house.now).present (g.W.Wire.calls c.args.wire.now) (g.W.Wire.calls c.args.wire.now))
+returns-in_err-begin-clause-came g c = let p = err_from_is_err_and c.from_residual.result c.from_residual.ensures.1 in let e = c.in_err-begin.ensures.err in rw (p.1, p.2, e) (memory-came (g.H.Asks.state c.args.house.now).known.present (g.W.Wire.state c.args.wire.now).calls (g.W.Wire.state c.args.wire.now).calls)
 
 pub returns-clause-came : goal.returns-clause-came
 returns-clause-came g c = rw c.in_ok-begin.ensures.known at c.open_and_serve.ensures.came

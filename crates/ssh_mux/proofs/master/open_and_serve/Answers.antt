@@ -6,7 +6,7 @@ pub returns-in-Ok-clause-served : goal.returns-in-Ok-clause-served
 returns-in-Ok-clause-served g c = shares_end _ _ _ _ _ _ _ _ _ _ _ _ _ _ c.ending_of.ensures.told (rw c.in-Ok.ensures.seen at c.serve.ensures.kept)
 
 pub returns-in-Ok-clause-waited : goal.returns-in-Ok-clause-waited
-returns-in-Ok-clause-waited g c = rw c.ending_of.ensures.told (waits_end _ _ _ _ _ (opened_stops (Ok c.in-Ok.field-0) (g.H.House.known c.args.house.now).present c.args.turns c.serve.result (g.W.Wire.calls c.args.wire.now) (g.W.Wire.calls c.open.new.self) (g.W.Wire.calls c.serve.new.wire) c.in-Ok.ensures.calls c.serve.ensures.calls))
+returns-in-Ok-clause-waited g c = rw c.ending_of.ensures.told (waits_end _ _ _ _ _ (opened_stops (Ok c.in-Ok.field-0) (g.H.Asks.state c.args.house.now).known.present c.args.turns c.serve.result (g.W.Wire.state c.args.wire.now).calls (g.W.Wire.state c.open.new.self).calls (g.W.Wire.state c.serve.new.wire).calls c.in-Ok.ensures.calls c.serve.ensures.calls))
 
 pub returns-in-Ok-clause-idle : goal.returns-in-Ok-clause-idle
 returns-in-Ok-clause-idle g c = λ z. rw c.ending_of.ensures.told (idle_end _ _ _ _ _ _ _ _ c.in-Ok.ensures.cause (c.serve.ensures.idle z))
@@ -18,4 +18,4 @@ pub returns-in-Ok-clause-calls : goal.returns-in-Ok-clause-calls
 returns-in-Ok-clause-calls g c = rw c.ending_of.ensures.told (serving_calls (Ok c.in-Ok.field-0) _ _ _ _ _ _ c.in-Ok.ensures.calls c.serve.ensures.calls c.serve.ensures.came)
 
 pub returns-in-Ok-clause-came : goal.returns-in-Ok-clause-came
-returns-in-Ok-clause-came g c = rw c.ending_of.ensures.told (came_end _ _ _ _ (opened_ended (Ok c.in-Ok.field-0) (g.H.House.known c.args.house.now).present c.serve.result (g.W.Wire.calls c.args.wire.now) (g.W.Wire.calls c.open.new.self) (g.W.Wire.calls c.serve.new.wire) c.in-Ok.ensures.calls c.serve.ensures.ended_by))
+returns-in-Ok-clause-came g c = rw c.ending_of.ensures.told (came_end _ _ _ _ (opened_ended (Ok c.in-Ok.field-0) (g.H.Asks.state c.args.house.now).known.present c.serve.result (g.W.Wire.state c.args.wire.now).calls (g.W.Wire.state c.open.new.self).calls (g.W.Wire.state c.serve.new.wire).calls c.in-Ok.ensures.calls c.serve.ensures.ended_by))

@@ -84,10 +84,10 @@ pub returns-in-Master-clause-opened : goal.returns-in-Master-clause-opened
 returns-in-Master-clause-opened g c = rw (of-read _ _ _ (rw c.in-Master.is at c.in_ok-command.ensures.exact)) c.share.ensures.opened
 
 pub returns-in-Master-clause-shared : goal.returns-in-Master-clause-shared
-returns-in-Master-clause-shared g c = rw (of-read _ _ _ (rw c.in-Master.is at c.in_ok-command.ensures.exact), master-told _ _ _ _ _ _ (rw c.in-Master.is at c.in_ok-command.ensures.exact)) (with-policy (machine (g.F.Files.told c.args.files.now) (g.R.Runner.told c.args.runner.now) c.args.facts.now) c.in-Master.asked c.in-Master.transport c.in-Master.opens c.in-Master.listens (so_far c.share.result) (λ p. Begun (told_over (machine (g.F.Files.told c.args.files.now) (g.R.Runner.told c.args.runner.now) c.args.facts.now) c.in-Master.asked) (λ starts. Shares g.H.House.may (BegunRests g.H.House.told g.H.House.known g.H.House.quiet g.H.House.must g.H.House.refused g.H.House.stands (g.H.House.known c.args.house.now).present starts) (BeganWith starts) (g.H.House.stands c.share.new.house) p (pid_of c.args.facts.now.pid) c.args.turns (g.H.House.told c.args.house.now) (g.H.House.told c.share.new.house) (g.W.Wire.seen c.args.wire.now).told (g.W.Wire.seen c.share.new.wire) (refused_if (g.H.House.known c.args.house.now).present (g.H.House.must c.share.new.house) (g.H.House.refused c.share.new.house)) c.share.result)) c.share.ensures.served)
+returns-in-Master-clause-shared g c = rw (of-read _ _ _ (rw c.in-Master.is at c.in_ok-command.ensures.exact), master-told _ _ _ _ _ _ (rw c.in-Master.is at c.in_ok-command.ensures.exact)) (with-policy (machine (g.F.Files.told c.args.files.now) (g.R.Runner.told c.args.runner.now) c.args.facts.now) c.in-Master.asked c.in-Master.transport c.in-Master.opens c.in-Master.listens (so_far c.share.result) (λ p. Begun (told_over (machine (g.F.Files.told c.args.files.now) (g.R.Runner.told c.args.runner.now) c.args.facts.now) c.in-Master.asked) (λ starts. Shares g.H.Asks.may (BegunRests g.H.House.told g.H.House.known g.H.House.quiet g.H.House.must g.H.House.refused g.H.House.stands (g.H.Asks.state c.args.house.now).known.present starts) (BeganWith starts) (g.H.Asks.state c.share.new.house).stands p (pid_of c.args.facts.now.pid) c.args.turns (g.H.Asks.state c.args.house.now).told (g.H.Asks.state c.share.new.house).told (g.W.Wire.state c.args.wire.now).seen.told (g.W.Wire.state c.share.new.wire).seen (refused_if (g.H.Asks.state c.args.house.now).known.present (g.H.Asks.state c.share.new.house).must (g.H.Asks.state c.share.new.house).refused) c.share.result)) c.share.ensures.served)
 
 pub returns-in-Master-clause-wire_cause : goal.returns-in-Master-clause-wire_cause
-returns-in-Master-clause-wire_cause g c = rw (of-read _ _ _ (rw c.in-Master.is at c.in_ok-command.ensures.exact)) (for-master (may_open (so_far c.share.result)) (opens (of_command (machine (g.F.Files.told c.args.files.now) (g.R.Runner.told c.args.runner.now) c.args.facts.now) (commands.Master c.in-Master.asked c.in-Master.transport c.in-Master.opens c.in-Master.listens))) (drills (of_command (machine (g.F.Files.told c.args.files.now) (g.R.Runner.told c.args.runner.now) c.args.facts.now) (commands.Master c.in-Master.asked c.in-Master.transport c.in-Master.opens c.in-Master.listens))) (WireCause (so_far c.share.result) (g.W.Wire.server_faults c.args.wire.now) (g.W.Wire.server_faults c.share.new.wire) (g.W.Wire.client_faults c.args.wire.now) (g.W.Wire.client_faults c.share.new.wire)) (master-undrilled (machine (g.F.Files.told c.args.files.now) (g.R.Runner.told c.args.runner.now) c.args.facts.now) c.in-Master.asked c.in-Master.transport c.in-Master.opens c.in-Master.listens) c.share.ensures.wire_cause)
+returns-in-Master-clause-wire_cause g c = rw (of-read _ _ _ (rw c.in-Master.is at c.in_ok-command.ensures.exact)) (for-master (may_open (so_far c.share.result)) (opens (of_command (machine (g.F.Files.told c.args.files.now) (g.R.Runner.told c.args.runner.now) c.args.facts.now) (commands.Master c.in-Master.asked c.in-Master.transport c.in-Master.opens c.in-Master.listens))) (drills (of_command (machine (g.F.Files.told c.args.files.now) (g.R.Runner.told c.args.runner.now) c.args.facts.now) (commands.Master c.in-Master.asked c.in-Master.transport c.in-Master.opens c.in-Master.listens))) (WireCause (so_far c.share.result) (g.W.Wire.faults c.args.wire.now).server (g.W.Wire.faults c.share.new.wire).server (g.W.Wire.faults c.args.wire.now).client (g.W.Wire.faults c.share.new.wire).client) (master-undrilled (machine (g.F.Files.told c.args.files.now) (g.R.Runner.told c.args.runner.now) c.args.facts.now) c.in-Master.asked c.in-Master.transport c.in-Master.opens c.in-Master.listens) c.share.ensures.wire_cause)
 
 pub returns-in_err-command-clause-calls : goal.returns-in_err-command-clause-calls
 returns-in_err-command-clause-calls g c = still-calls _ _ _
@@ -129,19 +129,19 @@ pub returns-in-Master-clause-drill : goal.returns-in-Master-clause-drill
 returns-in-Master-clause-drill g c = rw (of-read _ _ _ (rw c.in-Master.is at c.in_ok-command.ensures.exact)) (not_true _ _ (master-undrilled _ _ _ _ _))
 
 pub returns-in_err-command-clause-waited : goal.returns-in_err-command-clause-waited
-returns-in_err-command-clause-waited g c = let p = err_from_is_err_and c.from_residual.result c.from_residual.ensures.1 in rw (p.1, p.2) (refused-waits (serves_house (g.H.House.known c.args.house.now).present (known_of (g.F.Files.told c.args.files.now) (g.R.Runner.told c.args.runner.now) c.args.facts.now c.args.words.now)) (known_of (g.F.Files.told c.args.files.now) (g.R.Runner.told c.args.runner.now) c.args.facts.now c.args.words.now) _ c.args.turns (g.W.Wire.calls c.args.wire.now) (g.W.Wire.calls c.args.wire.now) (misread _ _ _ c.in_err-command.ensures.exact))
+returns-in_err-command-clause-waited g c = let p = err_from_is_err_and c.from_residual.result c.from_residual.ensures.1 in rw (p.1, p.2) (refused-waits (serves_house (g.H.Asks.state c.args.house.now).known.present (known_of (g.F.Files.told c.args.files.now) (g.R.Runner.told c.args.runner.now) c.args.facts.now c.args.words.now)) (known_of (g.F.Files.told c.args.files.now) (g.R.Runner.told c.args.runner.now) c.args.facts.now c.args.words.now) _ c.args.turns (g.W.Wire.state c.args.wire.now).calls (g.W.Wire.state c.args.wire.now).calls (misread _ _ _ c.in_err-command.ensures.exact))
 
 pub returns-in_err-command-clause-idle : goal.returns-in_err-command-clause-idle
 returns-in_err-command-clause-idle g c = λ z. where_false _ _ (still-idle _ _ _)
 
 pub returns-in-List-clause-waited : goal.returns-in-List-clause-waited
-returns-in-List-clause-waited g c = rw (of-read _ _ _ (rw c.in-List.is at c.in_ok-command.ensures.exact)) (unopened-waits (serves_house (g.H.House.known c.args.house.now).present (of_command (machine (g.F.Files.told c.args.files.now) (g.R.Runner.told c.args.runner.now) c.args.facts.now) (commands.List c.in-List.asked))) (of_command (machine (g.F.Files.told c.args.files.now) (g.R.Runner.told c.args.runner.now) c.args.facts.now) (commands.List c.in-List.asked)) (so_far c.list.result) c.args.turns (g.W.Wire.calls c.args.wire.now) (g.W.Wire.calls c.args.wire.now) (list-shut _ _) (list-undrilled _ _))
+returns-in-List-clause-waited g c = rw (of-read _ _ _ (rw c.in-List.is at c.in_ok-command.ensures.exact)) (unopened-waits (serves_house (g.H.Asks.state c.args.house.now).known.present (of_command (machine (g.F.Files.told c.args.files.now) (g.R.Runner.told c.args.runner.now) c.args.facts.now) (commands.List c.in-List.asked))) (of_command (machine (g.F.Files.told c.args.files.now) (g.R.Runner.told c.args.runner.now) c.args.facts.now) (commands.List c.in-List.asked)) (so_far c.list.result) c.args.turns (g.W.Wire.state c.args.wire.now).calls (g.W.Wire.state c.args.wire.now).calls (list-shut _ _) (list-undrilled _ _))
 
 pub returns-in-List-clause-idle : goal.returns-in-List-clause-idle
 returns-in-List-clause-idle g c = λ z. where_false _ _ (still-idle _ _ _)
 
 pub returns-in-Master-clause-waited : goal.returns-in-Master-clause-waited
-returns-in-Master-clause-waited g c = rw (of-read _ _ _ (rw c.in-Master.is at c.in_ok-command.ensures.exact)) (follows _ _ _ (for-master (may_open (so_far c.share.result)) (opens (of_command (machine (g.F.Files.told c.args.files.now) (g.R.Runner.told c.args.runner.now) c.args.facts.now) (commands.Master c.in-Master.asked c.in-Master.transport c.in-Master.opens c.in-Master.listens))) (drills (of_command (machine (g.F.Files.told c.args.files.now) (g.R.Runner.told c.args.runner.now) c.args.facts.now) (commands.Master c.in-Master.asked c.in-Master.transport c.in-Master.opens c.in-Master.listens))) (WaitsFor c.args.turns (so_far c.share.result) (g.W.Wire.calls c.args.wire.now) (g.W.Wire.calls c.share.new.wire)) (master-undrilled (machine (g.F.Files.told c.args.files.now) (g.R.Runner.told c.args.runner.now) c.args.facts.now) c.in-Master.asked c.in-Master.transport c.in-Master.opens c.in-Master.listens)) c.share.ensures.waited)
+returns-in-Master-clause-waited g c = rw (of-read _ _ _ (rw c.in-Master.is at c.in_ok-command.ensures.exact)) (follows _ _ _ (for-master (may_open (so_far c.share.result)) (opens (of_command (machine (g.F.Files.told c.args.files.now) (g.R.Runner.told c.args.runner.now) c.args.facts.now) (commands.Master c.in-Master.asked c.in-Master.transport c.in-Master.opens c.in-Master.listens))) (drills (of_command (machine (g.F.Files.told c.args.files.now) (g.R.Runner.told c.args.runner.now) c.args.facts.now) (commands.Master c.in-Master.asked c.in-Master.transport c.in-Master.opens c.in-Master.listens))) (WaitsFor c.args.turns (so_far c.share.result) (g.W.Wire.state c.args.wire.now).calls (g.W.Wire.state c.share.new.wire).calls) (master-undrilled (machine (g.F.Files.told c.args.files.now) (g.R.Runner.told c.args.runner.now) c.args.facts.now) c.in-Master.asked c.in-Master.transport c.in-Master.opens c.in-Master.listens)) c.share.ensures.waited)
 
 pub returns-in-Drill-clause-waited : goal.returns-in-Drill-clause-waited
 returns-in-Drill-clause-waited g c = where_false _ _ (on_true _ _ c.drill.ensures.waited)
@@ -232,7 +232,7 @@ pub returns-in-Master-clause-asked_waits : goal.returns-in-Master-clause-asked_w
 returns-in-Master-clause-asked_waits g c = rw (of-read _ _ _ (rw c.in-Master.is at c.in_ok-command.ensures.exact)) (not_true _ _ (unasked _ _ (master-unasked _ _ _ _ _)))
 
 pub returns-in-Drill-clause-joined : goal.returns-in-Drill-clause-joined
-returns-in-Drill-clause-joined g c = rw (of-drill _ _ _ _ _ (rw c.in-Drill.is at c.in_ok-command.ensures.exact)) (none-joined (Certain (Drills c.in-Drill.seed c.in-Drill.clients c.in-Drill.messages)) (so_far c.drill.result) (g.W.Wire.joinings c.args.wire.now) (g.W.Wire.joinings c.drill.new.wire) refl c.drill.ensures.joinings)
+returns-in-Drill-clause-joined g c = rw (of-drill _ _ _ _ _ (rw c.in-Drill.is at c.in_ok-command.ensures.exact)) (none-joined (Certain (Drills c.in-Drill.seed c.in-Drill.clients c.in-Drill.messages)) (so_far c.drill.result) (g.W.Wire.state c.args.wire.now).joinings (g.W.Wire.state c.drill.new.wire).joinings refl c.drill.ensures.joinings)
 
 pub returns-in-Drill-clause-asked : goal.returns-in-Drill-clause-asked
 returns-in-Drill-clause-asked g c = rw (of-drill _ _ _ _ _ (rw c.in-Drill.is at c.in_ok-command.ensures.exact)) (not_true _ _ (unasked (Certain (Drills c.in-Drill.seed c.in-Drill.clients c.in-Drill.messages)) (so_far c.drill.result) refl))
@@ -277,7 +277,7 @@ pub returns-in-Control-clause-wire_cause : goal.returns-in-Control-clause-wire_c
 returns-in-Control-clause-wire_cause g c = rw (of-read _ _ _ (rw c.in-Control.is at c.in_ok-command.ensures.exact)) (not_true _ _ (shut-all _ _ (client-shut _ _ _) (client-undrilled _ _ _)))
 
 pub returns-in-Control-clause-waited : goal.returns-in-Control-clause-waited
-returns-in-Control-clause-waited g c = rw (of-read _ _ _ (rw c.in-Control.is at c.in_ok-command.ensures.exact)) (unopened-waits (serves_house (g.H.House.known c.args.house.now).present (of_command (machine (g.F.Files.told c.args.files.now) (g.R.Runner.told c.args.runner.now) c.args.facts.now) (commands.Control c.in-Control.asked c.in-Control.control))) (of_command (machine (g.F.Files.told c.args.files.now) (g.R.Runner.told c.args.runner.now) c.args.facts.now) (commands.Control c.in-Control.asked c.in-Control.control)) (so_far c.ask_master.result) c.args.turns (g.W.Wire.calls c.args.wire.now) (g.W.Wire.calls c.ask_master.new.wire) (client-shut _ _ _) (client-undrilled _ _ _))
+returns-in-Control-clause-waited g c = rw (of-read _ _ _ (rw c.in-Control.is at c.in_ok-command.ensures.exact)) (unopened-waits (serves_house (g.H.Asks.state c.args.house.now).known.present (of_command (machine (g.F.Files.told c.args.files.now) (g.R.Runner.told c.args.runner.now) c.args.facts.now) (commands.Control c.in-Control.asked c.in-Control.control))) (of_command (machine (g.F.Files.told c.args.files.now) (g.R.Runner.told c.args.runner.now) c.args.facts.now) (commands.Control c.in-Control.asked c.in-Control.control)) (so_far c.ask_master.result) c.args.turns (g.W.Wire.state c.args.wire.now).calls (g.W.Wire.state c.ask_master.new.wire).calls (client-shut _ _ _) (client-undrilled _ _ _))
 
 pub returns-in-Control-clause-drill : goal.returns-in-Control-clause-drill
 returns-in-Control-clause-drill g c = rw (of-read _ _ _ (rw c.in-Control.is at c.in_ok-command.ensures.exact)) (not_true _ _ (client-undrilled _ _ _))
@@ -370,7 +370,7 @@ pub returns-in_err-command-clause-unopened : goal.returns-in_err-command-clause-
 returns-in_err-command-clause-unopened g c = where_false _ _ refl
 
 pub returns-in_err-command-clause-came : goal.returns-in_err-command-clause-came
-returns-in_err-command-clause-came g c = let p = err_from_is_err_and c.from_residual.result c.from_residual.ensures.1 in rw (p.1, p.2) (refused-came _ _ (serves_house (g.H.House.known c.args.house.now).present (known_of (g.F.Files.told c.args.files.now) (g.R.Runner.told c.args.runner.now) c.args.facts.now c.args.words.now)) _ _ (misread _ _ _ c.in_err-command.ensures.exact))
+returns-in_err-command-clause-came g c = let p = err_from_is_err_and c.from_residual.result c.from_residual.ensures.1 in rw (p.1, p.2) (refused-came _ _ (serves_house (g.H.Asks.state c.args.house.now).known.present (known_of (g.F.Files.told c.args.files.now) (g.R.Runner.told c.args.runner.now) c.args.facts.now c.args.words.now)) _ _ (misread _ _ _ c.in_err-command.ensures.exact))
 
 pub returns-in-List-clause-unopened : goal.returns-in-List-clause-unopened
 returns-in-List-clause-unopened g c = where_false _ _ refl
@@ -379,16 +379,16 @@ pub returns-in-List-clause-came : goal.returns-in-List-clause-came
 returns-in-List-clause-came g c = rw (of-read _ _ _ (rw c.in-List.is at c.in_ok-command.ensures.exact)) (not_true _ _ (shut-all _ _ (list-shut _ _) (list-undrilled _ _)))
 
 pub returns-in-Master-clause-unopened : goal.returns-in-Master-clause-unopened
-returns-in-Master-clause-unopened g c = rw (of-read _ _ _ (rw c.in-Master.is at c.in_ok-command.ensures.exact)) (follows (may_open (so_far c.share.result) && (opens (of_command (machine (g.F.Files.told c.args.files.now) (g.R.Runner.told c.args.runner.now) c.args.facts.now) (commands.Master c.in-Master.asked c.in-Master.transport c.in-Master.opens c.in-Master.listens)) || drills (of_command (machine (g.F.Files.told c.args.files.now) (g.R.Runner.told c.args.runner.now) c.args.facts.now) (commands.Master c.in-Master.asked c.in-Master.transport c.in-Master.opens c.in-Master.listens)))) (c.share.new.wire ≡ c.args.wire.now) ((g.W.Wire.calls c.share.new.wire).opens ≡ (g.W.Wire.calls c.args.wire.now).opens) (λ same. ap (λ w. (g.W.Wire.calls w).opens) same) (untouched (may_open (so_far c.share.result)) (opens (of_command (machine (g.F.Files.told c.args.files.now) (g.R.Runner.told c.args.runner.now) c.args.facts.now) (commands.Master c.in-Master.asked c.in-Master.transport c.in-Master.opens c.in-Master.listens))) (drills (of_command (machine (g.F.Files.told c.args.files.now) (g.R.Runner.told c.args.runner.now) c.args.facts.now) (commands.Master c.in-Master.asked c.in-Master.transport c.in-Master.opens c.in-Master.listens))) (c.share.new.wire ≡ c.args.wire.now) c.share.ensures.wire))
+returns-in-Master-clause-unopened g c = rw (of-read _ _ _ (rw c.in-Master.is at c.in_ok-command.ensures.exact)) (follows (may_open (so_far c.share.result) && (opens (of_command (machine (g.F.Files.told c.args.files.now) (g.R.Runner.told c.args.runner.now) c.args.facts.now) (commands.Master c.in-Master.asked c.in-Master.transport c.in-Master.opens c.in-Master.listens)) || drills (of_command (machine (g.F.Files.told c.args.files.now) (g.R.Runner.told c.args.runner.now) c.args.facts.now) (commands.Master c.in-Master.asked c.in-Master.transport c.in-Master.opens c.in-Master.listens)))) (c.share.new.wire ≡ c.args.wire.now) ((g.W.Wire.state c.share.new.wire).calls.opens ≡ (g.W.Wire.state c.args.wire.now).calls.opens) (λ same. ap (λ w. (g.W.Wire.state w).calls.opens) same) (untouched (may_open (so_far c.share.result)) (opens (of_command (machine (g.F.Files.told c.args.files.now) (g.R.Runner.told c.args.runner.now) c.args.facts.now) (commands.Master c.in-Master.asked c.in-Master.transport c.in-Master.opens c.in-Master.listens))) (drills (of_command (machine (g.F.Files.told c.args.files.now) (g.R.Runner.told c.args.runner.now) c.args.facts.now) (commands.Master c.in-Master.asked c.in-Master.transport c.in-Master.opens c.in-Master.listens))) (c.share.new.wire ≡ c.args.wire.now) c.share.ensures.wire))
 
 pub returns-in-Master-clause-came : goal.returns-in-Master-clause-came
-returns-in-Master-clause-came g c = rw (of-read _ _ _ (rw c.in-Master.is at c.in_ok-command.ensures.exact)) (for-master (may_open (so_far c.share.result)) (opens (of_command (machine (g.F.Files.told c.args.files.now) (g.R.Runner.told c.args.runner.now) c.args.facts.now) (commands.Master c.in-Master.asked c.in-Master.transport c.in-Master.opens c.in-Master.listens))) (drills (of_command (machine (g.F.Files.told c.args.files.now) (g.R.Runner.told c.args.runner.now) c.args.facts.now) (commands.Master c.in-Master.asked c.in-Master.transport c.in-Master.opens c.in-Master.listens))) (CameFor (serves_house (g.H.House.known c.args.house.now).present (of_command (machine (g.F.Files.told c.args.files.now) (g.R.Runner.told c.args.runner.now) c.args.facts.now) (commands.Master c.in-Master.asked c.in-Master.transport c.in-Master.opens c.in-Master.listens))) (so_far c.share.result) (g.W.Wire.calls c.args.wire.now) (g.W.Wire.calls c.share.new.wire)) (master-undrilled (machine (g.F.Files.told c.args.files.now) (g.R.Runner.told c.args.runner.now) c.args.facts.now) c.in-Master.asked c.in-Master.transport c.in-Master.opens c.in-Master.listens) c.share.ensures.came)
+returns-in-Master-clause-came g c = rw (of-read _ _ _ (rw c.in-Master.is at c.in_ok-command.ensures.exact)) (for-master (may_open (so_far c.share.result)) (opens (of_command (machine (g.F.Files.told c.args.files.now) (g.R.Runner.told c.args.runner.now) c.args.facts.now) (commands.Master c.in-Master.asked c.in-Master.transport c.in-Master.opens c.in-Master.listens))) (drills (of_command (machine (g.F.Files.told c.args.files.now) (g.R.Runner.told c.args.runner.now) c.args.facts.now) (commands.Master c.in-Master.asked c.in-Master.transport c.in-Master.opens c.in-Master.listens))) (CameFor (serves_house (g.H.Asks.state c.args.house.now).known.present (of_command (machine (g.F.Files.told c.args.files.now) (g.R.Runner.told c.args.runner.now) c.args.facts.now) (commands.Master c.in-Master.asked c.in-Master.transport c.in-Master.opens c.in-Master.listens))) (so_far c.share.result) (g.W.Wire.state c.args.wire.now).calls (g.W.Wire.state c.share.new.wire).calls) (master-undrilled (machine (g.F.Files.told c.args.files.now) (g.R.Runner.told c.args.runner.now) c.args.facts.now) c.in-Master.asked c.in-Master.transport c.in-Master.opens c.in-Master.listens) c.share.ensures.came)
 
 pub returns-in-Drill-clause-unopened : goal.returns-in-Drill-clause-unopened
 returns-in-Drill-clause-unopened g c = rw (of-drill _ _ _ _ _ (rw c.in-Drill.is at c.in_ok-command.ensures.exact)) (not_false _ _ (drill-touches c.in-Drill.seed c.in-Drill.clients c.in-Drill.messages c.drill.result c.drill.ensures.goes.ends))
 
 pub returns-in-Drill-clause-came : goal.returns-in-Drill-clause-came
-returns-in-Drill-clause-came g c = rw (of-drill _ _ _ _ _ (rw c.in-Drill.is at c.in_ok-command.ensures.exact)) (on_true _ _ (drilled-came (g.H.House.known c.args.house.now).present (so_far c.drill.result) _ _ c.drill.ensures.came))
+returns-in-Drill-clause-came g c = rw (of-drill _ _ _ _ _ (rw c.in-Drill.is at c.in_ok-command.ensures.exact)) (on_true _ _ (drilled-came (g.H.Asks.state c.args.house.now).known.present (so_far c.drill.result) _ _ c.drill.ensures.came))
 
 pub returns-in-Control-clause-unopened : goal.returns-in-Control-clause-unopened
 returns-in-Control-clause-unopened g c = where_false _ _ c.ask_master.ensures.unopened

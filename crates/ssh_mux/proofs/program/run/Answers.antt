@@ -36,7 +36,7 @@ pub returns-in-Ok-clause-shared : goal.returns-in-Ok-clause-shared
 returns-in-Ok-clause-shared g c = shared_well _ _ _ _ _ _ _ _ _ _ _ _ _ _ _ _ c.in-Ok.ensures.shared
 
 pub returns-in-Err-clause-shared : goal.returns-in-Err-clause-shared
-returns-in-Err-clause-shared g c = shared_after _ _ _ _ _ _ _ _ _ _ _ _ _ _ _ _ _ _ _ c.report.ensures.told c.in-Err.ensures.shared (same_told _ (λ w. (g.W.Wire.seen w).told) _ _ c.in-Err.ensures.leaves.wire) (same_told _ g.H.House.told _ _ c.in-Err.ensures.leaves.house)
+returns-in-Err-clause-shared g c = shared_after _ _ _ _ _ _ _ _ _ _ _ _ _ _ _ _ _ _ _ c.report.ensures.told c.in-Err.ensures.shared (same_told _ (λ w. (g.W.Wire.state w).seen.told) _ _ c.in-Err.ensures.leaves.wire) (same_told _ (g.H.Asks.state _).told _ c.in-Err.ensures.leaves.house)
 
 pub returns-in-Err-clause-calls : goal.returns-in-Err-clause-calls
 returns-in-Err-clause-calls g c = calls_after _ _ _ _ _ _ _ _ _ c.report.ensures.told c.in-Err.ensures.calls
@@ -76,10 +76,10 @@ pub returns-in-Err-clause-joined : goal.returns-in-Err-clause-joined
 returns-in-Err-clause-joined g c = joined_after _ _ _ _ _ _ _ _ _ c.report.ensures.told c.in-Err.ensures.joined
 
 pub returns-in-Ok-clause-asked : goal.returns-in-Ok-clause-asked
-returns-in-Ok-clause-asked g c = asked_well (g.W.Wire.seen c.args.wire.now).told (g.W.Wire.seen c.obey.new.wire).told (g.S.Sink.told c.args.out.now) (g.S.Sink.told c.obey.new.out) (g.S.Sink.told c.args.err.now) (g.S.Sink.faults c.args.err.now) (known_of (g.F.Files.told c.args.files.now) (g.R.Runner.told c.args.runner.now) c.args.facts.now c.args.words.now) c.in-Ok.status c.in-Ok.ensures.asked
+returns-in-Ok-clause-asked g c = asked_well (g.W.Wire.state c.args.wire.now).seen.told (g.W.Wire.state c.obey.new.wire).seen.told (g.S.Sink.told c.args.out.now) (g.S.Sink.told c.obey.new.out) (g.S.Sink.told c.args.err.now) (g.S.Sink.faults c.args.err.now) (known_of (g.F.Files.told c.args.files.now) (g.R.Runner.told c.args.runner.now) c.args.facts.now c.args.words.now) c.in-Ok.status c.in-Ok.ensures.asked
 
 pub returns-in-Err-clause-asked : goal.returns-in-Err-clause-asked
-returns-in-Err-clause-asked g c = asked_after _ _ _ _ _ _ _ _ _ _ _ c.report.ensures.told c.in-Err.ensures.asked (same_told _ (λ w. (g.W.Wire.seen w).told) _ _ c.in-Err.ensures.leaves.wire) (same_told _ g.S.Sink.told _ _ c.in-Err.ensures.leaves.unwritten)
+returns-in-Err-clause-asked g c = asked_after _ _ _ _ _ _ _ _ _ _ _ c.report.ensures.told c.in-Err.ensures.asked (same_told _ (λ w. (g.W.Wire.state w).seen.told) _ _ c.in-Err.ensures.leaves.wire) (same_told _ g.S.Sink.told _ _ c.in-Err.ensures.leaves.unwritten)
 
 pub returns-in-Err-clause-asked_cause : goal.returns-in-Err-clause-asked_cause
 returns-in-Err-clause-asked_cause g c = asked_cause_after _ _ _ _ _ _ _ _ _ _ _ c.report.ensures.told c.in-Err.ensures.asked_cause

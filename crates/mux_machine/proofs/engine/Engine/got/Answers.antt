@@ -7,7 +7,7 @@ use Rattle.mux_clients.specs.State.{ClientState}
 use Rattle.mux_machine.specs.Steps.{is_heard}
 use Rattle.mux_machine.proofs.Lists.{true_false}
 use Rattle.mux_machine.proofs.Written.{gain-written, gain_new, numbers-written, room-written}
-use Rattle.mux_machine.proofs.Heeded.{handed, heeded}
+use Rattle.mux_clients.proofs.Heeding.{heeds_any}
 use Rattle.mux_clients.proofs.Starved.{on-err}
 use Rattle.mux_machine.proofs.Starved.{some-heard, some-shown}
 use Rattle.mux_machine.proofs.engine.Engine.got.Goals as goal
@@ -16,7 +16,7 @@ pub returns-clause-gains : goal.returns-clause-gains
 returns-clause-gains g c =
     let parts : State = state_of c.self.inside in
     on_ok_weaker c.list_waiting.result
-    (λ waits read. gain-written g.H.House.may (Some c.args.asks.now) (Some c.got_at.new.asks) c.args.self.now parts
+    (λ waits read. gain-written g.H.Asks.may (Some c.args.asks.now) (Some c.got_at.new.asks) c.args.self.now parts
     (gain_new parts c.self.inside.clients.len c.got_at.new.clients c.got_at.new.core c.got_at.new.up c.in_ok-heard.heard c.note_loss.new.leaving.items c.list_waiting.new.list (c.self.inside.listening && not c.in_ok-heard.heard.stops))
     c.args.client c.args.bytes.now c.self.inside.clients.len c.deref_mut.result.now c.got_at.new.clients c.deref-2.result.now c.deref-3.result.now c.got_at.new.core c.got_at.new.up c.in_ok-heard.heard c.note_loss.new.leaving.items c.list_waiting.new.list (c.self.inside.listening && not c.in_ok-heard.heard.stops) c.self.view_is refl record {
       read = ap (λ (x : State). is_heard x.clients c.args.client) c.self.view_is ∙ read;
@@ -33,30 +33,27 @@ returns-clause-gains g c =
     }) c.list_waiting.ensures
 
 pub returns-in_err-note_loss-clause-heeds : goal.returns-in_err-note_loss-clause-heeds
-returns-in_err-note_loss-clause-heeds g c = heeded c.from_residual-in_err-note_loss.result c.args.asks.now c.got_at.new.asks (g.H.House.told c.args.house.now) (g.H.House.told c.got_at.new.house) (g.H.House.known c.args.house.now) (g.H.House.known c.got_at.new.house) c.in_ok-heard.ensures.heeds
+returns-in_err-note_loss-clause-heeds g c = heeds_any c.from_residual-in_err-note_loss.result c.in_ok-heard.ensures.heeds
 
 pub returns-clause-heeds : goal.returns-clause-heeds
-returns-clause-heeds g c = heeded c.list_waiting.result c.args.asks.now c.got_at.new.asks (g.H.House.told c.args.house.now) (g.H.House.told c.got_at.new.house) (g.H.House.known c.args.house.now) (g.H.House.known c.got_at.new.house) c.in_ok-heard.ensures.heeds
-
-pub returns-clause-handed : goal.returns-clause-handed
-returns-clause-handed g c = handed c.list_waiting.result c.args.asks.now c.got_at.new.asks (g.H.House.stands c.args.house.now) (g.H.House.stands c.got_at.new.house) c.in_ok-heard.ensures.handed
+returns-clause-heeds g c = heeds_any c.list_waiting.result c.in_ok-heard.ensures.heeds
 
 -- ---- what was asked where memory was wanting
 
 pub returns-in_err-heard-clause-cut : goal.returns-in_err-heard-clause-cut
 returns-in_err-heard-clause-cut g c = on-err c.from_residual.result
-    (some-shown g.H.House.may (g.H.House.told c.args.house.now) (g.H.House.told c.got_at.new.house) c.args.client c.args.bytes.now (state_of c.self.inside) c.args.self.now c.deref_mut.result.now c.self.view_is c.deref_mut.ensures.value c.in_err-heard.ensures.cut)
+    (some-shown g.H.Asks.may (g.H.Asks.state c.args.house.now).told (g.H.Asks.state c.got_at.new.house).told c.args.client c.args.bytes.now (state_of c.self.inside) c.args.self.now c.deref_mut.result.now c.self.view_is c.deref_mut.ensures.value c.in_err-heard.ensures.cut)
 
 pub returns-in_err-note_loss-clause-cut : goal.returns-in_err-note_loss-clause-cut
 returns-in_err-note_loss-clause-cut g c = on-err c.from_residual-in_err-note_loss.result
-    (some-shown g.H.House.may (g.H.House.told c.args.house.now) (g.H.House.told c.got_at.new.house) c.args.client c.args.bytes.now (state_of c.self.inside) c.args.self.now c.deref_mut.result.now c.self.view_is c.deref_mut.ensures.value
-    (some-heard g.H.House.may c.args.asks.now c.got_at.new.asks (g.H.House.told c.args.house.now) (g.H.House.told c.got_at.new.house) (g.H.House.known c.args.house.now) (g.H.House.known c.got_at.new.house) c.self.inside.pid c.args.bytes.now c.self.inside.core c.got_at.new.core c.self.inside.up c.got_at.new.up c.in_ok-heard.heard c.args.client c.deref_mut.result.now c.got_at.new.clients
+    (some-shown g.H.Asks.may (g.H.Asks.state c.args.house.now).told (g.H.Asks.state c.got_at.new.house).told c.args.client c.args.bytes.now (state_of c.self.inside) c.args.self.now c.deref_mut.result.now c.self.view_is c.deref_mut.ensures.value
+    (some-heard g.H.Asks.may c.self.inside.pid c.args.bytes.now c.self.inside.core c.got_at.new.core c.self.inside.up c.got_at.new.up c.in_ok-heard.heard c.args.client c.deref_mut.result.now c.got_at.new.clients
     (ap (λ (l : List ClientState). is_heard l c.args.client) (c.deref_mut.ensures.value ∙ sym c.deref.ensures.value) ∙ (sym c.is_heard.ensures ∙ c.if-not-is_heard.false)) c.in_ok-heard.ensures.hears c.in_ok-heard.ensures.heeds))
 
 pub returns-clause-cut : goal.returns-clause-cut
 returns-clause-cut g c = on-err c.list_waiting.result
-    (some-shown g.H.House.may (g.H.House.told c.args.house.now) (g.H.House.told c.got_at.new.house) c.args.client c.args.bytes.now (state_of c.self.inside) c.args.self.now c.deref_mut.result.now c.self.view_is c.deref_mut.ensures.value
-    (some-heard g.H.House.may c.args.asks.now c.got_at.new.asks (g.H.House.told c.args.house.now) (g.H.House.told c.got_at.new.house) (g.H.House.known c.args.house.now) (g.H.House.known c.got_at.new.house) c.self.inside.pid c.args.bytes.now c.self.inside.core c.got_at.new.core c.self.inside.up c.got_at.new.up c.in_ok-heard.heard c.args.client c.deref_mut.result.now c.got_at.new.clients
+    (some-shown g.H.Asks.may (g.H.Asks.state c.args.house.now).told (g.H.Asks.state c.got_at.new.house).told c.args.client c.args.bytes.now (state_of c.self.inside) c.args.self.now c.deref_mut.result.now c.self.view_is c.deref_mut.ensures.value
+    (some-heard g.H.Asks.may c.self.inside.pid c.args.bytes.now c.self.inside.core c.got_at.new.core c.self.inside.up c.got_at.new.up c.in_ok-heard.heard c.args.client c.deref_mut.result.now c.got_at.new.clients
     (ap (λ (l : List ClientState). is_heard l c.args.client) (c.deref_mut.ensures.value ∙ sym c.deref.ensures.value) ∙ (sym c.is_heard.ensures ∙ c.if-not-is_heard.false)) c.in_ok-heard.ensures.hears c.in_ok-heard.ensures.heeds))
 
 -- ---- the room that is kept

@@ -3,8 +3,7 @@ use Rattle.std.proofs.lemmas.Result.{on_ok_weaker}
 use Rattle.mux_clients.specs.Server.{stream_end}
 use Rattle.mux_outside.specs.declared.house_mark.HouseMark.{HouseMark}
 use Rattle.mux_machine.specs.State.{State, over}
-use Rattle.mux_clients.proofs.Heeding.{asked_none, handed_none}
-use Rattle.mux_machine.proofs.Heeded.{handed, heeded}
+use Rattle.mux_clients.proofs.Heeding.{heeds_none}
 use Rattle.mux_machine.proofs.Endings.{alone-ends, asking-ends}
 use Rattle.mux_machine.proofs.Kept.{asking-keeps, did-keeps}
 use Rattle.mux_machine.specs.Others.{ServerLeavesIdle}
@@ -14,31 +13,31 @@ use Rattle.mux_machine.proofs.Starved.{CutsOne, cut-alone, cut-asking}
 use Rattle.mux_machine.proofs.engine.Engine.step.Goals as goal
 
 pub returns-in-Accepted-clause-stands : goal.returns-in-Accepted-clause-stands
-returns-in-Accepted-clause-stands g c = on_ok_weaker c.enter.result (λ d mark t. did-goes g.H.House.may (Some c.args.asks.now) c.args.self.now c.enter.new.self c.args.e mark c.requires.goes (subst (DidAlone c.args.self.now c.enter.new.self) (sym c.in-Accepted.is) d) t) c.enter.ensures.enters
+returns-in-Accepted-clause-stands g c = on_ok_weaker c.enter.result (λ d mark t. did-goes g.H.Asks.may (Some c.args.asks.now) c.args.self.now c.enter.new.self c.args.e mark c.requires.goes (subst (DidAlone c.args.self.now c.enter.new.self) (sym c.in-Accepted.is) d) t) c.enter.ensures.enters
 
 pub returns-in-Accepted-clause-keeps : goal.returns-in-Accepted-clause-keeps
 returns-in-Accepted-clause-keeps g c = on_ok_weaker c.enter.result (λ d. did-keeps c.args.self.now c.enter.new.self c.args.e c.requires.goes (subst (DidAlone c.args.self.now c.enter.new.self) (sym c.in-Accepted.is) d)) c.enter.ensures.enters
 
 pub returns-in-ClientEnd-clause-stands : goal.returns-in-ClientEnd-clause-stands
-returns-in-ClientEnd-clause-stands g c = on_ok_weaker c.lose.result (λ d mark t. did-goes g.H.House.may (Some c.args.asks.now) c.args.self.now c.lose.new.self c.args.e mark c.requires.goes (subst (DidAlone c.args.self.now c.lose.new.self) (sym c.in-ClientEnd.is) d) t) (lost-on c.lose.result c.args.self.now c.lose.new.self c.in-ClientEnd.client c.lose.ensures.loses c.lose.ensures.stays)
+returns-in-ClientEnd-clause-stands g c = on_ok_weaker c.lose.result (λ d mark t. did-goes g.H.Asks.may (Some c.args.asks.now) c.args.self.now c.lose.new.self c.args.e mark c.requires.goes (subst (DidAlone c.args.self.now c.lose.new.self) (sym c.in-ClientEnd.is) d) t) (lost-on c.lose.result c.args.self.now c.lose.new.self c.in-ClientEnd.client c.lose.ensures.loses c.lose.ensures.stays)
 
 pub returns-in-ClientEnd-clause-keeps : goal.returns-in-ClientEnd-clause-keeps
 returns-in-ClientEnd-clause-keeps g c = on_ok_weaker c.lose.result (λ d. did-keeps c.args.self.now c.lose.new.self c.args.e c.requires.goes (subst (DidAlone c.args.self.now c.lose.new.self) (sym c.in-ClientEnd.is) d)) (lost-on c.lose.result c.args.self.now c.lose.new.self c.in-ClientEnd.client c.lose.ensures.loses c.lose.ensures.stays)
 
 pub returns-in-ClientFailed-clause-stands : goal.returns-in-ClientFailed-clause-stands
-returns-in-ClientFailed-clause-stands g c = on_ok_weaker c.lose-in-ClientFailed.result (λ d mark t. did-goes g.H.House.may (Some c.args.asks.now) c.args.self.now c.lose-in-ClientFailed.new.self c.args.e mark c.requires.goes (subst (DidAlone c.args.self.now c.lose-in-ClientFailed.new.self) (sym c.in-ClientFailed.is) d) t) (lost-on c.lose-in-ClientFailed.result c.args.self.now c.lose-in-ClientFailed.new.self c.in-ClientFailed.client c.lose-in-ClientFailed.ensures.loses c.lose-in-ClientFailed.ensures.stays)
+returns-in-ClientFailed-clause-stands g c = on_ok_weaker c.lose-in-ClientFailed.result (λ d mark t. did-goes g.H.Asks.may (Some c.args.asks.now) c.args.self.now c.lose-in-ClientFailed.new.self c.args.e mark c.requires.goes (subst (DidAlone c.args.self.now c.lose-in-ClientFailed.new.self) (sym c.in-ClientFailed.is) d) t) (lost-on c.lose-in-ClientFailed.result c.args.self.now c.lose-in-ClientFailed.new.self c.in-ClientFailed.client c.lose-in-ClientFailed.ensures.loses c.lose-in-ClientFailed.ensures.stays)
 
 pub returns-in-ClientFailed-clause-keeps : goal.returns-in-ClientFailed-clause-keeps
 returns-in-ClientFailed-clause-keeps g c = on_ok_weaker c.lose-in-ClientFailed.result (λ d. did-keeps c.args.self.now c.lose-in-ClientFailed.new.self c.args.e c.requires.goes (subst (DidAlone c.args.self.now c.lose-in-ClientFailed.new.self) (sym c.in-ClientFailed.is) d)) (lost-on c.lose-in-ClientFailed.result c.args.self.now c.lose-in-ClientFailed.new.self c.in-ClientFailed.client c.lose-in-ClientFailed.ensures.loses c.lose-in-ClientFailed.ensures.stays)
 
 pub returns-in-HouseSays-clause-stands : goal.returns-in-HouseSays-clause-stands
-returns-in-HouseSays-clause-stands g c = on_ok_weaker c.answer.result (λ d mark t. did-goes g.H.House.may (Some c.args.asks.now) c.args.self.now c.answer.new.self c.args.e mark c.requires.goes (subst (DidAlone c.args.self.now c.answer.new.self) (sym c.in-HouseSays.is) d) t) (replied-on c.answer.result c.args.self.now c.answer.new.self c.in-HouseSays.client c.in-HouseSays.id c.in-HouseSays.reply c.answer.ensures.answers c.answer.ensures.stays)
+returns-in-HouseSays-clause-stands g c = on_ok_weaker c.answer.result (λ d mark t. did-goes g.H.Asks.may (Some c.args.asks.now) c.args.self.now c.answer.new.self c.args.e mark c.requires.goes (subst (DidAlone c.args.self.now c.answer.new.self) (sym c.in-HouseSays.is) d) t) (replied-on c.answer.result c.args.self.now c.answer.new.self c.in-HouseSays.client c.in-HouseSays.id c.in-HouseSays.reply c.answer.ensures.answers c.answer.ensures.stays)
 
 pub returns-in-HouseSays-clause-keeps : goal.returns-in-HouseSays-clause-keeps
 returns-in-HouseSays-clause-keeps g c = on_ok_weaker c.answer.result (λ d. did-keeps c.args.self.now c.answer.new.self c.args.e c.requires.goes (subst (DidAlone c.args.self.now c.answer.new.self) (sym c.in-HouseSays.is) d)) (replied-on c.answer.result c.args.self.now c.answer.new.self c.in-HouseSays.client c.in-HouseSays.id c.in-HouseSays.reply c.answer.ensures.answers c.answer.ensures.stays)
 
 pub returns-in-FromServer-clause-stands : goal.returns-in-FromServer-clause-stands
-returns-in-FromServer-clause-stands g c = on_ok_weaker c.hear.result (λ d mark t. did-goes g.H.House.may (Some c.args.asks.now) c.args.self.now c.hear.new.self c.args.e mark c.requires.goes (subst (DidAlone c.args.self.now c.hear.new.self) (sym c.in-FromServer.is) d) t) c.hear.ensures.heard
+returns-in-FromServer-clause-stands g c = on_ok_weaker c.hear.result (λ d mark t. did-goes g.H.Asks.may (Some c.args.asks.now) c.args.self.now c.hear.new.self c.args.e mark c.requires.goes (subst (DidAlone c.args.self.now c.hear.new.self) (sym c.in-FromServer.is) d) t) c.hear.ensures.heard
 
 pub returns-in-FromServer-clause-keeps : goal.returns-in-FromServer-clause-keeps
 returns-in-FromServer-clause-keeps g c = on_ok_weaker c.hear.result (λ d. did-keeps c.args.self.now c.hear.new.self c.args.e c.requires.goes (subst (DidAlone c.args.self.now c.hear.new.self) (sym c.in-FromServer.is) d)) c.hear.ensures.heard
@@ -47,69 +46,54 @@ pub returns-in-FromServer-clause-ends : goal.returns-in-FromServer-clause-ends
 returns-in-FromServer-clause-ends g c = on_ok_weaker c.hear.result (λ d mark t. alone-ends c.args.self.now c.hear.new.self c.args.e mark (subst (DidAlone c.args.self.now c.hear.new.self) (sym c.in-FromServer.is) d) t) c.hear.ensures.heard
 
 pub returns-in-ServerEnd-clause-stands : goal.returns-in-ServerEnd-clause-stands
-returns-in-ServerEnd-clause-stands g c = λ mark t. did-goes g.H.House.may (Some c.args.asks.now) c.args.self.now c.end.new.self c.args.e mark c.requires.goes (subst (DidAlone c.args.self.now c.end.new.self) (sym c.in-ServerEnd.is) (c.end.ensures ∙ ap (over c.args.self.now) (c.end-cause.ensures ∙ (ap (λ (x : State). stream_end x.server.rest x.server.index) c.self.view_is ∙ cause-as c.args.self.now)))) t
+returns-in-ServerEnd-clause-stands g c = λ mark t. did-goes g.H.Asks.may (Some c.args.asks.now) c.args.self.now c.end.new.self c.args.e mark c.requires.goes (subst (DidAlone c.args.self.now c.end.new.self) (sym c.in-ServerEnd.is) (c.end.ensures ∙ ap (over c.args.self.now) (c.end-cause.ensures ∙ (ap (λ (x : State). stream_end x.server.rest x.server.index) c.self.view_is ∙ cause-as c.args.self.now)))) t
 
 pub returns-in-ServerFailed-clause-stands : goal.returns-in-ServerFailed-clause-stands
-returns-in-ServerFailed-clause-stands g c = λ mark t. did-goes g.H.House.may (Some c.args.asks.now) c.args.self.now c.end-in-ServerFailed.new.self c.args.e mark c.requires.goes (subst (DidAlone c.args.self.now c.end-in-ServerFailed.new.self) (sym c.in-ServerFailed.is) c.end-in-ServerFailed.ensures) t
+returns-in-ServerFailed-clause-stands g c = λ mark t. did-goes g.H.Asks.may (Some c.args.asks.now) c.args.self.now c.end-in-ServerFailed.new.self c.args.e mark c.requires.goes (subst (DidAlone c.args.self.now c.end-in-ServerFailed.new.self) (sym c.in-ServerFailed.is) c.end-in-ServerFailed.ensures) t
 
 pub returns-in-FromClient-clause-stands : goal.returns-in-FromClient-clause-stands
-returns-in-FromClient-clause-stands g c = on_ok_weaker c.got.result (λ d mark t. asking-goes (g.H.House.may) (Some c.args.asks.now) (Some c.got.new.asks) c.args.self.now c.got.new.self c.args.e mark c.requires.goes (subst (DidAsking (g.H.House.may) (Some c.args.asks.now) (Some c.got.new.asks) c.args.self.now c.got.new.self) (sym c.in-FromClient.is) d) t) (gained-on c.got.result (g.H.House.may) (Some c.args.asks.now) (Some c.got.new.asks) c.args.self.now c.got.new.self c.in-FromClient.client c.in-FromClient.bytes.now c.got.ensures.gains c.got.ensures.stays (λ h. ap (λ (l : List HouseMark). Some l) (c.got.ensures.untold h)) c.got.ensures.policy c.got.ensures.numbers)
+returns-in-FromClient-clause-stands g c = on_ok_weaker c.got.result (λ d mark t. asking-goes g.H.Asks.may (Some c.args.asks.now) (Some c.got.new.asks) c.args.self.now c.got.new.self c.args.e mark c.requires.goes (subst (DidAsking g.H.Asks.may (Some c.args.asks.now) (Some c.got.new.asks) c.args.self.now c.got.new.self) (sym c.in-FromClient.is) d) t) (gained-on c.got.result g.H.Asks.may (Some c.args.asks.now) (Some c.got.new.asks) c.args.self.now c.got.new.self c.in-FromClient.client c.in-FromClient.bytes.now c.got.ensures.gains c.got.ensures.stays (λ h. ap (λ (l : List HouseMark). Some l) (c.got.ensures.untold h)) c.got.ensures.policy c.got.ensures.numbers)
 
 pub returns-in-FromClient-clause-keeps : goal.returns-in-FromClient-clause-keeps
-returns-in-FromClient-clause-keeps g c = on_ok_weaker c.got.result (λ d. asking-keeps (g.H.House.may) (Some c.args.asks.now) (Some c.got.new.asks) c.args.self.now c.got.new.self c.args.e c.requires.goes (subst (DidAsking (g.H.House.may) (Some c.args.asks.now) (Some c.got.new.asks) c.args.self.now c.got.new.self) (sym c.in-FromClient.is) d)) (gained-on c.got.result (g.H.House.may) (Some c.args.asks.now) (Some c.got.new.asks) c.args.self.now c.got.new.self c.in-FromClient.client c.in-FromClient.bytes.now c.got.ensures.gains c.got.ensures.stays (λ h. ap (λ (l : List HouseMark). Some l) (c.got.ensures.untold h)) c.got.ensures.policy c.got.ensures.numbers)
+returns-in-FromClient-clause-keeps g c = on_ok_weaker c.got.result (λ d. asking-keeps g.H.Asks.may (Some c.args.asks.now) (Some c.got.new.asks) c.args.self.now c.got.new.self c.args.e c.requires.goes (subst (DidAsking g.H.Asks.may (Some c.args.asks.now) (Some c.got.new.asks) c.args.self.now c.got.new.self) (sym c.in-FromClient.is) d)) (gained-on c.got.result g.H.Asks.may (Some c.args.asks.now) (Some c.got.new.asks) c.args.self.now c.got.new.self c.in-FromClient.client c.in-FromClient.bytes.now c.got.ensures.gains c.got.ensures.stays (λ h. ap (λ (l : List HouseMark). Some l) (c.got.ensures.untold h)) c.got.ensures.policy c.got.ensures.numbers)
 
 pub returns-in-FromClient-clause-ends : goal.returns-in-FromClient-clause-ends
-returns-in-FromClient-clause-ends g c = on_ok_weaker c.got.result (λ d mark t. asking-ends (g.H.House.may) (Some c.args.asks.now) (Some c.got.new.asks) c.args.self.now c.got.new.self c.args.e mark (subst (DidAsking (g.H.House.may) (Some c.args.asks.now) (Some c.got.new.asks) c.args.self.now c.got.new.self) (sym c.in-FromClient.is) d) t) (gained-on c.got.result (g.H.House.may) (Some c.args.asks.now) (Some c.got.new.asks) c.args.self.now c.got.new.self c.in-FromClient.client c.in-FromClient.bytes.now c.got.ensures.gains c.got.ensures.stays (λ h. ap (λ (l : List HouseMark). Some l) (c.got.ensures.untold h)) c.got.ensures.policy c.got.ensures.numbers)
+returns-in-FromClient-clause-ends g c = on_ok_weaker c.got.result (λ d mark t. asking-ends g.H.Asks.may (Some c.args.asks.now) (Some c.got.new.asks) c.args.self.now c.got.new.self c.args.e mark (subst (DidAsking g.H.Asks.may (Some c.args.asks.now) (Some c.got.new.asks) c.args.self.now c.got.new.self) (sym c.in-FromClient.is) d) t) (gained-on c.got.result g.H.Asks.may (Some c.args.asks.now) (Some c.got.new.asks) c.args.self.now c.got.new.self c.in-FromClient.client c.in-FromClient.bytes.now c.got.ensures.gains c.got.ensures.stays (λ h. ap (λ (l : List HouseMark). Some l) (c.got.ensures.untold h)) c.got.ensures.policy c.got.ensures.numbers)
 
 pub returns-in-Accepted-clause-heeds : goal.returns-in-Accepted-clause-heeds
-returns-in-Accepted-clause-heeds g c = heeded c.enter.result c.args.asks.now c.args.asks.now (g.H.House.told c.args.house.now) (g.H.House.told c.args.house.now) (g.H.House.known c.args.house.now) (g.H.House.known c.args.house.now) (asked_none c.args.asks.now (g.H.House.told c.args.house.now) (g.H.House.known c.args.house.now))
+returns-in-Accepted-clause-heeds g c = heeds_none c.enter.result c.args.asks.now (g.H.Asks.state c.args.house.now)
 
 pub returns-in-ClientEnd-clause-heeds : goal.returns-in-ClientEnd-clause-heeds
-returns-in-ClientEnd-clause-heeds g c = heeded c.lose.result c.args.asks.now c.args.asks.now (g.H.House.told c.args.house.now) (g.H.House.told c.args.house.now) (g.H.House.known c.args.house.now) (g.H.House.known c.args.house.now) (asked_none c.args.asks.now (g.H.House.told c.args.house.now) (g.H.House.known c.args.house.now))
+returns-in-ClientEnd-clause-heeds g c = heeds_none c.lose.result c.args.asks.now (g.H.Asks.state c.args.house.now)
 
 pub returns-in-ClientFailed-clause-heeds : goal.returns-in-ClientFailed-clause-heeds
-returns-in-ClientFailed-clause-heeds g c = heeded c.lose-in-ClientFailed.result c.args.asks.now c.args.asks.now (g.H.House.told c.args.house.now) (g.H.House.told c.args.house.now) (g.H.House.known c.args.house.now) (g.H.House.known c.args.house.now) (asked_none c.args.asks.now (g.H.House.told c.args.house.now) (g.H.House.known c.args.house.now))
+returns-in-ClientFailed-clause-heeds g c = heeds_none c.lose-in-ClientFailed.result c.args.asks.now (g.H.Asks.state c.args.house.now)
 
 pub returns-in-HouseSays-clause-heeds : goal.returns-in-HouseSays-clause-heeds
-returns-in-HouseSays-clause-heeds g c = heeded c.answer.result c.args.asks.now c.args.asks.now (g.H.House.told c.args.house.now) (g.H.House.told c.args.house.now) (g.H.House.known c.args.house.now) (g.H.House.known c.args.house.now) (asked_none c.args.asks.now (g.H.House.told c.args.house.now) (g.H.House.known c.args.house.now))
+returns-in-HouseSays-clause-heeds g c = heeds_none c.answer.result c.args.asks.now (g.H.Asks.state c.args.house.now)
 
 pub returns-in-FromServer-clause-heeds : goal.returns-in-FromServer-clause-heeds
-returns-in-FromServer-clause-heeds g c = heeded c.hear.result c.args.asks.now c.args.asks.now (g.H.House.told c.args.house.now) (g.H.House.told c.args.house.now) (g.H.House.known c.args.house.now) (g.H.House.known c.args.house.now) (asked_none c.args.asks.now (g.H.House.told c.args.house.now) (g.H.House.known c.args.house.now))
-
-pub returns-in-Accepted-clause-handed : goal.returns-in-Accepted-clause-handed
-returns-in-Accepted-clause-handed g c = handed c.enter.result c.args.asks.now c.args.asks.now (g.H.House.stands c.args.house.now) (g.H.House.stands c.args.house.now) (handed_none c.args.asks.now (g.H.House.stands c.args.house.now))
-
-pub returns-in-ClientEnd-clause-handed : goal.returns-in-ClientEnd-clause-handed
-returns-in-ClientEnd-clause-handed g c = handed c.lose.result c.args.asks.now c.args.asks.now (g.H.House.stands c.args.house.now) (g.H.House.stands c.args.house.now) (handed_none c.args.asks.now (g.H.House.stands c.args.house.now))
-
-pub returns-in-ClientFailed-clause-handed : goal.returns-in-ClientFailed-clause-handed
-returns-in-ClientFailed-clause-handed g c = handed c.lose-in-ClientFailed.result c.args.asks.now c.args.asks.now (g.H.House.stands c.args.house.now) (g.H.House.stands c.args.house.now) (handed_none c.args.asks.now (g.H.House.stands c.args.house.now))
-
-pub returns-in-HouseSays-clause-handed : goal.returns-in-HouseSays-clause-handed
-returns-in-HouseSays-clause-handed g c = handed c.answer.result c.args.asks.now c.args.asks.now (g.H.House.stands c.args.house.now) (g.H.House.stands c.args.house.now) (handed_none c.args.asks.now (g.H.House.stands c.args.house.now))
-
-pub returns-in-FromServer-clause-handed : goal.returns-in-FromServer-clause-handed
-returns-in-FromServer-clause-handed g c = handed c.hear.result c.args.asks.now c.args.asks.now (g.H.House.stands c.args.house.now) (g.H.House.stands c.args.house.now) (handed_none c.args.asks.now (g.H.House.stands c.args.house.now))
+returns-in-FromServer-clause-heeds g c = heeds_none c.hear.result c.args.asks.now (g.H.Asks.state c.args.house.now)
 
 -- ---- what was asked where memory was wanting
 
 pub returns-in-Accepted-clause-cut : goal.returns-in-Accepted-clause-cut
-returns-in-Accepted-clause-cut g c = on-err c.enter.result (λ mark t. cut-alone g.H.House.may (g.H.House.told c.args.house.now) c.args.self.now mark)
+returns-in-Accepted-clause-cut g c = on-err c.enter.result (λ mark t. cut-alone g.H.Asks.may (g.H.Asks.state c.args.house.now).told c.args.self.now mark)
 
 pub returns-in-ClientEnd-clause-cut : goal.returns-in-ClientEnd-clause-cut
-returns-in-ClientEnd-clause-cut g c = on-err c.lose.result (λ mark t. cut-alone g.H.House.may (g.H.House.told c.args.house.now) c.args.self.now mark)
+returns-in-ClientEnd-clause-cut g c = on-err c.lose.result (λ mark t. cut-alone g.H.Asks.may (g.H.Asks.state c.args.house.now).told c.args.self.now mark)
 
 pub returns-in-ClientFailed-clause-cut : goal.returns-in-ClientFailed-clause-cut
-returns-in-ClientFailed-clause-cut g c = on-err c.lose-in-ClientFailed.result (λ mark t. cut-alone g.H.House.may (g.H.House.told c.args.house.now) c.args.self.now mark)
+returns-in-ClientFailed-clause-cut g c = on-err c.lose-in-ClientFailed.result (λ mark t. cut-alone g.H.Asks.may (g.H.Asks.state c.args.house.now).told c.args.self.now mark)
 
 pub returns-in-HouseSays-clause-cut : goal.returns-in-HouseSays-clause-cut
-returns-in-HouseSays-clause-cut g c = on-err c.answer.result (λ mark t. cut-alone g.H.House.may (g.H.House.told c.args.house.now) c.args.self.now mark)
+returns-in-HouseSays-clause-cut g c = on-err c.answer.result (λ mark t. cut-alone g.H.Asks.may (g.H.Asks.state c.args.house.now).told c.args.self.now mark)
 
 pub returns-in-FromServer-clause-cut : goal.returns-in-FromServer-clause-cut
-returns-in-FromServer-clause-cut g c = on-err c.hear.result (λ mark t. cut-alone g.H.House.may (g.H.House.told c.args.house.now) c.args.self.now mark)
+returns-in-FromServer-clause-cut g c = on-err c.hear.result (λ mark t. cut-alone g.H.Asks.may (g.H.Asks.state c.args.house.now).told c.args.self.now mark)
 
 pub returns-in-FromClient-clause-cut : goal.returns-in-FromClient-clause-cut
-returns-in-FromClient-clause-cut g c = err-then c.got.result (λ one mark t. cut-asking g.H.House.may (g.H.House.told c.args.house.now) (g.H.House.told c.got.new.house) c.args.self.now c.args.e c.requires.goes (subst (CutsOne g.H.House.may (g.H.House.told c.args.house.now) (g.H.House.told c.got.new.house) c.args.self.now) (sym c.in-FromClient.is) one) mark t) c.got.ensures.cut
+returns-in-FromClient-clause-cut g c = err-then c.got.result (λ one mark t. cut-asking g.H.Asks.may (g.H.Asks.state c.args.house.now).told (g.H.Asks.state c.got.new.house).told c.args.self.now c.args.e c.requires.goes (subst (CutsOne g.H.Asks.may (g.H.Asks.state c.args.house.now).told (g.H.Asks.state c.got.new.house).told c.args.self.now) (sym c.in-FromClient.is) one) mark t) c.got.ensures.cut
 
 -- ---- whom the server's piece leaves as it was
 

@@ -8,12 +8,12 @@ use std::marker::Model;
 
 /// What the house was asked, in order, each with its reply.
 #[derive(Debug, Drop)]
-pub struct Asks {
+pub struct AskLog {
     alloc: Global,
     marks: Vec<HouseMark>,
 }
 
-impl Model for Asks {
+impl Model for AskLog {
     ghost use Rattle.std.specs.Prelude.{List};
     ghost use Rattle.mux_outside.specs.declared.house_mark.HouseMark.{HouseMark as TheMark};
 
@@ -22,12 +22,12 @@ impl Model for Asks {
     ghost view = { λ a. a.marks.items };
 }
 
-impl Asks {
+impl AskLog {
     /// Nothing was asked.
-    pub fn new(alloc: Global) -> Asks
+    pub fn new(alloc: Global) -> AskLog
         ensures { result ≡ [] }
     {
-        Asks {
+        AskLog {
             alloc,
             marks: Vec::new(alloc),
         }
