@@ -1,5 +1,5 @@
 -- What is always known of a wire, and what each call leaves of it.
-use Rattle.std.specs.Prelude.{ℕ, List, [], ◌∷◌, ◌++◌, Result, Ok, Err, Option, Some, None}
+use Rattle.std.specs.Prelude.{ℕ, Bool, true, false, List, [], ◌∷◌, ◌++◌, Result, Ok, Err, Option, Some, None}
 use Rattle.std.specs.Option.{option_map}
 use Rattle.mux_outside.specs.CallCounts.{CallCounts, no_calls, calls_after_open, calls_after_wait, calls_after_write}
 use Rattle.mux_outside.specs.Seen.{Seen, nothing_seen, seen_after_open, seen_after_join, seen_after_turn, seen_after_write, moved_by_turn, moved_by_write, untold}
@@ -10,7 +10,7 @@ use Rattle.mux_outside.specs.declared.mark.Mark.{Mark}
 use Rattle.mux_outside.specs.declared.mark.Opening.{Opening}
 use Rattle.mux_outside.specs.declared.turn.Tally.{Tally}
 use Rattle.mux_outside.specs.declared.turn.Turn.{Turn}
-use Rattle.mux_outside.specs.declared.turn.Turn.TheVariants.{NoMemory}
+use Rattle.mux_outside.specs.declared.turn.Turn.TheVariants.{Accepted, Got, End, Writable, Failed, Joined, NoMemory}
 use Rattle.mux_outside.specs.declared.turn.Want.{Want}
 use Rattle.mux_outside.specs.declared.turn.Wrote.{Wrote}
 use Rattle.mux_outside.specs.declared.turn.Wrote.TheVariants.{NoMemory as NoMemoryToWrite}
@@ -113,6 +113,16 @@ state_written answer stream state = record state {
 abbrev pub state_in_write : ℕ → WireState → WireState
 state_in_write stream state =
     seeing (λ seen. record seen { blocked = seen.blocked ++ stream ∷ [] }) state
+
+-- whether a turn opens a stream, for which there has to be room
+abbrev pub opens_stream : Turn → Bool
+opens_stream (Accepted k) = true
+opens_stream (Got t) = false
+opens_stream (End t) = false
+opens_stream (Writable t) = false
+opens_stream (Failed t) = false
+opens_stream (Joined l t) = true
+opens_stream NoMemory = false
 
 -- the turn that a wait gives: there may be no memory to keep it
 abbrev pub turn_kept : {E : Type 0} → Result (Unit {0}) E → Turn → Turn

@@ -3,7 +3,7 @@ ghost use Rattle.std.specs.Prelude.{◌≡◌, ◌<◌, ◌≤◌, ◌+◌, ◌�
 ghost use Rattle.mux_outside.specs.OwnStreams.{new_stream};
 ghost use Rattle.mux_outside.specs.Seen.{moved_by_turn, seen_after_close, seen_after_connect, seen_after_finish, seen_after_join, seen_after_listen, seen_after_pause, seen_after_silence, seen_after_unlisten};
 ghost use Rattle.mux_outside.specs.Wire.{IsNewOwn, OwnFits};
-ghost use Rattle.mux_outside.specs.WireState.{WireState as TheState, answer_kept, nothing_called, seeing, state_in_write, state_opened, state_waited, state_written, turn_kept};
+ghost use Rattle.mux_outside.specs.WireState.{WireState as TheState, answer_kept, nothing_called, opens_stream, seeing, state_in_write, state_opened, state_waited, state_written, turn_kept};
 ghost use Rattle.mux_outside.specs.declared.file_error.FileError.TheVariants.{Failed as FailedFile};
 ghost use Rattle.mux_outside.specs.declared.own_streams.TheConstants.{LAST_CLIENT as THE_LAST_CLIENT, LAST_OWN as THE_LAST_OWN};
 ghost use Rattle.mux_outside.specs.declared.turn.Turn.TheVariants.{NoMemory};
@@ -221,7 +221,8 @@ impl WireState {
     /// one that found none.
     pub fn waited(&mut self, turn: Turn) -> Result<(), OutOfMemory>
         requires { OwnFits turn self.old.seen }
-        ensures { self.new ≡ state_waited (turn_kept result turn) self.old }
+        ensures state { self.new ≡ state_waited (turn_kept result turn) self.old }
+        ensures room { OnErr result (opens_stream turn ≡ true) }
     {
         if self.moved(turn).is_err() {
             self.starved();
@@ -243,6 +244,7 @@ impl WireState {
         requires { OwnFits turn self.old.seen }
         ensures ok { OnOk result (self.new ≡ seeing (moved_by_turn turn) self.old) }
         ensures err { OnErr result (self.new ≡ self.old) }
+        ensures room { OnErr result (opens_stream turn ≡ true) }
     {
         match turn {
             Turn::Accepted(client) => {
