@@ -60,8 +60,8 @@ impl Wire for DrillWire {
     ghost faults = { λ w. w.log.faults };
 
     fn open(&mut self, control: &[u8], transport: &[u8]) -> Result<(), FileError>
-        ensures state { self.new.log.state
-            ≡ state_after_open result control.now transport.now self.old.log.state }
+        ensures state { self.new.log.state ≡ state_after_open result control.now transport.now
+            self.old.log.state.tally self.old.log.state }
         ensures cause { OpenFaults result self.old.log.faults self.new.log.faults }
         ensures exact { Opens result (plan_of transport.now) self.old self.new }
     {

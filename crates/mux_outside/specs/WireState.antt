@@ -54,12 +54,14 @@ untelling state = record state {
 
 -- ---- what each call leaves of it
 
--- after a call of open
-abbrev pub state_after_open : Result (Unit {0}) FileError → List ℕ → List ℕ → WireState → WireState
-state_after_open answer control transport state = record state {
+-- after a call of open, and counted this of a drill
+abbrev pub state_after_open : Result (Unit {0}) FileError → List ℕ → List ℕ → Tally → WireState
+    → WireState
+state_after_open answer control transport tally state = record state {
   seen = seen_after_open answer state.seen;
   openings = option_map (λ os. os ++ openings_of answer control transport) state.openings;
   calls = calls_after_open answer state.calls;
+  tally = tally;
 }
 
 -- after a call of join

@@ -104,8 +104,8 @@ impl Wire for ScriptWire {
     ghost faults = { λ w. w.log.faults };
 
     fn open(&mut self, control: &[u8], transport: &[u8]) -> Result<(), FileError>
-        ensures state { self.new.log.state
-            ≡ state_after_open result control.now transport.now self.old.log.state }
+        ensures state { self.new.log.state ≡ state_after_open result control.now transport.now
+            self.old.log.state.tally self.old.log.state }
         ensures cause { OpenFaults result self.old.log.faults self.new.log.faults }
         ensures exact { OpensByNumber result self.old self.new }
         ensures script { KeepsSteps self.old self.new × KeepsWrites self.old self.new }

@@ -28,8 +28,8 @@ pub trait Wire {
 
     /// Listens at the path of the control socket, and connects stream 0 to the transport.
     fn open(&mut self, control: &[u8], transport: &[u8]) -> Result<(), FileError>
-        ensures state { state self.new
-            ≡ state_after_open result control.now transport.now (state self.old) }
+        ensures state { state self.new ≡ state_after_open result control.now transport.now
+            (state self.new).tally (state self.old) }
         ensures cause { OpenFaults result (faults self.old) (faults self.new) };
 
     /// Connects stream 0 to the control socket of another master. Whatever stood before, it alone

@@ -125,8 +125,8 @@ impl WireLog {
     /// the server's.
     pub fn opened(&mut self, control: &[u8], transport: &[u8], opens: bool) -> Result<(), FileError>
         ensures opens { OpensAs opens result }
-        ensures state { self.new.state
-            ≡ state_after_open result control.now transport.now self.old.state }
+        ensures state { self.new.state ≡ state_after_open result control.now transport.now
+            self.old.state.tally self.old.state }
         ensures cause { OpenFaults result self.old.faults self.new.faults }
     {
         let opening = Opening {
