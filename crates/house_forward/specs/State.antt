@@ -4,10 +4,12 @@ use Rattle.mux_outside.specs.House.{HouseState, Known, Quiet}
 use Rattle.mux_outside.specs.HouseCalls.{HouseCall}
 use Rattle.mux_outside.specs.declared.greeting.TheConstants.{GREETING}
 use Rattle.mux_outside.specs.declared.house_mark.HouseMark.{HouseMark}
+use Rattle.mux_outside.specs.declared.order.Order.{Order}
 use Rattle.house_forward.specs.Due.{due, most_due}
+use Rattle.house_forward.specs.Forwardings.{ListensFirst}
 use Rattle.house_forward.specs.Greeting.{said_in}
 use Rattle.house_forward.specs.Known.{known_of}
-use Rattle.house_forward.specs.Links.{queue_at}
+use Rattle.house_forward.specs.Links.{queue_at, ConnectsFirst}
 use Rattle.house_forward.specs.Lives.{Held, held_of, GoesFurther, SaysIn, StandsSince}
 use Rattle.house_forward.specs.Quiet.{quiet_of}
 use Rattle.house_forward.specs.declared.holdings.Holdings.{Holdings}
@@ -44,6 +46,50 @@ HasGreeted true (first ∷ more) = first ≡ GREETING.now
 pub record StandsIn (has : Holdings) (calls : List HouseCall) : Type 0 where
   pub since : StandsSince has.ordering calls (held_in has)
   pub greeting : HasGreeted has.greeted (said_in calls)
+
+-- ---- what a call leaves as it was
+
+-- what is known of it, whose number it awaits, and whether the run ends where a forwarding of the
+-- start is refused
+pub record KnowsSame (old new : Holdings) : Type 0 where
+  pub known : known_in new ≡ known_in old
+  pub ordering : new.ordering ≡ old.ordering
+  pub must : new.must ≡ old.must
+
+-- whether it has greeted, and whether the run ends where a forwarding of the start is refused
+pub record KeepsWord (old new : Holdings) : Type 0 where
+  pub greeted : new.greeted ≡ old.greeted
+  pub must : new.must ≡ old.must
+
+-- all but its forwardings
+pub record ChangesForwardings (old new : Holdings) : Type 0 where
+  pub relays : new.relays ≡ old.relays
+  pub asks : new.asks ≡ old.asks
+  pub framer : new.framer ≡ old.framer
+  pub stage : new.stage ≡ old.stage
+  pub gateway : new.gateway ≡ old.gateway
+  pub greeted : new.greeted ≡ old.greeted
+  pub ordering : new.ordering ≡ old.ordering
+  pub must : new.must ≡ old.must
+
+-- all but its relays
+pub record ChangesRelays (old new : Holdings) : Type 0 where
+  pub forwardings : new.forwardings ≡ old.forwardings
+  pub asks : new.asks ≡ old.asks
+  pub framer : new.framer ≡ old.framer
+  pub stage : new.stage ≡ old.stage
+  pub gateway : new.gateway ≡ old.gateway
+  pub greeted : new.greeted ≡ old.greeted
+  pub ordering : new.ordering ≡ old.ordering
+  pub must : new.must ≡ old.must
+
+-- ---- what is said and ordered
+
+-- a Connect is to the end of the first socket that is to be connected, and a Listen is that of the
+-- first forwarding that has no listener yet
+pub record OrdersFirst (o : Option Order) (has : Holdings) : Type 0 where
+  pub connects : ConnectsFirst o has.relays.all.items
+  pub listens : ListensFirst o has.forwardings.all.items
 
 -- it said this: it has greeted then, and where it had not this is the greeting
 pub record HasSaid (bytes : List ℕ) (old new : Holdings) : Type 0 where

@@ -3,12 +3,11 @@ ghost use Rattle.std.specs.Prelude.{ℕ, ◌≡◌, ◌≤◌, ◌<◌, ◌+◌,
 ghost use Rattle.mux_outside.specs.House.{nothing_known, ask_of};
 ghost use Rattle.mux_outside.specs.House.{known_after_ask};
 ghost use Rattle.house_forward.specs.Asks.{turns_away};
-ghost use Rattle.house_forward.specs.Forwardings.{listeners_of, ComesUnless, reply_to, asks_after};
-ghost use Rattle.house_forward.specs.declared.asks.Asked.{Asked as CameTo};
+ghost use Rattle.house_forward.specs.Forwardings.{listeners_of, ComesUnless};
 ghost use Rattle.house_forward.specs.declared.rules.TheConstants.{MOST_ASKS};
 ghost use Rattle.house_forward.specs.Desk.{BeginsWith, IsAsked};
 ghost use Rattle.house_forward.specs.Lives.{HasLived, DeskGoes};
-ghost use Rattle.house_forward.specs.State.{held_in, known_in, due_in, most_due_in};
+ghost use Rattle.house_forward.specs.State.{held_in, known_in, due_in, most_due_in, ChangesForwardings};
 
 use super::{Holdings, Stage};
 use crate::asks::{Asked, Asks, Outcome};
@@ -88,12 +87,6 @@ impl Holdings {
         requires { self.old.ordering ≡ None }
         ensures known { IfOk result (λ reply. known_in self.new
             ≡ known_after_ask reply client id opening (known_in self.old)) }
-        ensures exact { IfOk result (λ reply. (asked : CameTo) × ComesUnless
-            (turns_away client id self.old.asks.waiting.items) self.old.gateway opening
-            (ask_of what.now) self.old.forwardings.serials self.old.forwardings.all.items
-            self.new.forwardings.all.items asked × (reply ≡ reply_to asked)
-            × (self.new.asks.waiting.items
-            ≡ asks_after asked client id opening self.old.asks.waiting.items)) }
         ensures refused { self.new.forwardings.refused ≡ self.old.forwardings.refused }
         ensures must { self.new.must ≡ self.old.must }
         ensures forwardings { length self.new.forwardings.all.items
@@ -137,19 +130,12 @@ impl Holdings {
             ≡ listeners_of self.old.forwardings.all.items }
         ensures count { length self.new.forwardings.all.items
             ≤ length self.old.forwardings.all.items + 1 }
-        ensures relays { self.new.relays ≡ self.old.relays }
-        ensures asks { self.new.asks ≡ self.old.asks }
-        ensures framer { self.new.framer ≡ self.old.framer }
-        ensures stage { self.new.stage ≡ self.old.stage }
-        ensures gateway { self.new.gateway ≡ self.old.gateway }
-        ensures greeted { self.new.greeted ≡ self.old.greeted }
+        ensures others { ChangesForwardings self.old self.new }
         ensures serials { OnOk result (self.new.forwardings.serials
             ≡ self.old.forwardings.serials + (length self.new.forwardings.all.items
             - length self.old.forwardings.all.items)) }
         ensures requests { self.new.forwardings.requests.items
             ≡ self.old.forwardings.requests.items }
-        ensures ordering { self.new.ordering ≡ self.old.ordering }
-        ensures must { self.new.must ≡ self.old.must }
     {
         if self.asks.turns_away(client, id) {
             return Ok(Asked::Now(Outcome::Refused));

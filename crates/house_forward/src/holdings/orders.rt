@@ -2,12 +2,10 @@
 ghost use Rattle.std.specs.Prelude.{◌≡◌, ◌≤◌, ◌+◌, length, IsSome, None, Some};
 ghost use Rattle.mux_outside.specs.House.{gives_none, order_marks, OrderFits, NumberFits};
 ghost use Rattle.mux_outside.specs.House.{known_after_order, known_after_ordered};
-ghost use Rattle.house_forward.specs.Forwardings.{ListensFirst};
 ghost use Rattle.house_forward.specs.Known.{ordering_of};
-ghost use Rattle.house_forward.specs.Links.{ConnectsFirst};
 ghost use Rattle.house_forward.specs.Quiet.{orders_none};
 ghost use Rattle.house_forward.specs.Lives.{GivesOrder, GetsNumber};
-ghost use Rattle.house_forward.specs.State.{held_in, known_in, due_in};
+ghost use Rattle.house_forward.specs.State.{held_in, known_in, due_in, KeepsWord, OrdersFirst};
 
 use super::Holdings;
 use crate::forwardings::ListenerOrder;
@@ -20,17 +18,13 @@ impl Holdings {
     pub fn order(&mut self) -> Option<Order>
         requires { self.old.ordering ≡ None }
         ensures fits { OrderFits result (known_in self.old) }
-        ensures known { known_in self.new ≡ known_after_order result
-            (known_in self.old) }
+        ensures known { known_in self.new ≡ known_after_order result (known_in self.old) }
         ensures exact { gives_none result ≡ orders_none self.old.forwardings.all.items
             self.old.relays.all.items self.old.asks.waiting.items }
-        ensures connects { ConnectsFirst result self.old.relays.all.items }
-        ensures listens { ListensFirst result self.old.forwardings.all.items }
+        ensures first { OrdersFirst result self.old }
         ensures silent { result ≡ None → self.new ≡ self.old }
-        ensures due { due_in self.new + length (order_marks result)
-            ≤ due_in self.old }
-        ensures must { self.new.must ≡ self.old.must }
-        ensures greeted { self.new.greeted ≡ self.old.greeted }
+        ensures due { due_in self.new + length (order_marks result) ≤ due_in self.old }
+        ensures word { KeepsWord self.old self.new }
         ensures gives { GivesOrder result self.new.ordering
             (held_in self.old) (held_in self.new) }
     {
@@ -56,14 +50,10 @@ impl Holdings {
     pub fn ordered(&mut self, number: Option<u64>) -> Option<Order>
         requires fits { NumberFits number (known_in self.old) }
         ensures mark { result ≡ ordering_of self.old.ordering }
-        ensures known { known_in self.new ≡ known_after_ordered number
-            (known_in self.old) }
-        ensures due { IsSome self.old.ordering
-            → due_in self.new + 1
-            ≤ due_in self.old }
+        ensures known { known_in self.new ≡ known_after_ordered number (known_in self.old) }
+        ensures due { IsSome self.old.ordering → due_in self.new + 1 ≤ due_in self.old }
         ensures none { self.old.ordering ≡ None → self.new ≡ self.old }
-        ensures must { self.new.must ≡ self.old.must }
-        ensures greeted { self.new.greeted ≡ self.old.greeted }
+        ensures word { KeepsWord self.old self.new }
         ensures ordering { self.new.ordering ≡ None }
         ensures makes { GetsNumber self.old.ordering number
             (held_in self.old) (held_in self.new) }

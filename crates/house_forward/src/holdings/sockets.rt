@@ -8,7 +8,7 @@ ghost use Rattle.house_forward.specs.Forwardings.{has_listener};
 ghost use Rattle.house_forward.specs.Links.{streams_of, queue_at, is_full, is_crowded, IsJoined, IsJoinedAt, IsDialed, Joins};
 ghost use Rattle.house_forward.specs.Lives.{GoesFurther, TakesFurther, Follows};
 ghost use Rattle.mux_outside.specs.HouseCalls.{Turns, happening_of};
-ghost use Rattle.house_forward.specs.State.{held_in, known_in, quiet_in, due_in};
+ghost use Rattle.house_forward.specs.State.{held_in, known_in, quiet_in, due_in, ChangesRelays};
 
 use super::Holdings;
 use crate::forwarding::Forwarding;
@@ -23,17 +23,12 @@ impl Holdings {
     /// What happened to a listener or a stream.
     pub fn turn(&mut self, t: OwnTurn<'_>) -> Result<(), OutOfMemory>
         requires ordering { self.old.ordering ≡ None }
-        requires fits { OwnTurnFits t (known_in self.old)
-            (quiet_in self.old) }
+        requires fits { OwnTurnFits t (known_in self.old) (quiet_in self.old) }
         ensures known { OnOk result (known_in self.new
             ≡ known_after_own_turn t.entry (known_in self.old)) }
-        ensures must { self.new.must ≡ self.old.must }
-        ensures greeted { self.new.greeted ≡ self.old.greeted }
-        ensures forwardings { self.new.forwardings ≡ self.old.forwardings }
+        ensures others { ChangesRelays self.old self.new }
         ensures relays { length self.new.relays.all.items
             ≤ length self.old.relays.all.items + 1 }
-        ensures asks { self.new.asks ≡ self.old.asks }
-        ensures ordering { self.new.ordering ≡ self.old.ordering }
         ensures follows { OnOk result (GoesFurther (Follows (Turns (happening_of t.entry)))
             (held_in self.old) (held_in self.new)) }
     {
@@ -67,14 +62,7 @@ impl Holdings {
             ≡ streams_of self.old.relays.all.items ++ new_stream stream ∷ []) }
         ensures relays { length self.new.relays.all.items
             ≤ length self.old.relays.all.items + 1 }
-        ensures framer { self.new.framer ≡ self.old.framer }
-        ensures stage { self.new.stage ≡ self.old.stage }
-        ensures gateway { self.new.gateway ≡ self.old.gateway }
-        ensures greeted { self.new.greeted ≡ self.old.greeted }
-        ensures forwardings { self.new.forwardings ≡ self.old.forwardings }
-        ensures asks { self.new.asks ≡ self.old.asks }
-        ensures ordering { self.new.ordering ≡ self.old.ordering }
-        ensures must { self.new.must ≡ self.old.must }
+        ensures others { ChangesRelays self.old self.new }
     {
         let number = self.relays.free_number().ok_or(OutOfMemory)?;
         let relay = self.relay_of(listener, number, stream)?;
@@ -126,9 +114,7 @@ impl Holdings {
         ensures queues { (t : ℕ) → queue_at self.new.relays.all.items t
             ≡ queue_after_took stream n t (queue_at self.old.relays.all.items t) }
         ensures due { due_in self.new ≡ due_in self.old }
-        ensures must { self.new.must ≡ self.old.must }
-        ensures greeted { self.new.greeted ≡ self.old.greeted }
-        ensures ordering { self.new.ordering ≡ self.old.ordering }
+        ensures others { ChangesRelays self.old self.new }
         ensures takes { TakesFurther stream n
             (held_in self.old) (held_in self.new) }
     {

@@ -8,7 +8,7 @@ ghost use Rattle.house_forward.specs.Said.{framed, request_payload};
 ghost use Rattle.house_forward.specs.Lives.{is_grant, GoesFurther, HearsNext, HearsFrame};
 ghost use Rattle.proxy_frames.specs.Steps.{pushed};
 ghost use Rattle.ssh_fields.specs.Fields.{take_u32};
-ghost use Rattle.house_forward.specs.State.{held_in, known_in, HasSaid};
+ghost use Rattle.house_forward.specs.State.{held_in, HasSaid, KnowsSame};
 
 use super::{Holdings, Stage};
 use crate::forwarding::Request;
@@ -27,14 +27,12 @@ impl Holdings {
         ensures exact { OnOk result (says_nothing result ≡ says_none self.old.greeted
             self.old.forwardings.all.items self.old.relays.all.items) }
         ensures silent { result ≡ Ok false → self.new ≡ self.old }
-        ensures known { known_in self.new ≡ known_in self.old }
-        ensures must { self.new.must ≡ self.old.must }
+        ensures same { KnowsSame self.old self.new }
         ensures forwardings { length self.new.forwardings.all.items
             ≤ length self.old.forwardings.all.items }
         ensures relays { length self.new.relays.all.items
             ≤ length self.old.relays.all.items }
         ensures asks { self.new.asks ≡ self.old.asks }
-        ensures ordering { self.new.ordering ≡ self.old.ordering }
         ensures says { IfOk result (λ said. said ≡ true
             → HasSaid into.new self.old self.new) }
     {
@@ -91,10 +89,8 @@ impl Holdings {
         requires { self.old.ordering ≡ None }
         ensures fewer { IfOk result (λ heard. heard ≡ true
             → length self.new.framer.rest < length self.old.framer.rest) }
-        ensures known { known_in self.new ≡ known_in self.old }
-        ensures must { self.new.must ≡ self.old.must }
+        ensures same { KnowsSame self.old self.new }
         ensures greeted { self.new.greeted ≡ self.old.greeted }
-        ensures ordering { self.new.ordering ≡ self.old.ordering }
         ensures forwardings { length self.new.forwardings.all.items
             ≤ length self.old.forwardings.all.items }
         ensures relays { length self.new.relays.all.items
@@ -120,10 +116,8 @@ impl Holdings {
         requires current { IsSome self.old.framer.current }
         requires ordering { self.old.ordering ≡ None }
         ensures rest { self.new.framer.rest ≡ self.old.framer.rest }
-        ensures known { known_in self.new ≡ known_in self.old }
-        ensures must { self.new.must ≡ self.old.must }
+        ensures same { KnowsSame self.old self.new }
         ensures greeted { self.new.greeted ≡ self.old.greeted }
-        ensures ordering { self.new.ordering ≡ self.old.ordering }
         ensures forwardings { length self.new.forwardings.all.items
             ≤ length self.old.forwardings.all.items }
         ensures relays { length self.new.relays.all.items

@@ -1,4 +1,4 @@
-use Rattle.std.proofs.Common.{rules, refl, sym, [], arith}
+use Rattle.std.proofs.Common.{rules, refl, [], arith}
 use Rattle.house_forward.specs.State.{held_in}
 use Rattle.house_forward.proofs.Calling.{none-since}
 use Rattle.house_forward.proofs.forwarder.Forwarder.new.Goals as goal

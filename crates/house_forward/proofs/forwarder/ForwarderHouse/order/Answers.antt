@@ -27,6 +27,6 @@ returns-clause-gave g c =
             (ap (λ (x : Holdings). ordering_of x.ordering) same ∙ ap (λ (k : Known). k.ordering) gives.known)
             (subst (λ (x : Holdings). GivesOrder given x.ordering (held_in has) (held_in x)) (sym same) gives.gives) h.since;
         greeting = greeted-on has.greeted new.greeted calls (calls_of (order_marks given))
-            (ap (λ (x : Holdings). x.greeted) same ∙ gives.greeted) (given-silent given) h.greeting;
+            (ap (λ (x : Holdings). x.greeted) same ∙ gives.word.greeted) (given-silent given) h.greeting;
       };
     }

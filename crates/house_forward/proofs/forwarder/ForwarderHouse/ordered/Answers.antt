@@ -20,7 +20,7 @@ returns-in-Some g c =
         stands = λ calls h. record {
           since = stands-made has.ordering new.ordering c.args.number calls (held_in has) (held_in new) c.requires.ordering
               c.ordered.ensures.ordering c.ordered.ensures.makes h.since;
-          greeting = greeted-on has.greeted new.greeted calls (calls_of marks) c.ordered.ensures.greeted
+          greeting = greeted-on has.greeted new.greeted calls (calls_of marks) c.ordered.ensures.word.greeted
               (made-silent (ordering_of has.ordering) c.args.number) h.greeting;
         };
       };

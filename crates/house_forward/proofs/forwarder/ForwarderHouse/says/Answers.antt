@@ -21,7 +21,7 @@ returns-clause-gave g c =
       told = first_of (search rules, grind arith);
       stands = λ calls h. record {
         since = since-on has.ordering new.ordering calls (Marks (HouseSaid c.say.new.into)) (held_in has) (held_in new) none
-            (c.say.ensures.ordering ∙ ap (λ (x : Holdings). x.ordering) c.reserve.ensures.has ∙ none) refl
+            (c.say.ensures.same.ordering ∙ ap (λ (x : Holdings). x.ordering) c.reserve.ensures.has ∙ none) refl
             (from-same (SaysIn c.say.new.into) has c.reserve.new.self.has (held_in new) c.reserve.ensures.has says.goes) h.since;
         greeting = greeted-said has.greeted new.greeted calls c.say.new.into says.greeted
             (λ no. says.first (ap (λ (x : Holdings). x.greeted) c.reserve.ensures.has ∙ no)) h.greeting;

@@ -13,7 +13,7 @@ returns-clause-stands g c =
     let new = c.took.new.self in
     let call = Takes c.args.stream c.args.n in
     λ calls h. record {
-      since = since-taken has.ordering new.ordering calls call (held_in has) (held_in new) none (c.took.ensures.ordering ∙ none)
+      since = since-taken has.ordering new.ordering calls call (held_in has) (held_in new) none (c.took.ensures.others.ordering ∙ none)
           (stands-taken calls c.args.stream c.args.n (held_in has) (held_in new) c.took.ensures.takes) h.since;
-      greeting = greeted-on has.greeted new.greeted calls (call ∷ []) c.took.ensures.greeted refl h.greeting;
+      greeting = greeted-on has.greeted new.greeted calls (call ∷ []) c.took.ensures.others.greeted refl h.greeting;
     }

@@ -15,6 +15,6 @@ returns-clause-stands g c =
     let new = c.turn.new.self in
     let call = Turns (happening_of c.args.t) in
     on-ok c.turn.result (λ goes. hands-on call has new none
-    (c.turn.ensures.ordering ∙ ap (λ (x : Holdings). x.ordering) c.reserve.ensures.has ∙ none) refl refl
-    (c.turn.ensures.greeted ∙ ap (λ (x : Holdings). x.greeted) c.reserve.ensures.has)
+    (c.turn.ensures.others.ordering ∙ ap (λ (x : Holdings). x.ordering) c.reserve.ensures.has ∙ none) refl refl
+    (c.turn.ensures.others.greeted ∙ ap (λ (x : Holdings). x.greeted) c.reserve.ensures.has)
     (from-same (Follows call) has c.reserve.new.self.has (held_in new) c.reserve.ensures.has goes)) c.turn.ensures.follows

@@ -38,9 +38,9 @@ returns-in-Joined-clause-follows c =
     let t = c.in-Joined.stream in
     let desk = desk_of now.gateway now.greeted now.forwardings now.asks in
     rw c.in-Joined.is (on-ok c.joined.result (λ j. relays-alone (Follows (Turns (Joined l t))) (held_in now) new.relays.all.items now.framer new.framer now.stage new.stage
-    desk (desk_of new.gateway new.greeted new.forwardings new.asks) c.joined.ensures.framer c.joined.ensures.stage
-    (same-desk now.gateway new.gateway now.greeted new.greeted now.forwardings new.forwardings now.asks new.asks c.joined.ensures.gateway c.joined.ensures.greeted
-    c.joined.ensures.forwardings c.joined.ensures.asks)
+    desk (desk_of new.gateway new.greeted new.forwardings new.asks) c.joined.ensures.others.framer c.joined.ensures.others.stage
+    (same-desk now.gateway new.gateway now.greeted new.greeted now.forwardings new.forwardings now.asks new.asks c.joined.ensures.others.gateway c.joined.ensures.others.greeted
+    c.joined.ensures.others.forwardings c.joined.ensures.others.asks)
     (joins l t now.relays.all.items new.relays.all.items now.framer now.stage desk j))
     c.joined.ensures.joins)
 
