@@ -16,6 +16,7 @@ use Rattle.mux_outside.specs.declared.order.Order.TheVariants as order
 use Rattle.house_forward.specs.Desk.{empty_desk, desk_of}
 use Rattle.house_forward.specs.Known.{ordering_of}
 use Rattle.house_forward.specs.Lives.{Life, first_course, HasLived, Course, Held, GoesFurther, StandsFor, StandsSince, AwaitsNumber, GetsNumber, held, held_of, Follows, GivesOrder, OrdersIn, HearsNext, taken_in}
+use Rattle.house_forward.specs.State.{held_in}
 use Rattle.house_forward.specs.declared.holdings.Holdings.{Holdings}
 use Rattle.house_forward.specs.declared.holdings.Stage.TheVariants.{Control}
 use Rattle.house_forward.specs.declared.ordering.Ordering.{Ordering}
@@ -23,14 +24,10 @@ use Rattle.house_forward.specs.declared.ordering.Ordering.TheVariants as orderin
 use Rattle.house_forward.proofs.Courses.{stands-on}
 use Rattle.house_forward.proofs.Leading.{LeadsOn, leads-next, leads-last}
 
--- what the house has that a course tells of
-abbrev pub of_house : Holdings → Held
-of_house h = held_of h.relays h.framer h.stage h.gateway h.greeted h.forwardings h.asks
-
 -- the house goes on from what is the same
 pub from-same : (P : Course → Course → Type 0) (old middle : Holdings) (new : Held) → middle ≡ old
-    → GoesFurther P (of_house middle) new → GoesFurther P (of_house old) new
-from-same P old middle new e goes = subst (λ (h : Holdings). GoesFurther P (of_house h) new) e goes
+    → GoesFurther P (held_in middle) new → GoesFurther P (held_in old) new
+from-same P old middle new e goes = subst (λ (h : Holdings). GoesFurther P (held_in h) new) e goes
 
 -- ---- where no number is awaited
 
@@ -140,21 +137,21 @@ lived-first h e =
 
 -- one frame more
 pub leads-on : (one : Bool) (old : Held) (now middle : Holdings) (new : Held) → one ≡ true → middle ≡ now
-    → LeadsOn old (of_house now) → GoesFurther (HearsNext one) (of_house middle) new → LeadsOn old new
+    → LeadsOn old (held_in now) → GoesFurther (HearsNext one) (held_in middle) new → LeadsOn old new
 leads-on one old now middle new is same leads goes =
-    leads-next old (of_house now) new leads
-    (subst (λ (b : Bool). GoesFurther (HearsNext b) (of_house now) new) is (from-same (HearsNext one) now middle new same goes))
+    leads-next old (held_in now) new leads
+    (subst (λ (b : Bool). GoesFurther (HearsNext b) (held_in now) new) is (from-same (HearsNext one) now middle new same goes))
 
 -- none more
 pub takes-in : (bytes : List ℕ) (old taken now middle : Holdings) (one : Bool) (new : Held)
-    → taken ≡ record old { framer = taken.framer } → taken.framer ≡ pushed bytes old.framer → LeadsOn (of_house taken) (of_house now)
-    → middle ≡ now → one ≡ false → GoesFurther (HearsNext one) (of_house middle) new
-    → GoesFurther (Follows (HearsBytes bytes)) (of_house old) new
+    → taken ≡ record old { framer = taken.framer } → taken.framer ≡ pushed bytes old.framer → LeadsOn (held_in taken) (held_in now)
+    → middle ≡ now → one ≡ false → GoesFurther (HearsNext one) (held_in middle) new
+    → GoesFurther (Follows (HearsBytes bytes)) (held_in old) new
 takes-in bytes old taken now middle one new others framer leads same none goes =
     let desk = desk_of old.gateway old.greeted old.forwardings old.asks in
-    let first : of_house taken ≡ held old.relays.all.items (pushed bytes old.framer) old.stage desk =
+    let first : held_in taken ≡ held old.relays.all.items (pushed bytes old.framer) old.stage desk =
     ap (λ (x : Holdings). held_of x.relays taken.framer x.stage x.gateway x.greeted x.forwardings x.asks) others
     ∙ ap (λ (f : FramerState). held old.relays.all.items f old.stage desk) framer in
-    leads-last bytes old.relays.all.items old.framer old.stage desk (of_house now) new
-    (subst (λ (h : Held). LeadsOn h (of_house now)) first leads)
-    (subst (λ (b : Bool). GoesFurther (HearsNext b) (of_house now) new) none (from-same (HearsNext one) now middle new same goes))
+    leads-last bytes old.relays.all.items old.framer old.stage desk (held_in now) new
+    (subst (λ (h : Held). LeadsOn h (held_in now)) first leads)
+    (subst (λ (b : Bool). GoesFurther (HearsNext b) (held_in now) new) none (from-same (HearsNext one) now middle new same goes))

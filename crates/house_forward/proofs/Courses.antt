@@ -37,7 +37,7 @@ use Rattle.house_forward.specs.declared.link.Step.TheVariants as step
 use Rattle.house_forward.specs.declared.link.Stream.{Stream}
 use Rattle.house_forward.specs.declared.link.Stream.TheVariants.{Offered, Awaited, Made, Gone}
 use Rattle.house_forward.specs.declared.ordering.Ordering.{Ordering}
-use Rattle.house_forward.specs.declared.saying.TheConstants.{GREETING}
+use Rattle.mux_outside.specs.declared.greeting.TheConstants.{GREETING}
 use Rattle.proxy_frames.specs.State.{FramerState}
 use Rattle.house_forward.proofs.Changes.{first-is}
 use Rattle.house_forward.proofs.Fresh.{offered, joined}

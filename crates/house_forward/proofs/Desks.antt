@@ -23,7 +23,7 @@ use Rattle.house_forward.specs.declared.forwardings.Want.{Want}
 use Rattle.house_forward.specs.declared.forwardings.Want.TheVariants as want
 use Rattle.house_forward.specs.declared.holdings.Stage.{Stage}
 use Rattle.house_forward.specs.declared.relays.Relays.{Relays}
-use Rattle.house_forward.specs.declared.saying.TheConstants.{GREETING}
+use Rattle.mux_outside.specs.declared.greeting.TheConstants.{GREETING}
 use Rattle.house_forward.specs.declared.two_texts.TwoTexts.{TwoTexts}
 use Rattle.house_forward.proofs.Courses.{greets, requests}
 use Rattle.house_forward.proofs.InOrder.{none-waits, listens-first}

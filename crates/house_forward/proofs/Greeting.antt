@@ -17,12 +17,12 @@ use Rattle.house_forward.specs.Deeds.{Deed, Does, Leave, HappenBy, told, told_by
 use Rattle.house_forward.specs.Deeds.{Begins, Asks, Answers, Greets, Requests, Replies, Listens, Unlistens}
 use Rattle.house_forward.specs.Desk.{Desk}
 use Rattle.house_forward.specs.Forwardings.{has_request}
-use Rattle.house_forward.specs.Greeting.{IsFrame, GreetsFirst, said_in, said_on, said_at, EachGreets}
+use Rattle.house_forward.specs.Greeting.{IsFrame, GreetsOnce, said_in, said_on, said_at, EachGreets}
 use Rattle.house_forward.specs.Lives.{Course, first_course, Follows, Reaches, SaysBy, SaysIn}
 use Rattle.house_forward.specs.declared.forwarding.Forwarding.{Forwarding}
 use Rattle.house_forward.specs.declared.holdings.Stage.{Stage}
 use Rattle.house_forward.specs.declared.holdings.Stage.TheVariants.{Control, Proxy}
-use Rattle.house_forward.specs.declared.saying.TheConstants.{GREETING}
+use Rattle.mux_outside.specs.declared.greeting.TheConstants.{GREETING}
 use Rattle.house_forward.proofs.Doing.{happens}
 
 -- ---- who greets
@@ -211,16 +211,16 @@ frames (call ∷ calls) deeds old new left e h =
     ]
 
 first : (calls : List HouseCall) (deeds : List Deed) (old new : Course) → Leave deeds old.desk → old.desk.greeted ≡ false
-    → Reaches old calls new → GreetsFirst (said_in calls)
+    → Reaches old calls new → GreetsOnce (said_in calls)
 first [] deeds old new left e h = tt
 first (call ∷ calls) deeds old new left e h =
     let went = happens call deeds old h.0 left h.1 in
     elim (is-said call) [
-      | inl none ↦ subst (λ (s : List (List ℕ)). GreetsFirst (s ++ said_in calls)) (sym none)
+      | inl none ↦ subst (λ (s : List (List ℕ)). GreetsOnce (s ++ said_in calls)) (sym none)
           (first calls (went.0 ++ deeds) h.0 new went.2 (same-greeting call deeds old h.0 none left h.1 ∙ e) h.2)
       | inr one ↦ (let follows : Follows (Marks (HouseSaid one.0)) old h.0 = subst (λ (c : HouseCall). Follows c old h.0) one.1 h.1 in
           let said = says-greeting one.0 old h.0 e follows in
-          subst (λ (c : HouseCall). GreetsFirst (said_on c ++ said_in calls)) (sym one.1)
+          subst (λ (c : HouseCall). GreetsOnce (said_on c ++ said_in calls)) (sym one.1)
           (said.0, frames calls (went.0 ++ deeds) h.0 new went.2 said.1 h.2))
     ]
 

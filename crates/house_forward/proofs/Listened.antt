@@ -1,6 +1,6 @@
 -- The forwardings have the listeners that were made and not closed since.
 use Rattle.std.proofs.Common.{◌≡◌, ◌∙◌, refl, sym, ap, subst, arith, ℕ, zero, suc, ◌≤◌, Bool, true, false, List, [], ◌∷◌, ◌++◌, length, map, Option, Some, None}
-use Rattle.std.specs.Prelude.{not, find, slice_get, IfSome}
+use Rattle.std.specs.Prelude.{not, slice_get, IfSome}
 use Rattle.std.specs.List.{position, remove}
 use Rattle.mux_outside.specs.Streams.{among, without}
 use Rattle.mux_outside.specs.declared.start_ask.StartAsk.{StartAsk}
@@ -20,9 +20,9 @@ use Rattle.house_forward.specs.declared.forwarding.Request.{Request}
 use Rattle.house_forward.specs.declared.forwarding.Request.TheVariants.{Listen, Cancel}
 use Rattle.house_forward.specs.declared.forwarding.Stage.TheVariants.{Ordered, Listening}
 use Rattle.house_forward.specs.declared.rules.Ends.{Ends}
-use Rattle.house_forward.proofs.Causing.{in-range, there-is, first-ordered}
+use Rattle.house_forward.proofs.Causing.{in-range, there-is}
 use Rattle.house_forward.proofs.InOrder.{changed-listeners, changed-order, listeners_more, order_more, order-remove, order-filter, listeners-without, first_listens, asked-there, cancelled-remove, made as made-in, fails, orders}
-use Rattle.house_forward.proofs.Resolving.{MadeOf, made-of, same-place}
+use Rattle.house_forward.proofs.Resolving.{MadeOf, listener-made}
 
 -- ---- those that have them stay, in the order in which these were made
 
@@ -142,16 +142,8 @@ made (Some l) host port deeds i f old new first m h =
 after-listen : (host : List ℕ) (port : ℕ) (number : Option ℕ) (deeds : List Deed) (old new : Desk) → GetsListener host port number old new
     → Have deeds old.all → Have (Listens host port number ∷ deeds) new.all
 after-listen host port number deeds old new h k =
-    let b = h.between in
-    let f = h.orders.ordered.0 in
-    let g : Forwarding = record f { stage = Ordered } in
-    let i = h.orders.place in
-    let first : find to_listen b.all ≡ Some g =
-    ap (λ (fs : List Forwarding). find to_listen fs) h.orders.ordered.2 ∙ first-ordered old.all i f h.orders.first in
-    let same : h.makes.place ≡ i = same-place old.all i h.makes.place g h.orders.first refl
-    (subst (λ (fs : List Forwarding). position to_listen fs ≡ Some h.makes.place) h.orders.ordered.2 h.makes.first) in
-    made number host port deeds i f old.all new.all h.orders.first
-    (made-of number i h.makes.place f old.all b.all new.all same h.orders.ordered.2 first h.makes.first h.makes.made) k
+    let l = listener-made host port number old new h in
+    made number host port deeds l.place l.forwarding old.all new.all l.first l.made k
 
 after : (deed : Deed) (deeds : List Deed) (old new : Desk) → Does deed old new → Have deeds old.all → Have (deed ∷ deeds) new.all
 after (Begins starts) deeds old new d h = have deeds (Begins starts ∷ deeds) old.all new.all refl

@@ -602,6 +602,45 @@ made-of (Some l) i j f old middle new same e first at m =
     ∙ ap (λ (xs : List Forwarding). set xs i (record f { stage = Listening l })) e
     ∙ set-set old i (record f { stage = Ordered }) (record f { stage = Listening l })
 
+-- what a listener leaves that was ordered and got its number, or none, one behind the other
+pub record ListenerMade (number : Option ℕ) (old new : Desk) : Type 0 where
+  pub place : ℕ
+  pub forwarding : Forwarding
+  pub done : ℕ
+  pub first : position to_listen old.all ≡ Some place
+  pub is : forwarding ≡ get_or old.all place forwarding
+  pub made : MadeOf number place forwarding old.all new.all
+  pub waiting : new.waiting ≡ ordered_asks number forwarding.serial done old.waiting
+  pub requests : new.requests ≡ old.requests
+  pub serials : new.serials ≡ old.serials
+
+pub listener-made : (host : List ℕ) (port : ℕ) (number : Option ℕ) (old new : Desk) → GetsListener host port number old new
+    → ListenerMade number old new
+listener-made host port number old new h =
+    let b = h.between in
+    let f = h.orders.ordered.0 in
+    let g : Forwarding = record f { stage = Ordered } in
+    let i = h.orders.place in
+    let m = h.makes.others in
+    let s = h.orders.others in
+    let first : find to_listen b.all ≡ Some g =
+    ap (λ (fs : List Forwarding). find to_listen fs) h.orders.ordered.2 ∙ first-ordered old.all i f h.orders.first in
+    let same : h.makes.place ≡ i = same-place old.all i h.makes.place g h.orders.first refl
+    (subst (λ (fs : List Forwarding). position to_listen fs ≡ Some h.makes.place) h.orders.ordered.2 h.makes.first) in
+    record {
+      place = i;
+      forwarding = f;
+      done = b.done;
+      first = h.orders.first;
+      is = h.orders.ordered.1;
+      made = made-of number i h.makes.place f old.all b.all new.all same h.orders.ordered.2 first h.makes.first h.makes.made;
+      waiting = ap (λ (d : Desk). d.waiting) m
+          ∙ ap (λ (x : Option Forwarding). ordered_asks number (serial_of x) b.done b.waiting) first
+          ∙ ap (λ (ws : List Waiting). ordered_asks number f.serial b.done ws) (ap (λ (d : Desk). d.waiting) s);
+      requests = ap (λ (d : Desk). d.requests) m ∙ ap (λ (d : Desk). d.requests) s;
+      serials = ap (λ (d : Desk). d.serials) m ∙ ap (λ (d : Desk). d.serials) s;
+    }
+
 -- an ask to close keeps its forwarding as that gets its listener
 made-fate : (opening : Bool) (l i : ℕ) (f x : Forwarding) (old : List Forwarding) (w : Waiting) → w.opening ≡ opening
     → i < length old → is_about f.serial true w ≡ false → x.serial ≡ w.forwarding → Holds opening x → x ≡ f
@@ -650,28 +689,13 @@ made (Some l) rs serials at i f old new ws first is m n h k =
 after-listen : (host : List ℕ) (port : ℕ) (number : Option ℕ) (old new : Desk) → Tracks old
     → GetsListener host port number old new → Tracks new
 after-listen host port number old new t h =
-    let b = h.between in
-    let f = h.orders.ordered.0 in
-    let g : Forwarding = record f { stage = Ordered } in
-    let i = h.orders.place in
-    let m = h.makes.others in
-    let s = h.orders.others in
-    let first : find to_listen b.all ≡ Some g =
-    ap (λ (fs : List Forwarding). find to_listen fs) h.orders.ordered.2 ∙ first-ordered old.all i f h.orders.first in
-    let same : h.makes.place ≡ i = same-place old.all i h.makes.place g h.orders.first refl
-    (subst (λ (fs : List Forwarding). position to_listen fs ≡ Some h.makes.place) h.orders.ordered.2 h.makes.first) in
-    let waiting : new.waiting ≡ ordered_asks number f.serial b.done old.waiting = ap (λ (d : Desk). d.waiting) m
-    ∙ ap (λ (x : Option Forwarding). ordered_asks number (serial_of x) b.done b.waiting) first
-    ∙ ap (λ (ws : List Waiting). ordered_asks number f.serial b.done ws) (ap (λ (d : Desk). d.waiting) s) in
-    let r = made number old.requests old.serials b.done i f old.all new.all old.waiting h.orders.first h.orders.ordered.1
-    (made-of number i h.makes.place f old.all b.all new.all same h.orders.ordered.2 first h.makes.first h.makes.made)
+    let l = listener-made host port number old new h in
+    let r = made number old.requests old.serials l.done l.place l.forwarding old.all new.all old.waiting l.first l.is l.made
     t.numbered t.stages t.fates in
     record {
-      numbered = subst (λ (n : ℕ). is_numbered 0 new.all n ≡ true)
-          (sym (ap (λ (d : Desk). d.serials) m ∙ ap (λ (d : Desk). d.serials) s)) r.numbered;
-      stages = subst (λ (rs : List Request). All (Awaits rs) new.all)
-          (sym (ap (λ (d : Desk). d.requests) m ∙ ap (λ (d : Desk). d.requests) s)) r.stages;
-      fates = subst (λ (ws : List Waiting). All (Unsettled (HasFate new.all)) ws) (sym waiting) r.fates;
+      numbered = subst (λ (n : ℕ). is_numbered 0 new.all n ≡ true) (sym l.serials) r.numbered;
+      stages = subst (λ (rs : List Request). All (Awaits rs) new.all) (sym l.requests) r.stages;
+      fates = subst (λ (ws : List Waiting). All (Unsettled (HasFate new.all)) ws) (sym l.waiting) r.fates;
     }
 
 -- ---- a listener is closed

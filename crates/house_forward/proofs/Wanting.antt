@@ -11,7 +11,7 @@ use Rattle.house_forward.specs.Asks.{settled, settle_one, refused, counted, is_a
 use Rattle.house_forward.specs.Deeds.{Deed, Does, Leave}
 use Rattle.house_forward.specs.Deeds.{Begins, Asks, Answers, Greets, Requests, Replies, Listens, Unlistens}
 use Rattle.house_forward.specs.Desk.{Desk, empty_desk, IsAsked, Answers as IsAnswered, request_said, reply_heard, GetsListener, EndsListener, standing_at}
-use Rattle.house_forward.specs.Forwardings.{Begins as BeginsAt, StartsIf, Standing, Opens, has_request, requests_at, request_of, request_at, after_saying, changed, stage_after, closing_after, standing, closes_of, comes_of_ends, after_close, EndsLeave, ComesIf, ComesUnless, asks_after, is_asked, asks_at, is_cancelled, cancels_at, live_in, opened_asks, replied_all, replied_asks, removed_at, first_of, to_listen, waits_at, ordered_asks, serial_of, is_numbered, has_listener, is_listener, listener_at}
+use Rattle.house_forward.specs.Forwardings.{Begins as BeginsAt, StartsIf, Standing, Opens, has_request, requests_at, request_of, request_at, after_saying, changed, stage_after, closing_after, standing, closes_of, comes_of_ends, after_close, EndsLeave, ComesIf, ComesUnless, asks_after, is_asked, asks_at, is_cancelled, cancels_at, live_in, opened_asks, replied_all, replied_asks, removed_at, first_of, to_listen, waits_at, ordered_asks, is_numbered, has_listener, is_listener, listener_at}
 use Rattle.house_forward.specs.Rules.{is_refused_alone}
 use Rattle.house_forward.specs.declared.asks.Asked.{Asked as Comes}
 use Rattle.house_forward.specs.declared.asks.Asked.TheVariants.{Now, Later}
@@ -28,9 +28,9 @@ use Rattle.house_forward.specs.declared.forwarding.Stage.TheVariants.{ToListen, 
 use Rattle.house_forward.specs.declared.rules.Ends.{Ends}
 use Rattle.house_forward.proofs.Apart.{Apart}
 use Rattle.house_forward.proofs.Caused.{picked, same-answer}
-use Rattle.house_forward.proofs.Causing.{knows, in-range, there-is, found, first-ordered, Closing, next-closing}
+use Rattle.house_forward.proofs.Causing.{knows, in-range, there-is, found, Closing, next-closing}
 use Rattle.house_forward.proofs.Members.{In, in-left, in-last, in-map, in-filter, in-remove, in-set, in-all, in-get, found-in, out-map, out-filter, out-remove, out-set, out-last, all-in}
-use Rattle.house_forward.proofs.Resolving.{MadeOf, made-of, same-place, fate-left, all-left, and-second, tracks}
+use Rattle.house_forward.proofs.Resolving.{MadeOf, listener-made, fate-left, all-left, and-second, tracks}
 use Rattle.house_forward.proofs.Tracking.{Tracks, removed-differs, one-serial, changed-serial}
 
 -- ---- what is kept
@@ -800,27 +800,13 @@ made (Some l) rs serials at i f old new ws first is m n closers said =
 after-listen : (host : List ℕ) (port : ℕ) (number : Option ℕ) (old new : Desk) → Tracks old → GetsListener host port number old new
     → Wants old → Wants new
 after-listen host port number old new t h w =
-    let b = h.between in
-    let f = h.orders.ordered.0 in
-    let g : Forwarding = record f { stage = Ordered } in
-    let i = h.orders.place in
-    let m = h.makes.others in
-    let s = h.orders.others in
-    let first : find to_listen b.all ≡ Some g =
-    ap (λ (fs : List Forwarding). find to_listen fs) h.orders.ordered.2 ∙ first-ordered old.all i f h.orders.first in
-    let same : h.makes.place ≡ i = same-place old.all i h.makes.place g h.orders.first refl
-    (subst (λ (fs : List Forwarding). position to_listen fs ≡ Some h.makes.place) h.orders.ordered.2 h.makes.first) in
-    let waiting : new.waiting ≡ ordered_asks number f.serial b.done old.waiting = ap (λ (d : Desk). d.waiting) m
-    ∙ ap (λ (x : Option Forwarding). ordered_asks number (serial_of x) b.done b.waiting) first
-    ∙ ap (λ (ws : List Waiting). ordered_asks number f.serial b.done ws) (ap (λ (d : Desk). d.waiting) s) in
-    let requests : new.requests ≡ old.requests = ap (λ (d : Desk). d.requests) m ∙ ap (λ (d : Desk). d.requests) s in
-    let r = made number old.requests old.serials b.done i f old.all new.all old.waiting h.orders.first h.orders.ordered.1
-    (made-of number i h.makes.place f old.all b.all new.all same h.orders.ordered.2 first h.makes.first h.makes.made)
+    let l = listener-made host port number old new h in
+    let r = made number old.requests old.serials l.done l.place l.forwarding old.all new.all old.waiting l.first l.is l.made
     t.numbered w.closers w.said in
     record {
-      closers = subst (λ (ws : List Waiting). Closers ws new.all) (sym waiting) r.closers;
-      said = subst (λ (rs : List Request). Said rs new.all) (sym requests) r.said;
-      once = subst Once (sym requests) w.once;
+      closers = subst (λ (ws : List Waiting). Closers ws new.all) (sym l.waiting) r.closers;
+      said = subst (λ (rs : List Request). Said rs new.all) (sym l.requests) r.said;
+      once = subst Once (sym l.requests) w.once;
     }
 
 -- ---- a listener is closed

@@ -23,7 +23,7 @@ use Rattle.house_forward.specs.Said.{framed, said_by, request_payload}
 use Rattle.house_forward.specs.declared.forwarding.Forwarding.{Forwarding}
 use Rattle.house_forward.specs.declared.holdings.Stage.{Stage}
 use Rattle.house_forward.specs.declared.holdings.Stage.TheVariants.{Control, Proxy}
-use Rattle.house_forward.specs.declared.saying.TheConstants.{GREETING}
+use Rattle.mux_outside.specs.declared.greeting.TheConstants.{GREETING}
 
 -- the forwardings of the start are asked for; a client asks to open or close one, and gets this reply
 -- at once; an ask gets its answer; the house greets; it says the request of a forwarding; the server

@@ -10,7 +10,7 @@ use Rattle.house_relay.specs.declared.relay.Relay.{Relay}
 use Rattle.house_forward.specs.Lives.{Course, first_course, Reaches}
 use Rattle.house_forward.specs.Said.{framed, said_by, request_payload}
 use Rattle.house_forward.specs.declared.forwarding.Forwarding.{Forwarding}
-use Rattle.house_forward.specs.declared.saying.TheConstants.{GREETING}
+use Rattle.mux_outside.specs.declared.greeting.TheConstants.{GREETING}
 
 abbrev pub said_at : HouseMark → List (List ℕ)
 said_at HouseIn = []
@@ -38,11 +38,11 @@ IsFrame bytes = ((f : Forwarding) × (bytes ≡ framed (request_payload f)))
     ⊎ ((r : Relay) × (is_some (says_of r) ≡ true) × (bytes ≡ framed (said_by r)))
 
 -- the first is the greeting, and each behind it a frame
-abbrev pub GreetsFirst : List (List ℕ) → Type 0
-GreetsFirst [] = Unit {0}
-GreetsFirst (first ∷ more) = (first ≡ GREETING.now) × All IsFrame more
+abbrev pub GreetsOnce : List (List ℕ) → Type 0
+GreetsOnce [] = Unit {0}
+GreetsOnce (first ∷ more) = (first ≡ GREETING.now) × All IsFrame more
 
 -- whatever calls were made
 abbrev pub EachGreets : Type 0
 EachGreets = (calls : List HouseCall) (course : Course) → Reaches first_course calls course
-    → GreetsFirst (said_in calls)
+    → GreetsOnce (said_in calls)

@@ -20,4 +20,5 @@ pub mod Quiet
 pub mod Rules
 pub mod Said
 pub mod Starting
+pub mod State
 pub mod Streaming

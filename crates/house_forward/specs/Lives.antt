@@ -56,7 +56,7 @@ use Rattle.house_forward.specs.declared.ordering.Ordering.{Ordering}
 use Rattle.house_forward.specs.declared.ordering.Ordering.TheVariants as ordering
 use Rattle.house_forward.specs.declared.relays.Relays.{Relays}
 use Rattle.house_forward.specs.declared.rules.TheConstants.{MOST_CHANNELS, MOST_DIALOGS}
-use Rattle.house_forward.specs.declared.saying.TheConstants.{GREETING}
+use Rattle.mux_outside.specs.declared.greeting.TheConstants.{GREETING}
 
 -- a relay; its stream, while it is open; whether it began with a dialog; which of the sockets that were
 -- joined is its own, if one is, by how many were joined before; where its socket is to be connected, if

@@ -1,17 +1,13 @@
 //! The house.
-ghost use Rattle.std.specs.Prelude.{ℕ, ◌≡◌, ◌≤◌, ◌+◌, [], length, OnOk, IfOk, Some, None};
+ghost use Rattle.std.specs.Prelude.{◌≡◌, ◌≤◌, ◌+◌, OnOk, IfOk, Some};
 ghost use Rattle.std.specs.Option.{option_to_list};
-ghost use Rattle.mux_outside.specs.House.{IsBlank, NoMark, order_marks};
-ghost use Rattle.house_forward.specs.Due.{due, most_due};
-ghost use Rattle.house_forward.specs.Known.{known_of};
-ghost use Rattle.house_forward.specs.Links.{queue_at};
-ghost use Rattle.house_forward.specs.Lives.{held_of, StandsSince};
-ghost use Rattle.house_forward.specs.Quiet.{quiet_of};
+ghost use Rattle.mux_outside.specs.House.{IsBlank, IsFresh, NoMark, order_marks};
+ghost use Rattle.house_forward.specs.State.{due_in, most_due_in, state_of};
 
 use crate::holdings::Holdings;
 use crate::reserved::Reserved;
 use mux_outside::{
-    FwdAsk, House, HouseMark, HouseReply, Notes, Order, OwnTurn, Piece, StartAsk, Starts,
+    Asks, FwdAsk, House, HouseMark, HouseReply, Notes, Order, OwnTurn, Piece, StartAsk, Starts,
 };
 use ssh_fields::{OutOfMemory, Text};
 use std::alloc::Global;
@@ -23,21 +19,14 @@ pub struct Forwarder<N: Notes + Drop> {
     alloc: Global,
     notes: Reserved<N>,
     has: Holdings,
-    ghost room: { due has.forwardings.all.items has.relays.all.items has.asks.waiting.items
-        ≤ notes.marks },
+    ghost room: { due_in has ≤ notes.marks },
 }
 
 impl<N: Notes + Drop> Forwarder<N> {
     /// A house that has nothing yet.
     pub fn new(alloc: Global, notes: N) -> Result<Forwarder<N>, OutOfMemory>
         requires { NoMark (N.told notes) }
-        ensures fresh { IfOk result (λ f. IsBlank (known_of f.has.forwardings.all.items
-            f.has.relays.all.items f.has.asks.waiting.items f.has.ordering)
-            (N.told f.notes.notes)) }
-        ensures unrefused { IfOk result (λ f. f.has.forwardings.refused ≡ None) }
-        ensures stands { IfOk result (λ f. StandsSince f.has.ordering []
-            (held_of f.has.relays f.has.framer f.has.stage f.has.gateway
-            f.has.greeted f.has.forwardings f.has.asks)) }
+        ensures { IfOk result (λ f. IsFresh (state_of (N.told f.notes.notes) f.has)) }
     {
         Ok(Forwarder {
             alloc,
@@ -60,10 +49,8 @@ impl<N: Notes + Drop> Forwarder<N> {
         asks: usize,
         marks: usize,
     ) -> Result<(), OutOfMemory>
-        ensures room { OnOk result (most_due
-            (length self.old.has.forwardings.all.items + forwardings)
-            (length self.old.has.relays.all.items + relays)
-            (length self.old.has.asks.waiting.items + asks) + marks ≤ self.new.notes.marks) }
+        ensures room { OnOk result (most_due_in self.old.has forwardings relays asks + marks
+            ≤ self.new.notes.marks) }
         ensures told { N.told self.new.notes.notes ≡ N.told self.old.notes.notes }
         ensures has { self.new.has ≡ self.old.has }
     {
@@ -94,46 +81,10 @@ fn mark_of(order: &Order) -> Option<HouseMark>
     })
 }
 
-impl<N: Notes + Drop> House for Forwarder<N> {
+impl<N: Notes + Drop> Asks for Forwarder<N> {
     ghost may = { λ _. Unit {0} };
 
-    ghost told = { λ f. N.told f.notes.notes };
-
-    ghost known = { λ f. known_of f.has.forwardings.all.items f.has.relays.all.items
-        f.has.asks.waiting.items f.has.ordering };
-
-    ghost quiet = { λ f. quiet_of f.has.greeted f.has.forwardings.all.items
-        f.has.relays.all.items f.has.asks.waiting.items };
-
-    ghost queue = { λ f t. queue_at f.has.relays.all.items t };
-
-    ghost refused = { λ f. f.has.forwardings.refused };
-
-    ghost stands = { λ f calls. StandsSince f.has.ordering calls
-        (held_of f.has.relays f.has.framer f.has.stage f.has.gateway
-        f.has.greeted f.has.forwardings f.has.asks) };
-
-    ghost fresh = { λ f. IsBlank (known_of f.has.forwardings.all.items f.has.relays.all.items
-        f.has.asks.waiting.items f.has.ordering) (N.told f.notes.notes)
-        × (f.has.forwardings.refused ≡ None)
-        × StandsSince f.has.ordering []
-        (held_of f.has.relays f.has.framer f.has.stage f.has.gateway
-        f.has.greeted f.has.forwardings f.has.asks) };
-
-    ghost begun = { λ f. IsBlank (known_of f.has.forwardings.all.items f.has.relays.all.items
-        f.has.asks.waiting.items f.has.ordering) (N.told f.notes.notes) };
-
-    ghost must = { λ f. f.has.must };
-
-    fn present(&self) -> bool {
-        true
-    }
-
-    #[tactic(auto, using(crate::proofs::Told::none_more, crate::proofs::Room::due_most))]
-    fn begin(&mut self, starts: &Starts) -> Result<(), OutOfMemory> {
-        self.reserve(starts.asks.len(), 0, 0, 0)?;
-        self.has.begin(starts)
-    }
+    ghost state = { λ f. state_of (N.told f.notes.notes) f.has };
 
     #[tactic(auto, using(crate::proofs::Told::none_more, crate::proofs::Room::due_most))]
     fn ask(
@@ -161,6 +112,23 @@ impl<N: Notes + Drop> House for Forwarder<N> {
             reply,
         });
         Ok(reply)
+    }
+}
+
+impl<N: Notes + Drop> House for Forwarder<N> {
+    ghost fresh = { λ f. IsFresh (state_of (N.told f.notes.notes) f.has) };
+
+    ghost begun = { λ f. let state = state_of (N.told f.notes.notes) f.has in
+        IsBlank state.known state.told };
+
+    fn present(&self) -> bool {
+        true
+    }
+
+    #[tactic(auto, using(crate::proofs::Told::none_more, crate::proofs::Room::due_most))]
+    fn begin(&mut self, starts: &Starts) -> Result<(), OutOfMemory> {
+        self.reserve(starts.asks.len(), 0, 0, 0)?;
+        self.has.begin(starts)
     }
 
     fn answer(&mut self) -> Option<(u64, u32, HouseReply)> {

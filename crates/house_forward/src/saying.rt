@@ -21,11 +21,6 @@ use ssh_grammar::numbers::{
 };
 use std::alloc::Global;
 
-/// HELLO of version 4, and PROXY with the id 0.
-pub const GREETING: &[u8] = &[
-    0, 0, 0, 8, 0, 0, 0, 1, 0, 0, 0, 4, 0, 0, 0, 8, 0x10, 0, 0, 0x0f, 0, 0, 0, 0,
-];
-
 /// The text of an OPEN_FAILURE where a socket couldn't be connected.
 const NOT_CONNECTED: &[u8] = b"connect failed";
 

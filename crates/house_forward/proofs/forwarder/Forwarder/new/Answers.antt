@@ -1,8 +1,20 @@
-use Rattle.std.proofs.Common.{[]}
-use Rattle.house_forward.proofs.Calling.{of_house, none-since}
+use Rattle.std.proofs.Common.{rules, refl, [], arith}
+use Rattle.house_forward.specs.State.{held_in}
+use Rattle.house_forward.proofs.Calling.{none-since}
 use Rattle.house_forward.proofs.forwarder.Forwarder.new.Goals as goal
 
-pub returns-clause-stands : goal.returns-clause-stands
-returns-clause-stands g c =
+pub returns : goal.returns
+returns g c =
     let has = c.new-2.result in
-    none-since has.ordering [] (of_house has) c.new-2.ensures.ordering (λ few. c.new-2.ensures.lived)
+    let new = c.new-2.ensures in
+    record {
+      blank = record {
+        nothing = new.known;
+        no_mark = first_of (search rules, grind arith);
+      };
+      unrefused = new.refused;
+      stands = record {
+        since = none-since has.ordering [] (held_in has) new.ordering (λ few. new.lived);
+        greeting = rw new.greeted refl;
+      };
+    }

@@ -1,7 +1,9 @@
-use Rattle.std.proofs.Common.{rules, ◌≡◌, ◌∙◌, refl, ap, false, arith}
+use Rattle.std.proofs.Common.{rules, ◌≡◌, ◌∙◌, refl, ap, false, [], ◌∷◌, arith}
 use Rattle.mux_outside.specs.HouseCalls.{Hears}
+use Rattle.house_forward.specs.State.{held_in}
 use Rattle.house_forward.specs.declared.holdings.Holdings.{Holdings}
-use Rattle.house_forward.proofs.Calling.{of_house, leads-on, takes-in, no-ordering, since-on}
+use Rattle.house_forward.proofs.Calling.{leads-on, takes-in, no-ordering, since-on}
+use Rattle.house_forward.proofs.Greeted.{greeted-on}
 use Rattle.house_forward.proofs.Leading.{leads-first}
 use Rattle.house_forward.proofs.forwarder.ForwarderHouse.takes.Goals as goal
 
@@ -11,6 +13,7 @@ loop-self-init g c = record {
   known = first_of (search rules, grind arith);
   must = first_of (search rules, grind arith);
   ordering = first_of (search rules, grind arith);
+  greeted = first_of (search rules, grind arith);
   leads = leads-first _;
 }
 
@@ -20,7 +23,8 @@ loop-self-preserved g c = record {
   known = first_of (search rules, grind arith);
   must = first_of (search rules, grind arith);
   ordering = first_of (search rules, grind arith);
-  leads = leads-on c.in_ok-hear.field-0 _ c.loop-self.self.has c.reserve.new.self.has (of_house c.hear.new.self) (first_of (search rules, grind arith)) c.reserve.ensures.has
+  greeted = first_of (search rules, grind arith);
+  leads = leads-on c.in_ok-hear.field-0 _ c.loop-self.self.has c.reserve.new.self.has (held_in c.hear.new.self) (first_of (search rules, grind arith)) c.reserve.ensures.has
       c.loop-self.invariant.leads c.in_ok-hear.ensures.hears;
 }
 
@@ -30,8 +34,14 @@ returns-clause-stands g c =
     let taken = c.take.new.self in
     let new = c.hear.new.self in
     let none : c.in_ok-hear.field-0 ≡ false = first_of (search rules, grind arith) in
-    λ calls h. since-on has.ordering new.ordering calls (Hears c.args.bytes.now) (of_house has) (of_house new) (no-ordering has.ordering c.requires)
-    (c.hear.ensures.ordering ∙ ap (λ (x : Holdings). x.ordering) c.reserve.ensures.has ∙ c.loop-self.invariant.ordering) refl
-    (takes-in c.args.bytes.now has taken c.loop-self.self.has c.reserve.new.self.has c.in_ok-hear.field-0 (of_house new)
-    c.take.ensures.others c.in_ok-take.ensures.heard
-    c.loop-self.invariant.leads c.reserve.ensures.has none c.in_ok-hear.ensures.hears) h
+    let on = c.loop-self.invariant in
+    let reserved = c.reserve.ensures.has in
+    λ calls h. record {
+      since = since-on has.ordering new.ordering calls (Hears c.args.bytes.now) (held_in has) (held_in new) (no-ordering has.ordering c.requires)
+          (c.hear.ensures.same.ordering ∙ ap (λ (x : Holdings). x.ordering) reserved ∙ on.ordering) refl
+          (takes-in c.args.bytes.now has taken c.loop-self.self.has c.reserve.new.self.has c.in_ok-hear.field-0 (held_in new)
+          c.take.ensures.others c.in_ok-take.ensures.heard on.leads reserved none c.in_ok-hear.ensures.hears) h.since;
+      greeting = greeted-on has.greeted new.greeted calls (Hears c.args.bytes.now ∷ [])
+          (c.hear.ensures.greeted ∙ ap (λ (x : Holdings). x.greeted) reserved ∙ on.greeted ∙ ap (λ (x : Holdings). x.greeted) c.take.ensures.others)
+          refl h.greeting;
+    }

@@ -1,9 +1,11 @@
 use Rattle.std.proofs.Common.{◌∙◌, refl, ap}
 use Rattle.mux_outside.specs.HouseCalls.{Turns, happening_of}
 use Rattle.house_forward.specs.Lives.{Follows}
+use Rattle.house_forward.specs.State.{held_in}
 use Rattle.house_forward.specs.declared.holdings.Holdings.{Holdings}
-use Rattle.house_forward.proofs.Calling.{of_house, from-same, no-ordering, since-on}
+use Rattle.house_forward.proofs.Calling.{from-same, no-ordering}
 use Rattle.house_forward.proofs.Going.{on-ok}
+use Rattle.house_forward.proofs.States.{hands-on}
 use Rattle.house_forward.proofs.forwarder.ForwarderHouse.turn.Goals as goal
 
 pub returns-clause-stands : goal.returns-clause-stands
@@ -12,6 +14,7 @@ returns-clause-stands g c =
     let none = no-ordering has.ordering c.requires.ordering in
     let new = c.turn.new.self in
     let call = Turns (happening_of c.args.t) in
-    on-ok c.turn.result (λ goes calls h. since-on has.ordering new.ordering calls call (of_house has) (of_house new) none
-    (c.turn.ensures.ordering ∙ ap (λ (x : Holdings). x.ordering) c.reserve.ensures.has ∙ none) refl
-    (from-same (Follows call) has c.reserve.new.self.has (of_house new) c.reserve.ensures.has goes) h) c.turn.ensures.follows
+    on-ok c.turn.result (λ goes. hands-on call has new none
+    (c.turn.ensures.others.ordering ∙ ap (λ (x : Holdings). x.ordering) c.reserve.ensures.has ∙ none) refl refl
+    (c.turn.ensures.others.greeted ∙ ap (λ (x : Holdings). x.greeted) c.reserve.ensures.has)
+    (from-same (Follows call) has c.reserve.new.self.has (held_in new) c.reserve.ensures.has goes)) c.turn.ensures.follows

@@ -4,8 +4,8 @@ use Rattle.std.specs.List.{list_any}
 use Rattle.house_forward.specs.Desk.{desk_of, OrdersListener, EndsListener}
 use Rattle.house_forward.specs.Links.{is_offered, ConnectsAt}
 use Rattle.house_forward.specs.Lives.{DeskGoes, OrdersSocket, held_of}
+use Rattle.house_forward.specs.State.{held_in}
 use Rattle.house_forward.specs.declared.relays.Relays.{Relays}
-use Rattle.house_forward.proofs.Calling.{of_house}
 use Rattle.house_forward.proofs.Courses.{obeys, orders-socket, desk-goes}
 use Rattle.house_forward.proofs.Desks.{orders-listener, ends-listener}
 use Rattle.house_forward.proofs.Leading.{one-is}
@@ -38,7 +38,7 @@ returns-in-Listen-clause-gives c =
     let e = c.in_ok-host.ensures in
     let fs = c.order-2.new.self in
     let asks = c.order-2.new.asks in
-    subst (λ (r : Relays). DeskGoes (OrdersListener l.host.other l.port) (of_house now)
+    subst (λ (r : Relays). DeskGoes (OrdersListener l.host.other l.port) (held_in now)
     (held_of r now.framer now.stage now.gateway now.greeted fs asks)) (sym (second ∙ first))
     (orders-listener l.host l.port now.relays now.framer now.stage now.gateway now.greeted now.forwardings now.asks fs asks
     ((rw l.is at e.listens) tt) (rw l.is at e.place) (rw l.is at e.leaves) e.asks e.done e.serials e.requests e.refused)
@@ -53,8 +53,8 @@ returns-in-Unlisten-clause-gives c =
     let fs = c.order-2.new.self in
     let asks = c.order-2.new.asks in
     let new = held_of c.offer.new.self now.framer now.stage now.gateway now.greeted fs asks in
-    desk-goes (EndsListener u.listener) (of_house now) new
-    (subst (λ (r : Relays). DeskGoes (EndsListener u.listener) (of_house now)
+    desk-goes (EndsListener u.listener) (held_in now) new
+    (subst (λ (r : Relays). DeskGoes (EndsListener u.listener) (held_in now)
     (held_of r now.framer now.stage now.gateway now.greeted fs asks)) (sym (second ∙ first))
     (ends-listener u.listener now.relays now.framer now.stage now.gateway now.greeted now.forwardings now.asks fs asks
     (rw u.is at e.orders) (rw u.is at e.leaves) e.asks e.done e.serials e.requests e.refused))

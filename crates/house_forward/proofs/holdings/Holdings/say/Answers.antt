@@ -1,17 +1,23 @@
-use Rattle.std.proofs.Common.{rules, ◌≡◌, true, false, arith}
+use Rattle.std.proofs.Common.{rules, ◌≡◌, ◌∙◌, refl, sym, true, false, arith}
+use Rattle.std.proofs.lemmas.Bool.{false≢true}
 use Rattle.std.specs.Prelude.{find}
 use Rattle.house_forward.specs.Desk.{desk_of}
 use Rattle.house_forward.specs.Forwardings.{has_request}
-use Rattle.house_forward.proofs.Calling.{of_house}
+use Rattle.house_forward.specs.State.{held_in}
 use Rattle.house_forward.proofs.Desks.{requests-one, no-request, greets-first}
 use Rattle.house_forward.proofs.Leading.{says-one}
+use Rattle.house_forward.proofs.States.{says-so}
 use Rattle.house_forward.proofs.holdings.Holdings.say.Goals as goal
 
 pub returns-then-not-self-clause-says : goal.returns-then-not-self-clause-says
 returns-then-not-self-clause-says c =
     let now = c.args.self.now in
     let none : now.greeted ≡ false = first_of (search rules, grind arith) in
-    λ yes. greets-first c.put_whole.new.into (of_house now) c.in_ok-put_whole.ensures.bytes none
+    λ yes. record {
+      goes = greets-first c.put_whole.new.into (held_in now) c.in_ok-put_whole.ensures.bytes none;
+      greeted = refl;
+      first = λ no. c.in_ok-put_whole.ensures.bytes;
+    }
 
 pub returns-in-Some-clause-says : goal.returns-in-Some-clause-says
 returns-in-Some-clause-says c =
@@ -19,14 +25,18 @@ returns-in-Some-clause-says c =
     let said = c.in_ok-said.ensures in
     let which = c.in_ok-request.ensures in
     let greeted : now.greeted ≡ true = first_of (search rules, grind arith) in
-    λ yes. requests-one c.in_ok-request.field-0 c.in-Some.request c.request.new.into now.relays now.framer now.stage now.gateway now.greeted now.forwardings
-    c.said.new.self now.asks greeted c.in-Some.is which.exact which.which which.spelled said.all said.requests said.serials said.refused
+    λ yes. record {
+      goes = requests-one c.in_ok-request.field-0 c.in-Some.request c.request.new.into now.relays now.framer now.stage now.gateway now.greeted now.forwardings
+          c.said.new.self now.asks greeted c.in-Some.is which.exact which.which which.spelled said.all said.requests said.serials said.refused;
+      greeted = greeted;
+      first = λ no. absurd (false≢true (sym no ∙ greeted));
+    }
 
 pub returns-clause-says : goal.returns-clause-says
 returns-clause-says c =
     let now = c.args.self.now in
     let greeted : now.greeted ≡ true = first_of (search rules, grind arith) in
-    says-one c.say.result c.say.new.into now.relays.all.items c.say.new.self.all.items now.framer now.stage
+    says-so c.say.result c.say.new.into now _ greeted refl (says-one c.say.result c.say.new.into now.relays.all.items c.say.new.self.all.items now.framer now.stage
     (desk_of now.gateway now.greeted now.forwardings now.asks) greeted
     (no-request (find has_request now.forwardings.all.items) c.in_ok-request.field-0 c.in_default.is c.in_ok-request.ensures.exact)
-    c.say.ensures.exact c.say.ensures.spelled c.say.ensures.says
+    c.say.ensures.exact c.say.ensures.spelled c.say.ensures.says)

@@ -3,7 +3,7 @@ use Rattle.mux_outside.specs.House.{Quiet}
 use Rattle.mux_outside.specs.HouseCalls.{Turns, Joined}
 use Rattle.house_forward.specs.Desk.{desk_of}
 use Rattle.house_forward.specs.Lives.{Follows}
-use Rattle.house_forward.proofs.Calling.{of_house}
+use Rattle.house_forward.specs.State.{held_in}
 use Rattle.house_forward.proofs.Courses.{joins, gets, ends, is-writable, fails}
 use Rattle.house_forward.proofs.Going.{on-ok}
 use Rattle.house_forward.proofs.Leading.{relays-alone, same-desk}
@@ -37,10 +37,10 @@ returns-in-Joined-clause-follows c =
     let l = c.in-Joined.listener in
     let t = c.in-Joined.stream in
     let desk = desk_of now.gateway now.greeted now.forwardings now.asks in
-    rw c.in-Joined.is (on-ok c.joined.result (λ j. relays-alone (Follows (Turns (Joined l t))) (of_house now) new.relays.all.items now.framer new.framer now.stage new.stage
-    desk (desk_of new.gateway new.greeted new.forwardings new.asks) c.joined.ensures.framer c.joined.ensures.stage
-    (same-desk now.gateway new.gateway now.greeted new.greeted now.forwardings new.forwardings now.asks new.asks c.joined.ensures.gateway c.joined.ensures.greeted
-    c.joined.ensures.forwardings c.joined.ensures.asks)
+    rw c.in-Joined.is (on-ok c.joined.result (λ j. relays-alone (Follows (Turns (Joined l t))) (held_in now) new.relays.all.items now.framer new.framer now.stage new.stage
+    desk (desk_of new.gateway new.greeted new.forwardings new.asks) c.joined.ensures.others.framer c.joined.ensures.others.stage
+    (same-desk now.gateway new.gateway now.greeted new.greeted now.forwardings new.forwardings now.asks new.asks c.joined.ensures.others.gateway c.joined.ensures.others.greeted
+    c.joined.ensures.others.forwardings c.joined.ensures.others.asks)
     (joins l t now.relays.all.items new.relays.all.items now.framer now.stage desk j))
     c.joined.ensures.joins)
 
