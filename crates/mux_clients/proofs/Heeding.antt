@@ -10,7 +10,7 @@ use Rattle.mux_outside.specs.declared.house_mark.HouseMark.{HouseMark as Asked}
 use Rattle.mux_outside.specs.declared.house_mark.HouseMark.TheVariants.{HouseAsked}
 use Rattle.mux_outside.specs.House.{GaveOr, HouseState, Known, ask_of, known_after_ask}
 use Rattle.mux_outside.specs.HouseCalls.{HandsOn, HouseCall, calls_of}
-use Rattle.mux_clients.proofs.Handing.{calls-append, hands-none, hands-then}
+use Rattle.mux_outside.proofs.HouseCalls.{calls-append, hands-none, hands-then}
 use Rattle.mux_clients.specs.Asked.{Heeds, TellsAsks, known_after}
 
 pub tells_none : (told : Option (List Asked)) → TellsAsks told told []
