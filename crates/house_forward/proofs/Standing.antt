@@ -127,47 +127,31 @@ stands-same dials old new r s ended same is more h = record {
   line = line-same r.line dials old new same h.line;
 }
 
-same-other : (acts : List Act) → SameIn acts (Other ∷ acts)
-same-other acts = record {
-  bytes = refl;
-  data_said = refl;
-  data_heard = refl;
-  takes = refl;
-  grants = refl;
-  eof_heard = refl;
-  close_heard = refl;
-  eof_said = refl;
-  close_said = refl;
-  answers = refl;
+same-behind : (act : Act) (acts : List Act) → read (act ∷ acts) ≡ read acts → sent (act ∷ acts) ≡ sent acts → delivered (act ∷ acts) ≡ delivered acts → taken (act ∷ acts) ≡ taken acts
+    → adjusted (act ∷ acts) ≡ adjusted acts → heard_eof (act ∷ acts) ≡ heard_eof acts → heard_close (act ∷ acts) ≡ heard_close acts
+    → said_eof (act ∷ acts) ≡ said_eof acts → said_close (act ∷ acts) ≡ said_close acts → answer (act ∷ acts) ≡ answer acts
+    → SameIn acts (act ∷ acts)
+same-behind act acts a b c d e f g h i j = record {
+  bytes = a;
+  data_said = b;
+  data_heard = c;
+  takes = d;
+  grants = e;
+  eof_heard = f;
+  close_heard = g;
+  eof_said = h;
+  close_said = i;
+  answers = j;
 }
+
+same-other : (acts : List Act) → SameIn acts (Other ∷ acts)
+same-other acts = same-behind Other acts refl refl refl refl refl refl refl refl refl refl
 
 same-ends : (acts : List Act) → SameIn acts (Ends ∷ acts)
-same-ends acts = record {
-  bytes = refl;
-  data_said = refl;
-  data_heard = refl;
-  takes = refl;
-  grants = refl;
-  eof_heard = refl;
-  close_heard = refl;
-  eof_said = refl;
-  close_said = refl;
-  answers = refl;
-}
+same-ends acts = same-behind Ends acts refl refl refl refl refl refl refl refl refl refl
 
 same-fails : (acts : List Act) → SameIn acts (Fails ∷ acts)
-same-fails acts = record {
-  bytes = refl;
-  data_said = refl;
-  data_heard = refl;
-  takes = refl;
-  grants = refl;
-  eof_heard = refl;
-  close_heard = refl;
-  eof_said = refl;
-  close_said = refl;
-  answers = refl;
-}
+same-fails acts = same-behind Fails acts refl refl refl refl refl refl refl refl refl refl
 
 -- its socket is another
 pub goes-other : (r : Relay) (s : Socket) → GoesOn r (record r { socket = s }) Other
