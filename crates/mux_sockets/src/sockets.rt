@@ -101,7 +101,7 @@ const EVENTS: usize = 64;
 
 const PAUSE_MILLIS: u64 = 100;
 
-impl<R: Files + Net + Processes + Clock + Clone + Drop> Sockets<R> {
+impl<R: Files + Net + Processes + Clone + Drop> Sockets<R> {
     /// Listens and connects. The control socket gets its name last, when all else has succeeded.
     pub fn open(
         rt: &R,
@@ -196,7 +196,9 @@ impl<R: Files + Net + Processes + Clock + Clone + Drop> Sockets<R> {
         self.listening = Some(Listening { control, listener });
         Ok(())
     }
+}
 
+impl<R: Files + Processes + Drop> Sockets<R> {
     // Takes a stream in, with room for all that can be ready. Whoever is a client may pass
     // descriptors.
     fn add(&mut self, number: u64, mut stream: Stream, connecting: bool) -> io::Result<()>
@@ -260,7 +262,9 @@ impl<R: Files + Net + Processes + Clock + Clone + Drop> Sockets<R> {
             self.pauses = false;
         }
     }
+}
 
+impl<R: Files + Net + Processes + Clock + Drop> Sockets<R> {
     /// What happens next. A turn is given for the writes of the waiting streams alone, or for all
     /// that can be read too; and for what was written, whatever is waited for. A client and a stream
     /// that is joined get the given number; without one none is accepted.

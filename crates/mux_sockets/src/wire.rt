@@ -1,4 +1,4 @@
-ghost use Rattle.std.specs.Prelude.{◌≡◌, ◌≢◌, ◌<◌, ◌⊎◌, ◌&&◌, not, ℕ, List, length, true, Err, IfSome, IsErr, IsNone, IsSome, IsSomeAnd, IsTrue, IsUtf8, None, OnOk, Some, nat_eq, option_map};
+ghost use Rattle.std.specs.Prelude.{◌≡◌, ◌≢◌, ◌<◌, ◌⊎◌, ◌&&◌, not, ℕ, List, length, true, Err, IfSome, IsErr, IsNone, IsSome, IsSomeAnd, IsTrue, IsUtf8, None, OnOk, Some, false, nat_eq, option_map};
 ghost use Rattle.indexmap.specs.IndexMap.{get};
 ghost use Rattle.mux_outside.specs.Faults.{no_faults};
 ghost use Rattle.mux_outside.specs.OwnStreams.{is_own, is_silent};
@@ -336,7 +336,7 @@ fn count_made(answer: &Result<u64, FileError>, faults: &mut FaultCounts)
 }
 
 // What the sockets find next.
-fn found_next<R: Files + Net + Processes + Clock + Clone + Drop>(
+fn found_next<R: Files + Net + Processes + Clock + Drop>(
     sockets: &mut Option<Sockets<R>>,
     rt: &R,
     waiting: &Streams,
@@ -358,7 +358,7 @@ fn found_next<R: Files + Net + Processes + Clock + Clone + Drop>(
 }
 
 // Hands bytes to a stream's socket.
-fn write<R: Files + Net + Processes + Clock + Clone + Drop>(
+fn write<R: Files + Processes + Drop>(
     sockets: &mut Option<Sockets<R>>,
     stream: u64,
     bytes: &[u8],
@@ -373,10 +373,7 @@ fn write<R: Files + Net + Processes + Clock + Clone + Drop>(
 }
 
 // Lets go of a stream's socket.
-fn drop_socket<R: Files + Net + Processes + Clock + Clone + Drop>(
-    sockets: &mut Option<Sockets<R>>,
-    stream: u64,
-)
+fn drop_socket<R: Files + Processes + Drop>(sockets: &mut Option<Sockets<R>>, stream: u64)
     ensures gone { IfSome sockets.new (λ s. get nat_eq s.entries stream ≡ None) }
     ensures listening { option_map (λ s. s.listening) sockets.new
         ≡ option_map (λ s. s.listening) sockets.old }
@@ -387,10 +384,7 @@ fn drop_socket<R: Files + Net + Processes + Clock + Clone + Drop>(
 }
 
 // Reads nothing of a stream of the master's own for now.
-fn pause<R: Files + Net + Processes + Clock + Clone + Drop>(
-    sockets: &mut Option<Sockets<R>>,
-    stream: u64,
-)
+fn pause<R: Files + Processes + Drop>(sockets: &mut Option<Sockets<R>>, stream: u64)
     ensures { IfSome sockets.old (λ old. is_own stream ≡ true → HasEntry stream old.entries
         → IsSomeAnd sockets.new (λ new. IsPaused true stream new.entries)) }
 {
@@ -401,10 +395,7 @@ fn pause<R: Files + Net + Processes + Clock + Clone + Drop>(
 }
 
 // Reads a stream of the master's own again.
-fn resume<R: Files + Net + Processes + Clock + Clone + Drop>(
-    sockets: &mut Option<Sockets<R>>,
-    stream: u64,
-)
+fn resume<R: Files + Processes + Drop>(sockets: &mut Option<Sockets<R>>, stream: u64)
     ensures { IfSome sockets.old (λ old. is_own stream ≡ true → HasEntry stream old.entries
         → IsSomeAnd sockets.new (λ new. IsPaused false stream new.entries)) }
 {
@@ -415,10 +406,7 @@ fn resume<R: Files + Net + Processes + Clock + Clone + Drop>(
 }
 
 // Says the end of a stream of the master's own to the other side.
-fn finish<R: Files + Net + Processes + Clock + Clone + Drop>(
-    sockets: &mut Option<Sockets<R>>,
-    stream: u64,
-)
+fn finish<R: Files + Processes + Drop>(sockets: &mut Option<Sockets<R>>, stream: u64)
     ensures { IfSome sockets.old (λ old. is_own stream ≡ true → HasEntry stream old.entries
         → IsSomeAnd sockets.new (λ new. IsFinished stream new.entries)) }
 {
@@ -429,9 +417,7 @@ fn finish<R: Files + Net + Processes + Clock + Clone + Drop>(
 }
 
 // Accepts no more clients.
-fn stop_listening<R: Files + Net + Processes + Clock + Clone + Drop>(
-    sockets: &mut Option<Sockets<R>>,
-)
+fn stop_listening<R: Files + Processes + Drop>(sockets: &mut Option<Sockets<R>>)
     ensures { IfSome sockets.new (λ sockets. IsNone sockets.listening) }
 {
     if let Some(sockets) = sockets {
@@ -440,10 +426,7 @@ fn stop_listening<R: Files + Net + Processes + Clock + Clone + Drop>(
 }
 
 // Closes a listener of the master's own.
-fn unlisten<R: Files + Net + Processes + Clock + Clone + Drop>(
-    sockets: &mut Option<Sockets<R>>,
-    listener: u64,
-)
+fn unlisten<R: Files + Processes + Drop>(sockets: &mut Option<Sockets<R>>, listener: u64)
     ensures { IfSome sockets.new (λ s. get nat_eq s.doors listener ≡ None) }
 {
     if let Some(sockets) = sockets {
@@ -452,7 +435,7 @@ fn unlisten<R: Files + Net + Processes + Clock + Clone + Drop>(
 }
 
 // Listens at an address with this number.
-fn listen<R: Files + Net + Processes + Clock + Clone + Drop>(
+fn listen<R: Files + Net + Processes + Clock + Drop>(
     sockets: &mut Option<Sockets<R>>,
     rt: &R,
     number: u64,
@@ -475,7 +458,7 @@ fn listen<R: Files + Net + Processes + Clock + Clone + Drop>(
 }
 
 // Begins to connect to an address, or to look up a name, with this number.
-fn connect<R: Files + Net + Processes + Clock + Clone + Drop>(
+fn connect<R: Files + Net + Processes + Clock + Drop>(
     sockets: &mut Option<Sockets<R>>,
     rt: &R,
     number: u64,

@@ -19,7 +19,7 @@ use std::net::{Net, SocketAddr};
 use std::process::Processes;
 use std::time::Clock;
 
-impl<R: Files + Net + Processes + Clock + Clone + Drop> Sockets<R> {
+impl<R: Files + Net + Processes + Clock + Drop> Sockets<R> {
     /// Listens at an address, with a listener of this number.
     pub fn listen(&mut self, rt: &R, number: u64, address: SocketAddr) -> io::Result<()>
         ensures there { OnOk result (IsSome (get nat_eq self.new.doors number)) }
@@ -36,18 +36,6 @@ impl<R: Files + Net + Processes + Clock + Clone + Drop> Sockets<R> {
             .insert(number, Door::new(listener))
             .map_err(|_| AllocError)?;
         Ok(())
-    }
-
-    /// Lets go of a listener.
-    pub fn unlisten(&mut self, number: u64)
-        ensures gone { get nat_eq self.new.doors number ≡ None }
-        ensures entries { self.new.entries ≡ self.old.entries }
-        ensures listening { self.new.listening ≡ self.old.listening }
-    {
-        let Some(door) = self.doors.swap_remove(&number) else {
-            return;
-        };
-        self.ready.drop_door(number, &door);
     }
 
     /// Begins to connect to an address, with a stream of this number.
@@ -85,17 +73,6 @@ impl<R: Files + Net + Processes + Clock + Clone + Drop> Sockets<R> {
         }
     }
 
-    // Notes that the addresses of a stream are known.
-    fn meet_soon(&mut self, number: u64)
-        ensures waits { IsBlocked number self.old.entries → IsBlocked number self.new.entries }
-        ensures others { OthersStay number self.old.entries self.new.entries }
-        ensures listening { self.new.listening ≡ self.old.listening }
-    {
-        if let Some(entry) = self.entries.get_mut(&number) {
-            let _ = self.ready.note_connect(number, entry);
-        }
-    }
-
     // Looks whether a connection is made. What may be read of it is noted then. Where it isn't made,
     // the next of its addresses is tried, if the host is a name.
     pub(super) fn meet(&mut self, rt: &R, number: u64) -> Option<Turn>
@@ -120,6 +97,31 @@ impl<R: Files + Net + Processes + Clock + Clone + Drop> Sockets<R> {
         let turn = entry.meet(number, &made);
         let _ = self.ready.note_held(number, entry);
         turn
+    }
+}
+
+impl<R: Files + Processes + Drop> Sockets<R> {
+    /// Lets go of a listener.
+    pub fn unlisten(&mut self, number: u64)
+        ensures gone { get nat_eq self.new.doors number ≡ None }
+        ensures entries { self.new.entries ≡ self.old.entries }
+        ensures listening { self.new.listening ≡ self.old.listening }
+    {
+        let Some(door) = self.doors.swap_remove(&number) else {
+            return;
+        };
+        self.ready.drop_door(number, &door);
+    }
+
+    // Notes that the addresses of a stream are known.
+    fn meet_soon(&mut self, number: u64)
+        ensures waits { IsBlocked number self.old.entries → IsBlocked number self.new.entries }
+        ensures others { OthersStay number self.old.entries self.new.entries }
+        ensures listening { self.new.listening ≡ self.old.listening }
+    {
+        if let Some(entry) = self.entries.get_mut(&number) {
+            let _ = self.ready.note_connect(number, entry);
+        }
     }
 
     // Accepts a socket at a listener, as a stream of this number.

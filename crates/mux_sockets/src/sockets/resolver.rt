@@ -92,7 +92,7 @@ impl Target {
     }
 }
 
-impl<P: Net + Processes + Clock> Resolver<P> {
+impl<P: Processes> Resolver<P> {
     pub fn new(alloc: Global) -> Resolver<P> {
         Resolver {
             alloc,
@@ -108,6 +108,19 @@ impl<P: Net + Processes + Clock> Resolver<P> {
         !(self.lookups.is_empty() && self.leaving.is_empty())
     }
 
+    /// Notes that a look-up wrote something, where the number is that of one.
+    pub fn note(&mut self, number: u64) -> bool {
+        match self.lookups.get_mut(&number) {
+            Some(lookup) => {
+                lookup.noted = true;
+                true
+            }
+            None => false,
+        }
+    }
+}
+
+impl<P: Net + Processes + Clock> Resolver<P> {
     /// Begins to look up where a stream connects to. `true`: it is known already. After an `Err` the
     /// caller lets it `forget` the stream.
     pub fn begin(
@@ -137,26 +150,6 @@ impl<P: Net + Processes + Clock> Resolver<P> {
         Ok(is_known)
     }
 
-    // The addresses of a name that are known.
-    fn cached(&self, name: &[u8]) -> Result<Option<Vec<IpAddr>>, AllocError> {
-        match self
-            .cache
-            .iter()
-            .find(|resolved| resolved.name.as_slice() == name)
-        {
-            Some(resolved) => Ok(Some(Vec::from_slice(self.alloc, resolved.addresses.as_slice())?)),
-            None => Ok(None),
-        }
-    }
-
-    // The number of the look-up of a name.
-    fn lookup_of(&self, name: &[u8]) -> Option<u64> {
-        self.lookups
-            .iter()
-            .find(|(_, lookup)| lookup.name.as_slice() == name)
-            .map(|(number, _)| *number)
-    }
-
     // Starts a look-up under this number.
     fn start(
         &mut self,
@@ -179,15 +172,21 @@ impl<P: Net + Processes + Clock> Resolver<P> {
         Ok(())
     }
 
-    /// Notes that a look-up wrote something, where the number is that of one.
-    pub fn note(&mut self, number: u64) -> bool {
-        match self.lookups.get_mut(&number) {
-            Some(lookup) => {
-                lookup.noted = true;
-                true
-            }
-            None => false,
+    /// Connects a stream to the next of its addresses, once they are known. `Err`: none is left.
+    pub fn connect(
+        &mut self,
+        rt: &P,
+        registry: &Registry,
+        number: u64,
+        stream: &mut Stream,
+    ) -> io::Result<()> {
+        let Some(target) = self.targets.get_mut(&number) else {
+            return Err(io::Error::from(ErrorKind::NotFound));
+        };
+        if target.addresses.is_some() {
+            *stream = target.connect(rt, registry, number)?;
         }
+        Ok(())
     }
 
     /// Goes on with the look-ups: whether one is over.
@@ -201,6 +200,28 @@ impl<P: Net + Processes + Clock> Resolver<P> {
             lookup.go_on(now)?;
         }
         self.end_all(now)
+    }
+}
+
+impl<P: Processes> Resolver<P> {
+    // The addresses of a name that are known.
+    fn cached(&self, name: &[u8]) -> Result<Option<Vec<IpAddr>>, AllocError> {
+        match self
+            .cache
+            .iter()
+            .find(|resolved| resolved.name.as_slice() == name)
+        {
+            Some(resolved) => Ok(Some(Vec::from_slice(self.alloc, resolved.addresses.as_slice())?)),
+            None => Ok(None),
+        }
+    }
+
+    // The number of the look-up of a name.
+    fn lookup_of(&self, name: &[u8]) -> Option<u64> {
+        self.lookups
+            .iter()
+            .find(|(_, lookup)| lookup.name.as_slice() == name)
+            .map(|(number, _)| *number)
     }
 
     // Ends the look-ups that are over: whether there was one.
@@ -287,23 +308,6 @@ impl<P: Net + Processes + Clock> Resolver<P> {
         ensures fewer { length self.new.leaving.items ≤ length self.old.leaving.items }
     {
         self.leaving.retain_mut(|worker| !worker.is_gone());
-    }
-
-    /// Connects a stream to the next of its addresses, once they are known. `Err`: none is left.
-    pub fn connect(
-        &mut self,
-        rt: &P,
-        registry: &Registry,
-        number: u64,
-        stream: &mut Stream,
-    ) -> io::Result<()> {
-        let Some(target) = self.targets.get_mut(&number) else {
-            return Err(io::Error::from(ErrorKind::NotFound));
-        };
-        if target.addresses.is_some() {
-            *stream = target.connect(rt, registry, number)?;
-        }
-        Ok(())
     }
 
     /// Forgets where a stream connects to. A look-up that no other waits for ends.

@@ -20,7 +20,7 @@ use std::net::Net;
 use std::process::Processes;
 use std::time::Clock;
 
-impl<R: Files + Net + Processes + Clock + Clone + Drop> Sockets<R> {
+impl<R: Files + Net + Processes + Clock + Drop> Sockets<R> {
     /// Goes on with what was ready. `None`: it was not, or not any more.
     pub(super) fn go_on(
         &mut self,
@@ -43,7 +43,9 @@ impl<R: Files + Net + Processes + Clock + Clone + Drop> Sockets<R> {
             Ready::Connect(number) => self.meet(rt, number),
         }
     }
+}
 
+impl<R: Files + Processes + Drop> Sockets<R> {
     // Accepts a client under this number.
     fn accept(&mut self, number: u64) -> Option<Turn>
         ensures turn { IfSome result (λ turn. turn ≡ Turn.Accepted number) }
