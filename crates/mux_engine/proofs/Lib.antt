@@ -53,3 +53,4 @@ mod Unshared
 mod Waiting
 mod Waits
 mod WireTurns
+mod Wired
