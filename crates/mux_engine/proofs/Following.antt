@@ -13,7 +13,7 @@ use Rattle.mux_history.specs.Policy.{Policy}
 use Rattle.mux_machine.specs.Events.{here}
 use Rattle.mux_machine.specs.State.{State}
 use Rattle.mux_engine.specs.Called.{Handed}
-use Rattle.mux_engine.specs.Serving.{OwnOn, Promised, RunsFrom, RunsOn, Scene, ServedWith, Serving, ServesOn}
+use Rattle.mux_engine.specs.Serving.{IsServed, OwnOn, Promised, RunsFrom, RunsOn, Scene, ServedWith, Serving, ServesOn}
 use Rattle.mux_engine.specs.Sides.{RestsOf, Side, noted}
 use Rattle.mux_engine.proofs.Arms.{on-err}
 use Rattle.mux_engine.proofs.HouseCalls.{no-turns, no-turns-left, none-given, same-noted}
@@ -117,6 +117,21 @@ module _ {T : Type 0} (May : HouseReply → Type 0) (state : T → HouseState) w
         given = w.given + more;
         serving = subst (λ (p : Bool). Serving May (RestsOf state p w.first) w.before (noted (state b).told (state b).known h.all) w.policy w.pid w.start new.seen new.held new.failed (w.given + more) rest new.engine) (sym same) h.so;
       }
+
+  pub is-served : (a : T) (now : Scene) (todo : List ℕ) → ServedWith May state a now todo → IsServed May state now.seen now.held now.engine
+  is-served a now todo w = record {
+    present = (state a).known.present;
+    first = w.first;
+    before = w.before;
+    now = noted (state a).told (state a).known w.calls;
+    policy = w.policy;
+    pid = w.pid;
+    start = w.start;
+    failed = now.failed;
+    given = w.given;
+    todo = todo;
+    serving = w.serving;
+  }
 
   pub runs-held : {B F : Type 0} (r : Result B F) (a b : T) (old new : Scene) (most : ℕ) (more : B → ℕ) (todo : List ℕ) (rest : B → List ℕ) → ServedWith May state a old todo → RunsOn r May state a b old new most more todo rest → OnOk r (new.held ≡ new.seen.blocked)
   runs-held (Ok x) a b old new most more todo rest w runs = (runs w.first w.calls w.before w.policy w.pid w.start w.given w.hands w.serving).so.held_is
