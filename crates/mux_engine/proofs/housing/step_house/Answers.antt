@@ -237,7 +237,7 @@ returns-clause-ready g c =
     let lists = c.ask_house.new.lists in
     let there : (H.state h1).known.present ≡ true = sym c.present.ensures.present ∙ c.if-not-present.false in
     let ready = c.in_ok-ask_house.ensures.ready c.if-branch.false in
-    on-said c.speak.result _ _ _ _ _ _ _ _ _ c.speak.ensures.house.known there (no-more-held (H.state h1) lists c.flush.new.held c.in_ok-flush.ensures.holds ready) c.speak.ensures.silent
+    on-said c.speak.result (H.state h1) (H.state c.speak.new.house) (W.state c.flush.new.wire).seen (W.state c.speak.new.wire).seen c.flush.new.engine c.speak.new.engine c.flush.new.held lists.failed lists.own c.speak.ensures.house.known there (no-more-held (H.state h1) lists c.flush.new.held c.in_ok-flush.ensures.holds ready) c.speak.ensures.silent
 
 -- ---- how the run ends
 
