@@ -1,5 +1,6 @@
 -- How a run ends behind its turns.
 use Rattle.std.proofs.Common.{◌≡◌, ◌≢◌, ℕ, Bool, true, false, List, Option, Some, None, refl, sym, ap, ◌∙◌, inl, inr}
+use Rattle.mux_outside.specs.Faults.{Faults}
 use Rattle.mux_outside.specs.declared.mark.Mark.{Mark}
 use Rattle.mux_history.specs.declared.ended.Ended.{Ended}
 use Rattle.mux_history.specs.declared.ended.Ended.TheVariants as ended
@@ -15,7 +16,7 @@ refused-none true must refused p = absurd (cc)
 pub refused-same : (p q m n : Bool) (r s : Option ℕ) → p ≡ q → m ≡ n → r ≡ s → refused_if p m r ≡ refused_if q n s
 refused-same p q m n r s e f g = ap (λ b. refused_if b m r) e ∙ (ap (λ b. refused_if q b r) f ∙ ap (refused_if q n) g)
 
-pub fails-on : (old new : Option Ended) (a b : ℕ) → StaysOrFails old new a b → new ≡ None → old ≡ None
+pub fails-on : (old new : Option Ended) (a b : Faults) → StaysOrFails old new a b → new ≡ None → old ≡ None
 fails-on old new a b (inl s) is = sym s.0 ∙ is
 fails-on old new a b (inr f) is = let z : Some ended.ServerFailed ≡ None = sym f.0 ∙ is in absurd (let h = z in cc)
 
@@ -30,7 +31,7 @@ some-unspent (Some cause) r some unspent e = unspent (ap (λ (c : Ended). Some c
 some-unspent None r some unspent e = some refl
 
 -- a run that something ended did not spend its turns
-pub ends-unspent : (old new : Option Ended) (a b : ℕ) (r : Option ℕ) → StaysOrFails old new a b → old ≢ None → old ≢ Some ended.Spent → ended_as new r ≢ ended.Spent
+pub ends-unspent : (old new : Option Ended) (a b : Faults) (r : Option ℕ) → StaysOrFails old new a b → old ≢ None → old ≢ Some ended.Spent → ended_as new r ≢ ended.Spent
 ends-unspent old new a b r stays some unspent = some-unspent new r (λ e. some (fails-on old new a b stays e)) (still stays)
   where
     still : StaysOrFails old new a b → new ≢ Some ended.Spent
