@@ -385,7 +385,7 @@ pub record SameAsks (known known' : Known) : Type 0 where
   pub present : known'.present ≡ known.present
   pub asks : known'.asks ≡ known.asks
 
-heard-asks : (o : OwnTurn) (known known' : Known) → known' ≡ known_after_own_turn o known → SameAsks known known'
+pub heard-asks : (o : OwnTurn) (known known' : Known) → known' ≡ known_after_own_turn o known → SameAsks known known'
 heard-asks (told.Joined l k) known known' e = record { present = ap (λ (x : Known). x.present) e; asks = ap (λ (x : Known). x.asks) e }
 heard-asks (told.Got k bytes) known known' e = record { present = ap (λ (x : Known). x.present) e; asks = ap (λ (x : Known). x.asks) e }
 heard-asks (told.End k) known known' e = record { present = ap (λ (x : Known). x.present) e; asks = ap (λ (x : Known). x.asks) e }
@@ -466,6 +466,13 @@ turn-own-housed {seen = seen} {seen' = seen'} {own = own} {failed = failed} {que
     let all : List ℕ = s.waiting ++ filter (waits_for queue failed) own in
     subst (λ (k : Known). Housed k seen' own') (sym e) (subst (λ (l : List ℕ). Housed (known_after_own_turn o known) seen' l) (sym f)
     (subst (λ (x : Seen). Housed (known_after_own_turn o known) x (own_heard o own)) (sym w.seen_is) (own-housed o known seen own all (want_of s) bytes t h w.own_fits next)))
+
+-- where a stream only takes bytes again
+pub room-housed : {seen seen' : Seen} {own failed : List ℕ} {queue : ℕ → List ℕ} {s : State} {t : Turn} {bytes : List ℕ} → HasWaited seen seen' own failed queue s t bytes → (k : ℕ) → t ≡ turn.Writable k → (known : Known) → Housed known seen own → Housed known seen' own
+room-housed {seen = seen} {own = own} {failed = failed} {queue = queue} {s = s} {bytes = bytes} w k is known h =
+    let all : List ℕ = s.waiting ++ filter (waits_for queue failed) own in
+    subst (λ (x : Seen). Housed known x own) (sym w.seen_is) (subst (λ (x : Turn). Housed known (seen_after_turn x all (want_of s) bytes seen) own) (sym is)
+    (housed-as known known seen (seen_after_turn (turn.Writable k) all (want_of s) bytes seen) own h refl refl refl refl refl refl refl))
 
 -- where there is no house nothing comes of it
 pub alone-heard : (o : OwnTurn) (known known' : Known) (quiet : Quiet) → OwnTurnFits o known quiet → known' ≡ known_after_own_turn o known → IsAlone known → IsAlone known'

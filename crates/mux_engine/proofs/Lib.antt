@@ -26,6 +26,7 @@ mod Loops
 mod Marks
 mod Noted
 mod Offers
+mod OneWait
 mod OrderHoused
 mod Ordered
 mod Outs
