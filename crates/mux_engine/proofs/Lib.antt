@@ -54,3 +54,4 @@ mod Unshared
 mod Waiting
 mod Waits
 mod WireTurns
+mod Wired
