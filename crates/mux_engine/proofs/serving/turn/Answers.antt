@@ -1,9 +1,12 @@
 use Rattle.std.proofs.Common.{◌≡◌, ◌++◌, ◌∙◌, refl, sym, ap, subst, ℕ, List}
 use Rattle.std.specs.Prelude.{All, IsTrue, length, ◌<◌, filter}
+use Rattle.ssh_fields.specs.declared.out_of_memory.OutOfMemory.{OutOfMemory}
 use Rattle.mux_outside.specs.CallCounts.{is_starved}
 use Rattle.mux_outside.specs.Streams.{among}
 use Rattle.mux_outside.specs.WireState.{WireState}
 use Rattle.mux_machine.specs.Events.{went_of}
+use Rattle.mux_machine.specs.declared.event.Went.{Went}
+use Rattle.mux_machine.specs.declared.event.Went.TheVariants.{On}
 use Rattle.mux_engine.specs.Owned.{waits_for}
 use Rattle.mux_engine.specs.Turns.{IsEventOf, IsOwnOf}
 use Rattle.mux_engine.specs.Wires.{IsIdle}
@@ -155,8 +158,8 @@ returns-in_ok-hear-in-Own g c =
     has-waited wire (W.state k.new.self) lists.own lists.failed (H.state c.args.house.now).queue c.args.engine.now k.result k.new.into c.as_bytes.result.now c.list_waiting.new.todo c.waiting.result.now c.wanted.result (W.state k.new.self).tally
     k.ensures.state c.in_ok-list_waiting.ensures c.waiting.ensures.exact c.wanted.ensures c.next_of.ensures.bytes c.as_bytes.ensures.bytes k.ensures.turn k.ensures.own_turn in
     let next : IsOwnOf c.in-Own.told k.result k.new.into = subst (λ (x : List ℕ). IsOwnOf c.in-Own.told k.result x) c.as_bytes.ensures.bytes c.in-Own.ensures.next in
-    let d = turn-heard H.may H.state c.args.house.now wire (W.state k.new.self) (W.faults c.args.wire.now) (W.faults k.new.self) lists c.args.engine.now q.served b w
-    c.hear.new.house c.in-Own.told next c.hear.ensures.told c.hear.ensures.must _ c.hear.new.lists.held c.hear.new.lists.own c.hear.new.lists.failed heard.known heard.lists.held heard.lists.own heard.lists.failed heard.stands in record {
+    let d = turn-heard {E = OutOfMemory} H.may H.state c.args.house.now wire (W.state k.new.self) (W.faults c.args.wire.now) (W.faults k.new.self) lists c.args.engine.now q.served b w
+    c.hear.new.house c.in-Own.told next c.hear.ensures.told c.hear.ensures.must On c.hear.new.lists.held c.hear.new.lists.own c.hear.new.lists.failed heard.known heard.lists.held heard.lists.own heard.lists.failed heard.stands in record {
       serving = d.serving;
       together = d.together _ refl refl;
       house = d.house;
@@ -179,8 +182,8 @@ returns-in-Freed g c =
     let w : HasWaited wire.seen (W.state k.new.self).seen lists.own lists.failed (H.state c.args.house.now).queue c.args.engine.now k.result k.new.into =
     has-waited wire (W.state k.new.self) lists.own lists.failed (H.state c.args.house.now).queue c.args.engine.now k.result k.new.into c.as_bytes.result.now c.list_waiting.new.todo c.waiting.result.now c.wanted.result (W.state k.new.self).tally
     k.ensures.state c.in_ok-list_waiting.ensures c.waiting.ensures.exact c.wanted.ensures c.next_of.ensures.bytes c.as_bytes.ensures.bytes k.ensures.turn k.ensures.own_turn in
-    let d = turn-freed H.may H.state c.args.house.now wire (W.state k.new.self) (W.faults c.args.wire.now) (W.faults k.new.self) lists c.args.engine.now q.served b w
-    _ c.in-Freed.stream c.remove.new.self c.in-Freed.ensures.next.0 c.in-Freed.ensures.next.1 c.remove.ensures in record {
+    let d = turn-freed {E = OutOfMemory} H.may H.state c.args.house.now wire (W.state k.new.self) (W.faults c.args.wire.now) (W.faults k.new.self) lists c.args.engine.now q.served b w
+    On c.in-Freed.stream c.remove.new.self c.in-Freed.ensures.next.0 c.in-Freed.ensures.next.1 c.remove.ensures in record {
       serving = d.serving;
       together = d.together _ refl refl;
       house = d.house;
@@ -203,7 +206,7 @@ returns-in-NoMemory g c =
     let w : HasWaited wire.seen (W.state k.new.self).seen lists.own lists.failed (H.state c.args.house.now).queue c.args.engine.now k.result k.new.into =
     has-waited wire (W.state k.new.self) lists.own lists.failed (H.state c.args.house.now).queue c.args.engine.now k.result k.new.into c.as_bytes.result.now c.list_waiting.new.todo c.waiting.result.now c.wanted.result (W.state k.new.self).tally
     k.ensures.state c.in_ok-list_waiting.ensures c.waiting.ensures.exact c.wanted.ensures c.next_of.ensures.bytes c.as_bytes.ensures.bytes k.ensures.turn k.ensures.own_turn in
-    let d = turn-wanting H.may H.state c.args.house.now wire (W.state k.new.self) (W.faults c.args.wire.now) (W.faults k.new.self) lists c.args.engine.now q.served b w _ c.in-NoMemory.ensures.next lists.held lists.own lists.failed in record {
+    let d = turn-wanting {A = Went} {E = OutOfMemory} H.may H.state c.args.house.now wire (W.state k.new.self) (W.faults c.args.wire.now) (W.faults k.new.self) lists c.args.engine.now q.served b w (record {}) c.in-NoMemory.ensures.next lists.held lists.own lists.failed in record {
       serving = d.serving;
       together = d.together _ refl refl;
       house = d.house;
