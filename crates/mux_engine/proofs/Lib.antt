@@ -1,6 +1,7 @@
 mod Answering
 mod Arms
 mod Asks
+mod Belongs
 mod CallLaws
 mod Called
 mod Causes
@@ -34,6 +35,7 @@ mod OwnAsks
 mod OwnFaults
 mod OwnMarks
 mod OwnTurns
+mod Owning
 mod Owns
 mod Places
 mod Quiet
