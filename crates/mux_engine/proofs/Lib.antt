@@ -12,6 +12,7 @@ mod Cuts
 mod Ending
 mod Fates
 mod First
+mod Following
 mod Handed
 mod Happened
 mod Heeding
