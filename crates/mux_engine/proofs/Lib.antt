@@ -1,7 +1,6 @@
 mod Answering
 mod Arms
 mod Asks
-mod Belongs
 mod CallLaws
 mod Called
 mod Causes
@@ -28,6 +27,7 @@ mod Loops
 mod Marks
 mod Noted
 mod Offers
+mod OneWait
 mod OrderHoused
 mod Ordered
 mod Outs
