@@ -98,7 +98,7 @@ rose-later : (m n o : ℕ) → m ≤ n → Rose n o → Rose m o
 rose-later m n o h r = let l : n ≤ o = r.later in let c : counted n ≤ o = r.rose in let d : counted m ≤ counted n = counted-least m n h in
     record { later = omega arith; rose = omega arith }
 
-rose-stays : (m n o : ℕ) → Rose m n → n ≤ o → Rose m o
+pub rose-stays : (m n o : ℕ) → Rose m n → n ≤ o → Rose m o
 rose-stays m n o r h = let l : m ≤ n = r.later in let c : counted m ≤ n = r.rose in record { later = omega arith; rose = omega arith }
 
 pub then-stays-or-fails : (a b c : Option Ended) (m n o : ℕ) → StaysBy a b m n → StaysBy b c n o → StaysBy a c m o
