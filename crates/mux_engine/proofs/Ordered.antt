@@ -318,18 +318,18 @@ pub record MadeSo (order : Order) (number : Option ℕ) (seen seen' : Seen) (fau
   pub seen_is : seen' ≡ seen_carried order number seen
   pub counted : OrderCounted order number faults faults'
 
-number-is : {E : Type 0} (number made : Option ℕ) → Ok {E = E} number ≡ Ok made → number ≡ made
+number-is : {E : Type 0} (number made : Option ℕ) → (let a : Result (Option ℕ) E = Ok number in a ≡ Ok made) → number ≡ made
 number-is number made e = cc
 
-pub made-listen : {E : Type 0} (r : Result ℕ FileError) (number : Option ℕ) (host : List ℕ) (port : ℕ) (old new : WireState) (f f' : Faults) → IsMade {E = E} r (Ok number) → NumberFits r old.seen.last_own → new ≡ seeing (seen_after_listen r) old → MakeFaults r f f' → MadeSo (Listen host port) number old.seen new.seen f.own f'.own
-made-listen (Ok n) number host port old new f f' is fits e cause = subst (λ (o : Option ℕ). MadeSo (Listen host port) o old.seen new.seen f.own f'.own) (sym (number-is number (Some n) is)) record { made = fits; seen_is = ap (λ (x : WireState). x.seen) e; counted = ap (λ (x : Faults). x.own) cause }
-made-listen (Err file.Failed) number host port old new f f' is fits e cause = subst (λ (o : Option ℕ). MadeSo (Listen host port) o old.seen new.seen f.own f'.own) (sym (number-is number None is)) record { made = tt; seen_is = ap (λ (x : WireState). x.seen) e; counted = cause.rose }
-made-listen (Err file.OutOfMemory) number host port old new f f' is fits e cause = true-false (sym is)
+pub made-listen : (E : Type 0) (r : Result ℕ FileError) (number : Option ℕ) (host : List ℕ) (port : ℕ) (old new : WireState) (f f' : Faults) → IsMade {E = E} r (Ok number) → NumberFits r old.seen.last_own → new ≡ seeing (seen_after_listen r) old → MakeFaults r f f' → MadeSo (Listen host port) number old.seen new.seen f.own f'.own
+made-listen E (Ok n) number host port old new f f' is fits e cause = subst (λ (o : Option ℕ). MadeSo (Listen host port) o old.seen new.seen f.own f'.own) (sym (number-is number (Some n) is)) record { made = fits; seen_is = ap (λ (x : WireState). x.seen) e; counted = ap (λ (x : Faults). x.own) cause }
+made-listen E (Err file.Failed) number host port old new f f' is fits e cause = subst (λ (o : Option ℕ). MadeSo (Listen host port) o old.seen new.seen f.own f'.own) (sym (number-is number None is)) record { made = tt; seen_is = ap (λ (x : WireState). x.seen) e; counted = cause.rose }
+made-listen E (Err file.OutOfMemory) number host port old new f f' is fits e cause = true-false (sym is)
 
-pub made-connect : {E : Type 0} (r : Result ℕ FileError) (number : Option ℕ) (host : List ℕ) (port : ℕ) (old new : WireState) (f f' : Faults) → IsMade {E = E} r (Ok number) → NumberFits r old.seen.last_own → new ≡ seeing (seen_after_connect r) old → MakeFaults r f f' → MadeSo (Connect host port) number old.seen new.seen f.own f'.own
-made-connect (Ok n) number host port old new f f' is fits e cause = subst (λ (o : Option ℕ). MadeSo (Connect host port) o old.seen new.seen f.own f'.own) (sym (number-is number (Some n) is)) record { made = fits; seen_is = ap (λ (x : WireState). x.seen) e; counted = ap (λ (x : Faults). x.own) cause }
-made-connect (Err file.Failed) number host port old new f f' is fits e cause = subst (λ (o : Option ℕ). MadeSo (Connect host port) o old.seen new.seen f.own f'.own) (sym (number-is number None is)) record { made = tt; seen_is = ap (λ (x : WireState). x.seen) e; counted = cause.rose }
-made-connect (Err file.OutOfMemory) number host port old new f f' is fits e cause = true-false (sym is)
+pub made-connect : (E : Type 0) (r : Result ℕ FileError) (number : Option ℕ) (host : List ℕ) (port : ℕ) (old new : WireState) (f f' : Faults) → IsMade {E = E} r (Ok number) → NumberFits r old.seen.last_own → new ≡ seeing (seen_after_connect r) old → MakeFaults r f f' → MadeSo (Connect host port) number old.seen new.seen f.own f'.own
+made-connect E (Ok n) number host port old new f f' is fits e cause = subst (λ (o : Option ℕ). MadeSo (Connect host port) o old.seen new.seen f.own f'.own) (sym (number-is number (Some n) is)) record { made = fits; seen_is = ap (λ (x : WireState). x.seen) e; counted = ap (λ (x : Faults). x.own) cause }
+made-connect E (Err file.Failed) number host port old new f f' is fits e cause = subst (λ (o : Option ℕ). MadeSo (Connect host port) o old.seen new.seen f.own f'.own) (sym (number-is number None is)) record { made = tt; seen_is = ap (λ (x : WireState). x.seen) e; counted = cause.rose }
+made-connect E (Err file.OutOfMemory) number host port old new f f' is fits e cause = true-false (sym is)
 
 -- whatever came of it nothing is told, and the count does not fall
 pub listen-told : (r : Result ℕ FileError) (old new : WireState) → new ≡ seeing (seen_after_listen r) old → new.seen.told ≡ old.seen.told

@@ -151,8 +151,8 @@ ends-offered (Ok y) p o o' old mid new f g h live none stays works unopened = re
     | inl s ↦ absurd (let z : None ≡ Some ended.ServerFailed = sym live ∙ (sym s.0 ∙ over) in cc)
     | inr s ↦ rose-as f.server g.server h.server none.server s.1
   ];
-  by_row = stays-by-row o o' g h stays (row-live o live);
-  by_count = over-offered p o o' g h old.calls mid.calls new.calls stays (over-live p o old.calls mid.calls live) works.calls.came;
+  by_row = stays-by-row o o' g.server h.server stays (row-live o live);
+  by_count = over-offered p o o' g.server h.server old.calls mid.calls new.calls stays (over-live p o old.calls mid.calls live) works.calls.came;
   unopened = unopened;
 }
 ends-offered (Err y) p o o' old mid new f g h live none stays works unopened = record { failed = tt; by_row = tt; by_count = tt; unopened = unopened }
