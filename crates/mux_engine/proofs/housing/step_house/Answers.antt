@@ -1,4 +1,4 @@
-use Rattle.std.proofs.Common.{◌≡◌, ◌≤◌, ◌∙◌, ◌∷◌, ◌++◌, [], sym, ap, refl, subst, cond, ℕ, Bool, true, false, List, arith}
+use Rattle.std.proofs.Common.{◌≡◌, ◌∙◌, ◌∷◌, ◌++◌, [], sym, ap, refl, cond, ℕ, Bool, true, false, List, arith}
 use Rattle.std.specs.Prelude.{Ok}
 use Rattle.mux_outside.specs.Streams.{without}
 use Rattle.mux_history.specs.declared.limits.TheConstants.{HOUSE}
