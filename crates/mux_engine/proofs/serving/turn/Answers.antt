@@ -208,7 +208,7 @@ returns-in-NoMemory g c =
     k.ensures.state c.in_ok-list_waiting.ensures c.waiting.ensures.exact c.wanted.ensures c.next_of.ensures.bytes c.as_bytes.ensures.bytes k.ensures.turn k.ensures.own_turn in
     let d = turn-wanting H.may H.state c.args.house.now wire (W.state k.new.self) (W.faults c.args.wire.now) (W.faults k.new.self) lists c.args.engine.now q.served b w {A = Went} {E = OutOfMemory} (record {}) c.in-NoMemory.ensures.next lists.held lists.own lists.failed in record {
       serving = d.serving;
-      together = d.together _ refl refl;
+      together = tt;
       house = d.stays;
       went = tt;
       ended = d.ended;
