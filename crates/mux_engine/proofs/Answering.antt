@@ -1,7 +1,9 @@
 -- A whole run, behind its turns and what is offered at its end.
-use Rattle.std.proofs.Common.{◌≡◌, ◌≢◌, ◌≤◌, ◌+◌, ℕ, Bool, true, false, List, [], ◌∷◌, Option, Some, None, refl, sym, ap, ◌∙◌, subst, ◌||◌, arith}
+use Rattle.std.proofs.Common.{◌≡◌, ◌≢◌, ◌≤◌, ◌+◌, ℕ, Bool, true, false, List, [], ◌∷◌, Option, Some, None, refl, sym, ap, ◌∙◌, subst, ◌||◌, arith, inl, inr}
 use Rattle.std.specs.Prelude.{Result, Ok, Err, IsErr}
 use Rattle.std.specs.Result.{result_unwrap_or}
+use Rattle.mux_outside.specs.Counts.{Rose}
+use Rattle.mux_outside.specs.Faults.{Faults}
 use Rattle.mux_outside.specs.House.{Known, nothing_known}
 use Rattle.mux_outside.specs.HouseCalls.{HandsOn, HouseCall}
 use Rattle.mux_outside.specs.OwnStreams.{is_one, is_own, numbers_of}
@@ -18,11 +20,12 @@ use Rattle.mux_history.specs.Policy.{Policy}
 use Rattle.mux_history.specs.Promises.{turns_in}
 use Rattle.mux_machine.specs.State.{State}
 use Rattle.mux_engine.specs.Counted.{Spent, Stops, Well}
-use Rattle.mux_engine.specs.Rests.{IsAlone, IsByRow, ended_as, refused_if}
+use Rattle.mux_engine.specs.Rests.{IsByRow, ended_as, refused_if}
 use Rattle.mux_engine.specs.Run.{IsRun}
 use Rattle.mux_engine.specs.Serving.{Promised, Serving, StaysOrFails}
-use Rattle.mux_engine.specs.Sides.{Housed, Resting, Side}
-use Rattle.mux_engine.proofs.Counting.{none-more, stays-by-row}
+use Rattle.mux_engine.specs.Sides.{Housed, IsAlone, Resting, Side}
+use Rattle.mux_engine.proofs.Arms.{rose-stays}
+use Rattle.mux_engine.proofs.Counting.{none-more, rose-behind, stays-by-row}
 use Rattle.mux_engine.proofs.Ending.{ends-so, ends-spent, ends-unspent, fails-on, refused-none, refused-same}
 use Rattle.mux_engine.proofs.Lists.{test-other, true-false}
 use Rattle.mux_engine.proofs.Runs.{ends-run, ends-starved, promised-more}
@@ -52,8 +55,21 @@ refused-as None (Some i) index e allowed = ap (λ (c : Ended). Some (refused-ind
 refused-as None None index e allowed = absurd (let z : ended.Spent ≡ ended.StartRefused index = e in cc)
 
 -- a run that ended since a forwarding was refused
-pub refused-whole : (answer : Ended) (mid new : Option Ended) (m n : ℕ) (r : Option ℕ) (index : ℕ) → IsByRow mid → StaysOrFails mid new m n → answer ≡ ended_as new r → answer ≡ ended.StartRefused index → r ≡ Some index
-refused-whole answer mid new m n r index row stays is e = refused-as new r index (sym is ∙ e) ((stays-by-row mid new m n stays row).permitted index)
+pub refused-whole : (answer : Ended) (mid new : Option Ended) (m n : Faults) (r : Option ℕ) (index : ℕ) → IsByRow mid → StaysOrFails mid new m n → answer ≡ ended_as new r → answer ≡ ended.StartRefused index → r ≡ Some index
+refused-whole answer mid new m n r index row stays is e = refused-as new r index (sym is ∙ e) ((stays-by-row mid new m.server n.server stays row).permitted index)
+
+-- one that ended since the server's stream failed: its count rose
+failed-as : (o : Option Ended) (r : Option ℕ) → ended_as o r ≡ ended.ServerFailed → o ≡ Some ended.ServerFailed
+failed-as (Some cause) r e = ap (λ (c : Ended). Some c) e
+failed-as None (Some index) e = absurd (let z : ended.StartRefused index ≡ ended.ServerFailed = e in cc)
+failed-as None None e = absurd (let z : ended.Spent ≡ ended.ServerFailed = e in cc)
+
+pub failed-whole : (answer : Ended) (mid new : Option Ended) (f g h i : Faults) (r : Option ℕ) → f.server ≤ g.server → g.server ≤ h.server → (mid ≡ Some ended.ServerFailed → Rose g.server h.server) → StaysOrFails mid new h i → answer ≡ ended_as new r → answer ≡ ended.ServerFailed → Rose f.server i.server
+failed-whole answer mid new f g h i r le le' rose stays is e = rose-behind f.server g.server i.server le (by_stays stays)
+  where
+    by_stays : StaysOrFails mid new h i → Rose g.server i.server
+    by_stays (inl s) = rose-stays g.server h.server i.server (rose (sym s.0 ∙ failed-as new r (sym is ∙ e))) s.1
+    by_stays (inr s) = rose-behind g.server h.server i.server le' s.1
 
 -- ---- what is promised
 
@@ -70,7 +86,7 @@ module _ {May : HouseReply → Type 0} {Rest : Resting} {before : Option (List H
   none-given v z = sym v.turns ∙ ap turns_in z
 
   -- a run that went to its end
-  pub ran-whole : {now : Side} {seen : Seen} {held failed : List ℕ} {s : State} (stands stands' : List HouseCall → Type 0) (turns given : ℕ) (all : Bool) (mid : Option Ended) (m n : ℕ) (refused : Option ℕ) (answer : Ended)
+  pub ran-whole : {now : Side} {seen : Seen} {held failed : List ℕ} {s : State} (stands stands' : List HouseCall → Type 0) (turns given : ℕ) (all : Bool) (mid : Option Ended) (m n : Faults) (refused : Option ℕ) (answer : Ended)
       → Serving May Rest before now policy pid start seen held failed (given + 0) (HOUSE ∷ []) s → now.unnoted ≡ [] → HandsOn stands stands' now.calls
       → given ≤ turns → (all ≡ true → given ≡ turns) → StaysOrFails mid s.ended m n → (all ≡ false → mid ≡ None → refused ≢ None) → answer ≡ ended_as s.ended refused
       → IsRun May Rest.rests stands stands' Rest.present policy pid turns before now.told start seen refused answer
@@ -90,7 +106,7 @@ module _ {May : HouseReply → Type 0} {Rest : Resting} {before : Option (List H
 pub spent-from : (present all : Bool) (turns : ℕ) (a b c : CallCounts) → b ≡ a → Spent present all turns b c → Spent present all turns a c
 spent-from present all turns a b c e s = subst (λ (x : CallCounts). Spent present all turns x c) e s
 
-pub stops-whole : (present all must : Bool) (turns : ℕ) (answer : Ended) (a b c d : CallCounts) (mid new : Option Ended) (m n : ℕ) (refused : Option ℕ)
+pub stops-whole : (present all must : Bool) (turns : ℕ) (answer : Ended) (a b c d : CallCounts) (mid new : Option Ended) (m n : Faults) (refused : Option ℕ)
     → b ≡ a → Spent present all turns b c → Well 0 c d → StaysOrFails mid new m n → IsByRow mid → (all ≡ false → mid ≡ None → refused_if present must refused ≢ None) → (present ≡ false → turns ≡ 0 → new ≡ None) → answer ≡ ended_as new (refused_if present must refused)
     → Stops present turns answer a d
 stops-whole present all must turns answer a b c d mid new m n refused same spent well stays row over idle is =

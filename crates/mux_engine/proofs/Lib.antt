@@ -11,6 +11,7 @@ mod Cuts
 mod Ending
 mod Fates
 mod First
+mod Following
 mod Handed
 mod Happened
 mod Heeding
@@ -26,6 +27,7 @@ mod Loops
 mod Marks
 mod Noted
 mod Offers
+mod OneWait
 mod OrderHoused
 mod Ordered
 mod Outs
@@ -33,6 +35,7 @@ mod OwnAsks
 mod OwnFaults
 mod OwnMarks
 mod OwnTurns
+mod Owning
 mod Owns
 mod Places
 mod Quiet
@@ -53,3 +56,4 @@ mod Unshared
 mod Waiting
 mod Waits
 mod WireTurns
+mod Wired

@@ -7,7 +7,7 @@ use Rattle.std.proofs.lemmas.List.Elements.{filter-append}
 use Rattle.mux_outside.specs.House.{Known, OpenAsk, known_after_order, order_marks}
 use Rattle.mux_outside.specs.HouseCalls.{HouseCall, calls_of}
 use Rattle.mux_outside.specs.OwnStreams.{is_one, is_own, numbers_of}
-use Rattle.mux_outside.specs.Seen.{Seen, seen_after_note}
+use Rattle.mux_outside.specs.Seen.{Seen, seen_after_close, seen_after_note}
 use Rattle.mux_outside.specs.declared.own_streams.OwnStream.{OwnStream}
 use Rattle.mux_outside.specs.Streams.{among, without}
 use Rattle.mux_outside.specs.Wire.{IsNewOwn}
