@@ -11,6 +11,7 @@ use Rattle.mux_engine.specs.Came.{Came}
 use Rattle.mux_engine.specs.Counted.{Cut, Spent, Stops, Turned, Waited, Well}
 use Rattle.mux_engine.proofs.Arms.{well-none, well-on}
 use Rattle.mux_engine.proofs.Comes.{came-none, came-then}
+use Rattle.mux_engine.proofs.Counting.{cut-none}
 use Rattle.mux_engine.proofs.Lists.{true-false}
 
 -- ---- turns
@@ -121,6 +122,14 @@ stops-cut present turns a b c = record {
   starved = λ n. refl;
   late = c.late;
 }
+
+-- calls behind those that left the counts as they were
+pub cut-from : (n : ℕ) (a b c : CallCounts) → b ≡ a → Cut n b c → Cut n a c
+cut-from n a b c e w = subst (λ (x : CallCounts). Cut n x c) e w
+
+-- none
+pub cut-idle : (n : ℕ) (a b : CallCounts) → b ≡ a → Cut n a b
+cut-idle n a b e = subst (λ (x : CallCounts). Cut n a x) (sym e) (cut-none n a)
 
 pub stops-starved : {E : Type 0} (r : Result Ended E) (present : Bool) (turns : ℕ) (a b : CallCounts) → IsErr r → Cut turns a b → Stops present turns (result_unwrap_or r ended.OutOfMemory) a b
 stops-starved (Ok x) present turns a b h c = absurd (let z : false ≡ true = h in cc)

@@ -1,15 +1,14 @@
-use Rattle.std.proofs.Common.{◌+◌, ◌∙◌, [], refl, sym, ap, subst, arith}
+use Rattle.std.proofs.Common.{◌+◌, ◌∙◌, [], refl, sym, ap, subst, arith, List, ℕ}
 use Rattle.mux_outside.proofs.HouseCalls.{hands-none}
-use Rattle.mux_outside.specs.CallCounts.{CallCounts}
 use Rattle.mux_machine.specs.State.{State}
-use Rattle.mux_engine.specs.Counted.{Cut}
-use Rattle.mux_engine.specs.Sides.{RestsOf}
+use Rattle.mux_engine.specs.Sides.{Housed, RestsOf}
 use Rattle.mux_engine.proofs.Answering.{answer-is, failed-whole, none-given, none-held, over-still, ran-starved, ran-whole, refused-whole, spent-from, stops-whole}
 use Rattle.mux_engine.proofs.Arms.{on-err}
 use Rattle.mux_engine.proofs.Comes.{came-same, came-then, over-answer, over-later, over-offered}
-use Rattle.mux_engine.proofs.Counting.{cut-none, none-more}
+use Rattle.mux_engine.proofs.Counting.{none-more}
+use Rattle.mux_engine.proofs.HouseCalls.{housed-still, same-house}
 use Rattle.mux_engine.proofs.Running.{given-is, present-is, promised-is}
-use Rattle.mux_engine.proofs.Spending.{spent-cuts, stops-starved}
+use Rattle.mux_engine.proofs.Spending.{cut-from, cut-idle, spent-cuts, stops-starved}
 use Rattle.mux_engine.proofs.Wired.{keeps-idle, keeps-then, no-fault-then}
 use Rattle.mux_engine.proofs.serving.run.Goals as goal
 
@@ -22,7 +21,7 @@ returns-in_err-enter g c = let r = c.from_residual in let i = c.enter.ensures.wi
   ended = on-err r.result _ _ r.ensures.0 tt;
   calls = record {
     came = came-same _ _ i.untouched.calls;
-    stops = stops-starved r.result _ c.args.turns _ _ r.ensures.0 (subst (λ (x : CallCounts). Cut c.args.turns _ x) (sym i.untouched.calls) (cut-none c.args.turns _));
+    stops = stops-starved r.result _ c.args.turns _ _ r.ensures.0 (cut-idle c.args.turns _ _ i.untouched.calls);
   };
   unopened = λ p. c.enter.ensures.places.last_own;
   places = on-err r.result _ _ r.ensures.0 tt;
@@ -49,6 +48,14 @@ pub turns_of-requires-clause-on : goal.turns_of-requires-clause-on
 turns_of-requires-clause-on g c = let w = c.requires.running.0 in
     (c.in_ok-enter.ensures.serving w.first w.calls w.before w.policy w.pid w.start [] [] w.given w.serving c.requires.running.1).1
 
+pub turns_of-requires-clause-together : goal.turns_of-requires-clause-together
+turns_of-requires-clause-together g c = let H = g.H.Asks in let W = g.W.Wire in let w = c.requires.running.0 in let known = (H.state c.args.house.now).known in
+    let entered = (c.in_ok-enter.ensures.serving w.first w.calls w.before w.policy w.pid w.start [] [] w.given w.serving c.requires.running.1).0 in record {
+      housed = subst (λ (l : List ℕ). Housed known (W.state c.enter.new.wire).seen l) (sym c.new-lists.ensures.own) (housed-still known known _ _ [] c.requires.housed (same-house known known refl) c.enter.ensures.places);
+      alone = c.requires.alone;
+      held_is = c.new-lists.ensures.held ∙ entered.held_is;
+    }
+
 pub returns-in_err-all : goal.returns-in_err-all
 returns-in_err-all g c = let r = c.from_residual-in_err-all in let i = c.enter.ensures.wire in let t = c.in_err-all.ensures in record {
   ran = λ before policy pid start v z. ran-starved _ _ c.args.turns c.args.turns r.result r.ensures.0 (omega arith)
@@ -57,7 +64,7 @@ returns-in_err-all g c = let r = c.from_residual-in_err-all in let i = c.enter.e
   ended = on-err r.result _ _ r.ensures.0 tt;
   calls = record {
     came = came-then _ _ _ (came-same _ _ i.untouched.calls) t.calls.came;
-    stops = stops-starved r.result _ c.args.turns _ _ r.ensures.0 (subst (λ (x : CallCounts). Cut c.args.turns x _) i.untouched.calls t.calls);
+    stops = stops-starved r.result _ c.args.turns _ _ r.ensures.0 (cut-from c.args.turns _ _ _ i.untouched.calls t.calls);
   };
   unopened = λ p. t.ended.unopened p ∙ c.enter.ensures.places.last_own;
   places = on-err r.result _ _ r.ensures.0 tt;
@@ -111,12 +118,12 @@ returns g c = let H = g.H.Asks in let W = g.W.Wire in let p = (H.state c.args.ho
           let handed = t.serving c.args.house.now [] before policy pid start (hands-none (H.state c.args.house.now).stands) (none-held _ _ c.new-lists.ensures.held c.new-lists.ensures.failed (c.in_ok-enter.ensures.serving c.args.house.now [] before policy pid start [] [] 0 v z).0) in
           let spent = handed.so in
           let last = f.serving c.args.house.now handed.all before policy pid start spent.given handed.hands (present-is (λ b. RestsOf H.state b c.args.house.now) _ _ (sym t.house.present) spent.serving) in
-          ran-whole (H.state c.args.house.now).stands (H.state c.finish.new.house).stands c.args.turns spent.given _ c.turns_of.new.engine.ended _ _ _ c.answer_of.result
+          ran-whole (H.state c.args.house.now).stands (H.state c.finish.new.house).stands c.args.turns spent.given _ c.turns_of.new.engine.ended (W.faults c.turns_of.new.wire) (W.faults c.finish.new.wire) _ c.answer_of.result
           (present-is (λ b. RestsOf H.state b c.args.house.now) _ _ t.house.present last.so)
           refl last.hands spent.most spent.all_given f.ended (λ q on. over-still (λ h. (H.state h).known.present) (λ h. (H.state h).must) (λ h. (H.state h).refused) c.turns_of.new.house c.finish.new.house p (f.unasked q) t.house.present (t.goes.over q on)) is;
       must = f.house.must ∙ t.house.must;
       ended = record {
-        permitted = λ index e. refused-whole c.answer_of.result c.turns_of.new.engine.ended c.finish.new.engine.ended _ _ _ index t.ended.by_row f.ended is e;
+        permitted = λ index e. refused-whole c.answer_of.result c.turns_of.new.engine.ended c.finish.new.engine.ended (W.faults c.turns_of.new.wire) (W.faults c.finish.new.wire) _ index t.ended.by_row f.ended is e;
         failed = failed-whole c.answer_of.result c.turns_of.new.engine.ended c.finish.new.engine.ended (W.faults c.args.wire.now) (W.faults c.enter.new.wire) (W.faults c.turns_of.new.wire) (W.faults c.finish.new.wire) _ (keeps-idle i).later t.wire.later t.ended.failed f.ended is;
         by_count = over-answer p c.answer_of.result c.finish.new.engine.ended _ (W.state c.args.wire.now).calls (W.state c.finish.new.wire).calls c.answer_of.ensures
             (over-offered p c.turns_of.new.engine.ended c.finish.new.engine.ended _ _ (W.state c.args.wire.now).calls (W.state c.turns_of.new.wire).calls (W.state c.finish.new.wire).calls f.ended
@@ -125,7 +132,7 @@ returns g c = let H = g.H.Asks in let W = g.W.Wire in let p = (H.state c.args.ho
       };
       calls = record {
         came = came-then _ _ _ (came-then _ _ _ (came-same _ _ i.untouched.calls) t.calls.came) f.wire.calls.came;
-        stops = stops-whole p _ (H.state c.finish.new.house).must c.args.turns c.answer_of.result _ _ _ _ c.turns_of.new.engine.ended c.finish.new.engine.ended _ _ (H.state c.finish.new.house).refused
+        stops = stops-whole p _ (H.state c.finish.new.house).must c.args.turns c.answer_of.result _ _ _ _ c.turns_of.new.engine.ended c.finish.new.engine.ended (W.faults c.turns_of.new.wire) (W.faults c.finish.new.wire) (H.state c.finish.new.house).refused
             i.untouched.calls t.calls f.wire.calls f.ended t.ended.by_row (λ q on. over-still (λ h. (H.state h).known.present) (λ h. (H.state h).must) (λ h. (H.state h).refused) c.turns_of.new.house c.finish.new.house p (f.unasked q) t.house.present (t.goes.over q on))
             (λ out none. let j = t.idle none in let a = c.enter.ensures.alone out in
             ap (λ (s : State). s.ended) ((f.idle (ap (λ (s : State). s.waiting) (j.1 ∙ a.0) ∙ c.requires.quiet) (t.house.present ∙ out)).0 ∙ (j.1 ∙ a.0)) ∙ c.requires.on)
