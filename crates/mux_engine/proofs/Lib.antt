@@ -11,6 +11,7 @@ mod Cuts
 mod Ending
 mod Fates
 mod First
+mod Greeted
 mod Handed
 mod Happened
 mod Heeding
