@@ -2,6 +2,7 @@
 use Rattle.std.proofs.Common.{◌≡◌, ◌≢◌, ◌≤◌, ◌+◌, ℕ, Bool, true, false, List, [], ◌∷◌, Option, Some, None, refl, sym, ap, ◌∙◌, subst, ◌||◌, arith}
 use Rattle.std.specs.Prelude.{Result, Ok, Err, IsErr}
 use Rattle.std.specs.Result.{result_unwrap_or}
+use Rattle.mux_outside.specs.Faults.{Faults}
 use Rattle.mux_outside.specs.House.{Known, nothing_known}
 use Rattle.mux_outside.specs.HouseCalls.{HandsOn, HouseCall}
 use Rattle.mux_outside.specs.OwnStreams.{is_one, is_own, numbers_of}
@@ -18,10 +19,10 @@ use Rattle.mux_history.specs.Policy.{Policy}
 use Rattle.mux_history.specs.Promises.{turns_in}
 use Rattle.mux_machine.specs.State.{State}
 use Rattle.mux_engine.specs.Counted.{Spent, Stops, Well}
-use Rattle.mux_engine.specs.Rests.{IsAlone, IsByRow, ended_as, refused_if}
+use Rattle.mux_engine.specs.Rests.{IsByRow, ended_as, refused_if}
 use Rattle.mux_engine.specs.Run.{IsRun}
 use Rattle.mux_engine.specs.Serving.{Promised, Serving, StaysOrFails}
-use Rattle.mux_engine.specs.Sides.{Housed, Resting, Side}
+use Rattle.mux_engine.specs.Sides.{Housed, IsAlone, Resting, Side}
 use Rattle.mux_engine.proofs.Counting.{none-more, stays-by-row}
 use Rattle.mux_engine.proofs.Ending.{ends-so, ends-spent, ends-unspent, fails-on, refused-none, refused-same}
 use Rattle.mux_engine.proofs.Lists.{test-other, true-false}
@@ -52,7 +53,7 @@ refused-as None (Some i) index e allowed = ap (λ (c : Ended). Some (refused-ind
 refused-as None None index e allowed = absurd (let z : ended.Spent ≡ ended.StartRefused index = e in cc)
 
 -- a run that ended since a forwarding was refused
-pub refused-whole : (answer : Ended) (mid new : Option Ended) (m n : ℕ) (r : Option ℕ) (index : ℕ) → IsByRow mid → StaysOrFails mid new m n → answer ≡ ended_as new r → answer ≡ ended.StartRefused index → r ≡ Some index
+pub refused-whole : (answer : Ended) (mid new : Option Ended) (m n : Faults) (r : Option ℕ) (index : ℕ) → IsByRow mid → StaysOrFails mid new m n → answer ≡ ended_as new r → answer ≡ ended.StartRefused index → r ≡ Some index
 refused-whole answer mid new m n r index row stays is e = refused-as new r index (sym is ∙ e) ((stays-by-row mid new m n stays row).permitted index)
 
 -- ---- what is promised
@@ -70,7 +71,7 @@ module _ {May : HouseReply → Type 0} {Rest : Resting} {before : Option (List H
   none-given v z = sym v.turns ∙ ap turns_in z
 
   -- a run that went to its end
-  pub ran-whole : {now : Side} {seen : Seen} {held failed : List ℕ} {s : State} (stands stands' : List HouseCall → Type 0) (turns given : ℕ) (all : Bool) (mid : Option Ended) (m n : ℕ) (refused : Option ℕ) (answer : Ended)
+  pub ran-whole : {now : Side} {seen : Seen} {held failed : List ℕ} {s : State} (stands stands' : List HouseCall → Type 0) (turns given : ℕ) (all : Bool) (mid : Option Ended) (m n : Faults) (refused : Option ℕ) (answer : Ended)
       → Serving May Rest before now policy pid start seen held failed (given + 0) (HOUSE ∷ []) s → now.unnoted ≡ [] → HandsOn stands stands' now.calls
       → given ≤ turns → (all ≡ true → given ≡ turns) → StaysOrFails mid s.ended m n → (all ≡ false → mid ≡ None → refused ≢ None) → answer ≡ ended_as s.ended refused
       → IsRun May Rest.rests stands stands' Rest.present policy pid turns before now.told start seen refused answer
@@ -90,7 +91,7 @@ module _ {May : HouseReply → Type 0} {Rest : Resting} {before : Option (List H
 pub spent-from : (present all : Bool) (turns : ℕ) (a b c : CallCounts) → b ≡ a → Spent present all turns b c → Spent present all turns a c
 spent-from present all turns a b c e s = subst (λ (x : CallCounts). Spent present all turns x c) e s
 
-pub stops-whole : (present all must : Bool) (turns : ℕ) (answer : Ended) (a b c d : CallCounts) (mid new : Option Ended) (m n : ℕ) (refused : Option ℕ)
+pub stops-whole : (present all must : Bool) (turns : ℕ) (answer : Ended) (a b c d : CallCounts) (mid new : Option Ended) (m n : Faults) (refused : Option ℕ)
     → b ≡ a → Spent present all turns b c → Well 0 c d → StaysOrFails mid new m n → IsByRow mid → (all ≡ false → mid ≡ None → refused_if present must refused ≢ None) → (present ≡ false → turns ≡ 0 → new ≡ None) → answer ≡ ended_as new (refused_if present must refused)
     → Stops present turns answer a d
 stops-whole present all must turns answer a b c d mid new m n refused same spent well stays row over idle is =

@@ -1,16 +1,18 @@
 -- The arms of an offer: which calls are counted, how the run may end, and an error handed on.
-use Rattle.std.proofs.Common.{◌≡◌, ◌≢◌, ◌≤◌, ◌<◌, ◌+◌, ◌-◌, ◌^◌, ℕ, Bool, true, false, List, [], ◌∷◌, ◌++◌, length, Option, Some, None, refl, sym, ap, ◌∙◌, inl, inr, ◌⊎◌, cond, arith}
+use Rattle.std.proofs.Common.{◌≡◌, ◌≢◌, ◌≤◌, ◌<◌, ◌+◌, ◌-◌, ◌^◌, ℕ, Bool, true, false, List, [], ◌∷◌, ◌++◌, length, Option, Some, None, refl, sym, ap, ◌∙◌, subst, inl, inr, ◌⊎◌, cond, arith}
 use Rattle.std.specs.Prelude.{◌==◌, min, Result, Ok, Err, MatchResult, IsErr, OnOk}
-use Rattle.std.specs.Bool.{MatchBool}
 use Rattle.std.proofs.lemmas.Bool.{eqb-true, eq-eqb}
 use Rattle.std.proofs.lemmas.Bool.Decides.{eqb_tells}
 use Rattle.mux_outside.specs.Counts.{Rose, counted}
 use Rattle.mux_outside.specs.CallCounts.{CallCounts, calls_after_one, calls_after_wait, is_starved}
+use Rattle.mux_outside.specs.Faults.{FaultOf, Faults}
 use Rattle.mux_outside.specs.OwnStreams.{is_own}
-use Rattle.mux_outside.specs.Wire.{StreamFault}
+use Rattle.mux_outside.specs.Whose.{whose}
 use Rattle.mux_outside.specs.declared.mark.Mark.{Mark}
 use Rattle.mux_outside.specs.declared.mark.Mark.TheVariants.{WriteFails}
 use Rattle.mux_outside.specs.declared.turn.Turn.{Turn}
+use Rattle.mux_outside.specs.declared.whose.Whose.{Whose}
+use Rattle.mux_outside.specs.declared.whose.Whose.TheVariants.{Server, Client, Own}
 use Rattle.mux_history.specs.declared.ended.Ended.{Ended}
 use Rattle.mux_history.specs.declared.ended.Ended.TheVariants as ended
 use Rattle.mux_machine.specs.declared.event.Event.{Event}
@@ -59,17 +61,38 @@ well-on m n k a b c e v w = record { waited = waited-on m n k a.waits b.waits c.
 pub well-then : (a b c : CallCounts) → Well 0 a b → Well 0 b c → Well 0 a c
 well-then a b c v w = well-on 0 0 0 a b c (omega arith) v w
 
-pub cut-then : (a b c : CallCounts) → Well 0 a b → Cut 0 b c → Cut 0 a c
-cut-then a b c v w = let f : b.waits ≤ a.waits + 0 = v.waited.most in let g : c.waits ≤ b.waits + 0 = w.few in let e : b.wants ≡ a.wants = v.wants in let h : c.wants ≤ b.wants + 1 = w.wants in
+-- calls that ended well come before one that was cut short
+pub cut-on : (m n k : ℕ) (a b c : CallCounts) → m + n ≡ k → Well m a b → Cut n b c → Cut k a c
+cut-on m n k a b c e v w = let f : b.waits ≤ a.waits + m = v.waited.most in let g : c.waits ≤ b.waits + n = w.few in let d : b.wants ≡ a.wants = v.wants in let h : c.wants ≤ b.wants + 1 = w.wants in
     record { few = omega arith; wants = omega arith; late = λ z. w.late (v.wants ∙ z) ∙ v.late z; came = came-then a b c v.came w.came }
+
+pub cut-then : (a b c : CallCounts) → Well 0 a b → Cut 0 b c → Cut 0 a c
+cut-then a b c v w = cut-on 0 0 0 a b c (omega arith) v w
+
+pub counts-on : {A E : Type 0} (m n k : ℕ) (r : Result A E) (a b c : CallCounts) → m + n ≡ k → Well m a b → Counts n r b c → Counts k r a c
+counts-on m n k (Ok x) a b c e v w = well-on m n k a b c e v w
+counts-on m n k (Err x) a b c e v w = cut-on m n k a b c e v w
+
+-- a call that found memory is none that was cut short
+pub well-cut : (n : ℕ) (a b : CallCounts) → Well n a b → Cut n a b
+well-cut n a b v = let f : b.waits ≤ a.waits + n = v.waited.most in let d : b.wants ≡ a.wants = v.wants in
+    record { few = omega arith; wants = omega arith; late = v.late; came = v.came }
+
+pub counts-well : {A E : Type 0} (n : ℕ) (r : Result A E) (a b : CallCounts) → Well n a b → Counts n r a b
+counts-well n (Ok x) a b v = v
+counts-well n (Err x) a b v = well-cut n a b v
+
+-- a write that found no memory
+pub cut-one : (c : CallCounts) → Cut 0 c (calls_after_one true c)
+cut-one c = record { few = omega arith; wants = omega arith; late = late-one c true; came = came-one true c }
 
 -- ---- the end
 
 pub le-of : (a b : ℕ) → a ≡ b → a ≤ b
 le-of a b e = omega arith
 
-pub stays : (old new : Option Ended) (faults faults' : ℕ) → new ≡ old → faults' ≡ faults → StaysOrFails old new faults faults'
-stays old new faults faults' e f = inl (e, le-of faults faults' (sym f))
+pub stays : (old new : Option Ended) (faults faults' : Faults) → new ≡ old → faults'.server ≡ faults.server → StaysOrFails old new faults faults'
+stays old new faults faults' e f = inl (e, le-of faults.server faults'.server (sym f))
 
 rose-later : (m n o : ℕ) → m ≤ n → Rose n o → Rose m o
 rose-later m n o h r = let l : n ≤ o = r.later in let c : counted n ≤ o = r.rose in let d : counted m ≤ counted n = counted-least m n h in
@@ -78,11 +101,11 @@ rose-later m n o h r = let l : n ≤ o = r.later in let c : counted n ≤ o = r.
 rose-stays : (m n o : ℕ) → Rose m n → n ≤ o → Rose m o
 rose-stays m n o r h = let l : m ≤ n = r.later in let c : counted m ≤ n = r.rose in record { later = omega arith; rose = omega arith }
 
-pub then-stays-or-fails : (a b c : Option Ended) (m n o : ℕ) → StaysOrFails a b m n → StaysOrFails b c n o → StaysOrFails a c m o
-then-stays-or-fails a b c m n o (inl x) (inl y) = let f : m ≤ n = x.1 in let g : n ≤ o = y.1 in inl (y.0 ∙ x.0, omega arith)
-then-stays-or-fails a b c m n o (inl x) (inr y) = inr (y.0, rose-later m n o x.1 y.1)
-then-stays-or-fails a b c m n o (inr x) (inl y) = inr (y.0 ∙ x.0, rose-stays m n o x.1 y.1)
-then-stays-or-fails a b c m n o (inr x) (inr y) = let r : Rose m n = x.1 in inr (y.0, rose-later m n o r.later y.1)
+pub then-stays-or-fails : (a b c : Option Ended) (f g h : Faults) → StaysOrFails a b f g → StaysOrFails b c g h → StaysOrFails a c f h
+then-stays-or-fails a b c f g h (inl x) (inl y) = let l : f.server ≤ g.server = x.1 in let m : g.server ≤ h.server = y.1 in inl (y.0 ∙ x.0, omega arith)
+then-stays-or-fails a b c f g h (inl x) (inr y) = inr (y.0, rose-later f.server g.server h.server x.1 y.1)
+then-stays-or-fails a b c f g h (inr x) (inl y) = inr (y.0 ∙ x.0, rose-stays f.server g.server h.server x.1 y.1)
+then-stays-or-fails a b c f g h (inr x) (inr y) = let r : Rose f.server g.server = x.1 in inr (y.0, rose-later f.server g.server h.server r.later y.1)
 
 -- ---- a stream that failed at a write
 
@@ -162,28 +185,27 @@ failing (FromServer bytes) k old new t keeps ends = absurd (cc)
 failing ServerEnd k old new t keeps ends = absurd (cc)
 failing ServerFailed k old new t keeps ends = elim t [ inl m ↦ absurd (cc) | inr m ↦ server-fails k old new (ap stream-of m) keeps ends ]
 
+-- where a stream failed, the server's count did not fall
+later-of : (w : Whose) (f f' : Faults) → FaultOf w f f' → f.server ≤ f'.server
+later-of Server f f' r = r.rose.later
+later-of (Client k) f f' r = le-of f.server f'.server (sym r.server)
+later-of Own f f' r = le-of f.server f'.server (sym r.server)
+
+pub fault-later : (k : ℕ) (f f' : Faults) → FaultOf (whose k) f f' → f.server ≤ f'.server
+fault-later k f f' c = later-of (whose k) f f' c
+
+pub whose-server : (k : ℕ) → (k == 0) ≡ true → whose k ≡ Server
+whose-server k e = ap (λ (b : Bool). cond b Server (cond (is_own k) Own (Client k))) e
+
 -- the count of the server's side rose where it is the server's stream
-pub fault-ended : (k : ℕ) (old new : State) (a b c d : ℕ) → Failing k old new → StreamFault k a b c d → StaysOrFails old.ended new.ended a b
-fault-ended k old new a b c d f fault = elim (eqb_tells k 0) [
-  | inl q ↦ let r : Rose a b = (of-server (k == 0) q.0 fault) in elim (f.server q.1) [ inl e ↦ inl (e, r.later) | inr e ↦ inr (e, r) ]
-  | inr q ↦ inl (f.client q.1, le-of a b (sym (of-client (k == 0) q.0 fault)))
+pub fault-ended : (k : ℕ) (old new : State) (f f' : Faults) → Failing k old new → FaultOf (whose k) f f' → StaysOrFails old.ended new.ended f f'
+fault-ended k old new f f' fails fault = elim (eqb_tells k 0) [
+  | inl q ↦ let r : Rose f.server f'.server = of-server q.0 in elim (fails.server q.1) [ inl e ↦ inl (e, r.later) | inr e ↦ inr (e, r) ]
+  | inr q ↦ inl (fails.client q.1, fault-later k f f' fault)
 ]
   where
-    of-server : (t : Bool) → t ≡ true → MatchBool t (Rose a b × (d ≡ c)) ((b ≡ a) × MatchBool (is_own k) (d ≡ c) (Rose c d)) → Rose a b
-    of-server true e x = x.0
-    of-server false e x = absurd (cc)
-
-    of-client : (t : Bool) → t ≡ false → MatchBool t (Rose a b × (d ≡ c)) ((b ≡ a) × MatchBool (is_own k) (d ≡ c) (Rose c d)) → b ≡ a
-    of-client true e x = absurd (cc)
-    of-client false e x = x.0
-
--- where a stream failed, the server's count did not fall
-pub fault-later : (k a b c d : ℕ) → StreamFault k a b c d → a ≤ b
-fault-later k a b c d f = by_test (k == 0) f
-  where
-    by_test : (t : Bool) → MatchBool t (Rose a b × (d ≡ c)) ((b ≡ a) × MatchBool (is_own k) (d ≡ c) (Rose c d)) → a ≤ b
-    by_test true x = let r : Rose a b = x.0 in r.later
-    by_test false x = le-of a b (sym x.0)
+    of-server : (k == 0) ≡ true → Rose f.server f'.server
+    of-server e = let s : FaultOf Server f f' = subst (λ (w : Whose). FaultOf w f f') (whose-server k e) fault in s.rose
 
 -- ---- where nothing waits
 
@@ -204,8 +226,8 @@ pub none-there : {P : Type 0} (i : ℕ) (xs : List ℕ) → i < length xs → xs
 none-there i xs less none = absurd (let z : length xs ≡ 0 = ap length none in omega arith)
 
 -- nothing was done, and then nothing
-pub idle-then : {V : Type 0} (k : ℕ) (s t u : State) (v w x : V) → (queue_in s k ≡ [] → (t ≡ s) × (w ≡ v)) → (queue_in t k ≡ [] → (u ≡ t) × (x ≡ w)) → queue_in s k ≡ [] → (u ≡ s) × (x ≡ v)
-idle-then k s t u v w x first then none = let a : (t ≡ s) × (w ≡ v) = first none in let b : (u ≡ t) × (x ≡ w) = then (ap (λ (y : State). queue_in y k) a.0 ∙ none) in (b.0 ∙ a.0, b.1 ∙ a.1)
+pub unchanged-then : {V : Type 0} (k : ℕ) (s t u : State) (v w x : V) → (queue_in s k ≡ [] → (t ≡ s) × (w ≡ v)) → (queue_in t k ≡ [] → (u ≡ t) × (x ≡ w)) → queue_in s k ≡ [] → (u ≡ s) × (x ≡ v)
+unchanged-then k s t u v w x first then none = let a : (t ≡ s) × (w ≡ v) = first none in let b : (u ≡ t) × (x ≡ w) = then (ap (λ (y : State). queue_in y k) a.0 ∙ none) in (b.0 ∙ a.0, b.1 ∙ a.1)
 
 -- ---- errors
 

@@ -1,16 +1,18 @@
 -- What a turn counts, and how it may end a run.
 use Rattle.std.proofs.Common.{◌≡◌, ◌≢◌, ◌≤◌, ◌+◌, ℕ, Bool, true, false, List, Option, Some, None, refl, sym, ap, ◌∙◌, subst, inl, inr, cond, arith}
 use Rattle.std.specs.Prelude.{◌==◌, Result, Ok, Err}
-use Rattle.std.specs.Bool.{MatchBool}
 use Rattle.std.proofs.lemmas.Bool.{eq-eqb}
 use Rattle.mux_outside.specs.Counts.{Rose, counted}
 use Rattle.mux_outside.specs.CallCounts.{CallCounts, calls_after_wait, is_starved}
-use Rattle.mux_outside.specs.OwnStreams.{is_own}
-use Rattle.mux_outside.specs.Wire.{SameFaults, TurnFaults}
+use Rattle.mux_outside.specs.Faults.{FaultOf, Faults}
+use Rattle.mux_outside.specs.Whose.{whose}
+use Rattle.mux_outside.specs.Wire.{TurnFaults}
 use Rattle.mux_outside.specs.declared.mark.Mark.{Mark}
 use Rattle.mux_outside.specs.declared.mark.Mark.TheVariants.{Accepts, Gets, Ends, Fails, WriteFails}
 use Rattle.mux_outside.specs.declared.turn.Turn.{Turn}
 use Rattle.mux_outside.specs.declared.turn.Turn.TheVariants as turn
+use Rattle.mux_outside.specs.declared.whose.Whose.{Whose}
+use Rattle.mux_outside.specs.declared.whose.Whose.TheVariants.{Server}
 use Rattle.mux_history.specs.declared.ended.Ended.{Ended}
 use Rattle.mux_history.specs.declared.ended.Ended.TheVariants as ended
 use Rattle.mux_machine.specs.declared.event.Event.{Event}
@@ -20,7 +22,7 @@ use Rattle.mux_engine.specs.Counted.{Counts, Cut}
 use Rattle.mux_engine.specs.Rests.{IsByRow}
 use Rattle.mux_engine.specs.Serving.{StaysOrFails}
 use Rattle.mux_engine.specs.Turns.{IsEventOf}
-use Rattle.mux_engine.proofs.Arms.{well-wait}
+use Rattle.mux_engine.proofs.Arms.{well-wait, whose-server}
 use Rattle.mux_engine.proofs.Comes.{came-none, came-wait}
 
 -- ---- calls
@@ -64,14 +66,6 @@ none-more given turns le = omega arith
 pub more-none : (given : ℕ) → given + 0 ≡ given
 more-none given = omega arith
 
--- one that gave no turn: no count of faults rose
-pub same-faults : {V : Type 0} (server client : V → ℕ) (old new : V) → new ≡ old → SameFaults (server old) (server new) (client old) (client new)
-same-faults server client old new e = record { same_server = ap server e; same_client = ap client e }
-
--- the counts stay over what leaves the wire as it was, and what leaves its counts
-pub faults-then : {V : Type 0} (server client : V → ℕ) (old mid new : V) → mid ≡ old → SameFaults (server mid) (server new) (client mid) (client new) → SameFaults (server old) (server new) (client old) (client new)
-faults-then server client old mid new e f = record { same_server = f.same_server ∙ ap server e; same_client = f.same_client ∙ ap client e }
-
 -- ---- the server's stream
 
 abbrev IsServerFailed : Event → Type 0
@@ -113,38 +107,18 @@ not-told (FromServer bytes) mark is t f g = is
 not-told ServerEnd mark is t f g = is
 
 -- its count rose where a turn ended the run so
-rose-by : (e : Event) (t : Turn) (bytes : List ℕ) (a b c d : ℕ) → IsServerFailed e → IsEventOf e t bytes → TurnFaults t a b c d → Rose a b
-rose-by e (turn.Failed k) bytes a b c d is next f = by_server (k == 0) (eq-eqb k 0 (failed-stream e k is next.1)) f
-  where
-    by_server : (t : Bool) → t ≡ true → MatchBool t (Rose a b × (d ≡ c)) ((b ≡ a) × MatchBool (is_own k) (d ≡ c) (Rose c d)) → Rose a b
-    by_server true e f = f.0
-    by_server false e f = absurd (cc)
-rose-by e (turn.Accepted k) bytes a b c d is next f = absurd (not-told e (Accepts k) is next (λ z. cc) (λ z. cc))
-rose-by e (turn.Got k) bytes a b c d is next f = absurd (not-told e (Gets k bytes) is next.1 (λ z. cc) (λ z. cc))
-rose-by e (turn.End k) bytes a b c d is next f = absurd (not-told e (Ends k) is next.1 (λ z. cc) (λ z. cc))
-rose-by e (turn.Writable k) bytes a b c d is next f = absurd next
-rose-by e (turn.Joined l k) bytes a b c d is next f = absurd next
-rose-by e turn.NoMemory bytes a b c d is next f = absurd next
+rose-by : (e : Event) (t : Turn) (bytes : List ℕ) (f f' : Faults) → IsServerFailed e → IsEventOf e t bytes → TurnFaults t f f' → Rose f.server f'.server
+rose-by e (turn.Failed k) bytes f f' is next c =
+    let s : FaultOf Server f f' = subst (λ (w : Whose). FaultOf w f f') (whose-server k (eq-eqb k 0 (failed-stream e k is next.1))) c in s.rose
+rose-by e (turn.Accepted k) bytes f f' is next c = absurd (not-told e (Accepts k) is next (λ z. cc) (λ z. cc))
+rose-by e (turn.Got k) bytes f f' is next c = absurd (not-told e (Gets k bytes) is next.1 (λ z. cc) (λ z. cc))
+rose-by e (turn.End k) bytes f f' is next c = absurd (not-told e (Ends k) is next.1 (λ z. cc) (λ z. cc))
+rose-by e (turn.Writable k) bytes f f' is next c = absurd next
+rose-by e (turn.Joined l k) bytes f f' is next c = absurd next
+rose-by e turn.NoMemory bytes f f' is next c = absurd next
 
-pub turn-rose : (e : Event) (o : Option Ended) (t : Turn) (bytes : List ℕ) (a b c d : ℕ) → MayEnd e o → IsEventOf e t bytes → TurnFaults t a b c d → o ≡ Some ended.ServerFailed → Rose a b
-turn-rose e o t bytes a b c d may next f over = rose-by e t bytes a b c d (failed-by e o may over) next f
-
-same-later : (a b : ℕ) → b ≡ a → a ≤ b
-same-later a b e = omega arith
-
--- no count falls
-pub turn-later : (t : Turn) (a b c d : ℕ) → TurnFaults t a b c d → a ≤ b
-turn-later (turn.Accepted k) a b c d f = same-later a b f.same_server
-turn-later (turn.Got k) a b c d f = same-later a b f.same_server
-turn-later (turn.End k) a b c d f = same-later a b f.same_server
-turn-later (turn.Writable k) a b c d f = same-later a b f.same_server
-turn-later (turn.Joined l k) a b c d f = same-later a b f.same_server
-turn-later turn.NoMemory a b c d f = same-later a b f.same_server
-turn-later (turn.Failed k) a b c d f = by_server (k == 0) f
-  where
-    by_server : (t : Bool) → MatchBool t (Rose a b × (d ≡ c)) ((b ≡ a) × MatchBool (is_own k) (d ≡ c) (Rose c d)) → a ≤ b
-    by_server true f = let r : Rose a b = f.0 in r.later
-    by_server false f = same-later a b f.0
+pub turn-rose : (e : Event) (o : Option Ended) (t : Turn) (bytes : List ℕ) (f f' : Faults) → MayEnd e o → IsEventOf e t bytes → TurnFaults t f f' → o ≡ Some ended.ServerFailed → Rose f.server f'.server
+turn-rose e o t bytes f f' may next c over = rose-by e t bytes f f' (failed-by e o may over) next c
 
 -- ---- how a run ends
 
@@ -184,7 +158,7 @@ pub later-on : (a b c : ℕ) → a ≤ b → b ≤ c → a ≤ c
 later-on a b c f g = omega arith
 
 -- a run that went on is ended by a row, if at all
-pub stays-by-row : (old new : Option Ended) (a b : ℕ) → StaysOrFails old new a b → IsByRow old → IsByRow new
+pub stays-by-row : (old new : Option Ended) (a b : Faults) → StaysOrFails old new a b → IsByRow old → IsByRow new
 stays-by-row old new a b (inl s) row = subst IsByRow (sym s.0) row
 stays-by-row old new a b (inr f) row = record {
   unspent = λ is. let z : Some ended.ServerFailed ≡ Some ended.Spent = sym f.0 ∙ is in cc;

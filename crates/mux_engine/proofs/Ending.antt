@@ -1,11 +1,19 @@
 -- How a run ends behind its turns.
-use Rattle.std.proofs.Common.{◌≡◌, ◌≢◌, ℕ, Bool, true, false, List, Option, Some, None, refl, sym, ap, ◌∙◌, inl, inr}
+use Rattle.std.proofs.Common.{◌≡◌, ◌≢◌, ℕ, Bool, true, false, List, Option, Some, None, refl, sym, ap, ◌∙◌, inl, inr, subst}
+use Rattle.std.specs.Prelude.{◌≤◌, IsErr, Result, Ok, Err}
+use Rattle.mux_outside.specs.Counts.{Rose}
+use Rattle.mux_outside.specs.Faults.{Faults}
+use Rattle.mux_outside.specs.WireState.{WireState}
 use Rattle.mux_outside.specs.declared.mark.Mark.{Mark}
 use Rattle.mux_history.specs.declared.ended.Ended.{Ended}
 use Rattle.mux_history.specs.declared.ended.Ended.TheVariants as ended
 use Rattle.mux_history.specs.Promises.{EndsAs, turns_in}
-use Rattle.mux_engine.specs.Rests.{ended_as, refused_if}
+use Rattle.mux_engine.specs.Came.{Came}
+use Rattle.mux_engine.specs.Rests.{EndsSo, IsByRow, ended_as, refused_if}
 use Rattle.mux_engine.specs.Serving.{StaysOrFails}
+use Rattle.mux_engine.specs.Wires.{Untouched}
+use Rattle.mux_engine.proofs.Comes.{over-later, over-live, over-present, over-same}
+use Rattle.mux_engine.proofs.Counting.{rose-behind}
 
 pub refused-none : (present must : Bool) (refused : Option ℕ) → present ≡ false → refused_if present must refused ≡ None
 refused-none false must refused p = refl
@@ -15,7 +23,7 @@ refused-none true must refused p = absurd (cc)
 pub refused-same : (p q m n : Bool) (r s : Option ℕ) → p ≡ q → m ≡ n → r ≡ s → refused_if p m r ≡ refused_if q n s
 refused-same p q m n r s e f g = ap (λ b. refused_if b m r) e ∙ (ap (λ b. refused_if q b r) f ∙ ap (refused_if q n) g)
 
-pub fails-on : (old new : Option Ended) (a b : ℕ) → StaysOrFails old new a b → new ≡ None → old ≡ None
+pub fails-on : (old new : Option Ended) (a b : Faults) → StaysOrFails old new a b → new ≡ None → old ≡ None
 fails-on old new a b (inl s) is = sym s.0 ∙ is
 fails-on old new a b (inr f) is = let z : Some ended.ServerFailed ≡ None = sym f.0 ∙ is in absurd (let h = z in cc)
 
@@ -30,7 +38,7 @@ some-unspent (Some cause) r some unspent e = unspent (ap (λ (c : Ended). Some c
 some-unspent None r some unspent e = some refl
 
 -- a run that something ended did not spend its turns
-pub ends-unspent : (old new : Option Ended) (a b : ℕ) (r : Option ℕ) → StaysOrFails old new a b → old ≢ None → old ≢ Some ended.Spent → ended_as new r ≢ ended.Spent
+pub ends-unspent : (old new : Option Ended) (a b : Faults) (r : Option ℕ) → StaysOrFails old new a b → old ≢ None → old ≢ Some ended.Spent → ended_as new r ≢ ended.Spent
 ends-unspent old new a b r stays some unspent = some-unspent new r (λ e. some (fails-on old new a b stays e)) (still stays)
   where
     still : StaysOrFails old new a b → new ≢ Some ended.Spent
@@ -40,3 +48,42 @@ ends-unspent old new a b r stays some unspent = some-unspent new r (λ e. some (
 -- one that nothing ended did
 pub ends-spent : (o : Option Ended) (r : Option ℕ) → o ≡ None → r ≡ None → ended_as o r ≡ ended.Spent
 ends-spent o r e f = ap (λ x. ended_as x r) e ∙ ap (ended_as None) f
+
+-- ---- how it ended so far
+
+-- it goes on
+pub ends-live : {A E : Type 0} (r : Result A E) (p : Bool) (o : Option Ended) (a b : WireState) (f g : Faults) → o ≡ None → (p ≡ false → b.seen.last_own ≡ a.seen.last_own) → EndsSo r p o a b f g
+ends-live (Ok x) p o a b f g live still = record {
+  failed = λ over. let z : None ≡ Some ended.ServerFailed = sym live ∙ over in absurd (let h = z in cc);
+  by_row = record {
+    unspent = λ over. let z : None ≡ Some ended.Spent = sym live ∙ over in let h = z in cc;
+    permitted = λ index over. let z : None ≡ Some (ended.StartRefused index) = sym live ∙ over in let h = z in cc;
+  };
+  by_count = over-live p o a.calls b.calls live;
+  unopened = still;
+}
+ends-live (Err x) p o a b f g live still = record { failed = tt; by_row = tt; by_count = tt; unopened = still }
+
+-- there was no memory
+pub ends-cut : {A E : Type 0} (r : Result A E) (p : Bool) (o : Option Ended) (a b : WireState) (f g : Faults) → IsErr r → (p ≡ false → b.seen.last_own ≡ a.seen.last_own) → EndsSo r p o a b f g
+ends-cut (Ok x) p o a b f g is still = absurd (let z : false ≡ true = is in cc)
+ends-cut (Err x) p o a b f g is still = record { failed = tt; by_row = tt; by_count = tt; unopened = still }
+
+-- behind calls that ended no run, with a house that is present just so
+pub ends-later : {A E : Type 0} (r : Result A E) (p q : Bool) (o : Option Ended) (a b c : WireState) (f g h : Faults) → q ≡ p → f.server ≤ g.server → Came a.calls b.calls → (p ≡ false → b.seen.last_own ≡ a.seen.last_own) → EndsSo r q o b c g h → EndsSo r p o a c f h
+ends-later (Ok x) p q o a b c f g h same later came still so = record {
+  failed = λ over. rose-behind f.server g.server h.server later (so.failed over);
+  by_row = so.by_row;
+  by_count = over-present q p o a.calls c.calls same (over-later q o a.calls b.calls c.calls came so.by_count);
+  unopened = λ out. so.unopened (same ∙ out) ∙ still out;
+}
+ends-later (Err x) p q o a b c f g h same later came still so = record { failed = tt; by_row = tt; by_count = tt; unopened = λ out. so.unopened (same ∙ out) ∙ still out }
+
+-- with another result where memory was not wanting, and behind what only closes streams
+pub ends-closed : {A B E : Type 0} (x : A) (y : B) (p : Bool) (o o' : Option Ended) (a b c : WireState) (f g h : Faults) → o' ≡ o → Untouched b c g h → c.seen.last_own ≡ b.seen.last_own → EndsSo {E = E} (Ok x) p o a b f g → EndsSo {E = E} (Ok y) p o' a c f h
+ends-closed x y p o o' a b c f g h same idle still so = record {
+  failed = λ over. subst (λ (n : ℕ). Rose f.server n) (sym idle.no_fault.server) (so.failed (sym same ∙ over));
+  by_row = subst IsByRow (sym same) so.by_row;
+  by_count = over-same p o o' a.calls b.calls c.calls same idle.calls so.by_count;
+  unopened = λ out. still ∙ so.unopened out;
+}

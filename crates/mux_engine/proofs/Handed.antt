@@ -7,11 +7,12 @@ use Rattle.std.proofs.lemmas.List.{map-append}
 use Rattle.std.proofs.lemmas.List.Folds.{list_any-append}
 use Rattle.ssh_fields.specs.Fields.{AreBytes}
 use Rattle.mux_outside.specs.HouseCalls.{End, Failed, Got, HandsOn, HouseCall, Joined, Turns, Writable, calls_of, happening_of}
-use Rattle.mux_outside.specs.House.{IsNewTo, Known, OwnTurnFits, Quiet, known_after_own_turn}
+use Rattle.mux_outside.specs.House.{HouseState, IsNewTo, Known, OwnTurnFits, Quiet, known_after_own_turn}
 use Rattle.mux_outside.specs.OwnStreams.{is_one, is_own, is_silent, new_stream, numbers_of, with_end}
 use Rattle.mux_outside.specs.Seen.{Seen, seen_after_turn}
 use Rattle.mux_outside.specs.Streams.{among, without}
 use Rattle.mux_outside.specs.Wire.{IsNewOwn, OwnFits, TurnFits}
+use Rattle.mux_outside.specs.WireState.{WireState, state_after_wait}
 use Rattle.mux_outside.specs.declared.house.HouseReply.{HouseReply}
 use Rattle.mux_outside.specs.declared.house_mark.HouseMark.{HouseMark}
 use Rattle.mux_outside.specs.declared.house_mark.HouseMark.TheVariants.{HouseIn, HouseSaid, HouseTook, HouseAsked, HouseAnswer, HouseOrder}
@@ -22,6 +23,7 @@ use Rattle.mux_outside.specs.declared.own_streams.TheConstants.{LAST_CLIENT}
 use Rattle.mux_outside.specs.declared.own_turn.OwnTurn.{OwnTurn}
 use Rattle.mux_outside.specs.declared.own_turn.OwnTurn.TheVariants as told
 use Rattle.mux_outside.specs.declared.piece.TheConstants.{LONGEST_PIECE}
+use Rattle.mux_outside.specs.declared.turn.Tally.{Tally}
 use Rattle.mux_outside.specs.declared.turn.Turn.{Turn}
 use Rattle.mux_outside.specs.declared.turn.Turn.TheVariants as turn
 use Rattle.mux_outside.specs.declared.turn.Want.{Want}
@@ -33,9 +35,10 @@ use Rattle.mux_machine.specs.Events.{here}
 use Rattle.mux_machine.specs.declared.event.Event.{Event}
 use Rattle.mux_engine.specs.Asking.{Heeded, HeedsSo}
 use Rattle.mux_engine.specs.Owned.{waits_for}
-use Rattle.mux_engine.specs.Rests.{IsAlone, IsReady, refused_if}
+use Rattle.mux_engine.specs.Rests.{HasNoneToClose, IsReady, IsReadyFor, refusal_of, refused_if}
 use Rattle.mux_engine.specs.Serving.{Promised, Serving}
-use Rattle.mux_engine.specs.Sides.{Housed, Resting, RestsOf, SameHouse, Side, noted}
+use Rattle.mux_engine.specs.Sides.{Housed, IsAlone, Resting, RestsOf, SameHouse, Side, Together, noted}
+use Rattle.mux_engine.specs.declared.room.Lists.{Lists}
 use Rattle.mux_engine.specs.Turns.{IsEventOf, IsOwnOf, failed_heard, held_heard, own_heard, want_of}
 use Rattle.mux_engine.proofs.Cuts.{cut-here, cut-still}
 use Rattle.mux_engine.proofs.Called.{calling}
@@ -68,14 +71,23 @@ none-refused true true refused p e m = e
 none-refused true false refused p e m = true-false (sym m)
 none-refused false must refused p e m = true-false (sym p)
 
-pub at-wait : {T : Type 0} {calls : List HouseCall} (told : T → Option (List HouseMark)) (known_of : T → Known) (quiet : T → Quiet) (must : T → Bool) (refused : T → Option ℕ) (stands : T → List HouseCall → Type 0) (first house : T) (seen : Seen) (own held failed : List ℕ) (queue : ℕ → List ℕ) (s : State) → Housed (known_of house) seen own → IsReady (known_of house) (quiet house) queue held failed own s
-    → refused_if (known_of house).present (must house) (refused house) ≡ None → s.leaving ≡ [] → s.refused ≡ [] → s.ended ≡ None → seen.listens ≡ s.listening → HandsOn (stands first) (stands house) calls → AtWait (RestsOf told known_of quiet must refused stands (known_of house).present first) (noted (told house) (known_of house) calls) seen own held failed queue s
-at-wait told known_of quiet must refused stands first house seen own held failed queue s housed ready permitted none admitted live hears hands = record {
-  none = none;
-  admitted = admitted;
-  live = live;
+-- what a turn of the run begins with: the house is ready for a wait, and nothing ends the run
+pub record BeginsTurn (house : HouseState) (wire : WireState) (lists : Lists) (s : State) : Type 0 where
+  pub together : Together house wire lists
+  pub ready : IsReadyFor house lists s
+  pub permitted : refusal_of house ≡ None
+  pub closed : HasNoneToClose s
+  pub on : s.ended ≡ None
+  pub hears : wire.seen.listens ≡ s.listening
+
+pub at-wait : {T : Type 0} (state : T → HouseState) (first house : T) (calls : List HouseCall) (wire : WireState) (lists : Lists) (s : State) → BeginsTurn (state house) wire lists s → HandsOn (state first).stands (state house).stands calls
+    → AtWait (RestsOf state (state house).known.present first) (noted (state house).told (state house).known calls) wire.seen lists.own lists.held lists.failed (state house).queue s
+at-wait state first house calls wire lists s b hands = let housed = b.together.housed in let ready = b.ready in record {
+  none = b.closed.closed;
+  admitted = b.closed.refused;
+  live = b.on;
   offered = record { own_is = housed.own_is; opened = housed.places.opened; numbered = housed.places.numbered; offered = ready.no_more.offered };
-  hears = hears;
+  hears = b.hears;
   all_noted = refl;
   rests = λ present. (
     house,
@@ -84,7 +96,7 @@ at-wait told known_of quiet must refused stands first house seen own held failed
         orders = ready.no_more.orders present;
         answers = ready.no_more.answers present;
         rests = ready.rests present;
-        permitted = none-refused (known_of house).present (must house) (refused house) present permitted;
+        permitted = none-refused (state house).known.present (state house).must (state house).refused present b.permitted;
       },
       refl,
       hands,
@@ -97,15 +109,15 @@ at-wait told known_of quiet must refused stands first house seen own held failed
 pub record HasWaited (seen seen' : Seen) (own failed : List ℕ) (queue : ℕ → List ℕ) (s : State) (t : Turn) (bytes : List ℕ) : Type 0 where
   pub seen_is : seen' ≡ seen_after_turn t (s.waiting ++ filter (waits_for queue failed) own) (want_of s) bytes seen
   pub are : AreBytes bytes
-  pub fits : TurnFits t (want_of s) seen.listens seen.last seen.streams seen.blocked bytes
-  pub own_fits : OwnFits t seen.listeners seen.own seen.last_own
+  pub fits : TurnFits t (want_of s) seen bytes
+  pub own_fits : OwnFits t seen
 
-pub has-waited : (seen seen' : Seen) (own failed : List ℕ) (queue : ℕ → List ℕ) (s : State) (t : Turn) (bytes got : List ℕ) (todo waiting : List ℕ) (want : Want) → seen' ≡ seen_after_turn t todo want bytes seen → todo ≡ waiting ++ filter (waits_for queue failed) own → waiting ≡ s.waiting → want ≡ want_of s → AreBytes got → got ≡ bytes
-    → TurnFits t want seen.listens seen.last seen.streams seen.blocked bytes → OwnFits t seen.listeners seen.own seen.last_own → HasWaited seen seen' own failed queue s t bytes
-has-waited seen seen' own failed queue s t bytes got todo waiting want after todo_is waiting_is want_is are same fits own_fits = record {
-  seen_is = after ∙ (ap (λ (l : List ℕ). seen_after_turn t l want bytes seen) (todo_is ∙ ap (λ (l : List ℕ). l ++ filter (waits_for queue failed) own) waiting_is) ∙ ap (λ (w : Want). seen_after_turn t (s.waiting ++ filter (waits_for queue failed) own) w bytes seen) want_is);
+pub has-waited : (wire wire' : WireState) (own failed : List ℕ) (queue : ℕ → List ℕ) (s : State) (t : Turn) (bytes got : List ℕ) (todo waiting : List ℕ) (want : Want) (tally : Tally) → wire' ≡ state_after_wait t todo want bytes tally wire → todo ≡ waiting ++ filter (waits_for queue failed) own → waiting ≡ s.waiting → want ≡ want_of s → AreBytes got → got ≡ bytes
+    → TurnFits t want wire.seen bytes → OwnFits t wire.seen → HasWaited wire.seen wire'.seen own failed queue s t bytes
+has-waited wire wire' own failed queue s t bytes got todo waiting want tally after todo_is waiting_is want_is are same fits own_fits = record {
+  seen_is = ap (λ (x : WireState). x.seen) after ∙ (ap (λ (l : List ℕ). seen_after_turn t l want bytes wire.seen) (todo_is ∙ ap (λ (l : List ℕ). l ++ filter (waits_for queue failed) own) waiting_is) ∙ ap (λ (w : Want). seen_after_turn t (s.waiting ++ filter (waits_for queue failed) own) w bytes wire.seen) want_is);
   are = subst AreBytes same are;
-  fits = subst (λ (w : Want). TurnFits t w seen.listens seen.last seen.streams seen.blocked bytes) want_is fits;
+  fits = subst (λ (w : Want). TurnFits t w wire.seen bytes) want_is fits;
   own_fits = own_fits;
 }
 
@@ -177,32 +189,32 @@ module _ {May : HouseReply → Type 0} {Rest : Resting} {before : Option (List H
     by-turn : (o : OwnTurn) → IsOwnOf o t bytes → Serving May Rest before (calling now (Turns (happening_of o) ∷ [])) policy pid start (seen-then t bytes) (held_heard o held) (failed_heard o failed) (given + 1) (0 ∷ here s) s
     unfolding waited serve-alone serve-on
     by-turn (told.Joined l k) next =
-        let fits : OwnFits (turn.Joined l k) seen.listeners seen.own seen.last_own = subst (λ (x : Turn). OwnFits x seen.listeners seen.own seen.last_own) next w.own_fits in
-        let of = of-turn v a.none a.admitted a.live a.offered a.hears a.all_noted a.rests (turn.Joined l k) bytes w.are (subst (λ (x : Turn). TurnFits x (want_of s) seen.listens seen.last seen.streams seen.blocked bytes) next w.fits) fits in
+        let fits : OwnFits (turn.Joined l k) seen = subst (λ (x : Turn). OwnFits x seen) next w.own_fits in
+        let of = of-turn v a.none a.admitted a.live a.offered a.hears a.all_noted a.rests (turn.Joined l k) bytes w.are (subst (λ (x : Turn). TurnFits x (want_of s) seen bytes) next w.fits) fits in
         subst (λ (x : Turn). Serving May Rest before (calling now (Turns (Joined l k) ∷ [])) policy pid start (seen-then x bytes) held failed (given + 1) (0 ∷ here s) s) (sym next)
         (offered-again (own-joins told-waiting l k fits.0 a.all_noted fits.1 (seen-then (turn.Joined l k) bytes) (marked-twice (wait-mark v a.none a.admitted a.live a.offered) (Joins l k) seen.told) of refl refl refl refl refl refl refl))
     by-turn (told.Got k got) next =
-        let fits : TurnFits (turn.Got k) (want_of s) seen.listens seen.last seen.streams seen.blocked bytes = subst (λ (x : Turn). TurnFits x (want_of s) seen.listens seen.last seen.streams seen.blocked bytes) next.1 w.fits in
-        let of = of-turn v a.none a.admitted a.live a.offered a.hears a.all_noted a.rests (turn.Got k) bytes w.are fits (subst (λ (x : Turn). OwnFits x seen.listeners seen.own seen.last_own) next.1 w.own_fits) in
+        let fits : TurnFits (turn.Got k) (want_of s) seen bytes = subst (λ (x : Turn). TurnFits x (want_of s) seen bytes) next.1 w.fits in
+        let of = of-turn v a.none a.admitted a.live a.offered a.hears a.all_noted a.rests (turn.Got k) bytes w.are fits (subst (λ (x : Turn). OwnFits x seen) next.1 w.own_fits) in
         subst (λ (l : List ℕ). Serving May Rest before (calling now (Turns (Got k l) ∷ [])) policy pid start (seen-then t bytes) held failed (given + 1) (0 ∷ here s) s) (sym next.2)
         (subst (λ (x : Turn). Serving May Rest before (calling now (Turns (Got k bytes) ∷ [])) policy pid start (seen-then x bytes) held failed (given + 1) (0 ∷ here s) s) (sym next.1)
-        (offered-again (own-gets told-waiting k fits.1 (seen-then (turn.Got k) bytes) next.0 (subst (λ (x : Turn). OwnFits x seen.listeners seen.own seen.last_own) next.1 w.own_fits next.0) a.all_noted bytes w.are
+        (offered-again (own-gets told-waiting k fits.1 (seen-then (turn.Got k) bytes) next.0 (subst (λ (x : Turn). OwnFits x seen) next.1 w.own_fits next.0) a.all_noted bytes w.are
         record { told = marked-twice (wait-mark v a.none a.admitted a.live a.offered) (Gets k bytes) seen.told; of_wire = of; streams = refl; blocked = refl; last = refl; last_own = refl; listens = refl; listeners = refl; own = refl })))
     by-turn (told.End k) next =
-        let fits : TurnFits (turn.End k) (want_of s) seen.listens seen.last seen.streams seen.blocked bytes = subst (λ (x : Turn). TurnFits x (want_of s) seen.listens seen.last seen.streams seen.blocked bytes) next.1 w.fits in
-        let of = of-turn v a.none a.admitted a.live a.offered a.hears a.all_noted a.rests (turn.End k) bytes w.are fits (subst (λ (x : Turn). OwnFits x seen.listeners seen.own seen.last_own) next.1 w.own_fits) in
+        let fits : TurnFits (turn.End k) (want_of s) seen bytes = subst (λ (x : Turn). TurnFits x (want_of s) seen bytes) next.1 w.fits in
+        let of = of-turn v a.none a.admitted a.live a.offered a.hears a.all_noted a.rests (turn.End k) bytes w.are fits (subst (λ (x : Turn). OwnFits x seen) next.1 w.own_fits) in
         subst (λ (x : Turn). Serving May Rest before (calling now (Turns (End k) ∷ [])) policy pid start (seen-then x bytes) held failed (given + 1) (0 ∷ here s) s) (sym next.1)
-        (offered-again (own-ends told-waiting k fits.1 (seen-then (turn.End k) bytes) next.0 (subst (λ (x : Turn). OwnFits x seen.listeners seen.own seen.last_own) next.1 w.own_fits next.0) a.all_noted
+        (offered-again (own-ends told-waiting k fits.1 (seen-then (turn.End k) bytes) next.0 (subst (λ (x : Turn). OwnFits x seen) next.1 w.own_fits next.0) a.all_noted
         record { told = marked-twice (wait-mark v a.none a.admitted a.live a.offered) (Ends k) seen.told; of_wire = of; streams = refl; blocked = refl; last = refl; last_own = refl; listens = refl; listeners = refl; own = refl }))
     by-turn (told.Writable k) next =
-        let fits : TurnFits (turn.Writable k) (want_of s) seen.listens seen.last seen.streams seen.blocked bytes = subst (λ (x : Turn). TurnFits x (want_of s) seen.listens seen.last seen.streams seen.blocked bytes) next.1 w.fits in
-        let of = of-turn v a.none a.admitted a.live a.offered a.hears a.all_noted a.rests (turn.Writable k) bytes w.are fits (subst (λ (x : Turn). OwnFits x seen.listeners seen.own seen.last_own) next.1 w.own_fits) in
+        let fits : TurnFits (turn.Writable k) (want_of s) seen bytes = subst (λ (x : Turn). TurnFits x (want_of s) seen bytes) next.1 w.fits in
+        let of = of-turn v a.none a.admitted a.live a.offered a.hears a.all_noted a.rests (turn.Writable k) bytes w.are fits (subst (λ (x : Turn). OwnFits x seen) next.1 w.own_fits) in
         subst (λ (x : Turn). Serving May Rest before (calling now (Turns (Writable k) ∷ [])) policy pid start (seen-then x bytes) (without k held) failed (given + 1) (0 ∷ here s) s) (sym next.1)
         (offered-again (own-frees told-waiting k fits.0 (seen-then (turn.Writable k) bytes) next.0 a.all_noted
         record { told = marked-twice (wait-mark v a.none a.admitted a.live a.offered) (Frees k) seen.told; of_wire = of; streams = refl; blocked = refl; last = refl; last_own = refl; listens = refl; listeners = refl; own = refl }))
     by-turn (told.Failed k) next =
-        let fits : TurnFits (turn.Failed k) (want_of s) seen.listens seen.last seen.streams seen.blocked bytes = subst (λ (x : Turn). TurnFits x (want_of s) seen.listens seen.last seen.streams seen.blocked bytes) next.1 w.fits in
-        let of = of-turn v a.none a.admitted a.live a.offered a.hears a.all_noted a.rests (turn.Failed k) bytes w.are fits (subst (λ (x : Turn). OwnFits x seen.listeners seen.own seen.last_own) next.1 w.own_fits) in
+        let fits : TurnFits (turn.Failed k) (want_of s) seen bytes = subst (λ (x : Turn). TurnFits x (want_of s) seen bytes) next.1 w.fits in
+        let of = of-turn v a.none a.admitted a.live a.offered a.hears a.all_noted a.rests (turn.Failed k) bytes w.are fits (subst (λ (x : Turn). OwnFits x seen) next.1 w.own_fits) in
         subst (λ (x : Turn). Serving May Rest before (calling now (Turns (Failed k) ∷ [])) policy pid start (seen-then x bytes) held (failed ++ k ∷ []) (given + 1) (0 ∷ here s) s) (sym next.1)
         (offered-again (own-failed told-waiting k fits (seen-then (turn.Failed k) bytes) next.0 a.all_noted
         record { told = marked-twice (wait-mark v a.none a.admitted a.live a.offered) (Fails k) seen.told; of_wire = of; streams = refl; blocked = refl; last = refl; last_own = refl; listens = refl; listeners = refl; own = refl }))
@@ -214,8 +226,8 @@ module _ {May : HouseReply → Type 0} {Rest : Resting} {before : Option (List H
     by-room : (k : ℕ) → is_own k ≡ false → t ≡ turn.Writable k → Serving May Rest before now policy pid start (seen-then t bytes) (without k held) failed (given + 1) (0 ∷ here s) s
     unfolding waited serve-alone serve-on
     by-room k client is =
-        let fits : TurnFits (turn.Writable k) (want_of s) seen.listens seen.last seen.streams seen.blocked bytes = subst (λ (x : Turn). TurnFits x (want_of s) seen.listens seen.last seen.streams seen.blocked bytes) is w.fits in
-        let of = of-turn v a.none a.admitted a.live a.offered a.hears a.all_noted a.rests (turn.Writable k) bytes w.are fits (subst (λ (x : Turn). OwnFits x seen.listeners seen.own seen.last_own) is w.own_fits) in
+        let fits : TurnFits (turn.Writable k) (want_of s) seen bytes = subst (λ (x : Turn). TurnFits x (want_of s) seen bytes) is w.fits in
+        let of = of-turn v a.none a.admitted a.live a.offered a.hears a.all_noted a.rests (turn.Writable k) bytes w.are fits (subst (λ (x : Turn). OwnFits x seen) is w.own_fits) in
         subst (λ (x : Turn). Serving May Rest before now policy pid start (seen-then x bytes) (without k held) failed (given + 1) (0 ∷ here s) s) (sym is)
         (client-frees told-waiting k fits.0 (seen-then (turn.Writable k) bytes) client
         record { told = marked-twice (wait-mark v a.none a.admitted a.live a.offered) (Frees k) seen.told; of_wire = of; streams = refl; blocked = refl; last = refl; last_own = refl; listens = refl; listeners = refl; own = refl })
@@ -264,7 +276,7 @@ no-client known seen own h k client = by_one (is_one k seen.own) refl
     by_one true e = true-false (sym (h.places.numbered k e) ∙ client)
 
 -- behind what a client or the server told
-event-housed : (known : Known) (seen : Seen) (own waiting : List ℕ) (want : Want) (t : Turn) (bytes : List ℕ) (e : Event) → Housed known seen own → TurnFits t want seen.listens seen.last seen.streams seen.blocked bytes → IsEventOf e t bytes → Housed known (seen_after_turn t waiting want bytes seen) own
+event-housed : (known : Known) (seen : Seen) (own waiting : List ℕ) (want : Want) (t : Turn) (bytes : List ℕ) (e : Event) → Housed known seen own → TurnFits t want seen bytes → IsEventOf e t bytes → Housed known (seen_after_turn t waiting want bytes seen) own
 event-housed known seen own waiting want (turn.Accepted k) bytes e h fits next =
     let client : is_own k ≡ false = client-number k (let n : k ≡ seen.last + 1 = fits.2 in let l : seen.last < LAST_CLIENT = fits.3 in omega arith) in
     record {
@@ -334,10 +346,10 @@ pub turn-fits : {seen seen' : Seen} {own failed held : List ℕ} {queue : ℕ �
 turn-fits {seen = seen} {own = own} {s = s} {t = t} {bytes = bytes} w o next known quiet h alone ready = by_turn o next
   where
     Fits : Turn → Type 0
-    Fits x = TurnFits x (want_of s) seen.listens seen.last seen.streams seen.blocked bytes
+    Fits x = TurnFits x (want_of s) seen bytes
 
     Owns : Turn → Type 0
-    Owns x = OwnFits x seen.listeners seen.own seen.last_own
+    Owns x = OwnFits x seen
 
     one : (k : ℕ) → among k seen.streams ≡ true → IsTrue (is_own k) → is_one k known.streams ≡ true
     one k found is = ap (is_one k) h.streams ∙ h.places.listed k found is
@@ -373,7 +385,7 @@ pub record SameAsks (known known' : Known) : Type 0 where
   pub present : known'.present ≡ known.present
   pub asks : known'.asks ≡ known.asks
 
-heard-asks : (o : OwnTurn) (known known' : Known) → known' ≡ known_after_own_turn o known → SameAsks known known'
+pub heard-asks : (o : OwnTurn) (known known' : Known) → known' ≡ known_after_own_turn o known → SameAsks known known'
 heard-asks (told.Joined l k) known known' e = record { present = ap (λ (x : Known). x.present) e; asks = ap (λ (x : Known). x.asks) e }
 heard-asks (told.Got k bytes) known known' e = record { present = ap (λ (x : Known). x.present) e; asks = ap (λ (x : Known). x.asks) e }
 heard-asks (told.End k) known known' e = record { present = ap (λ (x : Known). x.present) e; asks = ap (λ (x : Known). x.asks) e }
@@ -406,9 +418,9 @@ either-one t n own h = elim (eqb_tells n t) [
     split true e f = refl
     split false e f = true-false (sym (sym (one-last t n own ∙ (ap (λ b. b || ((n == t) || false)) e ∙ ap (λ b. b || false) f)) ∙ h))
 
-own-housed : (o : OwnTurn) (known : Known) (seen : Seen) (own waiting : List ℕ) (want : Want) (bytes : List ℕ) (t : Turn) → Housed known seen own → OwnFits t seen.listeners seen.own seen.last_own → IsOwnOf o t bytes → Housed (known_after_own_turn o known) (seen_after_turn t waiting want bytes seen) (own_heard o own)
+own-housed : (o : OwnTurn) (known : Known) (seen : Seen) (own waiting : List ℕ) (want : Want) (bytes : List ℕ) (t : Turn) → Housed known seen own → OwnFits t seen → IsOwnOf o t bytes → Housed (known_after_own_turn o known) (seen_after_turn t waiting want bytes seen) (own_heard o own)
 own-housed (told.Joined l k) known seen own waiting want bytes t h fits next =
-    let f : OwnFits (turn.Joined l k) seen.listeners seen.own seen.last_own = subst (λ (x : Turn). OwnFits x seen.listeners seen.own seen.last_own) next fits in
+    let f : OwnFits (turn.Joined l k) seen = subst (λ (x : Turn). OwnFits x seen) next fits in
     let new : IsNewOwn seen.last_own k = f.1 in
     subst (λ (x : Turn). Housed (record known { streams = known.streams ++ new_stream k ∷ [] }) (seen_after_turn x waiting want bytes seen) (own ++ k ∷ [])) (sym next) record {
       ordering = h.ordering;
@@ -454,6 +466,13 @@ turn-own-housed {seen = seen} {seen' = seen'} {own = own} {failed = failed} {que
     let all : List ℕ = s.waiting ++ filter (waits_for queue failed) own in
     subst (λ (k : Known). Housed k seen' own') (sym e) (subst (λ (l : List ℕ). Housed (known_after_own_turn o known) seen' l) (sym f)
     (subst (λ (x : Seen). Housed (known_after_own_turn o known) x (own_heard o own)) (sym w.seen_is) (own-housed o known seen own all (want_of s) bytes t h w.own_fits next)))
+
+-- where a stream only takes bytes again
+pub room-housed : {seen seen' : Seen} {own failed : List ℕ} {queue : ℕ → List ℕ} {s : State} {t : Turn} {bytes : List ℕ} → HasWaited seen seen' own failed queue s t bytes → (k : ℕ) → t ≡ turn.Writable k → (known : Known) → Housed known seen own → Housed known seen' own
+room-housed {seen = seen} {own = own} {failed = failed} {queue = queue} {s = s} {bytes = bytes} w k is known h =
+    let all : List ℕ = s.waiting ++ filter (waits_for queue failed) own in
+    subst (λ (x : Seen). Housed known x own) (sym w.seen_is) (subst (λ (x : Turn). Housed known (seen_after_turn x all (want_of s) bytes seen) own) (sym is)
+    (housed-as known known seen (seen_after_turn (turn.Writable k) all (want_of s) bytes seen) own h refl refl refl refl refl refl refl))
 
 -- where there is no house nothing comes of it
 pub alone-heard : (o : OwnTurn) (known known' : Known) (quiet : Quiet) → OwnTurnFits o known quiet → known' ≡ known_after_own_turn o known → IsAlone known → IsAlone known'

@@ -27,6 +27,7 @@ mod Loops
 mod Marks
 mod Noted
 mod Offers
+mod OneWait
 mod OrderHoused
 mod Ordered
 mod Outs
@@ -54,3 +55,4 @@ mod Unshared
 mod Waiting
 mod Waits
 mod WireTurns
+mod Wired

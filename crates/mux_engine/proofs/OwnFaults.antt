@@ -1,13 +1,13 @@
 -- Which calls of a wire leave the orders that got no number within the own faults that were counted.
 use Rattle.std.proofs.Common.{◌≡◌, ◌≤◌, ◌+◌, ◌-◌, ◌^◌, ℕ, zero, suc, Bool, true, false, List, [], ◌∷◌, ◌++◌, length, take, Option, Some, None, refl, sym, ap, ◌∙◌, subst, inl, inr, ◌⊎◌, cond, arith, length-append}
 use Rattle.std.specs.Prelude.{filter, map, Result, Ok, Err}
-use Rattle.std.specs.Bool.{MatchBool}
 use Rattle.std.specs.Option.{option_map}
 use Rattle.std.proofs.lemmas.List.Elements.{filter-append}
-use Rattle.mux_outside.specs.Counts.{HasCause, Rose, counted}
-use Rattle.mux_outside.specs.OwnStreams.{is_own}
+use Rattle.mux_outside.specs.Counts.{Rose, counted}
+use Rattle.mux_outside.specs.Faults.{FaultOf, Faults}
 use Rattle.mux_outside.specs.Seen.{Seen, seen_after_note, seen_after_turn, seen_after_write}
-use Rattle.mux_outside.specs.Wire.{OwnTurnFaults, OwnWroteFaults}
+use Rattle.mux_outside.specs.Whose.{whose}
+use Rattle.mux_outside.specs.Wire.{MakeFaults, TurnFaults, WroteFaults}
 use Rattle.mux_outside.specs.declared.file_error.FileError.{FileError}
 use Rattle.mux_outside.specs.declared.file_error.FileError.TheVariants.{Failed, OutOfMemory}
 use Rattle.mux_outside.specs.declared.house_mark.HouseMark.{HouseMark}
@@ -21,6 +21,8 @@ use Rattle.mux_outside.specs.declared.turn.Turn.TheVariants as turn
 use Rattle.mux_outside.specs.declared.turn.Want.{Want}
 use Rattle.mux_outside.specs.declared.turn.Wrote.{Wrote}
 use Rattle.mux_outside.specs.declared.turn.Wrote.TheVariants as wrote
+use Rattle.mux_outside.specs.declared.whose.Whose.{Whose}
+use Rattle.mux_outside.specs.declared.whose.Whose.TheVariants.{Server, Client, Own}
 use Rattle.mux_engine.specs.OwnFaults.{OrderCounted, OwnCounted, is_unmade, unmade_in}
 use Rattle.mux_engine.proofs.Asks.{EachAsked}
 
@@ -83,39 +85,44 @@ own-rose told told' mark faults faults' e r =
 
 -- ---- a call of the wire
 
-fault-later : (b : Bool) (m n : ℕ) → MatchBool b (Rose m n) (n ≡ m) → m ≤ n
-fault-later true m n r = r.later
-fault-later false m n e = omega arith
+-- no count of own faults falls
+same-own : (f f' : Faults) → f' ≡ f → f.own ≤ f'.own
+same-own f f' e = same-later f.own f'.own (ap (λ (x : Faults). x.own) e)
 
-turn-later : (t : Turn) (m n : ℕ) → OwnTurnFaults t m n → m ≤ n
-turn-later (turn.Failed k) m n f = fault-later (is_own k) m n f
-turn-later (turn.Accepted k) m n f = same-later m n f
-turn-later (turn.Got k) m n f = same-later m n f
-turn-later (turn.End k) m n f = same-later m n f
-turn-later (turn.Writable k) m n f = same-later m n f
-turn-later (turn.Joined l k) m n f = same-later m n f
-turn-later turn.NoMemory m n f = same-later m n f
+fault-later : (w : Whose) (f f' : Faults) → FaultOf w f f' → f.own ≤ f'.own
+fault-later Server f f' r = same-later f.own f'.own r.own
+fault-later (Client k) f f' r = same-later f.own f'.own r.own
+fault-later Own f f' r = r.rose.later
 
-pub own-turn : (t : Turn) (waiting : List ℕ) (want : Want) (bytes : List ℕ) (old new : Seen) (m n : ℕ) → new ≡ seen_after_turn t waiting want bytes old → OwnTurnFaults t m n → OwnCounted old.told new.told m n
-own-turn (turn.Failed k) waiting want bytes old new m n e f = own-told old.told new.told _ m n (ap (λ (x : Seen). x.told) e) refl (turn-later (turn.Failed k) m n f)
-own-turn (turn.Accepted k) waiting want bytes old new m n e f = own-told old.told new.told _ m n (ap (λ (x : Seen). x.told) e) refl (turn-later (turn.Accepted k) m n f)
-own-turn (turn.Got k) waiting want bytes old new m n e f = own-told old.told new.told _ m n (ap (λ (x : Seen). x.told) e) refl (turn-later (turn.Got k) m n f)
-own-turn (turn.End k) waiting want bytes old new m n e f = own-told old.told new.told _ m n (ap (λ (x : Seen). x.told) e) refl (turn-later (turn.End k) m n f)
-own-turn (turn.Writable k) waiting want bytes old new m n e f = own-told old.told new.told _ m n (ap (λ (x : Seen). x.told) e) refl (turn-later (turn.Writable k) m n f)
-own-turn (turn.Joined l k) waiting want bytes old new m n e f = own-told old.told new.told _ m n (ap (λ (x : Seen). x.told) e) refl (turn-later (turn.Joined l k) m n f)
-own-turn turn.NoMemory waiting want bytes old new m n e f = own-told old.told new.told _ m n (ap (λ (x : Seen). x.told) e) refl (turn-later turn.NoMemory m n f)
+turn-later : (t : Turn) (f f' : Faults) → TurnFaults t f f' → f.own ≤ f'.own
+turn-later (turn.Failed k) f f' c = fault-later (whose k) f f' c
+turn-later (turn.Accepted k) f f' c = same-own f f' c
+turn-later (turn.Got k) f f' c = same-own f f' c
+turn-later (turn.End k) f f' c = same-own f f' c
+turn-later (turn.Writable k) f f' c = same-own f f' c
+turn-later (turn.Joined l k) f f' c = same-own f f' c
+turn-later turn.NoMemory f f' c = same-own f f' c
 
-wrote-later : (answer : Wrote) (k m n : ℕ) → OwnWroteFaults answer k m n → m ≤ n
-wrote-later wrote.Failed k m n f = fault-later (is_own k) m n f
-wrote-later (wrote.Took j) k m n f = same-later m n f
-wrote-later wrote.Later k m n f = same-later m n f
-wrote-later wrote.NoMemory k m n f = same-later m n f
+pub own-turn : (t : Turn) (waiting : List ℕ) (want : Want) (bytes : List ℕ) (old new : Seen) (f f' : Faults) → new ≡ seen_after_turn t waiting want bytes old → TurnFaults t f f' → OwnCounted old.told new.told f.own f'.own
+own-turn (turn.Failed k) waiting want bytes old new f f' e c = own-told old.told new.told _ f.own f'.own (ap (λ (x : Seen). x.told) e) refl (turn-later (turn.Failed k) f f' c)
+own-turn (turn.Accepted k) waiting want bytes old new f f' e c = own-told old.told new.told _ f.own f'.own (ap (λ (x : Seen). x.told) e) refl (turn-later (turn.Accepted k) f f' c)
+own-turn (turn.Got k) waiting want bytes old new f f' e c = own-told old.told new.told _ f.own f'.own (ap (λ (x : Seen). x.told) e) refl (turn-later (turn.Got k) f f' c)
+own-turn (turn.End k) waiting want bytes old new f f' e c = own-told old.told new.told _ f.own f'.own (ap (λ (x : Seen). x.told) e) refl (turn-later (turn.End k) f f' c)
+own-turn (turn.Writable k) waiting want bytes old new f f' e c = own-told old.told new.told _ f.own f'.own (ap (λ (x : Seen). x.told) e) refl (turn-later (turn.Writable k) f f' c)
+own-turn (turn.Joined l k) waiting want bytes old new f f' e c = own-told old.told new.told _ f.own f'.own (ap (λ (x : Seen). x.told) e) refl (turn-later (turn.Joined l k) f f' c)
+own-turn turn.NoMemory waiting want bytes old new f f' e c = own-told old.told new.told _ f.own f'.own (ap (λ (x : Seen). x.told) e) refl (turn-later turn.NoMemory f f' c)
 
-pub own-write : (answer : Wrote) (k : ℕ) (bytes : List ℕ) (old new : Seen) (m n : ℕ) → new ≡ seen_after_write answer k bytes old → OwnWroteFaults answer k m n → OwnCounted old.told new.told m n
-own-write wrote.Failed k bytes old new m n e f = own-told old.told new.told _ m n (ap (λ (x : Seen). x.told) e) refl (wrote-later wrote.Failed k m n f)
-own-write (wrote.Took j) k bytes old new m n e f = own-told old.told new.told _ m n (ap (λ (x : Seen). x.told) e) refl (wrote-later (wrote.Took j) k m n f)
-own-write wrote.Later k bytes old new m n e f = own-told old.told new.told _ m n (ap (λ (x : Seen). x.told) e) refl (wrote-later wrote.Later k m n f)
-own-write wrote.NoMemory k bytes old new m n e f = own-told old.told new.told _ m n (ap (λ (x : Seen). x.told) e) refl (wrote-later wrote.NoMemory k m n f)
+wrote-later : (answer : Wrote) (k : ℕ) (f f' : Faults) → WroteFaults answer k f f' → f.own ≤ f'.own
+wrote-later wrote.Failed k f f' c = fault-later (whose k) f f' c
+wrote-later (wrote.Took j) k f f' c = same-own f f' c
+wrote-later wrote.Later k f f' c = same-own f f' c
+wrote-later wrote.NoMemory k f f' c = same-own f f' c
+
+pub own-write : (answer : Wrote) (k : ℕ) (bytes : List ℕ) (old new : Seen) (f f' : Faults) → new ≡ seen_after_write answer k bytes old → WroteFaults answer k f f' → OwnCounted old.told new.told f.own f'.own
+own-write wrote.Failed k bytes old new f f' e c = own-told old.told new.told _ f.own f'.own (ap (λ (x : Seen). x.told) e) refl (wrote-later wrote.Failed k f f' c)
+own-write (wrote.Took j) k bytes old new f f' e c = own-told old.told new.told _ f.own f'.own (ap (λ (x : Seen). x.told) e) refl (wrote-later (wrote.Took j) k f f' c)
+own-write wrote.Later k bytes old new f f' e c = own-told old.told new.told _ f.own f'.own (ap (λ (x : Seen). x.told) e) refl (wrote-later wrote.Later k f f' c)
+own-write wrote.NoMemory k bytes old new f f' e c = own-told old.told new.told _ f.own f'.own (ap (λ (x : Seen). x.told) e) refl (wrote-later wrote.NoMemory k f f' c)
 
 -- a mark of a house was noted that is no such order
 pub own-note : {E : Type 0} (r : Result (Unit {0}) E) (mark : HouseMark) (old new : Seen) (m n : ℕ) → is_unmade (House mark) ≡ false → new ≡ seen_after_note r mark old → n ≡ m → OwnCounted old.told new.told m n
@@ -139,10 +146,10 @@ own-asks P k asks old new m n each e f = own-told old.told new.told (map (λ (a 
 -- ---- an order
 
 -- what was made, or not, as its call was counted
-pub made-later : {X : Type 0} (r : Result X FileError) (m n : ℕ) → HasCause r m n → m ≤ n
-made-later (Ok x) m n f = same-later m n f
-made-later (Err Failed) m n f = f.later
-made-later (Err OutOfMemory) m n f = same-later m n f
+pub made-later : (r : Result ℕ FileError) (f f' : Faults) → MakeFaults r f f' → f.own ≤ f'.own
+made-later (Ok x) f f' c = same-own f f' c
+made-later (Err Failed) f f' c = c.rose.later
+made-later (Err OutOfMemory) f f' c = same-own f f' c
 
 -- what an order is told with, behind what was counted for it
 order-step : (order : Order) (number : Option ℕ) (m n : ℕ) → OrderCounted order number m n → ((is_unmade (House (HouseOrder order number)) ≡ false) × (n ≡ m)) ⊎ Rose m n

@@ -205,7 +205,7 @@ starts-starved May Rest house policy pid told given = record {
   rested = λ picks later. tt;
   absent = λ e. All-nil (λ (mark : Mark). is_by_house mark ≡ false);
   tells = sym (told-none told);
-  of_wire = (let w = (wire-keeps (0 ∷ []) [] 0 [] [] 0 []).none in record { lawful = w.lawful; asked = w.asked });
+  of_wire = record { lawful = tt; asked = tt };
   own_streams = record { opened = tt; gives = tt; writes = tt; joins = tt };
   turns = (omega arith);
   left = λ picks later. record { kept = of-nothing (by_lists policy pid picks later); rows = []; is_log = inl refl; fresh = tt; taken_is = refl; given_is = refl; asked_is = refl };
@@ -235,7 +235,7 @@ starts May Rest now policy pid seen s stands e f clients refused unasked noted o
         rested = λ picks later. tt;
         absent = λ e. All-nil (λ (mark : Mark). is_by_house mark ≡ false);
         tells = sym (told-none seen.told);
-        of_wire = subst (λ (l : List ℕ). OfWire l seen.blocked seen.last []) (sym streams) (subst (λ (l : List ℕ). OfWire (0 ∷ []) l seen.last []) (sym blocked) (wire-keeps (0 ∷ []) [] seen.last [] [] 0 []).none);
+        of_wire = subst (λ (l : List ℕ). OfWire l seen.blocked seen.last []) (sym streams) (subst (λ (l : List ℕ). OfWire (0 ∷ []) l seen.last []) (sym blocked) (wire-keeps seen []).none);
         places = record { own = own; listeners = listeners; streams = ap (filter is_own) streams ∙ sym (ap numbers_of own) };
         own_streams = record { opened = tt; gives = tt; writes = tt; joins = tt };
         turns = refl;

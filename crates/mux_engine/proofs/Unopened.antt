@@ -8,29 +8,27 @@ use Rattle.mux_outside.specs.Wire.{OwnFits}
 use Rattle.mux_outside.specs.Seen.{last_own_after}
 use Rattle.mux_outside.specs.declared.house.HouseReply.{HouseReply}
 use Rattle.mux_outside.specs.declared.house_mark.HouseMark.{HouseMark}
-use Rattle.mux_outside.specs.declared.own_streams.OwnStream.{OwnStream}
 use Rattle.mux_outside.specs.declared.turn.Turn.{Turn}
 use Rattle.mux_outside.specs.declared.turn.Turn.TheVariants as turn
 use Rattle.mux_outside.specs.declared.turn.Want.{Want}
 use Rattle.mux_machine.specs.State.{State}
 use Rattle.mux_machine.specs.declared.event.Event.{Event}
 use Rattle.mux_engine.specs.Asking.{Heeded}
-use Rattle.mux_engine.specs.Rests.{IsAlone}
-use Rattle.mux_engine.specs.Sides.{Housed}
+use Rattle.mux_engine.specs.Sides.{Housed, IsAlone}
 use Rattle.mux_engine.proofs.Lists.{true-false}
 
 -- no stream comes where there is no listener
-none-joins : (t : Turn) (listeners : List ℕ) (own : List OwnStream) (last : ℕ) → listeners ≡ [] → OwnFits t listeners own last → last_own_after t last ≡ last
-none-joins (turn.Accepted k) listeners own last none fits = refl
-none-joins (turn.Got k) listeners own last none fits = refl
-none-joins (turn.End k) listeners own last none fits = refl
-none-joins (turn.Writable k) listeners own last none fits = refl
-none-joins (turn.Failed k) listeners own last none fits = refl
-none-joins turn.NoMemory listeners own last none fits = refl
-none-joins (turn.Joined l k) listeners own last none fits = true-false (sym fits.0 ∙ ap (among l) none)
+none-joins : (t : Turn) (seen : Seen) → seen.listeners ≡ [] → OwnFits t seen → last_own_after t seen.last_own ≡ seen.last_own
+none-joins (turn.Accepted k) seen none fits = refl
+none-joins (turn.Got k) seen none fits = refl
+none-joins (turn.End k) seen none fits = refl
+none-joins (turn.Writable k) seen none fits = refl
+none-joins (turn.Failed k) seen none fits = refl
+none-joins turn.NoMemory seen none fits = refl
+none-joins (turn.Joined l k) seen none fits = true-false (sym fits.0 ∙ ap (among l) none)
 
-pub wait-opens : (t : Turn) (todo : List ℕ) (want : Want) (bytes : List ℕ) (known : Known) (seen seen' : Seen) (own : List ℕ) → Housed known seen own → IsAlone known → OwnFits t seen.listeners seen.own seen.last_own → seen' ≡ seen_after_turn t todo want bytes seen → known.present ≡ false → seen'.last_own ≡ seen.last_own
-wait-opens t todo want bytes known seen seen' own h alone fits is out = ap (λ (y : Seen). y.last_own) is ∙ none-joins t seen.listeners seen.own seen.last_own (sym h.listeners ∙ alone.listeners out) fits
+pub wait-opens : (t : Turn) (todo : List ℕ) (want : Want) (bytes : List ℕ) (known : Known) (seen seen' : Seen) (own : List ℕ) → Housed known seen own → IsAlone known → OwnFits t seen → seen' ≡ seen_after_turn t todo want bytes seen → known.present ≡ false → seen'.last_own ≡ seen.last_own
+wait-opens t todo want bytes known seen seen' own h alone fits is out = ap (λ (y : Seen). y.last_own) is ∙ none-joins t seen (sym h.listeners ∙ alone.listeners out) fits
 
 -- an event opens none
 pub event-opens : {A E : Type 0} (r : Result A E) (May : HouseReply → Type 0) (e : Event) (s s' : State) (asks : List HouseMark) (told told' : Option (List HouseMark)) (known known' : Known) (seen seen' : Seen) → Heeded r May e s s' asks told told' known known' seen seen' → seen'.last_own ≡ seen.last_own

@@ -61,17 +61,17 @@ module _ {May : HouseReply → Type 0} {Rest : Resting} {before : Option (List H
   now-waiting = waited v none admitted live o hears noted rests
 
   abbrev pub Fits : Turn → List ℕ → Type 0
-  Fits t bytes = TurnFits t (want_of s) seen.listens seen.last seen.streams seen.blocked bytes
+  Fits t bytes = TurnFits t (want_of s) seen bytes
 
   abbrev pub OwnTurnFits : Turn → Type 0
-  OwnTurnFits t = OwnFits t seen.listeners seen.own seen.last_own
+  OwnTurnFits t = OwnFits t seen
 
   abbrev pub seen-then : Turn → List ℕ → Seen
   seen-then t bytes = seen_after_turn t (all-waiting v none admitted live o) (want_of s) bytes seen
 
   -- the journal with the marks of a turn is one that a wire can give
   pub of-turn : (t : Turn) (bytes : List ℕ) → AreBytes bytes → Fits t bytes → OwnTurnFits t → OfWire (open_after t seen.streams) (blocked_after t seen.blocked) (last_after t seen.last) (reverse (wait_marks t (all-waiting v none admitted live o) (want_of s) seen.streams seen.listens bytes) ++ v.journal)
-  of-turn t bytes are fits own_fits = (wire-keeps seen v.journal).turn t (all-waiting v none admitted live o) (want_of s) seen.listens bytes are (waiting-blocked v none admitted live o) fits own_fits v.of_wire
+  of-turn t bytes are fits own_fits = (wire-keeps seen v.journal).turn t (all-waiting v none admitted live o) (want_of s) bytes are (waiting-blocked v none admitted live o) fits own_fits v.of_wire
 
   -- whoever says something is the server or was accepted
   accepted : (k : ℕ) → is_own k ≡ false → among k seen.streams ≡ true → k ≢ 0 → is_accepted k v.journal ≡ true

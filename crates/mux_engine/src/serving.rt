@@ -1,25 +1,18 @@
-ghost use Rattle.std.specs.Prelude.{[], ◌∷◌, ◌≡◌, ◌≢◌, ◌≤◌, ◌+◌, List, ℕ, true, false, OnOk, IfOk, MatchResult, Some, None};
+ghost use Rattle.std.specs.Prelude.{[], ◌∷◌, ◌≡◌, ◌≢◌, true, false, OnOk, IfOk, MatchResult, None};
 ghost use Rattle.std.specs.Result.{result_unwrap_or};
-ghost use Rattle.std.specs.declared.option.Option.{Option};
-ghost use Rattle.mux_outside.specs.Counts.{Rose};
 ghost use Rattle.mux_outside.specs.House.{OwnTurnFits, known_after_own_turn, nothing_known};
-ghost use Rattle.mux_outside.specs.HouseCalls.{HandsOn, HouseCall as TheCall, Turns, happening_of};
-ghost use Rattle.mux_outside.specs.Wire.{SameFaults};
-ghost use Rattle.mux_outside.specs.declared.house_mark.HouseMark.{HouseMark as TheHouseMark};
-ghost use Rattle.mux_outside.specs.declared.mark.Mark.{Mark as TheMark};
-ghost use Rattle.mux_history.specs.declared.ended.Ended.TheVariants.{ServerFailed, OutOfMemory as WantOfMemory, StartRefused as StartWasRefused};
+ghost use Rattle.mux_outside.specs.HouseCalls.{HandsOn, Turns, happening_of};
+ghost use Rattle.mux_history.specs.declared.ended.Ended.TheVariants.{OutOfMemory as WantOfMemory};
 ghost use Rattle.mux_history.specs.declared.limits.TheConstants.{HOUSE as TheHouse};
-ghost use Rattle.mux_history.specs.Policy.{Policy as ThePolicy};
 ghost use Rattle.mux_machine.specs.Events.{went_of, here};
-ghost use Rattle.mux_engine.specs.Called.{Handed};
-ghost use Rattle.mux_engine.specs.Came.{Came, EndedBy, OverBy};
-ghost use Rattle.mux_engine.specs.Counted.{Counts, Cut, Spent, Stops, Turned, Well};
-ghost use Rattle.mux_engine.specs.OwnFaults.{OwnCounted};
-ghost use Rattle.mux_engine.specs.Rests.{IsAlone, IsByRow, IsReady, ended_as, refused_if};
-ghost use Rattle.mux_engine.specs.Run.{IsRun};
-ghost use Rattle.mux_engine.specs.Serving.{EndsTurn, Promised, RunsOn, ServedWith, Serving, Spends, StaysOrFails, to_offer};
-ghost use Rattle.mux_engine.specs.Sides.{Housed, RestsOf, SameHouse, SamePlaces, noted, outside};
-ghost use Rattle.mux_engine.specs.Turns.{failed_heard, held_heard, own_heard};
+ghost use Rattle.mux_engine.specs.Counted.{Cut, Spent, Turned, Well};
+ghost use Rattle.mux_engine.specs.Rests.{EndsSo, GoesOnSo, HasCalled, HasEnded, HasNoneToClose};
+ghost use Rattle.mux_engine.specs.Rests.{IsReadyFor, KnowsPlaces, ended_as, refusal_after, refusal_of};
+ghost use Rattle.mux_engine.specs.Run.{RunKept};
+ghost use Rattle.mux_engine.specs.Serving.{Enters, RunsOn, RunsWhole, ServedOutside, ServedWith};
+ghost use Rattle.mux_engine.specs.Serving.{SpendsTurns, StaysOrFails, TurnsOn, scene, scene_of, to_offer};
+ghost use Rattle.mux_engine.specs.Sides.{HeardBy, Housed, IsAlone, OnlyAsked, SamePlaces, StaysHouse, Together};
+ghost use Rattle.mux_engine.specs.Wires.{IsIdle, IsOpened, KeepsWire, NoFault, Works, WorksOwn};
 
 use crate::asking::heed;
 use crate::events::{Next, next_of};
@@ -119,7 +112,8 @@ fn refusal<H: House>(house: &H) -> Option<usize>
 // Whether the run goes on no more: it ended, or a forwarding of the start was refused.
 fn is_over<H: House>(engine: &Engine, house: &H) -> bool
     ensures on { result ≡ false → engine.now.ended ≡ None }
-    ensures over { result ≡ true → engine.now.ended ≡ None → refusal_of (H.state house.now) ≢ None }
+    ensures over { result ≡ true → engine.now.ended ≡ None
+        → refusal_of (H.state house.now) ≢ None }
     ensures permitted { result ≡ false → refusal_of (H.state house.now) ≡ None }
 {
     if engine.ended().is_some() {
@@ -303,8 +297,8 @@ fn finish<W: Wire, H: House>(
     requires on { all ≡ true → engine.old.ended ≡ None }
     ensures serving { RunsOn result H.may H.state house.old house.new
         (scene (W.state wire.old) lists.old engine.old)
-        (scene (W.state wire.new) lists.new engine.new) 0 (λ done. 0) (to_offer lists.old.settled engine.old)
-        (λ done. TheHouse ∷ []) }
+        (scene (W.state wire.new) lists.new engine.new) 0 (λ done. 0)
+        (to_offer lists.old.settled engine.old) (λ done. TheHouse ∷ []) }
     ensures house { OnlyAsked result (H.state house.old) (H.state house.new) }
     ensures places { SamePlaces (W.state wire.old).seen (W.state wire.new).seen }
     ensures unasked { all ≡ false → house.new ≡ house.old }
@@ -336,7 +330,9 @@ fn run<W: Wire, H: House>(
     house: &mut H,
     turns: u64,
 ) -> Result<Ended, OutOfMemory>
-    requires running { (v : ServedOutside H.may H.state house.old (scene_of (W.state wire.old) [] [] engine.old) (0 ∷ here engine.old)) × (v.serving.journal ≡ []) }
+    requires running { (v : ServedOutside H.may H.state house.old
+        (scene_of (W.state wire.old) [] [] engine.old) (0 ∷ here engine.old))
+        × (v.serving.journal ≡ []) }
     requires housed { Housed (H.state house.old).known (W.state wire.old).seen [] }
     requires alone { IsAlone (H.state house.old).known }
     requires on { engine.old.ended ≡ None }
