@@ -14,6 +14,8 @@ use Rattle.ssh_grammar.specs.Said.{Saying, Body, Payload, BadFraming, InControl,
 use Rattle.ssh_grammar.proofs.Parses.{parse-append}
 use Rattle.ssh_grammar.proofs.Said.{payloads}
 use Rattle.mux_outside.specs.Greeting.{GreetsFirst}
+use Rattle.mux_outside.specs.House.{HouseState}
+use Rattle.mux_outside.specs.Seen.{Seen}
 use Rattle.mux_outside.specs.HouseCalls.{Begins, HandsOn, Hears, HouseCall, Marks, Takes, Turns}
 use Rattle.mux_outside.specs.HouseCalls as call
 use Rattle.mux_outside.specs.CallCounts.{CallCounts}
@@ -39,9 +41,11 @@ use Rattle.mux_history.specs.Rows as row
 use Rattle.mux_history.specs.Said.{Outcome, silent, tells}
 use Rattle.mux_history.specs.Settings.{by_lists}
 use Rattle.mux_history.specs.Solo.{end_of}
-use Rattle.mux_engine.specs.Called.{calls_at, calls_in, house_calls, is_piece}
+use Rattle.mux_engine.specs.Called.{HasSaidNothing, StandsGreeting, calls_at, calls_in, house_calls, is_piece}
 use Rattle.mux_engine.specs.Came.{EndedBy, EndsFor, OverBy}
 use Rattle.mux_engine.specs.Places.{GivesOwn}
+use Rattle.mux_engine.specs.Run.{IsRun}
+use Rattle.mux_engine.specs.Sides.{AtWaits}
 use Rattle.mux_engine.proofs.Fates.{EndsAs, EndsHeard, Fine, fine-payload, heard-ends, lives-as, one-ends, row-as, said-as, said-for}
 
 -- ---- what the house said, by its calls
@@ -364,8 +368,8 @@ answered-other turns marks (Some index) None answer e h = subst (λ (x : Ended).
 answered-other turns marks None None answer e h = subst (λ (x : Ended). ByOther (Some x)) (sym e.0) tt
 
 -- what came where no house ended it
-counted-other : (present : Bool) (answer : Ended) (a b : CallCounts) → (present ≡ true → ByOther (Some answer)) → OverBy present (Some answer) a b → EndedBy answer a b
-counted-other present (ended.Terminated client id) a b other over = over other
+counted-other : (present : Bool) (answer : Ended) (a b : CallCounts) → (answer ≢ ended.OutOfMemory → present ≡ true → ByOther (Some answer)) → OverBy present (Some answer) a b → EndedBy answer a b
+counted-other present (ended.Terminated client id) a b other over = over (other (λ e. absurd (let z : ended.Terminated client id ≡ ended.OutOfMemory = e in cc)))
 counted-other present ended.ServerEnd a b other over = over
 counted-other present ended.Disconnected a b other over = over
 counted-other present ended.ServerFailed a b other over = over
@@ -373,3 +377,21 @@ counted-other present (ended.Broke index why) a b other over = over
 counted-other present (ended.StartRefused index) a b other over = over
 counted-other present ended.Spent a b other over = over
 counted-other present ended.OutOfMemory a b other over = over
+
+-- behind calls without a piece the calls of a house greet first, where it greets first by all of them
+greets-since : (present : Bool) (stands stands' : List HouseCall → Type 0) (since : List HouseCall) (calls : List HouseCall) → list_any is_piece calls ≡ false → stands calls → HandsOn stands stands' since → StandsGreeting present stands' → present ≡ true → GreetsFirst since
+greets-since present stands stands' since calls none stood hands greets p = greets-behind calls since none (greets p (calls ++ since) (hands calls stood))
+
+-- what came by the end of a run whose house greets first
+pub run-came : {May : HouseReply → Type 0} {Rest : AtWaits} (house : HouseState) (stands' : List HouseCall → Type 0) (policy : Policy) (pid turns : ℕ) (before now : Option (List HouseMark)) (start : Option (List Mark)) (seen : Seen) (refused : Option ℕ) (answer : Ended) (a b : CallCounts)
+    → IsRun May Rest house.stands stands' house.known.present policy pid turns before now start seen refused answer → (answer ≢ ended.OutOfMemory → StandsGreeting house.known.present stands') → OverBy house.known.present (Some answer) a b → HasSaidNothing house → EndedBy answer a b
+run-came house stands' policy pid turns before now start seen refused answer a b run greets over silent = counted-other house.known.present answer a b other over
+  where
+    set : Setting
+    set = by_lists policy pid run.picks run.replies
+
+    other : answer ≢ ended.OutOfMemory → house.known.present ≡ true → ByOther (Some answer)
+    other ne p = let was = silent p in
+        answered-other turns run.journal refused (end_of (log_of_journal set run.journal)) answer (run.ends ne).end
+        (other-ends policy pid run.picks run.replies run.journal run.own_streams.gives
+        (greets-since house.known.present house.stands stands' (calls_in set run.journal) was.0 was.1.0 was.1.1 (run.handed ne) (greets ne) p))
