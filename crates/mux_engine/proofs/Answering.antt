@@ -1,7 +1,8 @@
 -- A whole run, behind its turns and what is offered at its end.
-use Rattle.std.proofs.Common.{◌≡◌, ◌≢◌, ◌≤◌, ◌+◌, ℕ, Bool, true, false, List, [], ◌∷◌, Option, Some, None, refl, sym, ap, ◌∙◌, subst, ◌||◌, arith}
+use Rattle.std.proofs.Common.{◌≡◌, ◌≢◌, ◌≤◌, ◌+◌, ℕ, Bool, true, false, List, [], ◌∷◌, Option, Some, None, refl, sym, ap, ◌∙◌, subst, ◌||◌, arith, inl, inr}
 use Rattle.std.specs.Prelude.{Result, Ok, Err, IsErr}
 use Rattle.std.specs.Result.{result_unwrap_or}
+use Rattle.mux_outside.specs.Counts.{Rose}
 use Rattle.mux_outside.specs.Faults.{Faults}
 use Rattle.mux_outside.specs.House.{Known, nothing_known}
 use Rattle.mux_outside.specs.HouseCalls.{HandsOn, HouseCall}
@@ -23,7 +24,8 @@ use Rattle.mux_engine.specs.Rests.{IsByRow, ended_as, refused_if}
 use Rattle.mux_engine.specs.Run.{IsRun}
 use Rattle.mux_engine.specs.Serving.{Promised, Serving, StaysOrFails}
 use Rattle.mux_engine.specs.Sides.{Housed, IsAlone, Resting, Side}
-use Rattle.mux_engine.proofs.Counting.{none-more, stays-by-row}
+use Rattle.mux_engine.proofs.Arms.{rose-stays}
+use Rattle.mux_engine.proofs.Counting.{none-more, rose-behind, stays-by-row}
 use Rattle.mux_engine.proofs.Ending.{ends-so, ends-spent, ends-unspent, fails-on, refused-none, refused-same}
 use Rattle.mux_engine.proofs.Lists.{test-other, true-false}
 use Rattle.mux_engine.proofs.Runs.{ends-run, ends-starved, promised-more}
@@ -55,6 +57,19 @@ refused-as None None index e allowed = absurd (let z : ended.Spent ≡ ended.Sta
 -- a run that ended since a forwarding was refused
 pub refused-whole : (answer : Ended) (mid new : Option Ended) (m n : Faults) (r : Option ℕ) (index : ℕ) → IsByRow mid → StaysOrFails mid new m n → answer ≡ ended_as new r → answer ≡ ended.StartRefused index → r ≡ Some index
 refused-whole answer mid new m n r index row stays is e = refused-as new r index (sym is ∙ e) ((stays-by-row mid new m n stays row).permitted index)
+
+-- one that ended since the server's stream failed: its count rose
+failed-as : (o : Option Ended) (r : Option ℕ) → ended_as o r ≡ ended.ServerFailed → o ≡ Some ended.ServerFailed
+failed-as (Some cause) r e = ap (λ (c : Ended). Some c) e
+failed-as None (Some index) e = absurd (let z : ended.StartRefused index ≡ ended.ServerFailed = e in cc)
+failed-as None None e = absurd (let z : ended.Spent ≡ ended.ServerFailed = e in cc)
+
+pub failed-whole : (answer : Ended) (mid new : Option Ended) (f g h i : Faults) (r : Option ℕ) → f.server ≤ g.server → g.server ≤ h.server → (mid ≡ Some ended.ServerFailed → Rose g.server h.server) → StaysOrFails mid new h i → answer ≡ ended_as new r → answer ≡ ended.ServerFailed → Rose f.server i.server
+failed-whole answer mid new f g h i r le le' rose stays is e = rose-behind f.server g.server i.server le (by_stays stays)
+  where
+    by_stays : StaysOrFails mid new h i → Rose g.server i.server
+    by_stays (inl s) = rose-stays g.server h.server i.server (rose (sym s.0 ∙ failed-as new r (sym is ∙ e))) s.1
+    by_stays (inr s) = rose-behind g.server h.server i.server le' s.1
 
 -- ---- what is promised
 

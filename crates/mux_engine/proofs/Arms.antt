@@ -20,8 +20,8 @@ use Rattle.mux_machine.specs.declared.event.Event.TheVariants.{Accepted, FromCli
 use Rattle.mux_machine.specs.State.{State, numbers, queue_in}
 use Rattle.mux_machine.specs.Events.{Keeps, MayEnd, SameStreams, Tells, here}
 use Rattle.mux_engine.specs.Counted.{Counts, Cut, Waited, Well}
-use Rattle.mux_engine.proofs.Comes.{came-none, came-one, came-then, came-wait}
-use Rattle.mux_engine.specs.Serving.{StaysOrFails}
+use Rattle.mux_engine.proofs.Comes.{StaysBy, came-none, came-one, came-then, came-wait}
+use Rattle.mux_engine.specs.Serving.{IsOfferedTo, StaysOrFails}
 
 -- ---- calls
 
@@ -91,21 +91,21 @@ cut-one c = record { few = omega arith; wants = omega arith; late = late-one c t
 pub le-of : (a b : ℕ) → a ≡ b → a ≤ b
 le-of a b e = omega arith
 
-pub stays : (old new : Option Ended) (faults faults' : Faults) → new ≡ old → faults'.server ≡ faults.server → StaysOrFails old new faults faults'
-stays old new faults faults' e f = inl (e, le-of faults.server faults'.server (sym f))
+pub stays : (old new : Option Ended) (faults faults' : ℕ) → new ≡ old → faults' ≡ faults → StaysBy old new faults faults'
+stays old new faults faults' e f = inl (e, le-of faults faults' (sym f))
 
 rose-later : (m n o : ℕ) → m ≤ n → Rose n o → Rose m o
 rose-later m n o h r = let l : n ≤ o = r.later in let c : counted n ≤ o = r.rose in let d : counted m ≤ counted n = counted-least m n h in
     record { later = omega arith; rose = omega arith }
 
-rose-stays : (m n o : ℕ) → Rose m n → n ≤ o → Rose m o
+pub rose-stays : (m n o : ℕ) → Rose m n → n ≤ o → Rose m o
 rose-stays m n o r h = let l : m ≤ n = r.later in let c : counted m ≤ n = r.rose in record { later = omega arith; rose = omega arith }
 
-pub then-stays-or-fails : (a b c : Option Ended) (f g h : Faults) → StaysOrFails a b f g → StaysOrFails b c g h → StaysOrFails a c f h
-then-stays-or-fails a b c f g h (inl x) (inl y) = let l : f.server ≤ g.server = x.1 in let m : g.server ≤ h.server = y.1 in inl (y.0 ∙ x.0, omega arith)
-then-stays-or-fails a b c f g h (inl x) (inr y) = inr (y.0, rose-later f.server g.server h.server x.1 y.1)
-then-stays-or-fails a b c f g h (inr x) (inl y) = inr (y.0 ∙ x.0, rose-stays f.server g.server h.server x.1 y.1)
-then-stays-or-fails a b c f g h (inr x) (inr y) = let r : Rose f.server g.server = x.1 in inr (y.0, rose-later f.server g.server h.server r.later y.1)
+pub then-stays-or-fails : (a b c : Option Ended) (m n o : ℕ) → StaysBy a b m n → StaysBy b c n o → StaysBy a c m o
+then-stays-or-fails a b c m n o (inl x) (inl y) = let f : m ≤ n = x.1 in let g : n ≤ o = y.1 in inl (y.0 ∙ x.0, omega arith)
+then-stays-or-fails a b c m n o (inl x) (inr y) = inr (y.0, rose-later m n o x.1 y.1)
+then-stays-or-fails a b c m n o (inr x) (inl y) = inr (y.0 ∙ x.0, rose-stays m n o x.1 y.1)
+then-stays-or-fails a b c m n o (inr x) (inr y) = let r : Rose m n = x.1 in inr (y.0, rose-later m n o r.later y.1)
 
 -- ---- a stream that failed at a write
 
@@ -206,6 +206,25 @@ fault-ended k old new f f' fails fault = elim (eqb_tells k 0) [
   where
     of-server : (k == 0) ≡ true → Rose f.server f'.server
     of-server e = let s : FaultOf Server f f' = subst (λ (w : Whose). FaultOf w f f') (whose-server k e) fault in s.rose
+
+-- ---- a stream that was offered what waits
+
+pub offered-none : (k : ℕ) (s : State) (f : Faults) → IsOfferedTo k s s f f
+offered-none k s f = record { streams = refl; ended = stays s.ended s.ended f.server f.server refl refl; client = λ nz. refl }
+
+-- where the engine goes on with the same streams and the same end, and no fault was counted
+pub offered-same : (k : ℕ) (s t : State) (f g : Faults) → here t ≡ here s → t.ended ≡ s.ended → g ≡ f → IsOfferedTo k s t f g
+offered-same k s t f g h e same = record { streams = h; ended = stays s.ended t.ended f.server g.server e (ap (λ (x : Faults). x.server) same); client = λ nz. e }
+
+pub offered-fails : (k : ℕ) (s t : State) (f g : Faults) → Failing k s t → FaultOf (whose k) f g → IsOfferedTo k s t f g
+offered-fails k s t f g fails c = record { streams = fails.streams; ended = fault-ended k s t f g fails c; client = fails.client }
+
+pub offered-then : {k : ℕ} {a b c : State} {f g h : Faults} → IsOfferedTo k a b f g → IsOfferedTo k b c g h → IsOfferedTo k a c f h
+offered-then {k} {a} {b} {c} {f} {g} {h} v w = record {
+  streams = w.streams ∙ v.streams;
+  ended = then-stays-or-fails a.ended b.ended c.ended f.server g.server h.server v.ended w.ended;
+  client = λ nz. w.client nz ∙ v.client nz;
+}
 
 -- ---- where nothing waits
 

@@ -1,8 +1,7 @@
 -- What comes at a wire: its counts over calls, and how they stand behind a run's end.
-use Rattle.std.proofs.Common.{◌≡◌, ℕ, Bool, true, false, Option, Some, None, refl, sym, ◌∙◌, subst, inl, inr, arith}
-use Rattle.mux_outside.specs.Counts.{counted}
+use Rattle.std.proofs.Common.{◌≡◌, ◌≤◌, ◌⊎◌, ℕ, Bool, true, false, Option, Some, None, refl, sym, ◌∙◌, subst, inl, inr, arith}
+use Rattle.mux_outside.specs.Counts.{Rose, counted}
 use Rattle.mux_outside.specs.CallCounts.{CallCounts, calls_after_one, calls_after_wait, counted_if, is_accept, is_client_piece, is_server_end, is_server_piece}
-use Rattle.mux_outside.specs.Faults.{Faults}
 use Rattle.mux_outside.specs.declared.turn.Turn.{Turn}
 use Rattle.mux_history.specs.declared.broke.Break.{Break}
 use Rattle.mux_history.specs.declared.broke.Break.TheVariants as broke
@@ -11,7 +10,6 @@ use Rattle.mux_history.specs.declared.ended.Ended.TheVariants as ended
 use Rattle.mux_history.specs.declared.limits.TheConstants.{HOUSE}
 use Rattle.mux_engine.specs.Came.{BrokenBy, Came, EndsFor, NeverFell, OverBy, WentUp}
 use Rattle.mux_engine.specs.Rests.{ended_as}
-use Rattle.mux_engine.specs.Serving.{StaysOrFails}
 
 -- ---- a count
 
@@ -154,8 +152,12 @@ over-house p (Some (ended.StartRefused index)) a b there h = absurd h
 over-house p (Some ended.Spent) a b there h = absurd h
 over-house p (Some ended.OutOfMemory) a b there h = absurd h
 
+-- `StaysOrFails` by the counts of the server's faults
+abbrev pub StaysBy : Option Ended → Option Ended → ℕ → ℕ → Type 0
+StaysBy old new m n = ((new ≡ old) × (m ≤ n)) ⊎ ((new ≡ Some ended.ServerFailed) × Rose m n)
+
 -- one whose streams were offered what waits
-pub over-offered : (p : Bool) (old new : Option Ended) (m n : Faults) (a b c : CallCounts) → StaysOrFails old new m n → OverBy p old a b → Came b c → OverBy p new a c
+pub over-offered : (p : Bool) (old new : Option Ended) (m n : ℕ) (a b c : CallCounts) → StaysBy old new m n → OverBy p old a b → Came b c → OverBy p new a c
 over-offered p old new m n a b c (inl s) over came = subst (λ (x : Option Ended). OverBy p x a c) (sym s.0) (over-stays p old a b c over came)
 over-offered p old new m n a b c (inr f) over came = subst (λ (x : Option Ended). OverBy p x a c) (sym f.0) tt
 

@@ -20,10 +20,9 @@ use Rattle.mux_machine.specs.declared.event.Event.TheVariants.{Accepted, FromCli
 use Rattle.mux_machine.specs.Events.{MayEnd, Tells}
 use Rattle.mux_engine.specs.Counted.{Counts, Cut}
 use Rattle.mux_engine.specs.Rests.{IsByRow}
-use Rattle.mux_engine.specs.Serving.{StaysOrFails}
 use Rattle.mux_engine.specs.Turns.{IsEventOf}
 use Rattle.mux_engine.proofs.Arms.{well-wait, whose-server}
-use Rattle.mux_engine.proofs.Comes.{came-none, came-wait}
+use Rattle.mux_engine.proofs.Comes.{StaysBy, came-none, came-wait}
 
 -- ---- calls
 
@@ -158,7 +157,7 @@ pub later-on : (a b c : ℕ) → a ≤ b → b ≤ c → a ≤ c
 later-on a b c f g = omega arith
 
 -- a run that went on is ended by a row, if at all
-pub stays-by-row : (old new : Option Ended) (a b : Faults) → StaysOrFails old new a b → IsByRow old → IsByRow new
+pub stays-by-row : (old new : Option Ended) (a b : ℕ) → StaysBy old new a b → IsByRow old → IsByRow new
 stays-by-row old new a b (inl s) row = subst IsByRow (sym s.0) row
 stays-by-row old new a b (inr f) row = record {
   unspent = λ is. let z : Some ended.ServerFailed ≡ Some ended.Spent = sym f.0 ∙ is in cc;

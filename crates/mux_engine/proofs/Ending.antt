@@ -9,7 +9,7 @@ use Rattle.mux_history.specs.declared.ended.Ended.{Ended}
 use Rattle.mux_history.specs.declared.ended.Ended.TheVariants as ended
 use Rattle.mux_history.specs.Promises.{EndsAs, turns_in}
 use Rattle.mux_engine.specs.Came.{Came}
-use Rattle.mux_engine.specs.Rests.{EndsSo, IsByRow, ended_as, refused_if}
+use Rattle.mux_engine.specs.Rests.{EndsSo, HasEnded, IsByRow, ended_as, refused_if}
 use Rattle.mux_engine.specs.Serving.{StaysOrFails}
 use Rattle.mux_engine.specs.Wires.{Untouched}
 use Rattle.mux_engine.proofs.Comes.{over-later, over-live, over-present, over-same}
@@ -86,4 +86,12 @@ ends-closed x y p o o' a b c f g h same idle still so = record {
   by_row = subst IsByRow (sym same) so.by_row;
   by_count = over-same p o o' a.calls b.calls c.calls same idle.calls so.by_count;
   unopened = λ out. still ∙ so.unopened out;
+}
+
+-- a run that want of memory ended
+pub ended-starved : (p : Bool) (refused : Option ℕ) (a b : WireState) (f g : Faults) → HasEnded p refused ended.OutOfMemory a b f g
+ended-starved p refused a b f g = record {
+  permitted = λ index e. let z : ended.OutOfMemory ≡ ended.StartRefused index = e in absurd (let h = z in cc);
+  failed = λ e. let z : ended.OutOfMemory ≡ ended.ServerFailed = e in absurd (let h = z in cc);
+  by_count = tt;
 }

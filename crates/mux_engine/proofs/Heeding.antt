@@ -1,23 +1,28 @@
 -- The asks of an event are noted one by one, right behind it.
-use Rattle.std.proofs.Common.{◌≡◌, ◌<◌, ◌+◌, ℕ, List, [], ◌∷◌, ◌++◌, length, take, get_or, Option, Some, None, refl, sym, ap, ◌∙◌, subst, inr, append_assoc}
+use Rattle.std.proofs.Common.{◌≡◌, ◌<◌, ◌+◌, ℕ, List, [], ◌∷◌, ◌++◌, length, take, get_or, Option, Some, None, refl, sym, ap, ◌∙◌, subst, inl, inr, append_assoc, append-nil}
 use Rattle.std.specs.Prelude.{map, Result, Ok, Err, IsErr}
 use Rattle.std.specs.Option.{option_map}
 use Rattle.std.proofs.lemmas.List.{map-append, take_more}
-use Rattle.mux_outside.specs.House.{Known}
+use Rattle.mux_outside.specs.House.{HouseState, Known}
 use Rattle.mux_outside.specs.Seen.{Seen}
 use Rattle.mux_outside.specs.declared.house.HouseReply.{HouseReply}
 use Rattle.mux_outside.specs.declared.house_mark.HouseMark.{HouseMark}
 use Rattle.mux_outside.specs.declared.mark.Mark.{Mark}
 use Rattle.mux_outside.specs.declared.mark.Mark.TheVariants.{House}
-use Rattle.mux_outside.specs.HouseCalls.{HandsOn, HouseCall, calls_of}
-use Rattle.mux_clients.specs.Asked.{HandsAsks, IsAsked, TellsAsks, known_after}
+use Rattle.mux_outside.specs.HouseCalls.{HandsOn, calls_of}
+use Rattle.mux_clients.specs.Asked.{Heeds, TellsAsks, known_after}
 use Rattle.mux_machine.specs.declared.event.Event.{Event}
 use Rattle.mux_machine.specs.Events.{EndsBy, Keeps, Tells}
 use Rattle.mux_machine.specs.Stands.{GoesOn}
 use Rattle.mux_machine.specs.State.{State}
 use Rattle.mux_engine.specs.Asking.{Heeded, HeedsSo}
+use Rattle.mux_engine.specs.Sides.{SameStreams}
+use Rattle.mux_engine.proofs.HouseCalls.{streams-same}
 use Rattle.mux_engine.proofs.Lists.{true-false}
 use Rattle.mux_engine.proofs.Noted.{seen-with}
+
+with-streams : (n : ℕ) (asks : List HouseMark) (seen seen' : Seen) → seen' ≡ seen-with (take n asks) seen → SameStreams seen seen'
+with-streams n asks seen seen' e = subst (SameStreams seen) (sym e) record { places = record { streams = refl; listeners = refl; own = refl; last_own = refl }; blocked = refl }
 
 -- ---- so many are noted
 
@@ -34,19 +39,22 @@ noted-next asks i m seen mid seen' less is so next =
 
 -- ---- the engine took in the event
 
-pub heeds-so : {May : HouseReply → Type 0} (e : Event) (s s' : State) (none asks : List HouseMark) (told told' : Option (List HouseMark)) (known known' : Known) (seen seen' : Seen) (n : ℕ) → none ≡ [] → ((mark : Mark) → Tells e mark → GoesOn May (Some none) (Some asks) s s' mark) → IsAsked none asks told told' known known'
-    → Keeps e s s' → ((mark : Mark) → Tells e mark → EndsBy e s s' mark) → seen' ≡ seen-with (take n asks) seen → HeedsSo May e s s' asks told told' known known' seen seen' n
-heeds-so {May} e s s' none asks told told' known known' seen seen' n empty goes asked keeps ends is = record {
-  goes = subst (λ (l : List HouseMark). (mark : Mark) → Tells e mark → GoesOn May (Some l) (Some asks) s s' mark) empty goes;
-  keeps = keeps;
-  ends = ends;
-  told_is = subst (TellsAsks told told') (sym same) asked.told_is;
-  known_is = asked.known_is ∙ ap (λ (l : List HouseMark). known_after l known) (sym same);
-  seen_is = is;
-}
-  where
-    same : asks ≡ asked.more
-    same = asked.noted ∙ ap (λ (l : List HouseMark). l ++ asked.more) empty
+-- what was asked is all that is noted, where nothing was before
+all-asked : {A E : Type 0} {x : A} (none asks : List HouseMark) (old new : HouseState) → none ≡ [] → (h : Heeds {A} {E} (Ok x) none asks old new) → asks ≡ h.more
+all-asked none asks old new empty h = h.noted ∙ ap (λ (l : List HouseMark). l ++ h.more) empty
+
+pub heeds-so : {A E : Type 0} {x : A} {May : HouseReply → Type 0} (e : Event) (s s' : State) (none asks : List HouseMark) (old new : HouseState) (seen seen' : Seen) (n : ℕ) → none ≡ [] → ((mark : Mark) → Tells e mark → GoesOn May (Some none) (Some asks) s s' mark) → Heeds {A} {E} (Ok x) none asks old new
+    → Keeps e s s' → ((mark : Mark) → Tells e mark → EndsBy e s s' mark) → seen' ≡ seen-with (take n asks) seen → HeedsSo May e s s' asks old.told new.told old.known new.known seen seen' n
+heeds-so {May = May} e s s' none asks old new seen seen' n empty goes heeds keeps ends is =
+    let same : asks ≡ heeds.more = all-asked none asks old new empty heeds in
+    record {
+      goes = subst (λ (l : List HouseMark). (mark : Mark) → Tells e mark → GoesOn May (Some l) (Some asks) s s' mark) empty goes;
+      keeps = keeps;
+      ends = ends;
+      told_is = subst (TellsAsks old.told new.told) (ap (λ (l : List HouseMark). heeds.more ++ l) heeds.all_noted ∙ (append-nil heeds.more ∙ sym same)) heeds.told;
+      known_is = heeds.known ∙ ap (λ (l : List HouseMark). known_after l old.known) (sym same);
+      seen_is = is;
+    }
 
 -- there was no memory to note all of them
 pub heeded-some : {A E : Type 0} (r : Result A E) {May : HouseReply → Type 0} (e : Event) (s s' : State) (asks : List HouseMark) (told told' : Option (List HouseMark)) (known known' : Known) (seen seen' : Seen) (n : ℕ) → IsErr r → HeedsSo May e s s' asks told told' known known' seen seen' n → Heeded r May e s s' asks told told' known known' seen seen'
@@ -54,5 +62,11 @@ heeded-some (Ok x) e s s' asks told told' known known' seen seen' n h so = true-
 heeded-some (Err x) e s s' asks told told' known known' seen seen' n h so = inr (n, so)
 
 -- the house stands for all asks, where none was there before
-pub hands-so : (stands stands' : List HouseCall → Type 0) (none asks : List HouseMark) → none ≡ [] → HandsAsks none asks stands stands' → HandsOn stands stands' (calls_of asks)
-hands-so stands stands' none asks empty h = subst (λ (l : List HouseMark). HandsOn stands stands' (calls_of l)) (sym (h.noted ∙ ap (λ (l : List HouseMark). l ++ h.more) empty)) h.hands
+pub hands-so : {A E : Type 0} {x : A} (none asks : List HouseMark) (old new : HouseState) → none ≡ [] → Heeds {A} {E} (Ok x) none asks old new → HandsOn old.stands new.stands (calls_of asks)
+hands-so none asks old new empty h = subst (λ (l : List HouseMark). HandsOn old.stands new.stands (calls_of l)) (sym (all-asked none asks old new empty h)) h.stands
+
+-- the streams stay
+pub heeded-streams : {A E : Type 0} (r : Result A E) {May : HouseReply → Type 0} (e : Event) (s s' : State) (asks : List HouseMark) (told told' : Option (List HouseMark)) (known known' : Known) (seen seen' : Seen) → Heeded r May e s s' asks told told' known known' seen seen' → SameStreams seen seen'
+heeded-streams (Ok x) e s s' asks told told' known known' seen seen' h = with-streams (length asks) asks seen seen' h.seen_is
+heeded-streams (Err x) e s s' asks told told' known known' seen seen' (inl u) = streams-same seen seen' u.seen_is
+heeded-streams (Err x) e s s' asks told told' known known' seen seen' (inr p) = let h = p.1 in with-streams p.0 asks seen seen' h.seen_is

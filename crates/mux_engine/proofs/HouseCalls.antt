@@ -1,11 +1,11 @@
 -- The house is let in, is handed what waits for it, and answers.
 use Rattle.std.proofs.Common.{◌≡◌, ◌≢◌, ◌≤◌, ◌<◌, ◌+◌, ℕ, Bool, true, false, ◌||◌, List, [], ◌∷◌, ◌++◌, length, Option, None, refl, sym, ap, ◌∙◌, subst, cond, arith, append-nil}
-use Rattle.std.specs.Prelude.{◌==◌, All, IsTrue}
+use Rattle.std.specs.Prelude.{◌==◌, All, IsTrue, Result, Ok, Err}
 use Rattle.std.proofs.lemmas.List.Folds.{list_any-append}
 use Rattle.mux_outside.specs.House.{Known, OpenAsk, ReplyFits, without_ask}
 use Rattle.mux_outside.specs.HouseCalls.{HandsOn, Hears, HouseCall, calls_of}
 use Rattle.mux_outside.specs.OwnStreams.{is_one, numbers_of}
-use Rattle.mux_outside.specs.Seen.{Seen}
+use Rattle.mux_outside.specs.Seen.{Seen, seen_after_note}
 use Rattle.mux_outside.specs.CallCounts.{CallCounts}
 use Rattle.mux_outside.specs.Streams.{among, without}
 use Rattle.mux_outside.specs.declared.house.HouseReply.{HouseReply}
@@ -26,7 +26,7 @@ use Rattle.mux_engine.specs.Called.{Handed}
 use Rattle.mux_engine.specs.Counted.{Cut, Well}
 use Rattle.mux_engine.proofs.Comes.{came-none}
 use Rattle.mux_engine.specs.Serving.{Promised, Serving}
-use Rattle.mux_engine.specs.Sides.{Housed, Resting, SameHouse, SamePlaces, Side, noted, noting}
+use Rattle.mux_engine.specs.Sides.{Housed, Resting, SameHouse, SamePlaces, SameStreams, Side, noted, noting}
 use Rattle.mux_engine.proofs.Arms.{cut-then}
 use Rattle.mux_engine.proofs.Cuts.{serve-told}
 use Rattle.mux_engine.proofs.HouseTakes.{house-takes}
@@ -78,6 +78,20 @@ housed-still known known' seen seen' own o same places = record {
 
 pub same-house : (known known' : Known) → known' ≡ known → SameHouse known known'
 same-house known known' e = subst (SameHouse known) (sym e) record { present = refl; ordering = refl; listeners = refl; streams = refl }
+
+pub streams-same : (seen seen' : Seen) → seen' ≡ seen → SameStreams seen seen'
+streams-same seen seen' e = subst (SameStreams seen) (sym e) record { places = record { streams = refl; listeners = refl; own = refl; last_own = refl }; blocked = refl }
+
+-- a mark was noted, or there was no memory for it
+pub streams-note : {E : Type 0} (r : Result (Unit {0}) E) (mark : HouseMark) (old new : Seen) → new ≡ seen_after_note r mark old → SameStreams old new
+streams-note (Ok x) mark old new e = subst (SameStreams old) (sym e) record { places = record { streams = refl; listeners = refl; own = refl; last_own = refl }; blocked = refl }
+streams-note (Err x) mark old new e = streams-same old new e
+
+pub streams-then : (a b c : Seen) → SameStreams a b → SameStreams b c → SameStreams a c
+streams-then a b c x y = record {
+  places = record { streams = y.places.streams ∙ x.places.streams; listeners = y.places.listeners ∙ x.places.listeners; own = y.places.own ∙ x.places.own; last_own = y.places.last_own ∙ x.places.last_own };
+  blocked = y.blocked ∙ x.blocked;
+}
 
 pub house-then : (a b c : Known) → SameHouse a b → SameHouse b c → SameHouse a c
 house-then a b c x y = record { present = y.present ∙ x.present; ordering = y.ordering ∙ x.ordering; listeners = y.listeners ∙ x.listeners; streams = y.streams ∙ x.streams }

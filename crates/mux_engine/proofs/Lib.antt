@@ -1,6 +1,7 @@
 mod Answering
 mod Arms
 mod Asks
+mod Belongs
 mod CallLaws
 mod Called
 mod Causes
@@ -12,6 +13,7 @@ mod Ending
 mod Fates
 mod First
 mod Greeted
+mod Following
 mod Handed
 mod Happened
 mod Heeding
@@ -35,6 +37,7 @@ mod OwnAsks
 mod OwnFaults
 mod OwnMarks
 mod OwnTurns
+mod Owning
 mod Owns
 mod Places
 mod Quiet

@@ -1,7 +1,7 @@
 -- What one call of wait makes of a run, by what it told.
-use Rattle.std.proofs.Common.{◌≡◌, ◌+◌, ℕ, false, List, [], ◌∷◌, ◌++◌, Option, None, refl, sym, ap, ◌∙◌, subst, arith, MatchResult, OnOk}
+use Rattle.std.proofs.Common.{◌≡◌, ◌+◌, ℕ, Bool, false, List, [], ◌∷◌, ◌++◌, Option, None, refl, sym, ap, ◌∙◌, subst, arith, MatchResult, OnOk}
 use Rattle.std.specs.Prelude.{IsErr, Result, Ok, Err, filter}
-use Rattle.mux_outside.specs.CallCounts.{calls_after_wait}
+use Rattle.mux_outside.specs.CallCounts.{CallCounts, calls_after_wait, is_starved}
 use Rattle.mux_outside.specs.Counts.{Rose}
 use Rattle.mux_outside.specs.Faults.{Faults}
 use Rattle.mux_outside.specs.House.{HouseState, known_after_own_turn}
@@ -9,29 +9,33 @@ use Rattle.mux_outside.specs.HouseCalls.{HandsOn, HouseCall, Turns, calls_of, ha
 use Rattle.mux_outside.specs.OwnStreams.{is_own}
 use Rattle.mux_outside.specs.Streams.{without}
 use Rattle.mux_outside.specs.Wire.{TurnFaults}
-use Rattle.mux_outside.specs.WireState.{WireState}
+use Rattle.mux_outside.specs.WireState.{WireState, state_after_wait}
 use Rattle.mux_outside.specs.declared.house.HouseReply.{HouseReply}
 use Rattle.mux_outside.specs.declared.house_mark.HouseMark.{HouseMark}
 use Rattle.mux_outside.specs.declared.own_turn.OwnTurn.{OwnTurn}
+use Rattle.mux_outside.specs.declared.own_turn.OwnTurn.TheVariants as told
 use Rattle.mux_outside.specs.declared.turn.Turn.{Turn}
 use Rattle.mux_outside.specs.declared.turn.Turn.TheVariants as turn
+use Rattle.mux_outside.specs.declared.turn.Want.{Want}
+use Rattle.mux_history.specs.declared.ended.Ended.{Ended}
 use Rattle.mux_machine.specs.State.{State}
 use Rattle.mux_machine.specs.Events.{here}
 use Rattle.mux_machine.specs.declared.event.Event.{Event}
 use Rattle.mux_engine.specs.Asking.{HeedsEvent}
 use Rattle.mux_engine.specs.Came.{OverBy}
+use Rattle.mux_engine.specs.Counted.{Counts}
 use Rattle.mux_engine.specs.Owned.{waits_for}
 use Rattle.mux_engine.specs.Rests.{EndsSo}
 use Rattle.mux_engine.specs.Serving.{RunsOn, ServedWith, Serving, scene, scene_of}
 use Rattle.mux_engine.specs.Sides.{Housed, IsAlone, RestsOf, SameHouse, StaysHouse, Together, noted}
 use Rattle.mux_engine.specs.Turns.{IsEventOf, IsOwnOf, failed_heard, held_heard, own_heard, want_of}
-use Rattle.mux_engine.specs.Wires.{Untouched, Works}
+use Rattle.mux_engine.specs.Wires.{IsIdle, Untouched, Works}
 use Rattle.mux_engine.specs.declared.room.Lists.{Lists}
 use Rattle.mux_engine.proofs.Arms.{on-err, on-ok}
 use Rattle.mux_engine.proofs.Called.{handed-more, handed-none}
 use Rattle.mux_engine.proofs.Causes.{turn-over}
 use Rattle.mux_engine.proofs.Causes.{EndsSo as EndsByEvent}
-use Rattle.mux_engine.proofs.Counting.{turn-by-row, turn-rose}
+use Rattle.mux_engine.proofs.Counting.{counts-event, cut-none, turn-by-row, turn-rose}
 use Rattle.mux_engine.proofs.Cuts.{cut-here, cut-still}
 use Rattle.mux_engine.proofs.Ending.{ends-cut, ends-live}
 use Rattle.mux_engine.proofs.Handed.{AtWait, BeginsTurn, HasWaited, alone-as, alone-heard, at-wait, heard-asks, own-noted, room-housed, turn-ends, turn-fits, turn-frees, turn-heeds, turn-house, turn-housed, turn-own-housed, turn-owns, turn-starved}
@@ -39,6 +43,7 @@ use Rattle.mux_engine.proofs.Running.{both-ok}
 use Rattle.mux_engine.proofs.Runs.{promised-more}
 use Rattle.mux_engine.proofs.Told.{tells-none}
 use Rattle.mux_engine.proofs.Unopened.{event-opens, wait-opens}
+use Rattle.mux_engine.proofs.Wired.{keeps-none, keeps-wait, works-told, works-wait}
 
 -- ---- results
 
@@ -69,7 +74,7 @@ turn-unlisted r May state house wire faults lists held own failed s is = record 
 }
 
 -- how an event ends a run
-event-ends : {A E : Type 0} (r : Result A E) (p : _) (e : Event) (o : Option _) (t : Turn) (bytes : List ℕ) (a b c : WireState) (f g h : Faults) → OnOk r (EndsByEvent e o) → IsEventOf e t bytes → TurnFaults t f g → b.calls ≡ calls_after_wait t a.calls → Untouched b c g h → (p ≡ false → c.seen.last_own ≡ a.seen.last_own) → EndsSo r p o a c f h
+event-ends : {A E : Type 0} (r : Result A E) (p : Bool) (e : Event) (o : Option Ended) (t : Turn) (bytes : List ℕ) (a b c : WireState) (f g h : Faults) → OnOk r (EndsByEvent e o) → IsEventOf e t bytes → TurnFaults t f g → b.calls ≡ calls_after_wait t a.calls → Untouched b c g h → (p ≡ false → c.seen.last_own ≡ a.seen.last_own) → EndsSo r p o a c f h
 event-ends (Ok x) p e o t bytes a b c f g h so next cause waited heeded still = record {
   failed = λ over. subst (λ (n : ℕ). Rose f.server n) (sym heeded.no_fault.server) (turn-rose e o t bytes f g so.may next cause over);
   by_row = turn-by-row e o so.may;
@@ -77,6 +82,32 @@ event-ends (Ok x) p e o t bytes a b c f g h so next cause waited heeded still = 
   unopened = still;
 }
 event-ends (Err x) p e o t bytes a b c f g h so next cause waited heeded still = record { failed = tt; by_row = tt; by_count = tt; unopened = still }
+
+-- ---- the calls of the wire
+
+-- before the wait there was no memory
+pub works-unlisted : {A E : Type 0} (r : Result A E) (w : WireState) (f : Faults) → IsErr r → Works 1 r w w f f
+works-unlisted (Ok x) w f is = absurd (let z : false ≡ true = is in cc)
+works-unlisted (Err x) w f is = record { keeps = keeps-none w f; calls = cut-none 1 w.calls }
+
+-- the wait told an event, which was taken in
+pub works-event : {A E : Type 0} (r : Result A E) {old mid new : WireState} {f g h : Faults} (e : Event) (t : Turn) (waiting : List ℕ) (want : Want) (bytes : List ℕ) → IsEventOf e t bytes → mid ≡ state_after_wait t waiting want bytes mid.tally old → TurnFaults t f g → IsIdle mid new g h → Works 1 r old new f h
+works-event r {old = old} {mid = mid} e t waiting want bytes next after cause heeded =
+    let waited : Works 1 r old mid _ _ = record {
+      keeps = keeps-wait t waiting want bytes after cause;
+      calls = subst (λ (x : CallCounts). Counts 1 r old.calls x) (sym (ap (λ (x : WireState). x.calls) after)) (counts-event r e t bytes old.calls next);
+    } in works-told r waited heeded
+
+-- it told something of the master's own
+own-fed : (o : OwnTurn) (t : Turn) (bytes : List ℕ) → IsOwnOf o t bytes → is_starved t ≡ false
+own-fed (told.Joined l k) t bytes next = ap is_starved next
+own-fed (told.Got k got) t bytes next = ap is_starved next.1
+own-fed (told.End k) t bytes next = ap is_starved next.1
+own-fed (told.Writable k) t bytes next = ap is_starved next.1
+own-fed (told.Failed k) t bytes next = ap is_starved next.1
+
+pub works-own-turn : {A E : Type 0} (r : Result A E) {old new : WireState} {f g : Faults} (o : OwnTurn) (t : Turn) (waiting : List ℕ) (want : Want) (bytes : List ℕ) → IsOwnOf o t bytes → new ≡ state_after_wait t waiting want bytes new.tally old → TurnFaults t f g → Works 1 r old new f g
+works-own-turn r o t waiting want bytes next after cause = works-wait r t waiting want bytes (own-fed o t bytes next) after cause
 
 module _ {T : Type 0} (May : HouseReply → Type 0) (state : T → HouseState) (house : T) (wire wire1 : WireState) (faults faults1 : Faults) (lists : Lists) (s : State) {t : Turn} {bytes : List ℕ}
     (served : ServedWith May state house (scene wire lists s) []) (b : BeginsTurn (state house) wire lists s) (w : HasWaited wire.seen wire1.seen lists.own lists.failed (state house).queue s t bytes) where
@@ -121,11 +152,11 @@ module _ {T : Type 0} (May : HouseReply → Type 0) (state : T → HouseState) (
 
   -- ---- something of the master's own listeners and streams
 
-  module _ (house' : T) (o : OwnTurn) (next : IsOwnOf o t bytes) (told : (state house').told ≡ (state house).told) (must : (state house').must ≡ (state house).must) where
+  module _ (house' : T) (o : OwnTurn) (next : IsOwnOf o t bytes) (same_told : (state house').told ≡ (state house).told) (must : (state house').must ≡ (state house).must) where
     -- there was no memory to keep it, or to hand it on
     pub turn-unheard : {A E : Type 0} (r : Result A E) (held own failed : List ℕ) → IsErr r → TurnDone r May state house house' wire wire1 faults faults1 lists held own failed s s
     turn-unheard r held own failed is = record {
-      serving = λ first calls before policy pid start given hands v. on-err r _ _ is (cut-here (turn-owns v (at first calls hands) w o next) _ _ _ [] refl (told ∙ tells-none _) refl (omega arith));
+      serving = λ first calls before policy pid start given hands v. on-err r _ _ is (cut-here (turn-owns v (at first calls hands) w o next) _ _ _ [] refl (same_told ∙ tells-none _) refl (omega arith));
       together = λ lists' e f. on-err r _ _ is tt;
       house = record { present = on-err r _ _ is tt; must = must };
       ended = ends-cut r (state house).known.present s.ended wire wire1 faults faults1 is unjoined;
@@ -135,7 +166,7 @@ module _ {T : Type 0} (May : HouseReply → Type 0) (state : T → HouseState) (
         → HandsOn (state house).stands (state house').stands (Turns (happening_of o) ∷ []) → TurnDone {E = E} (Ok x) May state house house' wire wire1 faults faults1 lists held own failed s s
     turn-heard {E = E} x held own failed known held_is own_is failed_is step = record {
       serving = λ first calls before policy pid start given hands v. handed-more _ (Turns (happening_of o) ∷ []) hands step
-          (own-noted o (state house).told (state house').told (state house).known (state house').known lists.held held lists.failed failed told known held_is failed_is (turn-owns v (at first calls hands) w o next));
+          (own-noted o (state house).told (state house').told (state house).known (state house').known lists.held held lists.failed failed same_told known held_is failed_is (turn-owns v (at first calls hands) w o next));
       together = λ lists' e f. record {
         housed = turn-own-housed w o next (state house).known (state house').known lists'.own b.together.housed known (e ∙ own_is);
         alone = alone-heard o (state house).known (state house').known (state house).quiet (turn-fits w o next (state house).known (state house).quiet b.together.housed b.together.alone b.ready) known b.together.alone;

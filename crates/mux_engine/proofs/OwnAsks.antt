@@ -95,7 +95,7 @@ module _ {May : HouseReply → Type 0} {Rest : Resting} {before : Option (List H
   accepted : (k : ℕ) → is_own k ≡ false → among k seen.streams ≡ true → k ≢ 0 → is_accepted k v.journal ≡ true
   accepted k client found nz = (at-stream v.stands k (open-stream v k client found)).accepted nz
 
-  pub turn-comes : (e : Event) (t : Turn) (want : Want) (bytes got : List ℕ) → AreBytes got → TurnFits t want seen.listens seen.last seen.streams seen.blocked bytes → IsEventOf e t got → MayCome e s v.journal
+  pub turn-comes : (e : Event) (t : Turn) (want : Want) (bytes got : List ℕ) → AreBytes got → TurnFits t want seen bytes → IsEventOf e t got → MayCome e s v.journal
   turn-comes e (turn.Accepted k) want bytes got are fits next =
       let few : k ≤ LAST_CLIENT = few-clients seen.last k fits.2 fits.3 in
       let new : IsUnseen v.journal seen.blocked k = v.unseen k (let n : k ≡ seen.last + 1 = fits.2 in omega arith) few in

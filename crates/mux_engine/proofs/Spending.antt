@@ -47,6 +47,15 @@ spent-on present n a b c s (inr w) = let f : b.waits ≤ a.waits + n = s.few in 
   came = came-then a b c s.came w.0.came;
 }
 
+-- the house took a turn, which waits for none
+pub turned-stepped : (present on : Bool) (b c : CallCounts) → (present ≡ false → ⊥) → Well 0 b c → Turned present on b c
+turned-stepped true on b c there w = inr (w, inl refl)
+turned-stepped false on b c there w = absurd (there refl)
+
+-- want of memory may have cut a wait short
+pub cut-one-more : (b c : CallCounts) → Cut 0 b c → Cut 1 b c
+cut-one-more b c w = let f : c.waits ≤ b.waits + 0 = w.few in record { few = omega arith; wants = w.wants; late = w.late; came = w.came }
+
 counted-on : (n a b c : ℕ) → n ≢ 0 → Waited n a b → min b (2 ^ 64 - 1) ≤ c → counted a ≤ c
 counted-on n a b c nz w le = let l : min (a + n) (2 ^ 64 - 1) ≤ b = w.least in omega arith
 

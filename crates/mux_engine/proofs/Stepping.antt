@@ -1,28 +1,37 @@
 -- What a step of the house makes of all that holds while a wire is served.
-use Rattle.std.proofs.Common.{◌≡◌, ◌+◌, ℕ, Bool, true, false, ◌||◌, List, [], ◌∷◌, ◌++◌, Option, refl, sym, ap, ◌∙◌, subst, inl, inr, arith, append-nil, MatchResult, OnOk}
-use Rattle.std.specs.Prelude.{◌==◌, IfOk, Result, Ok, Err}
+use Rattle.std.proofs.Common.{◌≡◌, ◌+◌, ℕ, Bool, true, false, ◌||◌, List, [], ◌∷◌, ◌++◌, Option, Some, None, refl, sym, ap, ◌∙◌, subst, inl, inr, arith, append-nil, OnOk}
+use Rattle.std.specs.Prelude.{◌==◌, IfOk, IsErr, Result, Ok, Err}
 use Rattle.std.proofs.lemmas.Bool.Decides.{eqb_tells}
-use Rattle.mux_outside.specs.House.{Known, Quiet}
-use Rattle.mux_outside.specs.HouseCalls.{HouseCall}
+use Rattle.mux_outside.specs.Counts.{Rose}
+use Rattle.mux_outside.specs.Faults.{Faults}
+use Rattle.mux_outside.specs.House.{HouseState, IsAtRest, Known, Quiet}
 use Rattle.mux_outside.specs.OwnStreams.{numbers_of}
 use Rattle.mux_outside.specs.Seen.{Seen}
 use Rattle.mux_outside.specs.Streams.{among, without}
+use Rattle.mux_outside.specs.WireState.{WireState}
 use Rattle.mux_outside.specs.declared.house.HouseReply.{HouseReply}
 use Rattle.mux_outside.specs.declared.house_mark.HouseMark.{HouseMark}
 use Rattle.mux_outside.specs.declared.mark.Mark.{Mark}
+use Rattle.mux_history.specs.declared.ended.Ended.{Ended}
+use Rattle.mux_history.specs.declared.ended.Ended.TheVariants as ended
 use Rattle.mux_history.specs.declared.limits.TheConstants.{HOUSE}
 use Rattle.mux_history.specs.Policy.{Policy}
 use Rattle.mux_machine.specs.State.{State}
 use Rattle.mux_machine.specs.Events.{here}
 use Rattle.mux_engine.specs.Owned.{IsOffered}
-use Rattle.mux_engine.specs.Rests.{HasNoMore, IsAlone}
-use Rattle.mux_engine.specs.Serving.{RunsOn, Serving, is_open}
-use Rattle.mux_engine.specs.Sides.{Housed, Resting, RestsOf, SameHouse, SamePlaces, Side}
-use Rattle.mux_engine.proofs.Counting.{more-none}
+use Rattle.mux_engine.specs.Rests.{EndsByAsk, EndsSo, HasAnswered, HasNoMore, HasNoMoreFor, IsReady, WaitsAlone}
+use Rattle.mux_engine.specs.Serving.{Serving, StaysOrFails, is_open}
+use Rattle.mux_engine.specs.Sides.{Housed, IsAlone, OrderedNothing, Resting, SaidNothing, SameHouse, SamePlaces, Side, StaysHouse, Together}
+use Rattle.mux_engine.specs.Wires.{NoFault, Works}
+use Rattle.mux_engine.specs.declared.room.Lists.{Lists}
+use Rattle.mux_engine.proofs.Comes.{over-house, over-live, over-offered}
+use Rattle.mux_engine.proofs.Counting.{more-none, stays-by-row}
 use Rattle.mux_engine.proofs.Handed.{housed-as}
 use Rattle.mux_engine.proofs.Lists.{among-less, among-open, apart-or-left, test-other, true-false, without-other}
 use Rattle.mux_engine.proofs.Places.{at-stream}
+use Rattle.mux_engine.proofs.Spoken.{row-live}
 use Rattle.mux_engine.proofs.Todo.{serve-todo}
+use Rattle.mux_engine.proofs.Wired.{works-any}
 
 -- ---- what is left to be offered
 
@@ -56,11 +65,6 @@ to-flush {May} {Rest} {before} {now} {policy} {pid} {start} {seen} {held} {faile
 pub a-turn : {May : HouseReply → Type 0} {Rest : Resting} {before : Option (List HouseMark)} {now : Side} {policy : Policy} {pid : ℕ} {start : Option (List Mark)} {seen : Seen} {held failed : List ℕ} {given : ℕ} {todo : List ℕ} {s : State} → Serving May Rest before now policy pid start seen held failed (given + 0) todo s → Serving May Rest before now policy pid start seen held failed given todo s
 a-turn {May} {Rest} {before} {now} {policy} {pid} {start} {seen} {held} {failed} {given} {todo} {s} v = subst (λ (n : ℕ). Serving May Rest before now policy pid start seen held failed n todo s) (more-none given) v
 
--- a house that is still there
-pub runs-same : {A E T : Type 0} (r : Result A E) (stands : T → List HouseCall → Type 0) (house house' : T) (May : HouseReply → Type 0) (told : T → Option (List HouseMark)) (known : T → Known) (quiet : T → Quiet) (must : T → Bool) (refused : T → Option ℕ) (now now' : List HouseCall → Side) (seen seen' : Seen) (held held' failed failed' : List ℕ) (most : ℕ) (more : A → ℕ) (todo : List ℕ) (rest : A → List ℕ) (s s' : State) (b b' : Bool) → b' ≡ b
-    → RunsOn r stands house house' May (RestsOf told known quiet must refused stands b') now now' seen seen' held held' failed failed' most more todo rest s s' → RunsOn r stands house house' May (RestsOf told known quiet must refused stands b) now now' seen seen' held held' failed failed' most more todo rest s s'
-runs-same r stands house house' May told known quiet must refused now now' seen seen' held held' failed failed' most more todo rest s s' b b' e h = subst (λ (x : Bool). RunsOn r stands house house' May (RestsOf told known quiet must refused stands x) now now' seen seen' held held' failed failed' most more todo rest s s') e h
-
 -- ---- the house
 
 pub housed-still : (known known' : Known) (seen seen' : Seen) (own : List ℕ) → SameHouse known known' → SamePlaces seen seen' → Housed known seen own → Housed known' seen' own
@@ -78,21 +82,107 @@ none-more known quiet queue seen held failed own out alone h = record {
 }
 
 -- where its last order and its last answer were taken
-pub no-more : (known : Known) (quiet quiet' : Quiet) (queue queue' : ℕ → List ℕ) (held failed own : List ℕ) → quiet'.orders ≡ true → quiet.answers ≡ true → quiet' ≡ quiet → ((t : ℕ) → queue' t ≡ queue t) → ((t : ℕ) → among t own ≡ true → IsOffered (queue t) held failed t) → HasNoMore known quiet' queue' held failed own
-no-more known quiet quiet' queue queue' held failed own orders answers same queues offered = record {
-  orders = λ present. orders;
-  answers = λ present. ap (λ (q : Quiet). q.answers) same ∙ answers;
-  offered = λ t a. subst (λ (l : List ℕ). IsOffered l held failed t) (sym (queues t)) (offered t a);
+pub no-more : (old new : HouseState) (lists lists' : Lists) → HasAnswered old lists → OrderedNothing old new lists lists' → HasNoMoreFor new lists'
+no-more old new lists lists' answered ordered = subst (λ (l : Lists). HasNoMoreFor new l) (sym ordered.still) record {
+  orders = λ present. ordered.orders;
+  answers = λ present. ap (λ (q : Quiet). q.answers) ordered.same.quiet ∙ answered.answers;
+  offered = λ t a. subst (λ (l : List ℕ). IsOffered l lists.held lists.failed t) (sym (ordered.same.queues t)) (answered.offered t a);
 }
+
+-- what is offered to others leaves it so
+pub no-more-held : (house : HouseState) (lists : Lists) (held : List ℕ) → ((t : ℕ) → among t lists.held ≡ true → among t held ≡ true) → HasNoMoreFor house lists → HasNoMore house.known house.quiet house.queue held lists.failed lists.own
+no-more-held house lists held holds h = record {
+  orders = h.orders;
+  answers = h.answers;
+  offered = λ t a. elim (h.offered t a) [ inl none ↦ inl none | inr (inl q) ↦ inr (inl (holds t q)) | inr (inr q) ↦ inr (inr q) ];
+}
+
+-- and it says nothing: it is at rest
+pub no-more-said : (old new : HouseState) (seen seen' : Seen) (s s' : State) (held failed own : List ℕ) → SameHouse old.known new.known → old.known.present ≡ true → HasNoMore old.known old.quiet old.queue held failed own → SaidNothing old new seen seen' s s' → IsReady new.known new.quiet new.queue held failed own s'
+no-more-said old new seen seen' s s' held failed own known there h said = record {
+  no_more = record {
+    orders = λ present. ap (λ (q : Quiet). q.orders) said.same.quiet ∙ h.orders there;
+    answers = λ present. ap (λ (q : Quiet). q.answers) said.same.quiet ∙ h.answers there;
+    offered = λ t a. subst (λ (l : List ℕ). IsOffered l held failed t) (sym (said.same.queues t)) (h.offered t a);
+  };
+  rests = λ present reads. all-quiet new.quiet said.says (ap (λ (q : Quiet). q.orders) said.same.quiet ∙ h.orders there) (ap (λ (q : Quiet). q.answers) said.same.quiet ∙ h.answers there);
+}
+  where
+    all-quiet : (q : Quiet) → q.says ≡ true → q.orders ≡ true → q.answers ≡ true → IsAtRest q
+    all-quiet q says orders answers = ap (λ (b : Bool). record { says = b; orders = q.orders; answers = q.answers }) says ∙ (ap (λ (b : Bool). record { says = true; orders = b; answers = q.answers }) orders ∙ ap (λ (b : Bool). record { says = true; orders = true; answers = b }) answers)
+
+-- ---- all of it together
+
+pub together-still : (old new : HouseState) (wire wire' : WireState) (lists lists' : Lists) → Together old wire lists → SameHouse old.known new.known → SamePlaces wire.seen wire'.seen → lists'.own ≡ lists.own → lists'.held ≡ wire'.seen.blocked → Together new wire' lists'
+together-still old new wire wire' lists lists' t known places own held_is = record {
+  housed = subst (λ (l : List ℕ). Housed new.known wire'.seen l) (sym own) (housed-still old.known new.known wire.seen wire'.seen lists.own known places t.housed);
+  alone = record { listeners = λ out. known.listeners ∙ t.alone.listeners (sym known.present ∙ out); streams = λ out. known.streams ∙ t.alone.streams (sym known.present ∙ out) };
+  held_is = held_is;
+}
+
+-- behind an order
+pub together-ordered : {A E : Type 0} (r : Result A E) (old new : HouseState) (wire : WireState) (lists : Lists) → old.known.present ≡ true → OnOk r (Housed new.known wire.seen lists.own) → StaysHouse r old new → OnOk r (lists.held ≡ wire.seen.blocked) → OnOk r (Together new wire lists)
+together-ordered (Ok x) old new wire lists there housed stays held_is = record { housed = housed; alone = present-alone new.known (stays.present ∙ there); held_is = held_is }
+together-ordered (Err e) old new wire lists there housed stays held_is = tt
+
+-- ---- how a run ends
+
+-- without a house that was let in no turn is taken
+pub waits-err : {E : Type 0} (r : Result Bool E) (old new : State) → IsErr r → WaitsAlone r old new
+waits-err (Ok x) old new e = true-false (sym e)
+waits-err (Err x) old new e = record { waits = λ is. let z : Err x ≡ Ok true = is in cc; idle = λ none. tt }
+
+-- it goes on
+pub ends-live : {A E : Type 0} (r : Result A E) (p : Bool) (o : Option Ended) (old new : WireState) (f f' : Faults) → o ≡ None → (p ≡ false → new.seen.last_own ≡ old.seen.last_own) → EndsSo r p o old new f f'
+ends-live (Ok x) p o old new f f' live unopened = record { failed = λ over. let z : None ≡ Some ended.ServerFailed = sym live ∙ over in cc; by_row = row-live o live; by_count = over-live p o old.calls new.calls live; unopened = unopened }
+ends-live (Err x) p o old new f f' live unopened = record { failed = tt; by_row = tt; by_count = tt; unopened = unopened }
+
+pub ends-err : {A E : Type 0} (r : Result A E) (p : Bool) (o : Option Ended) (old new : WireState) (f f' : Faults) → IsErr r → (p ≡ false → new.seen.last_own ≡ old.seen.last_own) → EndsSo r p o old new f f'
+ends-err (Ok x) p o old new f f' e unopened = true-false (sym e)
+ends-err (Err x) p o old new f f' e unopened = record { failed = tt; by_row = tt; by_count = tt; unopened = unopened }
+
+rose-as : (a b c : ℕ) → b ≡ a → Rose b c → Rose a c
+rose-as a b c e r = subst (λ (n : ℕ). Rose n c) e r
+
+-- what waits was offered to streams
+pub ends-offered : {A B E : Type 0} {x : B} (r : Result A E) (p : Bool) (o o' : Option Ended) (old mid new : WireState) (f g h : Faults) → o ≡ None → NoFault f g → StaysOrFails o o' g h → Works {B} {E} 0 (Ok x) mid new g h → (p ≡ false → new.seen.last_own ≡ old.seen.last_own) → EndsSo r p o' old new f h
+ends-offered (Ok y) p o o' old mid new f g h live none stays works unopened = record {
+  failed = λ over. elim stays [
+    | inl s ↦ absurd (let z : None ≡ Some ended.ServerFailed = sym live ∙ (sym s.0 ∙ over) in cc)
+    | inr s ↦ rose-as f.server g.server h.server none.server s.1
+  ];
+  by_row = stays-by-row o o' g h stays (row-live o live);
+  by_count = over-offered p o o' g h old.calls mid.calls new.calls stays (over-live p o old.calls mid.calls live) works.calls.came;
+  unopened = unopened;
+}
+ends-offered (Err y) p o o' old mid new f g h live none stays works unopened = record { failed = tt; by_row = tt; by_count = tt; unopened = unopened }
+
+-- a house that is there said something
+pub ends-said : {A E : Type 0} (r : Result A E) (p : Bool) (o : Option Ended) (old new : WireState) (f f' : Faults) → p ≡ true → OnOk r (EndsByAsk o) → EndsSo r p o old new f f'
+ends-said (Ok x) p o old new f f' there e = record { failed = λ over. absurd (e.lives over); by_row = e.by_row; by_count = over-house p o old.calls new.calls there e.by_house; unopened = λ out. true-false (sym there ∙ out) }
+ends-said (Err x) p o old new f f' there e = record { failed = tt; by_row = tt; by_count = tt; unopened = λ out. true-false (sym there ∙ out) }
 
 -- ---- results
 
 -- what is so of each value
-pub match-ok : {A E : Type 0} (r : Result A E) (P : A → Type 0) (Q : E → Type 0) (R : Type 0) → ((x : A) → P x → R) → MatchResult r P Q → OnOk r R
-match-ok (Ok x) P Q R f m = f x m
-match-ok (Err e) P Q R f m = tt
+pub all-ok : {A E P : Type 0} (r : Result A E) → P → OnOk r P
+all-ok (Ok x) p = p
+all-ok (Err e) p = tt
 
 -- what follows where it is false
-pub where-false : {E : Type 0} (r : Result Bool E) {X Y Z W V : Type 0} → (X → Y → Z → W → V) → IfOk r (λ more. more ≡ false → X) → IfOk r (λ more. more ≡ false → Y) → IfOk r (λ more. more ≡ false → Z) → IfOk r (λ more. more ≡ false → W) → IfOk r (λ more. more ≡ false → V)
-where-false (Ok b) f x y z w = λ e. f (x e) (y e) (z e) (w e)
-where-false (Err e) f x y z w = tt
+pub on-false : {E P Q : Type 0} (r : Result Bool E) → (P → Q) → IfOk r (λ more. more ≡ false → P) → IfOk r (λ more. more ≡ false → Q)
+on-false (Ok b) f h = λ e. f (h e)
+on-false (Err e) f h = tt
+
+-- it said nothing
+pub on-said : {E : Type 0} (r : Result Bool E) (old new : HouseState) (seen seen' : Seen) (s s' : State) (held failed own : List ℕ) → OnOk r (SameHouse old.known new.known) → old.known.present ≡ true → HasNoMore old.known old.quiet old.queue held failed own → IfOk r (λ more. more ≡ false → SaidNothing old new seen seen' s s')
+    → IfOk r (λ more. more ≡ false → s'.ended ≡ None → IsReady new.known new.quiet new.queue held failed own s')
+on-said (Ok b) old new seen seen' s s' held failed own known there h said = λ e live. no-more-said old new seen seen' s s' held failed own known there h (said e)
+on-said (Err e) old new seen seen' s s' held failed own known there h said = tt
+
+pub both-ways : {P E : Type 0} (r : Result Bool E) → r ≡ Ok true → r ≡ Ok false → P
+both-ways r e f = absurd (let z : Ok true ≡ Ok false = sym e ∙ f in cc)
+
+-- whichever value came
+pub works-again : {A B E F : Type 0} {n : ℕ} {x : A} {old new : WireState} {f f' : Faults} (r : Result B F) → Works {A} {E} n (Ok x) old new f f' → Works n r old new f f'
+works-again r w = works-any r (record { keeps = w.keeps; calls = w.calls })

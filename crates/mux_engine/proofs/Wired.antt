@@ -88,6 +88,13 @@ works-err (Err x) h w = record { keeps = w.keeps; calls = w.calls }
 pub works-own-err : {A B E F : Type 0} {e : E} {old new : WireState} {f f' : Faults} (r : Result B F) → IsErr r → WorksOwn {A = A} {E = E} (Err e) old new f f' → WorksOwn r old new f f'
 works-own-err r h w = record { works = works-err r h w.works; no_fault = w.no_fault }
 
+-- a call that ended well
+pub worked : {A E : Type 0} {x : A} {n : ℕ} {old new : WireState} {f f' : Faults} → Works {A = A} {E = E} n (Ok x) old new f f' → Worked n old new f f'
+worked w = record { keeps = w.keeps; calls = w.calls }
+
+pub worked-own : {A E : Type 0} {x : A} {old new : WireState} {f f' : Faults} → WorksOwn {A = A} {E = E} (Ok x) old new f f' → WorkedOwn old new f f'
+worked-own w = record { works = worked w.works; no_fault = w.no_fault }
+
 -- ---- one behind another
 
 pub no-fault-then : {f g h : Faults} → NoFault f g → NoFault g h → NoFault f h
@@ -151,6 +158,9 @@ pub works-own-behind : {A E : Type 0} {r : Result A E} {a b c : WireState} {f g 
 works-own-behind i w = works-own-then (works-own-idle done i) w
 
 -- ---- a call that changes only what is seen
+
+pub seen-is : {old new : WireState} → new ≡ old → new.seen ≡ old.seen
+seen-is e = ap (λ (x : WireState). x.seen) e
 
 pub untouched-seeing : {f f' : Faults} (change : Seen → Seen) (old new : WireState) → new ≡ seeing change old → NoFault f f' → Untouched old new f f'
 untouched-seeing change old new e none = record {

@@ -1,7 +1,8 @@
 ghost use Rattle.std.specs.Prelude.{◌≡◌, IfOk, OnOk, None};
 ghost use Rattle.mux_outside.specs.HouseCalls.{HandsOn, calls_of};
 ghost use Rattle.mux_machine.specs.Events.{went_of};
-ghost use Rattle.mux_engine.specs.Asking.{Heeded};
+ghost use Rattle.mux_engine.specs.Asking.{HeedsEvent};
+ghost use Rattle.mux_engine.specs.Wires.{Untouched};
 
 use mux_clients::AskLog;
 use mux_machine::{Engine, Event, Went};

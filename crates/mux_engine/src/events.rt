@@ -1,12 +1,12 @@
 ghost use Rattle.std.specs.Prelude.{List, ℕ};
 ghost use Rattle.ssh_fields.specs.Fields.{AreBytes};
 ghost use Rattle.mux_outside.specs.declared.turn.Turn.TheVariants.{Got, End, Writable, Failed};
-ghost use Rattle.mux_outside.specs.declared.mark.Mark.TheVariants.{Gets, Ends, Fails, WriteFails};
+ghost use Rattle.mux_outside.specs.declared.mark.Mark.TheVariants.{Gets, Fails, WriteFails};
 ghost use Rattle.mux_machine.specs.Events.{Tells};
 ghost use Rattle.mux_engine.specs.Turns.{IsNext};
 
 use mux_machine::Event;
-use mux_outside::{OwnTurn, Turn, is_own};
+use mux_outside::{OwnTurn, Turn, Whose, is_own};
 
 /// What a turn tells.
 #[derive(Clone, Copy)]
@@ -26,21 +26,9 @@ pub fn event_of_bytes<'a>(stream: u64, bytes: &'a [u8]) -> Event<'a>
     ensures tells { Tells result (Gets stream bytes.now) }
     ensures bytes { AreBytes bytes.now }
 {
-    if stream == 0 {
-        Event::FromServer(bytes)
-    } else {
-        Event::FromClient(stream, bytes)
-    }
-}
-
-// The event of a stream that gives no more.
-fn event_of_end<'a>(stream: u64) -> Event<'a>
-    ensures { Tells result (Ends stream) }
-{
-    if stream == 0 {
-        Event::ServerEnd
-    } else {
-        Event::ClientEnd(stream)
+    match Whose::of(stream) {
+        Whose::Server => Event::FromServer(bytes),
+        _ => Event::FromClient(stream, bytes),
     }
 }
 
@@ -49,10 +37,9 @@ pub fn event_of_fault<'a>(stream: u64) -> Event<'a>
     ensures wait { Tells result (Fails stream) }
     ensures write { Tells result (WriteFails stream) }
 {
-    if stream == 0 {
-        Event::ServerFailed
-    } else {
-        Event::ClientFailed(stream)
+    match Whose::of(stream) {
+        Whose::Server => Event::ServerFailed,
+        _ => Event::ClientFailed(stream),
     }
 }
 
@@ -71,10 +58,10 @@ fn next_of_bytes<'a>(stream: u64, bytes: &'a [u8]) -> Next<'a>
 fn next_of_end<'a>(stream: u64) -> Next<'a>
     ensures { (bytes : List ℕ) → IsNext result (End stream) bytes }
 {
-    if is_own(stream) {
-        Next::Own(OwnTurn::End(stream))
-    } else {
-        Next::Event(event_of_end(stream))
+    match Whose::of(stream) {
+        Whose::Server => Next::Event(Event::ServerEnd),
+        Whose::Client(client) => Next::Event(Event::ClientEnd(client)),
+        Whose::Own => Next::Own(OwnTurn::End(stream)),
     }
 }
 

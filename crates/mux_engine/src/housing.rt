@@ -1,25 +1,18 @@
-ghost use Rattle.std.specs.Prelude.{◌≡◌, ◌<◌, ℕ, Bool, true, false, List, [], ◌∷◌, length, IfOk, OnOk, Some, None, MatchResult, Ok, ◌≢◌, ◌≤◌, if◌then◌else◌};
-ghost use Rattle.std.specs.declared.option.Option.{Option};
-ghost use Rattle.mux_outside.specs.Streams.{among, without};
+ghost use Rattle.std.specs.Prelude.{◌≡◌, ℕ, true, false, List, [], ◌∷◌, IfOk, OnOk, None, Ok, if◌then◌else◌};
+ghost use Rattle.mux_outside.specs.Streams.{without};
 ghost use Rattle.mux_outside.specs.declared.house.HouseReply.{HouseReply as TheReply};
-ghost use Rattle.mux_outside.specs.declared.house_mark.HouseMark.{HouseMark as TheHouseMark};
 ghost use Rattle.mux_outside.specs.declared.mark.Mark.{Mark as TheMark};
-ghost use Rattle.mux_history.specs.declared.limits.TheConstants.{HOUSE as TheHouse};
-ghost use Rattle.mux_history.specs.declared.ended.Ended.TheVariants.{ServerFailed};
-ghost use Rattle.mux_history.specs.Journal.{is_accepted};
-ghost use Rattle.mux_history.specs.Policy.{Policy as ThePolicy};
-ghost use Rattle.mux_outside.specs.Counts.{Rose};
 ghost use Rattle.mux_outside.specs.declared.turn.Want.TheVariants.{Read as ToRead};
+ghost use Rattle.mux_history.specs.declared.limits.TheConstants.{HOUSE as TheHouse};
+ghost use Rattle.mux_history.specs.Journal.{is_accepted};
 ghost use Rattle.mux_machine.specs.Events.{here};
 ghost use Rattle.mux_machine.specs.Stands.{Stands};
-ghost use Rattle.mux_engine.specs.Came.{OverBy};
-ghost use Rattle.mux_engine.specs.Counted.{Counts};
 ghost use Rattle.mux_engine.specs.OwnFaults.{OwnCounted};
-ghost use Rattle.mux_engine.specs.Owned.{IsOffered};
-ghost use Rattle.mux_engine.specs.Rests.{EndsByAsk, HasNoMore, IsAlone, IsByRow, IsReady};
-ghost use Rattle.mux_engine.specs.Serving.{Promised, RunsOn, ServedWith, Serving};
-ghost use Rattle.mux_engine.specs.Sides.{Housed, RestsOf, SameHouse, SamePlaces, Side as TheSide, noted};
+ghost use Rattle.mux_engine.specs.Rests.{EndsByAsk, EndsSo, HasAnswered, HasNoMoreFor, IsReadyFor, WaitsAlone};
+ghost use Rattle.mux_engine.specs.Serving.{LetsIn, RunsOn, ServedWith, scene, scene_of};
+ghost use Rattle.mux_engine.specs.Sides.{AnsweredOr, OnlyAsked, SaidNothing, SameKnown, SamePlaces, SameStreams, StaysHouse, Together};
 ghost use Rattle.mux_engine.specs.Turns.{want_of};
+ghost use Rattle.mux_engine.specs.Wires.{IsIdle, Untouched, Works, WorksOwn};
 
 use crate::asking::heed;
 use crate::events::event_of_bytes;
@@ -120,8 +113,8 @@ fn reply<W: Wire, H: House>(
     Ok(true)
 }
 
-/// Hands the house and its streams all that waits for them, and takes in its replies that were to come
-/// later, until it has none.
+/// Hands the house and its streams all that waits for them, and takes in its replies that were to
+/// come later, until it has none.
 pub fn reply_all<W: Wire, H: House>(
     engine: &mut Engine,
     wire: &mut W,
@@ -173,8 +166,8 @@ pub fn wanted(engine: &Engine) -> Want
     }
 }
 
-// What the house says next as a client, while fewer than 4,194,304 bytes wait for the server: whether
-// it said something.
+// What the house says next as a client, while fewer than 4,194,304 bytes wait for the server:
+// whether it said something.
 fn speak<W: Wire, H: House>(
     alloc: Global,
     engine: &mut Engine,
@@ -231,7 +224,8 @@ fn ask_house<W: Wire, H: House>(
     requires on { engine.old.ended ≡ None }
     ensures serving { RunsOn result H.may H.state house.old house.new
         (scene (W.state wire.old) lists.old engine.old)
-        (scene (W.state wire.new) lists.new engine.new) 1 (λ more. if more then 1 else 0) (0 ∷ here engine.old)
+        (scene (W.state wire.new) lists.new engine.new) 1 (λ more. if more then 1 else 0)
+        (0 ∷ here engine.old)
         (λ more. 0 ∷ without TheHouse (here engine.new)) }
     ensures together { OnOk result (Together (H.state house.new) (W.state wire.new) lists.new) }
     ensures house { StaysHouse result (H.state house.old) (H.state house.new) }
@@ -250,9 +244,9 @@ fn ask_house<W: Wire, H: House>(
     next_order(wire, house, lists)
 }
 
-/// What a house does before a wait: whether it took a turn, for an order or for a piece that it said.
-/// Else each stream was offered what waits for it, and the house is ready for a wait, unless the run
-/// ended.
+/// What a house does before a wait: whether it took a turn, for an order or for a piece that it
+/// said. Else each stream was offered what waits for it, and the house is ready for a wait, unless
+/// the run ended.
 pub fn step_house<W: Wire, H: House>(
     alloc: Global,
     engine: &mut Engine,
@@ -267,7 +261,8 @@ pub fn step_house<W: Wire, H: House>(
     requires on { engine.old.ended ≡ None }
     ensures serving { RunsOn result H.may H.state house.old house.new
         (scene (W.state wire.old) lists.old engine.old)
-        (scene (W.state wire.new) lists.new engine.new) 1 (λ more. if more then 1 else 0) (0 ∷ here engine.old)
+        (scene (W.state wire.new) lists.new engine.new) 1 (λ more. if more then 1 else 0)
+        (0 ∷ here engine.old)
         (λ more. if more then 0 ∷ here engine.new else []) }
     ensures together { OnOk result (Together (H.state house.new) (W.state wire.new) lists.new) }
     ensures house { StaysHouse result (H.state house.old) (H.state house.new) }

@@ -1,13 +1,11 @@
-ghost use Rattle.std.specs.Prelude.{◌≡◌, ◌≤◌, ◌++◌, ℕ, true, false, List, IfOk, OnOk, OnErr, Some, if◌then◌else◌};
-ghost use Rattle.std.specs.Option.{option_map};
+ghost use Rattle.std.specs.Prelude.{◌≡◌, ℕ, true, false, List, IfOk, OnOk, Some, if◌then◌else◌};
 ghost use Rattle.mux_outside.specs.House.{order_marks};
-ghost use Rattle.mux_outside.specs.HouseCalls.{HandsOn, calls_of};
 ghost use Rattle.mux_outside.specs.declared.order.Order.TheVariants.{Connect as TheConnect};
 ghost use Rattle.mux_machine.specs.State.{State as TheState};
-ghost use Rattle.mux_engine.specs.Orders.{HasOrdered, IsMade, MadeBy, failed_carried, held_carried, known_carried, more_told, own_carried, seen_carried};
-ghost use Rattle.mux_engine.specs.OwnFaults.{OrderCounted, OwnCounted};
-ghost use Rattle.mux_engine.specs.Serving.{RunsOn};
-ghost use Rattle.mux_engine.specs.Sides.{Housed, RestsOf, noted, noting};
+ghost use Rattle.mux_engine.specs.Orders.{Carries, CarryCounted, HasOrdered, IsMade};
+ghost use Rattle.mux_engine.specs.Serving.{RunsFrom, RunsOn, scene};
+ghost use Rattle.mux_engine.specs.Sides.{Housed, OrderedNothing, StaysHouse, noting};
+ghost use Rattle.mux_engine.specs.Wires.{IsIdle, Untouched};
 
 use crate::room::Lists;
 use mux_outside::{FileError, House, HouseMark, Order, Wire};
@@ -24,8 +22,8 @@ fn made_by(made: Result<u64, FileError>) -> Result<Option<u64>, OutOfMemory>
     }
 }
 
-// Makes a stream that connects there, which is blocked until it is connected, and tells the house its
-// number.
+// Makes a stream that connects there, which is blocked until it is connected, and tells the house
+// its number.
 fn add_stream<W: Wire, H: House>(
     wire: &mut W,
     house: &mut H,

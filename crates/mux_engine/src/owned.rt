@@ -1,15 +1,13 @@
-ghost use Rattle.std.specs.Prelude.{◌≡◌, ◌<◌, ◌≤◌, ◌+◌, ◌++◌, ℕ, true, false, filter, length, List, None, OnOk, IfOk, IsTrue};
+ghost use Rattle.std.specs.Prelude.{◌≡◌, ◌<◌, ◌++◌, ◌∷◌, [], ℕ, true, false, filter, length, OnOk, IfOk, IsTrue};
 ghost use Rattle.ssh_fields.specs.Fields.{AreBytes};
-ghost use Rattle.mux_outside.specs.OwnStreams.{is_finished, is_one, is_own};
-ghost use Rattle.mux_outside.specs.Seen.{seen_after_write};
-ghost use Rattle.mux_outside.specs.CallCounts.{calls_after_write};
-ghost use Rattle.mux_outside.specs.Wire.{WroteFaults, WroteFits};
+ghost use Rattle.mux_outside.specs.OwnStreams.{is_finished};
 ghost use Rattle.mux_outside.specs.Streams.{among};
-ghost use Rattle.mux_engine.specs.Counted.{Counts};
-ghost use Rattle.mux_engine.specs.OwnFaults.{OwnCounted};
-ghost use Rattle.mux_engine.specs.Owned.{IsOffered, left_of, waits_for};
+ghost use Rattle.mux_outside.specs.Wire.{WroteFaults, WroteFits};
+ghost use Rattle.mux_outside.specs.WireState.{state_after_write};
+ghost use Rattle.mux_engine.specs.Owned.{FailsFurther, IsOffered, IsOpenOwn, OwnsStreams, StayOffered, TookOrOffered, waits_for};
 ghost use Rattle.mux_engine.specs.Serving.{OwnOn};
-ghost use Rattle.mux_engine.specs.Sides.{Housed, RestsOf, SamePlaces};
+ghost use Rattle.mux_engine.specs.Sides.{Housed, OnlyTook, SamePlaces};
+ghost use Rattle.mux_engine.specs.Wires.{WorksOwn};
 
 use mux_outside::{House, OwnTurn, Streams, Wire, Wrote};
 use ssh_fields::OutOfMemory;

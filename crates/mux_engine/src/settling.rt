@@ -1,20 +1,13 @@
-ghost use Rattle.std.specs.Prelude.{[], ◌∷◌, ◌++◌, ◌≡◌, ◌≢◌, ◌≤◌, ◌<◌, length, List, ℕ, Bool, true, false, None, OnOk, IfOk, IsTrue, if◌then◌else◌};
-ghost use Rattle.std.specs.declared.option.Option.{Option};
-ghost use Rattle.mux_outside.specs.House.{Known as TheKnown, Quiet as TheQuiet};
+ghost use Rattle.std.specs.Prelude.{[], ◌∷◌, ◌++◌, ◌≡◌, ◌≢◌, List, ℕ, true, false, None, OnOk, IfOk, IsTrue, if◌then◌else◌};
 ghost use Rattle.mux_outside.specs.OwnStreams.{is_one, is_own};
 ghost use Rattle.mux_outside.specs.Streams.{among, without};
-ghost use Rattle.mux_outside.specs.Wire.{SameFaults};
-ghost use Rattle.mux_outside.specs.declared.house_mark.HouseMark.{HouseMark as TheHouseMark};
-ghost use Rattle.mux_outside.specs.declared.mark.Mark.{Mark as TheMark};
-ghost use Rattle.mux_history.specs.Policy.{Policy as ThePolicy};
 ghost use Rattle.mux_history.specs.declared.limits.TheConstants.{HOUSE as TheHouse};
 ghost use Rattle.mux_machine.specs.Events.{here};
 ghost use Rattle.mux_machine.specs.State.{queue_in};
-ghost use Rattle.mux_engine.specs.Counted.{Counts};
-ghost use Rattle.mux_engine.specs.OwnFaults.{OwnCounted};
-ghost use Rattle.mux_engine.specs.Rests.{IsReady};
-ghost use Rattle.mux_engine.specs.Serving.{IsServed, Serving, ServesOn, StaysOrFails, is_open};
-ghost use Rattle.mux_engine.specs.Sides.{Housed, RestsOf, SamePlaces, Side as TheSide};
+ghost use Rattle.mux_engine.specs.Rests.{HasNoneToClose, StaysReady};
+ghost use Rattle.mux_engine.specs.Serving.{CanTakeMore, IsOfferedTo, IsServed, ServesOn, StaysOrFails, StaysServed, is_open};
+ghost use Rattle.mux_engine.specs.Sides.{SamePlaces};
+ghost use Rattle.mux_engine.specs.Wires.{IsIdle, NoFault, Works};
 
 use crate::events::event_of_fault;
 use mux_clients::AskLog;

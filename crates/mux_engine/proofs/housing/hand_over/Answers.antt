@@ -2,17 +2,18 @@ use Rattle.std.proofs.Common.{◌≤◌, ◌+◌, [], ◌∷◌, ◌++◌, sym, 
 use Rattle.mux_outside.specs.HouseCalls.{Hears}
 use Rattle.mux_outside.specs.Seen.{Seen}
 use Rattle.mux_outside.specs.Streams.{without}
+use Rattle.mux_outside.specs.WireState.{WireState}
 use Rattle.mux_outside.specs.declared.house_mark.HouseMark.TheVariants.{HouseTook}
 use Rattle.mux_history.specs.declared.limits.TheConstants.{HOUSE}
 use Rattle.mux_machine.specs.Events.{here}
-use Rattle.mux_engine.proofs.OwnFaults.{own-note, own-same}
 use Rattle.mux_engine.specs.Serving.{Serving}
 use Rattle.mux_engine.specs.Sides.{RestsOf, noted}
 use Rattle.mux_engine.proofs.Arms.{empty-is, on-err, some-bytes}
 use Rattle.mux_engine.proofs.Called.{handed-more, handed-none}
 use Rattle.mux_engine.proofs.Cuts.{cut-here}
-use Rattle.mux_engine.proofs.HouseCalls.{handed, no-turns}
+use Rattle.mux_engine.proofs.HouseCalls.{handed, no-turns, streams-note}
 use Rattle.mux_engine.proofs.HouseTakes.{house-idle}
+use Rattle.mux_engine.proofs.Wired.{idle-none, idle-note}
 use Rattle.mux_engine.proofs.housing.hand_over.Goals as goal
 
 pub returns-then-is_empty-clause-serving : goal.returns-then-is_empty-clause-serving
@@ -25,7 +26,7 @@ returns-in_err-takes-clause-serving g c held failed first calls before policy pi
 
 pub returns-in_err-note-clause-serving : goal.returns-in_err-note-clause-serving
 returns-in_err-note-clause-serving g c held failed first calls before policy pid start given hands v = on-err c.from_residual-in_err-note.result _ _ c.from_residual-in_err-note.ensures.0
-    (cut-here v _ _ _ (HouseTook (length c.queue_of-bytes.result.now) ∷ []) (ap (λ (x : Seen). x.told) c.in_err-note.ensures.seen) c.in_ok-takes.ensures.told refl (omega arith))
+    (cut-here v _ _ _ (HouseTook (length c.queue_of-bytes.result.now) ∷ []) (ap (λ (x : Seen). x.told) (ap (λ (x : WireState). x.seen) c.in_err-note.ensures.state)) c.in_ok-takes.ensures.told refl (omega arith))
 
 pub took-requires : goal.took-requires
 took-requires g c = subst (λ (b : List ℕ). length c.queue_of-bytes.result.now ≤ length b) c.queue_of-bytes.ensures.exact (le_refl _)
@@ -35,19 +36,25 @@ returns-clause-serving g c held failed first calls before policy pid start given
     let H = g.H.Asks in
     let bytes : List ℕ = c.queue_of-bytes.result.now in
     handed-more _ (Hears bytes ∷ []) hands c.in_ok-takes.ensures.stands
-    (subst (λ (x : Seen). Serving H.may (RestsOf H.state (H.state c.args.house.now).known.present first) before (noted (H.state c.takes.new.self).told (H.state c.takes.new.self).known (calls ++ Hears bytes ∷ [])) policy pid start x held failed (given + 0) (0 ∷ without HOUSE (here c.took.new.self)) c.took.new.self) (sym c.in_ok-note.ensures.seen)
+    (subst (λ (x : Seen). Serving H.may (RestsOf H.state (H.state c.args.house.now).known.present first) before (noted (H.state c.takes.new.self).told (H.state c.takes.new.self).known (calls ++ Hears bytes ∷ [])) policy pid start x held failed (given + 0) (0 ∷ without HOUSE (here c.took.new.self)) c.took.new.self) (sym (ap (λ (x : WireState). x.seen) c.in_ok-note.ensures.state))
     (no-turns (handed (H.state c.takes.new.self).known v c.took.new.self bytes c.in_ok-takes.ensures.told c.in_ok-takes.ensures.known c.queue_of-bytes.ensures.exact (some-bytes bytes (sym c.if-is_empty.ensures)) c.queue_of-bytes.ensures.waits c.took.ensures.exact (c.took.ensures.stands bytes refl))))
 
--- ---- own faults
+-- ---- the wire
 
-pub returns-then-is_empty-clause-own_faults : goal.returns-then-is_empty-clause-own_faults
-returns-then-is_empty-clause-own_faults g c = own-same _ _
+pub returns-in_err-note-clause-streams : goal.returns-in_err-note-clause-streams
+returns-in_err-note-clause-streams g c = streams-note c.note.result (HouseTook (length c.queue_of-bytes.result.now)) _ _ (ap (λ (x : WireState). x.seen) c.note.ensures.state)
 
-pub returns-in_err-takes-clause-own_faults : goal.returns-in_err-takes-clause-own_faults
-returns-in_err-takes-clause-own_faults g c = own-same _ _
+pub returns-clause-streams : goal.returns-clause-streams
+returns-clause-streams g c = streams-note c.note.result (HouseTook (length c.queue_of-bytes.result.now)) _ _ (ap (λ (x : WireState). x.seen) c.note.ensures.state)
 
-pub returns-in_err-note-clause-own_faults : goal.returns-in_err-note-clause-own_faults
-returns-in_err-note-clause-own_faults g c = own-note c.note.result (HouseTook (length c.queue_of-bytes.result.now)) _ _ _ _ refl c.note.ensures.seen c.note.ensures.own
+pub returns-then-is_empty-clause-wire : goal.returns-then-is_empty-clause-wire
+returns-then-is_empty-clause-wire g c = idle-none _ _
 
-pub returns-clause-own_faults : goal.returns-clause-own_faults
-returns-clause-own_faults g c = own-note c.note.result (HouseTook (length c.queue_of-bytes.result.now)) _ _ _ _ refl c.note.ensures.seen c.note.ensures.own
+pub returns-in_err-takes-clause-wire : goal.returns-in_err-takes-clause-wire
+returns-in_err-takes-clause-wire g c = idle-none _ _
+
+pub returns-in_err-note-clause-wire : goal.returns-in_err-note-clause-wire
+returns-in_err-note-clause-wire g c = idle-note c.note.result (HouseTook (length c.queue_of-bytes.result.now)) refl c.note.ensures.state c.note.ensures.faults
+
+pub returns-clause-wire : goal.returns-clause-wire
+returns-clause-wire g c = idle-note c.note.result (HouseTook (length c.queue_of-bytes.result.now)) refl c.note.ensures.state c.note.ensures.faults

@@ -1,183 +1,311 @@
-use Rattle.std.proofs.Common.{◌≡◌, ◌+◌, ◌∙◌, List, ◌∷◌, [], sym, ap, subst, Bool, true, false, cond, arith}
+use Rattle.std.proofs.Common.{◌≡◌, ◌≤◌, ◌∙◌, ◌∷◌, ◌++◌, [], sym, ap, refl, subst, cond, ℕ, Bool, true, false, List, arith}
 use Rattle.std.specs.Prelude.{Ok}
+use Rattle.mux_outside.specs.Streams.{without}
+use Rattle.mux_history.specs.declared.limits.TheConstants.{HOUSE}
 use Rattle.mux_machine.specs.Events.{here}
-use Rattle.mux_outside.specs.HouseCalls.{HouseCall}
-use Rattle.mux_engine.proofs.OwnFaults.{own-then}
-use Rattle.mux_engine.specs.Called.{Handed}
-use Rattle.mux_engine.specs.Rests.{EndsByAsk}
-use Rattle.mux_engine.specs.Serving.{Serving}
-use Rattle.mux_engine.specs.Sides.{RestsOf, noted}
-use Rattle.mux_engine.proofs.Called.{handed-so}
-use Rattle.mux_engine.proofs.HouseCalls.{no-turns}
-use Rattle.mux_engine.proofs.Arms.{on-err, on-ok}
-use Rattle.mux_engine.proofs.Runs.{promised-more}
-use Rattle.mux_engine.proofs.Spoken.{err-serves, ok-serves}
-use Rattle.mux_engine.proofs.Stepping.{handed-again, match-ok, runs-same, to-flush}
-use Rattle.mux_engine.proofs.Comes.{over-house, over-live, over-offered}
+use Rattle.mux_machine.specs.State.{State}
+use Rattle.mux_engine.specs.Serving.{Scene, scene, scene_of}
+use Rattle.mux_engine.specs.Sides.{SameHouse}
+use Rattle.mux_engine.proofs.Arms.{on-ok}
+use Rattle.mux_engine.proofs.Following.{RanOn, cut-then, is-served, ran-again, ran-then, ran-to-flush, runs-as, runs-cut, runs-then, served-then, serves-cut, serves-ran}
+use Rattle.mux_engine.proofs.HouseCalls.{same-house}
+use Rattle.mux_engine.proofs.Lists.{true-false}
+use Rattle.mux_engine.proofs.Places.{places-then}
+use Rattle.mux_engine.proofs.Stepping.{both-ways, ends-err, ends-live, ends-offered, ends-said, no-more-held, on-said, together-still, waits-err, works-again}
+use Rattle.mux_engine.proofs.Wired.{works-err, works-idle, works-then}
 use Rattle.mux_engine.proofs.housing.step_house.Goals as goal
 
 -- ---- an order
 
 pub returns-then-branch-clause-serving : goal.returns-then-branch-clause-serving
-returns-then-branch-clause-serving g c first calls before policy pid start given hands v =
+returns-then-branch-clause-serving g c =
     let H = g.H.Asks in
     let W = g.W.Wire in
+    let first = c.args.house.now in
+    let s0 : Scene = scene (W.state c.args.wire.now) c.args.lists.now c.args.engine.now in
+    let at0 : List ℕ = 0 ∷ here c.args.engine.now in
+    let h1 = c.ask_house.new.house in
+    let e1 = c.ask_house.new.engine in
+    let lists = c.ask_house.new.lists in
+    let s1 : Scene = scene (W.state c.ask_house.new.wire) lists e1 in
+    let at1 : List ℕ = 0 ∷ without HOUSE (here e1) in
     let is : c.ask_house.result ≡ Ok true = c.in_ok-ask_house.was ∙ ap (λ (b : Bool). Ok b) c.if-branch.true in
-    let h = ok-serves c.ask_house.result _ _ is (c.ask_house.ensures.serving first calls before policy pid start given hands v) in
-    handed-so h (handed-again h.so)
+    let ran1 : RanOn H.may H.state first h1 s0 s1 1 at0 at1 = runs-as H.may H.state c.ask_house.result (Ok true) first h1 s0 s1 1 (λ (more : Bool). cond more 1 0) at0 (λ (more : Bool). at1) is c.ask_house.ensures.serving in
+    ran-again H.may H.state first h1 s0 s1 1 at0 ran1
 
 pub returns-in_err-ask_house-clause-serving : goal.returns-in_err-ask_house-clause-serving
-returns-in_err-ask_house-clause-serving g c first calls before policy pid start given hands v = on-err c.from_residual.result _ _ c.from_residual.ensures.0
-    (err-serves c.ask_house.result _ _ c.in_err-ask_house.was (c.ask_house.ensures.serving first calls before policy pid start given hands v))
+returns-in_err-ask_house-clause-serving g c =
+    let H = g.H.Asks in
+    let W = g.W.Wire in
+    let first = c.args.house.now in
+    let s0 : Scene = scene (W.state c.args.wire.now) c.args.lists.now c.args.engine.now in
+    let at0 : List ℕ = 0 ∷ here c.args.engine.now in
+    let h1 = c.ask_house.new.house in
+    let e1 = c.ask_house.new.engine in
+    let lists = c.ask_house.new.lists in
+    let s1 : Scene = scene (W.state c.ask_house.new.wire) lists e1 in
+    let at1 : List ℕ = 0 ∷ without HOUSE (here e1) in
+    runs-cut H.may H.state c.from_residual.result first h1 s0 s1 1 1 (λ (more : Bool). cond more 1 0) at0 (λ (more : Bool). at1) c.from_residual.ensures.0 (omega arith) c.in_err-ask_house.ensures.serving
 
 -- ---- what waits is offered
 
-pub flush-requires-clause-served : goal.flush-requires-clause-served
-flush-requires-clause-served g c =
+pub flush-requires : goal.flush-requires
+flush-requires g c =
     let H = g.H.Asks in
     let W = g.W.Wire in
-    let house = c.ask_house.new.house in
+    let first = c.args.house.now in
+    let s0 : Scene = scene (W.state c.args.wire.now) c.args.lists.now c.args.engine.now in
+    let at0 : List ℕ = 0 ∷ here c.args.engine.now in
+    let h1 = c.ask_house.new.house in
+    let e1 = c.ask_house.new.engine in
     let lists = c.ask_house.new.lists in
+    let s1 : Scene = scene (W.state c.ask_house.new.wire) lists e1 in
+    let at1 : List ℕ = 0 ∷ without HOUSE (here e1) in
     let is : c.ask_house.result ≡ Ok false = c.in_ok-ask_house.was ∙ ap (λ (b : Bool). Ok b) c.if-branch.false in
-    let s = c.requires.served in
-    let h = ok-serves c.ask_house.result _ _ is (c.ask_house.ensures.serving s.first s.calls s.before s.policy s.pid s.start s.given s.hands s.serving) in
+    let ran1 : RanOn H.may H.state first h1 s0 s1 0 at0 at1 = runs-as H.may H.state c.ask_house.result (Ok false) first h1 s0 s1 1 (λ (more : Bool). cond more 1 0) at0 (λ (more : Bool). at1) is c.ask_house.ensures.serving in
+    let present1 = c.in_ok-ask_house.ensures.house.present in
+    let at_flush : List ℕ = 0 ∷ (without HOUSE (here e1) ++ []) in
+    let before : RanOn H.may H.state first h1 s0 s1 0 at0 at_flush = ran-to-flush H.may H.state first h1 s0 s1 at0 ran1 in
     record {
-      present = (H.state c.args.house.now).known.present;
-      first = s.first;
-      before = s.before;
-      now = noted (H.state house).told (H.state house).known h.all;
-      policy = s.policy;
-      pid = s.pid;
-      start = s.start;
-      failed = lists.failed;
-      given = s.given;
-      todo = _;
-      serving = (to-flush h.so);
+      served = is-served H.may H.state h1 s1 at_flush (served-then H.may H.state first h1 s0 s1 0 at0 at_flush present1 c.requires.served before);
+      numbered = c.in_ok-ask_house.ensures.together.housed.places.numbered;
     }
 
 pub returns-in_err-flush-clause-serving : goal.returns-in_err-flush-clause-serving
-returns-in_err-flush-clause-serving g c first calls before policy pid start given hands v =
+returns-in_err-flush-clause-serving g c =
     let H = g.H.Asks in
     let W = g.W.Wire in
-    let house = c.ask_house.new.house in
+    let first = c.args.house.now in
+    let s0 : Scene = scene (W.state c.args.wire.now) c.args.lists.now c.args.engine.now in
+    let at0 : List ℕ = 0 ∷ here c.args.engine.now in
+    let h1 = c.ask_house.new.house in
+    let e1 = c.ask_house.new.engine in
     let lists = c.ask_house.new.lists in
+    let s1 : Scene = scene (W.state c.ask_house.new.wire) lists e1 in
+    let at1 : List ℕ = 0 ∷ without HOUSE (here e1) in
     let is : c.ask_house.result ≡ Ok false = c.in_ok-ask_house.was ∙ ap (λ (b : Bool). Ok b) c.if-branch.false in
-    let h = ok-serves c.ask_house.result _ _ is (c.ask_house.ensures.serving first calls before policy pid start given hands v) in
-    on-err c.from_residual-in_err-flush.result _ _ c.from_residual-in_err-flush.ensures.0
-    (promised-more given (given + 1) (omega arith) (err-serves c.flush.result _ _ c.in_err-flush.was (c.flush.ensures.serving [] (H.state c.args.house.now).known.present first before (noted (H.state house).told (H.state house).known h.all) policy pid start lists.failed given (to-flush h.so))))
+    let ran1 : RanOn H.may H.state first h1 s0 s1 0 at0 at1 = runs-as H.may H.state c.ask_house.result (Ok false) first h1 s0 s1 1 (λ (more : Bool). cond more 1 0) at0 (λ (more : Bool). at1) is c.ask_house.ensures.serving in
+    let present1 = c.in_ok-ask_house.ensures.house.present in
+    let at_flush : List ℕ = 0 ∷ (without HOUSE (here e1) ++ []) in
+    let before : RanOn H.may H.state first h1 s0 s1 0 at0 at_flush = ran-to-flush H.may H.state first h1 s0 s1 at0 ran1 in
+    let s2 : Scene = scene_of (W.state c.flush.new.wire) c.flush.new.held lists.failed c.flush.new.engine in
+    runs-cut H.may H.state c.from_residual-in_err-flush.result first h1 s0 s2 0 1 (λ (more : Bool). cond more 1 0) at0 (λ (more : Bool). []) c.from_residual-in_err-flush.ensures.0 (omega arith)
+    (cut-then H.may H.state first h1 h1 s0 s1 s2 0 at0 at_flush present1 before
+    (serves-cut H.may H.state h1 s1.seen s2.seen s1.held s2.held lists.failed at_flush e1 c.flush.new.engine (c.in_err-flush.ensures.serving [])))
 
 -- ---- nothing is said
 
 pub returns-then-not-present-clause-serving : goal.returns-then-not-present-clause-serving
-returns-then-not-present-clause-serving g c first calls before policy pid start given hands v =
+returns-then-not-present-clause-serving g c =
     let H = g.H.Asks in
     let W = g.W.Wire in
-    let house = c.ask_house.new.house in
+    let first = c.args.house.now in
+    let s0 : Scene = scene (W.state c.args.wire.now) c.args.lists.now c.args.engine.now in
+    let at0 : List ℕ = 0 ∷ here c.args.engine.now in
+    let h1 = c.ask_house.new.house in
+    let e1 = c.ask_house.new.engine in
     let lists = c.ask_house.new.lists in
+    let s1 : Scene = scene (W.state c.ask_house.new.wire) lists e1 in
+    let at1 : List ℕ = 0 ∷ without HOUSE (here e1) in
     let is : c.ask_house.result ≡ Ok false = c.in_ok-ask_house.was ∙ ap (λ (b : Bool). Ok b) c.if-branch.false in
-    let h = ok-serves c.ask_house.result _ _ is (c.ask_house.ensures.serving first calls before policy pid start given hands v) in
-    handed-so h (no-turns (ok-serves c.flush.result _ _ c.in_ok-flush.was (c.flush.ensures.serving [] (H.state c.args.house.now).known.present first before (noted (H.state house).told (H.state house).known h.all) policy pid start lists.failed given (to-flush h.so))))
+    let ran1 : RanOn H.may H.state first h1 s0 s1 0 at0 at1 = runs-as H.may H.state c.ask_house.result (Ok false) first h1 s0 s1 1 (λ (more : Bool). cond more 1 0) at0 (λ (more : Bool). at1) is c.ask_house.ensures.serving in
+    let present1 = c.in_ok-ask_house.ensures.house.present in
+    let at_flush : List ℕ = 0 ∷ (without HOUSE (here e1) ++ []) in
+    let before : RanOn H.may H.state first h1 s0 s1 0 at0 at_flush = ran-to-flush H.may H.state first h1 s0 s1 at0 ran1 in
+    let s2 : Scene = scene_of (W.state c.flush.new.wire) c.flush.new.held lists.failed c.flush.new.engine in
+    let ran2 : RanOn H.may H.state first h1 s0 s2 0 at0 [] = ran-then H.may H.state first h1 h1 s0 s1 s2 0 at0 at_flush [] present1 before
+        (serves-ran H.may H.state h1 s1.seen s2.seen s1.held s2.held lists.failed at_flush [] e1 c.flush.new.engine (c.in_ok-flush.ensures.serving [])) in
+    ran2
+
+pub returns-then-not-present-clause-together : goal.returns-then-not-present-clause-together
+returns-then-not-present-clause-together g c =
+    let H = g.H.Asks in
+    let W = g.W.Wire in
+    let first = c.args.house.now in
+    let s0 : Scene = scene (W.state c.args.wire.now) c.args.lists.now c.args.engine.now in
+    let at0 : List ℕ = 0 ∷ here c.args.engine.now in
+    let h1 = c.ask_house.new.house in
+    let e1 = c.ask_house.new.engine in
+    let lists = c.ask_house.new.lists in
+    let s1 : Scene = scene (W.state c.ask_house.new.wire) lists e1 in
+    let at1 : List ℕ = 0 ∷ without HOUSE (here e1) in
+    let is : c.ask_house.result ≡ Ok false = c.in_ok-ask_house.was ∙ ap (λ (b : Bool). Ok b) c.if-branch.false in
+    let ran1 : RanOn H.may H.state first h1 s0 s1 0 at0 at1 = runs-as H.may H.state c.ask_house.result (Ok false) first h1 s0 s1 1 (λ (more : Bool). cond more 1 0) at0 (λ (more : Bool). at1) is c.ask_house.ensures.serving in
+    let present1 = c.in_ok-ask_house.ensures.house.present in
+    let at_flush : List ℕ = 0 ∷ (without HOUSE (here e1) ++ []) in
+    let before : RanOn H.may H.state first h1 s0 s1 0 at0 at_flush = ran-to-flush H.may H.state first h1 s0 s1 at0 ran1 in
+    let s2 : Scene = scene_of (W.state c.flush.new.wire) c.flush.new.held lists.failed c.flush.new.engine in
+    let ran2 : RanOn H.may H.state first h1 s0 s2 0 at0 [] = ran-then H.may H.state first h1 h1 s0 s1 s2 0 at0 at_flush [] present1 before
+        (serves-ran H.may H.state h1 s1.seen s2.seen s1.held s2.held lists.failed at_flush [] e1 c.flush.new.engine (c.in_ok-flush.ensures.serving [])) in
+    let w2 = served-then H.may H.state first h1 s0 s2 0 at0 [] present1 c.requires.served ran2 in
+    together-still (H.state h1) (H.state h1) (W.state c.ask_house.new.wire) (W.state c.flush.new.wire) lists (record lists { held = c.flush.new.held; todo = c.flush.new.todo; asks = c.flush.new.asks }) c.in_ok-ask_house.ensures.together (same-house _ _ refl) c.flush.ensures.places refl w2.serving.held_is
 
 -- ---- what it says
 
 pub returns-clause-serving : goal.returns-clause-serving
-returns-clause-serving g c first calls before policy pid start given hands v =
+returns-clause-serving g c =
     let H = g.H.Asks in
     let W = g.W.Wire in
-    let house = c.ask_house.new.house in
+    let first = c.args.house.now in
+    let s0 : Scene = scene (W.state c.args.wire.now) c.args.lists.now c.args.engine.now in
+    let at0 : List ℕ = 0 ∷ here c.args.engine.now in
+    let h1 = c.ask_house.new.house in
+    let e1 = c.ask_house.new.engine in
     let lists = c.ask_house.new.lists in
+    let s1 : Scene = scene (W.state c.ask_house.new.wire) lists e1 in
+    let at1 : List ℕ = 0 ∷ without HOUSE (here e1) in
     let is : c.ask_house.result ≡ Ok false = c.in_ok-ask_house.was ∙ ap (λ (b : Bool). Ok b) c.if-branch.false in
-    let h = ok-serves c.ask_house.result _ _ is (c.ask_house.ensures.serving first calls before policy pid start given hands v) in
-    (runs-same c.speak.result (H.state house).stands c.speak.new.house H.may H.told H.known H.quiet H.must H.refused (noted (H.state house).told (H.state house).known) (noted (H.state c.speak.new.house).told (H.state c.speak.new.house).known) (W.state c.flush.new.wire).seen (W.state c.speak.new.wire).seen c.flush.new.held c.flush.new.held lists.failed lists.failed 1 (λ (more : Bool). cond more 1 0) [] (λ (more : Bool). cond more (0 ∷ here c.speak.new.engine) []) c.flush.new.engine c.speak.new.engine (H.state c.args.house.now).known.present (H.state house).known.present c.in_ok-ask_house.ensures.present
-    (c.speak.ensures.serving c.flush.new.held lists.failed)) first h.all before policy pid start given h.hands (ok-serves c.flush.result _ _ c.in_ok-flush.was (c.flush.ensures.serving [] (H.state c.args.house.now).known.present first before (noted (H.state house).told (H.state house).known h.all) policy pid start lists.failed given (to-flush h.so)))
+    let ran1 : RanOn H.may H.state first h1 s0 s1 0 at0 at1 = runs-as H.may H.state c.ask_house.result (Ok false) first h1 s0 s1 1 (λ (more : Bool). cond more 1 0) at0 (λ (more : Bool). at1) is c.ask_house.ensures.serving in
+    let present1 = c.in_ok-ask_house.ensures.house.present in
+    let at_flush : List ℕ = 0 ∷ (without HOUSE (here e1) ++ []) in
+    let before : RanOn H.may H.state first h1 s0 s1 0 at0 at_flush = ran-to-flush H.may H.state first h1 s0 s1 at0 ran1 in
+    let s2 : Scene = scene_of (W.state c.flush.new.wire) c.flush.new.held lists.failed c.flush.new.engine in
+    let ran2 : RanOn H.may H.state first h1 s0 s2 0 at0 [] = ran-then H.may H.state first h1 h1 s0 s1 s2 0 at0 at_flush [] present1 before
+        (serves-ran H.may H.state h1 s1.seen s2.seen s1.held s2.held lists.failed at_flush [] e1 c.flush.new.engine (c.in_ok-flush.ensures.serving [])) in
+    let s3 : Scene = scene_of (W.state c.speak.new.wire) c.flush.new.held lists.failed c.speak.new.engine in
+    runs-then H.may H.state c.speak.result first h1 c.speak.new.house s0 s2 s3 1 (λ (more : Bool). cond more 1 0) at0 [] (λ (more : Bool). cond more (0 ∷ here c.speak.new.engine) []) present1 ran2 (c.speak.ensures.serving s2.held s2.failed)
 
-pub returns-clause-held_is : goal.returns-clause-held_is
-returns-clause-held_is g c =
+pub returns-clause-together : goal.returns-clause-together
+returns-clause-together g c =
     let H = g.H.Asks in
     let W = g.W.Wire in
-    let house = c.ask_house.new.house in
+    let first = c.args.house.now in
+    let s0 : Scene = scene (W.state c.args.wire.now) c.args.lists.now c.args.engine.now in
+    let at0 : List ℕ = 0 ∷ here c.args.engine.now in
+    let h1 = c.ask_house.new.house in
+    let e1 = c.ask_house.new.engine in
     let lists = c.ask_house.new.lists in
+    let s1 : Scene = scene (W.state c.ask_house.new.wire) lists e1 in
+    let at1 : List ℕ = 0 ∷ without HOUSE (here e1) in
     let is : c.ask_house.result ≡ Ok false = c.in_ok-ask_house.was ∙ ap (λ (b : Bool). Ok b) c.if-branch.false in
-    let s = c.requires.served in
-    let h = ok-serves c.ask_house.result _ _ is (c.ask_house.ensures.serving s.first s.calls s.before s.policy s.pid s.start s.given s.hands s.serving) in
-    match-ok c.speak.result (λ (more : Bool). Handed (H.state s.first).stands (H.state c.speak.new.house).stands (λ (all : List HouseCall). Serving H.may (RestsOf H.state (H.state c.args.house.now).known.present s.first) s.before (noted (H.state c.speak.new.house).told (H.state c.speak.new.house).known all) s.policy s.pid s.start (W.state c.speak.new.wire).seen c.flush.new.held lists.failed (s.given + cond more 1 0) (cond more (0 ∷ here c.speak.new.engine) []) c.speak.new.engine)) _ _ (λ (more : Bool) x. x.so.held_is) ((runs-same c.speak.result (H.state house).stands c.speak.new.house H.may H.told H.known H.quiet H.must H.refused (noted (H.state house).told (H.state house).known) (noted (H.state c.speak.new.house).told (H.state c.speak.new.house).known) (W.state c.flush.new.wire).seen (W.state c.speak.new.wire).seen c.flush.new.held c.flush.new.held lists.failed lists.failed 1 (λ (more : Bool). cond more 1 0) [] (λ (more : Bool). cond more (0 ∷ here c.speak.new.engine) []) c.flush.new.engine c.speak.new.engine (H.state c.args.house.now).known.present (H.state house).known.present c.in_ok-ask_house.ensures.present
-    (c.speak.ensures.serving c.flush.new.held lists.failed)) s.first h.all s.before s.policy s.pid s.start s.given h.hands (ok-serves c.flush.result _ _ c.in_ok-flush.was (c.flush.ensures.serving [] (H.state c.args.house.now).known.present s.first s.before (noted (H.state house).told (H.state house).known h.all) s.policy s.pid s.start lists.failed s.given (to-flush h.so))))
+    let ran1 : RanOn H.may H.state first h1 s0 s1 0 at0 at1 = runs-as H.may H.state c.ask_house.result (Ok false) first h1 s0 s1 1 (λ (more : Bool). cond more 1 0) at0 (λ (more : Bool). at1) is c.ask_house.ensures.serving in
+    let present1 = c.in_ok-ask_house.ensures.house.present in
+    let at_flush : List ℕ = 0 ∷ (without HOUSE (here e1) ++ []) in
+    let before : RanOn H.may H.state first h1 s0 s1 0 at0 at_flush = ran-to-flush H.may H.state first h1 s0 s1 at0 ran1 in
+    let s2 : Scene = scene_of (W.state c.flush.new.wire) c.flush.new.held lists.failed c.flush.new.engine in
+    let ran2 : RanOn H.may H.state first h1 s0 s2 0 at0 [] = ran-then H.may H.state first h1 h1 s0 s1 s2 0 at0 at_flush [] present1 before
+        (serves-ran H.may H.state h1 s1.seen s2.seen s1.held s2.held lists.failed at_flush [] e1 c.flush.new.engine (c.in_ok-flush.ensures.serving [])) in
+    let w2 = served-then H.may H.state first h1 s0 s2 0 at0 [] present1 c.requires.served ran2 in
+    let f = c.flush.ensures.places in
+    on-ok c.speak.result (λ (known : SameHouse (H.state h1).known (H.state c.speak.new.house).known). together-still (H.state h1) (H.state c.speak.new.house) (W.state c.ask_house.new.wire) (W.state c.speak.new.wire) lists (record lists { held = c.flush.new.held; todo = c.flush.new.todo; asks = c.speak.new.asks }) c.in_ok-ask_house.ensures.together known (places-then _ _ _ f c.speak.ensures.streams.places) refl (w2.serving.held_is ∙ sym c.speak.ensures.streams.blocked)) c.speak.ensures.house.known
 
-pub returns-clause-failed : goal.returns-clause-failed
-returns-clause-failed g c =
+pub returns-clause-house : goal.returns-clause-house
+returns-clause-house g c =
+    let H = g.H.Asks in
+    let h1 = c.ask_house.new.house in
+    record {
+      present = on-ok c.speak.result (λ (known : SameHouse (H.state h1).known (H.state c.speak.new.house).known). known.present ∙ c.in_ok-ask_house.ensures.house.present) c.speak.ensures.house.known;
+      must = c.speak.ensures.house.must ∙ c.ask_house.ensures.house.must;
+    }
+
+pub returns-clause-alone : goal.returns-clause-alone
+returns-clause-alone g c out =
+    let H = g.H.Asks in
+    let h1 = c.ask_house.new.house in
+    let there : (H.state h1).known.present ≡ true = sym c.present.ensures.present ∙ c.if-not-present.false in
+    true-false (sym there ∙ (c.in_ok-ask_house.ensures.house.present ∙ out))
+
+pub returns-clause-ended : goal.returns-clause-ended
+returns-clause-ended g c =
     let H = g.H.Asks in
     let W = g.W.Wire in
-    let house = c.ask_house.new.house in
+    let first = c.args.house.now in
+    let s0 : Scene = scene (W.state c.args.wire.now) c.args.lists.now c.args.engine.now in
+    let at0 : List ℕ = 0 ∷ here c.args.engine.now in
+    let h1 = c.ask_house.new.house in
+    let e1 = c.ask_house.new.engine in
     let lists = c.ask_house.new.lists in
+    let s1 : Scene = scene (W.state c.ask_house.new.wire) lists e1 in
+    let at1 : List ℕ = 0 ∷ without HOUSE (here e1) in
     let is : c.ask_house.result ≡ Ok false = c.in_ok-ask_house.was ∙ ap (λ (b : Bool). Ok b) c.if-branch.false in
-    let s = c.requires.served in
-    let h = ok-serves c.ask_house.result _ _ is (c.ask_house.ensures.serving s.first s.calls s.before s.policy s.pid s.start s.given s.hands s.serving) in
-    on-ok c.speak.result (λ (e : EndsByAsk c.speak.new.engine.ended) over. absurd (e.lives over)) (c.speak.ensures.ends c.flush.new.held lists.failed record { first = s.first; calls = h.all; hands = h.hands; before = s.before; policy = s.policy; pid = s.pid; start = s.start; given = s.given; serving = subst (λ (b : Bool). Serving H.may (RestsOf H.state b s.first) s.before (noted (H.state house).told (H.state house).known h.all) s.policy s.pid s.start (W.state c.flush.new.wire).seen c.flush.new.held lists.failed s.given [] c.flush.new.engine) (sym c.in_ok-ask_house.ensures.present) (ok-serves c.flush.result _ _ c.in_ok-flush.was (c.flush.ensures.serving [] (H.state c.args.house.now).known.present s.first s.before (noted (H.state house).told (H.state house).known h.all) s.policy s.pid s.start lists.failed s.given (to-flush h.so))) })
+    let ran1 : RanOn H.may H.state first h1 s0 s1 0 at0 at1 = runs-as H.may H.state c.ask_house.result (Ok false) first h1 s0 s1 1 (λ (more : Bool). cond more 1 0) at0 (λ (more : Bool). at1) is c.ask_house.ensures.serving in
+    let present1 = c.in_ok-ask_house.ensures.house.present in
+    let at_flush : List ℕ = 0 ∷ (without HOUSE (here e1) ++ []) in
+    let before : RanOn H.may H.state first h1 s0 s1 0 at0 at_flush = ran-to-flush H.may H.state first h1 s0 s1 at0 ran1 in
+    let s2 : Scene = scene_of (W.state c.flush.new.wire) c.flush.new.held lists.failed c.flush.new.engine in
+    let ran2 : RanOn H.may H.state first h1 s0 s2 0 at0 [] = ran-then H.may H.state first h1 h1 s0 s1 s2 0 at0 at_flush [] present1 before
+        (serves-ran H.may H.state h1 s1.seen s2.seen s1.held s2.held lists.failed at_flush [] e1 c.flush.new.engine (c.in_ok-flush.ensures.serving [])) in
+    let w2 = served-then H.may H.state first h1 s0 s2 0 at0 [] present1 c.requires.served ran2 in
+    let there : (H.state h1).known.present ≡ true = sym c.present.ensures.present ∙ c.if-not-present.false in
+    ends-said c.speak.result (H.state first).known.present c.speak.new.engine.ended (W.state c.args.wire.now) (W.state c.speak.new.wire) (W.faults c.args.wire.now) (W.faults c.speak.new.wire) (sym present1 ∙ there) (c.speak.ensures.ends s2.held s2.failed w2)
 
-pub returns-clause-by_row : goal.returns-clause-by_row
-returns-clause-by_row g c =
+pub returns-clause-ready : goal.returns-clause-ready
+returns-clause-ready g c =
     let H = g.H.Asks in
     let W = g.W.Wire in
-    let house = c.ask_house.new.house in
+    let h1 = c.ask_house.new.house in
     let lists = c.ask_house.new.lists in
-    let is : c.ask_house.result ≡ Ok false = c.in_ok-ask_house.was ∙ ap (λ (b : Bool). Ok b) c.if-branch.false in
-    let s = c.requires.served in
-    let h = ok-serves c.ask_house.result _ _ is (c.ask_house.ensures.serving s.first s.calls s.before s.policy s.pid s.start s.given s.hands s.serving) in
-    on-ok c.speak.result (λ (e : EndsByAsk c.speak.new.engine.ended). e.by_row) (c.speak.ensures.ends c.flush.new.held lists.failed record { first = s.first; calls = h.all; hands = h.hands; before = s.before; policy = s.policy; pid = s.pid; start = s.start; given = s.given; serving = subst (λ (b : Bool). Serving H.may (RestsOf H.state b s.first) s.before (noted (H.state house).told (H.state house).known h.all) s.policy s.pid s.start (W.state c.flush.new.wire).seen c.flush.new.held lists.failed s.given [] c.flush.new.engine) (sym c.in_ok-ask_house.ensures.present) (ok-serves c.flush.result _ _ c.in_ok-flush.was (c.flush.ensures.serving [] (H.state c.args.house.now).known.present s.first s.before (noted (H.state house).told (H.state house).known h.all) s.policy s.pid s.start lists.failed s.given (to-flush h.so))) })
+    let there : (H.state h1).known.present ≡ true = sym c.present.ensures.present ∙ c.if-not-present.false in
+    let ready = c.in_ok-ask_house.ensures.ready c.if-branch.false in
+    on-said c.speak.result (H.state h1) (H.state c.speak.new.house) (W.state c.flush.new.wire).seen (W.state c.speak.new.wire).seen c.flush.new.engine c.speak.new.engine c.flush.new.held lists.failed lists.own c.speak.ensures.house.known there (no-more-held (H.state h1) lists c.flush.new.held c.in_ok-flush.ensures.holds ready) c.speak.ensures.silent
 
-pub returns-clause-ended_by : goal.returns-clause-ended_by
-returns-clause-ended_by g c =
+-- ---- how the run ends
+
+pub returns-in_err-ask_house-clause-alone : goal.returns-in_err-ask_house-clause-alone
+returns-in_err-ask_house-clause-alone g c out = waits-err c.from_residual.result _ _ c.from_residual.ensures.0
+
+pub returns-in_err-flush-clause-alone : goal.returns-in_err-flush-clause-alone
+returns-in_err-flush-clause-alone g c out = waits-err c.from_residual-in_err-flush.result _ _ c.from_residual-in_err-flush.ensures.0
+
+pub returns-then-branch-clause-alone : goal.returns-then-branch-clause-alone
+returns-then-branch-clause-alone g c out = both-ways c.ask_house.result (c.in_ok-ask_house.was ∙ ap (λ (b : Bool). Ok b) c.if-branch.true) (c.ask_house.ensures.none out).3
+
+pub returns-then-not-present-clause-alone : goal.returns-then-not-present-clause-alone
+returns-then-not-present-clause-alone g c out = record {
+  waits = λ is. let z : Ok false ≡ Ok true = is in cc;
+  idle = λ none. ap (λ (s : State). s.ended) (c.flush.ensures.idle (ap (λ (s : State). s.waiting) (c.ask_house.ensures.none out).1 ∙ none)).0 ∙ c.in_ok-ask_house.ensures.on;
+}
+
+pub returns-in_err-ask_house-clause-ended : goal.returns-in_err-ask_house-clause-ended
+returns-in_err-ask_house-clause-ended g c = ends-err c.from_residual.result (g.H.Asks.state c.args.house.now).known.present c.ask_house.new.engine.ended (g.W.Wire.state c.args.wire.now) (g.W.Wire.state c.ask_house.new.wire) (g.W.Wire.faults c.args.wire.now) (g.W.Wire.faults c.ask_house.new.wire) c.from_residual.ensures.0 (λ out. ap (λ (w : _). (g.W.Wire.state w).seen.last_own) (c.ask_house.ensures.none out).2)
+
+pub returns-then-branch-clause-ended : goal.returns-then-branch-clause-ended
+returns-then-branch-clause-ended g c = ends-live (Ok true) (g.H.Asks.state c.args.house.now).known.present c.ask_house.new.engine.ended (g.W.Wire.state c.args.wire.now) (g.W.Wire.state c.ask_house.new.wire) (g.W.Wire.faults c.args.wire.now) (g.W.Wire.faults c.ask_house.new.wire) c.in_ok-ask_house.ensures.on (λ out. ap (λ (w : _). (g.W.Wire.state w).seen.last_own) (c.ask_house.ensures.none out).2)
+
+pub returns-in_err-flush-clause-ended : goal.returns-in_err-flush-clause-ended
+returns-in_err-flush-clause-ended g c = ends-err c.from_residual-in_err-flush.result (g.H.Asks.state c.args.house.now).known.present c.flush.new.engine.ended (g.W.Wire.state c.args.wire.now) (g.W.Wire.state c.flush.new.wire) (g.W.Wire.faults c.args.wire.now) (g.W.Wire.faults c.flush.new.wire) c.from_residual-in_err-flush.ensures.0 (λ out. c.flush.ensures.places.last_own ∙ ap (λ (w : _). (g.W.Wire.state w).seen.last_own) (c.ask_house.ensures.none out).2)
+
+pub returns-then-not-present-clause-ended : goal.returns-then-not-present-clause-ended
+returns-then-not-present-clause-ended g c = let W = g.W.Wire in
+    ends-offered (Ok false) (g.H.Asks.state c.args.house.now).known.present c.ask_house.new.engine.ended c.flush.new.engine.ended (W.state c.args.wire.now) (W.state c.ask_house.new.wire) (W.state c.flush.new.wire) (W.faults c.args.wire.now) (W.faults c.ask_house.new.wire) (W.faults c.flush.new.wire) c.in_ok-ask_house.ensures.on c.ask_house.ensures.wire.no_fault c.in_ok-flush.ensures.ended c.in_ok-flush.ensures.wire (λ out. c.flush.ensures.places.last_own ∙ ap (λ (w : _). (g.W.Wire.state w).seen.last_own) (c.ask_house.ensures.none out).2)
+
+-- ---- the wire
+
+pub returns-in_err-ask_house-clause-wire : goal.returns-in_err-ask_house-clause-wire
+returns-in_err-ask_house-clause-wire g c = works-err c.from_residual.result c.from_residual.ensures.0 c.in_err-ask_house.ensures.wire.works
+
+pub returns-then-branch-clause-wire : goal.returns-then-branch-clause-wire
+returns-then-branch-clause-wire g c = works-again (Ok true) c.in_ok-ask_house.ensures.wire.works
+
+pub returns-in_err-flush-clause-wire : goal.returns-in_err-flush-clause-wire
+returns-in_err-flush-clause-wire g c = works-then c.in_ok-ask_house.ensures.wire.works (works-err c.from_residual-in_err-flush.result c.from_residual-in_err-flush.ensures.0 c.in_err-flush.ensures.wire)
+
+pub returns-then-not-present-clause-wire : goal.returns-then-not-present-clause-wire
+returns-then-not-present-clause-wire g c = works-then c.in_ok-ask_house.ensures.wire.works (works-again (Ok false) c.in_ok-flush.ensures.wire)
+
+pub returns-clause-wire : goal.returns-clause-wire
+returns-clause-wire g c =
     let H = g.H.Asks in
     let W = g.W.Wire in
-    let house = c.ask_house.new.house in
+    let first = c.args.house.now in
+    let s0 : Scene = scene (W.state c.args.wire.now) c.args.lists.now c.args.engine.now in
+    let at0 : List ℕ = 0 ∷ here c.args.engine.now in
+    let h1 = c.ask_house.new.house in
+    let e1 = c.ask_house.new.engine in
     let lists = c.ask_house.new.lists in
+    let s1 : Scene = scene (W.state c.ask_house.new.wire) lists e1 in
+    let at1 : List ℕ = 0 ∷ without HOUSE (here e1) in
     let is : c.ask_house.result ≡ Ok false = c.in_ok-ask_house.was ∙ ap (λ (b : Bool). Ok b) c.if-branch.false in
-    let s = c.requires.served in
-    let h = ok-serves c.ask_house.result _ _ is (c.ask_house.ensures.serving s.first s.calls s.before s.policy s.pid s.start s.given s.hands s.serving) in
-    on-ok c.speak.result (λ (e : EndsByAsk c.speak.new.engine.ended). over-house (H.state c.args.house.now).known.present c.speak.new.engine.ended (W.state c.args.wire.now).calls (W.state c.speak.new.wire).calls (sym c.in_ok-ask_house.ensures.present ∙ (sym c.present.ensures.present ∙ c.if-not-present.false)) e.by_house) (c.speak.ensures.ends c.flush.new.held lists.failed record { first = s.first; calls = h.all; hands = h.hands; before = s.before; policy = s.policy; pid = s.pid; start = s.start; given = s.given; serving = subst (λ (b : Bool). Serving H.may (RestsOf H.state b s.first) s.before (noted (H.state house).told (H.state house).known h.all) s.policy s.pid s.start (W.state c.flush.new.wire).seen c.flush.new.held lists.failed s.given [] c.flush.new.engine) (sym c.in_ok-ask_house.ensures.present) (ok-serves c.flush.result _ _ c.in_ok-flush.was (c.flush.ensures.serving [] (H.state c.args.house.now).known.present s.first s.before (noted (H.state house).told (H.state house).known h.all) s.policy s.pid s.start lists.failed s.given (to-flush h.so))) })
-
-pub returns-then-not-present-clause-ended_by : goal.returns-then-not-present-clause-ended_by
-returns-then-not-present-clause-ended_by g c = let W = g.W.Wire in let p = (g.H.Asks.state c.args.house.now).known.present in let f = c.in_ok-flush.ensures in
-    over-offered p c.ask_house.new.engine.ended c.flush.new.engine.ended _ _ (W.state c.args.wire.now).calls (W.state c.ask_house.new.wire).calls (W.state c.flush.new.wire).calls f.ended
-    (over-live p c.ask_house.new.engine.ended (W.state c.args.wire.now).calls (W.state c.ask_house.new.wire).calls c.in_ok-ask_house.ensures.on) f.calls.came
-
-pub returns-then-branch-clause-ended_by : goal.returns-then-branch-clause-ended_by
-returns-then-branch-clause-ended_by g c = let W = g.W.Wire in over-live (g.H.Asks.state c.args.house.now).known.present c.ask_house.new.engine.ended (W.state c.args.wire.now).calls (W.state c.ask_house.new.wire).calls c.in_ok-ask_house.ensures.on
-
-pub returns-then-not-present-clause-held_is : goal.returns-then-not-present-clause-held_is
-returns-then-not-present-clause-held_is g c =
-    let H = g.H.Asks in
-    let W = g.W.Wire in
-    let house = c.ask_house.new.house in
-    let lists = c.ask_house.new.lists in
-    let is : c.ask_house.result ≡ Ok false = c.in_ok-ask_house.was ∙ ap (λ (b : Bool). Ok b) c.if-branch.false in
-    let s = c.requires.served in
-    let h = ok-serves c.ask_house.result _ _ is (c.ask_house.ensures.serving s.first s.calls s.before s.policy s.pid s.start s.given s.hands s.serving) in
-    let x = (ok-serves c.flush.result _ _ c.in_ok-flush.was (c.flush.ensures.serving [] (H.state c.args.house.now).known.present s.first s.before (noted (H.state house).told (H.state house).known h.all) s.policy s.pid s.start lists.failed s.given (to-flush h.so))) in x.held_is
-
--- ---- own faults
-
-pub returns-in_err-flush-clause-own_faults : goal.returns-in_err-flush-clause-own_faults
-returns-in_err-flush-clause-own_faults g c = own-then _ _ _ _ _ _ c.ask_house.ensures.own_faults c.flush.ensures.own_faults
-
-pub returns-then-not-present-clause-own_faults : goal.returns-then-not-present-clause-own_faults
-returns-then-not-present-clause-own_faults g c = own-then _ _ _ _ _ _ c.ask_house.ensures.own_faults c.flush.ensures.own_faults
-
-pub returns-then-branch-clause-own_faults : goal.returns-then-branch-clause-own_faults
-returns-then-branch-clause-own_faults g c = c.ask_house.ensures.own_faults
-
-pub returns-in_err-ask_house-clause-own_faults : goal.returns-in_err-ask_house-clause-own_faults
-returns-in_err-ask_house-clause-own_faults g c = c.ask_house.ensures.own_faults
-
-pub returns-clause-own_faults : goal.returns-clause-own_faults
-returns-clause-own_faults g c =
-    let H = g.H.Asks in
-    let W = g.W.Wire in
-    let house = c.ask_house.new.house in
-    let lists = c.ask_house.new.lists in
-    let is : c.ask_house.result ≡ Ok false = c.in_ok-ask_house.was ∙ ap (λ (b : Bool). Ok b) c.if-branch.false in
-    let s = c.requires.served in
-    let h = ok-serves c.ask_house.result _ _ is (c.ask_house.ensures.serving s.first s.calls s.before s.policy s.pid s.start s.given s.hands s.serving) in
-    let x = (ok-serves c.flush.result _ _ c.in_ok-flush.was (c.flush.ensures.serving [] (H.state c.args.house.now).known.present s.first s.before (noted (H.state house).told (H.state house).known h.all) s.policy s.pid s.start lists.failed s.given (to-flush h.so))) in
-    own-then _ _ _ _ _ _ (own-then _ _ _ _ _ _ c.ask_house.ensures.own_faults c.flush.ensures.own_faults)
-    (c.speak.ensures.own_faults x.picked x.replies x.journal x.closed x.stands (x.house_in ∙ (sym c.present.ensures.present ∙ c.if-not-present.false)))
+    let ran1 : RanOn H.may H.state first h1 s0 s1 0 at0 at1 = runs-as H.may H.state c.ask_house.result (Ok false) first h1 s0 s1 1 (λ (more : Bool). cond more 1 0) at0 (λ (more : Bool). at1) is c.ask_house.ensures.serving in
+    let present1 = c.in_ok-ask_house.ensures.house.present in
+    let at_flush : List ℕ = 0 ∷ (without HOUSE (here e1) ++ []) in
+    let before : RanOn H.may H.state first h1 s0 s1 0 at0 at_flush = ran-to-flush H.may H.state first h1 s0 s1 at0 ran1 in
+    let s2 : Scene = scene_of (W.state c.flush.new.wire) c.flush.new.held lists.failed c.flush.new.engine in
+    let ran2 : RanOn H.may H.state first h1 s0 s2 0 at0 [] = ran-then H.may H.state first h1 h1 s0 s1 s2 0 at0 at_flush [] present1 before
+        (serves-ran H.may H.state h1 s1.seen s2.seen s1.held s2.held lists.failed at_flush [] e1 c.flush.new.engine (c.in_ok-flush.ensures.serving [])) in
+    let w2 = served-then H.may H.state first h1 s0 s2 0 at0 [] present1 c.requires.served ran2 in
+    let x = w2.serving in
+    works-then c.in_ok-ask_house.ensures.wire.works (works-then c.in_ok-flush.ensures.wire (works-idle c.speak.result (record {
+      untouched = c.speak.ensures.wire;
+      own_faults = c.speak.ensures.counted x.picked x.replies x.journal x.closed x.stands (x.house_in ∙ (sym c.present.ensures.present ∙ c.if-not-present.false));
+    })))

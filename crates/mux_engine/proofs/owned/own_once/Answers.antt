@@ -6,11 +6,12 @@ use Rattle.mux_outside.specs.HouseCalls.{Failed, Turns}
 use Rattle.mux_outside.specs.HouseCalls as call
 use Rattle.mux_engine.proofs.Arms.{on-err, some-bytes}
 use Rattle.mux_engine.proofs.Called.{handed-more, handed-none}
-use Rattle.mux_engine.proofs.Left.{fewer-left}
 use Rattle.mux_engine.proofs.Offers.{cut-fails, cut-holds, cut-starved}
-use Rattle.mux_engine.proofs.OwnFaults.{own-same}
 use Rattle.mux_engine.proofs.OwnMarks.{own-fails, own-holds, own-takes}
 use Rattle.mux_engine.proofs.Owns.{taking}
+use Rattle.mux_engine.proofs.Owning.{fails-none, fails-one, took-any}
+use Rattle.mux_engine.proofs.Wired.{seen-is, works-own-none, works-own-starved, works-own-write}
+use Rattle.mux_outside.specs.declared.turn.Wrote.TheVariants as wrote
 use Rattle.mux_engine.proofs.owned.own_once.Goals as goal
 
 -- where something waits for a stream it is not finished
@@ -24,60 +25,74 @@ unfinished k bytes known same finished some = ap (is_finished k) (sym same) ∙ 
 pub returns-in-Took-clause-serving : goal.returns-in-Took-clause-serving
 returns-in-Took-clause-serving g c present first before now policy pid start given todo s none hands v =
     handed-more _ (call.Takes c.args.stream c.in-Took.n ∷ []) hands c.took.ensures.stands
-    (own-takes v c.args.stream c.requires.own c.requires.stream_open c.in-Took.n c.queue_of-bytes.result.now _ (unfinished _ _ _ c.requires.same c.queue_of-bytes.ensures.finished (some-bytes c.queue_of-bytes.result.now (sym c.if-is_empty.ensures))) none c.in-Took.ensures.bytes (some-bytes c.queue_of-bytes.result.now (sym c.if-is_empty.ensures)) c.in-Took.ensures.wrote c.in-Took.ensures.seen)
+    (own-takes v c.args.stream c.requires.stream.own c.requires.stream.stream_open c.in-Took.n c.queue_of-bytes.result.now _ (unfinished _ _ _ c.requires.knows.same c.queue_of-bytes.ensures.finished (some-bytes c.queue_of-bytes.result.now (sym c.if-is_empty.ensures))) none c.in-Took.ensures.bytes (some-bytes c.queue_of-bytes.result.now (sym c.if-is_empty.ensures)) c.in-Took.ensures.wrote (seen-is c.in-Took.ensures.state))
 
 pub returns-in_ok-push-in-Later-clause-serving : goal.returns-in_ok-push-in-Later-clause-serving
 returns-in_ok-push-in-Later-clause-serving g c present first before now policy pid start given todo s none hands v =
-    handed-none _ hands (own-holds v c.args.stream c.requires.own c.requires.stream_open c.queue_of-bytes.result.now _ _ (unfinished _ _ _ c.requires.same c.queue_of-bytes.ensures.finished (some-bytes c.queue_of-bytes.result.now (sym c.if-is_empty.ensures))) c.in-Later.ensures.bytes (some-bytes c.queue_of-bytes.result.now (sym c.if-is_empty.ensures)) c.in-Later.ensures.seen c.in_ok-push-in-Later.ensures.ok)
+    handed-none _ hands (own-holds v c.args.stream c.requires.stream.own c.requires.stream.stream_open c.queue_of-bytes.result.now _ _ (unfinished _ _ _ c.requires.knows.same c.queue_of-bytes.ensures.finished (some-bytes c.queue_of-bytes.result.now (sym c.if-is_empty.ensures))) c.in-Later.ensures.bytes (some-bytes c.queue_of-bytes.result.now (sym c.if-is_empty.ensures)) (seen-is c.in-Later.ensures.state) c.in_ok-push-in-Later.ensures.ok)
 
 pub returns-in_err-push-in-Later-clause-serving : goal.returns-in_err-push-in-Later-clause-serving
 returns-in_err-push-in-Later-clause-serving g c present first before now policy pid start given todo s none hands v = on-err c.from_residual.result _ _ c.from_residual.ensures.0
-    (cut-holds v _ c.args.stream c.queue_of-bytes.result.now (taking _ v.journal v.places c.args.stream c.requires.stream_open (unfinished _ _ _ c.requires.same c.queue_of-bytes.ensures.finished (some-bytes c.queue_of-bytes.result.now (sym c.if-is_empty.ensures)))) c.requires.stream_open c.in-Later.ensures.bytes (some-bytes c.queue_of-bytes.result.now (sym c.if-is_empty.ensures)) c.in-Later.ensures.seen)
+    (cut-holds v _ c.args.stream c.queue_of-bytes.result.now (taking _ v.journal v.places c.args.stream c.requires.stream.stream_open (unfinished _ _ _ c.requires.knows.same c.queue_of-bytes.ensures.finished (some-bytes c.queue_of-bytes.result.now (sym c.if-is_empty.ensures)))) c.requires.stream.stream_open c.in-Later.ensures.bytes (some-bytes c.queue_of-bytes.result.now (sym c.if-is_empty.ensures)) (seen-is c.in-Later.ensures.state))
 
 pub returns-in_ok-turn-in-Failed-clause-serving : goal.returns-in_ok-turn-in-Failed-clause-serving
 returns-in_ok-turn-in-Failed-clause-serving g c present first before now policy pid start given todo s none hands v =
     handed-more _ (Turns (Failed c.args.stream) ∷ []) hands c.in_ok-turn-in-Failed.ensures.stands
-    (own-fails v c.args.stream c.requires.own c.requires.stream_open c.queue_of-bytes.result.now _ _ (unfinished _ _ _ c.requires.same c.queue_of-bytes.ensures.finished (some-bytes c.queue_of-bytes.result.now (sym c.if-is_empty.ensures))) none c.in-Failed.ensures.bytes (some-bytes c.queue_of-bytes.result.now (sym c.if-is_empty.ensures)) c.in-Failed.ensures.seen c.in_ok-push-in-Failed.ensures.ok)
+    (own-fails v c.args.stream c.requires.stream.own c.requires.stream.stream_open c.queue_of-bytes.result.now _ _ (unfinished _ _ _ c.requires.knows.same c.queue_of-bytes.ensures.finished (some-bytes c.queue_of-bytes.result.now (sym c.if-is_empty.ensures))) none c.in-Failed.ensures.bytes (some-bytes c.queue_of-bytes.result.now (sym c.if-is_empty.ensures)) (seen-is c.in-Failed.ensures.state) c.in_ok-push-in-Failed.ensures.ok)
 
 pub returns-in_err-push-in-Failed-clause-serving : goal.returns-in_err-push-in-Failed-clause-serving
 returns-in_err-push-in-Failed-clause-serving g c present first before now policy pid start given todo s none hands v = on-err c.from_residual-in_err-push-in-Failed.result _ _ c.from_residual-in_err-push-in-Failed.ensures.0
-    (cut-fails v _ c.args.stream c.queue_of-bytes.result.now (taking _ v.journal v.places c.args.stream c.requires.stream_open (unfinished _ _ _ c.requires.same c.queue_of-bytes.ensures.finished (some-bytes c.queue_of-bytes.result.now (sym c.if-is_empty.ensures)))) c.requires.stream_open c.in-Failed.ensures.bytes (some-bytes c.queue_of-bytes.result.now (sym c.if-is_empty.ensures)) c.in-Failed.ensures.seen)
+    (cut-fails v _ c.args.stream c.queue_of-bytes.result.now (taking _ v.journal v.places c.args.stream c.requires.stream.stream_open (unfinished _ _ _ c.requires.knows.same c.queue_of-bytes.ensures.finished (some-bytes c.queue_of-bytes.result.now (sym c.if-is_empty.ensures)))) c.requires.stream.stream_open c.in-Failed.ensures.bytes (some-bytes c.queue_of-bytes.result.now (sym c.if-is_empty.ensures)) (seen-is c.in-Failed.ensures.state))
 
 pub returns-in_err-turn-in-Failed-clause-serving : goal.returns-in_err-turn-in-Failed-clause-serving
 returns-in_err-turn-in-Failed-clause-serving g c present first before now policy pid start given todo s none hands v = on-err c.from_residual-in_err-turn-in-Failed.result _ _ c.from_residual-in_err-turn-in-Failed.ensures.0
-    (cut-fails v _ c.args.stream c.queue_of-bytes.result.now (taking _ v.journal v.places c.args.stream c.requires.stream_open (unfinished _ _ _ c.requires.same c.queue_of-bytes.ensures.finished (some-bytes c.queue_of-bytes.result.now (sym c.if-is_empty.ensures)))) c.requires.stream_open c.in-Failed.ensures.bytes (some-bytes c.queue_of-bytes.result.now (sym c.if-is_empty.ensures)) c.in-Failed.ensures.seen)
+    (cut-fails v _ c.args.stream c.queue_of-bytes.result.now (taking _ v.journal v.places c.args.stream c.requires.stream.stream_open (unfinished _ _ _ c.requires.knows.same c.queue_of-bytes.ensures.finished (some-bytes c.queue_of-bytes.result.now (sym c.if-is_empty.ensures)))) c.requires.stream.stream_open c.in-Failed.ensures.bytes (some-bytes c.queue_of-bytes.result.now (sym c.if-is_empty.ensures)) (seen-is c.in-Failed.ensures.state))
 
 pub returns-in-NoMemory-clause-serving : goal.returns-in-NoMemory-clause-serving
-returns-in-NoMemory-clause-serving g c present first before now policy pid start given todo s none hands v = cut-starved v _ c.args.stream c.queue_of-bytes.result.now c.in-NoMemory.ensures.seen
+returns-in-NoMemory-clause-serving g c present first before now policy pid start given todo s none hands v = cut-starved v _ c.args.stream c.queue_of-bytes.result.now (seen-is c.in-NoMemory.ensures.state)
 
-pub returns-in_ok-turn-in-Failed-clause-fewer : goal.returns-in_ok-turn-in-Failed-clause-fewer
-returns-in_ok-turn-in-Failed-clause-fewer g c own a = fewer-left c.args.stream c.args.failed.now _ own c.in_ok-push-in-Failed.ensures.ok a (sym c.if-contains-2.ensures)
+-- ---- which failed
 
--- ---- own faults
+pub returns-then-contains-clause-fails : goal.returns-then-contains-clause-fails
+returns-then-contains-clause-fails g c = fails-none _ _
 
-pub returns-then-contains-clause-own_faults : goal.returns-then-contains-clause-own_faults
-returns-then-contains-clause-own_faults g c = own-same _ _
+pub returns-then-is_empty-clause-fails : goal.returns-then-is_empty-clause-fails
+returns-then-is_empty-clause-fails g c = fails-none _ _
 
-pub returns-then-is_empty-clause-own_faults : goal.returns-then-is_empty-clause-own_faults
-returns-then-is_empty-clause-own_faults g c = own-same _ _
+pub returns-in-Took-clause-fails : goal.returns-in-Took-clause-fails
+returns-in-Took-clause-fails g c = fails-none _ _
 
-pub returns-in-Took-clause-own_faults : goal.returns-in-Took-clause-own_faults
-returns-in-Took-clause-own_faults g c = c.in-Took.ensures.own_faults
+pub returns-in_ok-push-in-Later-clause-fails : goal.returns-in_ok-push-in-Later-clause-fails
+returns-in_ok-push-in-Later-clause-fails g c = fails-none _ _
 
-pub returns-in_ok-push-in-Later-clause-own_faults : goal.returns-in_ok-push-in-Later-clause-own_faults
-returns-in_ok-push-in-Later-clause-own_faults g c = c.in-Later.ensures.own_faults
+pub returns-in_ok-turn-in-Failed-clause-fails : goal.returns-in_ok-turn-in-Failed-clause-fails
+returns-in_ok-turn-in-Failed-clause-fails g c = fails-one c.args.stream c.args.failed.now _ c.in_ok-push-in-Failed.ensures.ok (sym c.if-contains-2.ensures)
 
-pub returns-in_err-push-in-Later-clause-own_faults : goal.returns-in_err-push-in-Later-clause-own_faults
-returns-in_err-push-in-Later-clause-own_faults g c = c.in-Later.ensures.own_faults
+-- ---- the wire
 
-pub returns-in_err-push-in-Failed-clause-own_faults : goal.returns-in_err-push-in-Failed-clause-own_faults
-returns-in_err-push-in-Failed-clause-own_faults g c = c.in-Failed.ensures.own_faults
+pub returns-then-contains-clause-wire : goal.returns-then-contains-clause-wire
+returns-then-contains-clause-wire g c = works-own-none _ _ _
 
-pub returns-in_err-turn-in-Failed-clause-own_faults : goal.returns-in_err-turn-in-Failed-clause-own_faults
-returns-in_err-turn-in-Failed-clause-own_faults g c = c.in-Failed.ensures.own_faults
+pub returns-then-is_empty-clause-wire : goal.returns-then-is_empty-clause-wire
+returns-then-is_empty-clause-wire g c = works-own-none _ _ _
 
-pub returns-in_ok-turn-in-Failed-clause-own_faults : goal.returns-in_ok-turn-in-Failed-clause-own_faults
-returns-in_ok-turn-in-Failed-clause-own_faults g c = c.in-Failed.ensures.own_faults
+pub returns-in-Took-clause-wire : goal.returns-in-Took-clause-wire
+returns-in-Took-clause-wire g c = works-own-write _ (wrote.Took c.in-Took.n) c.args.stream c.queue_of-bytes.result.now c.requires.stream.own refl c.in-Took.ensures.state c.in-Took.ensures.cause
 
-pub returns-in-NoMemory-clause-own_faults : goal.returns-in-NoMemory-clause-own_faults
-returns-in-NoMemory-clause-own_faults g c = c.in-NoMemory.ensures.own_faults
+pub returns-in_ok-push-in-Later-clause-wire : goal.returns-in_ok-push-in-Later-clause-wire
+returns-in_ok-push-in-Later-clause-wire g c = works-own-write _ wrote.Later c.args.stream c.queue_of-bytes.result.now c.requires.stream.own refl c.in-Later.ensures.state c.in-Later.ensures.cause
+
+pub returns-in_err-push-in-Later-clause-wire : goal.returns-in_err-push-in-Later-clause-wire
+returns-in_err-push-in-Later-clause-wire g c = works-own-write _ wrote.Later c.args.stream c.queue_of-bytes.result.now c.requires.stream.own refl c.in-Later.ensures.state c.in-Later.ensures.cause
+
+pub returns-in_ok-turn-in-Failed-clause-wire : goal.returns-in_ok-turn-in-Failed-clause-wire
+returns-in_ok-turn-in-Failed-clause-wire g c = works-own-write _ wrote.Failed c.args.stream c.queue_of-bytes.result.now c.requires.stream.own refl c.in-Failed.ensures.state c.in-Failed.ensures.cause
+
+pub returns-in_err-push-in-Failed-clause-wire : goal.returns-in_err-push-in-Failed-clause-wire
+returns-in_err-push-in-Failed-clause-wire g c = works-own-write _ wrote.Failed c.args.stream c.queue_of-bytes.result.now c.requires.stream.own refl c.in-Failed.ensures.state c.in-Failed.ensures.cause
+
+pub returns-in_err-turn-in-Failed-clause-wire : goal.returns-in_err-turn-in-Failed-clause-wire
+returns-in_err-turn-in-Failed-clause-wire g c = works-own-write _ wrote.Failed c.args.stream c.queue_of-bytes.result.now c.requires.stream.own refl c.in-Failed.ensures.state c.in-Failed.ensures.cause
+
+pub returns-in-NoMemory-clause-wire : goal.returns-in-NoMemory-clause-wire
+returns-in-NoMemory-clause-wire g c = works-own-starved _ c.args.stream c.queue_of-bytes.result.now c.requires.stream.own c.in-NoMemory.ensures.state c.in-NoMemory.ensures.cause

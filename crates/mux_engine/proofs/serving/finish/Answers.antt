@@ -1,23 +1,34 @@
-use Rattle.std.proofs.Common.{[], ◌+◌, ◌∷◌, ◌∙◌, sym, ap}
+use Rattle.std.proofs.Common.{[], ◌+◌, ◌∷◌, ◌∙◌, refl, sym, ap}
 use Rattle.mux_outside.specs.OwnStreams.{is_one}
 use Rattle.mux_history.specs.declared.limits.TheConstants.{HOUSE}
 use Rattle.mux_machine.specs.Events.{here}
 use Rattle.mux_machine.specs.State.{State}
-use Rattle.mux_engine.proofs.OwnFaults.{own-then}
 use Rattle.mux_engine.specs.Sides.{noted}
-use Rattle.mux_engine.proofs.Arms.{counts-then, on-err, on-ok, stays, then-stays-or-fails}
+use Rattle.mux_engine.proofs.Arms.{on-err, on-ok, stays, then-stays-or-fails}
 use Rattle.mux_engine.proofs.Called.{handed-none, handed-so}
-use Rattle.mux_engine.proofs.Counting.{faults-then, same-faults}
-use Rattle.mux_engine.proofs.Loops.{counts-err}
-use Rattle.mux_engine.proofs.Places.{places-then}
+use Rattle.mux_engine.proofs.HouseCalls.{same-house}
+use Rattle.mux_engine.proofs.Places.{places-same, places-then}
 use Rattle.mux_engine.proofs.Running.{all-settled, match-more, none-settled, to-house}
+use Rattle.mux_engine.proofs.Wired.{no-fault-none, no-fault-same, no-fault-then, works-err, works-none, works-then}
 use Rattle.mux_engine.proofs.serving.finish.Goals as goal
 
-pub returns-then-lists-clause-serving : goal.returns-then-lists-clause-serving
-returns-then-lists-clause-serving g c first calls before policy pid start given hands v = handed-none _ hands (all-settled _ c.if-lists.true v)
+pub returns-then-lists : goal.returns-then-lists
+returns-then-lists g c = record {
+  serving = λ first calls before policy pid start given hands v. handed-none _ hands (all-settled _ c.if-lists.true v);
+  house = record { known = same-house _ _ refl; must = refl };
+  places = places-same _ _ refl;
+  unasked = λ e. refl;
+  ended = stays _ _ _ _ refl refl;
+  idle = λ none p. (refl, no-fault-none _);
+  wire = works-none _ _ _;
+}
 
 pub last_replies-requires : goal.last_replies-requires
-last_replies-requires g c = let w = c.requires.served in record { served = record { first = w.first; calls = w.calls; hands = w.hands; before = w.before; policy = w.policy; pid = w.pid; start = w.start; given = w.given; serving = none-settled _ c.if-lists.false w.serving }; housed = c.requires.housed; held_is = c.requires.held_is; on = c.requires.on }
+last_replies-requires g c = let w = c.requires.served in record {
+  served = record { first = w.first; calls = w.calls; hands = w.hands; before = w.before; policy = w.policy; pid = w.pid; start = w.start; given = w.given; serving = none-settled _ c.if-lists.false w.serving };
+  together = c.requires.together;
+  on = c.requires.on;
+}
 
 pub flush-requires : goal.flush-requires
 flush-requires g c = let H = g.H.Asks in let w = c.requires.served in
@@ -35,38 +46,30 @@ flush-requires g c = let H = g.H.Asks in let w = c.requires.served in
         todo = 0 ∷ here c.last_replies.new.engine;
         serving = h.so;
       };
-      numbered = λ t one. c.requires.housed.places.numbered t (ap (is_one t) (sym c.last_replies.ensures.places.own) ∙ one);
+      numbered = λ t one. c.requires.together.housed.places.numbered t (ap (is_one t) (sym c.last_replies.ensures.places.own) ∙ one);
     }
 
 pub returns-in_err-last_replies : goal.returns-in_err-last_replies
-returns-in_err-last_replies g c = let W = g.W.Wire in let r = c.from_residual in record {
-  serving = λ first calls before policy pid start given hands v. on-err r.result _ _ r.ensures.0 (c.in_err-last_replies.ensures.serving first calls before policy pid start given hands (none-settled _ c.if-lists.false v));
-  known = on-err r.result _ _ r.ensures.0 tt;
-  places = c.last_replies.ensures.places;
-  unasked = c.last_replies.ensures.unasked;
-  must = c.last_replies.ensures.must;
+returns-in_err-last_replies g c = let W = g.W.Wire in let r = c.from_residual in let o = c.in_err-last_replies.ensures in record {
+  serving = λ first calls before policy pid start given hands v. on-err r.result _ _ r.ensures.0 (o.serving first calls before policy pid start given hands (none-settled _ c.if-lists.false v));
+  house = record { known = on-err r.result _ _ r.ensures.0 tt; must = o.house.must };
+  places = o.places;
+  unasked = o.unasked;
   ended = on-err r.result _ _ r.ensures.0 tt;
-  calls = counts-err r.result 0 _ _ r.ensures.0 c.in_err-last_replies.ensures.calls;
-  own_faults = c.last_replies.ensures.own_faults;
-  openings = c.last_replies.ensures.openings;
-  joinings = c.last_replies.ensures.joinings;
-  idle = λ none p. let a = c.last_replies.ensures.alone p in (a.0, same-faults W.server_faults (W.faults _).client _ a.1);
+  idle = λ none p. let a = o.alone p in (a.0, no-fault-same (ap W.faults a.1));
+  wire = works-err r.result r.ensures.0 o.wire.works;
 }
 
 pub returns : goal.returns
-returns g c = let H = g.H.Asks in let W = g.W.Wire in let o = c.in_ok-last_replies.ensures in record {
+returns g c = let W = g.W.Wire in let o = c.in_ok-last_replies.ensures in let f = c.flush.ensures in record {
   serving = λ first calls before policy pid start given hands v.
       let h = o.serving first calls before policy pid start given hands (none-settled _ c.if-lists.false v) in
-      match-more c.flush.result _ (λ x. handed-so h x) (c.flush.ensures.serving (HOUSE ∷ []) _ first before _ policy pid start _ (given + 0) (to-house h.so));
-  known = on-ok c.flush.result (λ e. o.known) c.flush.ensures.streams;
-  places = places-then _ _ _ c.last_replies.ensures.places c.flush.ensures.places;
-  unasked = c.last_replies.ensures.unasked;
-  must = c.last_replies.ensures.must;
-  ended = on-ok c.flush.result (λ e. then-stays-or-fails _ _ _ _ _ _ (stays _ _ _ _ o.ended c.last_replies.ensures.faults) e) c.flush.ensures.ended;
-  calls = counts-then c.flush.result _ _ _ o.calls c.flush.ensures.calls;
-  own_faults = own-then _ _ _ _ _ _ c.last_replies.ensures.own_faults c.flush.ensures.own_faults;
-  openings = c.flush.ensures.openings ∙ c.last_replies.ensures.openings;
-  joinings = c.flush.ensures.joinings ∙ c.last_replies.ensures.joinings;
-  idle = λ none p. let a = c.last_replies.ensures.alone p in let b = c.flush.ensures.idle (ap (λ (s : State). s.waiting) a.0 ∙ none) in
-      (b.0 ∙ a.0, faults-then W.server_faults (W.faults _).client _ _ a.1 b.1);
+      match-more c.flush.result _ (λ x. handed-so h x) (f.serving (HOUSE ∷ []) _ first before _ policy pid start _ (given + 0) (to-house h.so));
+  house = record { known = on-ok c.flush.result (λ e. o.house.known) f.streams; must = o.house.must };
+  places = places-then _ _ _ o.places f.places;
+  unasked = o.unasked;
+  ended = on-ok c.flush.result (λ e. then-stays-or-fails _ _ _ _ _ _ (stays _ _ _ _ o.ended o.wire.no_fault.server) e) f.ended;
+  idle = λ none p. let a = o.alone p in let b = f.idle (ap (λ (s : State). s.waiting) a.0 ∙ none) in
+      (b.0 ∙ a.0, no-fault-then (no-fault-same (ap W.faults a.1)) b.1);
+  wire = works-then o.wire.works f.wire;
 }

@@ -1,14 +1,17 @@
-use Rattle.std.proofs.Common.{◌∷◌, [], refl, sym, inl, inr, ◌∙◌, subst}
+use Rattle.std.proofs.Common.{◌∷◌, [], refl, sym, ap, inl, inr, ◌∙◌, true}
+use Rattle.std.specs.Prelude.{Ok}
 use Rattle.mux_history.specs.declared.limits.TheConstants.{HOUSE}
 use Rattle.mux_machine.specs.Events.{here}
-use Rattle.mux_engine.proofs.OwnFaults.{own-then}
-use Rattle.mux_engine.specs.Sides.{RestsOf, noted}
+use Rattle.mux_engine.specs.Counted.{Well}
+use Rattle.mux_engine.specs.Sides.{Housed, RestsOf, Together, noted}
+use Rattle.mux_engine.specs.Wires.{IsIdle, Works}
 use Rattle.mux_engine.proofs.Arms.{on-err}
 use Rattle.mux_engine.proofs.Called.{handed-so}
+use Rattle.mux_engine.proofs.Ending.{ends-closed, ends-cut, ends-later, refused-none}
 use Rattle.mux_engine.proofs.HouseCalls.{housed-still, same-house}
 use Rattle.mux_engine.proofs.Running.{all-left, present-is, promised-is, step-took, step-waits}
-use Rattle.mux_engine.proofs.Comes.{over-later, over-present, over-same}
-use Rattle.mux_engine.specs.Came.{Came}
+use Rattle.mux_engine.proofs.Spending.{cut-one-more, turned-stepped}
+use Rattle.mux_engine.proofs.Wired.{idle-then, keeps-then, works-then, works-told}
 use Rattle.mux_engine.proofs.serving.one_turn.Goals as goal
 
 -- ---- the house took a turn
@@ -18,9 +21,36 @@ returns-then-branch-clause-serving g c first calls before policy pid start given
     let h = c.in_ok-step_house.ensures.serving first calls before policy pid start given hands v in
     handed-so h (inl (step-took given (0 ∷ here c.step_house.new.engine) c.in_ok-step_house.field-0 c.if-branch.true h.so))
 
-pub returns-in_err-step_house-clause-serving : goal.returns-in_err-step_house-clause-serving
-returns-in_err-step_house-clause-serving g c first calls before policy pid start given hands v = on-err c.from_residual.result _ _ c.from_residual.ensures.0
-    (c.in_err-step_house.ensures.serving first calls before policy pid start given hands v)
+pub returns-then-branch-clause-together : goal.returns-then-branch-clause-together
+returns-then-branch-clause-together g c = let t = c.in_ok-step_house.ensures.together in record { housed = t.housed; alone = t.alone; held_is = t.held_is }
+
+pub returns-then-branch-clause-house : goal.returns-then-branch-clause-house
+returns-then-branch-clause-house g c = let h = c.in_ok-step_house.ensures.house in record { present = h.present; must = h.must }
+
+pub returns-then-branch-clause-ended : goal.returns-then-branch-clause-ended
+returns-then-branch-clause-ended g c = let e = c.in_ok-step_house.ensures.ended in record { failed = e.failed; by_row = e.by_row; by_count = e.by_count; unopened = e.unopened }
+
+pub returns-then-branch-clause-calls : goal.returns-then-branch-clause-calls
+returns-then-branch-clause-calls g c = let o = c.in_ok-step_house.ensures in
+    turned-stepped (g.H.Asks.state c.args.house.now).known.present _ _ _ (λ p. (o.alone p).waits (ap (λ b. Ok b) c.if-branch.true)) o.wire.calls
+
+pub returns-then-branch-clause-idle : goal.returns-then-branch-clause-idle
+returns-then-branch-clause-idle g c none p = absurd ((c.in_ok-step_house.ensures.alone p).waits (ap (λ b. Ok b) c.if-branch.true))
+
+pub returns-then-branch-clause-wire : goal.returns-then-branch-clause-wire
+returns-then-branch-clause-wire g c = c.in_ok-step_house.ensures.wire.keeps
+
+pub returns-in_err-step_house : goal.returns-in_err-step_house
+returns-in_err-step_house g c = let W = g.W.Wire in let r = c.from_residual in let o = c.in_err-step_house.ensures in record {
+  serving = λ first calls before policy pid start given hands v. on-err r.result _ _ r.ensures.0 (o.serving first calls before policy pid start given hands v);
+  together = on-err r.result _ _ r.ensures.0 tt;
+  house = record { present = on-err r.result _ _ r.ensures.0 tt; must = o.house.must };
+  goes = on-err r.result _ _ r.ensures.0 tt;
+  ended = ends-cut r.result (g.H.Asks.state c.args.house.now).known.present c.step_house.new.engine.ended (W.state c.args.wire.now) (W.state c.step_house.new.wire) (W.faults c.args.wire.now) (W.faults c.step_house.new.wire) r.ensures.0 o.ended.unopened;
+  idle = λ none p. on-err r.result _ _ r.ensures.0 tt;
+  calls = on-err r.result _ _ r.ensures.0 (cut-one-more _ _ o.wire.calls);
+  wire = o.wire.keeps;
+}
 
 -- ---- before a wait
 
@@ -66,23 +96,43 @@ returns-then-is_over-clause-serving g c first calls before policy pid start give
     let lists = c.step_house.new.lists in
     let stepped = step-waits given (0 ∷ here c.step_house.new.engine) c.in_ok-step_house.field-0 c.if-branch.false h.so in
     let closed = c.close_lost.ensures.serving (H.state c.args.house.now).known.present first before (noted (H.state house).told (H.state house).known h.all) policy pid start lists.failed given [] stepped in
-    handed-so h (inr (refl, all-left (HOUSE ∷ []) (c.hush.ensures.serving (H.state c.args.house.now).known.present first before (noted (H.state house).told (H.state house).known h.all) policy pid start c.close_lost.new.held lists.failed given [] closed)))
+    handed-so h (inr (refl, all-left (HOUSE ∷ []) (c.hush.ensures.serving c.close_lost.new.held (H.state c.args.house.now).known.present first before (noted (H.state house).told (H.state house).known h.all) policy pid start lists.failed given [] closed)))
 
-pub returns-then-is_over-clause-housed : goal.returns-then-is_over-clause-housed
-returns-then-is_over-clause-housed g c = let H = g.H.Asks in let known = (H.state c.step_house.new.house).known in let own = c.step_house.new.lists.own in
-    housed-still known known _ _ own (c.close_lost.ensures.housed known own c.in_ok-step_house.ensures.housed) (same-house known known refl) c.hush.ensures.places
-
-pub returns-then-is_over-clause-held_is : goal.returns-then-is_over-clause-held_is
-returns-then-is_over-clause-held_is g c =
+pub returns-then-is_over-clause-together : goal.returns-then-is_over-clause-together
+returns-then-is_over-clause-together g c =
     let H = g.H.Asks in
-    let house = c.step_house.new.house in
+    let house = H.state c.step_house.new.house in
     let lists = c.step_house.new.lists in
     let s = c.requires.served in
+    let t = c.in_ok-step_house.ensures.together in
     let h = c.in_ok-step_house.ensures.serving s.first s.calls s.before s.policy s.pid s.start s.given s.hands s.serving in
     let stepped = step-waits s.given (0 ∷ here c.step_house.new.engine) c.in_ok-step_house.field-0 c.if-branch.false h.so in
-    let closed = c.close_lost.ensures.serving (H.state c.args.house.now).known.present s.first s.before (noted (H.state house).told (H.state house).known h.all) s.policy s.pid s.start lists.failed s.given [] stepped in
-    let hushed = c.hush.ensures.serving (H.state c.args.house.now).known.present s.first s.before (noted (H.state house).told (H.state house).known h.all) s.policy s.pid s.start c.close_lost.new.held lists.failed s.given [] closed in
-    hushed.held_is
+    let closed = c.close_lost.ensures.serving (H.state c.args.house.now).known.present s.first s.before (noted house.told house.known h.all) s.policy s.pid s.start lists.failed s.given [] stepped in
+    let hushed = c.hush.ensures.serving c.close_lost.new.held (H.state c.args.house.now).known.present s.first s.before (noted house.told house.known h.all) s.policy s.pid s.start lists.failed s.given [] closed in
+    record {
+      housed = housed-still house.known house.known _ _ lists.own (c.close_lost.ensures.ready house.known house.quiet house.queue lists.failed lists.own t.housed).0 (same-house house.known house.known refl) c.hush.ensures.places;
+      alone = t.alone;
+      held_is = hushed.held_is;
+    }
+
+pub returns-then-is_over-clause-house : goal.returns-then-is_over-clause-house
+returns-then-is_over-clause-house g c = let h = c.in_ok-step_house.ensures.house in record { present = h.present; must = h.must }
+
+pub returns-then-is_over-clause-ended : goal.returns-then-is_over-clause-ended
+returns-then-is_over-clause-ended g c = let W = g.W.Wire in
+    ends-closed _ _ (g.H.Asks.state c.args.house.now).known.present c.step_house.new.engine.ended c.close_lost.new.engine.ended (W.state c.args.wire.now) (W.state c.step_house.new.wire) (W.state c.hush.new.wire)
+    (W.faults c.args.wire.now) (W.faults c.step_house.new.wire) (W.faults c.hush.new.wire) c.close_lost.ensures.ended (idle-then c.close_lost.ensures.wire c.hush.ensures.wire).untouched
+    (c.hush.ensures.places.last_own ∙ c.close_lost.ensures.unopened) c.in_ok-step_house.ensures.ended
+
+pub returns-then-is_over-clause-calls : goal.returns-then-is_over-clause-calls
+returns-then-is_over-clause-calls g c = let w = works-told _ (c.in_ok-step_house.ensures.wire) (idle-then c.close_lost.ensures.wire c.hush.ensures.wire) in inr (w.calls, inr refl)
+
+pub returns-then-is_over-clause-idle : goal.returns-then-is_over-clause-idle
+returns-then-is_over-clause-idle g c none p = let H = g.H.Asks in let o = c.in_ok-step_house.ensures in let house = H.state c.step_house.new.house in
+    absurd (c.is_over.ensures.over c.if-is_over.true (c.close_lost.ensures.ended ∙ (o.alone p).idle none) (refused-none house.known.present house.must house.refused (o.house.present ∙ p)))
+
+pub returns-then-is_over-clause-wire : goal.returns-then-is_over-clause-wire
+returns-then-is_over-clause-wire g c = let w = works-told _ (c.in_ok-step_house.ensures.wire) (idle-then c.close_lost.ensures.wire c.hush.ensures.wire) in w.keeps
 
 -- ---- a wait
 
@@ -95,7 +145,7 @@ turn-requires-clause-served g c =
     let h = c.in_ok-step_house.ensures.serving s.first s.calls s.before s.policy s.pid s.start s.given s.hands s.serving in
     let stepped = step-waits s.given (0 ∷ here c.step_house.new.engine) c.in_ok-step_house.field-0 c.if-branch.false h.so in
     let closed = c.close_lost.ensures.serving (H.state c.args.house.now).known.present s.first s.before (noted (H.state house).told (H.state house).known h.all) s.policy s.pid s.start lists.failed s.given [] stepped in
-    let hushed = c.hush.ensures.serving (H.state c.args.house.now).known.present s.first s.before (noted (H.state house).told (H.state house).known h.all) s.policy s.pid s.start c.close_lost.new.held lists.failed s.given [] closed in
+    let hushed = c.hush.ensures.serving c.close_lost.new.held (H.state c.args.house.now).known.present s.first s.before (noted (H.state house).told (H.state house).known h.all) s.policy s.pid s.start lists.failed s.given [] closed in
     record {
       first = s.first;
       calls = h.all;
@@ -105,24 +155,52 @@ turn-requires-clause-served g c =
       pid = s.pid;
       start = s.start;
       given = s.given;
-      serving = present-is (λ b. RestsOf H.state b s.first) _ _ (sym c.in_ok-step_house.ensures.present) hushed;
+      serving = present-is (λ b. RestsOf H.state b s.first) _ _ (sym c.in_ok-step_house.ensures.house.present) hushed;
     }
 
-pub turn-requires-clause-housed : goal.turn-requires-clause-housed
-turn-requires-clause-housed g c = let H = g.H.Asks in let known = (H.state c.step_house.new.house).known in let own = c.step_house.new.lists.own in
-    housed-still known known _ _ own (c.close_lost.ensures.housed known own c.in_ok-step_house.ensures.housed) (same-house known known refl) c.hush.ensures.places
-
-pub returns-in_err-went-clause-serving : goal.returns-in_err-went-clause-serving
-returns-in_err-went-clause-serving g c first calls before policy pid start given hands v =
+pub turn-requires-clause-together : goal.turn-requires-clause-together
+turn-requires-clause-together g c =
     let H = g.H.Asks in
-    let h = c.in_ok-step_house.ensures.serving first calls before policy pid start given hands v in
-    let house = c.step_house.new.house in
+    let house = H.state c.step_house.new.house in
     let lists = c.step_house.new.lists in
-    let stepped = step-waits given (0 ∷ here c.step_house.new.engine) c.in_ok-step_house.field-0 c.if-branch.false h.so in
-    let closed = c.close_lost.ensures.serving (H.state c.args.house.now).known.present first before (noted (H.state house).told (H.state house).known h.all) policy pid start lists.failed given [] stepped in
-    let hushed = c.hush.ensures.serving (H.state c.args.house.now).known.present first before (noted (H.state house).told (H.state house).known h.all) policy pid start c.close_lost.new.held lists.failed given [] closed in
-    on-err c.from_residual-in_err-went.result _ _ c.from_residual-in_err-went.ensures.0 (promised-is (λ b. RestsOf H.state b first) _ _ c.in_ok-step_house.ensures.present
-    (c.in_err-went.ensures.serving first h.all before policy pid start given h.hands (present-is (λ b. RestsOf H.state b first) _ _ (sym c.in_ok-step_house.ensures.present) hushed)))
+    let s = c.requires.served in
+    let t = c.in_ok-step_house.ensures.together in
+    let h = c.in_ok-step_house.ensures.serving s.first s.calls s.before s.policy s.pid s.start s.given s.hands s.serving in
+    let stepped = step-waits s.given (0 ∷ here c.step_house.new.engine) c.in_ok-step_house.field-0 c.if-branch.false h.so in
+    let closed = c.close_lost.ensures.serving (H.state c.args.house.now).known.present s.first s.before (noted house.told house.known h.all) s.policy s.pid s.start lists.failed s.given [] stepped in
+    let hushed = c.hush.ensures.serving c.close_lost.new.held (H.state c.args.house.now).known.present s.first s.before (noted house.told house.known h.all) s.policy s.pid s.start lists.failed s.given [] closed in
+    record {
+      housed = housed-still house.known house.known _ _ lists.own (c.close_lost.ensures.ready house.known house.quiet house.queue lists.failed lists.own t.housed).0 (same-house house.known house.known refl) c.hush.ensures.places;
+      alone = t.alone;
+      held_is = hushed.held_is;
+    }
+
+pub turn-requires-clause-ready : goal.turn-requires-clause-ready
+turn-requires-clause-ready g c = let house = g.H.Asks.state c.step_house.new.house in let lists = c.step_house.new.lists in let o = c.in_ok-step_house.ensures in
+    (c.close_lost.ensures.ready house.known house.quiet house.queue lists.failed lists.own o.together.housed).1 (o.ready c.if-branch.false (sym c.close_lost.ensures.ended ∙ c.is_over.ensures.on c.if-is_over.false))
+
+pub returns-in_err-went : goal.returns-in_err-went
+returns-in_err-went g c = let H = g.H.Asks in let W = g.W.Wire in let r = c.from_residual-in_err-went in let o = c.in_ok-step_house.ensures in let t = c.in_err-went.ensures in
+    let before = works-told _ o.wire (idle-then c.close_lost.ensures.wire c.hush.ensures.wire) in
+    let both = works-then before t.wire in record {
+      serving = λ first calls before policy pid start given hands v.
+          let h = o.serving first calls before policy pid start given hands v in
+          let house = c.step_house.new.house in
+          let lists = c.step_house.new.lists in
+          let stepped = step-waits given (0 ∷ here c.step_house.new.engine) c.in_ok-step_house.field-0 c.if-branch.false h.so in
+          let closed = c.close_lost.ensures.serving (H.state c.args.house.now).known.present first before (noted (H.state house).told (H.state house).known h.all) policy pid start lists.failed given [] stepped in
+          let hushed = c.hush.ensures.serving c.close_lost.new.held (H.state c.args.house.now).known.present first before (noted (H.state house).told (H.state house).known h.all) policy pid start lists.failed given [] closed in
+          on-err r.result _ _ r.ensures.0 (promised-is (λ b. RestsOf H.state b first) _ _ o.house.present
+          (t.serving first h.all before policy pid start given h.hands (present-is (λ b. RestsOf H.state b first) _ _ (sym o.house.present) hushed)));
+      together = on-err r.result _ _ r.ensures.0 tt;
+      house = record { present = on-err r.result _ _ r.ensures.0 tt; must = t.house.must ∙ o.house.must };
+      goes = on-err r.result _ _ r.ensures.0 tt;
+      ended = ends-cut r.result (H.state c.args.house.now).known.present c.turn.new.engine.ended (W.state c.args.wire.now) (W.state c.turn.new.wire) (W.faults c.args.wire.now) (W.faults c.turn.new.wire) r.ensures.0
+          (λ p. t.ended.unopened (o.house.present ∙ p) ∙ (c.hush.ensures.places.last_own ∙ (c.close_lost.ensures.unopened ∙ o.ended.unopened p)));
+      idle = λ none p. on-err r.result _ _ r.ensures.0 tt;
+      calls = on-err r.result _ _ r.ensures.0 both.calls;
+      wire = both.keeps;
+    }
 
 pub returns-clause-serving : goal.returns-clause-serving
 returns-clause-serving g c first calls before policy pid start given hands v =
@@ -130,38 +208,34 @@ returns-clause-serving g c first calls before policy pid start given hands v =
     let h = c.in_ok-step_house.ensures.serving first calls before policy pid start given hands v in
     let house = c.step_house.new.house in
     let lists = c.step_house.new.lists in
+    let present = c.in_ok-step_house.ensures.house.present in
     let stepped = step-waits given (0 ∷ here c.step_house.new.engine) c.in_ok-step_house.field-0 c.if-branch.false h.so in
     let closed = c.close_lost.ensures.serving (H.state c.args.house.now).known.present first before (noted (H.state house).told (H.state house).known h.all) policy pid start lists.failed given [] stepped in
-    let hushed = c.hush.ensures.serving (H.state c.args.house.now).known.present first before (noted (H.state house).told (H.state house).known h.all) policy pid start c.close_lost.new.held lists.failed given [] closed in
-    let t = c.in_ok-went.ensures.serving first h.all before policy pid start given h.hands (present-is (λ b. RestsOf H.state b first) _ _ (sym c.in_ok-step_house.ensures.present) hushed) in
-    handed-so t (inl (present-is (λ b. RestsOf H.state b first) _ _ c.in_ok-step_house.ensures.present t.so))
+    let hushed = c.hush.ensures.serving c.close_lost.new.held (H.state c.args.house.now).known.present first before (noted (H.state house).told (H.state house).known h.all) policy pid start lists.failed given [] closed in
+    let t = c.in_ok-went.ensures.serving first h.all before policy pid start given h.hands (present-is (λ b. RestsOf H.state b first) _ _ (sym present) hushed) in
+    handed-so t (inl (present-is (λ b. RestsOf H.state b first) _ _ present t.so))
 
--- ---- what came
+pub returns-clause-together : goal.returns-clause-together
+returns-clause-together g c = let t = c.in_ok-went.ensures.together in record { housed = t.housed; alone = t.alone; held_is = t.held_is }
 
-pub returns-then-is_over-clause-ended_by : goal.returns-then-is_over-clause-ended_by
-returns-then-is_over-clause-ended_by g c = let W = g.W.Wire in
-    over-same (g.H.Asks.state c.args.house.now).known.present c.step_house.new.engine.ended c.close_lost.new.engine.ended (W.state c.args.wire.now).calls (W.state c.step_house.new.wire).calls (W.state c.hush.new.wire).calls
-    c.close_lost.ensures.ended (c.hush.ensures.calls ∙ c.close_lost.ensures.calls) c.in_ok-step_house.ensures.ended_by
+pub returns-clause-house : goal.returns-clause-house
+returns-clause-house g c = let o = c.in_ok-step_house.ensures.house in let t = c.in_ok-went.ensures.house in record { present = t.present ∙ o.present; must = t.must ∙ o.must }
 
-pub returns-clause-ended_by : goal.returns-clause-ended_by
-returns-clause-ended_by g c = let W = g.W.Wire in
-    over-present (g.H.Asks.state c.step_house.new.house).known.present (g.H.Asks.state c.args.house.now).known.present c.turn.new.engine.ended (W.state c.args.wire.now).calls (W.state c.turn.new.wire).calls c.in_ok-step_house.ensures.present
-    (over-later (g.H.Asks.state c.step_house.new.house).known.present c.turn.new.engine.ended (W.state c.args.wire.now).calls (W.state c.hush.new.wire).calls (W.state c.turn.new.wire).calls
-    (subst (Came (W.state c.args.wire.now).calls) (sym (c.hush.ensures.calls ∙ c.close_lost.ensures.calls)) c.in_ok-step_house.ensures.calls.came) c.in_ok-went.ensures.ended_by)
+pub returns-clause-ended : goal.returns-clause-ended
+returns-clause-ended g c = let H = g.H.Asks in let W = g.W.Wire in let o = c.in_ok-step_house.ensures in let e = c.in_ok-went.ensures.ended in
+    let before = works-told _ o.wire (idle-then c.close_lost.ensures.wire c.hush.ensures.wire) in
+    ends-later _ (H.state c.args.house.now).known.present (H.state c.step_house.new.house).known.present c.turn.new.engine.ended (W.state c.args.wire.now) (W.state c.hush.new.wire) (W.state c.turn.new.wire)
+    (W.faults c.args.wire.now) (W.faults c.hush.new.wire) (W.faults c.turn.new.wire) o.house.present before.keeps.later before.calls.came
+    (λ p. c.hush.ensures.places.last_own ∙ (c.close_lost.ensures.unopened ∙ o.ended.unopened p)) record { failed = e.failed; by_row = e.by_row; by_count = e.by_count; unopened = e.unopened }
 
--- ---- own faults
+pub returns-clause-calls : goal.returns-clause-calls
+returns-clause-calls g c = let before = works-told _ c.in_ok-step_house.ensures.wire (idle-then c.close_lost.ensures.wire c.hush.ensures.wire) in
+    let both = works-then before c.in_ok-went.ensures.wire in inl both.calls
 
-pub returns-then-branch-clause-own_faults : goal.returns-then-branch-clause-own_faults
-returns-then-branch-clause-own_faults g c = c.step_house.ensures.own_faults
+pub returns-clause-idle : goal.returns-clause-idle
+returns-clause-idle g c none p = let before = works-told _ c.in_ok-step_house.ensures.wire (idle-then c.close_lost.ensures.wire c.hush.ensures.wire) in
+    let both = works-then before c.in_ok-went.ensures.wire in both.calls
 
-pub returns-in_err-step_house-clause-own_faults : goal.returns-in_err-step_house-clause-own_faults
-returns-in_err-step_house-clause-own_faults g c = c.step_house.ensures.own_faults
-
-pub returns-then-is_over-clause-own_faults : goal.returns-then-is_over-clause-own_faults
-returns-then-is_over-clause-own_faults g c = own-then _ _ _ _ _ _ (own-then _ _ _ _ _ _ c.step_house.ensures.own_faults c.close_lost.ensures.own_faults) c.hush.ensures.own_faults
-
-pub returns-in_err-went-clause-own_faults : goal.returns-in_err-went-clause-own_faults
-returns-in_err-went-clause-own_faults g c = own-then _ _ _ _ _ _ (own-then _ _ _ _ _ _ (own-then _ _ _ _ _ _ c.step_house.ensures.own_faults c.close_lost.ensures.own_faults) c.hush.ensures.own_faults) c.turn.ensures.own_faults
-
-pub returns-clause-own_faults : goal.returns-clause-own_faults
-returns-clause-own_faults g c = own-then _ _ _ _ _ _ (own-then _ _ _ _ _ _ (own-then _ _ _ _ _ _ c.step_house.ensures.own_faults c.close_lost.ensures.own_faults) c.hush.ensures.own_faults) c.turn.ensures.own_faults
+pub returns-clause-wire : goal.returns-clause-wire
+returns-clause-wire g c = let before = works-told _ c.in_ok-step_house.ensures.wire (idle-then c.close_lost.ensures.wire c.hush.ensures.wire) in
+    let both = works-then before c.in_ok-went.ensures.wire in both.keeps

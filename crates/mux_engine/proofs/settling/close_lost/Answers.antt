@@ -1,15 +1,24 @@
-use Rattle.std.proofs.Common.{◌∙◌, ◌<◌, sym, ap, subst, ℕ, length}
+use Rattle.std.proofs.Common.{◌∙◌, ◌<◌, refl, sym, ap, subst, ℕ, length}
 use Rattle.mux_outside.specs.Seen.{Seen, seen_after_close}
 use Rattle.mux_outside.specs.Streams.{without}
 use Rattle.mux_machine.specs.State.{State, closed_by}
 use Rattle.mux_machine.specs.Stands.{Closes, IsFirst}
-use Rattle.mux_engine.proofs.OwnFaults.{own-kept, own-then}
 use Rattle.mux_engine.specs.Rests.{IsReady}
 use Rattle.mux_engine.specs.Serving.{Serving}
 use Rattle.mux_engine.specs.Sides.{Housed, RestsOf}
 use Rattle.mux_engine.proofs.Closed.{fewer, first-is, housed-closed, serve-closed}
 use Rattle.mux_engine.proofs.Readied.{ready-closed}
+use Rattle.mux_engine.proofs.Wired.{idle-close, idle-none, idle-then, seen-is}
 use Rattle.mux_engine.proofs.settling.close_lost.Goals as goal
+
+pub loop-client-init : goal.loop-client-init
+loop-client-init g c = record {
+  serving = λ present first before now policy pid start failed given todo v. v;
+  ready = λ known quiet queue failed own h. (h, λ r. r);
+  ended = refl;
+  unopened = refl;
+  wire = idle-none _ _;
+}
 
 pub loop-client-smaller : goal.loop-client-smaller
 loop-client-smaller g c =
@@ -24,27 +33,21 @@ loop-client-preserved g c =
     let closes : Closes s (closed_by s k) k = subst (λ (t : State). Closes s t k) c.closed.ensures.exact c.closed.ensures.stands in
     record {
       serving = λ present first before now policy pid start failed given todo v.
-          subst (λ (x : Seen). Serving g.H.Asks.may (RestsOf g.H.Asks.state present first) before now policy pid start x c.remove.new.self failed given todo c.closed.new.self) (sym c.close.ensures.seen)
+          subst (λ (x : Seen). Serving g.H.Asks.may (RestsOf g.H.Asks.state present first) before now policy pid start x c.remove.new.self failed given todo c.closed.new.self) (sym (seen-is c.close.ensures.state))
           (subst (λ h. Serving g.H.Asks.may (RestsOf g.H.Asks.state present first) before now policy pid start (seen_after_close k (g.W.Wire.state c.loop-client.wire).seen) h failed given todo c.closed.new.self) (sym c.remove.ensures)
           (subst (λ (t : State). Serving g.H.Asks.may (RestsOf g.H.Asks.state present first) before now policy pid start (seen_after_close k (g.W.Wire.state c.loop-client.wire).seen) (without k c.loop-client.held) failed given todo t) (sym c.closed.ensures.exact)
           (serve-closed (c.loop-client.invariant.serving present first before now policy pid start failed given todo v) k leaves closes)));
-      housed = λ known own h. let w = c.requires.served in
-          subst (λ (x : Seen). Housed known x own) (sym c.close.ensures.seen)
-          (housed-closed (c.loop-client.invariant.serving w.present w.first w.before w.now w.policy w.pid w.start w.failed w.given w.todo w.serving) k leaves known own (c.loop-client.invariant.housed known own h));
-      ready = λ known quiet queue failed own h r. let w = c.requires.served in
-          subst (λ x. IsReady known quiet queue x failed own c.closed.new.self) (sym c.remove.ensures)
-          (subst (λ (t : State). IsReady known quiet queue (without k c.loop-client.held) failed own t) (sym c.closed.ensures.exact)
-          (ready-closed (c.loop-client.invariant.serving w.present w.first w.before w.now w.policy w.pid w.start w.failed w.given w.todo w.serving) k leaves known quiet queue failed own (c.loop-client.invariant.housed known own h) (c.loop-client.invariant.ready known quiet queue failed own h r)));
+      ready = λ known quiet queue failed own h.
+          let w = c.requires.served in
+          let was = c.loop-client.invariant.ready known quiet queue failed own h in
+          let v = c.loop-client.invariant.serving w.present w.first w.before w.now w.policy w.pid w.start w.failed w.given w.todo w.serving in
+          (
+            subst (λ (x : Seen). Housed known x own) (sym (seen-is c.close.ensures.state)) (housed-closed v k leaves known own was.0),
+            λ r. subst (λ x. IsReady known quiet queue x failed own c.closed.new.self) (sym c.remove.ensures)
+            (subst (λ (t : State). IsReady known quiet queue (without k c.loop-client.held) failed own t) (sym c.closed.ensures.exact)
+            (ready-closed v k leaves known quiet queue failed own was.0 (was.1 r))),
+          );
       ended = ap (λ (t : State). t.ended) c.closed.ensures.exact ∙ c.loop-client.invariant.ended;
-      unopened = ap (λ (x : Seen). x.last_own) c.close.ensures.seen ∙ c.loop-client.invariant.unopened;
-      faults = c.close.ensures.server ∙ c.loop-client.invariant.faults;
-      calls = c.close.ensures.calls ∙ c.loop-client.invariant.calls;
-      own_faults = own-then _ _ _ _ _ _ c.loop-client.invariant.own_faults (own-kept _ _ _ _ (ap (λ (x : Seen). x.told) c.close.ensures.seen) c.close.ensures.own);
-      openings = c.close.ensures.openings ∙ c.loop-client.invariant.openings;
-      joinings = c.close.ensures.joinings ∙ c.loop-client.invariant.joinings;
+      unopened = ap (λ (x : Seen). x.last_own) (seen-is c.close.ensures.state) ∙ c.loop-client.invariant.unopened;
+      wire = idle-then c.loop-client.invariant.wire (idle-close k c.close.ensures.state c.close.ensures.faults);
     }
-
--- ---- own faults
-
-pub returns-clause-own_faults : goal.returns-clause-own_faults
-returns-clause-own_faults g c = c.loop-client.invariant.own_faults

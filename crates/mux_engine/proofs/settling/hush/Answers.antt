@@ -1,11 +1,11 @@
 use Rattle.std.proofs.Common.{◌≡◌, ◌∙◌, None, false, refl, sym, ap, subst}
 use Rattle.std.specs.Prelude.{is_some}
 use Rattle.mux_outside.specs.Seen.{Seen}
-use Rattle.mux_engine.proofs.OwnFaults.{own-kept}
 use Rattle.mux_engine.specs.Serving.{Serving}
 use Rattle.mux_engine.specs.Sides.{RestsOf, SamePlaces}
 use Rattle.mux_engine.proofs.Lists.{true-false}
 use Rattle.mux_engine.proofs.Loops.{serve-hushed}
+use Rattle.mux_engine.proofs.Wired.{idle-none, idle-silence, seen-is}
 use Rattle.mux_engine.proofs.settling.hush.Goals.{else-listening-via-then-listening+else-is_none, else-listening-via-else-listening}
 use Rattle.mux_engine.proofs.settling.hush.Given.{Over}
 use Rattle.mux_engine.proofs.settling.hush.Goals as goal
@@ -17,13 +17,13 @@ silent g c live = elim c.else-listening.branch [
 ]
 
 pub returns-clause-serving : goal.returns-clause-serving
-returns-clause-serving g c present first before now policy pid start held failed given todo v =
-    subst (λ (x : Seen). Serving g.H.Asks.may (RestsOf g.H.Asks.state present first) before now policy pid start x held failed given todo c.args.engine.now) (sym c.stop_listening.ensures.seen) (serve-hushed v (silent g c))
+returns-clause-serving g c held present first before now policy pid start failed given todo v =
+    subst (λ (x : Seen). Serving g.H.Asks.may (RestsOf g.H.Asks.state present first) before now policy pid start x held failed given todo c.args.engine.now) (sym (seen-is c.stop_listening.ensures.state)) (serve-hushed v (silent g c))
 
 pub returns-clause-places : goal.returns-clause-places
-returns-clause-places g c = subst (SamePlaces (g.W.Wire.state c.args.wire.now).seen) (sym c.stop_listening.ensures.seen) record { streams = refl; listeners = refl; own = refl; last_own = refl }
+returns-clause-places g c = subst (SamePlaces (g.W.Wire.state c.args.wire.now).seen) (sym (seen-is c.stop_listening.ensures.state)) record { streams = refl; listeners = refl; own = refl; last_own = refl }
 
--- ---- own faults
+-- ---- the wire
 
-pub returns-clause-own_faults : goal.returns-clause-own_faults
-returns-clause-own_faults g c = own-kept _ _ _ _ (ap (λ (x : Seen). x.told) c.stop_listening.ensures.seen) c.stop_listening.ensures.own
+pub returns-clause-wire : goal.returns-clause-wire
+returns-clause-wire g c = idle-silence c.stop_listening.ensures.state c.stop_listening.ensures.faults

@@ -3,12 +3,12 @@ use Rattle.mux_outside.specs.OwnStreams.{is_one}
 use Rattle.mux_outside.specs.Streams.{among, without}
 use Rattle.mux_history.specs.declared.limits.TheConstants.{HOUSE}
 use Rattle.mux_machine.specs.State.{State, waiting_in}
-use Rattle.mux_engine.proofs.Arms.{cut-then, none-there, on-err, well-none, well-then}
+use Rattle.mux_engine.proofs.Arms.{none-there, on-err}
 use Rattle.mux_engine.proofs.Cuts.{cut-still}
 use Rattle.mux_engine.proofs.Lists.{drop-next, element-among, same-open}
-use Rattle.mux_engine.proofs.Loops.{clients-of, counts-err, more-left, only-waiting, server-behind, todo-is, waits-open}
-use Rattle.mux_engine.proofs.OwnFaults.{own-same, own-then}
+use Rattle.mux_engine.proofs.Loops.{clients-of, more-left, only-waiting, server-behind, todo-is, waits-open}
 use Rattle.mux_engine.proofs.Places.{places-same, places-then}
+use Rattle.mux_engine.proofs.Wired.{worked, worked-none, works-any, works-err, works-none, works-then}
 use Rattle.mux_engine.proofs.settling.offer_clients.Goals as goal
 
 pub loop-stream-init : goal.loop-stream-init
@@ -24,11 +24,7 @@ loop-stream-init g c =
       places = places-same _ _ refl;
       clients = λ t a. waits-open s t (subst (λ (l : List ℕ). among t l ≡ true) (items ∙ ap clients-of listed) a);
       ended = refl;
-      later = le_refl _;
-      calls = well-none _;
-      own_faults = own-same _ _;
-      openings = refl;
-      joinings = refl;
+      wire = worked-none _ _;
       none = λ e. items ∙ ap clients-of (c.waiting.ensures.exact ∙ e);
       idle = λ e. (refl, refl);
     }
@@ -69,12 +65,6 @@ returns-in_err-offer-clause-serving g c left present first before now policy pid
     (c.in_err-offer.ensures.serving (drop (i + 1) items ++ (0 ∷ left)) (server-behind (k ∷ drop (i + 1) items) left) present first before now policy pid start failed given
     (todo-is (drop i items ++ (0 ∷ left)) (k ∷ (drop (i + 1) items ++ (0 ∷ left))) (ap (λ l. l ++ (0 ∷ left)) (drop-next i items (omega arith))) (c.loop-stream.invariant.serving left present first before now policy pid start failed given v)))
 
-pub returns-in_err-offer-clause-later : goal.returns-in_err-offer-clause-later
-returns-in_err-offer-clause-later g c = le_trans c.loop-stream.invariant.later c.offer.ensures.later
-
-pub returns-in_err-offer-clause-calls : goal.returns-in_err-offer-clause-calls
-returns-in_err-offer-clause-calls g c = counts-err c.from_residual-in_err-offer.result 0 _ _ c.from_residual-in_err-offer.ensures.0 (cut-then _ _ _ c.loop-stream.invariant.calls c.in_err-offer.ensures.calls)
-
 pub returns-in_err-offer-clause-places : goal.returns-in_err-offer-clause-places
 returns-in_err-offer-clause-places g c = places-then _ _ _ c.loop-stream.invariant.places c.offer.ensures.places
 
@@ -85,16 +75,12 @@ loop-stream-preserved g c =
     record {
       serving = λ left present first before now policy pid start failed given v. c.in_ok-offer.ensures.serving (drop (i + 1) items ++ (0 ∷ left)) (server-behind (k ∷ drop (i + 1) items) left) present first before now policy pid start failed given
           (todo-is (drop i items ++ (0 ∷ left)) (k ∷ (drop (i + 1) items ++ (0 ∷ left))) (ap (λ l. l ++ (0 ∷ left)) (drop-next i items (omega arith))) (c.loop-stream.invariant.serving left present first before now policy pid start failed given v));
-      streams = c.in_ok-offer.ensures.streams ∙ c.loop-stream.invariant.streams;
+      streams = c.in_ok-offer.ensures.engine.streams ∙ c.loop-stream.invariant.streams;
       holds = λ t a. c.in_ok-offer.ensures.holds t (c.loop-stream.invariant.holds t a);
       places = places-then _ _ _ c.loop-stream.invariant.places c.offer.ensures.places;
       clients = c.loop-stream.invariant.clients;
-      ended = c.in_ok-offer.ensures.client (c.loop-stream.invariant.clients k (element-among i items (omega arith))).no_server ∙ c.loop-stream.invariant.ended;
-      later = le_trans c.loop-stream.invariant.later c.offer.ensures.later;
-      calls = well-then _ _ _ c.loop-stream.invariant.calls c.in_ok-offer.ensures.calls;
-      own_faults = own-then _ _ _ _ _ _ c.loop-stream.invariant.own_faults c.offer.ensures.own_faults;
-      openings = c.offer.ensures.openings ∙ c.loop-stream.invariant.openings;
-      joinings = c.offer.ensures.joinings ∙ c.loop-stream.invariant.joinings;
+      ended = c.in_ok-offer.ensures.engine.client (c.loop-stream.invariant.clients k (element-among i items (omega arith))).no_server ∙ c.loop-stream.invariant.ended;
+      wire = works-then c.loop-stream.invariant.wire (worked c.in_ok-offer.ensures.wire);
       none = c.loop-stream.invariant.none;
       idle = λ e. none-there i items (omega arith) (c.loop-stream.invariant.none e);
     }
@@ -111,13 +97,13 @@ returns-in_err-refill-clause-places g c = places-same _ _ refl
 pub returns-in_err-refill-clause-idle : goal.returns-in_err-refill-clause-idle
 returns-in_err-refill-clause-idle g c = λ none. (refl, refl)
 
--- ---- own faults
+-- ---- the wire
 
-pub returns-in_err-refill-clause-own_faults : goal.returns-in_err-refill-clause-own_faults
-returns-in_err-refill-clause-own_faults g c = own-same _ _
+pub returns-in_err-refill-clause-wire : goal.returns-in_err-refill-clause-wire
+returns-in_err-refill-clause-wire g c = works-none _ _ _
 
-pub returns-in_err-offer-clause-own_faults : goal.returns-in_err-offer-clause-own_faults
-returns-in_err-offer-clause-own_faults g c = own-then _ _ _ _ _ _ c.loop-stream.invariant.own_faults c.offer.ensures.own_faults
+pub returns-in_err-offer-clause-wire : goal.returns-in_err-offer-clause-wire
+returns-in_err-offer-clause-wire g c = works-err c.from_residual-in_err-offer.result c.from_residual-in_err-offer.ensures.0 (works-then c.loop-stream.invariant.wire c.in_err-offer.ensures.wire)
 
-pub returns-clause-own_faults : goal.returns-clause-own_faults
-returns-clause-own_faults g c = c.loop-stream.invariant.own_faults
+pub returns-clause-wire : goal.returns-clause-wire
+returns-clause-wire g c = works-any _ c.loop-stream.invariant.wire

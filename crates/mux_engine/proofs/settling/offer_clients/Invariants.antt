@@ -5,11 +5,10 @@ use Rattle.mux_outside.specs.declared.mark.Mark.{Mark}
 use Rattle.mux_history.specs.declared.limits.TheConstants.{HOUSE}
 use Rattle.mux_history.specs.Policy.{Policy}
 use Rattle.mux_machine.specs.Events.{here}
-use Rattle.mux_engine.specs.Counted.{Well}
-use Rattle.mux_engine.specs.OwnFaults.{OwnCounted}
 use Rattle.mux_engine.specs.Serving.{Serving}
 use Rattle.mux_engine.specs.Sides.{RestsOf, SamePlaces, Side}
 use Rattle.mux_engine.proofs.Loops.{IsClient}
+use Rattle.mux_engine.proofs.Wired.{Worked}
 use Rattle.mux_engine.proofs.settling.offer_clients.Given as goal
 
 abbrev pub invariant-loop-stream : goal.invariant-loop-stream
@@ -21,11 +20,7 @@ invariant-loop-stream g l = let W = g.W.Wire in let H = g.H.Asks in record {
   places : SamePlaces (W.state l.fn.wire).seen (W.state l.wire).seen;
   clients : (t : ℕ) → among t l.stream-items ≡ true → IsClient l.fn.engine t;
   ended : l.engine.ended ≡ l.fn.engine.ended;
-  later : (W.faults l.fn.wire).server ≤ (W.faults l.wire).server;
-  calls : Well 0 (W.state l.fn.wire).calls (W.state l.wire).calls;
-  own_faults : OwnCounted (W.state l.fn.wire).seen.told (W.state l.wire).seen.told (W.faults l.fn.wire).own (W.faults l.wire).own;
-  openings : (W.state l.wire).openings ≡ (W.state l.fn.wire).openings;
-  joinings : (W.state l.wire).joinings ≡ (W.state l.fn.wire).joinings;
+  wire : Worked 0 (W.state l.fn.wire) (W.state l.wire) (W.faults l.fn.wire) (W.faults l.wire);
   none : l.fn.engine.waiting ≡ [] → l.stream-items ≡ [];
   idle : l.fn.engine.waiting ≡ [] → (l.engine ≡ l.fn.engine) × (l.wire ≡ l.fn.wire);
 }

@@ -1,16 +1,13 @@
 use Rattle.std.proofs.Common.{◌≤◌, ◌<◌, ◌∷◌, [], ◌++◌, ◌∙◌, sym, ap, subst, refl, ℕ, List, length, take}
 use Rattle.std.proofs.lemmas.List.{length-take-le}
 use Rattle.mux_outside.specs.Seen.{Seen, seen_after_write}
-use Rattle.mux_outside.specs.CallCounts.{CallCounts}
 use Rattle.mux_outside.specs.Streams.{among, without}
 use Rattle.mux_outside.specs.declared.mark.Mark.TheVariants.{Takes, Holds, WriteFails}
 use Rattle.mux_outside.specs.declared.turn.Wrote.TheVariants as wrote
 use Rattle.mux_machine.specs.State.{State}
-use Rattle.mux_engine.proofs.OwnFaults.{own-same, own-write}
-use Rattle.mux_engine.specs.Counted.{Well}
 use Rattle.mux_engine.specs.Serving.{Serving}
 use Rattle.mux_engine.specs.Sides.{RestsOf}
-use Rattle.mux_engine.proofs.Arms.{Failing, empty-is, failing, fault-ended, fault-later, le-of, on-err, some-bytes, stays, unless-empty, well-one}
+use Rattle.mux_engine.proofs.Arms.{Failing, empty-is, failing, offered-fails, offered-none, offered-same, on-err, some-bytes, unless-empty}
 use Rattle.mux_engine.proofs.Asks.{goes-asked, goes-unasked, none-asked, unasked-none}
 use Rattle.mux_engine.proofs.Holding.{client-unfinished, held-more}
 use Rattle.mux_engine.proofs.Lists.{not-own-stream}
@@ -21,6 +18,7 @@ use Rattle.mux_engine.proofs.Places.{AtStream, at-stream, open-own, places-same,
 use Rattle.mux_engine.proofs.Silent.{holds-alike}
 use Rattle.mux_engine.proofs.Taken.{queue-present, took-asks, took-less, took-run}
 use Rattle.mux_engine.proofs.Todo.{nothing-left}
+use Rattle.mux_engine.proofs.Wired.{seen-is, works-none, works-starved, works-write}
 use Rattle.mux_machine.proofs.Twins.{stands-alike}
 use Rattle.mux_engine.proofs.settling.offer_once.Given as given_to
 use Rattle.mux_engine.proofs.settling.offer_once.Goals as goal
@@ -48,36 +46,14 @@ returns-in-Took-clause-serving g c todo zero present first before now policy pid
     let some : 0 < length bytes = some-bytes bytes (sym c.if-is_empty.ensures) in
     let same : SameRun s c.took.new.self = took-run s c.took.new.self k n c.took.ensures.exact in
     let at : AtStream s v.journal v.closed k = at-stream v.stands k c.requires.stream_open in
-    subst (λ (x : Seen). Serving g.H.Asks.may (RestsOf g.H.Asks.state present first) before now policy pid start x c.args.held.now failed given (k ∷ todo) c.took.new.self) (sym c.in-Took.ensures.seen)
+    subst (λ (x : Seen). Serving g.H.Asks.may (RestsOf g.H.Asks.state present first) before now policy pid start x c.args.held.now failed given (k ∷ todo) c.took.new.self) (sym (seen-is c.in-Took.ensures.state))
     (serve-alone v now (seen_after_write (wrote.Took n) k bytes (g.W.Wire.state c.args.wire.now).seen) c.args.held.now failed given (k ∷ todo) c.took.new.self (Takes k (take n bytes))
     (c.took.ensures.stands (take n bytes) (length-take-le n bytes fits) v.picked v.replies v.journal v.closed v.stands ((λ nz. queue-present s k bytes c.queue_of-bytes.ensures.exact some nz), not-own-stream k (open-own v k c.requires.stream_open c.requires.no_house)))
     (took-asks s c.took.new.self k (take n bytes) v.journal same)
     (next-takes v c.took.new.self k n bytes c.requires.stream_open c.requires.no_house same c.queue_of-bytes.ensures.bytes c.in-Took.ensures.wrote.0 fits (c.queue_of-bytes.ensures.waits v.picked v.replies v.journal v.closed v.stands at.not_closed)))
 
-pub returns-in-Took-clause-streams : goal.returns-in-Took-clause-streams
-returns-in-Took-clause-streams g c = (took-run c.args.engine.now c.took.new.self c.args.stream c.in-Took.n c.took.ensures.exact).streams
-
-pub returns-in-Took-clause-less : goal.returns-in-Took-clause-less
-returns-in-Took-clause-less g c = λ more. took-less c.args.engine.now c.took.new.self c.args.stream c.in-Took.n c.took.ensures.exact c.in-Took.ensures.wrote.0
-    (subst (λ (b : List ℕ). c.in-Took.n ≤ length b) c.queue_of-bytes.ensures.exact c.in-Took.ensures.wrote.1)
-
 pub took-requires : goal.took-requires
 took-requires g c = subst (λ (b : List ℕ). c.in-Took.n ≤ length b) c.queue_of-bytes.ensures.exact c.in-Took.ensures.wrote.1
-
-pub returns-in-Took-clause-free : goal.returns-in-Took-clause-free
-returns-in-Took-clause-free g c = λ more. ap (λ (x : Seen). among c.args.stream x.blocked) c.in-Took.ensures.seen ∙ c.requires.free
-
-pub returns-in-Took-clause-ended : goal.returns-in-Took-clause-ended
-returns-in-Took-clause-ended g c = stays _ _ _ _ (took-run c.args.engine.now c.took.new.self c.args.stream c.in-Took.n c.took.ensures.exact).ended c.in-Took.ensures.cause.same_server
-
-pub returns-in-Took-clause-client : goal.returns-in-Took-clause-client
-returns-in-Took-clause-client g c = λ nz. (took-run c.args.engine.now c.took.new.self c.args.stream c.in-Took.n c.took.ensures.exact).ended
-
-pub returns-in-Took-clause-later : goal.returns-in-Took-clause-later
-returns-in-Took-clause-later g c = le-of _ _ (sym c.in-Took.ensures.cause.same_server)
-
-pub returns-in-Took-clause-calls : goal.returns-in-Took-clause-calls
-returns-in-Took-clause-calls g c = subst (λ (x : CallCounts). Well 0 (g.W.Wire.state c.args.wire.now).calls x) (sym c.in-Took.ensures.calls) (well-one (g.W.Wire.state c.args.wire.now).calls)
 
 -- ---- a stream that is blocked now
 
@@ -86,7 +62,7 @@ returns-in_ok-push-in-Later-clause-serving g c todo zero present first before no
     let s : State = c.args.engine.now in
     let k : ℕ = c.args.stream in
     let bytes : List ℕ = c.queue_of-bytes.result.now in
-    subst (λ (x : Seen). Serving g.H.Asks.may (RestsOf g.H.Asks.state present first) before now policy pid start x c.push.new.self failed given (without k todo) s) (sym c.in-Later.ensures.seen)
+    subst (λ (x : Seen). Serving g.H.Asks.may (RestsOf g.H.Asks.state present first) before now policy pid start x c.push.new.self failed given (without k todo) s) (sym (seen-is c.in-Later.ensures.state))
     (subst (λ (h : List ℕ). Serving g.H.Asks.may (RestsOf g.H.Asks.state present first) before now policy pid start (seen_after_write wrote.Later k bytes (g.W.Wire.state c.args.wire.now).seen) h failed given (without k todo) s) (sym c.in_ok-push-in-Later.ensures.ok)
     (serve-alone v now (seen_after_write wrote.Later k bytes (g.W.Wire.state c.args.wire.now).seen) (c.args.held.now ++ k ∷ []) failed given (without k todo) s (Holds k)
     (stands-alike v.journal (Holds k ∷ v.journal) v.picked v.replies s v.closed (holds-alike k v.journal) v.stands) (λ picks replies. refl)
@@ -97,7 +73,7 @@ returns-in_ok-push-in-Later-clause-holds g c = λ t a. ap (among t) c.in_ok-push
 
 pub returns-in_err-push-in-Later-clause-serving : goal.returns-in_err-push-in-Later-clause-serving
 returns-in_err-push-in-Later-clause-serving g c todo zero present first before now policy pid start failed given v = on-err c.from_residual.result _ _ c.from_residual.ensures.0
-    (cut-holds v _ c.args.stream c.queue_of-bytes.result.now (writes-client v.journal c.args.stream (open-own v c.args.stream c.requires.stream_open c.requires.no_house)) (stream-open v c.args.stream c.requires.stream_open c.requires.no_house) c.queue_of-bytes.ensures.bytes (some-bytes c.queue_of-bytes.result.now (sym c.if-is_empty.ensures)) c.in-Later.ensures.seen)
+    (cut-holds v _ c.args.stream c.queue_of-bytes.result.now (writes-client v.journal c.args.stream (open-own v c.args.stream c.requires.stream_open c.requires.no_house)) (stream-open v c.args.stream c.requires.stream_open c.requires.no_house) c.queue_of-bytes.ensures.bytes (some-bytes c.queue_of-bytes.result.now (sym c.if-is_empty.ensures)) (seen-is c.in-Later.ensures.state))
 
 -- ---- a stream that failed
 
@@ -117,36 +93,18 @@ returns-in_ok-event-in-Failed-clause-serving g c todo zero present first before 
     let said = c.in_ok-event-in-Failed.ensures.stands (WriteFails k) c.event_of_fault.ensures.write v.picked v.replies v.journal v.closed v.stands (at.accepted, not-own-stream k (open-own v k c.requires.stream_open c.requires.no_house)) in
     let none = none-asked said.asks (goes-asked (λ j. ⊥) said f.policy f.pid tt) in
     let on = goes-unasked {May = g.H.Asks.may} v.stands said none in
-    subst (λ (x : Seen). Serving g.H.Asks.may (RestsOf g.H.Asks.state present first) before now policy pid start x c.args.held.now failed given (without k todo) c.event.new.self) (sym c.in-Failed.ensures.seen)
+    subst (λ (x : Seen). Serving g.H.Asks.may (RestsOf g.H.Asks.state present first) before now policy pid start x c.args.held.now failed given (without k todo) c.event.new.self) (sym (seen-is c.in-Failed.ensures.state))
     (serve-next v now (seen_after_write wrote.Failed k bytes (g.W.Wire.state c.args.wire.now).seen) c.args.held.now failed given (without k todo) c.event.new.self (WriteFails k) on
     (next-fails v k bytes on (unasked-none g.H.Asks.may v.stands said none) c.requires.stream_open c.requires.no_house c.queue_of-bytes.ensures.bytes (some-bytes c.queue_of-bytes.result.now (sym c.if-is_empty.ensures)) zero f.policy f.pid f.streams f.live f.over))
 
 pub returns-in_err-event-in-Failed-clause-serving : goal.returns-in_err-event-in-Failed-clause-serving
 returns-in_err-event-in-Failed-clause-serving g c todo zero present first before now policy pid start failed given v = on-err c.from_residual-in_err-event-in-Failed.result _ _ c.from_residual-in_err-event-in-Failed.ensures.0
-    (cut-fails v _ c.args.stream c.queue_of-bytes.result.now (writes-client v.journal c.args.stream (open-own v c.args.stream c.requires.stream_open c.requires.no_house)) (stream-open v c.args.stream c.requires.stream_open c.requires.no_house) c.queue_of-bytes.ensures.bytes (some-bytes c.queue_of-bytes.result.now (sym c.if-is_empty.ensures)) c.in-Failed.ensures.seen)
-
-pub returns-in_ok-event-in-Failed-clause-streams : goal.returns-in_ok-event-in-Failed-clause-streams
-returns-in_ok-event-in-Failed-clause-streams g c = (lost g c).streams
-
-pub returns-in_ok-event-in-Failed-clause-ended : goal.returns-in_ok-event-in-Failed-clause-ended
-returns-in_ok-event-in-Failed-clause-ended g c = fault-ended c.args.stream c.args.engine.now c.event.new.self _ _ _ _ (lost g c) c.in-Failed.ensures.cause
-
-pub returns-in_ok-event-in-Failed-clause-client : goal.returns-in_ok-event-in-Failed-clause-client
-returns-in_ok-event-in-Failed-clause-client g c = (lost g c).client
-
-pub returns-in_ok-event-in-Failed-clause-later : goal.returns-in_ok-event-in-Failed-clause-later
-returns-in_ok-event-in-Failed-clause-later g c = fault-later c.args.stream _ _ _ _ c.in-Failed.ensures.cause
-
-pub returns-in_err-event-in-Failed-clause-later : goal.returns-in_err-event-in-Failed-clause-later
-returns-in_err-event-in-Failed-clause-later g c = fault-later c.args.stream _ _ _ _ c.in-Failed.ensures.cause
-
-pub returns-in_ok-event-in-Failed-clause-calls : goal.returns-in_ok-event-in-Failed-clause-calls
-returns-in_ok-event-in-Failed-clause-calls g c = subst (λ (x : CallCounts). Well 0 (g.W.Wire.state c.args.wire.now).calls x) (sym c.in-Failed.ensures.calls) (well-one (g.W.Wire.state c.args.wire.now).calls)
+    (cut-fails v _ c.args.stream c.queue_of-bytes.result.now (writes-client v.journal c.args.stream (open-own v c.args.stream c.requires.stream_open c.requires.no_house)) (stream-open v c.args.stream c.requires.stream_open c.requires.no_house) c.queue_of-bytes.ensures.bytes (some-bytes c.queue_of-bytes.result.now (sym c.if-is_empty.ensures)) (seen-is c.in-Failed.ensures.state))
 
 -- ---- no memory for the write
 
 pub returns-in-NoMemory-clause-serving : goal.returns-in-NoMemory-clause-serving
-returns-in-NoMemory-clause-serving g c todo zero present first before now policy pid start failed given v = cut-starved v _ c.args.stream c.queue_of-bytes.result.now c.in-NoMemory.ensures.seen
+returns-in-NoMemory-clause-serving g c todo zero present first before now policy pid start failed given v = cut-starved v _ c.args.stream c.queue_of-bytes.result.now (seen-is c.in-NoMemory.ensures.state)
 
 -- ---- where nothing waits
 
@@ -172,45 +130,66 @@ pub returns-then-is_empty-clause-idle : goal.returns-then-is_empty-clause-idle
 returns-then-is_empty-clause-idle g c = λ none. (refl, refl)
 
 pub returns-in-Took-clause-places : goal.returns-in-Took-clause-places
-returns-in-Took-clause-places g c = places-write (wrote.Took c.in-Took.n) c.args.stream c.queue_of-bytes.result.now _ _ c.in-Took.ensures.seen
+returns-in-Took-clause-places g c = places-write (wrote.Took c.in-Took.n) c.args.stream c.queue_of-bytes.result.now _ _ (seen-is c.in-Took.ensures.state)
 
 pub returns-in_ok-push-in-Later-clause-places : goal.returns-in_ok-push-in-Later-clause-places
-returns-in_ok-push-in-Later-clause-places g c = places-write wrote.Later c.args.stream c.queue_of-bytes.result.now _ _ c.in-Later.ensures.seen
+returns-in_ok-push-in-Later-clause-places g c = places-write wrote.Later c.args.stream c.queue_of-bytes.result.now _ _ (seen-is c.in-Later.ensures.state)
 
 pub returns-in_err-push-in-Later-clause-places : goal.returns-in_err-push-in-Later-clause-places
-returns-in_err-push-in-Later-clause-places g c = places-write wrote.Later c.args.stream c.queue_of-bytes.result.now _ _ c.in-Later.ensures.seen
+returns-in_err-push-in-Later-clause-places g c = places-write wrote.Later c.args.stream c.queue_of-bytes.result.now _ _ (seen-is c.in-Later.ensures.state)
 
 pub returns-in_ok-event-in-Failed-clause-places : goal.returns-in_ok-event-in-Failed-clause-places
-returns-in_ok-event-in-Failed-clause-places g c = places-write wrote.Failed c.args.stream c.queue_of-bytes.result.now _ _ c.in-Failed.ensures.seen
+returns-in_ok-event-in-Failed-clause-places g c = places-write wrote.Failed c.args.stream c.queue_of-bytes.result.now _ _ (seen-is c.in-Failed.ensures.state)
 
 pub returns-in_err-event-in-Failed-clause-places : goal.returns-in_err-event-in-Failed-clause-places
-returns-in_err-event-in-Failed-clause-places g c = places-write wrote.Failed c.args.stream c.queue_of-bytes.result.now _ _ c.in-Failed.ensures.seen
+returns-in_err-event-in-Failed-clause-places g c = places-write wrote.Failed c.args.stream c.queue_of-bytes.result.now _ _ (seen-is c.in-Failed.ensures.state)
 
 pub returns-in-NoMemory-clause-places : goal.returns-in-NoMemory-clause-places
-returns-in-NoMemory-clause-places g c = places-write wrote.NoMemory c.args.stream c.queue_of-bytes.result.now _ _ c.in-NoMemory.ensures.seen
+returns-in-NoMemory-clause-places g c = places-write wrote.NoMemory c.args.stream c.queue_of-bytes.result.now _ _ (seen-is c.in-NoMemory.ensures.state)
 
 pub returns-then-is_empty-clause-places : goal.returns-then-is_empty-clause-places
 returns-then-is_empty-clause-places g c = places-same _ _ refl
 
--- ---- own faults
+-- ---- the engine, and what it can take more
 
-pub returns-then-is_empty-clause-own_faults : goal.returns-then-is_empty-clause-own_faults
-returns-then-is_empty-clause-own_faults g c = own-same _ _
+pub returns-then-is_empty-clause-engine : goal.returns-then-is_empty-clause-engine
+returns-then-is_empty-clause-engine g c = offered-none _ _ _
 
-pub returns-in-Took-clause-own_faults : goal.returns-in-Took-clause-own_faults
-returns-in-Took-clause-own_faults g c = own-write (wrote.Took c.in-Took.n) c.args.stream c.queue_of-bytes.result.now _ _ _ _ c.in-Took.ensures.seen c.in-Took.ensures.own
+pub returns-in-Took-clause-engine : goal.returns-in-Took-clause-engine
+returns-in-Took-clause-engine g c = let same = took-run c.args.engine.now c.took.new.self c.args.stream c.in-Took.n c.took.ensures.exact in
+    offered-same _ _ _ _ _ same.streams same.ended c.in-Took.ensures.cause
 
-pub returns-in_ok-push-in-Later-clause-own_faults : goal.returns-in_ok-push-in-Later-clause-own_faults
-returns-in_ok-push-in-Later-clause-own_faults g c = own-write wrote.Later c.args.stream c.queue_of-bytes.result.now _ _ _ _ c.in-Later.ensures.seen c.in-Later.ensures.own
+pub returns-in-Took-clause-more : goal.returns-in-Took-clause-more
+returns-in-Took-clause-more g c = λ more. record {
+  less = took-less c.args.engine.now c.took.new.self c.args.stream c.in-Took.n c.took.ensures.exact c.in-Took.ensures.wrote.0 (subst (λ (b : List ℕ). c.in-Took.n ≤ length b) c.queue_of-bytes.ensures.exact c.in-Took.ensures.wrote.1);
+  free = ap (λ (x : Seen). among c.args.stream x.blocked) (seen-is c.in-Took.ensures.state) ∙ c.requires.free;
+}
 
-pub returns-in_err-push-in-Later-clause-own_faults : goal.returns-in_err-push-in-Later-clause-own_faults
-returns-in_err-push-in-Later-clause-own_faults g c = own-write wrote.Later c.args.stream c.queue_of-bytes.result.now _ _ _ _ c.in-Later.ensures.seen c.in-Later.ensures.own
+pub returns-in_ok-push-in-Later-clause-engine : goal.returns-in_ok-push-in-Later-clause-engine
+returns-in_ok-push-in-Later-clause-engine g c = offered-same _ _ _ _ _ refl refl c.in-Later.ensures.cause
 
-pub returns-in_ok-event-in-Failed-clause-own_faults : goal.returns-in_ok-event-in-Failed-clause-own_faults
-returns-in_ok-event-in-Failed-clause-own_faults g c = own-write wrote.Failed c.args.stream c.queue_of-bytes.result.now _ _ _ _ c.in-Failed.ensures.seen c.in-Failed.ensures.own
+pub returns-in_ok-event-in-Failed-clause-engine : goal.returns-in_ok-event-in-Failed-clause-engine
+returns-in_ok-event-in-Failed-clause-engine g c = offered-fails _ _ _ _ _ (lost g c) c.in-Failed.ensures.cause
 
-pub returns-in_err-event-in-Failed-clause-own_faults : goal.returns-in_err-event-in-Failed-clause-own_faults
-returns-in_err-event-in-Failed-clause-own_faults g c = own-write wrote.Failed c.args.stream c.queue_of-bytes.result.now _ _ _ _ c.in-Failed.ensures.seen c.in-Failed.ensures.own
+-- ---- the wire
 
-pub returns-in-NoMemory-clause-own_faults : goal.returns-in-NoMemory-clause-own_faults
-returns-in-NoMemory-clause-own_faults g c = own-write wrote.NoMemory c.args.stream c.queue_of-bytes.result.now _ _ _ _ c.in-NoMemory.ensures.seen c.in-NoMemory.ensures.own
+pub returns-then-is_empty-clause-wire : goal.returns-then-is_empty-clause-wire
+returns-then-is_empty-clause-wire g c = works-none _ _ _
+
+pub returns-in-Took-clause-wire : goal.returns-in-Took-clause-wire
+returns-in-Took-clause-wire g c = works-write _ (wrote.Took c.in-Took.n) c.args.stream c.queue_of-bytes.result.now refl c.in-Took.ensures.state c.in-Took.ensures.cause
+
+pub returns-in_ok-push-in-Later-clause-wire : goal.returns-in_ok-push-in-Later-clause-wire
+returns-in_ok-push-in-Later-clause-wire g c = works-write _ wrote.Later c.args.stream c.queue_of-bytes.result.now refl c.in-Later.ensures.state c.in-Later.ensures.cause
+
+pub returns-in_err-push-in-Later-clause-wire : goal.returns-in_err-push-in-Later-clause-wire
+returns-in_err-push-in-Later-clause-wire g c = works-write _ wrote.Later c.args.stream c.queue_of-bytes.result.now refl c.in-Later.ensures.state c.in-Later.ensures.cause
+
+pub returns-in_ok-event-in-Failed-clause-wire : goal.returns-in_ok-event-in-Failed-clause-wire
+returns-in_ok-event-in-Failed-clause-wire g c = works-write _ wrote.Failed c.args.stream c.queue_of-bytes.result.now refl c.in-Failed.ensures.state c.in-Failed.ensures.cause
+
+pub returns-in_err-event-in-Failed-clause-wire : goal.returns-in_err-event-in-Failed-clause-wire
+returns-in_err-event-in-Failed-clause-wire g c = works-write _ wrote.Failed c.args.stream c.queue_of-bytes.result.now refl c.in-Failed.ensures.state c.in-Failed.ensures.cause
+
+pub returns-in-NoMemory-clause-wire : goal.returns-in-NoMemory-clause-wire
+returns-in-NoMemory-clause-wire g c = works-starved _ c.args.stream c.queue_of-bytes.result.now c.in-NoMemory.ensures.state c.in-NoMemory.ensures.cause
