@@ -12,8 +12,8 @@ mod Cuts
 mod Ending
 mod Fates
 mod First
-mod Greeted
 mod Following
+mod Greeted
 mod Handed
 mod Happened
 mod Heeding
