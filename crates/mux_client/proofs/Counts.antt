@@ -1,6 +1,6 @@
 -- The calls that a talk counts.
 use Rattle.std.proofs.Common.{◌≡◌, ◌≤◌, ◌+◌, ◌-◌, ◌^◌, ◌∙◌, refl, sym, ap, subst, cond, inl, inr, ℕ, Bool, true, false, List, arith}
-use Rattle.std.specs.Prelude.{min, Result, Ok, Err, IfErr, OnOk, ◌==◌}
+use Rattle.std.specs.Prelude.{min, Result, Ok, Err, IfErr, ◌==◌}
 use Rattle.std.proofs.lemmas.Bool.{eq-eqb}
 use Rattle.mux_outside.specs.Counts.{counted}
 use Rattle.mux_outside.specs.CallCounts.{CallCounts, calls_after_wait, counted_if, is_server_end, is_server_piece, is_starved, late_after}
@@ -11,7 +11,7 @@ use Rattle.mux_client.specs.declared.stage.Stage.TheVariants as stage
 use Rattle.mux_client.specs.declared.talked.Talked.{Talked}
 use Rattle.mux_client.specs.declared.talked.Talked.TheVariants as talked
 use Rattle.mux_client.specs.Client.{ClientState}
-use Rattle.mux_client.specs.Counted.{AnsweredBy, Counts, HasHeard, Waited, Well, WentUp}
+use Rattle.mux_client.specs.Counted.{AnsweredBy, CameTo, Counts, HasHeard, Waited, Well, WentUp}
 use Rattle.mux_client.specs.Talking.{BreaksOff, IsAnswerAt, IsDecided, IsOfSink, IsOfWire, talked_of}
 
 waited-none : (n : ℕ) → Waited 0 n n
@@ -104,17 +104,14 @@ sink-answered (talked.Refused id) a b h up = absurd h
 sink-answered (talked.BadMaster at) a b h up = absurd h
 sink-answered talked.Spent a b h up = absurd h
 
-pub read-answered : {A : Type 0} (r : Result A Talked) (a b : CallCounts) → IfErr r IsOfSink → WentUp a.server_pieces b.server_pieces → IfErr r (λ answer. AnsweredBy answer a b)
-read-answered (Ok x) a b h up = tt
-read-answered (Err answer) a b h up = sink-answered answer a b h up
+-- a piece came and was read, or the end came: the call goes on or the talk is over by that
+pub came-read : {A : Type 0} (r : Result A Talked) (before now : Stage) (a b : CallCounts) → IfErr r IsOfSink → WentUp a.server_pieces b.server_pieces → CameTo r before now a b
+came-read (Ok x) before now a b h up = inr up
+came-read (Err answer) before now a b h up = sink-answered answer a b h up
 
-pub off-answered : (s : ClientState) (r : Result (Unit {0}) Talked) (a b : CallCounts) → BreaksOff s r → WentUp a.server_ends b.server_ends → IfErr r (λ answer. AnsweredBy answer a b)
-off-answered s (Ok x) a b h up = tt
-off-answered s (Err answer) a b h up = subst (λ (x : Talked). AnsweredBy x a b) (sym h.2) (inr up)
-
-pub heard-so : {A : Type 0} (r : Result A Talked) (before now : Stage) (a b : CallCounts) → WentUp a.server_pieces b.server_pieces → OnOk r (HasHeard before now a b)
-heard-so (Ok x) before now a b up = inr up
-heard-so (Err answer) before now a b up = tt
+pub came-off : (s : ClientState) (r : Result (Unit {0}) Talked) (a b : CallCounts) → BreaksOff s r → WentUp a.server_ends b.server_ends → CameTo r s.stage s.stage a b
+came-off s (Ok x) a b h up = inl refl
+came-off s (Err answer) a b h up = subst (λ (x : Talked). AnsweredBy x a b) (sym h.2) (inr up)
 
 -- an answer by the stage of the talk
 at-answered : (answer : Talked) (at : Stage) (queue : List ℕ) (a b : CallCounts) → IsAnswerAt answer at queue → HasHeard stage.Greets at a b → AnsweredBy answer a b

@@ -6,7 +6,8 @@ use Rattle.std.proofs.lemmas.Bool.{eqb-true}
 use Rattle.std.proofs.lemmas.List.{append-nil}
 use Rattle.mux_outside.specs.Seen.{Seen, seen_after_turn}
 use Rattle.mux_outside.specs.Streams.{among, without}
-use Rattle.mux_outside.specs.Wire.{SameFaults}
+use Rattle.mux_outside.specs.Faults.{FaultOf, Faults, ServerFault}
+use Rattle.mux_outside.specs.Whose.{whose}
 use Rattle.mux_outside.specs.declared.mark.Mark.{Mark}
 use Rattle.mux_outside.specs.declared.mark.Mark.TheVariants.{Waits, Gets, Ends, Frees, Fails}
 use Rattle.mux_outside.specs.declared.turn.Turn.TheVariants as turn
@@ -98,15 +99,19 @@ off-or-on s (Err answer) On Over b on over = subst Over (sym b.2) (over b.0 b.1)
 
 -- ---- faults
 
-no-fault : (answer : Talked) (a b c d : ℕ) → IsOfSink answer → SameFaults a b c d → WireFaults answer a b c d
-no-fault talked.WriteFault a b c d own same = same
-no-fault talked.OutOfMemory a b c d own same = same
-no-fault talked.ServerFailed a b c d own same = absurd own
-no-fault talked.Done a b c d own same = absurd own
-no-fault (talked.Refused id) a b c d own same = absurd own
-no-fault (talked.BadMaster at) a b c d own same = absurd own
-no-fault talked.Spent a b c d own same = absurd own
+no-fault : (answer : Talked) (old new : Faults) → IsOfSink answer → new ≡ old → WireFaults answer old new
+no-fault talked.WriteFault old new own same = same
+no-fault talked.OutOfMemory old new own same = same
+no-fault talked.ServerFailed old new own same = absurd own
+no-fault talked.Done old new own same = absurd own
+no-fault (talked.Refused id) old new own same = absurd own
+no-fault (talked.BadMaster at) old new own same = absurd own
+no-fault talked.Spent old new own same = absurd own
 
-pub no-faults : {A : Type 0} (r : Result A Talked) (a b c d : ℕ) → IfErr r IsOfSink → SameFaults a b c d → StepFaults r a b c d
-no-faults (Ok x) a b c d own same = same
-no-faults (Err answer) a b c d own same = no-fault answer a b c d own same
+pub no-faults : {A : Type 0} (r : Result A Talked) (old new : Faults) → IfErr r IsOfSink → new ≡ old → StepFaults r old new
+no-faults (Ok x) old new own same = same
+no-faults (Err answer) old new own same = no-fault answer old new own same
+
+-- stream 0 is the server's
+pub failed-server : (k : ℕ) (old new : Faults) → k ≡ 0 → FaultOf (whose k) old new → ServerFault old new
+failed-server k old new zero f = subst (λ (t : ℕ). FaultOf (whose t) old new) zero f

@@ -4,12 +4,12 @@ use Rattle.std.specs.Option.{option_map}
 use Rattle.std.specs.Prelude.{Result, Ok, Err, IsErrAnd}
 use Rattle.mux_outside.specs.declared.mark.Mark.{Mark}
 use Rattle.mux_outside.specs.Seen.{Seen}
-use Rattle.mux_outside.specs.Wire.{SameFaults}
+use Rattle.mux_outside.specs.WireState.{WireState}
 use Rattle.mux_client.specs.declared.asks.Asks.{Asks}
 use Rattle.mux_client.specs.declared.talked.Talked.{Talked}
 use Rattle.mux_client.specs.declared.talked.Talked.TheVariants as talked
 use Rattle.mux_client.specs.Client.{ClientState, new_client, Stands, IsSettled}
-use Rattle.mux_client.specs.Talking.{AcceptsNone, IsDecided, IsOffered, Talking, IsTalk, WholeTalk, talked_of}
+use Rattle.mux_client.specs.Talking.{AcceptsNone, HasTalked, IsDecided, IsOffered, SameWire, Talking, IsTalk, WholeTalk, talked_of}
 use Rattle.mux_client.specs.Journal.{TalksTold, ShowsTold}
 use Rattle.mux_client.proofs.JournalGrows.{told-none}
 use Rattle.mux_client.proofs.TalkSteps.{talk-decided, talk-spent, talk-starved}
@@ -23,8 +23,11 @@ handed-as (Err e) answer P h p = subst P (sym h) p
 pub accepts-then : {a b c : Seen} → AcceptsNone a b → AcceptsNone b c → AcceptsNone a c
 accepts-then x y = record { streams = y.streams ∙ x.streams; listens = y.listens ∙ x.listens; last = y.last ∙ x.last; listeners = y.listeners ∙ x.listeners; own = y.own ∙ x.own }
 
-pub same-then : {a b c d e f : ℕ} → SameFaults a b d e → SameFaults b c e f → SameFaults a c d f
-same-then x y = record { same_server = y.same_server ∙ x.same_server; same_client = y.same_client ∙ x.same_client }
+pub wire-none : (s : WireState) → SameWire s s
+wire-none s = record { none_accepted = record { streams = refl; listens = refl; last = refl; listeners = refl; own = refl }; openings = refl; joinings = refl }
+
+pub wire-then : {a b c : WireState} → SameWire a b → SameWire b c → SameWire a c
+wire-then x y = record { none_accepted = accepts-then x.none_accepted y.none_accepted; openings = y.openings ∙ x.openings; joinings = y.joinings ∙ x.joinings }
 
 stands-new : (asks : Asks) → Stands asks [] [] [] new_client
 stands-new asks = record { goes = λ more ended. refl; request = tt }
@@ -79,8 +82,9 @@ shows-told asks answer (Some old) None before now shown due t e = tt
 shows-told asks answer (Some old) (Some new) None now shown due t e = tt
 shows-told asks answer (Some old) (Some new) (Some before) None shown due t e = tt
 
-pub whole-talks : {V : Type 0} (asks : Asks) (answer : Talked) (start told : Option (List Mark)) (before now : Option (List ℕ)) (old new : V) → WholeTalk asks answer start told before now old new → TalksTold asks answer start told
-whole-talks asks answer start told before now old new w = talks-told asks answer start told w.more w.due w.holds
-
-pub whole-shows : {V : Type 0} (asks : Asks) (answer : Talked) (start told : Option (List Mark)) (before now : Option (List ℕ)) (old new : V) → WholeTalk asks answer start told before now old new → ShowsTold asks answer start told before now
-whole-shows asks answer start told before now old new w = shows-told asks answer start told before now w.more w.due w.holds w.put
+pub has-talked : {V : Type 0} (asks : Asks) (answer : Talked) (start told : Option (List Mark)) (before now : Option (List ℕ)) (old new : V) → WholeTalk asks answer start told before now old new → HasTalked asks answer start told before now old new
+has-talked asks answer start told before now old new w = record {
+  whole = w;
+  talks = talks-told asks answer start told w.more w.due w.holds;
+  shows = shows-told asks answer start told before now w.more w.due w.holds w.put;
+}

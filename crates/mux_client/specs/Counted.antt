@@ -2,7 +2,7 @@
 use Rattle.std.specs.Prelude.{◌≡◌, ◌≢◌, ◌≤◌, ◌<◌, ◌+◌, ◌-◌, ◌^◌, ◌⊎◌, min, ℕ, Result, Ok, Err}
 use Rattle.mux_outside.specs.Counts.{Rose, counted}
 use Rattle.mux_outside.specs.CallCounts.{CallCounts}
-use Rattle.mux_outside.specs.Wire.{SameFaults}
+use Rattle.mux_outside.specs.Faults.{Faults, ServerFault}
 use Rattle.mux_client.specs.declared.stage.Stage.{Stage}
 use Rattle.mux_client.specs.declared.talked.Talked.{Talked}
 use Rattle.mux_client.specs.declared.talked.Talked.TheVariants.{Done, Refused, BadMaster, WriteFault, ServerFailed, Spent, OutOfMemory}
@@ -75,24 +75,28 @@ AnsweredBy answer old new = Unit {0}
 abbrev pub HasHeard : Stage → Stage → CallCounts → CallCounts → Type 0
 HasHeard before now old new = (now ≡ before) ⊎ WentUp old.server_pieces new.server_pieces
 
+-- a call goes on, and the talk stands as it stood, or a piece of the master came; or it is over by
+-- what came
+abbrev pub CameTo : {A : Type 0} → Result A Talked → Stage → Stage → CallCounts → CallCounts → Type 0
+CameTo (Ok x) before now old new = HasHeard before now old new
+CameTo (Err answer) before now old new = AnsweredBy answer old new
+
 -- ---- faults
 
--- the server's count rose where its stream failed, and stays with any other answer; that of the
--- clients stays
-abbrev pub WireFaults : Talked → ℕ → ℕ → ℕ → ℕ → Type 0
-WireFaults ServerFailed server server' client client' = Rose server server' × (client' ≡ client)
-WireFaults Done server server' client client' = SameFaults server server' client client'
-WireFaults (Refused id) server server' client client' = SameFaults server server' client client'
-WireFaults (BadMaster at) server server' client client' = SameFaults server server' client client'
-WireFaults WriteFault server server' client client' = SameFaults server server' client client'
-WireFaults Spent server server' client client' = SameFaults server server' client client'
-WireFaults OutOfMemory server server' client client' = SameFaults server server' client client'
+-- the server's count rose where its stream failed, and with any other answer all stay
+abbrev pub WireFaults : Talked → Faults → Faults → Type 0
+WireFaults ServerFailed old new = ServerFault old new
+WireFaults Done old new = new ≡ old
+WireFaults (Refused id) old new = new ≡ old
+WireFaults (BadMaster at) old new = new ≡ old
+WireFaults WriteFault old new = new ≡ old
+WireFaults Spent old new = new ≡ old
+WireFaults OutOfMemory old new = new ≡ old
 
 -- no call that goes on has a fault
-abbrev pub StepFaults : {A : Type 0} → Result A Talked → ℕ → ℕ → ℕ → ℕ → Type 0
-StepFaults (Ok x) server server' client client' = SameFaults server server' client client'
-StepFaults (Err answer) server server' client client' =
-    WireFaults answer server server' client client'
+abbrev pub StepFaults : {A : Type 0} → Result A Talked → Faults → Faults → Type 0
+StepFaults (Ok x) old new = new ≡ old
+StepFaults (Err answer) old new = WireFaults answer old new
 
 -- the sink's count rose where it failed, and stays with any other answer
 abbrev pub SinkFaults : Talked → ℕ → ℕ → Type 0

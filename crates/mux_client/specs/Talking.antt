@@ -1,16 +1,17 @@
 -- What holds between a client, its wire and its sink while it talks, and once the talk is over.
-use Rattle.std.specs.Prelude.{◌≡◌, ◌≢◌, ◌⊎◌, ℕ, true, false, ⊤, List, [], ◌∷◌, ◌++◌, Option, Some, None, Result, Ok, Err}
+use Rattle.std.specs.Prelude.{◌≡◌, ◌≢◌, ◌<◌, ◌⊎◌, ℕ, Bool, true, false, length, ⊤, List, [], ◌∷◌, ◌++◌, Option, Some, None, Result, Ok, Err}
 use Rattle.std.specs.Option.{option_map}
 use Rattle.mux_outside.specs.Marks.{bytes_taken}
 use Rattle.mux_outside.specs.Seen.{Seen}
+use Rattle.mux_outside.specs.WireState.{WireState}
 use Rattle.mux_outside.specs.declared.mark.Mark.{Mark}
 use Rattle.mux_client.specs.declared.asks.Asks.{Asks}
 use Rattle.mux_client.specs.declared.stage.Stage.{Stage}
 use Rattle.mux_client.specs.declared.stage.Stage.TheVariants as stage
 use Rattle.mux_client.specs.declared.talked.Talked.{Talked}
 use Rattle.mux_client.specs.declared.talked.Talked.TheVariants.{Done, Refused, BadMaster, WriteFault, ServerFailed, Spent, OutOfMemory}
-use Rattle.mux_client.specs.Journal.{bytes_given, has_ended, is_held, held_streams, talk_of, TookAll, Throughout, WaitOpen, AtEach, Answers, Shows, ShowsFront}
-use Rattle.mux_client.specs.Client.{ClientState, Stands, place_of}
+use Rattle.mux_client.specs.Journal.{bytes_given, has_ended, is_held, held_streams, talk_of, TookAll, Throughout, WaitOpen, AtEach, Answers, Shows, ShowsFront, ShowsTold, TalksTold}
+use Rattle.mux_client.specs.Client.{ClientState, IsSettled, Stands, place_of}
 
 -- ---- the wire
 
@@ -33,7 +34,24 @@ pub record AcceptsNone (old new : Seen) : Type 0 where
 abbrev pub IsHeld : List ℕ → Type 0
 IsHeld held = (held ≡ []) ⊎ (held ≡ 0 ∷ [])
 
+-- right behind `join`: stream 0 alone is open, and it takes bytes
+pub record IsJoined (seen : Seen) : Type 0 where
+  pub alone : IsAlone seen
+  pub none_blocked : seen.blocked ≡ []
+
+-- it stays the same wire: no client came, and it was neither opened nor joined
+pub record SameWire (old new : WireState) : Type 0 where
+  pub none_accepted : AcceptsNone old.seen new.seen
+  pub openings : new.openings ≡ old.openings
+  pub joinings : new.joinings ≡ old.joinings
+
 -- ---- how far a talk is
+
+-- between two turns: all frames that came were read, and it is known whether stream 0 is blocked
+pub record IsBetween (s : ClientState) (held : List ℕ) (seen : Seen) : Type 0 where
+  pub settled : IsSettled s
+  pub blocked : seen.blocked ≡ held
+  pub is_held : IsHeld held
 
 -- the talk isn't over: a reply is awaited, or not all was taken
 abbrev pub IsGoing : Stage → List ℕ → Type 0
@@ -65,6 +83,11 @@ BreaksOff s (Err answer) = (at : ℕ) × (place_of s.stage ≡ Some at) × (answ
 -- all was taken that is to be sent, or stream 0 takes no more for now
 abbrev pub IsOffered : List ℕ → ClientState → Type 0
 IsOffered held s = (s.queue ≡ []) ⊎ (held ≡ 0 ∷ [])
+
+-- some of it was taken, and stream 0 takes more; or it was offered
+abbrev pub TookOrOffered : Bool → List ℕ → ClientState → ClientState → Type 0
+TookOrOffered true held old new = (held ≡ []) × (length new.queue < length old.queue)
+TookOrOffered false held old new = IsOffered held new
 
 -- an answer that writes to the wire give, and one that the sink gives
 abbrev pub IsOfWire : Talked → Type 0
@@ -166,3 +189,10 @@ WholeTalk asks answer start told before now old new =
 abbrev pub talked_of : Result (Unit {0}) Talked → Talked
 talked_of (Ok x) = Spent
 talked_of (Err answer) = answer
+
+-- the same, and what follows from it where the wire tells, and the sink
+pub record HasTalked {V : Type 0} (asks : Asks) (answer : Talked) (start told : Option (List Mark))
+    (before now : Option (List ℕ)) (old new : V) : Type 0 where
+  pub whole : WholeTalk asks answer start told before now old new
+  pub talks : TalksTold asks answer start told
+  pub shows : ShowsTold asks answer start told before now

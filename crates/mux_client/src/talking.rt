@@ -1,14 +1,13 @@
-ghost use Rattle.std.specs.Prelude.{◌≡◌, ◌≢◌, ◌++◌, ◌+◌, ◌<◌, [], ◌∷◌, ℕ, List, length, true, false, IsTrue, IfOk, IfErr, OnOk, Option};
-ghost use Rattle.mux_outside.specs.Counts.{Rose};
+ghost use Rattle.std.specs.Prelude.{◌≡◌, ◌≢◌, ◌++◌, ◌<◌, [], ℕ, List, length, true, false, IfOk, IfErr, OnOk};
+ghost use Rattle.std.specs.declared.option.Option.{Option};
 ghost use Rattle.mux_outside.specs.declared.mark.Mark.{Mark as TheMark};
-ghost use Rattle.mux_client.specs.declared.asks.Asks.{Asks as TheAsks};
-ghost use Rattle.mux_client.specs.declared.talked.Talked.TheVariants.{ServerFailed as FailedServer, WriteFault as FailedSink, Spent as SpentTurns};
-ghost use Rattle.mux_client.specs.Requests.{MayAsk};
-ghost use Rattle.mux_client.specs.Verdicts.{text_of_line};
 ghost use Rattle.mux_client.specs.Client.{IsSettled};
-ghost use Rattle.mux_client.specs.Journal.{TalksTold, ShowsTold};
-ghost use Rattle.mux_client.specs.Counted.{AnsweredBy, Counts, HasHeard, Stops, WireFaults, StepFaults, SinkFaults, StepSinkFaults};
-ghost use Rattle.mux_client.specs.Talking.{IsAlone, AcceptsNone, IsHeld, IsDecided, BreaksOff, IsGoing, IsOffered, IsOfWire, IsOfSink, IsCutLine, talked_of, Talking, IsTalk, TalksOn, ShowsOn, ShowsLast, WholeTalk};
+ghost use Rattle.mux_client.specs.Counted.{AnsweredBy, CameTo, Counts, SinkFaults, StepFaults, StepSinkFaults, Stops, WireFaults};
+ghost use Rattle.mux_client.specs.Requests.{MayAsk};
+ghost use Rattle.mux_client.specs.Talking.{BreaksOff, HasTalked, IsAlone, IsBetween, IsCutLine, IsDecided, IsGoing, IsJoined, IsOfSink, IsOfWire, IsOffered, IsTalk, SameWire, ShowsLast, ShowsOn, Talking, TalksOn, TookOrOffered, WholeTalk, talked_of};
+ghost use Rattle.mux_client.specs.Verdicts.{text_of_line};
+ghost use Rattle.mux_client.specs.declared.asks.Asks.{Asks as TheAsks};
+ghost use Rattle.mux_client.specs.declared.talked.Talked.TheVariants.{Spent as SpentTurns};
 
 use crate::asks::Asks;
 use crate::client::Client;
@@ -27,29 +26,20 @@ fn offer_once<W: Wire>(
     held: &mut Streams,
 ) -> Result<bool, Talked>
     requires alone { IsAlone (W.state wire.old).seen }
-    requires blocked { (W.state wire.old).seen.blocked ≡ [] }
-    requires held { held.old ≡ [] }
-    requires settled { IsSettled client.old }
+    requires between { IsBetween client.old held.old (W.state wire.old).seen }
+    requires free { held.old ≡ [] }
     ensures talking { (asks : TheAsks) (start : Option (List TheMark)) (shown : List ℕ)
         → Talking asks start (W.state wire.old).seen.told held.old shown client.old
         → TalksOn result
         (λ more. Talking asks start (W.state wire.new).seen.told held.new shown client.new)
         (λ answer. IsTalk asks answer start (W.state wire.new).seen.told shown shown) }
-    ensures settled { OnOk result (IsSettled client.new) }
-    ensures blocked { OnOk result ((W.state wire.new).seen.blocked ≡ held.new) }
-    ensures held { OnOk result (IsHeld held.new) }
-    ensures more { IfOk result (λ more. more ≡ true → held.new ≡ []) }
-    ensures less { IfOk result (λ more. more ≡ true
-        → length client.new.queue < length client.old.queue) }
-    ensures offered { IfOk result (λ more. more ≡ false → IsOffered held.new client.new) }
+    ensures between { OnOk result (IsBetween client.new held.new (W.state wire.new).seen) }
+    ensures offered { IfOk result (λ more. TookOrOffered more held.new client.old client.new) }
     ensures own { IfErr result IsOfWire }
     ensures stage { OnOk result (client.new.stage ≡ client.old.stage) }
-    ensures none_accepted { AcceptsNone (W.state wire.old).seen (W.state wire.new).seen }
     ensures calls { Counts 0 result (W.state wire.old).calls (W.state wire.new).calls }
-    ensures cause { StepFaults result (W.faults wire.old).server (W.faults wire.new).server
-        (W.faults wire.old).client (W.faults wire.new).client }
-    ensures openings { (W.state wire.new).openings ≡ (W.state wire.old).openings }
-    ensures joinings { (W.state wire.new).joinings ≡ (W.state wire.old).joinings }
+    ensures cause { StepFaults result (W.faults wire.old) (W.faults wire.new) }
+    ensures wire { SameWire (W.state wire.old) (W.state wire.new) }
 {
     let bytes = client.front();
     if bytes.is_empty() {
@@ -73,26 +63,19 @@ fn offer_once<W: Wire>(
 // stream fails.
 fn offer<W: Wire>(client: &mut Client, wire: &mut W, held: &mut Streams) -> Result<(), Talked>
     requires alone { IsAlone (W.state wire.old).seen }
-    requires blocked { (W.state wire.old).seen.blocked ≡ held.old }
-    requires held { IsHeld held.old }
-    requires settled { IsSettled client.old }
+    requires between { IsBetween client.old held.old (W.state wire.old).seen }
     ensures talking { (asks : TheAsks) (start : Option (List TheMark)) (shown : List ℕ)
         → Talking asks start (W.state wire.old).seen.told held.old shown client.old
         → TalksOn result
         (λ done. Talking asks start (W.state wire.new).seen.told held.new shown client.new)
         (λ answer. IsTalk asks answer start (W.state wire.new).seen.told shown shown) }
-    ensures settled { OnOk result (IsSettled client.new) }
-    ensures blocked { OnOk result ((W.state wire.new).seen.blocked ≡ held.new) }
-    ensures held { OnOk result (IsHeld held.new) }
+    ensures between { OnOk result (IsBetween client.new held.new (W.state wire.new).seen) }
     ensures offered { OnOk result (IsOffered held.new client.new) }
     ensures own { IfErr result IsOfWire }
     ensures stage { OnOk result (client.new.stage ≡ client.old.stage) }
-    ensures none_accepted { AcceptsNone (W.state wire.old).seen (W.state wire.new).seen }
     ensures calls { Counts 0 result (W.state wire.old).calls (W.state wire.new).calls }
-    ensures cause { StepFaults result (W.faults wire.old).server (W.faults wire.new).server
-        (W.faults wire.old).client (W.faults wire.new).client }
-    ensures openings { (W.state wire.new).openings ≡ (W.state wire.old).openings }
-    ensures joinings { (W.state wire.new).joinings ≡ (W.state wire.old).joinings }
+    ensures cause { StepFaults result (W.faults wire.old) (W.faults wire.new) }
+    ensures wire { SameWire (W.state wire.old) (W.state wire.new) }
 {
     if held.len() > 0 {
         return Ok(());
@@ -207,34 +190,25 @@ fn turn<W: Wire, S: Sink>(
 ) -> Result<(), Talked>
     requires may { MayAsk asks.now }
     requires alone { IsAlone (W.state wire.old).seen }
-    requires blocked { (W.state wire.old).seen.blocked ≡ held.old }
-    requires held { IsHeld held.old }
-    requires settled { IsSettled client.old }
+    requires between { IsBetween client.old held.old (W.state wire.old).seen }
     requires offered { IsOffered held.old client.old }
     requires going { IsGoing client.old.stage client.old.queue }
     ensures talking { (start : Option (List TheMark)) (shown : List ℕ)
         → Talking asks.now start (W.state wire.old).seen.told held.old shown client.old
         → TalksOn result
-        (λ done. ShowsOn (S.told out.old) (S.told out.new) out.old out.new
-        (λ more. Talking asks.now start (W.state wire.new).seen.told held.new (shown ++ more) client.new))
-        (λ answer. ShowsLast (S.told out.old) (S.told out.new) out.old out.new
-        (λ more due. IsTalk asks.now answer start (W.state wire.new).seen.told (shown ++ more)
+        (λ done. ShowsOn (S.told out.old) (S.told out.new) out.old out.new (λ more.
+        Talking asks.now start (W.state wire.new).seen.told held.new (shown ++ more) client.new))
+        (λ answer. ShowsLast (S.told out.old) (S.told out.new) out.old out.new (λ more due.
+        IsTalk asks.now answer start (W.state wire.new).seen.told (shown ++ more)
         (shown ++ due))) }
-    ensures settled { OnOk result (IsSettled client.new) }
-    ensures blocked { OnOk result ((W.state wire.new).seen.blocked ≡ held.new) }
-    ensures held { OnOk result (IsHeld held.new) }
+    ensures between { OnOk result (IsBetween client.new held.new (W.state wire.new).seen) }
     ensures unspent { IfErr result (λ answer. answer ≢ SpentTurns) }
-    ensures none_accepted { AcceptsNone (W.state wire.old).seen (W.state wire.new).seen }
     ensures calls { Counts 1 result (W.state wire.old).calls (W.state wire.new).calls }
-    ensures heard { OnOk result (HasHeard client.old.stage client.new.stage (W.state wire.old).calls
-        (W.state wire.new).calls) }
-    ensures answered { IfErr result (λ answer. AnsweredBy answer (W.state wire.old).calls
-        (W.state wire.new).calls) }
-    ensures cause { StepFaults result (W.faults wire.old).server (W.faults wire.new).server
-        (W.faults wire.old).client (W.faults wire.new).client }
+    ensures came { CameTo result client.old.stage client.new.stage (W.state wire.old).calls
+        (W.state wire.new).calls }
+    ensures cause { StepFaults result (W.faults wire.old) (W.faults wire.new) }
     ensures sink { StepSinkFaults result (S.faults out.old) (S.faults out.new) }
-    ensures openings { (W.state wire.new).openings ≡ (W.state wire.old).openings }
-    ensures joinings { (W.state wire.new).joinings ≡ (W.state wire.old).joinings }
+    ensures wire { SameWire (W.state wire.old) (W.state wire.new) }
 {
     match wire.wait(held, Want::Read, piece) {
         Turn::Got(_) => {
@@ -261,18 +235,16 @@ fn converse<W: Wire, S: Sink>(
     turns: u64,
 ) -> Result<(), Talked>
     requires may { MayAsk asks.now }
-    requires alone { IsAlone (W.state wire.old).seen }
-    requires none_blocked { (W.state wire.old).seen.blocked ≡ [] }
+    requires joined { IsJoined (W.state wire.old).seen }
     ensures talks { WholeTalk asks.now (talked_of result) (W.state wire.old).seen.told
         (W.state wire.new).seen.told (S.told out.old) (S.told out.new) out.old out.new }
-    ensures none_accepted { AcceptsNone (W.state wire.old).seen (W.state wire.new).seen }
-    ensures calls { Stops turns (talked_of result) (W.state wire.old).calls (W.state wire.new).calls }
-    ensures answered { AnsweredBy (talked_of result) (W.state wire.old).calls (W.state wire.new).calls }
-    ensures cause { WireFaults (talked_of result) (W.faults wire.old).server
-        (W.faults wire.new).server (W.faults wire.old).client (W.faults wire.new).client }
+    ensures calls { Stops turns (talked_of result) (W.state wire.old).calls
+        (W.state wire.new).calls }
+    ensures answered { AnsweredBy (talked_of result) (W.state wire.old).calls
+        (W.state wire.new).calls }
+    ensures cause { WireFaults (talked_of result) (W.faults wire.old) (W.faults wire.new) }
     ensures sink { SinkFaults (talked_of result) (S.faults out.old) (S.faults out.new) }
-    ensures openings { (W.state wire.new).openings ≡ (W.state wire.old).openings }
-    ensures joinings { (W.state wire.new).joinings ≡ (W.state wire.old).joinings }
+    ensures wire { SameWire (W.state wire.old) (W.state wire.new) }
 {
     let mut client = Client::new(alloc)?;
     let mut piece = Piece::new(alloc)?;
@@ -297,33 +269,14 @@ pub fn talk<W: Wire, S: Sink>(
     turns: u64,
 ) -> Talked
     requires asks { MayAsk asks.now }
-    requires server_alone { (W.state wire.old).seen.streams ≡ 0 ∷ [] }
-    requires none_blocked { (W.state wire.old).seen.blocked ≡ [] }
-    requires silent { (W.state wire.old).seen.listens ≡ false }
-    requires listeners { (W.state wire.old).seen.listeners ≡ [] }
-    requires own { (W.state wire.old).seen.own ≡ [] }
-
-    // What was told, and what was shown.
-    ensures whole { WholeTalk asks.now result (W.state wire.old).seen.told (W.state wire.new).seen.told
-        (S.told out.old) (S.told out.new) out.old out.new }
-    ensures talks { TalksTold asks.now result (W.state wire.old).seen.told (W.state wire.new).seen.told }
-    ensures shows { ShowsTold asks.now result (W.state wire.old).seen.told (W.state wire.new).seen.told
-        (S.told out.old) (S.told out.new) }
-
-    // The calls, and whose fault it was.
+    requires joined { IsJoined (W.state wire.old).seen }
+    ensures talked { HasTalked asks.now result (W.state wire.old).seen.told
+        (W.state wire.new).seen.told (S.told out.old) (S.told out.new) out.old out.new }
     ensures calls { Stops turns result (W.state wire.old).calls (W.state wire.new).calls }
     ensures answered { AnsweredBy result (W.state wire.old).calls (W.state wire.new).calls }
-    ensures cause { WireFaults result (W.faults wire.old).server (W.faults wire.new).server
-        (W.faults wire.old).client (W.faults wire.new).client }
+    ensures cause { WireFaults result (W.faults wire.old) (W.faults wire.new) }
     ensures sink { SinkFaults result (S.faults out.old) (S.faults out.new) }
-    ensures failed { result ≡ FailedServer
-        → Rose (W.faults wire.old).server (W.faults wire.new).server }
-    ensures fault { result ≡ FailedSink → Rose (S.faults out.old) (S.faults out.new) }
-
-    // What stays.
-    ensures none_accepted { AcceptsNone (W.state wire.old).seen (W.state wire.new).seen }
-    ensures openings { (W.state wire.new).openings ≡ (W.state wire.old).openings }
-    ensures joinings { (W.state wire.new).joinings ≡ (W.state wire.old).joinings }
+    ensures wire { SameWire (W.state wire.old) (W.state wire.new) }
     ensures idle { turns ≡ 0 → (wire.new ≡ wire.old) × (out.new ≡ out.old) }
 {
     // Without a turn nothing is written, so nothing can fail.

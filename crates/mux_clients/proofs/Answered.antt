@@ -9,7 +9,6 @@ use Rattle.ssh_grammar.specs.Frames.{frame_answer, frame_payload}
 use Rattle.ssh_grammar.specs.Said.{Saying, Body, Payload, BadFraming, InControl, Mode, after_control}
 use Rattle.proxy_frames.specs.State.{QueueState}
 use Rattle.mux_history.specs.declared.why.Why.{Why}
-use Rattle.mux_history.specs.Policy.{Policy}
 use Rattle.mux_history.specs.Rows.{Row, rows_of, any_of, is_admit, is_end, is_ended, is_lost, HouseSays, Says, Gone, Item, Fate, Goes, Refused, Drop, End}
 use Rattle.mux_history.specs.Channels.{Channel, after_item, held_of, is_held}
 use Rattle.mux_history.specs.Pending.{joined, pending_up, waiting_down}

@@ -10,7 +10,7 @@ use Rattle.mux_outside.specs.declared.house_mark.HouseMark.{HouseMark as Asked}
 use Rattle.mux_outside.specs.declared.house_mark.HouseMark.TheVariants.{HouseAsked}
 use Rattle.mux_outside.specs.House.{GaveOr, HouseState, Known, ask_of, known_after_ask}
 use Rattle.mux_outside.specs.HouseCalls.{HandsOn, HouseCall, calls_of}
-use Rattle.mux_outside.proofs.HouseCalls.{calls-append, hands-none, hands-then}
+use Rattle.mux_clients.proofs.Handing.{calls-append, hands-none, hands-then}
 use Rattle.mux_clients.specs.Asked.{Heeds, TellsAsks, known_after}
 
 pub tells_none : (told : Option (List Asked)) → TellsAsks told told []
@@ -31,13 +31,9 @@ on-any : {A E P : Type 0} (r : Result A E) → P → OnOk r P
 on-any (Ok x) p = p
 on-any (Err e) p = tt
 
-on-none : {A E P : Type 0} (r : Result A E) → IsErr r → OnOk r P
-on-none (Ok x) bad = absurd (let no : false ≡ true = bad in cc)
-on-none (Err e) bad = tt
-
-on-both : {A E P Q R : Type 0} (r : Result A E) → (P → Q → R) → OnOk r P → OnOk r Q → OnOk r R
-on-both (Ok x) f p q = f p q
-on-both (Err e) f p q = tt
+on-none : {A E : Type 0} (r : Result A E) (P : Type 0) → IsErr r → OnOk r P
+on-none (Ok x) P bad = absurd (let no : false ≡ true = bad in cc)
+on-none (Err e) P bad = tt
 
 -- nothing was asked
 pub heeds_none : {A E : Type 0} (r : Result A E) (asks : List Asked) (state : HouseState) → Heeds r asks asks state state
@@ -54,7 +50,7 @@ heeds_none r asks state = record {
 
 -- it was asked this
 pub heeds_ask : {A E F : Type 0} (r : Result A E) (client id : ℕ) (opening : Bool) (what : FwdAsk) (reply : HouseReply) {asks asks' : List Asked} {old new : HouseState} → asks' ≡ asks ++ HouseAsked client id opening (ask_of what) reply ∷ []
-    → GaveOr {HouseReply} {F} (Ok reply) (HouseAsked client id opening (ask_of what) reply ∷ []) (λ given. known_after_ask given client id opening) old new → Heeds r asks asks' old new
+    → GaveOr {A = HouseReply} {E = F} (Ok reply) (HouseAsked client id opening (ask_of what) reply ∷ []) (λ given. known_after_ask given client id opening) old new → Heeds r asks asks' old new
 heeds_ask r client id opening what reply noted gave = record {
   more = HouseAsked client id opening (ask_of what) reply ∷ [];
   unnoted = [];
@@ -72,15 +68,15 @@ heeds_unnoted r unnoted {asks} bad same told must = record {
   more = [];
   unnoted = unnoted;
   noted = same ∙ sym (append-nil asks);
-  all_noted = on-none r bad;
+  all_noted = on-none r _ bad;
   told = told;
-  known = on-none r bad;
+  known = on-none r _ bad;
   must = must;
-  stands = on-none r bad;
+  stands = on-none r _ bad;
 }
 
 -- of a call that answers otherwise
-pub heeds_any : {A E B F : Type 0} (r : Result A E) {x : B} {asks asks' : List Asked} {old new : HouseState} → Heeds {B} {F} (Ok x) asks asks' old new → Heeds r asks asks' old new
+pub heeds_any : {A E B F : Type 0} (r : Result A E) {x : B} {asks asks' : List Asked} {old new : HouseState} → Heeds {A = B} {E = F} (Ok x) asks asks' old new → Heeds r asks asks' old new
 heeds_any r h = record {
   more = h.more;
   unnoted = h.unnoted;
@@ -98,15 +94,15 @@ heeds_err r bad h = record {
   more = h.more;
   unnoted = h.unnoted;
   noted = h.noted;
-  all_noted = on-none r bad;
+  all_noted = on-none r _ bad;
   told = h.told;
-  known = on-none r bad;
+  known = on-none r _ bad;
   must = h.must;
-  stands = on-none r bad;
+  stands = on-none r _ bad;
 }
 
 -- all that it was asked is noted
-pub heeds_told : {A E : Type 0} {x : A} {asks asks' : List Asked} {old new : HouseState} → (h : Heeds {A} {E} (Ok x) asks asks' old new) → TellsAsks old.told new.told h.more
+pub heeds_told : {A E : Type 0} {x : A} {asks asks' : List Asked} {old new : HouseState} → (h : Heeds {A = A} {E = E} (Ok x) asks asks' old new) → TellsAsks old.told new.told h.more
 heeds_told {asks} {asks'} {old} {new} h = subst (λ (l : List Asked). TellsAsks old.told new.told l) (ap (λ (l : List Asked). h.more ++ l) h.all_noted ∙ append-nil h.more) h.told
 
 after_twice : (a b : List Asked) (known : Known) → known_after b (known_after a known) ≡ known_after (a ++ b) known
@@ -115,7 +111,7 @@ after_twice (HouseAsked client id opening ask reply ∷ a) b known = after_twice
 after_twice (mark ∷ a) b known = after_twice a b known
 
 -- first these, then those
-pub heeds_then : {A E B F : Type 0} {x : A} {r : Result B F} {a b c : List Asked} {s t u : HouseState} → Heeds {A} {E} (Ok x) a b s t → Heeds r b c t u → Heeds r a c s u
+pub heeds_then : {A E B F : Type 0} {x : A} {r : Result B F} {a b c : List Asked} {s t u : HouseState} → Heeds {A = A} {E = E} (Ok x) a b s t → Heeds r b c t u → Heeds r a c s u
 heeds_then {A} {E} {B} {F} {x} {r} {a} {b} {c} {s} {t} {u} h i = record {
   more = h.more ++ i.more;
   unnoted = i.unnoted;
@@ -133,5 +129,5 @@ ordering_after [] known = refl
 ordering_after (HouseAsked client id opening ask reply ∷ more) known = ordering_after more (known_after_ask reply client id opening known)
 ordering_after (mark ∷ more) known = ordering_after more known
 
-pub ordering_kept : {A E : Type 0} {x : A} {asks asks' : List Asked} {old new : HouseState} → Heeds {A} {E} (Ok x) asks asks' old new → new.known.ordering ≡ old.known.ordering
+pub ordering_kept : {A E : Type 0} {x : A} {asks asks' : List Asked} {old new : HouseState} → Heeds {A = A} {E = E} (Ok x) asks asks' old new → new.known.ordering ≡ old.known.ordering
 ordering_kept {old} h = ap (λ (k : Known). k.ordering) h.known ∙ ordering_after h.more old.known

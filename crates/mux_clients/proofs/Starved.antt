@@ -69,7 +69,7 @@ held : (a b : List Asked) → Some a ≡ Some b → a ≡ b
 held a b e = cc
 
 -- what the house was asked is what was noted of it
-pub told-noted : {A E : Type 0} {x : A} {asks asks' : List Asked} {old new : HouseState} (xs : List Asked) → Heeds {A} {E} (Ok x) asks asks' old new → TellsAsks (Some asks) (Some asks') xs → TellsAsks old.told new.told xs
+pub told-noted : {A E : Type 0} {x : A} {asks asks' : List Asked} {old new : HouseState} (xs : List Asked) → Heeds {A = A} {E = E} (Ok x) asks asks' old new → TellsAsks (Some asks) (Some asks') xs → TellsAsks old.told new.told xs
 told-noted {asks} {asks'} {old} {new} xs h tells = subst (TellsAsks old.told new.told) (append_cancel_left asks h.more xs (sym h.noted ∙ held asks' (asks ++ xs) tells)) (heeds_told h)
 
 asks-given : (May : HouseReply → Type 0) (told told' : Option (List Asked)) (k : ℕ) (greets : Bool) (body : List ℕ) (given : Option HouseReply) → MayGive May (reply_list given) → is_some given ≡ (greets && body_asks body) → TellsAsks told told' (saying_asks k (Body body) given) → AsksAtMost May told told' k greets body
@@ -77,7 +77,7 @@ asks-given May told told' k greets body None may asked tells = inl (tells ∙ sy
 asks-given May told told' k greets body (Some given) may asked tells = inr (record { asks = sym asked; this = (given, (may.0, tells)) })
 
 -- of a body of which all was decided
-pub asks-decided : {A E : Type 0} {x : A} (May : HouseReply → Type 0) {asks asks' : List Asked} {old new : HouseState} (pid k : ℕ) (greets : Bool) (body : List ℕ) (d : Decision) → DecidesBy May (Some asks) (Some asks') pid k greets body d → Heeds {A} {E} (Ok x) asks asks' old new → AsksAtMost May old.told new.told k greets body
+pub asks-decided : {A E : Type 0} {x : A} (May : HouseReply → Type 0) {asks asks' : List Asked} {old new : HouseState} (pid k : ℕ) (greets : Bool) (body : List ℕ) (d : Decision) → DecidesBy May (Some asks) (Some asks') pid k greets body d → Heeds {A = A} {E = E} (Ok x) asks asks' old new → AsksAtMost May old.told new.told k greets body
 asks-decided May {asks} {asks'} {old} {new} pid k greets body d by h = asks-given May old.told new.told k greets body by.given by.may by.decides.asked (told-noted (saying_asks k (Body body) by.given) h by.told)
 
 -- ---- the frame at the front
@@ -164,7 +164,7 @@ asked-row policy pid picks given k mode all picked used asks rows core up now he
 
 -- what was asked so far, and what the front asks
 pub hears-some : {A E : Type 0} {x : A} (May : HouseReply → Type 0) {asks asks' : List Asked} {old mid : HouseState} (told' : Option (List Asked)) (pid : ℕ) (bytes : List ℕ) (core0 core : CoreState) (up0 up : QueueState) (first now : ClientState) (heard : Heard) → is_read first.seat.standing ≡ true → is_read now.seat.standing ≡ true
-    → Hearing May (Some asks) (Some asks') pid (first.rest ++ bytes) core0 up0 first core up now heard → Heeds {A} {E} (Ok x) asks asks' old mid → AsksNext May mid.told told' now.seat.number now.seat.standing (first_in (mode_of now.seat.standing) now.rest) → HearsSome May old.told told' pid bytes core0 up0 first
+    → Hearing May (Some asks) (Some asks') pid (first.rest ++ bytes) core0 up0 first core up now heard → Heeds {A = A} {E = E} (Ok x) asks asks' old mid → AsksNext May mid.told told' now.seat.number now.seat.standing (first_in (mode_of now.seat.standing) now.rest) → HearsSome May old.told told' pid bytes core0 up0 first
 hears-some May {asks} {asks'} {old} {mid} told' pid bytes core0 core up0 up first now heard read0 read h a next = by_next next
   where
     so-far : TellsAsks old.told mid.told h.asks
@@ -207,7 +207,7 @@ hears-some May {asks} {asks'} {old} {mid} told' pid bytes core0 core up0 up firs
 
 -- all of it was taken in, and then there was no memory
 pub hears-all : {A E : Type 0} {x : A} (May : HouseReply → Type 0) {asks asks' : List Asked} {old new : HouseState} (pid : ℕ) (bytes : List ℕ) (core0 core : CoreState) (up0 up : QueueState) (first now : ClientState) (heard : Heard)
-    → is_read first.seat.standing ≡ true → HearsPiece May (Some asks) (Some asks') pid bytes core0 up0 first core up now heard → Heeds {A} {E} (Ok x) asks asks' old new → HearsSome May old.told new.told pid bytes core0 up0 first
+    → is_read first.seat.standing ≡ true → HearsPiece May (Some asks) (Some asks') pid bytes core0 up0 first core up now heard → Heeds {A = A} {E = E} (Ok x) asks asks' old new → HearsSome May old.told new.told pid bytes core0 up0 first
 hears-all May {asks} {asks'} {old} {new} pid bytes core0 core up0 up first now heard read0 piece a =
     let h = piece.hearing in
     record {

@@ -1,10 +1,11 @@
 -- The turns of steps are turns that a wire may give.
-use Rattle.std.proofs.Common.{◌≡◌, refl, sym, subst, ℕ, ◌+◌, ◌-◌, ◌<◌, ◌≤◌, Bool, true, false, ◌&&◌, ◌==◌, nat_lt, List, [], ◌∷◌, ◌++◌, length, take, slice_index, IsTrue, not, arith, lit<, length-take}
+use Rattle.std.proofs.Common.{◌≡◌, refl, sym, ap, subst, ℕ, ◌+◌, ◌-◌, ◌<◌, ◌≤◌, Bool, true, false, ◌&&◌, ◌==◌, nat_lt, List, [], ◌∷◌, ◌++◌, length, take, slice_index, IsTrue, not, arith, lit<, length-take}
 use Rattle.std.proofs.lemmas.Grind.{common_steps}
 use Rattle.conf_rules.specs.Texts.{is_empty}
+use Rattle.mux_outside.specs.OwnStreams.{is_silent}
+use Rattle.mux_outside.specs.Seen.{Seen}
 use Rattle.mux_outside.specs.Streams.{among}
 use Rattle.mux_outside.specs.Wire.{OwnFits, TurnFits}
-use Rattle.mux_outside.specs.WireLog.{Logged}
 use Rattle.mux_outside.specs.declared.own_streams.TheConstants.{LAST_CLIENT}
 use Rattle.mux_outside.specs.declared.piece.TheConstants.{LONGEST_PIECE}
 use Rattle.mux_outside.specs.declared.turn.Turn.{Turn}
@@ -93,47 +94,47 @@ speaks_some [] e = cc
 speaks_some (x ∷ xs) e = omega arith
 
 -- a turn that may happen fits
-pub turn_fits : (turn : Turn) (log : Logged) (unread : List (List ℕ)) (says : List ℕ)
-    → may_happen turn log unread ≡ true → SaysSome turn says
-    → TurnFits turn Read log.listens log.last log.streams log.blocked (take 37 says)
-turn_fits (Accepted c) log unread says may some =
-    let parts = both log.listens _ may in
-    let number = above c log.last parts.1 in
+pub turn_fits : (turn : Turn) (seen : Seen) (unread : List (List ℕ)) (says : List ℕ)
+    → may_happen turn seen unread ≡ true → SaysSome turn says
+    → TurnFits turn Read seen (take 37 says)
+turn_fits (Accepted c) seen unread says may some =
+    let parts = both seen.listens _ may in
+    let number = above c seen.last parts.1 in
     (refl, parts.0, number.0, number.1)
-turn_fits (Got t) log unread says may some =
+turn_fits (Got t) seen unread says may some =
     let bounds = piece_short says some in
     (refl, may, bounds.0, bounds.1)
-turn_fits (End t) log unread says may some = (refl, (both (among t log.streams) _ may).0)
-turn_fits (Writable t) log unread says may some = cc
-turn_fits (Failed t) log unread says may some = cc
-turn_fits (Joined l t) log unread says may some = cc
-turn_fits NoMemory log unread says may some = tt
+turn_fits (End t) seen unread says may some = (refl, (both (among t seen.streams) _ may).0)
+turn_fits (Writable t) seen unread says may some = cc
+turn_fits (Failed t) seen unread says may some = cc
+turn_fits (Joined l t) seen unread says may some = cc
+turn_fits NoMemory seen unread says may some = tt
 
 -- a step that is met fits
-pub begin_fits : (step : Step) (log : Logged) (unread : List (List ℕ)) (picks waiting : List ℕ) (plan : Plan) (stage : Stage)
-    (piece : List ℕ) → step ≡ step_at picks waiting plan stage → is_met step log unread ≡ true → piece ≡ take 37 step.says
-    → TurnFits step.turn Read log.listens log.last log.streams log.blocked piece
-begin_fits step log unread picks waiting plan stage piece is met gives =
-    let up = both (stands_first 0 step.up unread) (stands_first step.client step.down unread && may_happen step.turn log unread) met in
-    let down = both (stands_first step.client step.down unread) (may_happen step.turn log unread) up.1 in
+pub begin_fits : (step : Step) (seen : Seen) (unread : List (List ℕ)) (picks waiting : List ℕ) (plan : Plan) (stage : Stage)
+    (piece : List ℕ) → step ≡ step_at picks waiting plan stage → is_met step seen unread ≡ true → piece ≡ take 37 step.says
+    → TurnFits step.turn Read seen piece
+begin_fits step seen unread picks waiting plan stage piece is met gives =
+    let up = both (stands_first 0 step.up unread) (stands_first step.client step.down unread && may_happen step.turn seen unread) met in
+    let down = both (stands_first step.client step.down unread) (may_happen step.turn seen unread) up.1 in
     let P : Step → Type 0 = λ s. SaysSome s.turn s.says in
-    rw gives (turn_fits step.turn log unread step.says down.1 (subst P (sym is) (says_some picks waiting plan stage)))
+    rw gives (turn_fits step.turn seen unread step.says down.1 (subst P (sym is) (says_some picks waiting plan stage)))
 
 -- a turn that may happen is none of the master's own, where there is nothing of its own
-pub turn_owns : (turn : Turn) (log : Logged) (unread : List (List ℕ)) (last : ℕ)
-    → may_happen turn log unread ≡ true → OwnFits turn [] [] last
-turn_owns (Accepted c) log unread last may = tt
-turn_owns (Got t) log unread last may = λ _. refl
-turn_owns (End t) log unread last may = λ _. refl
-turn_owns (Writable t) log unread last may = tt
-turn_owns (Failed t) log unread last may = tt
-turn_owns (Joined l t) log unread last may = cc
-turn_owns NoMemory log unread last may = tt
+pub turn_owns : (turn : Turn) (seen : Seen) (unread : List (List ℕ))
+    → may_happen turn seen unread ≡ true → seen.own ≡ [] → OwnFits turn seen
+turn_owns (Accepted c) seen unread may none = tt
+turn_owns (Got t) seen unread may none = λ _. ap (is_silent t) none
+turn_owns (End t) seen unread may none = λ _. ap (is_silent t) none
+turn_owns (Writable t) seen unread may none = tt
+turn_owns (Failed t) seen unread may none = tt
+turn_owns (Joined l t) seen unread may none = cc
+turn_owns NoMemory seen unread may none = tt
 
 -- nor is that of a step that is met
-pub begin_owns : (step : Step) (log : Logged) (unread : List (List ℕ)) (last : ℕ)
-    → is_met step log unread ≡ true → OwnFits step.turn [] [] last
-begin_owns step log unread last met =
-    let up = both (stands_first 0 step.up unread) (stands_first step.client step.down unread && may_happen step.turn log unread) met in
-    let down = both (stands_first step.client step.down unread) (may_happen step.turn log unread) up.1 in
-    turn_owns step.turn log unread last down.1
+pub begin_owns : (step : Step) (seen : Seen) (unread : List (List ℕ))
+    → is_met step seen unread ≡ true → seen.own ≡ [] → OwnFits step.turn seen
+begin_owns step seen unread met none =
+    let up = both (stands_first 0 step.up unread) (stands_first step.client step.down unread && may_happen step.turn seen unread) met in
+    let down = both (stands_first step.client step.down unread) (may_happen step.turn seen unread) up.1 in
+    turn_owns step.turn seen unread down.1 none

@@ -52,9 +52,9 @@ Opens (Err OutOfMemory) plan old new = SamePlay old new
 
 -- a wait gave the next turn
 pub record PlaysNext (old new : DrillWire) (turn : Turn) (bytes : List ℕ) : Type 0 where
-  pub turn_is : turn ≡ next_turn old.play old.log
+  pub turn_is : turn ≡ next_turn old.play old.log.state.seen
   pub piece_is : (t : ℕ) → turn ≡ Got t → bytes ≡ next_piece old.play
-  pub play_is : new.play ≡ next_play old.play old.log
+  pub play_is : new.play ≡ next_play old.play old.log.state.seen
 
 -- a write took all bytes, and they wait to be read
 pub record TakesAll (stream : ℕ) (bytes : List ℕ) (old new : DrillWire) (wrote : Wrote) :

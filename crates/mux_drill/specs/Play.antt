@@ -1,8 +1,8 @@
 -- How a drill is played, turn by turn.
 use Rattle.std.specs.Prelude.{◌≡◌, ℕ, ◌+◌, ◌-◌, ◌==◌, ◌&&◌, not, nat_lt, Bool, true, false, if◌then◌else◌, List, [], length, take, replicate, slice_set}
 use Rattle.conf_rules.specs.Texts.{is_empty}
+use Rattle.mux_outside.specs.Seen.{Seen}
 use Rattle.mux_outside.specs.Streams.{among}
-use Rattle.mux_outside.specs.WireLog.{Logged}
 use Rattle.mux_outside.specs.declared.own_streams.TheConstants.{LAST_CLIENT}
 use Rattle.mux_outside.specs.declared.turn.Turn.{Turn}
 use Rattle.mux_outside.specs.declared.turn.Turn.TheVariants.{Accepted, Got, End, Writable, Failed, Joined, NoMemory}
@@ -28,32 +28,32 @@ speaks said = not (is_empty said.rest)
 
 -- whether what is outside lets a turn happen: a client comes where it listens and a number is left,
 -- an open stream speaks or ends, and the server ends where all was read
-abbrev pub may_happen : Turn → Logged → List (List ℕ) → Bool
-may_happen (Accepted c) log unread =
-    log.listens && (nat_lt 0 c && (c - 1 == log.last && nat_lt log.last LAST_CLIENT))
-may_happen (Got t) log unread = among t log.streams
-may_happen (End t) log unread = among t log.streams && (if t == 0 then all_read unread else true)
-may_happen (Writable t) log unread = false
-may_happen (Failed t) log unread = false
-may_happen (Joined l t) log unread = false
-may_happen NoMemory log unread = false
+abbrev pub may_happen : Turn → Seen → List (List ℕ) → Bool
+may_happen (Accepted c) seen unread =
+    seen.listens && (nat_lt 0 c && (c - 1 == seen.last && nat_lt seen.last LAST_CLIENT))
+may_happen (Got t) seen unread = among t seen.streams
+may_happen (End t) seen unread = among t seen.streams && (if t == 0 then all_read unread else true)
+may_happen (Writable t) seen unread = false
+may_happen (Failed t) seen unread = false
+may_happen (Joined l t) seen unread = false
+may_happen NoMemory seen unread = false
 
 -- whether all that a step needs was written, and its turn may happen
-abbrev pub is_met : Step → Logged → List (List ℕ) → Bool
-is_met step log unread =
+abbrev pub is_met : Step → Seen → List (List ℕ) → Bool
+is_met step seen unread =
     stands_first 0 step.up unread
-    && (stands_first step.client step.down unread && may_happen step.turn log unread)
+    && (stands_first step.client step.down unread && may_happen step.turn seen unread)
 
 -- the step that comes next
 abbrev pub next_step : Play → Step
 next_step play = step_at play.picks (unread_at 0 play.unread) play.course.plan play.course.stage
 
 -- the next turn
-abbrev pub next_turn : Play → Logged → Turn
-next_turn play log =
+abbrev pub next_turn : Play → Seen → Turn
+next_turn play seen =
     let step = next_step play in
-    let goes_on = if among play.said.stream log.streams then Got play.said.stream else Failed 0 in
-    let begins = if is_met step log play.unread then step.turn else Failed 0 in
+    let goes_on = if among play.said.stream seen.streams then Got play.said.stream else Failed 0 in
+    let begins = if is_met step seen play.unread then step.turn else Failed 0 in
     if speaks play.said then goes_on else begins
 
 -- the bytes that it gives, if it gives any
@@ -94,11 +94,11 @@ changed GoesOn play = record play { said = gone_on play.said }
 changed (Takes step) play = begun step play
 
 -- the change of the next turn
-abbrev pub next_change : Play → Logged → Change
-next_change play log =
+abbrev pub next_change : Play → Seen → Change
+next_change play seen =
     let step = next_step play in
-    let goes_on = if among play.said.stream log.streams then GoesOn else Nothing in
-    let begins = if is_met step log play.unread then Takes step else Nothing in
+    let goes_on = if among play.said.stream seen.streams then GoesOn else Nothing in
+    let begins = if is_met step seen play.unread then Takes step else Nothing in
     if speaks play.said then goes_on else begins
 
 -- the bytes that the turn of a change gives, if it gives any
@@ -108,14 +108,14 @@ piece_of GoesOn play = take 37 play.said.rest
 piece_of (Takes step) play = take 37 step.says
 
 -- a turn, its bytes and what it leaves are the next ones
-pub record GivesNext (play : Play) (log : Logged) (given : Given) : Type 0 where
-  pub turn_is : given.turn ≡ next_turn play log
-  pub change_is : given.change ≡ next_change play log
+pub record GivesNext (play : Play) (seen : Seen) (given : Given) : Type 0 where
+  pub turn_is : given.turn ≡ next_turn play seen
+  pub change_is : given.change ≡ next_change play seen
   pub piece_is : (t : ℕ) → given.turn ≡ Got t → piece_of given.change play ≡ next_piece play
 
 -- the play after the next turn
-abbrev pub next_play : Play → Logged → Play
-next_play play log = changed (next_change play log) play
+abbrev pub next_play : Play → Seen → Play
+next_play play seen = changed (next_change play seen) play
 
 -- a play at the start of a plan: nothing is said, written or picked
 pub record Starts (plan : Plan) (play : Play) : Type 0 where

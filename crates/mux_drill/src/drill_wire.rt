@@ -1,23 +1,17 @@
-ghost use Rattle.std.specs.Prelude.{◌≡◌, ◌≢◌, ◌<◌, ◌++◌, [], false, Some, IsErr, IsTrue, All, length};
-ghost use Rattle.std.specs.Option.{option_map};
-ghost use Rattle.mux_outside.specs.Streams.{among};
-ghost use Rattle.mux_outside.specs.declared.turn.Want.TheVariants.{Read, WriteOnly};
-ghost use Rattle.mux_outside.specs.declared.turn.Turn.TheVariants.{End, NoMemory};
-ghost use Rattle.mux_outside.specs.declared.turn.Wrote.TheVariants.{Took, NoMemory as NoMemoryToWrite};
-ghost use Rattle.mux_outside.specs.Counts.{HasCause};
+ghost use Rattle.std.specs.Prelude.{◌≡◌, ◌≢◌, ◌<◌, [], false, IsErr, IsTrue, All, length};
 ghost use Rattle.mux_outside.specs.OwnStreams.{is_finished};
-ghost use Rattle.mux_outside.specs.Wire.{openings_of, OpenFaults, joinings_of, JoinFaults, TurnFits, TurnFaults, WroteFits, WroteFaults};
-ghost use Rattle.mux_outside.specs.Wire.{OwnFits, OwnTurnFaults, OwnWroteFaults, NumberFits};
-ghost use Rattle.mux_outside.specs.Seen.{seen_after_open, seen_after_join, seen_after_turn, seen_after_write, seen_after_close};
-ghost use Rattle.mux_outside.specs.CallCounts.{calls_after_wait, calls_after_write};
-ghost use Rattle.mux_outside.specs.Seen.{seen_after_note, seen_after_listen, seen_after_connect, seen_after_unlisten, seen_after_pause, seen_after_finish};
-ghost use Rattle.mux_outside.specs.WireLog.{Shows, ShowsMade};
-ghost use Rattle.mux_outside.specs.WireLog.{seen_in, LogsOpening, LogsJoining, LogsTurn, LogsWrite, LogsClose};
+ghost use Rattle.mux_outside.specs.Seen.{seen_after_close, seen_after_note, seen_after_silence};
+ghost use Rattle.mux_outside.specs.Streams.{among};
+ghost use Rattle.mux_outside.specs.Wire.{JoinFaults, MakeFaults, OpenFaults, OwnFits, TurnFaults, TurnFits, WroteFaults, WroteFits};
+ghost use Rattle.mux_outside.specs.WireState.{seeing, state_after_join, state_after_open, state_after_wait, state_after_write};
+ghost use Rattle.mux_outside.specs.declared.turn.Turn.TheVariants.{End, NoMemory};
+ghost use Rattle.mux_outside.specs.declared.turn.Want.TheVariants.{Read, WriteOnly};
+ghost use Rattle.mux_outside.specs.declared.turn.Wrote.TheVariants.{NoMemory as NoMemoryToWrite};
 ghost use Rattle.mux_drill.specs.Course.{full_tally};
 ghost use Rattle.mux_drill.specs.Plan.{plan_of};
-ghost use Rattle.mux_drill.specs.declared.stage.Stage.TheVariants.{Ending};
 ghost use Rattle.mux_drill.specs.Play.{GivesNext, piece_of};
 ghost use Rattle.mux_drill.specs.declared.play.Change.TheVariants.{Nothing};
+ghost use Rattle.mux_drill.specs.declared.stage.Stage.TheVariants.{Ending};
 
 use crate::plan::Plan;
 use crate::play::{Change, Given, Play};
@@ -32,8 +26,8 @@ pub struct DrillWire {
     alloc: Global,
     play: Play,
     log: WireLog,
-    ghost no_listener: { log.listeners ≡ [] },
-    ghost no_stream: { log.own ≡ [] },
+    ghost no_listener: { log.state.seen.listeners ≡ [] },
+    ghost no_stream: { log.state.seen.own ≡ [] },
 }
 
 impl DrillWire {
@@ -61,24 +55,14 @@ impl DrillWire {
 impl Wire for DrillWire {
     ghost use Rattle.mux_drill.specs.DrillWire.{tally_of, IsOver, SamePlay, Opens, PlaysNext, TakesAll};
 
-    ghost openings = { λ w. Some w.log.openings };
+    ghost state = { λ w. record w.log.state { tally = tally_of w } };
 
-    ghost joinings = { λ w. Some w.log.joinings };
-
-    ghost seen = { λ w. seen_in w.log };
-
-    ghost calls = { λ w. w.log.calls };
-
-    ghost server_faults = { λ w. w.log.server_faults };
-
-    ghost client_faults = { λ w. w.log.client_faults };
-
-    ghost own_faults = { λ w. w.log.own_faults };
-
-    ghost tally = { λ w. tally_of w };
+    ghost faults = { λ w. w.log.faults };
 
     fn open(&mut self, control: &[u8], transport: &[u8]) -> Result<(), FileError>
-        ensures logs { LogsOpening result control.now transport.now self.old.log self.new.log }
+        ensures state { self.new.log.state ≡ state_after_open result control.now transport.now
+            self.old.log.state.tally self.old.log.state }
+        ensures cause { OpenFaults result self.old.log.faults self.new.log.faults }
         ensures exact { Opens result (plan_of transport.now) self.old self.new }
     {
         let Some(plan) = Plan::read(self.alloc, transport)? else {
@@ -91,7 +75,9 @@ impl Wire for DrillWire {
     }
 
     fn join(&mut self, control: &[u8]) -> Result<(), FileError>
-        ensures logs { LogsJoining result control.now self.old.log self.new.log }
+        ensures state { self.new.log.state
+            ≡ state_after_join result control.now self.old.log.state }
+        ensures cause { JoinFaults result self.old.log.faults self.new.log.faults }
         ensures fails { IsErr result }
         ensures same { SamePlay self.old self.new }
     {
@@ -99,16 +85,17 @@ impl Wire for DrillWire {
     }
 
     fn wait(&mut self, waiting: &Streams, want: Want, into: &mut Piece) -> Turn
-        requires waiting_blocked { All (λ t. IsTrue (among t self.old.log.blocked)) waiting.now }
-        requires waiting_open { All (λ t. IsTrue (among t self.old.log.streams)) waiting.now }
-        requires server { IsTrue (among 0 self.old.log.streams) }
+        requires waiting_blocked { All (λ t. IsTrue (among t self.old.log.state.seen.blocked))
+            waiting.now }
+        requires waiting_open { All (λ t. IsTrue (among t self.old.log.state.seen.streams))
+            waiting.now }
+        requires server { IsTrue (among 0 self.old.log.state.seen.streams) }
         requires some { want ≡ WriteOnly → 0 < length waiting.now }
-        ensures turn { TurnFits result want self.old.log.listens self.old.log.last
-            self.old.log.streams
-            self.old.log.blocked into.new }
-        ensures own_turn { OwnFits result self.old.log.listeners self.old.log.own
-            self.old.log.last_own }
-        ensures logs { LogsTurn result waiting.now want into.new self.old.log self.new.log }
+        ensures turn { TurnFits result want self.old.log.state.seen into.new }
+        ensures own_turn { OwnFits result self.old.log.state.seen }
+        ensures state { self.new.log.state ≡ state_after_wait result waiting.now want into.new
+            self.old.log.state.tally self.old.log.state }
+        ensures cause { TurnFaults result self.old.log.faults self.new.log.faults }
         ensures drilled { result ≡ End 0
             → tally_of self.new ≡ full_tally self.old.play.course.plan }
         ensures ends { result ≡ End 0 → IsOver self.new }
@@ -130,12 +117,14 @@ impl Wire for DrillWire {
     }
 
     fn write(&mut self, stream: u64, bytes: &[u8]) -> Wrote
-        requires stream_open { IsTrue (among stream self.old.log.streams) }
-        requires not_blocked { among stream self.old.log.blocked ≡ false }
-        requires not_finished { is_finished stream self.old.log.own ≡ false }
+        requires stream_open { IsTrue (among stream self.old.log.state.seen.streams) }
+        requires not_blocked { among stream self.old.log.state.seen.blocked ≡ false }
+        requires not_finished { is_finished stream self.old.log.state.seen.own ≡ false }
         requires some { 0 < length bytes.now }
         ensures wrote { WroteFits result (length bytes.now) }
-        ensures logs { LogsWrite result stream bytes.now self.old.log self.new.log }
+        ensures state { self.new.log.state ≡ state_after_write result stream bytes.now
+            self.old.log.state.tally self.old.log.state }
+        ensures cause { WroteFaults result stream self.old.log.faults self.new.log.faults }
         ensures all { result ≢ NoMemoryToWrite
             → TakesAll stream bytes.now self.old self.new result }
         ensures over { tally_of self.new ≡ tally_of self.old }
@@ -154,29 +143,34 @@ impl Wire for DrillWire {
     }
 
     fn stop_listening(&mut self)
-        ensures logs { self.new.log ≡ record self.old.log { listens = false } }
+        ensures state { self.new.log.state ≡ seeing seen_after_silence self.old.log.state }
+        ensures faults { self.new.log.faults ≡ self.old.log.faults }
         ensures same { SamePlay self.old self.new }
     {
         self.log.stop_listening();
     }
 
     fn close(&mut self, stream: u64)
-        ensures logs { LogsClose stream self.old.log self.new.log }
+        ensures state { self.new.log.state
+            ≡ seeing (seen_after_close stream) self.old.log.state }
+        ensures faults { self.new.log.faults ≡ self.old.log.faults }
         ensures same { SamePlay self.old self.new }
     {
         self.log.close(stream);
     }
 
     fn note(&mut self, m: &HouseMark) -> Result<(), OutOfMemory>
-        ensures logs { Shows (seen_after_note result m.now (seen_in self.old.log))
-            self.old.log self.new.log }
+        ensures state { self.new.log.state
+            ≡ seeing (seen_after_note result m.now) self.old.log.state }
+        ensures faults { self.new.log.faults ≡ self.old.log.faults }
         ensures same { SamePlay self.old self.new }
     {
         self.log.noted(m)
     }
 
     fn listen(&mut self, _host: &[u8], _port: u32) -> Result<u64, FileError>
-        ensures logs { ShowsMade result (seen_in self.old.log) self.old.log self.new.log }
+        ensures state { self.new.log.state ≡ self.old.log.state }
+        ensures cause { MakeFaults result self.old.log.faults self.new.log.faults }
         ensures fails { IsErr result }
         ensures same { SamePlay self.old self.new }
     {
@@ -184,7 +178,8 @@ impl Wire for DrillWire {
     }
 
     fn connect(&mut self, _host: &[u8], _port: u32) -> Result<u64, FileError>
-        ensures logs { ShowsMade result (seen_in self.old.log) self.old.log self.new.log }
+        ensures state { self.new.log.state ≡ self.old.log.state }
+        ensures cause { MakeFaults result self.old.log.faults self.new.log.faults }
         ensures fails { IsErr result }
         ensures same { SamePlay self.old self.new }
     {
@@ -217,16 +212,17 @@ impl Wire for DrillWire {
 impl DrillWire {
     // The turn of a wait, and what it leaves.
     fn given(&self, waiting: &Streams, want: Want) -> Given
-        requires waiting_blocked { All (λ t. IsTrue (among t self.now.log.blocked)) waiting.now }
-        requires waiting_open { All (λ t. IsTrue (among t self.now.log.streams)) waiting.now }
-        requires server { IsTrue (among 0 self.now.log.streams) }
+        requires waiting_blocked { All (λ t. IsTrue (among t self.now.log.state.seen.blocked))
+            waiting.now }
+        requires waiting_open { All (λ t. IsTrue (among t self.now.log.state.seen.streams))
+            waiting.now }
+        requires server { IsTrue (among 0 self.now.log.state.seen.streams) }
         requires some { want ≡ WriteOnly → 0 < length waiting.now }
-        ensures turn { TurnFits result.turn want self.now.log.listens self.now.log.last
-            self.now.log.streams
-            self.now.log.blocked (piece_of result.change self.now.play) }
-        ensures own_turn { OwnFits result.turn [] [] self.now.log.last_own }
+        ensures turn { TurnFits result.turn want self.now.log.state.seen
+            (piece_of result.change self.now.play) }
+        ensures own_turn { OwnFits result.turn self.now.log.state.seen }
         ensures gives { want ≡ Read → result.turn ≢ NoMemory
-            → GivesNext self.now.play self.now.log result }
+            → GivesNext self.now.play self.now.log.state.seen result }
         ensures starved { result.turn ≡ NoMemory → result.change ≡ Nothing }
         ensures ends { result.turn ≡ End 0 → self.now.play.course.stage ≡ Ending }
         ensures frees { want ≡ WriteOnly → result.change ≡ Nothing }

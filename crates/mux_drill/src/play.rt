@@ -52,7 +52,7 @@ pub struct Given {
 
 // Whether what is outside lets a turn happen.
 fn may_happen(turn: Turn, log: &WireLog, unread: &Inboxes) -> bool
-    ensures { result ≡ may_happen turn log.now unread.now }
+    ensures { result ≡ may_happen turn log.now.state.seen unread.now }
 {
     match turn {
         Turn::Accepted(client) => {
@@ -83,7 +83,7 @@ fn speaker_of(turn: Turn) -> u64
 
 // Whether all that a step needs was written, and its turn may happen.
 fn is_met(step: &Step, log: &WireLog, unread: &Inboxes) -> bool
-    ensures { result ≡ is_met step.now log.now unread.now }
+    ensures { result ≡ is_met step.now log.now.state.seen unread.now }
 {
     unread.stands_first(0, step.up.as_bytes())
         && (unread.stands_first(step.client, step.down.as_bytes())
@@ -121,11 +121,11 @@ impl Play {
 
     /// The next turn.
     pub fn next(&self, log: &WireLog) -> Given
-        requires { IsTrue (among 0 log.now.streams) }
-        ensures fits { TurnFits result.turn Read log.now.listens log.now.last log.now.streams
-            log.now.blocked (piece_of result.change self.now) }
-        ensures own_turn { OwnFits result.turn [] [] log.now.last_own }
-        ensures gives { result.turn ≢ NoMemory → GivesNext self.now log.now result }
+        requires { IsTrue (among 0 log.now.state.seen.streams) }
+        ensures fits { TurnFits result.turn Read log.now.state.seen
+            (piece_of result.change self.now) }
+        ensures own_turn { log.now.state.seen.own ≡ [] → OwnFits result.turn log.now.state.seen }
+        ensures gives { result.turn ≢ NoMemory → GivesNext self.now log.now.state.seen result }
         ensures starved { result.turn ≡ NoMemory → result.change ≡ Nothing }
         ensures ends { result.turn ≡ End 0 → self.now.course.stage ≡ Ending }
     {
@@ -138,12 +138,12 @@ impl Play {
 
     // The next piece of what is being said.
     fn go_on(&self, log: &WireLog) -> Given
-        requires server { IsTrue (among 0 log.now.streams) }
+        requires server { IsTrue (among 0 log.now.state.seen.streams) }
         requires speaks { speaks self.now.said ≡ true }
-        ensures fits { TurnFits result.turn Read log.now.listens log.now.last log.now.streams
-            log.now.blocked (piece_of result.change self.now) }
-        ensures own_turn { OwnFits result.turn [] [] log.now.last_own }
-        ensures gives { result.turn ≢ NoMemory → GivesNext self.now log.now result }
+        ensures fits { TurnFits result.turn Read log.now.state.seen
+            (piece_of result.change self.now) }
+        ensures own_turn { log.now.state.seen.own ≡ [] → OwnFits result.turn log.now.state.seen }
+        ensures gives { result.turn ≢ NoMemory → GivesNext self.now log.now.state.seen result }
         ensures starved { result.turn ≢ NoMemory }
         ensures ends { result.turn ≢ End 0 }
     {
@@ -161,12 +161,12 @@ impl Play {
 
     // The next step, where what it needs was written.
     fn begin(&self, log: &WireLog) -> Given
-        requires server { IsTrue (among 0 log.now.streams) }
+        requires server { IsTrue (among 0 log.now.state.seen.streams) }
         requires silent { speaks self.now.said ≡ false }
-        ensures fits { TurnFits result.turn Read log.now.listens log.now.last log.now.streams
-            log.now.blocked (piece_of result.change self.now) }
-        ensures own_turn { OwnFits result.turn [] [] log.now.last_own }
-        ensures gives { result.turn ≢ NoMemory → GivesNext self.now log.now result }
+        ensures fits { TurnFits result.turn Read log.now.state.seen
+            (piece_of result.change self.now) }
+        ensures own_turn { log.now.state.seen.own ≡ [] → OwnFits result.turn log.now.state.seen }
+        ensures gives { result.turn ≢ NoMemory → GivesNext self.now log.now.state.seen result }
         ensures starved { result.turn ≡ NoMemory → result.change ≡ Nothing }
         ensures ends { result.turn ≡ End 0 → self.now.course.stage ≡ Ending }
     {

@@ -109,7 +109,7 @@ pub record EndsSo {A E : Type 0} (result : Result A E) (present : Bool) (ended :
 -- a turn was given, or the run is over: it ended, or a forwarding of the start was refused
 pub record GoesOnSo (on : Bool) (ended : Option Ended) (settled : Bool) (refusal : Option ℕ) :
     Type 0 where
-  pub on : on ≡ true → ended ≡ None
+  pub goes : on ≡ true → ended ≡ None
   pub unsettled : on ≡ true → settled ≡ false
   pub over : on ≡ false → ended ≡ None → refusal ≢ None
 

@@ -1,20 +1,19 @@
 -- An engine goes on where the house replies to a client's ask later than at once.
 use Rattle.std.proofs.Common.{◌≡◌, ◌≢◌, ◌+◌, ℕ, Bool, true, false, not, ◌&&◌, List, [], ◌∷◌, ◌++◌, length, Option, Some, None, refl, sym, ap, ◌∙◌, subst, cond, append-nil}
-use Rattle.std.specs.Prelude.{◌==◌, ◌^◌, ◌-◌, ◌<◌, MatchBool, min, is_some}
+use Rattle.std.specs.Prelude.{◌^◌, ◌-◌, ◌<◌, MatchBool, min, is_some}
 use Rattle.mux_outside.specs.declared.house.HouseReply.{HouseReply}
 use Rattle.mux_outside.specs.declared.house_mark.HouseMark.{HouseMark as Asked}
 use Rattle.mux_outside.specs.declared.house_mark.HouseMark.TheVariants.{HouseAnswer}
 use Rattle.mux_outside.specs.declared.mark.Mark.{Mark}
 use Rattle.mux_outside.specs.declared.mark.Mark.TheVariants.{House}
 use Rattle.mux_history.specs.declared.ended.Ended.{Ended}
-use Rattle.mux_history.specs.declared.why.Why.{Why}
 use Rattle.mux_history.specs.declared.limits.TheConstants.{NUMBERS_END}
 use Rattle.mux_history.specs.Rows.{Row, rows_of, is_end, is_ended, is_out, loss_by, HouseSays, Item, Says, Fate, Goes, Refused, Drop, End}
 use Rattle.mux_history.specs.Channels.{own_of, holder}
 use Rattle.mux_history.specs.Choices.{has_reply, numbers_taken, replies_given, takes_number}
 use Rattle.mux_history.specs.Controls.{body_stops, greeted}
 use Rattle.mux_history.specs.Heard.{is_heard, next_index}
-use Rattle.mux_history.specs.Promises.{listens, stops}
+use Rattle.mux_history.specs.Promises.{listens}
 use Rattle.mux_history.specs.Requests.{is_sent}
 use Rattle.mux_history.specs.Right.{AreFresh, carried_number}
 use Rattle.mux_history.specs.Settings.{by_lists}
@@ -33,11 +32,11 @@ use Rattle.mux_clients.proofs.Ones.{one-moves-all}
 use Rattle.mux_clients.proofs.Stood.{out_is, own_row}
 use Rattle.mux_machine.specs.Moves.{AnsweredAt, NoneStands, not_lost}
 use Rattle.mux_machine.specs.State.{State, loss_between, loss_in, numbers, waiting_in}
-use Rattle.mux_machine.specs.Stands.{BytesFit, ClientReads, EachReads, GoesAlone, IsAllowed, IsStrange, RowsFit, ServerReads, StandsFor, log, place, setting}
+use Rattle.mux_machine.specs.Stands.{BytesFit, ClientReads, EachReads, GoesAlone, IsAllowed, IsStrange, RowsFit, ServerReads, StandsFor, log, setting}
 use Rattle.mux_machine.proofs.Closes.{other_row}
 use Rattle.mux_machine.proofs.Grows.{Grows, grows-row}
 use Rattle.mux_machine.proofs.Hearing.{reads-kept}
-use Rattle.mux_machine.proofs.Lists.{test_other, true_false}
+use Rattle.mux_machine.proofs.Lists.{true_false}
 use Rattle.mux_machine.proofs.Moved.{here-same, moved}
 use Rattle.mux_machine.proofs.OneClient.{apart-here, loss-row, numbers-one, open-here, unclosed-one}
 use Rattle.mux_machine.proofs.Over.{are-bytes-on, next-live, none-said-by, one-more, some-end, strange-on}

@@ -73,7 +73,7 @@ some-shown May told told' k bytes parts s lent view lends h =
 
 -- all was taken in, and then there was no memory
 pub some-heard : {A E : Type 0} {a : A} (May : HouseReply → Type 0) {asks asks' : List Asked} {old new : HouseState} (pid : ℕ) (bytes : List ℕ) (core core' : CoreState) (up up' : QueueState) (heard : Heard) (k : ℕ) (lent cs : List ClientState) → is_heard lent k ≡ true
-    → (is_present lent k ≡ true → ChangesOne k (HearsIn May (Some asks) (Some asks') pid bytes core core' up up' heard) lent cs) → Heeds {A} {E} (Ok a) asks asks' old new → OneIs k (HearsSome May old.told new.told pid bytes core up) lent
+    → (is_present lent k ≡ true → ChangesOne k (HearsIn May (Some asks) (Some asks') pid bytes core core' up up' heard) lent cs) → Heeds {A = A} {E = E} (Ok a) asks asks' old new → OneIs k (HearsSome May old.told new.told pid bytes core up) lent
 some-heard May {asks} {asks'} {old} {new} pid bytes core core' up up' heard k lent cs read hears h =
     let here : is_present lent k ≡ true = so-here is_read k lent read in
     let R : ClientState → ClientState → Type 0 = HearsIn May (Some asks) (Some asks') pid bytes core core' up up' heard in

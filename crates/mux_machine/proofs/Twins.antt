@@ -1,20 +1,16 @@
 -- Journals with the same rows, bytes and clients.
-use Rattle.std.proofs.Common.{◌≡◌, ℕ, Bool, true, false, List, [], ◌∷◌, ◌++◌, length, Option, refl, sym, ap, ◌∙◌, subst, append-nil}
+use Rattle.std.proofs.Common.{◌≡◌, ℕ, Bool, true, false, List, [], ◌∷◌, ◌++◌, length, refl, sym, ap, ◌∙◌, subst, append-nil}
 use Rattle.std.specs.Prelude.{◌==◌}
 use Rattle.ssh_fields.specs.Fields.{AreBytes}
-use Rattle.mux_outside.specs.declared.house.HouseReply.{HouseReply}
-use Rattle.mux_outside.specs.declared.house_mark.HouseMark.TheVariants.{HouseIn, HouseSaid, HouseTook}
 use Rattle.mux_outside.specs.declared.mark.Mark.{Mark}
-use Rattle.mux_outside.specs.declared.mark.Mark.TheVariants.{Accepts, Gets, Ends, Fails, Takes, WriteFails, House}
 use Rattle.mux_history.specs.declared.limits.TheConstants.{HOUSE}
-use Rattle.mux_history.specs.Rows.{Row, is_ended, Item, Gone, ServerFailed, Took}
+use Rattle.mux_history.specs.Rows.{Row, Item, Gone, ServerFailed, Took}
 use Rattle.mux_history.specs.Settings.{by_lists}
-use Rattle.mux_history.specs.Log.{Setting, more_all}
-use Rattle.mux_history.specs.Journal.{bytes_of, is_accepted, is_own_stream, items_in, log_of_journal, server_end, unless_own}
-use Rattle.mux_clients.specs.Asked.{asked_of}
+use Rattle.mux_history.specs.Log.{more_all}
+use Rattle.mux_history.specs.Journal.{bytes_of, is_own_stream, log_of_journal, unless_own}
 use Rattle.mux_clients.specs.State.{ClientState}
 use Rattle.mux_machine.specs.State.{State}
-use Rattle.mux_machine.specs.Stands.{BytesFit, ClientReads, EachReads, IsStrange, RowsFit, ServerReads, Stands, StandsFor, log}
+use Rattle.mux_machine.specs.Stands.{BytesFit, ClientReads, EachReads, IsStrange, RowsFit, ServerReads, StandsFor, log}
 use Rattle.mux_machine.proofs.Lists.{test_other}
 use Rattle.mux_machine.specs.Twins.{AreAlike, HouseIsClient, OwnIsSilent, StandsAlike}
 

@@ -4,7 +4,8 @@ use Rattle.std.specs.Prelude.{nat_lt}
 use Rattle.std.proofs.lemmas.Grind.{common_steps}
 use Rattle.std.proofs.lemmas.List.{drop_more, drop_min, drop-drop, take_rest}
 use Rattle.mux_outside.specs.OwnStreams.{is_own, is_silent}
-use Rattle.mux_outside.specs.Script.{Standing, is_given, cut_step, cut_first, from_first, FirstGives, turn_of, piece_of}
+use Rattle.mux_outside.specs.Script.{is_given, cut_step, cut_first, from_first, FirstGives, turn_of, piece_of}
+use Rattle.mux_outside.specs.Seen.{Seen, untold}
 use Rattle.mux_outside.specs.Streams.{among}
 use Rattle.mux_outside.specs.Wire.{TurnFits, OwnFits, IsNewOwn}
 use Rattle.mux_outside.specs.declared.own_streams.OwnStream.{OwnStream}
@@ -69,15 +70,15 @@ isn't true e = cc
 isn't false e = refl
 
 -- a step that isn't skipped can be given
-pub gives_first : (at : Standing) (steps : List Step) → FirstPasses (is_given at) steps
-    → FirstGives at.last steps
-gives_first at [] p = tt
-gives_first at (Accept ∷ steps) p = let parts = both at.listens _ p in grind (arith, common_steps)
-gives_first at (Bytes t text ∷ steps) p = tt
-gives_first at (End t ∷ steps) p = tt
-gives_first at (Fail t ∷ steps) p = tt
-gives_first at (Writable t ∷ steps) p = tt
-gives_first at (Join l t ∷ steps) p = tt
+pub gives_first : (seen : Seen) (steps : List Step) → FirstPasses (is_given seen) steps
+    → FirstGives seen.last steps
+gives_first seen [] p = tt
+gives_first seen (Accept ∷ steps) p = let parts = both seen.listens _ p in grind (arith, common_steps)
+gives_first seen (Bytes t text ∷ steps) p = tt
+gives_first seen (End t ∷ steps) p = tt
+gives_first seen (Fail t ∷ steps) p = tt
+gives_first seen (Writable t ∷ steps) p = tt
+gives_first seen (Join l t ∷ steps) p = tt
 
 -- a piece of bytes that aren't none isn't empty, and is short enough
 pub piece_fits : (n : ℕ) (text : List ℕ) → 0 < n → IsTrue (not (length text == 0))
@@ -85,21 +86,21 @@ pub piece_fits : (n : ℕ) (text : List ℕ) → 0 < n → IsTrue (not (length t
 piece_fits n text l some = grind (arith, length-take)
 
 -- its turn is one that a wire may give
-pub first_fits : (at : Standing) (steps : List Step)
-    (piece : List ℕ) → IsTrue (among 0 at.streams) → FirstPasses (is_given at) steps
-    → TurnFits (turn_of at.last steps) Read at.listens at.last at.streams at.blocked (piece_of steps piece)
-first_fits at [] piece server p = (refl, server)
-first_fits at (Accept ∷ steps) piece server p =
-    let parts = both at.listens _ p in (refl, parts.0, refl, gives_first at (Accept ∷ steps) p)
-first_fits at (Bytes t text ∷ steps) piece server p =
-    let parts = both (among t at.streams) _ p in
-    let more = both (not (is_silent t at.own)) _ parts.1 in
+pub first_fits : (seen : Seen) (steps : List Step)
+    (piece : List ℕ) → IsTrue (among 0 seen.streams) → FirstPasses (is_given seen) steps
+    → TurnFits (turn_of seen.last steps) Read seen (piece_of steps piece)
+first_fits seen [] piece server p = (refl, server)
+first_fits seen (Accept ∷ steps) piece server p =
+    let parts = both seen.listens _ p in (refl, parts.0, refl, gives_first seen (Accept ∷ steps) p)
+first_fits seen (Bytes t text ∷ steps) piece server p =
+    let parts = both (among t seen.streams) _ p in
+    let more = both (not (is_silent t seen.own)) _ parts.1 in
     let bounds = piece_fits LONGEST_PIECE text (lit< tt) more.1 in
     (refl, parts.0, bounds.0, bounds.1)
-first_fits at (End t ∷ steps) piece server p = (refl, (both (among t at.streams) _ p).0)
-first_fits at (Fail t ∷ steps) piece server p = p
-first_fits at (Writable t ∷ steps) piece server p = both _ _ p
-first_fits at (Join l t ∷ steps) piece server p = refl
+first_fits seen (End t ∷ steps) piece server p = (refl, (both (among t seen.streams) _ p).0)
+first_fits seen (Fail t ∷ steps) piece server p = p
+first_fits seen (Writable t ∷ steps) piece server p = both _ _ p
+first_fits seen (Join l t ∷ steps) piece server p = refl
 
 -- a number above the last one of the master's own is one of the master's own
 pub new_own : (last n : ℕ) → LAST_CLIENT ≤ last → IsTrue (nat_lt last n) → IsTrue (not (nat_lt LAST_OWN n))
@@ -112,44 +113,44 @@ new_own last n least above most =
     }
 
 -- its turn is one that a wire may give of the master's own
-pub first_owns : (at : Standing) (steps : List Step) → LAST_CLIENT ≤ at.last_own
-    → FirstPasses (is_given at) steps
-    → OwnFits (turn_of at.last steps) at.listeners at.own at.last_own
-first_owns at [] least p = λ e. cc
-first_owns at (Accept ∷ steps) least p = tt
-first_owns at (Bytes t text ∷ steps) least p = λ e.
-    let parts = both (among t at.streams) _ p in
-    isn't _ (both (not (is_silent t at.own)) _ parts.1).0
-first_owns at (End t ∷ steps) least p = λ e. isn't _ (both (among t at.streams) _ p).1
-first_owns at (Fail t ∷ steps) least p = tt
-first_owns at (Writable t ∷ steps) least p = tt
-first_owns at (Join l t ∷ steps) least p =
-    let parts = both (among l at.listeners) _ p in
-    let more = both (nat_lt at.last_own t) _ parts.1 in
-    (parts.0, new_own at.last_own t least more.0 more.1)
+pub first_owns : (seen : Seen) (steps : List Step) → LAST_CLIENT ≤ seen.last_own
+    → FirstPasses (is_given seen) steps
+    → OwnFits (turn_of seen.last steps) seen
+first_owns seen [] least p = λ e. cc
+first_owns seen (Accept ∷ steps) least p = tt
+first_owns seen (Bytes t text ∷ steps) least p = λ e.
+    let parts = both (among t seen.streams) _ p in
+    isn't _ (both (not (is_silent t seen.own)) _ parts.1).0
+first_owns seen (End t ∷ steps) least p = λ e. isn't _ (both (among t seen.streams) _ p).1
+first_owns seen (Fail t ∷ steps) least p = tt
+first_owns seen (Writable t ∷ steps) least p = tt
+first_owns seen (Join l t ∷ steps) least p =
+    let parts = both (among l seen.listeners) _ p in
+    let more = both (nat_lt seen.last_own t) _ parts.1 in
+    (parts.0, new_own seen.last_own t least more.0 more.1)
 
 -- the turn at a place that was found is one of the master's own
-pub given_owns : (at : Standing) (all steps : List Step) (turn : Turn)
-    → steps ≡ from_first (is_given at) all → turn ≡ turn_of at.last steps → LAST_CLIENT ≤ at.last_own
-    → OwnFits turn at.listeners at.own at.last_own
-given_owns at all steps turn found gives least =
-    rw (gives, found) (first_owns at _ least (first_passes _ all))
+pub given_owns : (seen : Seen) (all steps : List Step) (turn : Turn)
+    → steps ≡ from_first (is_given seen) all → turn ≡ turn_of seen.last steps → LAST_CLIENT ≤ seen.last_own
+    → OwnFits turn seen
+given_owns seen all steps turn found gives least =
+    rw (gives, found) (first_owns seen _ least (first_passes _ all))
 
 -- the turn at a place that was found
-pub given_fits : (at : Standing) (all steps : List Step)
+pub given_fits : (seen : Seen) (all steps : List Step)
     (piece piece' : List ℕ) (turn : Turn) (want : Want) → want ≡ Read
-    → steps ≡ from_first (is_given at) all
-    → turn ≡ turn_of at.last steps → piece' ≡ piece_of steps piece → IsTrue (among 0 at.streams)
-    → TurnFits turn want at.listens at.last at.streams at.blocked piece'
-given_fits at all steps piece piece' turn want reads found gives fills server =
+    → steps ≡ from_first (is_given seen) all
+    → turn ≡ turn_of seen.last steps → piece' ≡ piece_of steps piece → IsTrue (among 0 seen.streams)
+    → TurnFits turn want seen piece'
+given_fits seen all steps piece piece' turn want reads found gives fills server =
     rw (reads, gives, fills, found)
-    (first_fits at _ piece server (first_passes _ all))
+    (first_fits seen _ piece server (first_passes _ all))
 
 -- a place that was found can be given
-pub found_gives : (at : Standing) (all steps : List Step)
-    → steps ≡ from_first (is_given at) all → FirstGives at.last steps
-found_gives at all steps found =
-    rw found (gives_first at _ (first_passes _ all))
+pub found_gives : (seen : Seen) (all steps : List Step)
+    → steps ≡ from_first (is_given seen) all → FirstGives seen.last steps
+found_gives seen all steps found =
+    rw found (gives_first seen _ (first_passes _ all))
 
 -- what is left of a text behind a piece
 pub behind_piece : (n offset start count : ℕ) (text : List ℕ) → start ≡ min offset (length text)
@@ -165,10 +166,27 @@ behind_piece n offset start count text at many =
     ∙ drop_min n (drop start text)
     ∙ ap (drop n) cut
 
--- the number of a socket that is joined is above those of the clients
-pub joined_above : (turn : Turn) (l t : ℕ) (listeners : List ℕ) (own : List OwnStream) (last : ℕ)
-    → turn ≡ Joined l t → OwnFits turn listeners own last → LAST_CLIENT ≤ t
-joined_above turn l t listeners own last e fits =
-    let f : OwnFits (Joined l t) listeners own last = subst (λ u. OwnFits u listeners own last) e fits in
-    let o : IsTrue (nat_lt LAST_CLIENT t) = f.1.own in
+-- a new number of the master's own is above those of the clients
+pub own_above : (last n : ℕ) → IsNewOwn last n → LAST_CLIENT ≤ n
+own_above last n new =
+    let own : IsTrue (nat_lt LAST_CLIENT n) = new.own in
     grind (arith, common_steps)
+
+-- whether a step is skipped doesn't hang on what is told
+pub given_untold : (seen : Seen) (step : Step) → is_given (untold seen) step ≡ is_given seen step
+given_untold seen Accept = refl
+given_untold seen (Bytes t text) = refl
+given_untold seen (End t) = refl
+given_untold seen (Fail t) = refl
+given_untold seen (Writable t) = refl
+given_untold seen (Join l t) = refl
+
+-- nor do the steps from the first one that isn't skipped
+pub same_steps : (a b : Seen) → untold a ≡ untold b → (steps : List Step)
+    → from_first (is_given a) steps ≡ from_first (is_given b) steps
+same_steps a b e [] = refl
+same_steps a b e (step ∷ steps) =
+    let given : is_given a step ≡ is_given b step =
+    sym (given_untold a step) ∙ ap (λ s. is_given s step) e ∙ given_untold b step in
+    ap (λ g. if g then step ∷ steps else from_first (is_given a) steps) given
+    ∙ ap (λ later. if is_given b step then step ∷ steps else later) (same_steps a b e steps)

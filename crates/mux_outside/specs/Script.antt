@@ -2,13 +2,12 @@
 use Rattle.std.specs.Prelude.{◌<◌, ℕ, ◌+◌, Bool, not, ◌&&◌, if◌then◌else◌, ◌==◌, nat_lt, List, [], ◌∷◌, length, take, drop, min, max, Option, Some, None, unwrap_or, slice_get}
 use Rattle.std.specs.Option.{option_map}
 use Rattle.mux_outside.specs.OwnStreams.{is_own, is_silent}
+use Rattle.mux_outside.specs.Seen.{Seen}
 use Rattle.mux_outside.specs.Streams.{among}
-use Rattle.mux_outside.specs.declared.own_streams.OwnStream.{OwnStream}
 use Rattle.mux_outside.specs.declared.own_streams.TheConstants.{LAST_CLIENT, LAST_OWN}
 use Rattle.mux_outside.specs.declared.piece.TheConstants.{LONGEST_PIECE}
 use Rattle.mux_outside.specs.declared.plan.Given.{Given}
 use Rattle.mux_outside.specs.declared.plan.Place.{Place}
-use Rattle.mux_outside.specs.declared.plan.State.{State}
 use Rattle.mux_outside.specs.declared.script.Step.{Step}
 use Rattle.mux_outside.specs.declared.script.Step.TheVariants.{Accept, Bytes, End, Fail, Writable, Join}
 use Rattle.mux_outside.specs.declared.script.WriteEntry.{WriteEntry}
@@ -20,43 +19,16 @@ use Rattle.mux_outside.specs.declared.turn.Wrote.TheVariants.{Took, Later as IsL
 
 -- ---- steps
 
--- what steps are skipped by: the listening, the last client, the open and the blocked streams, and the
--- master's own listeners, its own streams and the last number of either
-pub record Standing : Type 0 where
-  pub listens : Bool
-  pub last : ℕ
-  pub streams : List ℕ
-  pub blocked : List ℕ
-  pub listeners : List ℕ
-  pub own : List OwnStream
-  pub last_own : ℕ
-
--- whether a step isn't skipped
-abbrev pub is_given : Standing → Step → Bool
-is_given at Accept = at.listens && nat_lt at.last LAST_CLIENT
-is_given at (Bytes t text) =
-    among t at.streams && (not (is_silent t at.own) && not (length text == 0))
-is_given at (End t) = among t at.streams && not (is_silent t at.own)
-is_given at (Fail t) = among t at.streams
-is_given at (Writable t) = among t at.streams && among t at.blocked
-is_given at (Join l t) =
-    among l at.listeners && (nat_lt at.last_own t && not (nat_lt LAST_OWN t))
-
--- the state of the wire so
-abbrev pub standing_of : State → Standing
-standing_of state = record {
-  listens = state.listening;
-  last = state.last;
-  streams = state.streams.now;
-  blocked = state.blocked.now;
-  listeners = state.listeners.now;
-  own = state.own.now;
-  last_own = state.last_own;
-}
-
--- the same in a state of the wire
-abbrev pub is_given_in : State → Step → Bool
-is_given_in state step = is_given (standing_of state) step
+-- whether a step isn't skipped, by what is seen of the wire
+abbrev pub is_given : Seen → Step → Bool
+is_given seen Accept = seen.listens && nat_lt seen.last LAST_CLIENT
+is_given seen (Bytes t text) =
+    among t seen.streams && (not (is_silent t seen.own) && not (length text == 0))
+is_given seen (End t) = among t seen.streams && not (is_silent t seen.own)
+is_given seen (Fail t) = among t seen.streams
+is_given seen (Writable t) = among t seen.streams && among t seen.blocked
+is_given seen (Join l t) =
+    among l seen.listeners && (nat_lt seen.last_own t && not (nat_lt LAST_OWN t))
 
 -- a client can come only while there is a number above that of the last one
 abbrev pub FirstGives : ℕ → List Step → Type 0

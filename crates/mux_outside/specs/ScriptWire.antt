@@ -4,7 +4,8 @@ use Rattle.mux_outside.specs.Streams.{among}
 use Rattle.mux_outside.specs.declared.file_error.FileError.{FileError}
 use Rattle.mux_outside.specs.declared.file_error.FileError.TheVariants.{Failed, OutOfMemory}
 use Rattle.mux_outside.specs.Counts.{counted}
-use Rattle.mux_outside.specs.WireLog.{Logged, nothing_logged, standing_in}
+use Rattle.mux_outside.specs.Seen.{Seen}
+use Rattle.mux_outside.specs.WireLog.{nothing_logged}
 use Rattle.mux_outside.specs.Script.{is_given, from_first, turn_of, piece_of, steps_after, steps_from, entry_at, answer_of}
 use Rattle.mux_outside.specs.declared.script.Step.{Step}
 use Rattle.mux_outside.specs.declared.script.WriteEntry.{WriteEntry}
@@ -18,15 +19,15 @@ use Rattle.mux_outside.specs.declared.plan.Place.{Place}
 use Rattle.mux_outside.specs.declared.script_wire.ScriptWire.{ScriptWire}
 
 -- the steps from a place on without those that are skipped now
-abbrev pub steps_ahead : Logged → List Step → Place → List Step
-steps_ahead log steps place = from_first (is_given (standing_in log)) (steps_from steps place)
+abbrev pub steps_ahead : Seen → List Step → Place → List Step
+steps_ahead seen steps place = from_first (is_given seen) (steps_from steps place)
 
 -- a turn is that of the next step that isn't skipped, and the place after it leaves those behind it
-pub record GivesStep (log : Logged) (steps : List Step) (old new : Place) (turn : Turn)
+pub record GivesStep (seen : Seen) (steps : List Step) (old new : Place) (turn : Turn)
     (before after : List ℕ) : Type 0 where
-  pub turn_is : turn ≡ turn_of log.last (steps_ahead log steps old)
-  pub piece_is : after ≡ piece_of (steps_ahead log steps old) before
-  pub left_are : steps_from steps new ≡ steps_after (steps_ahead log steps old)
+  pub turn_is : turn ≡ turn_of seen.last (steps_ahead seen steps old)
+  pub piece_is : after ≡ piece_of (steps_ahead seen steps old) before
+  pub left_are : steps_from steps new ≡ steps_after (steps_ahead seen steps old)
 
 -- a turn is that the first waiting stream takes bytes again, and no step was given
 pub record FreesFirst (waiting : List ℕ) (old new : Place) (turn : Turn) (before after : List ℕ)
@@ -36,11 +37,11 @@ pub record FreesFirst (waiting : List ℕ) (old new : Place) (turn : Turn) (befo
   pub left_are : new ≡ old
 
 -- the turn of a wait, the buffer and the place after it
-abbrev pub GivesAt : Want → List ℕ → Logged → List Step → Place → Place → Turn → List ℕ → List ℕ
+abbrev pub GivesAt : Want → List ℕ → Seen → List Step → Place → Place → Turn → List ℕ → List ℕ
     → Type 0
-GivesAt Read waiting log steps old new turn before after =
-    GivesStep log steps old new turn before after
-GivesAt WriteOnly waiting log steps old new turn before after =
+GivesAt Read waiting seen steps old new turn before after =
+    GivesStep seen steps old new turn before after
+GivesAt WriteOnly waiting seen steps old new turn before after =
     FreesFirst waiting old new turn before after
 
 -- the steps that are left stay
@@ -67,7 +68,8 @@ pub record SameScript (old new : ScriptWire) : Type 0 where
 -- what a wait gives
 pub record GivesNext (want : Want) (waiting : List ℕ) (old new : ScriptWire) (turn : Turn)
     (before after : List ℕ) : Type 0 where
-  pub gives : GivesAt want waiting old.log old.steps old.place new.place turn before after
+  pub gives : GivesAt want waiting old.log.state.seen old.steps old.place new.place turn
+      before after
   pub steps_kept : new.steps ≡ old.steps
 
 -- a write followed its entry
@@ -92,9 +94,9 @@ OpensByNumber (Err OutOfMemory) old new = KeepsOpens old new
 -- a call of listen or connect fails where its number is among those that fail or none is left for
 -- what was to be made, and isn't counted for want of memory
 abbrev pub MakesByNumber : Result ℕ FileError → ScriptWire → ScriptWire → Type 0
-MakesByNumber (Ok n) old new = CountsOpen false old new × (old.log.last_own < LAST_OWN)
+MakesByNumber (Ok n) old new = CountsOpen false old new × (old.log.state.seen.last_own < LAST_OWN)
 MakesByNumber (Err Failed) old new =
-    (among (counted old.opens) old.fails ≡ true) ⊎ (LAST_OWN ≤ old.log.last_own)
+    (among (counted old.opens) old.fails ≡ true) ⊎ (LAST_OWN ≤ old.log.state.seen.last_own)
 MakesByNumber (Err OutOfMemory) old new = KeepsOpens old new
 
 -- a wire at the start of its script

@@ -1,5 +1,5 @@
 -- What is seen of a wire, and what each call leaves of it.
-use Rattle.std.specs.Prelude.{ℕ, Bool, true, false, List, [], ◌∷◌, ◌++◌, take, Result, Ok, Err, Option}
+use Rattle.std.specs.Prelude.{ℕ, Bool, true, false, List, [], ◌∷◌, ◌++◌, take, Result, Ok, Err, Option, None}
 use Rattle.std.specs.Option.{option_map}
 use Rattle.mux_outside.specs.OwnStreams.{new_stream, with_end, with_finish, with_pause, without_stream}
 use Rattle.mux_outside.specs.Streams.{without}
@@ -8,6 +8,7 @@ use Rattle.mux_outside.specs.declared.house_mark.HouseMark.{HouseMark}
 use Rattle.mux_outside.specs.declared.mark.Mark.{Mark}
 use Rattle.mux_outside.specs.declared.mark.Mark.TheVariants.{Waits, Accepts, Gets, Ends, Frees, Fails, Takes, Holds, WriteFails, Joins, House}
 use Rattle.mux_outside.specs.declared.own_streams.OwnStream.{OwnStream}
+use Rattle.mux_outside.specs.declared.own_streams.TheConstants.{LAST_CLIENT}
 use Rattle.mux_outside.specs.declared.turn.Turn.{Turn}
 use Rattle.mux_outside.specs.declared.turn.Turn.TheVariants.{Accepted, Got, End, Writable, Failed, Joined, NoMemory}
 use Rattle.mux_outside.specs.declared.turn.Want.{Want}
@@ -16,9 +17,9 @@ use Rattle.mux_outside.specs.declared.turn.Wrote.TheVariants.{Took, Later, Faile
 
 -- what is seen of a wire: its marks so far, where they are told; the open streams, in the order in
 -- which they were opened; those that take no bytes for now; whether clients are accepted; the last
--- client accepted, 0 before the first; the master's own listeners that are open; its own streams that
--- are open, which stand among the open streams too; and the last number of either, the last one of a
--- client before the first
+-- client accepted, 0 before the first; the master's own listeners that are open; its own streams
+-- that are open, which stand among the open streams too; and the last number of either, the last
+-- one of a client before the first
 pub record Seen : Type 0 where
   pub told : Option (List Mark)
   pub streams : List ℕ
@@ -28,6 +29,23 @@ pub record Seen : Type 0 where
   pub listeners : List ℕ
   pub own : List OwnStream
   pub last_own : ℕ
+
+-- of a wire that was never called and tells nothing
+abbrev pub nothing_seen : Seen
+nothing_seen = record {
+  told = None;
+  streams = [];
+  blocked = [];
+  listens = false;
+  last = 0;
+  listeners = [];
+  own = [];
+  last_own = LAST_CLIENT;
+}
+
+-- the same but for what is told
+abbrev pub untold : Seen → Seen
+untold seen = record seen { told = None }
 
 -- ---- marks and streams after a turn and after a write
 
@@ -146,11 +164,9 @@ seen_after_join (Ok x) seen = record seen {
 }
 seen_after_join (Err e) seen = seen
 
--- after a turn
-abbrev pub seen_after_turn : Turn → List ℕ → Want → List ℕ → Seen → Seen
-seen_after_turn turn waiting want bytes seen = record seen {
-  told = option_map (λ m.
-      m ++ wait_marks turn waiting want seen.streams seen.listens bytes) seen.told;
+-- the streams and clients after a turn
+abbrev pub moved_by_turn : Turn → Seen → Seen
+moved_by_turn turn seen = record seen {
   streams = open_after turn seen.streams;
   blocked = blocked_after turn seen.blocked;
   last = last_after turn seen.last;
@@ -158,11 +174,22 @@ seen_after_turn turn waiting want bytes seen = record seen {
   last_own = last_own_after turn seen.last_own;
 }
 
+-- after a turn
+abbrev pub seen_after_turn : Turn → List ℕ → Want → List ℕ → Seen → Seen
+seen_after_turn turn waiting want bytes seen = record (moved_by_turn turn seen) {
+  told = option_map (λ m.
+      m ++ wait_marks turn waiting want seen.streams seen.listens bytes) seen.told;
+}
+
+-- the streams after a write
+abbrev pub moved_by_write : Wrote → ℕ → Seen → Seen
+moved_by_write wrote stream seen =
+    record seen { blocked = blocked_after_write wrote stream seen.blocked }
+
 -- after a write
 abbrev pub seen_after_write : Wrote → ℕ → List ℕ → Seen → Seen
-seen_after_write wrote stream bytes seen = record seen {
+seen_after_write wrote stream bytes seen = record (moved_by_write wrote stream seen) {
   told = option_map (λ m. m ++ write_marks wrote stream bytes) seen.told;
-  blocked = blocked_after_write wrote stream seen.blocked;
 }
 
 -- after a stream was closed

@@ -3,8 +3,8 @@ ghost use Rattle.mux_outside.specs.Counts.{counted as count_after};
 ghost use Rattle.mux_outside.specs.CallCounts.{no_calls, calls_after_one, calls_after_wait, calls_after_write};
 
 use crate::counts::counted;
-use crate::own_streams::is_own;
 use crate::turn::{Turn, Wrote};
+use crate::whose::Whose;
 use std::marker::Model;
 
 /// How often a wire was called, how often it found no memory, and how often it gave what.
@@ -69,11 +69,14 @@ impl CallCounts {
         self.waits = counted(self.waits);
         match turn {
             Turn::Accepted(_) => self.accepts = counted(self.accepts),
-            Turn::Got(0) => self.server_pieces = counted(self.server_pieces),
-            Turn::Got(stream) if !is_own(stream) => {
-                self.client_pieces = counted(self.client_pieces);
+            Turn::Got(stream) => match Whose::of(stream) {
+                Whose::Server => self.server_pieces = counted(self.server_pieces),
+                Whose::Client(_) => self.client_pieces = counted(self.client_pieces),
+                Whose::Own => {}
+            },
+            Turn::End(stream) if Whose::of(stream) == Whose::Server => {
+                self.server_ends = counted(self.server_ends);
             }
-            Turn::End(0) => self.server_ends = counted(self.server_ends),
             _ => {}
         }
     }

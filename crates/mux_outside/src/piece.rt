@@ -1,4 +1,4 @@
-ghost use Rattle.std.specs.Prelude.{◌≡◌, ◌≤◌, ◌+◌, ◌++◌, [], length, IfOk, IfSome, OnErr, OnOk, take, unwrap_or};
+ghost use Rattle.std.specs.Prelude.{◌≡◌, ◌<◌, ◌≤◌, ◌+◌, ◌++◌, [], length, IfOk, IfSome, OnErr, OnOk, take, unwrap_or};
 ghost use Rattle.std.specs.Option.{option_map};
 ghost use Rattle.std.specs.Io.KnownBytes.{Consumes, IsAtEnd, Keeps};
 
@@ -57,10 +57,13 @@ impl Piece {
         self.len += bytes.len();
     }
 
-    /// Reads once, and puts what comes in place of the bytes before. A read that fails leaves none.
-    pub fn read_from<S: Read>(&mut self, from: &mut S) -> io::Result<usize>
+    /// Reads once, so many bytes at most, and puts what comes in place of the bytes before. A read
+    /// that fails leaves none.
+    pub fn read_from<S: Read>(&mut self, from: &mut S, most: usize) -> io::Result<usize>
+        requires { 0 < most }
         ensures count { IfOk result (λ n. n ≡ length self.new) }
         ensures at_most { length self.new ≤ LONGEST_PIECE }
+        ensures most { length self.new ≤ most }
         ensures failed { OnErr result (self.new ≡ []) }
 
         // What a reader that tells its bytes has lost is what the piece holds.
@@ -70,7 +73,7 @@ impl Piece {
         ensures kept { OnErr result (Keeps (S.remaining from.old) (S.remaining from.new)) }
     {
         self.len = 0;
-        let count = from.read(self.room.as_mut_slice())?;
+        let count = read_front(from, self.room.as_mut_slice(), most.min(LONGEST_PIECE))?;
         self.len = count;
         Ok(count)
     }
@@ -101,6 +104,19 @@ impl Piece {
     {
         &self.room[..self.len]
     }
+}
+
+// Reads once into the first bytes, so many at most.
+fn read_front<S: Read>(from: &mut S, room: &mut [u8], most: usize) -> io::Result<usize>
+    requires { most ≤ length room.old }
+    ensures len { length room.new ≡ length room.old }
+    ensures bound { IfOk result (λ n. n ≤ most) }
+    ensures bytes { IfOk result (λ n.
+        Consumes (S.remaining from.old) (S.remaining from.new) (take n room.new)) }
+    ensures end { IfOk result (λ n. n ≡ 0 → 0 < most → IsAtEnd (S.remaining from.new)) }
+    ensures kept { OnErr result (Keeps (S.remaining from.old) (S.remaining from.new)) }
+{
+    from.read(&mut room[..most])
 }
 
 // Writes over the first bytes.

@@ -2,14 +2,14 @@
 ghost use Rattle.std.specs.Prelude.{◌≡◌, ◌≤◌, drop, take, length, IfSome};
 ghost use Rattle.mux_outside.specs.declared.turn.Want.TheVariants.{Read};
 ghost use Rattle.mux_outside.specs.Streams.{among};
-ghost use Rattle.mux_outside.specs.Script.{is_given_in, cut_step, steps_from, from_first, FirstGives, turn_of, bytes_of, bytes_in, steps_after, entry_at, answer_of};
+ghost use Rattle.mux_outside.specs.Script.{is_given, cut_step, steps_from, from_first, FirstGives, turn_of, bytes_of, bytes_in, steps_after, entry_at, answer_of};
 ghost use Rattle.mux_outside.specs.Wire.{TurnFits};
 
-use crate::own_streams::{LAST_CLIENT, LAST_OWN, OwnStreams};
+use crate::own_streams::{LAST_CLIENT, LAST_OWN};
 use crate::piece::LONGEST_PIECE;
 use crate::script::{Step, WriteEntry};
-use crate::streams::Streams;
 use crate::turn::{Turn, Wrote};
+use crate::wire_state::WireState;
 
 /// A place in a script: a step, and how many of its bytes were given.
 #[derive(Clone, Copy, Debug, PartialEq, Eq)]
@@ -26,48 +26,40 @@ pub struct Given<'a> {
     pub place: Place,
 }
 
-/// What steps are skipped by.
-#[derive(Clone, Copy)]
-pub struct State<'a> {
-    pub listening: bool,
-    pub last: u64,
-    pub streams: &'a Streams,
-    pub blocked: &'a Streams,
-    pub listeners: &'a Streams,
-    pub own: &'a OwnStreams,
-    pub last_own: u64,
-}
-
 // Whether a step that has given so many bytes isn't skipped.
-fn is_given(step: &Step, offset: usize, state: State<'_>) -> bool
-    ensures { result ≡ is_given_in state.entry (cut_step offset step.now) }
+fn is_due(step: &Step, offset: usize, state: &WireState) -> bool
+    ensures { result ≡ is_given state.now.seen (cut_step offset step.now) }
 {
     match step {
-        Step::Accept => state.listening && state.last < LAST_CLIENT,
+        Step::Accept => state.is_listening() && state.last() < LAST_CLIENT,
         Step::Bytes(stream, text) => {
-            state.streams.contains(*stream)
-                && !state.own.is_silent(*stream)
+            state.streams().contains(*stream)
+                && !state.own().is_silent(*stream)
                 && offset < text.as_bytes().len()
         }
-        Step::End(stream) => { state.streams.contains(*stream) && !state.own.is_silent(*stream) }
-        Step::Fail(stream) => state.streams.contains(*stream),
+        Step::End(stream) => {
+            state.streams().contains(*stream) && !state.own().is_silent(*stream)
+        }
+        Step::Fail(stream) => state.streams().contains(*stream),
         Step::Writable(stream) => {
-            state.streams.contains(*stream) && state.blocked.contains(*stream)
+            state.streams().contains(*stream) && state.blocked().contains(*stream)
         }
         Step::Join(listener, stream) => {
-            state.listeners.contains(*listener) && state.last_own < *stream && *stream <= LAST_OWN
+            state.listeners().contains(*listener)
+                && state.last_own() < *stream
+                && *stream <= LAST_OWN
         }
     }
 }
 
 /// The first place from this one on whose step isn't skipped.
-pub fn find(steps: &[Step], place: Place, state: State<'_>) -> Place
+pub fn find(steps: &[Step], place: Place, state: &WireState) -> Place
     ensures { steps_from steps.now result
-        ≡ from_first (is_given_in state.entry) (steps_from steps.now place) }
+        ≡ from_first (is_given state.now.seen) (steps_from steps.now place) }
 {
     let mut offset = place.offset;
     for step in place.step..steps.len() {
-        if is_given(&steps[step], offset, state) {
+        if is_due(&steps[step], offset, state) {
             return Place { step, offset };
         }
         offset = 0;

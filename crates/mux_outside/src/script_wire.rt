@@ -1,29 +1,22 @@
 ghost use Rattle.std.specs.Prelude.{◌≡◌, ◌≢◌, ◌<◌, ◌≤◌, ◌++◌, ℕ, List, true, false, Some, IsTrue, All, IfSome, length, unwrap_or};
-ghost use Rattle.std.specs.Option.{option_map};
+ghost use Rattle.mux_outside.specs.OwnStreams.{is_finished};
+ghost use Rattle.mux_outside.specs.Script.{bytes_in};
+ghost use Rattle.mux_outside.specs.ScriptWire.{FollowsEntry, GivesAt, GivesNext, KeepsOpens, KeepsSteps, KeepsWrites, MakesByNumber, OpensByNumber, SameScript, Starts};
+ghost use Rattle.mux_outside.specs.Seen.{seen_after_close, seen_after_connect, seen_after_finish, seen_after_listen, seen_after_note, seen_after_pause, seen_after_silence, seen_after_unlisten};
 ghost use Rattle.mux_outside.specs.Streams.{among};
 ghost use Rattle.mux_outside.specs.Tally.{no_tally};
-ghost use Rattle.mux_outside.specs.declared.turn.Want.TheVariants.{WriteOnly};
+ghost use Rattle.mux_outside.specs.Wire.{JoinFaults, MakeFaults, NumberFits, OpenFaults, OwnFits, TurnFaults, TurnFits, WroteFaults, WroteFits};
+ghost use Rattle.mux_outside.specs.WireState.{seeing, state_after_join, state_after_open, state_after_wait, state_after_write};
 ghost use Rattle.mux_outside.specs.declared.turn.Turn.TheVariants.{NoMemory};
+ghost use Rattle.mux_outside.specs.declared.turn.Want.TheVariants.{WriteOnly};
 ghost use Rattle.mux_outside.specs.declared.turn.Wrote.TheVariants.{NoMemory as NoMemoryToWrite};
-ghost use Rattle.mux_outside.specs.Wire.{openings_of, OpenFaults, joinings_of, JoinFaults, TurnFits, TurnFaults, WroteFits, WroteFaults};
-ghost use Rattle.mux_outside.specs.Script.{bytes_in};
-ghost use Rattle.mux_outside.specs.Seen.{seen_after_close, seen_after_join, seen_after_open, seen_after_turn, seen_after_write};
-ghost use Rattle.mux_outside.specs.CallCounts.{calls_after_wait, calls_after_write};
-ghost use Rattle.mux_outside.specs.Seen.{seen_after_note, seen_after_listen, seen_after_connect, seen_after_unlisten, seen_after_pause, seen_after_finish};
-ghost use Rattle.mux_outside.specs.Counts.{HasCause};
-ghost use Rattle.mux_outside.specs.OwnStreams.{is_finished};
-ghost use Rattle.mux_outside.specs.Wire.{OwnFits, OwnTurnFaults, OwnWroteFaults, NumberFits};
-ghost use Rattle.mux_outside.specs.ScriptWire.{GivesAt, GivesNext, FollowsEntry, OpensByNumber, MakesByNumber, Starts};
-ghost use Rattle.mux_outside.specs.WireLog.{seen_in, Shows, ShowsMade};
-ghost use Rattle.mux_outside.specs.WireLog.{LogsOpening, LogsJoining, LogsTurn, LogsWrite, LogsClose};
-ghost use Rattle.mux_outside.specs.ScriptWire.{KeepsSteps, KeepsWrites, KeepsOpens, SameScript};
 
 use crate::calls::Calls;
 use crate::counts::counted;
 use crate::file_error::FileError;
 use crate::house_mark::HouseMark;
 use crate::piece::{LONGEST_PIECE, Piece};
-use crate::plan::{Given, Place, State, answer_at, find, give};
+use crate::plan::{Given, Place, answer_at, find, give};
 use crate::script::{Step, Steps, Writes};
 use crate::streams::Streams;
 use crate::turn::{Tally, Turn, Want, Wrote};
@@ -81,29 +74,20 @@ fn given<'a>(
     waiting: &Streams,
     want: Want,
 ) -> Given<'a>
-    requires waiting_blocked { All (λ t. IsTrue (among t log.now.blocked)) waiting.now }
-    requires waiting_open { All (λ t. IsTrue (among t log.now.streams)) waiting.now }
-    requires server { IsTrue (among 0 log.now.streams) }
+    requires waiting_blocked { All (λ t. IsTrue (among t log.now.state.seen.blocked)) waiting.now }
+    requires waiting_open { All (λ t. IsTrue (among t log.now.state.seen.streams)) waiting.now }
+    requires server { IsTrue (among 0 log.now.state.seen.streams) }
     requires some { want ≡ WriteOnly → 0 < length waiting.now }
-    ensures turn { (piece : List ℕ) → TurnFits result.turn want log.now.listens log.now.last
-        log.now.streams log.now.blocked (unwrap_or (bytes_in result) piece) }
-    ensures own_turn { OwnFits result.turn log.now.listeners log.now.own log.now.last_own }
+    ensures turn { (piece : List ℕ) → TurnFits result.turn want log.now.state.seen
+        (unwrap_or (bytes_in result) piece) }
+    ensures own_turn { OwnFits result.turn log.now.state.seen }
     ensures short { IfSome (bytes_in result) (λ bytes. length bytes ≤ LONGEST_PIECE) }
-    ensures script { (piece : List ℕ) → GivesAt want waiting.now log.now steps.now place
-        result.place result.turn piece (unwrap_or (bytes_in result) piece) }
+    ensures script { (piece : List ℕ) → GivesAt want waiting.now log.now.state.seen steps.now
+        place result.place result.turn piece (unwrap_or (bytes_in result) piece) }
 {
     match want {
         Want::Read => {
-            let state = State {
-                listening: log.is_listening(),
-                last: log.last(),
-                streams: log.streams(),
-                blocked: log.blocked(),
-                listeners: log.listeners(),
-                own: log.own(),
-                last_own: log.last_own(),
-            };
-            let place = find(steps, place, state);
+            let place = find(steps, place, log.state());
             give(steps, place, log.last())
         }
         Want::WriteOnly => Given {
@@ -115,24 +99,14 @@ fn given<'a>(
 }
 
 impl Wire for ScriptWire {
-    ghost openings = { λ w. Some w.log.openings };
+    ghost state = { λ w. record w.log.state { tally = no_tally } };
 
-    ghost joinings = { λ w. Some w.log.joinings };
-
-    ghost seen = { λ w. seen_in w.log };
-
-    ghost calls = { λ w. w.log.calls };
-
-    ghost server_faults = { λ w. w.log.server_faults };
-
-    ghost client_faults = { λ w. w.log.client_faults };
-
-    ghost own_faults = { λ w. w.log.own_faults };
-
-    ghost tally = { λ _. no_tally };
+    ghost faults = { λ w. w.log.faults };
 
     fn open(&mut self, control: &[u8], transport: &[u8]) -> Result<(), FileError>
-        ensures logs { LogsOpening result control.now transport.now self.old.log self.new.log }
+        ensures state { self.new.log.state ≡ state_after_open result control.now transport.now
+            self.old.log.state.tally self.old.log.state }
+        ensures cause { OpenFaults result self.old.log.faults self.new.log.faults }
         ensures exact { OpensByNumber result self.old self.new }
         ensures script { KeepsSteps self.old self.new × KeepsWrites self.old self.new }
     {
@@ -147,7 +121,9 @@ impl Wire for ScriptWire {
     }
 
     fn join(&mut self, control: &[u8]) -> Result<(), FileError>
-        ensures logs { LogsJoining result control.now self.old.log self.new.log }
+        ensures state { self.new.log.state
+            ≡ state_after_join result control.now self.old.log.state }
+        ensures cause { JoinFaults result self.old.log.faults self.new.log.faults }
         ensures exact { OpensByNumber result self.old self.new }
         ensures script { KeepsSteps self.old self.new × KeepsWrites self.old self.new }
     {
@@ -160,16 +136,17 @@ impl Wire for ScriptWire {
     }
 
     fn wait(&mut self, waiting: &Streams, want: Want, into: &mut Piece) -> Turn
-        requires waiting_blocked { All (λ t. IsTrue (among t self.old.log.blocked)) waiting.now }
-        requires waiting_open { All (λ t. IsTrue (among t self.old.log.streams)) waiting.now }
-        requires server { IsTrue (among 0 self.old.log.streams) }
+        requires waiting_blocked { All (λ t. IsTrue (among t self.old.log.state.seen.blocked))
+            waiting.now }
+        requires waiting_open { All (λ t. IsTrue (among t self.old.log.state.seen.streams))
+            waiting.now }
+        requires server { IsTrue (among 0 self.old.log.state.seen.streams) }
         requires some { want ≡ WriteOnly → 0 < length waiting.now }
-        ensures turn { TurnFits result want self.old.log.listens self.old.log.last
-            self.old.log.streams
-            self.old.log.blocked into.new }
-        ensures own_turn { OwnFits result self.old.log.listeners self.old.log.own
-            self.old.log.last_own }
-        ensures logs { LogsTurn result waiting.now want into.new self.old.log self.new.log }
+        ensures turn { TurnFits result want self.old.log.state.seen into.new }
+        ensures own_turn { OwnFits result self.old.log.state.seen }
+        ensures state { self.new.log.state ≡ state_after_wait result waiting.now want into.new
+            self.old.log.state.tally self.old.log.state }
+        ensures cause { TurnFaults result self.old.log.faults self.new.log.faults }
         ensures script { result ≢ NoMemory
             → GivesNext want waiting.now self.old self.new result into.old into.new }
         ensures err { result ≡ NoMemory → KeepsSteps self.old self.new }
@@ -188,12 +165,14 @@ impl Wire for ScriptWire {
     }
 
     fn write(&mut self, stream: u64, bytes: &[u8]) -> Wrote
-        requires stream_open { IsTrue (among stream self.old.log.streams) }
-        requires not_blocked { among stream self.old.log.blocked ≡ false }
-        requires not_finished { is_finished stream self.old.log.own ≡ false }
+        requires stream_open { IsTrue (among stream self.old.log.state.seen.streams) }
+        requires not_blocked { among stream self.old.log.state.seen.blocked ≡ false }
+        requires not_finished { is_finished stream self.old.log.state.seen.own ≡ false }
         requires some { 0 < length bytes.now }
         ensures wrote { WroteFits result (length bytes.now) }
-        ensures logs { LogsWrite result stream bytes.now self.old.log self.new.log }
+        ensures state { self.new.log.state ≡ state_after_write result stream bytes.now
+            self.old.log.state.tally self.old.log.state }
+        ensures cause { WroteFaults result stream self.old.log.faults self.new.log.faults }
         ensures script { result ≢ NoMemoryToWrite
             → FollowsEntry (length bytes.now) self.old self.new result }
         ensures err { result ≡ NoMemoryToWrite → KeepsWrites self.old self.new }
@@ -208,31 +187,36 @@ impl Wire for ScriptWire {
     }
 
     fn stop_listening(&mut self)
-        ensures logs { self.new.log ≡ record self.old.log { listens = false } }
+        ensures state { self.new.log.state ≡ seeing seen_after_silence self.old.log.state }
+        ensures faults { self.new.log.faults ≡ self.old.log.faults }
         ensures same { SameScript self.old self.new }
     {
         self.log.stop_listening();
     }
 
     fn close(&mut self, stream: u64)
-        ensures logs { LogsClose stream self.old.log self.new.log }
+        ensures state { self.new.log.state
+            ≡ seeing (seen_after_close stream) self.old.log.state }
+        ensures faults { self.new.log.faults ≡ self.old.log.faults }
         ensures same { SameScript self.old self.new }
     {
         self.log.close(stream);
     }
 
     fn note(&mut self, m: &HouseMark) -> Result<(), OutOfMemory>
-        ensures logs { Shows (seen_after_note result m.now (seen_in self.old.log))
-            self.old.log self.new.log }
+        ensures state { self.new.log.state
+            ≡ seeing (seen_after_note result m.now) self.old.log.state }
+        ensures faults { self.new.log.faults ≡ self.old.log.faults }
         ensures same { SameScript self.old self.new }
     {
         self.log.noted(m)
     }
 
     fn listen(&mut self, _host: &[u8], _port: u32) -> Result<u64, FileError>
-        ensures fits { NumberFits result self.old.log.last_own }
-        ensures logs { ShowsMade result (seen_after_listen result (seen_in self.old.log))
-            self.old.log self.new.log }
+        ensures fits { NumberFits result self.old.log.state.seen.last_own }
+        ensures state { self.new.log.state
+            ≡ seeing (seen_after_listen result) self.old.log.state }
+        ensures cause { MakeFaults result self.old.log.faults self.new.log.faults }
         ensures exact { MakesByNumber result self.old self.new }
         ensures script { KeepsSteps self.old self.new × KeepsWrites self.old self.new }
     {
@@ -245,9 +229,10 @@ impl Wire for ScriptWire {
     }
 
     fn connect(&mut self, _host: &[u8], _port: u32) -> Result<u64, FileError>
-        ensures fits { NumberFits result self.old.log.last_own }
-        ensures logs { ShowsMade result (seen_after_connect result (seen_in self.old.log))
-            self.old.log self.new.log }
+        ensures fits { NumberFits result self.old.log.state.seen.last_own }
+        ensures state { self.new.log.state
+            ≡ seeing (seen_after_connect result) self.old.log.state }
+        ensures cause { MakeFaults result self.old.log.faults self.new.log.faults }
         ensures exact { MakesByNumber result self.old self.new }
         ensures script { KeepsSteps self.old self.new × KeepsWrites self.old self.new }
     {
@@ -260,32 +245,36 @@ impl Wire for ScriptWire {
     }
 
     fn unlisten(&mut self, listener: u64)
-        ensures logs { Shows (seen_after_unlisten listener (seen_in self.old.log))
-            self.old.log self.new.log }
+        ensures state { self.new.log.state
+            ≡ seeing (seen_after_unlisten listener) self.old.log.state }
+        ensures faults { self.new.log.faults ≡ self.old.log.faults }
         ensures same { SameScript self.old self.new }
     {
         self.log.unlistened(listener);
     }
 
     fn pause(&mut self, stream: u64)
-        ensures logs { Shows (seen_after_pause true stream (seen_in self.old.log))
-            self.old.log self.new.log }
+        ensures state { self.new.log.state
+            ≡ seeing (seen_after_pause true stream) self.old.log.state }
+        ensures faults { self.new.log.faults ≡ self.old.log.faults }
         ensures same { SameScript self.old self.new }
     {
         self.log.paused(stream, true);
     }
 
     fn resume(&mut self, stream: u64)
-        ensures logs { Shows (seen_after_pause false stream (seen_in self.old.log))
-            self.old.log self.new.log }
+        ensures state { self.new.log.state
+            ≡ seeing (seen_after_pause false stream) self.old.log.state }
+        ensures faults { self.new.log.faults ≡ self.old.log.faults }
         ensures same { SameScript self.old self.new }
     {
         self.log.paused(stream, false);
     }
 
     fn finish(&mut self, stream: u64)
-        ensures logs { Shows (seen_after_finish stream (seen_in self.old.log))
-            self.old.log self.new.log }
+        ensures state { self.new.log.state
+            ≡ seeing (seen_after_finish stream) self.old.log.state }
+        ensures faults { self.new.log.faults ≡ self.old.log.faults }
         ensures same { SameScript self.old self.new }
     {
         self.log.finished(stream);

@@ -29,6 +29,15 @@ impl Streams {
         }
     }
 
+    /// This stream alone.
+    pub fn one(alloc: Global, stream: u64) -> Result<Streams, OutOfMemory>
+        ensures { IfOk result (λ streams. streams ≡ stream ∷ []) }
+    {
+        let mut streams = Streams::new(alloc);
+        streams.push(stream)?;
+        Ok(streams)
+    }
+
     /// These streams.
     pub fn copy(alloc: Global, numbers: &[u64]) -> Result<Streams, OutOfMemory>
         ensures { IfOk result (λ streams. streams ≡ numbers.now) }

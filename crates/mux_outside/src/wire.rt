@@ -17,8 +17,8 @@ use crate::turn::{Tally, Turn, Want, Wrote};
 use ssh_fields::OutOfMemory;
 
 /// The streams of a run: the server's, which is stream 0; those of the clients, which are numbered
-/// from 1 in the order in which they are accepted; and the master's own, which are numbered together
-/// with its listeners from 2^63 on.
+/// from 1 in the order in which they are accepted; and the master's own, which are numbered
+/// together with its listeners from 2^63 on.
 pub trait Wire {
     /// What is always known of it: what is seen, and how often it was called.
     ghost state: { Self → TheState };
@@ -28,12 +28,12 @@ pub trait Wire {
 
     /// Listens at the path of the control socket, and connects stream 0 to the transport.
     fn open(&mut self, control: &[u8], transport: &[u8]) -> Result<(), FileError>
-        ensures state { state self.new
-            ≡ state_after_open result control.now transport.now (state self.old) }
+        ensures state { state self.new ≡ state_after_open result control.now transport.now
+            (state self.new).tally (state self.old) }
         ensures cause { OpenFaults result (faults self.old) (faults self.new) };
 
-    /// Connects stream 0 to the control socket of another master. Whatever stood before, it alone is
-    /// open then, with no listener, no stream is blocked, and no client is accepted.
+    /// Connects stream 0 to the control socket of another master. Whatever stood before, it alone
+    /// is open then, with no listener, no stream is blocked, and no client is accepted.
     fn join(&mut self, control: &[u8]) -> Result<(), FileError>
         ensures state { state self.new ≡ state_after_join result control.now (state self.old) }
         ensures cause { JoinFaults result (faults self.old) (faults self.new) };

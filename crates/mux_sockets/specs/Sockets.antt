@@ -1,11 +1,22 @@
 -- What sockets promise of the turns that they give.
-use Rattle.std.specs.Prelude.{◌≡◌, ◌≤◌, ◌<◌, ◌⊎◌, ℕ, List, length, Some, IsSomeAnd}
+use Rattle.std.specs.Prelude.{◌≡◌, ◌≤◌, ◌<◌, ◌⊎◌, ◌+◌, ℕ, true, List, length, Some, IfSome, IsSomeAnd}
+use Rattle.mux_outside.specs.Seen.{Seen}
+use Rattle.mux_outside.specs.Wire.{IsNewOwn}
+use Rattle.mux_outside.specs.declared.own_streams.TheConstants.{LAST_CLIENT}
 use Rattle.mux_outside.specs.declared.piece.TheConstants.{LONGEST_PIECE}
 use Rattle.mux_outside.specs.declared.turn.Turn.{Turn}
 use Rattle.mux_outside.specs.declared.turn.Turn.TheVariants.{Accepted, Got, End, Writable, Failed, Joined, NoMemory}
+use Rattle.mux_outside.specs.declared.turn.Want.{Want}
+use Rattle.mux_outside.specs.declared.turn.Want.TheVariants.{Read as WantsAll}
 use Rattle.mux_sockets.specs.declared.numbers.Numbers.{Numbers}
 use Rattle.mux_sockets.specs.declared.sockets.ready.Ready.{Ready}
 use Rattle.mux_sockets.specs.declared.sockets.ready.Ready.TheVariants.{Accept, Join, Read, Write, Connect}
+
+-- the numbers that may be given now, to a client and to a stream that is joined
+pub record MayBeGiven (numbers : Numbers) (want : Want) (seen : Seen) : Type 0 where
+  pub client : IfSome numbers.client (λ k. (want ≡ WantsAll) × (seen.listens ≡ true)
+      × (k ≡ seen.last + 1) × (seen.last < LAST_CLIENT))
+  pub own : IfSome numbers.own (λ t. (want ≡ WantsAll) × IsNewOwn seen.last_own t)
 
 -- a client and a stream that is joined have the number that was given, bytes are at most a piece and
 -- not none, and nothing else changes the piece

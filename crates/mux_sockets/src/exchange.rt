@@ -1,11 +1,15 @@
 //! What one read of a stream and one write to it come to.
 ghost use Rattle.std.specs.Prelude.{◌≡◌, ◌≢◌, ◌<◌, length, IfErr, IfOk};
 ghost use Rattle.std.specs.IoError.{error_kind};
-ghost use Rattle.mux_sockets.specs.Exchange.{Hears, Sends, heard_again, heard_turn, sent_wrote};
+ghost use Rattle.mux_sockets.specs.Exchange.{Hears, Sends, heard_again, heard_turn, most_read, sent_wrote};
 
-use mux_outside::{LONGEST_PIECE, Piece, Turn, Wrote};
+use mux_outside::{LONGEST_PIECE, Piece, Turn, Wrote, is_own};
 use std::io::{ErrorKind, Read, Write};
 use std::{io, mem};
+
+/// The most bytes that a read of one of the master's own streams takes: as many as one message of
+/// the connection carries.
+pub const LONGEST_OWN_READ: usize = 32_768;
 
 /// What a read gave.
 #[derive(Clone, Copy, PartialEq, Eq)]
@@ -59,13 +63,13 @@ impl Heard {
         matches!(self, Heard::End | Heard::Failed)
     }
 
-    /// Whether more may wait, of which the system doesn't tell again: behind a full piece, after a
-    /// signal, and where reads stop short of what is there.
-    pub fn leaves_more(self, stops_short: bool) -> bool
-        ensures { result ≡ heard_again self stops_short }
+    /// Whether more may wait, of which the system doesn't tell again: behind the most that a read
+    /// takes, after a signal, and where reads stop short of what is there.
+    pub fn leaves_more(self, stops_short: bool, most: usize) -> bool
+        ensures { result ≡ heard_again self stops_short most }
     {
         match self {
-            Heard::Bytes(count) => stops_short || count >= LONGEST_PIECE,
+            Heard::Bytes(count) => stops_short || count >= most,
             Heard::Interrupted => true,
             Heard::End | Heard::Nothing | Heard::Failed => false,
         }
@@ -85,12 +89,25 @@ impl Sent {
     }
 }
 
-/// Reads once. Bytes that come are put in place of those of the piece, and else it stays. The spare
-/// piece is what is read into.
-pub fn hear<S: Read>(from: &mut S, spare: &mut Piece, into: &mut Piece) -> Heard
-    ensures { Hears result (S.remaining from.old) (S.remaining from.new) into.old into.new }
+/// How many bytes a read of this stream takes at most.
+pub fn most_read(number: u64) -> usize
+    ensures most { result ≡ most_read number }
+    ensures some { 0 < result }
 {
-    let got = spare.read_from(from);
+    if is_own(number) {
+        LONGEST_OWN_READ
+    } else {
+        LONGEST_PIECE
+    }
+}
+
+/// Reads once, so many bytes at most. Bytes that come are put in place of those of the piece, and
+/// else it stays. The spare piece is what is read into.
+pub fn hear<S: Read>(from: &mut S, most: usize, spare: &mut Piece, into: &mut Piece) -> Heard
+    requires { 0 < most }
+    ensures { Hears result most (S.remaining from.old) (S.remaining from.new) into.old into.new }
+{
+    let got = spare.read_from(from, most);
     let heard = heard_of(&got);
     if let Heard::Bytes(_) = heard {
         mem::swap(spare, into);

@@ -53,9 +53,12 @@ struct Listening<R: Files + Drop> {
 /// The sockets of a run, each under the number of its stream or listener, which is the system's token
 /// for it too.
 ///
+/// A read of the master's own streams takes no more bytes than one message carries, any other read
+/// takes a full piece at most.
+///
 /// The system tells once that bytes came, and not again while they are there. So a stream stays
-/// noted until a read shows that none are left: one that would wait, or one that doesn't fill the
-/// piece (epoll(7)). Such a short read shows nothing where descriptors may be passed, since a read
+/// noted until a read shows that none are left: one that would wait, or one that takes fewer bytes
+/// than it may (epoll(7)). Such a short read shows nothing where descriptors may be passed, since a read
 /// of a Unix socket stops at them: so nothing on the streams of clients. Nobody passes any on the
 /// server's stream. There a read stops short at urgent bytes over TCP, and before the end: once the
 /// system told of one, or of an error, a short read shows nothing any more.

@@ -1,17 +1,18 @@
 //! What is done with a socket that is ready, and the write to one.
-ghost use Rattle.std.specs.Prelude.{◌≡◌, ◌<◌, ◌⊎◌, length, Some, IfSome, IfNone, IsNone, OnSome};
+ghost use Rattle.std.specs.Prelude.{◌≡◌, ◌<◌, ◌≤◌, ◌⊎◌, length, Some, IfSome, IfNone, IsNone, OnSome};
 ghost use Rattle.mux_outside.specs.Wire.{WroteFits};
 ghost use Rattle.mux_sockets.specs.Sockets.{FoundFits, IsOf, Serves};
 ghost use Rattle.mux_sockets.specs.Entries.{HasEntry, IsBlocked, IsConnected, IsHeld, IsNoted, IsSilent, OthersStay, Stands, StopsShort};
 ghost use Rattle.mux_sockets.specs.declared.numbers.Numbers.{Numbers};
+ghost use Rattle.mux_sockets.specs.Exchange.{most_read};
 ghost use Rattle.mux_sockets.specs.Ready.{IsFull};
 
 use super::Sockets;
 use super::ready::Ready;
-use crate::exchange::{Sent, hear, send};
+use crate::exchange::{Sent, hear, most_read, send};
 use crate::numbers::Numbers;
 use crate::stream::Stream;
-use mux_outside::{LONGEST_PIECE, Piece, Turn, Wrote};
+use mux_outside::{Piece, Turn, Wrote};
 use std::fs::Files;
 use std::io;
 use std::io::ErrorKind;
@@ -89,7 +90,8 @@ impl<R: Files + Net + Processes + Clock + Clone + Drop> Sockets<R> {
         ensures held { IsSilent number self.old.entries → IsHeld number self.new.entries }
 
         // More may wait, so it stays noted: its note finds room, since that was made for it.
-        ensures full_piece { result ≡ Some (Turn.Got number) → length into.new ≡ LONGEST_PIECE
+        ensures most { result ≡ Some (Turn.Got number) → length into.new ≤ most_read number }
+        ensures full { result ≡ Some (Turn.Got number) → length into.new ≡ most_read number
             → IsNoted number self.new.entries ⊎ IsFull self.old.ready }
         ensures short { result ≡ Some (Turn.Got number) → StopsShort number self.old.entries
             → IsNoted number self.new.entries ⊎ IsFull self.old.ready }
@@ -106,9 +108,10 @@ impl<R: Files + Net + Processes + Clock + Clone + Drop> Sockets<R> {
             entry.held = true;
             return None;
         }
-        let heard = hear(&mut entry.stream, &mut self.spare, into);
+        let most = most_read(number);
+        let heard = hear(&mut entry.stream, most, &mut self.spare, into);
         entry.ended = heard.is_last();
-        if heard.leaves_more(entry.stops_short) {
+        if heard.leaves_more(entry.stops_short, most) {
             let _ = self.ready.note_read(number, entry);
         }
         self.shares.count(number, heard.len());

@@ -8,7 +8,7 @@ use Rattle.mux_client.specs.Talking.{IsTalk, Talking, WholeTalk}
 use Rattle.mux_client.proofs.Counts.{answered-later, decided-answered, heard-offered, heard-then, well-none, well-on}
 use Rattle.mux_client.proofs.ShowLines.{last-here, last-none, last-then, shows-none, shows-then}
 use Rattle.mux_client.proofs.TalkSteps.{talk-decided}
-use Rattle.mux_client.proofs.WholeTalks.{accepts-then, decided-talk, handed-as, same-then, starts-starved, talk-starts}
+use Rattle.mux_client.proofs.WholeTalks.{decided-talk, handed-as, starts-starved, talk-starts, wire-none, wire-then}
 use Rattle.mux_client.proofs.talking.converse.Goals as goal
 
 pub returns-in_err-client-clause-talks : goal.returns-in_err-client-clause-talks
@@ -30,17 +30,13 @@ loop-init g c = let told = (g.W.Wire.state c.args.wire.now).seen.told in record 
   talking = shows-none (g.S.Sink.told c.args.out.now) c.args.out.now (λ shown. Talking c.args.asks.now told told c.new-held.result shown c.in_ok-client.client)
       (subst (λ (h : List ℕ). Talking c.args.asks.now told told h [] c.in_ok-client.client) (sym c.new-held.ensures)
       (subst (Talking c.args.asks.now told told [] []) (sym c.in_ok-client.ensures.new) (talk-starts c.args.asks.now told)));
-  settled = c.in_ok-client.ensures.settled;
-  blocked = c.requires.none_blocked ∙ sym c.new-held.ensures;
-  held = inl c.new-held.ensures;
+  between = record { settled = c.in_ok-client.ensures.settled; blocked = c.requires.joined.none_blocked ∙ sym c.new-held.ensures; is_held = inl c.new-held.ensures };
   first = λ z. ap (λ (s : ClientState). s.stage) c.in_ok-client.ensures.new;
   heard = inl (ap (λ (s : ClientState). s.stage) c.in_ok-client.ensures.new);
-  none_accepted = record { streams = refl; listens = refl; last = refl; listeners = refl; own = refl };
   calls = well-none (g.W.Wire.state c.args.wire.now).calls;
-  cause = record { same_server = refl; same_client = refl };
+  cause = refl;
   sink = refl;
-  openings = refl;
-  joinings = refl;
+  wire = wire-none (g.W.Wire.state c.args.wire.now);
 }
 
 pub returns-in_err-decided-clause-talks : goal.returns-in_err-decided-clause-talks
@@ -49,7 +45,7 @@ returns-in_err-decided-clause-talks g c =
     let f = c.loop.invariant.talking in
     handed-as c.from_residual-in_err-decided.result c.in_err-decided.field-0.0
     (λ answer. WholeTalk c.args.asks.now answer told (g.W.Wire.state c.offer.new.wire).seen.told (g.S.Sink.told c.args.out.now) (g.S.Sink.told c.loop.out) c.args.out.now c.loop.out) c.from_residual-in_err-decided.ensures.1
-    (last-here f (talk-decided (c.in_ok-offer.ensures.talking c.args.asks.now told f.more f.holds) c.in_ok-offer.ensures.settled c.in_err-decided.field-0.0 c.in_err-decided.ensures))
+    (last-here f (talk-decided (c.in_ok-offer.ensures.talking c.args.asks.now told f.more f.holds) c.in_ok-offer.ensures.between.settled c.in_err-decided.field-0.0 c.in_err-decided.ensures))
 
 pub returns-in_err-turn-clause-talks : goal.returns-in_err-turn-clause-talks
 returns-in_err-turn-clause-talks g c =
@@ -66,26 +62,22 @@ loop-preserved g c =
     let o = c.in_ok-offer.ensures in
     let t = c.in_ok-turn.ensures in record {
       talking = shows-then i.talking (t.talking told i.talking.more (o.talking c.args.asks.now told i.talking.more i.talking.holds));
-      settled = t.settled;
-      blocked = t.blocked;
-      held = t.held;
+      between = t.between;
       first = λ z. absurd (let w : c.loop.counter + 1 ≡ 0 = z in omega arith);
-      none_accepted = accepts-then (accepts-then i.none_accepted c.offer.ensures.none_accepted) c.turn.ensures.none_accepted;
       heard = heard-then c.loop.counter 1 Greets c.offer.new.client.stage c.turn.new.client.stage (g.W.Wire.state c.args.wire.now).calls (g.W.Wire.state c.offer.new.wire).calls (g.W.Wire.state c.turn.new.wire).calls
           (well-on c.loop.counter 0 c.loop.counter _ _ _ (omega arith) i.calls o.calls)
-          (heard-offered 0 Greets c.loop.client.stage c.offer.new.client.stage (g.W.Wire.state c.args.wire.now).calls (g.W.Wire.state c.loop.wire).calls (g.W.Wire.state c.offer.new.wire).calls o.stage i.heard o.calls) t.calls t.heard;
+          (heard-offered 0 Greets c.loop.client.stage c.offer.new.client.stage (g.W.Wire.state c.args.wire.now).calls (g.W.Wire.state c.loop.wire).calls (g.W.Wire.state c.offer.new.wire).calls o.stage i.heard o.calls) t.calls t.came;
       calls = well-on c.loop.counter 1 (c.loop.counter + 1) _ _ _ (omega arith) (well-on c.loop.counter 0 c.loop.counter _ _ _ (omega arith) i.calls o.calls) t.calls;
-      cause = same-then (same-then i.cause o.cause) t.cause;
+      cause = t.cause ∙ (o.cause ∙ i.cause);
       sink = t.sink ∙ i.sink;
-      openings = c.turn.ensures.openings ∙ (c.offer.ensures.openings ∙ i.openings);
-      joinings = c.turn.ensures.joinings ∙ (c.offer.ensures.joinings ∙ i.joinings);
+      wire = wire-then (wire-then i.wire c.offer.ensures.wire) c.turn.ensures.wire;
     }
 
 pub returns-clause-talks : goal.returns-clause-talks
 returns-clause-talks g c =
     let told = (g.W.Wire.state c.args.wire.now).seen.told in
     let f = c.loop.invariant.talking in
-    last-here f (decided-talk (c.in_ok-offer-2.ensures.talking c.args.asks.now told f.more f.holds) c.in_ok-offer-2.ensures.settled c.in_ok-offer-2.ensures.offered c.decided-2.result c.decided-2.ensures)
+    last-here f (decided-talk (c.in_ok-offer-2.ensures.talking c.args.asks.now told f.more f.holds) c.in_ok-offer-2.ensures.between.settled c.in_ok-offer-2.ensures.offered c.decided-2.result c.decided-2.ensures)
 
 -- ---- what came
 
@@ -99,7 +91,7 @@ pub returns-in_err-turn-clause-answered : goal.returns-in_err-turn-clause-answer
 returns-in_err-turn-clause-answered g c = let W = g.W.Wire in
     handed-as c.from_residual-in_err-turn.result c.in_err-turn.field-0.0 (λ answer. AnsweredBy answer (W.state c.args.wire.now).calls (W.state c.turn.new.wire).calls) c.from_residual-in_err-turn.ensures.1
     (answered-later c.loop.counter c.in_err-turn.field-0.0 (W.state c.args.wire.now).calls (W.state c.offer.new.wire).calls (W.state c.turn.new.wire).calls
-    (well-on c.loop.counter 0 c.loop.counter _ _ _ (omega arith) c.loop.invariant.calls c.in_ok-offer.ensures.calls) c.in_err-turn.ensures.answered)
+    (well-on c.loop.counter 0 c.loop.counter _ _ _ (omega arith) c.loop.invariant.calls c.in_ok-offer.ensures.calls) c.in_err-turn.ensures.came)
 
 pub returns-clause-answered : goal.returns-clause-answered
 returns-clause-answered g c = let W = g.W.Wire in

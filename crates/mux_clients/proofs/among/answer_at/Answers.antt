@@ -1,6 +1,4 @@
-use Rattle.std.proofs.Common.{◌≡◌, ◌∷◌, [], sym, ◌∙◌, append-nil, arith, true, false}
-use Rattle.ssh_grammar.specs.Frames.{frame_payload}
-use Rattle.mux_clients.specs.State.{refusals_of}
+use Rattle.std.proofs.Common.{◌≡◌, [], sym, ◌∙◌, append-nil, arith, true, false}
 use Rattle.mux_clients.specs.Among.{is_present}
 use Rattle.mux_clients.specs.Answering.{AnswersNoting}
 use Rattle.mux_clients.specs.Losing.{loss_between}

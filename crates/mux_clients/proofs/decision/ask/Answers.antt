@@ -4,7 +4,7 @@ use Rattle.mux_clients.proofs.Starved.{on-err}
 use Rattle.mux_clients.proofs.decision.ask.Goals as goal
 
 pub returns-clause-heeds : goal.returns-clause-heeds
-returns-clause-heeds g c = heeds_ask _ c.args.client c.args.id c.args.opening c.args.what.now c.in_ok-reply.reply c.in_ok-push.ensures.ok c.in_ok-reply.ensures.gave
+returns-clause-heeds g c = heeds_ask _ c.args.client c.args.id c.args.opening c.args.what.now c.in_ok-reply.reply (rw c.in_ok-ask.ensures at c.in_ok-push.ensures.ok) c.in_ok-reply.ensures.gave
 
 pub returns-in_err-ask-clause-heeds : goal.returns-in_err-ask-clause-heeds
 returns-in_err-ask-clause-heeds g c = heeds_none c.from_residual.result c.args.asks.now (g.H.Asks.state c.args.house.now)

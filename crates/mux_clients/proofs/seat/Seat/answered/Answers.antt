@@ -1,4 +1,4 @@
-use Rattle.std.proofs.Common.{sym, ap, ◌∙◌, true, false}
+use Rattle.std.proofs.Common.{sym, ap, ◌∙◌}
 use Rattle.mux_clients.proofs.Answered.{answer_in, answers-none, answers-on, answers-full}
 use Rattle.mux_clients.proofs.seat.Seat.answered.Goals as goal
 

@@ -8,5 +8,5 @@ pub returns-clause-fits : goal.returns-clause-fits
 returns-clause-fits c =
     let rest = c.args.self.now.said.rest in
     let bounds = piece_short rest (speaks_some rest c.requires.speaks) in
-    let opened : among c.stream-2.result c.args.log.now.streams ≡ true = grind (arith, common_steps) in
+    let opened : among c.stream-2.result c.args.log.now.state.seen.streams ≡ true = grind (arith, common_steps) in
     (refl, opened, bounds.0, bounds.1)
