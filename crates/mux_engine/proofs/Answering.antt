@@ -56,7 +56,7 @@ refused-as None None index e allowed = absurd (let z : ended.Spent ≡ ended.Sta
 
 -- a run that ended since a forwarding was refused
 pub refused-whole : (answer : Ended) (mid new : Option Ended) (m n : Faults) (r : Option ℕ) (index : ℕ) → IsByRow mid → StaysOrFails mid new m n → answer ≡ ended_as new r → answer ≡ ended.StartRefused index → r ≡ Some index
-refused-whole answer mid new m n r index row stays is e = refused-as new r index (sym is ∙ e) ((stays-by-row mid new m n stays row).permitted index)
+refused-whole answer mid new m n r index row stays is e = refused-as new r index (sym is ∙ e) ((stays-by-row mid new m.server n.server stays row).permitted index)
 
 -- one that ended since the server's stream failed: its count rose
 failed-as : (o : Option Ended) (r : Option ℕ) → ended_as o r ≡ ended.ServerFailed → o ≡ Some ended.ServerFailed

@@ -40,10 +40,10 @@ noted-next asks i m seen mid seen' less is so next =
 -- ---- the engine took in the event
 
 -- what was asked is all that is noted, where nothing was before
-all-asked : {A E : Type 0} {x : A} (none asks : List HouseMark) (old new : HouseState) → none ≡ [] → (h : Heeds {A} {E} (Ok x) none asks old new) → asks ≡ h.more
+all-asked : {A E : Type 0} {x : A} (none asks : List HouseMark) (old new : HouseState) → none ≡ [] → (h : Heeds {A = A} {E = E} (Ok x) none asks old new) → asks ≡ h.more
 all-asked none asks old new empty h = h.noted ∙ ap (λ (l : List HouseMark). l ++ h.more) empty
 
-pub heeds-so : {A E : Type 0} {x : A} {May : HouseReply → Type 0} (e : Event) (s s' : State) (none asks : List HouseMark) (old new : HouseState) (seen seen' : Seen) (n : ℕ) → none ≡ [] → ((mark : Mark) → Tells e mark → GoesOn May (Some none) (Some asks) s s' mark) → Heeds {A} {E} (Ok x) none asks old new
+pub heeds-so : {A E : Type 0} {x : A} {May : HouseReply → Type 0} (e : Event) (s s' : State) (none asks : List HouseMark) (old new : HouseState) (seen seen' : Seen) (n : ℕ) → none ≡ [] → ((mark : Mark) → Tells e mark → GoesOn May (Some none) (Some asks) s s' mark) → Heeds {A = A} {E = E} (Ok x) none asks old new
     → Keeps e s s' → ((mark : Mark) → Tells e mark → EndsBy e s s' mark) → seen' ≡ seen-with (take n asks) seen → HeedsSo May e s s' asks old.told new.told old.known new.known seen seen' n
 heeds-so {May = May} e s s' none asks old new seen seen' n empty goes heeds keeps ends is =
     let same : asks ≡ heeds.more = all-asked none asks old new empty heeds in
@@ -62,11 +62,11 @@ heeded-some (Ok x) e s s' asks told told' known known' seen seen' n h so = true-
 heeded-some (Err x) e s s' asks told told' known known' seen seen' n h so = inr (n, so)
 
 -- the house stands for all asks, where none was there before
-pub hands-so : {A E : Type 0} {x : A} (none asks : List HouseMark) (old new : HouseState) → none ≡ [] → Heeds {A} {E} (Ok x) none asks old new → HandsOn old.stands new.stands (calls_of asks)
+pub hands-so : {A E : Type 0} {x : A} (none asks : List HouseMark) (old new : HouseState) → none ≡ [] → Heeds {A = A} {E = E} (Ok x) none asks old new → HandsOn old.stands new.stands (calls_of asks)
 hands-so none asks old new empty h = subst (λ (l : List HouseMark). HandsOn old.stands new.stands (calls_of l)) (sym (all-asked none asks old new empty h)) h.stands
 
 -- the streams stay
-pub heeded-streams : {A E : Type 0} (r : Result A E) {May : HouseReply → Type 0} (e : Event) (s s' : State) (asks : List HouseMark) (told told' : Option (List HouseMark)) (known known' : Known) (seen seen' : Seen) → Heeded r May e s s' asks told told' known known' seen seen' → SameStreams seen seen'
-heeded-streams (Ok x) e s s' asks told told' known known' seen seen' h = with-streams (length asks) asks seen seen' h.seen_is
-heeded-streams (Err x) e s s' asks told told' known known' seen seen' (inl u) = streams-same seen seen' u.seen_is
-heeded-streams (Err x) e s s' asks told told' known known' seen seen' (inr p) = let h = p.1 in with-streams p.0 asks seen seen' h.seen_is
+pub heeded-streams : {A E : Type 0} (r : Result A E) (May : HouseReply → Type 0) (e : Event) (s s' : State) (asks : List HouseMark) (told told' : Option (List HouseMark)) (known known' : Known) (seen seen' : Seen) → Heeded r May e s s' asks told told' known known' seen seen' → SameStreams seen seen'
+heeded-streams (Ok x) May e s s' asks told told' known known' seen seen' h = with-streams (length asks) asks seen seen' h.seen_is
+heeded-streams (Err x) May e s s' asks told told' known known' seen seen' (inl u) = streams-same seen seen' u.seen_is
+heeded-streams (Err x) May e s s' asks told told' known known' seen seen' (inr p) = let h = p.1 in with-streams p.0 asks seen seen' h.seen_is

@@ -1,12 +1,11 @@
 -- The house is let in, is handed what waits for it, and answers.
-use Rattle.std.proofs.Common.{◌≡◌, ◌≢◌, ◌≤◌, ◌<◌, ◌+◌, ℕ, Bool, true, false, ◌||◌, List, [], ◌∷◌, ◌++◌, length, Option, None, refl, sym, ap, ◌∙◌, subst, cond, arith, append-nil}
+use Rattle.std.proofs.Common.{◌≡◌, ◌≢◌, ◌≤◌, ◌<◌, ◌+◌, ℕ, Bool, true, false, ◌||◌, List, [], ◌∷◌, ◌++◌, length, Option, None, refl, sym, ap, ◌∙◌, subst, arith, append-nil}
 use Rattle.std.specs.Prelude.{◌==◌, All, IsTrue, Result, Ok, Err}
 use Rattle.std.proofs.lemmas.List.Folds.{list_any-append}
 use Rattle.mux_outside.specs.House.{Known, OpenAsk, ReplyFits, without_ask}
 use Rattle.mux_outside.specs.HouseCalls.{HandsOn, Hears, HouseCall, calls_of}
 use Rattle.mux_outside.specs.OwnStreams.{is_one, numbers_of}
 use Rattle.mux_outside.specs.Seen.{Seen, seen_after_note}
-use Rattle.mux_outside.specs.CallCounts.{CallCounts}
 use Rattle.mux_outside.specs.Streams.{among, without}
 use Rattle.mux_outside.specs.declared.house.HouseReply.{HouseReply}
 use Rattle.mux_outside.specs.declared.house_mark.HouseMark.{HouseMark}
@@ -23,11 +22,8 @@ use Rattle.mux_machine.specs.declared.event.Event.TheVariants.{Accepted, HouseSa
 use Rattle.mux_machine.specs.Events.{EndsBy, Keeps, Tells, here}
 use Rattle.mux_machine.specs.Stands.{GoesAlone, GoesOn, Stands}
 use Rattle.mux_engine.specs.Called.{Handed}
-use Rattle.mux_engine.specs.Counted.{Cut, Well}
-use Rattle.mux_engine.proofs.Comes.{came-none}
 use Rattle.mux_engine.specs.Serving.{Promised, Serving}
 use Rattle.mux_engine.specs.Sides.{Housed, Resting, SameHouse, SamePlaces, SameStreams, Side, noted, noting}
-use Rattle.mux_engine.proofs.Arms.{cut-then}
 use Rattle.mux_engine.proofs.Cuts.{serve-told}
 use Rattle.mux_engine.proofs.HouseTakes.{house-takes}
 use Rattle.mux_engine.proofs.HouseTurns.{accepted-zero, cut-answers, house-answers, house-let-in, reply-asked, rest-asked}
@@ -111,32 +107,11 @@ module _ {May : HouseReply → Type 0} {Rest : Resting} {before : Option (List H
   pub no-turns-left : {now : Option (List HouseMark)} {told : Option (List Mark)} → Promised May Rest before now policy pid start told given → Promised May Rest before now policy pid start told (given + 0)
   no-turns-left {now} {told} p = subst (λ (n : ℕ). Promised May Rest before now policy pid start told n) (sym (more-none given)) p
 
--- ---- the same house rests
-
-pub same-rests : {May : HouseReply → Type 0} (Rest : Bool → Resting) {before : Option (List HouseMark)} {now : Side} {policy : Policy} {pid : ℕ} {start : Option (List Mark)} {seen : Seen} {held failed : List ℕ} {given : ℕ} {todo : List ℕ} {s : State} (b b' : Bool) → b ≡ b' → Serving May (Rest b) before now policy pid start seen held failed given todo s → Serving May (Rest b') before now policy pid start seen held failed given todo s
-same-rests {May} Rest {before} {now} {policy} {pid} {start} {seen} {held} {failed} {given} {todo} {s} b b' e v = subst (λ (c : Bool). Serving May (Rest c) before now policy pid start seen held failed given todo s) e v
-
-pub same-rests-left : {May : HouseReply → Type 0} (Rest : Bool → Resting) {before now : Option (List HouseMark)} {policy : Policy} {pid : ℕ} {start told : Option (List Mark)} {given : ℕ} (b b' : Bool) → b ≡ b' → Promised May (Rest b) before now policy pid start told given → Promised May (Rest b') before now policy pid start told given
-same-rests-left {May} Rest {before} {now} {policy} {pid} {start} {told} {given} b b' e p = subst (λ (c : Bool). Promised May (Rest c) before now policy pid start told given) e p
-
 -- the house told nothing meanwhile, and as much is known of it
 pub same-noted : {May : HouseReply → Type 0} {Rest : Resting} {before : Option (List HouseMark)} {policy : Policy} {pid : ℕ} {start : Option (List Mark)} {seen : Seen} {held failed : List ℕ} {given : ℕ} {todo : List ℕ} {s : State} {calls : List HouseCall} (told told' : Option (List HouseMark)) (known known' : Known) → told' ≡ told → known' ≡ known → Serving May Rest before (noted told known calls) policy pid start seen held failed given todo s → Serving May Rest before (noted told' known' calls) policy pid start seen held failed given todo s
 same-noted {May} {Rest} {before} {policy} {pid} {start} {seen} {held} {failed} {given} {todo} {s} {calls} told told' known known' t k v =
     subst (λ (x : Option (List HouseMark)). Serving May Rest before (noted x known' calls) policy pid start seen held failed given todo s) (sym t)
     (subst (λ (x : Known). Serving May Rest before (noted told x calls) policy pid start seen held failed given todo s) (sym k) v)
-
--- one list or the other is to be offered what waits
-pub replied : {May : HouseReply → Type 0} {Rest : Resting} {before : Option (List HouseMark)} {now : Side} {policy : Policy} {pid : ℕ} {start : Option (List Mark)} {seen : Seen} {held failed : List ℕ} {given : ℕ} {s : State} (xs ys : List ℕ) (more b : Bool) → more ≡ b → Serving May Rest before now policy pid start seen held failed given (cond more xs ys) s → Serving May Rest before now policy pid start seen held failed given (cond b xs ys) s
-replied {May} {Rest} {before} {now} {policy} {pid} {start} {seen} {held} {failed} {given} {s} xs ys more b e v = subst (λ (c : Bool). Serving May Rest before now policy pid start seen held failed given (cond c xs ys) s) e v
-
--- ---- calls
-
--- calls that ended well, before one that made none and found no memory
-pub cut-well : (a b c : CallCounts) → Well 0 a b → c ≡ b → Cut 0 a c
-cut-well a b c w e = subst (Cut 0 a) (sym e) (cut-then a b b w (record { few = omega arith; wants = omega arith; late = λ z. refl; came = came-none b }))
-
-pub well-still : (a b c : CallCounts) → Well 0 a b → c ≡ b → Well 0 a c
-well-still a b c w e = subst (Well 0 a) (sym e) w
 
 -- ---- other asks are open
 

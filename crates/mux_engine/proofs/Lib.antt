@@ -1,7 +1,6 @@
 mod Answering
 mod Arms
 mod Asks
-mod Belongs
 mod CallLaws
 mod Called
 mod Causes

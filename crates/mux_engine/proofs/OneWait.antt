@@ -1,5 +1,5 @@
 -- What one call of wait makes of a run, by what it told.
-use Rattle.std.proofs.Common.{◌≡◌, ◌+◌, ℕ, Bool, false, List, [], ◌∷◌, ◌++◌, Option, None, refl, sym, ap, ◌∙◌, subst, arith, MatchResult, OnOk}
+use Rattle.std.proofs.Common.{◌≡◌, ◌+◌, ℕ, Bool, true, false, List, [], ◌∷◌, ◌++◌, Option, None, refl, sym, ap, ◌∙◌, subst, arith, MatchResult, OnOk}
 use Rattle.std.specs.Prelude.{IsErr, Result, Ok, Err, filter}
 use Rattle.mux_outside.specs.CallCounts.{CallCounts, calls_after_wait, is_starved}
 use Rattle.mux_outside.specs.Counts.{Rose}
@@ -61,7 +61,7 @@ together-of (Err e) house wire lists housed alone held = tt
 pub record TurnDone {A E T : Type 0} (result : Result A E) (May : HouseReply → Type 0) (state : T → HouseState) (house house' : T) (wire wire' : WireState) (faults faults' : Faults) (lists : Lists) (held own failed : List ℕ) (s s' : State) : Type 0 where
   pub serving : RunsOn result May state house house' (scene wire lists s) (scene_of wire' held failed s') 1 (λ x. 1) [] (λ x. 0 ∷ here s')
   pub together : (lists' : Lists) → lists'.own ≡ own → lists'.held ≡ held → OnOk result (Together (state house') wire' lists')
-  pub house : StaysHouse result (state house) (state house')
+  pub stays : StaysHouse result (state house) (state house')
   pub ended : EndsSo result (state house).known.present s'.ended wire wire' faults faults'
 
 -- before the wait there was no memory
@@ -69,7 +69,7 @@ pub turn-unlisted : {A E T : Type 0} (r : Result A E) (May : HouseReply → Type
 turn-unlisted r May state house wire faults lists held own failed s is = record {
   serving = λ first calls before policy pid start given hands v. on-err r _ _ is (promised-more given (given + 1) (omega arith) (cut-still v _ refl));
   together = λ lists' e f. on-err r _ _ is tt;
-  house = record { present = on-err r _ _ is tt; must = refl };
+  stays = record { present = on-err r _ _ is tt; must = refl };
   ended = ends-cut r (state house).known.present s.ended wire wire faults faults is (λ out. refl);
 }
 
@@ -144,7 +144,7 @@ module _ {T : Type 0} (May : HouseReply → Type 0) (state : T → HouseState) (
     turn-event handed must cause waited heeded = record {
       serving = event-serving handed;
       together = event-together;
-      house = record { present = on-ok r (λ (same : SameHouse (state house).known (state house').known). same.present) event-same; must = must };
+      stays = record { present = on-ok r (λ (same : SameHouse (state house).known (state house').known). same.present) event-same; must = must };
       ended = event-ends r (state house).known.present e s'.ended t bytes wire wire1 wire2 faults faults1 faults2
           (turn-ends served.serving (at served.first served.calls served.hands) w r e next s' asks (state house).told (state house').told (state house).known (state house').known wire2.seen h)
           next cause waited heeded (λ out. event-opens r May e s s' asks (state house).told (state house').told (state house).known (state house').known wire1.seen wire2.seen h ∙ unjoined out);
@@ -158,7 +158,7 @@ module _ {T : Type 0} (May : HouseReply → Type 0) (state : T → HouseState) (
     turn-unheard r held own failed is = record {
       serving = λ first calls before policy pid start given hands v. on-err r _ _ is (cut-here (turn-owns v (at first calls hands) w o next) _ _ _ [] refl (same_told ∙ tells-none _) refl (omega arith));
       together = λ lists' e f. on-err r _ _ is tt;
-      house = record { present = on-err r _ _ is tt; must = must };
+      stays = record { present = on-err r _ _ is tt; must = must };
       ended = ends-cut r (state house).known.present s.ended wire wire1 faults faults1 is unjoined;
     }
 
@@ -172,7 +172,7 @@ module _ {T : Type 0} (May : HouseReply → Type 0) (state : T → HouseState) (
         alone = alone-heard o (state house).known (state house').known (state house).quiet (turn-fits w o next (state house).known (state house).quiet b.together.housed b.together.alone b.ready) known b.together.alone;
         held_is = f ∙ (held_is ∙ (turn-owns served.serving (at served.first served.calls served.hands) w o next).held_is);
       };
-      house = record { present = (heard-asks o (state house).known (state house').known known).present; must = must };
+      stays = record { present = (heard-asks o (state house).known (state house').known known).present; must = must };
       ended = ends-live {E = E} (Ok x) (state house).known.present s.ended wire wire1 faults faults1 b.on unjoined;
     }
 
@@ -188,7 +188,7 @@ module _ {T : Type 0} (May : HouseReply → Type 0) (state : T → HouseState) (
       alone = b.together.alone;
       held_is = f ∙ (held_is ∙ (turn-frees served.serving (at served.first served.calls served.hands) w k client is).held_is);
     };
-    house = record { present = refl; must = refl };
+    stays = record { present = refl; must = refl };
     ended = ends-live {E = E} (Ok x) (state house).known.present s.ended wire wire1 faults faults1 b.on unjoined;
   }
 
@@ -198,6 +198,6 @@ module _ {T : Type 0} (May : HouseReply → Type 0) (state : T → HouseState) (
   turn-wanting {A = A} x is held own failed = record {
     serving = λ first calls before policy pid start given hands v. turn-starved v (at first calls hands) w is;
     together = λ lists' e f. tt;
-    house = record { present = tt; must = refl };
+    stays = record { present = tt; must = refl };
     ended = record { failed = tt; by_row = tt; by_count = tt; unopened = unjoined };
   }

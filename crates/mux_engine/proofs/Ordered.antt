@@ -1,20 +1,16 @@
 -- What an order that was carried out makes of what holds while a wire is served.
-use Rattle.std.proofs.Common.{◌≡◌, ◌≢◌, ◌≤◌, ◌<◌, ◌+◌, ℕ, Bool, true, false, not, ◌||◌, List, [], ◌∷◌, ◌++◌, Option, Some, None, refl, sym, ap, ◌∙◌, subst, inl, inr, cond, arith, append-nil, le_refl}
-use Rattle.std.specs.Prelude.{◌==◌, filter, IsErr, IsTrue, MatchResult, Result, Ok, Err}
+use Rattle.std.proofs.Common.{◌≡◌, ◌≢◌, ◌≤◌, ◌<◌, ◌+◌, ℕ, Bool, true, false, not, ◌||◌, List, [], ◌∷◌, ◌++◌, Option, Some, None, refl, sym, ap, ◌∙◌, subst, inl, inr, cond, arith, append-nil}
+use Rattle.std.specs.Prelude.{◌==◌, filter, IsTrue, MatchResult, Result, Ok, Err}
 use Rattle.std.specs.Option.{option_map}
 use Rattle.std.proofs.lemmas.Bool.Decides.{eqb_tells}
 use Rattle.std.proofs.lemmas.List.Elements.{filter-append}
-use Rattle.mux_outside.specs.Faults.{Faults}
-use Rattle.mux_outside.specs.House.{Gave, HouseState, Known, OpenAsk, known_after_order, known_after_ordered, order_marks, ordered_marks, told_more}
-use Rattle.mux_outside.specs.HouseCalls.{HandsOn, HouseCall, calls_of}
+use Rattle.mux_outside.specs.House.{Known, OpenAsk, known_after_order, order_marks}
+use Rattle.mux_outside.specs.HouseCalls.{HouseCall, calls_of}
 use Rattle.mux_outside.specs.OwnStreams.{is_one, is_own, numbers_of}
-use Rattle.mux_outside.specs.Seen.{Seen, seen_after_close, seen_after_connect, seen_after_listen, seen_after_note}
+use Rattle.mux_outside.specs.Seen.{Seen, seen_after_close, seen_after_note}
 use Rattle.mux_outside.specs.declared.own_streams.OwnStream.{OwnStream}
 use Rattle.mux_outside.specs.Streams.{among, without}
-use Rattle.mux_outside.specs.Wire.{IsNewOwn, MakeFaults, NumberFits}
-use Rattle.mux_outside.specs.WireState.{WireState, seeing}
-use Rattle.mux_outside.specs.declared.file_error.FileError.{FileError}
-use Rattle.mux_outside.specs.declared.file_error.FileError.TheVariants as file
+use Rattle.mux_outside.specs.Wire.{IsNewOwn}
 use Rattle.mux_outside.specs.declared.own_streams.TheConstants.{LAST_CLIENT, LAST_OWN}
 use Rattle.mux_outside.specs.declared.house.HouseReply.{HouseReply}
 use Rattle.mux_outside.specs.declared.house_mark.HouseMark.{HouseMark}
@@ -32,12 +28,10 @@ use Rattle.mux_history.proofs.Wires.{wire-keeps}
 use Rattle.mux_machine.specs.State.{State}
 use Rattle.mux_machine.proofs.Twins.{own-silent, stands-alike}
 use Rattle.mux_engine.specs.Called.{calls_at}
-use Rattle.mux_engine.specs.OwnFaults.{OrderCounted}
-use Rattle.mux_engine.specs.Orders.{Carries, CarryCounted, HasOrdered, IsMade, MadeBy, failed_carried, held_carried, known_carried, more_told, seen_carried}
+use Rattle.mux_engine.specs.Orders.{HasOrdered, MadeBy, failed_carried, held_carried, known_carried, more_told, seen_carried}
 use Rattle.mux_engine.specs.Places.{listeners_ordered, own_ordered}
 use Rattle.mux_engine.specs.Serving.{IsFree, IsUnseen, IsUnused, Promised, Serving}
 use Rattle.mux_engine.specs.Sides.{Resting, Side, asks_in, noted, noting}
-use Rattle.mux_engine.specs.declared.room.Lists.{Lists}
 use Rattle.mux_engine.proofs.Called.{CallsOn, calls-told}
 use Rattle.mux_engine.proofs.Closed.{both-tests, was-among}
 use Rattle.mux_engine.proofs.Cuts.{cut-here, serve-told}
@@ -309,65 +303,3 @@ pub order-given : {May : HouseReply → Type 0} {Rest : Resting} {before : Optio
     → told' ≡ option_map (λ l. l ++ order_marks (Some order)) told → known' ≡ known_after_order (Some order) known → Serving May Rest before (noted told known calls) policy pid start seen held failed given todo s → Serving May Rest before (noting (order_marks (Some order)) told' known' (calls ++ calls_of (order_marks (Some order)))) policy pid start seen held failed given todo s
 order-given {calls = calls} order told told' known known' e f v = let side = given-side order known known' f in
     serve-told v (noting (order_marks (Some order)) told' known' (calls ++ calls_of (order_marks (Some order)))) (order_marks (Some order)) e refl (order-unasked order) side.asks side.present refl
-
--- ---- what was made
-
--- a number that is new, which is seen, and where there is none an own fault that was counted
-pub record MadeSo (order : Order) (number : Option ℕ) (seen seen' : Seen) (faults faults' : ℕ) : Type 0 where
-  pub made : MadeBy order number seen
-  pub seen_is : seen' ≡ seen_carried order number seen
-  pub counted : OrderCounted order number faults faults'
-
-number-is : {E : Type 0} (number made : Option ℕ) → Ok {Option ℕ} {E} number ≡ Ok made → number ≡ made
-number-is number made e = cc
-
-pub made-listen : {E : Type 0} (r : Result ℕ FileError) (number : Option ℕ) (host : List ℕ) (port : ℕ) (old new : WireState) (f f' : Faults) → IsMade {E} r (Ok number) → NumberFits r old.seen.last_own → new ≡ seeing (seen_after_listen r) old → MakeFaults r f f' → MadeSo (Listen host port) number old.seen new.seen f.own f'.own
-made-listen (Ok n) number host port old new f f' is fits e cause = subst (λ (o : Option ℕ). MadeSo (Listen host port) o old.seen new.seen f.own f'.own) (sym (number-is number (Some n) is)) record { made = fits; seen_is = ap (λ (x : WireState). x.seen) e; counted = ap (λ (x : Faults). x.own) cause }
-made-listen (Err file.Failed) number host port old new f f' is fits e cause = subst (λ (o : Option ℕ). MadeSo (Listen host port) o old.seen new.seen f.own f'.own) (sym (number-is number None is)) record { made = tt; seen_is = ap (λ (x : WireState). x.seen) e; counted = cause.rose }
-made-listen (Err file.OutOfMemory) number host port old new f f' is fits e cause = true-false (sym is)
-
-pub made-connect : {E : Type 0} (r : Result ℕ FileError) (number : Option ℕ) (host : List ℕ) (port : ℕ) (old new : WireState) (f f' : Faults) → IsMade {E} r (Ok number) → NumberFits r old.seen.last_own → new ≡ seeing (seen_after_connect r) old → MakeFaults r f f' → MadeSo (Connect host port) number old.seen new.seen f.own f'.own
-made-connect (Ok n) number host port old new f f' is fits e cause = subst (λ (o : Option ℕ). MadeSo (Connect host port) o old.seen new.seen f.own f'.own) (sym (number-is number (Some n) is)) record { made = fits; seen_is = ap (λ (x : WireState). x.seen) e; counted = ap (λ (x : Faults). x.own) cause }
-made-connect (Err file.Failed) number host port old new f f' is fits e cause = subst (λ (o : Option ℕ). MadeSo (Connect host port) o old.seen new.seen f.own f'.own) (sym (number-is number None is)) record { made = tt; seen_is = ap (λ (x : WireState). x.seen) e; counted = cause.rose }
-made-connect (Err file.OutOfMemory) number host port old new f f' is fits e cause = true-false (sym is)
-
--- whatever came of it nothing is told, and the count does not fall
-pub listen-told : (r : Result ℕ FileError) (old new : WireState) → new ≡ seeing (seen_after_listen r) old → new.seen.told ≡ old.seen.told
-listen-told (Ok n) old new e = ap (λ (x : WireState). x.seen.told) e
-listen-told (Err x) old new e = ap (λ (x : WireState). x.seen.told) e
-
-pub connect-told : (r : Result ℕ FileError) (old new : WireState) → new ≡ seeing (seen_after_connect r) old → new.seen.told ≡ old.seen.told
-connect-told (Ok n) old new e = ap (λ (x : WireState). x.seen.told) e
-connect-told (Err x) old new e = ap (λ (x : WireState). x.seen.told) e
-
-same-own : (f f' : Faults) → f' ≡ f → f.own ≤ f'.own
-same-own f f' e = subst (λ (x : Faults). f.own ≤ x.own) (sym e) (le_refl f.own)
-
-pub make-later : (r : Result ℕ FileError) (f f' : Faults) → MakeFaults r f f' → f.own ≤ f'.own
-make-later (Ok n) f f' cause = same-own f f' cause
-make-later (Err file.Failed) f f' cause = cause.rose.later
-make-later (Err file.OutOfMemory) f f' cause = same-own f f' cause
-
--- it was not carried out for want of memory
-pub not-carried : {E : Type 0} (r : Result (Option ℕ) E) (order : Order) (seen seen' : Seen) (lists lists' : Lists) (house house' : HouseState) → IsErr r → seen'.told ≡ seen.told → house'.told ≡ house.told → Carries r order seen seen' lists lists' house house'
-not-carried (Ok n) order seen seen' lists lists' house house' e marks told = true-false (sym e)
-not-carried (Err x) order seen seen' lists lists' house house' e marks told = record { marks = marks; told = told }
-
-pub not-counted : {E : Type 0} (r : Result (Option ℕ) E) (order : Order) (m n : ℕ) → IsErr r → m ≤ n → CarryCounted r order m n
-not-counted (Ok x) order m n e le = true-false (sym e)
-not-counted (Err x) order m n e le = le
-
--- the house was told the number
-pub record ToldNumber (order : Order) (number : Option ℕ) (old new : HouseState) : Type 0 where
-  pub known : new.known ≡ known_after_ordered number old.known
-  pub told : new.told ≡ told_more (HouseOrder order number ∷ []) old.told
-  pub stands : HandsOn old.stands new.stands (calls_of (HouseOrder order number ∷ []))
-
-pub told-number : (order : Order) (number : Option ℕ) (old new : HouseState) → old.known.ordering ≡ Some order → Gave (ordered_marks old.known.ordering number) (known_after_ordered number) old new → ToldNumber order number old new
-told-number order number old new e gave =
-    let marks : ordered_marks old.known.ordering number ≡ HouseOrder order number ∷ [] = ap (λ (o : Option Order). ordered_marks o number) e in
-    record {
-      known = gave.known;
-      told = gave.told ∙ ap (λ (l : List HouseMark). told_more l old.told) marks;
-      stands = subst (λ (l : List HouseMark). HandsOn old.stands new.stands (calls_of l)) marks gave.stands;
-    }

@@ -1,13 +1,13 @@
 -- What offers to the master's own streams leave, in the words of their contracts: of one, and of one
 -- behind another.
-use Rattle.std.proofs.Common.{◌≡◌, ◌≤◌, ◌<◌, ◌+◌, ℕ, Bool, true, false, ◌||◌, List, [], ◌∷◌, ◌++◌, length, refl, sym, ap, ◌∙◌, arith, le_trans, le_refl, length-append}
-use Rattle.std.specs.Prelude.{◌==◌, IsErr, IsTrue, OnOk, Result, Ok, Err}
+use Rattle.std.proofs.Common.{◌≡◌, ◌<◌, ◌+◌, ℕ, Bool, true, false, ◌||◌, List, [], ◌∷◌, ◌++◌, length, refl, sym, ap, ◌∙◌, arith, le_trans, le_refl, length-append}
+use Rattle.std.specs.Prelude.{◌==◌, IsErr, OnOk, Result, Ok, Err}
 use Rattle.std.proofs.lemmas.Bool.{eq-eqb, eqb-true}
 use Rattle.mux_outside.specs.House.{HouseState, Known}
 use Rattle.mux_outside.specs.OwnStreams.{is_one}
 use Rattle.mux_outside.specs.Seen.{Seen}
 use Rattle.mux_outside.specs.Streams.{among}
-use Rattle.mux_engine.specs.Owned.{FailsFurther, IsOffered, IsOpenOwn, OwnsStreams, TookOrOffered, left_of}
+use Rattle.mux_engine.specs.Owned.{FailsFurther, IsOffered, IsOpenOwn, OwnsStreams, TookOrOffered}
 use Rattle.mux_engine.specs.Sides.{Housed, OnlyTook, SamePlaces}
 use Rattle.mux_engine.proofs.Left.{fewer-left, own-known, own-one}
 

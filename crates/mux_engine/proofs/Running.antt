@@ -86,9 +86,9 @@ pub match-more : {A E : Type 0} (r : Result A E) {P Q : Type 0} (T : Type 0) →
 match-more (Ok x) T f p = f p
 match-more (Err e) T f p = p
 
-pub match-more-both : {A E : Type 0} (r : Result A E) {P Q S : Type 0} (T : Type 0) → (P → Q) → MatchResult r (λ x. P × S) (λ e. T) → MatchResult r (λ x. Q × S) (λ e. T)
-match-more-both (Ok x) T f p = (f p.0, p.1)
-match-more-both (Err e) T f p = p
+pub match-more-both : {A E : Type 0} (r : Result A E) {P Q : Type 0} (S T : Type 0) → (P → Q) → MatchResult r (λ x. P × S) (λ e. T) → MatchResult r (λ x. Q × S) (λ e. T)
+match-more-both (Ok x) S T f p = (f p.0, p.1)
+match-more-both (Err e) S T f p = p
 
 -- ---- a house that is let in
 

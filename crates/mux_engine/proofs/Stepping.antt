@@ -145,14 +145,14 @@ rose-as : (a b c : ℕ) → b ≡ a → Rose b c → Rose a c
 rose-as a b c e r = subst (λ (n : ℕ). Rose n c) e r
 
 -- what waits was offered to streams
-pub ends-offered : {A B E : Type 0} {x : B} (r : Result A E) (p : Bool) (o o' : Option Ended) (old mid new : WireState) (f g h : Faults) → o ≡ None → NoFault f g → StaysOrFails o o' g h → Works {B} {E} 0 (Ok x) mid new g h → (p ≡ false → new.seen.last_own ≡ old.seen.last_own) → EndsSo r p o' old new f h
+pub ends-offered : {A B E : Type 0} {x : B} (r : Result A E) (p : Bool) (o o' : Option Ended) (old mid new : WireState) (f g h : Faults) → o ≡ None → NoFault f g → StaysOrFails o o' g h → Works {A = B} {E = E} 0 (Ok x) mid new g h → (p ≡ false → new.seen.last_own ≡ old.seen.last_own) → EndsSo r p o' old new f h
 ends-offered (Ok y) p o o' old mid new f g h live none stays works unopened = record {
   failed = λ over. elim stays [
     | inl s ↦ absurd (let z : None ≡ Some ended.ServerFailed = sym live ∙ (sym s.0 ∙ over) in cc)
     | inr s ↦ rose-as f.server g.server h.server none.server s.1
   ];
-  by_row = stays-by-row o o' g h stays (row-live o live);
-  by_count = over-offered p o o' g h old.calls mid.calls new.calls stays (over-live p o old.calls mid.calls live) works.calls.came;
+  by_row = stays-by-row o o' g.server h.server stays (row-live o live);
+  by_count = over-offered p o o' g.server h.server old.calls mid.calls new.calls stays (over-live p o old.calls mid.calls live) works.calls.came;
   unopened = unopened;
 }
 ends-offered (Err y) p o o' old mid new f g h live none stays works unopened = record { failed = tt; by_row = tt; by_count = tt; unopened = unopened }
@@ -184,5 +184,5 @@ pub both-ways : {P E : Type 0} (r : Result Bool E) → r ≡ Ok true → r ≡ O
 both-ways r e f = absurd (let z : Ok true ≡ Ok false = sym e ∙ f in cc)
 
 -- whichever value came
-pub works-again : {A B E F : Type 0} {n : ℕ} {x : A} {old new : WireState} {f f' : Faults} (r : Result B F) → Works {A} {E} n (Ok x) old new f f' → Works n r old new f f'
+pub works-again : {A B E F : Type 0} {n : ℕ} {x : A} {old new : WireState} {f f' : Faults} (r : Result B F) → Works {A = A} {E = E} n (Ok x) old new f f' → Works n r old new f f'
 works-again r w = works-any r (record { keeps = w.keeps; calls = w.calls })

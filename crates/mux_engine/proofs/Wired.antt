@@ -1,9 +1,9 @@
 -- What each call leaves of the wire of a run, in the words of the contracts: of one call, and of one
 -- behind another.
-use Rattle.std.proofs.Common.{◌≡◌, ◌≢◌, ◌≤◌, ◌+◌, ℕ, Bool, true, false, List, [], ◌∷◌, Option, refl, sym, ap, ◌∙◌, subst, inl, inr, cond, arith}
-use Rattle.std.specs.Prelude.{◌==◌, IsErr, IsTrue, Result, Ok, Err}
+use Rattle.std.proofs.Common.{◌≡◌, ◌≤◌, ℕ, Bool, true, false, List, Option, refl, sym, ap, ◌∙◌, subst, inl, inr, cond, arith}
+use Rattle.std.specs.Prelude.{IsErr, IsTrue, Result, Ok, Err}
 use Rattle.std.proofs.lemmas.Bool.Decides.{eqb_tells}
-use Rattle.mux_outside.specs.CallCounts.{CallCounts, calls_after_one, calls_after_wait, calls_after_write, is_starved, is_starved_write}
+use Rattle.mux_outside.specs.CallCounts.{CallCounts, calls_after_one, is_starved, is_starved_write}
 use Rattle.mux_outside.specs.Faults.{FaultOf, Faults, OwnFault}
 use Rattle.mux_outside.specs.OwnStreams.{is_own}
 use Rattle.mux_outside.specs.Seen.{Seen, seen_after_close, seen_after_connect, seen_after_finish, seen_after_listen, seen_after_note, seen_after_pause, seen_after_silence, seen_after_unlisten}
@@ -14,9 +14,7 @@ use Rattle.mux_outside.specs.declared.file_error.FileError.{FileError}
 use Rattle.mux_outside.specs.declared.file_error.FileError.TheVariants as file
 use Rattle.mux_outside.specs.declared.house_mark.HouseMark.{HouseMark}
 use Rattle.mux_outside.specs.declared.house_mark.HouseMark.TheVariants.{HouseOrder}
-use Rattle.mux_outside.specs.declared.mark.Mark.{Mark}
 use Rattle.mux_outside.specs.declared.mark.Mark.TheVariants.{House}
-use Rattle.mux_outside.specs.declared.mark.Opening.{Opening}
 use Rattle.mux_outside.specs.declared.order.Order.{Order}
 use Rattle.mux_outside.specs.declared.turn.Turn.{Turn}
 use Rattle.mux_outside.specs.declared.turn.Turn.TheVariants as turn
@@ -26,7 +24,7 @@ use Rattle.mux_outside.specs.declared.turn.Wrote.TheVariants as wrote
 use Rattle.mux_outside.specs.declared.whose.Whose.{Whose}
 use Rattle.mux_outside.specs.declared.whose.Whose.TheVariants.{Server, Client, Own}
 use Rattle.mux_engine.specs.Counted.{Counts, Cut, Well}
-use Rattle.mux_engine.specs.OwnFaults.{OrderCounted, OwnCounted, is_unmade}
+use Rattle.mux_engine.specs.OwnFaults.{OrderCounted, is_unmade}
 use Rattle.mux_engine.specs.Wires.{IsIdle, KeepsWire, NoFault, Untouched, Works, WorksOwn}
 use Rattle.mux_engine.proofs.Arms.{counts-on, counts-well, cut-one, fault-later, le-of, well-none, well-one, well-wait}
 use Rattle.mux_engine.proofs.Counting.{cut-wait}

@@ -1,5 +1,5 @@
 -- What the calls of a run leave of its wire.
-use Rattle.std.specs.Prelude.{◌≡◌, ◌≤◌, ℕ, false, List, [], ◌∷◌, Result, true}
+use Rattle.std.specs.Prelude.{◌≡◌, ◌≤◌, ℕ, [], ◌∷◌, Result, true}
 use Rattle.mux_outside.specs.Faults.{Faults}
 use Rattle.mux_outside.specs.Seen.{Seen}
 use Rattle.mux_outside.specs.WireState.{WireState}

@@ -1,4 +1,4 @@
-use Rattle.std.proofs.Common.{◌≡◌, ◌<◌, ◌≤◌, ◌∙◌, ◌∷◌, sym, ap, refl, subst, cond, ℕ, Bool, List, true, false, length, le_refl}
+use Rattle.std.proofs.Common.{◌≡◌, ◌<◌, ◌∙◌, ◌∷◌, sym, ap, refl, subst, cond, ℕ, Bool, List, true, false, length, le_refl}
 use Rattle.std.specs.Prelude.{Ok}
 use Rattle.mux_outside.specs.House.{Known}
 use Rattle.mux_outside.specs.Streams.{without}
@@ -8,7 +8,7 @@ use Rattle.mux_engine.specs.Owned.{IsOffered}
 use Rattle.mux_engine.specs.Serving.{Scene, scene, scene_of}
 use Rattle.mux_engine.specs.Sides.{AnsweredOr, Housed, SameHouse}
 use Rattle.mux_engine.proofs.Arms.{on-err}
-use Rattle.mux_engine.proofs.Following.{CutOn, RanOn, cut-then, own-cut, own-ran, ran-none, ran-then, runs-as, runs-cut, served-then}
+use Rattle.mux_engine.proofs.Following.{RanOn, cut-then, own-cut, own-ran, ran-none, ran-then, runs-as, runs-cut, served-then}
 use Rattle.mux_engine.proofs.HouseCalls.{house-then, housed-still, same-house}
 use Rattle.mux_engine.proofs.Places.{places-same, places-then}
 use Rattle.mux_engine.proofs.Wired.{worked-own-none, works-own-behind, works-own-err, works-own-idle, works-own-then}

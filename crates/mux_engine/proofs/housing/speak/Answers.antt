@@ -139,11 +139,11 @@ returns-in_err-note-clause-streams g c = streams-note c.note.result (HouseSaid c
 
 pub returns-in_err-heed-clause-streams : goal.returns-in_err-heed-clause-streams
 returns-in_err-heed-clause-streams g c =
-    streams-then _ _ _ (streams-note c.note.result (HouseSaid c.in_ok-bytes.bytes) _ _ (ap (λ (x : WireState). x.seen) c.note.ensures.state)) (heeded-streams c.heed.result c.event_of_bytes-said.result _ _ c.heed.new.asks _ _ _ _ _ _ c.heed.ensures.heeded)
+    streams-then _ _ _ (streams-note c.note.result (HouseSaid c.in_ok-bytes.bytes) _ _ (ap (λ (x : WireState). x.seen) c.note.ensures.state)) (heeded-streams c.heed.result g.H.Asks.may c.event_of_bytes-said.result _ _ c.heed.new.asks _ _ _ _ _ _ c.heed.ensures.heeded)
 
 pub returns-clause-streams : goal.returns-clause-streams
 returns-clause-streams g c =
-    streams-then _ _ _ (streams-note c.note.result (HouseSaid c.in_ok-bytes.bytes) _ _ (ap (λ (x : WireState). x.seen) c.note.ensures.state)) (heeded-streams c.heed.result c.event_of_bytes-said.result _ _ c.heed.new.asks _ _ _ _ _ _ c.heed.ensures.heeded)
+    streams-then _ _ _ (streams-note c.note.result (HouseSaid c.in_ok-bytes.bytes) _ _ (ap (λ (x : WireState). x.seen) c.note.ensures.state)) (heeded-streams c.heed.result g.H.Asks.may c.event_of_bytes-said.result _ _ c.heed.new.asks _ _ _ _ _ _ c.heed.ensures.heeded)
 
 pub returns-in_err-says-clause-wire : goal.returns-in_err-says-clause-wire
 returns-in_err-says-clause-wire g c = untouched-none _ _

@@ -1,4 +1,4 @@
-use Rattle.std.proofs.Common.{◌≡◌, ◌≤◌, ◌∙◌, ◌∷◌, ◌++◌, [], sym, ap, refl, subst, cond, ℕ, Bool, true, false, List, arith}
+use Rattle.std.proofs.Common.{◌≡◌, ◌∙◌, ◌∷◌, ◌++◌, [], sym, ap, refl, cond, ℕ, Bool, true, false, List, arith}
 use Rattle.std.specs.Prelude.{Ok}
 use Rattle.mux_outside.specs.Streams.{without}
 use Rattle.mux_history.specs.declared.limits.TheConstants.{HOUSE}
@@ -45,7 +45,7 @@ returns-in_err-ask_house-clause-serving g c =
     let lists = c.ask_house.new.lists in
     let s1 : Scene = scene (W.state c.ask_house.new.wire) lists e1 in
     let at1 : List ℕ = 0 ∷ without HOUSE (here e1) in
-    runs-cut H.may H.state c.from_residual.result first h1 s0 s1 1 1 (λ (more : Bool). cond more 1 0) at0 (λ (more : Bool). at1) c.from_residual.ensures.0 (omega arith) c.in_err-ask_house.ensures.serving
+    runs-cut H.may H.state c.from_residual.result first h1 s0 s1 1 1 (λ (more : Bool). cond more 1 0) at0 (λ (more : Bool). cond more (0 ∷ here e1) []) c.from_residual.ensures.0 (omega arith) c.in_err-ask_house.ensures.serving
 
 -- ---- what waits is offered
 
@@ -89,7 +89,7 @@ returns-in_err-flush-clause-serving g c =
     let at_flush : List ℕ = 0 ∷ (without HOUSE (here e1) ++ []) in
     let before : RanOn H.may H.state first h1 s0 s1 0 at0 at_flush = ran-to-flush H.may H.state first h1 s0 s1 at0 ran1 in
     let s2 : Scene = scene_of (W.state c.flush.new.wire) c.flush.new.held lists.failed c.flush.new.engine in
-    runs-cut H.may H.state c.from_residual-in_err-flush.result first h1 s0 s2 0 1 (λ (more : Bool). cond more 1 0) at0 (λ (more : Bool). []) c.from_residual-in_err-flush.ensures.0 (omega arith)
+    runs-cut H.may H.state c.from_residual-in_err-flush.result first h1 s0 s2 0 1 (λ (more : Bool). cond more 1 0) at0 (λ (more : Bool). cond more (0 ∷ here c.flush.new.engine) []) c.from_residual-in_err-flush.ensures.0 (omega arith)
     (cut-then H.may H.state first h1 h1 s0 s1 s2 0 at0 at_flush present1 before
     (serves-cut H.may H.state h1 s1.seen s2.seen s1.held s2.held lists.failed at_flush e1 c.flush.new.engine (c.in_err-flush.ensures.serving [])))
 

@@ -9,7 +9,7 @@ use Rattle.mux_engine.proofs.Called.{handed-more, handed-none}
 use Rattle.mux_engine.proofs.Offers.{cut-fails, cut-holds, cut-starved}
 use Rattle.mux_engine.proofs.OwnMarks.{own-fails, own-holds, own-takes}
 use Rattle.mux_engine.proofs.Owns.{taking}
-use Rattle.mux_engine.proofs.Owning.{fails-none, fails-one, took-any}
+use Rattle.mux_engine.proofs.Owning.{fails-none, fails-one}
 use Rattle.mux_engine.proofs.Wired.{seen-is, works-own-none, works-own-starved, works-own-write}
 use Rattle.mux_outside.specs.declared.turn.Wrote.TheVariants as wrote
 use Rattle.mux_engine.proofs.owned.own_once.Goals as goal

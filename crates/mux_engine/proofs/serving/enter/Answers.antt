@@ -18,7 +18,7 @@ let_in-requires g c = record { on = c.requires.on; refused = c.requires.refused 
 
 pub returns : goal.returns
 returns g c = let H = g.H.Asks in let house = H.state c.args.house.now in record {
-  serving = λ first calls before policy pid start held failed given v z. match-more-both c.let_in.result _ (λ served. side-is _ _ (let-inside house.told house.known calls (sym c.present.ensures.present ∙ c.if-not-present.false)) served)
+  serving = λ first calls before policy pid start held failed given v z. match-more-both c.let_in.result _ _ (λ served. side-is _ _ (let-inside house.told house.known calls (sym c.present.ensures.present ∙ c.if-not-present.false)) served)
       (c.let_in.ensures.serving house.known.present first before _ policy pid start held failed given v z (sym c.present.ensures.present ∙ c.if-not-present.false));
   places = c.let_in.ensures.places;
   alone = λ p. true-false (sym (sym c.present.ensures.present ∙ c.if-not-present.false) ∙ p);

@@ -28,7 +28,7 @@ returns-in_err-list_waiting g c =
     let d = turn-unlisted r.result g.H.Asks.may g.H.Asks.state c.args.house.now (g.W.Wire.state c.args.wire.now) (g.W.Wire.faults c.args.wire.now) lists lists.held lists.own lists.failed c.args.engine.now r.ensures.0 in record {
       serving = d.serving;
       together = d.together _ refl refl;
-      house = d.house;
+      house = d.stays;
       went = on-err r.result _ _ r.ensures.0 tt;
       ended = d.ended;
       wire = works-unlisted r.result (g.W.Wire.state c.args.wire.now) (g.W.Wire.faults c.args.wire.now) r.ensures.0;
@@ -98,7 +98,7 @@ returns-in-Event g c =
     (ap (λ (x : WireState). x.calls) k.ensures.state) c.heed.ensures.wire in record {
       serving = d.serving;
       together = d.together _ refl refl;
-      house = d.house;
+      house = d.stays;
       went = c.heed.ensures.went;
       ended = d.ended;
       wire = works-event c.heed.result c.in-Event.e k.result c.list_waiting.new.todo c.wanted.result k.new.into next k.ensures.state k.ensures.cause heeded;
@@ -138,7 +138,7 @@ returns-in_err-hear-in-Own g c =
     c.hear.new.house c.in-Own.told next c.hear.ensures.told c.hear.ensures.must r.result c.hear.new.lists.held c.hear.new.lists.own c.hear.new.lists.failed r.ensures.0 in record {
       serving = d.serving;
       together = d.together _ refl refl;
-      house = d.house;
+      house = d.stays;
       went = on-err r.result _ _ r.ensures.0 tt;
       ended = d.ended;
       wire = works-own-turn r.result c.in-Own.told k.result c.list_waiting.new.todo c.wanted.result k.new.into next k.ensures.state k.ensures.cause;
@@ -158,11 +158,11 @@ returns-in_ok-hear-in-Own g c =
     has-waited wire (W.state k.new.self) lists.own lists.failed (H.state c.args.house.now).queue c.args.engine.now k.result k.new.into c.as_bytes.result.now c.list_waiting.new.todo c.waiting.result.now c.wanted.result (W.state k.new.self).tally
     k.ensures.state c.in_ok-list_waiting.ensures c.waiting.ensures.exact c.wanted.ensures c.next_of.ensures.bytes c.as_bytes.ensures.bytes k.ensures.turn k.ensures.own_turn in
     let next : IsOwnOf c.in-Own.told k.result k.new.into = subst (λ (x : List ℕ). IsOwnOf c.in-Own.told k.result x) c.as_bytes.ensures.bytes c.in-Own.ensures.next in
-    let d = turn-heard {E = OutOfMemory} H.may H.state c.args.house.now wire (W.state k.new.self) (W.faults c.args.wire.now) (W.faults k.new.self) lists c.args.engine.now q.served b w
-    c.hear.new.house c.in-Own.told next c.hear.ensures.told c.hear.ensures.must On c.hear.new.lists.held c.hear.new.lists.own c.hear.new.lists.failed heard.known heard.lists.held heard.lists.own heard.lists.failed heard.stands in record {
+    let d = turn-heard H.may H.state c.args.house.now wire (W.state k.new.self) (W.faults c.args.wire.now) (W.faults k.new.self) lists c.args.engine.now q.served b w
+    c.hear.new.house c.in-Own.told next c.hear.ensures.told c.hear.ensures.must {E = OutOfMemory} On c.hear.new.lists.held c.hear.new.lists.own c.hear.new.lists.failed heard.known heard.lists.held heard.lists.own heard.lists.failed heard.stands in record {
       serving = d.serving;
       together = d.together _ refl refl;
-      house = d.house;
+      house = d.stays;
       went = sym (ap went_of q.on);
       ended = d.ended;
       wire = works-own-turn _ c.in-Own.told k.result c.list_waiting.new.todo c.wanted.result k.new.into next k.ensures.state k.ensures.cause;
@@ -182,11 +182,11 @@ returns-in-Freed g c =
     let w : HasWaited wire.seen (W.state k.new.self).seen lists.own lists.failed (H.state c.args.house.now).queue c.args.engine.now k.result k.new.into =
     has-waited wire (W.state k.new.self) lists.own lists.failed (H.state c.args.house.now).queue c.args.engine.now k.result k.new.into c.as_bytes.result.now c.list_waiting.new.todo c.waiting.result.now c.wanted.result (W.state k.new.self).tally
     k.ensures.state c.in_ok-list_waiting.ensures c.waiting.ensures.exact c.wanted.ensures c.next_of.ensures.bytes c.as_bytes.ensures.bytes k.ensures.turn k.ensures.own_turn in
-    let d = turn-freed {E = OutOfMemory} H.may H.state c.args.house.now wire (W.state k.new.self) (W.faults c.args.wire.now) (W.faults k.new.self) lists c.args.engine.now q.served b w
-    On c.in-Freed.stream c.remove.new.self c.in-Freed.ensures.next.0 c.in-Freed.ensures.next.1 c.remove.ensures in record {
+    let d = turn-freed H.may H.state c.args.house.now wire (W.state k.new.self) (W.faults c.args.wire.now) (W.faults k.new.self) lists c.args.engine.now q.served b w
+    {E = OutOfMemory} On c.in-Freed.stream c.remove.new.self c.in-Freed.ensures.next.0 c.in-Freed.ensures.next.1 c.remove.ensures in record {
       serving = d.serving;
       together = d.together _ refl refl;
-      house = d.house;
+      house = d.stays;
       went = sym (ap went_of q.on);
       ended = d.ended;
       wire = works-wait _ k.result c.list_waiting.new.todo c.wanted.result k.new.into (ap is_starved c.in-Freed.ensures.next.1) k.ensures.state k.ensures.cause;
@@ -206,10 +206,10 @@ returns-in-NoMemory g c =
     let w : HasWaited wire.seen (W.state k.new.self).seen lists.own lists.failed (H.state c.args.house.now).queue c.args.engine.now k.result k.new.into =
     has-waited wire (W.state k.new.self) lists.own lists.failed (H.state c.args.house.now).queue c.args.engine.now k.result k.new.into c.as_bytes.result.now c.list_waiting.new.todo c.waiting.result.now c.wanted.result (W.state k.new.self).tally
     k.ensures.state c.in_ok-list_waiting.ensures c.waiting.ensures.exact c.wanted.ensures c.next_of.ensures.bytes c.as_bytes.ensures.bytes k.ensures.turn k.ensures.own_turn in
-    let d = turn-wanting {A = Went} {E = OutOfMemory} H.may H.state c.args.house.now wire (W.state k.new.self) (W.faults c.args.wire.now) (W.faults k.new.self) lists c.args.engine.now q.served b w (record {}) c.in-NoMemory.ensures.next lists.held lists.own lists.failed in record {
+    let d = turn-wanting H.may H.state c.args.house.now wire (W.state k.new.self) (W.faults c.args.wire.now) (W.faults k.new.self) lists c.args.engine.now q.served b w {A = Went} {E = OutOfMemory} (record {}) c.in-NoMemory.ensures.next lists.held lists.own lists.failed in record {
       serving = d.serving;
-      together = d.together _ refl refl;
-      house = d.house;
+      together = tt;
+      house = d.stays;
       went = tt;
       ended = d.ended;
       wire = works-wait-err _ k.result c.list_waiting.new.todo c.wanted.result k.new.into k.ensures.state k.ensures.cause;

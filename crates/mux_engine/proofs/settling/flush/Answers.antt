@@ -1,4 +1,4 @@
-use Rattle.std.proofs.Common.{◌∷◌, ◌∙◌, refl, sym, ap, inl, subst, le_trans}
+use Rattle.std.proofs.Common.{◌∷◌, ◌∙◌, refl, sym, ap, inl}
 use Rattle.mux_outside.specs.OwnStreams.{is_one}
 use Rattle.mux_machine.specs.State.{State, queue_in}
 use Rattle.mux_engine.proofs.Arms.{on-err, on-ok, stays, then-stays-or-fails}

@@ -5,7 +5,7 @@ use Rattle.mux_engine.specs.Serving.{Serving}
 use Rattle.mux_engine.specs.Sides.{RestsOf, SamePlaces}
 use Rattle.mux_engine.proofs.Lists.{true-false}
 use Rattle.mux_engine.proofs.Loops.{serve-hushed}
-use Rattle.mux_engine.proofs.Wired.{idle-none, idle-silence, seen-is}
+use Rattle.mux_engine.proofs.Wired.{idle-silence, seen-is}
 use Rattle.mux_engine.proofs.settling.hush.Goals.{else-listening-via-then-listening+else-is_none, else-listening-via-else-listening}
 use Rattle.mux_engine.proofs.settling.hush.Given.{Over}
 use Rattle.mux_engine.proofs.settling.hush.Goals as goal

@@ -1,4 +1,4 @@
-use Rattle.std.proofs.Common.{◌∷◌, ◌∙◌, sym, ap, refl, le_trans, le_refl}
+use Rattle.std.proofs.Common.{◌∷◌, ◌∙◌, sym, ap, refl}
 use Rattle.mux_outside.specs.OwnStreams.{is_one}
 use Rattle.mux_outside.specs.Streams.{among}
 use Rattle.mux_engine.proofs.Arms.{offered-none, offered-then, on-err, unchanged-then}

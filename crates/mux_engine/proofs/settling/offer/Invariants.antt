@@ -1,4 +1,4 @@
-use Rattle.std.proofs.Common.{◌≡◌, ◌≢◌, ◌≤◌, [], ◌∷◌, ℕ, Bool, List, Option, true, false, length}
+use Rattle.std.proofs.Common.{◌≡◌, [], ◌∷◌, ℕ, Bool, List, Option, true, false, length}
 use Rattle.mux_outside.specs.declared.house_mark.HouseMark.{HouseMark}
 use Rattle.mux_outside.specs.Streams.{among}
 use Rattle.mux_outside.specs.declared.mark.Mark.{Mark}

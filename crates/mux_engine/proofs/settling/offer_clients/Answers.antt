@@ -1,4 +1,4 @@
-use Rattle.std.proofs.Common.{◌≡◌, ◌+◌, ◌∷◌, ◌++◌, ◌∙◌, sym, ap, subst, refl, ℕ, List, get_or, drop, true, le_trans, le_refl, arith}
+use Rattle.std.proofs.Common.{◌≡◌, ◌+◌, ◌∷◌, ◌++◌, ◌∙◌, sym, ap, subst, refl, ℕ, List, get_or, drop, true, arith}
 use Rattle.mux_outside.specs.OwnStreams.{is_one}
 use Rattle.mux_outside.specs.Streams.{among, without}
 use Rattle.mux_history.specs.declared.limits.TheConstants.{HOUSE}
