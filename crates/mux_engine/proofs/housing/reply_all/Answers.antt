@@ -63,7 +63,7 @@ loop-wire-preserved g c =
     let s3 : Scene = scene_of (W.state c.own_rounds.new.wire) c.own_rounds.new.held c.own_rounds.new.failed e2 in
     let known3 : SameHouse (H.state first).known (H.state c.own_rounds.new.house).known = house-then _ _ _ known2 (same-house _ _ c.in_ok-own_rounds.ensures.house.known) in
     let ran3 : RanOn H.may H.state first c.own_rounds.new.house s0 s3 0 at0 at2 = ran-then H.may H.state first c.hand_over.new.house c.own_rounds.new.house s0 s2 s3 0 at0 at2 at2 known2.present ran2
-        (own-ran H.may H.state c.hand_over.new.house c.own_rounds.new.house s2.seen s3.seen s2.held s3.held s2.failed s3.failed at2 e2 c.own_rounds.ensures.house.told c.in_ok-own_rounds.ensures.house.known c.in_ok-own_rounds.ensures.serving) in
+    (own-ran H.may H.state c.hand_over.new.house c.own_rounds.new.house s2.seen s3.seen s2.held s3.held s2.failed s3.failed at2 e2 c.own_rounds.ensures.house.told c.in_ok-own_rounds.ensures.house.known c.in_ok-own_rounds.ensures.serving) in
     let e4 = c.reply.new.engine in
     let s4 : Scene = scene_of (W.state c.reply.new.wire) c.own_rounds.new.held c.own_rounds.new.failed e4 in
     let is : c.reply.result ≡ Ok true = c.in_ok-reply.was ∙ ap (λ (b : Bool). Ok b) c.if-not-branch.false in
@@ -103,7 +103,7 @@ returns-then-not-branch g c =
     let s3 : Scene = scene_of (W.state c.own_rounds.new.wire) c.own_rounds.new.held c.own_rounds.new.failed e2 in
     let known3 : SameHouse (H.state first).known (H.state c.own_rounds.new.house).known = house-then _ _ _ known2 (same-house _ _ c.in_ok-own_rounds.ensures.house.known) in
     let ran3 : RanOn H.may H.state first c.own_rounds.new.house s0 s3 0 at0 at2 = ran-then H.may H.state first c.hand_over.new.house c.own_rounds.new.house s0 s2 s3 0 at0 at2 at2 known2.present ran2
-        (own-ran H.may H.state c.hand_over.new.house c.own_rounds.new.house s2.seen s3.seen s2.held s3.held s2.failed s3.failed at2 e2 c.own_rounds.ensures.house.told c.in_ok-own_rounds.ensures.house.known c.in_ok-own_rounds.ensures.serving) in
+    (own-ran H.may H.state c.hand_over.new.house c.own_rounds.new.house s2.seen s3.seen s2.held s3.held s2.failed s3.failed at2 e2 c.own_rounds.ensures.house.told c.in_ok-own_rounds.ensures.house.known c.in_ok-own_rounds.ensures.serving) in
     let e4 = c.reply.new.engine in
     let s4 : Scene = scene_of (W.state c.reply.new.wire) c.own_rounds.new.held c.own_rounds.new.failed e4 in
     let is : c.reply.result ≡ Ok false = c.in_ok-reply.was ∙ ap (λ (b : Bool). Ok b) c.if-not-branch.true in
@@ -196,7 +196,7 @@ returns-in_err-reply g c =
     let s3 : Scene = scene_of (W.state c.own_rounds.new.wire) c.own_rounds.new.held c.own_rounds.new.failed e2 in
     let known3 : SameHouse (H.state first).known (H.state c.own_rounds.new.house).known = house-then _ _ _ known2 (same-house _ _ c.in_ok-own_rounds.ensures.house.known) in
     let ran3 : RanOn H.may H.state first c.own_rounds.new.house s0 s3 0 at0 at2 = ran-then H.may H.state first c.hand_over.new.house c.own_rounds.new.house s0 s2 s3 0 at0 at2 at2 known2.present ran2
-        (own-ran H.may H.state c.hand_over.new.house c.own_rounds.new.house s2.seen s3.seen s2.held s3.held s2.failed s3.failed at2 e2 c.own_rounds.ensures.house.told c.in_ok-own_rounds.ensures.house.known c.in_ok-own_rounds.ensures.serving) in
+    (own-ran H.may H.state c.hand_over.new.house c.own_rounds.new.house s2.seen s3.seen s2.held s3.held s2.failed s3.failed at2 e2 c.own_rounds.ensures.house.told c.in_ok-own_rounds.ensures.house.known c.in_ok-own_rounds.ensures.serving) in
     let e4 = c.reply.new.engine in
     let s4 : Scene = scene_of (W.state c.reply.new.wire) c.own_rounds.new.held c.own_rounds.new.failed e4 in
     let r = c.from_residual-in_err-reply.result in

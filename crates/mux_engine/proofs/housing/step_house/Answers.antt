@@ -114,7 +114,7 @@ returns-then-not-present-clause-serving g c =
     let before : RanOn H.may H.state first h1 s0 s1 0 at0 at_flush = ran-to-flush H.may H.state first h1 s0 s1 at0 ran1 in
     let s2 : Scene = scene_of (W.state c.flush.new.wire) c.flush.new.held lists.failed c.flush.new.engine in
     let ran2 : RanOn H.may H.state first h1 s0 s2 0 at0 [] = ran-then H.may H.state first h1 h1 s0 s1 s2 0 at0 at_flush [] present1 before
-        (serves-ran H.may H.state h1 s1.seen s2.seen s1.held s2.held lists.failed at_flush [] e1 c.flush.new.engine (c.in_ok-flush.ensures.serving [])) in
+    (serves-ran H.may H.state h1 s1.seen s2.seen s1.held s2.held lists.failed at_flush [] e1 c.flush.new.engine (c.in_ok-flush.ensures.serving [])) in
     ran2
 
 pub returns-then-not-present-clause-together : goal.returns-then-not-present-clause-together
@@ -136,7 +136,7 @@ returns-then-not-present-clause-together g c =
     let before : RanOn H.may H.state first h1 s0 s1 0 at0 at_flush = ran-to-flush H.may H.state first h1 s0 s1 at0 ran1 in
     let s2 : Scene = scene_of (W.state c.flush.new.wire) c.flush.new.held lists.failed c.flush.new.engine in
     let ran2 : RanOn H.may H.state first h1 s0 s2 0 at0 [] = ran-then H.may H.state first h1 h1 s0 s1 s2 0 at0 at_flush [] present1 before
-        (serves-ran H.may H.state h1 s1.seen s2.seen s1.held s2.held lists.failed at_flush [] e1 c.flush.new.engine (c.in_ok-flush.ensures.serving [])) in
+    (serves-ran H.may H.state h1 s1.seen s2.seen s1.held s2.held lists.failed at_flush [] e1 c.flush.new.engine (c.in_ok-flush.ensures.serving [])) in
     let w2 = served-then H.may H.state first h1 s0 s2 0 at0 [] present1 c.requires.served ran2 in
     together-still (H.state h1) (H.state h1) (W.state c.ask_house.new.wire) (W.state c.flush.new.wire) lists (record lists { held = c.flush.new.held; todo = c.flush.new.todo; asks = c.flush.new.asks }) c.in_ok-ask_house.ensures.together (same-house _ _ refl) c.flush.ensures.places refl w2.serving.held_is
 
@@ -161,7 +161,7 @@ returns-clause-serving g c =
     let before : RanOn H.may H.state first h1 s0 s1 0 at0 at_flush = ran-to-flush H.may H.state first h1 s0 s1 at0 ran1 in
     let s2 : Scene = scene_of (W.state c.flush.new.wire) c.flush.new.held lists.failed c.flush.new.engine in
     let ran2 : RanOn H.may H.state first h1 s0 s2 0 at0 [] = ran-then H.may H.state first h1 h1 s0 s1 s2 0 at0 at_flush [] present1 before
-        (serves-ran H.may H.state h1 s1.seen s2.seen s1.held s2.held lists.failed at_flush [] e1 c.flush.new.engine (c.in_ok-flush.ensures.serving [])) in
+    (serves-ran H.may H.state h1 s1.seen s2.seen s1.held s2.held lists.failed at_flush [] e1 c.flush.new.engine (c.in_ok-flush.ensures.serving [])) in
     let s3 : Scene = scene_of (W.state c.speak.new.wire) c.flush.new.held lists.failed c.speak.new.engine in
     runs-then H.may H.state c.speak.result first h1 c.speak.new.house s0 s2 s3 1 (λ (more : Bool). cond more 1 0) at0 [] (λ (more : Bool). cond more (0 ∷ here c.speak.new.engine) []) present1 ran2 (c.speak.ensures.serving s2.held s2.failed)
 
@@ -184,7 +184,7 @@ returns-clause-together g c =
     let before : RanOn H.may H.state first h1 s0 s1 0 at0 at_flush = ran-to-flush H.may H.state first h1 s0 s1 at0 ran1 in
     let s2 : Scene = scene_of (W.state c.flush.new.wire) c.flush.new.held lists.failed c.flush.new.engine in
     let ran2 : RanOn H.may H.state first h1 s0 s2 0 at0 [] = ran-then H.may H.state first h1 h1 s0 s1 s2 0 at0 at_flush [] present1 before
-        (serves-ran H.may H.state h1 s1.seen s2.seen s1.held s2.held lists.failed at_flush [] e1 c.flush.new.engine (c.in_ok-flush.ensures.serving [])) in
+    (serves-ran H.may H.state h1 s1.seen s2.seen s1.held s2.held lists.failed at_flush [] e1 c.flush.new.engine (c.in_ok-flush.ensures.serving [])) in
     let w2 = served-then H.may H.state first h1 s0 s2 0 at0 [] present1 c.requires.served ran2 in
     let f = c.flush.ensures.places in
     on-ok c.speak.result (λ (known : SameHouse (H.state h1).known (H.state c.speak.new.house).known). together-still (H.state h1) (H.state c.speak.new.house) (W.state c.ask_house.new.wire) (W.state c.speak.new.wire) lists (record lists { held = c.flush.new.held; todo = c.flush.new.todo; asks = c.speak.new.asks }) c.in_ok-ask_house.ensures.together known (places-then _ _ _ f c.speak.ensures.streams.places) refl (w2.serving.held_is ∙ sym c.speak.ensures.streams.blocked)) c.speak.ensures.house.known
@@ -224,7 +224,7 @@ returns-clause-ended g c =
     let before : RanOn H.may H.state first h1 s0 s1 0 at0 at_flush = ran-to-flush H.may H.state first h1 s0 s1 at0 ran1 in
     let s2 : Scene = scene_of (W.state c.flush.new.wire) c.flush.new.held lists.failed c.flush.new.engine in
     let ran2 : RanOn H.may H.state first h1 s0 s2 0 at0 [] = ran-then H.may H.state first h1 h1 s0 s1 s2 0 at0 at_flush [] present1 before
-        (serves-ran H.may H.state h1 s1.seen s2.seen s1.held s2.held lists.failed at_flush [] e1 c.flush.new.engine (c.in_ok-flush.ensures.serving [])) in
+    (serves-ran H.may H.state h1 s1.seen s2.seen s1.held s2.held lists.failed at_flush [] e1 c.flush.new.engine (c.in_ok-flush.ensures.serving [])) in
     let w2 = served-then H.may H.state first h1 s0 s2 0 at0 [] present1 c.requires.served ran2 in
     let there : (H.state h1).known.present ≡ true = sym c.present.ensures.present ∙ c.if-not-present.false in
     ends-said c.speak.result (H.state first).known.present c.speak.new.engine.ended (W.state c.args.wire.now) (W.state c.speak.new.wire) (W.faults c.args.wire.now) (W.faults c.speak.new.wire) (sym present1 ∙ there) (c.speak.ensures.ends s2.held s2.failed w2)
@@ -302,7 +302,7 @@ returns-clause-wire g c =
     let before : RanOn H.may H.state first h1 s0 s1 0 at0 at_flush = ran-to-flush H.may H.state first h1 s0 s1 at0 ran1 in
     let s2 : Scene = scene_of (W.state c.flush.new.wire) c.flush.new.held lists.failed c.flush.new.engine in
     let ran2 : RanOn H.may H.state first h1 s0 s2 0 at0 [] = ran-then H.may H.state first h1 h1 s0 s1 s2 0 at0 at_flush [] present1 before
-        (serves-ran H.may H.state h1 s1.seen s2.seen s1.held s2.held lists.failed at_flush [] e1 c.flush.new.engine (c.in_ok-flush.ensures.serving [])) in
+    (serves-ran H.may H.state h1 s1.seen s2.seen s1.held s2.held lists.failed at_flush [] e1 c.flush.new.engine (c.in_ok-flush.ensures.serving [])) in
     let w2 = served-then H.may H.state first h1 s0 s2 0 at0 [] present1 c.requires.served ran2 in
     let x = w2.serving in
     works-then c.in_ok-ask_house.ensures.wire.works (works-then c.in_ok-flush.ensures.wire (works-idle c.speak.result (record {

@@ -55,7 +55,7 @@ loop-preserved g c = let H = g.H.Asks in let i = c.loop.invariant in let o = c.i
   together = o.together;
   present = o.house.present ∙ i.present;
   must = o.house.must ∙ i.must;
-  on = o.goes.on c.if-not-branch.false;
+  on = o.goes.goes c.if-not-branch.false;
   settled = o.goes.unsettled c.if-not-branch.false;
   first = λ z. absurd (omega (arith, z));
   unopened = λ p. o.ended.unopened (i.present ∙ p) ∙ i.unopened p;
@@ -71,7 +71,7 @@ returns-then-not-branch g c = let H = g.H.Asks in let W = g.W.Wire in let i = c.
       handed-so t (went-over c.loop.counter c.args.turns _ (omega arith) (ends-is (λ b. RestsOf H.state b first) _ _ i.present t.so));
   together = o.together;
   house = record { present = o.house.present ∙ i.present; must = o.house.must ∙ i.must };
-  goes = record { on = λ q. true-false (sym q); unsettled = λ q. true-false (sym q); over = λ q. o.goes.over c.if-not-branch.true };
+  goes = record { goes = λ q. true-false (sym q); unsettled = λ q. true-false (sym q); over = λ q. o.goes.over c.if-not-branch.true };
   ended = ends-later _ (H.state c.args.house.now).known.present (H.state c.loop.house).known.present c.one_turn.new.engine.ended (W.state c.args.wire.now) (W.state c.loop.wire) (W.state c.one_turn.new.wire)
       (W.faults c.args.wire.now) (W.faults c.loop.wire) (W.faults c.one_turn.new.wire) i.present i.wire.later i.calls.came i.unopened
       record { failed = e.failed; by_row = e.by_row; by_count = e.by_count; unopened = e.unopened };
@@ -88,7 +88,7 @@ returns g c = let H = g.H.Asks in let W = g.W.Wire in let i = c.loop.invariant i
       handed-so h (all-spent c.loop.counter c.args.turns (omega arith) (yet-unsettled _ i.settled (given-is (0 + c.loop.counter) c.loop.counter (omega arith) h.so)));
   together = i.together;
   house = record { present = i.present; must = i.must };
-  goes = record { on = λ e. i.on; unsettled = λ e. i.settled; over = λ e. true-false e };
+  goes = record { goes = λ e. i.on; unsettled = λ e. i.settled; over = λ e. true-false e };
   ended = ends-live _ (H.state c.args.house.now).known.present c.loop.engine.ended (W.state c.args.wire.now) (W.state c.loop.wire) (W.faults c.args.wire.now) (W.faults c.loop.wire) i.on i.unopened;
   calls = spent-all _ c.loop.counter c.args.turns _ _ (omega arith) i.calls;
   idle = λ z. let f = i.first (omega (arith, z)) in (f.0, f.1, record { server = ap (λ w. (W.faults w).server) f.2; client = ap (λ w. (W.faults w).client) f.2 });
