@@ -72,7 +72,7 @@ returns-clause-kept g c = let H = g.H.Asks in let r = c.requires in let o = r.op
 
 pub returns-in-Ok-run-clause-came : goal.returns-in-Ok-run-clause-came
 returns-in-Ok-run-clause-came g c = let H = g.H.Asks in
-    run-came (H.state c.args.house.now) (H.state c.run.new.house).stands _ _ c.args.turns _ _ _ _ _ c.in-Ok-run.field-0 _ _ (returns-in-Ok-run-clause-kept g c) (λ some. c.in-Ok-run.ensures.greets) c.in-Ok-run.ensures.ended.by_count
+    run-came (H.state c.args.house.now) (H.state c.run.new.house).stands _ _ c.args.turns _ _ _ _ _ c.in-Ok-run.ended _ _ (returns-in-Ok-run-clause-kept g c) (λ some. c.in-Ok-run.ensures.greets) c.in-Ok-run.ensures.ended.by_count
 
 pub returns-clause-came : goal.returns-clause-came
 returns-clause-came g c = λ silent. tt
