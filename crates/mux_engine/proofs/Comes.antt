@@ -8,7 +8,7 @@ use Rattle.mux_history.specs.declared.broke.Break.TheVariants as broke
 use Rattle.mux_history.specs.declared.ended.Ended.{Ended}
 use Rattle.mux_history.specs.declared.ended.Ended.TheVariants as ended
 use Rattle.mux_history.specs.declared.limits.TheConstants.{HOUSE}
-use Rattle.mux_engine.specs.Came.{BrokenBy, Came, EndedBy, EndsFor, NeverFell, OverBy, WentUp}
+use Rattle.mux_engine.specs.Came.{BrokenBy, Came, EndsFor, NeverFell, OverBy, WentUp}
 use Rattle.mux_engine.specs.Rests.{ended_as}
 
 -- ---- a count
@@ -92,7 +92,7 @@ broken-stays (broke.NotPending n) a b c f g = up-stays a.server_pieces b.server_
 broken-stays (broke.NoChannel n) a b c f g = up-stays a.server_pieces b.server_pieces c.server_pieces f g.server_pieces
 broken-stays (broke.Channel n breach) a b c f g = up-stays a.server_pieces b.server_pieces c.server_pieces f g.server_pieces
 
-ended-stays : (p : Bool) (cause : Ended) (a b c : CallCounts) → EndedBy p cause a b → Came b c → EndedBy p cause a c
+ended-stays : (p : Bool) (cause : Ended) (a b c : CallCounts) → OverBy p (Some cause) a b → Came b c → OverBy p (Some cause) a c
 ended-stays p ended.ServerEnd a b c f g = up-stays a.server_ends b.server_ends c.server_ends f g.server_ends
 ended-stays p ended.Disconnected a b c f g = up-stays a.server_pieces b.server_pieces c.server_pieces f g.server_pieces
 ended-stays p (ended.Broke index why) a b c f g = broken-stays why a b c f g
@@ -118,7 +118,7 @@ broken-later (broke.NotPending n) a b c f g = up-later a.server_pieces b.server_
 broken-later (broke.NoChannel n) a b c f g = up-later a.server_pieces b.server_pieces c.server_pieces f.server_pieces g
 broken-later (broke.Channel n breach) a b c f g = up-later a.server_pieces b.server_pieces c.server_pieces f.server_pieces g
 
-ended-later : (p : Bool) (cause : Ended) (a b c : CallCounts) → Came a b → EndedBy p cause b c → EndedBy p cause a c
+ended-later : (p : Bool) (cause : Ended) (a b c : CallCounts) → Came a b → OverBy p (Some cause) b c → OverBy p (Some cause) a c
 ended-later p ended.ServerEnd a b c f g = up-later a.server_ends b.server_ends c.server_ends f.server_ends g
 ended-later p ended.Disconnected a b c f g = up-later a.server_pieces b.server_pieces c.server_pieces f.server_pieces g
 ended-later p (ended.Broke index why) a b c f g = broken-later why a b c f g
@@ -166,10 +166,10 @@ pub over-present : (p q : Bool) (o : Option Ended) (a b : CallCounts) → p ≡ 
 over-present p q o a b e over = subst (λ (x : Bool). OverBy x o a b) e over
 
 -- why it ended
-pub over-answer : (p : Bool) (answer : Ended) (o : Option Ended) (refused : Option ℕ) (a b : CallCounts) → answer ≡ ended_as o refused → OverBy p o a b → EndedBy p answer a b
-over-answer p answer o refused a b is over = subst (λ (x : Ended). EndedBy p x a b) (sym is) (by_end o refused over)
+pub over-answer : (p : Bool) (answer : Ended) (o : Option Ended) (refused : Option ℕ) (a b : CallCounts) → answer ≡ ended_as o refused → OverBy p o a b → OverBy p (Some answer) a b
+over-answer p answer o refused a b is over = subst (λ (x : Ended). OverBy p (Some x) a b) (sym is) (by_end o refused over)
   where
-    by_end : (o : Option Ended) (refused : Option ℕ) → OverBy p o a b → EndedBy p (ended_as o refused) a b
+    by_end : (o : Option Ended) (refused : Option ℕ) → OverBy p o a b → OverBy p (Some (ended_as o refused)) a b
     by_end (Some cause) refused over = over
     by_end None (Some index) over = tt
     by_end None None over = tt

@@ -49,11 +49,11 @@ EndsAs P (End cause) = P (Some cause)
 EndsAs P fate = Unit {0}
 
 -- a row doesn't end it
-abbrev Lives : Fate → Type 0
+abbrev pub Lives : Fate → Type 0
 Lives (End cause) = ⊥
 Lives fate = Unit {0}
 
-lives-as : (P : Option Ended → Type 0) (f : Fate) → Lives f → EndsAs P f
+pub lives-as : (P : Option Ended → Type 0) (f : Fate) → Lives f → EndsAs P f
 lives-as P (End cause) h = absurd h
 lives-as P (Drop cause) h = tt
 lives-as P Goes h = tt
@@ -67,7 +67,7 @@ with-full P Goes (Some cause) h = tt
 with-full P Refused None h = tt
 with-full P Refused (Some cause) h = tt
 
-row-as : (P : Option Ended → Type 0) (item : Item) (k : ℕ) (o : Outcome) (own : List Row) → EndsAs P o.ends → EndsAs P (row_of item k o own).fate
+pub row-as : (P : Option Ended → Type 0) (item : Item) (k : ℕ) (o : Outcome) (own : List Row) → EndsAs P o.ends → EndsAs P (row_of item k o own).fate
 row-as P item k o own h = by_loss (loses q) (with-full P o.ends (overflow (waiting_down own) (all_told (bare item k o) own)) h)
   where
     q : Row
@@ -79,7 +79,7 @@ row-as P item k o own h = by_loss (loses q) (with-full P o.ends (overflow (waiti
 
 -- ---- a payload of a client ends no run
 
-abbrev Fine : Outcome → Type 0
+abbrev pub Fine : Outcome → Type 0
 Fine o = Lives o.ends
 
 fine-open : (own : List Row) (pick : ℕ) (p : List ℕ) (sender : ℕ) → Fine (sends_open own pick p sender)
@@ -145,7 +145,7 @@ fine-gist policy k own pick p (Succeeds rest) = tt
 fine-gist policy k own pick p Refuses = tt
 fine-gist policy k own pick p (Within r a) = fine-within own p r a (is_failing a)
 
-fine-payload : (policy : Policy) (k : ℕ) (own : List Row) (pick : ℕ) (p : List ℕ) → Fine (said_payload policy k own pick p)
+pub fine-payload : (policy : Policy) (k : ℕ) (own : List Row) (pick : ℕ) (p : List ℕ) → Fine (said_payload policy k own pick p)
 fine-payload policy k own pick p = by_read (read_gist p)
   where
     by_read : (r : Result Gist Bad) → Fine (elim r as (λ _. Outcome) [ Err bad ↦ drops (why.BadMessage bad) | Ok m ↦ said_gist policy k own pick p m ])
@@ -202,23 +202,31 @@ saying-for policy pid k own pick (Body body) given = body-for pid k given (greet
 saying-for policy pid k own pick (Payload p) given = lives-as (EndsFor k) (said_payload policy k own pick p).ends (fine-payload policy k own pick p)
 saying-for policy pid k own pick (BadFraming fault) given = tt
 
-said-for : (policy : Policy) (pid : ℕ) (picks : List ℕ) (given : List HouseReply) (k : ℕ) (x : Saying) (rows : List Row) → EndsAs (EndsFor k) (next_row (by_lists policy pid picks given) rows (said_item k x)).fate
-said-for policy pid picks given k x rows = by_saying x
+-- what a client says ends it so, whatever it said before
+abbrev pub SaysAs : (Option Ended → Type 0) → Policy → ℕ → ℕ → Saying → Type 0
+SaysAs P policy pid k x = (own : List Row) (pick : ℕ) (reply : Option HouseReply) → EndsAs P (said_by_client policy pid k own pick x reply).ends
+
+-- a row of what a client says ends as that does
+pub said-as : (P : Option Ended → Type 0) (policy : Policy) (pid : ℕ) (picks : List ℕ) (given : List HouseReply) (k : ℕ) (x : Saying) → SaysAs P policy pid k x → (rows : List Row) → EndsAs P (next_row (by_lists policy pid picks given) rows (said_item k x)).fate
+said-as P policy pid picks given k x ends rows = by_saying x ends
   where
     pick : Saying → ℕ
     pick x = pick_of (FromLists picks given) rows (Says k x None)
 
-    plain : (x : Saying) (n : ℕ) (reply : Option HouseReply) → EndsAs (EndsFor k) (treat policy pid n rows (Says k x reply)).fate
-    plain x n reply = row-as (EndsFor k) (Says k x reply) k (said_by_client policy pid k (rows_of k rows) n x reply) (rows_of k rows) (saying-for policy pid k (rows_of k rows) n x reply)
+    plain : (x : Saying) → SaysAs P policy pid k x → (n : ℕ) (reply : Option HouseReply) → EndsAs P (treat policy pid n rows (Says k x reply)).fate
+    plain x ends n reply = row-as P (Says k x reply) k (said_by_client policy pid k (rows_of k rows) n x reply) (rows_of k rows) (ends (rows_of k rows) n reply)
 
-    by_ask : (body : List ℕ) (b : Bool) → EndsAs (EndsFor k) (treat policy pid (pick (Body body)) rows (elim b as (λ _. Item) [ true ↦ Says k (Body body) (Some (reply_at given (replies_given rows))) | false ↦ Says k (Body body) None ])).fate
-    by_ask body true = plain (Body body) (pick (Body body)) (Some (reply_at given (replies_given rows)))
-    by_ask body false = plain (Body body) (pick (Body body)) None
+    by_ask : (body : List ℕ) → SaysAs P policy pid k (Body body) → (b : Bool) → EndsAs P (treat policy pid (pick (Body body)) rows (elim b as (λ _. Item) [ true ↦ Says k (Body body) (Some (reply_at given (replies_given rows))) | false ↦ Says k (Body body) None ])).fate
+    by_ask body ends true = plain (Body body) ends (pick (Body body)) (Some (reply_at given (replies_given rows)))
+    by_ask body ends false = plain (Body body) ends (pick (Body body)) None
 
-    by_saying : (x : Saying) → EndsAs (EndsFor k) (next_row (by_lists policy pid picks given) rows (said_item k x)).fate
-    by_saying (Payload p) = plain (Payload p) (pick (Payload p)) None
-    by_saying (BadFraming fault) = plain (BadFraming fault) (pick (BadFraming fault)) None
-    by_saying (Body body) = by_ask body (greeted (rows_of k rows) && body_asks body)
+    by_saying : (x : Saying) → SaysAs P policy pid k x → EndsAs P (next_row (by_lists policy pid picks given) rows (said_item k x)).fate
+    by_saying (Payload p) ends = plain (Payload p) ends (pick (Payload p)) None
+    by_saying (BadFraming fault) ends = plain (BadFraming fault) ends (pick (BadFraming fault)) None
+    by_saying (Body body) ends = by_ask body ends (greeted (rows_of k rows) && body_asks body)
+
+pub said-for : (policy : Policy) (pid : ℕ) (picks : List ℕ) (given : List HouseReply) (k : ℕ) (x : Saying) (rows : List Row) → EndsAs (EndsFor k) (next_row (by_lists policy pid picks given) rows (said_item k x)).fate
+said-for policy pid picks given k x rows = said-as (EndsFor k) policy pid picks given k x (λ own pick reply. saying-for policy pid k own pick x reply) rows
 
 -- ---- what the server says
 
@@ -347,7 +355,7 @@ payload-heard rows p (ToClient k) h = row-as EndsHeard (Heard p) k (heard_for (r
 payload-heard rows p Disconnects h = tt
 payload-heard rows p (Breaks cause) h = h
 
-heard-ends : (policy : Policy) (pid : ℕ) (picks : List ℕ) (given : List HouseReply) (x : Saying) (rows : List Row) → EndsAs EndsHeard (next_row (by_lists policy pid picks given) rows (heard_item x)).fate
+pub heard-ends : (policy : Policy) (pid : ℕ) (picks : List ℕ) (given : List HouseReply) (x : Saying) (rows : List Row) → EndsAs EndsHeard (next_row (by_lists policy pid picks given) rows (heard_item x)).fate
 heard-ends policy pid picks given (Body p) rows = payload-heard rows p (dest rows p) (whole-dest rows p)
 heard-ends policy pid picks given (Payload p) rows = payload-heard rows p (dest rows p) (whole-dest rows p)
 heard-ends policy pid picks given (BadFraming fault) rows = tt
@@ -377,7 +385,7 @@ module _ (P : Option Ended → Type 0) (policy : Policy) (pid : ℕ) (picks : Li
   fate-ends before Refused h n = n
   fate-ends before (Drop cause) h n = n
 
-  one-ends : (item : Item) (rows : List Row) → EndsAs P (next_row (by_lists policy pid picks given) rows item).fate → P (end_of rows) → P (end_of (more_of (by_lists policy pid picks given) rows item))
+  pub one-ends : (item : Item) (rows : List Row) → EndsAs P (next_row (by_lists policy pid picks given) rows item).fate → P (end_of rows) → P (end_of (more_of (by_lists policy pid picks given) rows item))
   one-ends item rows h n = by_makes (makes_next rows item)
     where
       row : Row

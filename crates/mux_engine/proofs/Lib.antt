@@ -12,6 +12,7 @@ mod Ending
 mod Fates
 mod First
 mod Following
+mod Greeted
 mod Handed
 mod Happened
 mod Heeding

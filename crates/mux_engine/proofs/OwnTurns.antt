@@ -38,7 +38,7 @@ use Rattle.mux_engine.proofs.Logs.{settled-as}
 use Rattle.mux_engine.proofs.Marks.{Placed, serve-alone}
 use Rattle.mux_engine.proofs.OwnMarks.{own-is, test-same}
 use Rattle.mux_engine.proofs.Owns.{giving, owns-ends, owns-gets, owns-joins, owns-plain}
-use Rattle.mux_engine.proofs.Places.{open-stream, placed-by}
+use Rattle.mux_engine.proofs.Places.{house-shut, open-stream, placed-by}
 use Rattle.mux_engine.proofs.Quiet.{askers-more, notes-calling, notes-none, serve-quiet}
 use Rattle.mux_engine.proofs.Silent.{frees-alike, given-log, stands-given}
 use Rattle.mux_engine.proofs.Todo.{serve-todo}
@@ -77,7 +77,7 @@ module _ {May : HouseReply → Type 0} {Rest : Resting} {before : Option (List H
         (record { log = λ set. given-log set k bytes v.journal (own-is v k own found); blocked = λ t client. refl; unwritten = λ t client. refl; promise = λ set. record { takes = tt; waits = tt; speaks = tt; open_streams = tt }; rested = λ set. tt; absent = λ e. refl; house = refl })
         (stands-given v.picked v.replies s k bytes v.journal v.closed (own-is v k own found) are (here-apart own) v.stands) (notes-calling now (Turns (Got k bytes) ∷ []) (Gets k bytes) refl) (λ set. calls-own now k (Turns (Got k bytes)) own none) refl refl m.told v.turns
         (placed-gets v seen' s k bytes found m.of_wire m.streams m.blocked m.last m.last_own m.listens refl
-        (owns-gets v.journal seen seen' k bytes v.places (record { opened = tt; gives = giving seen v.journal v.places k found (λ own. loud); writes = tt; joins = tt }) m.streams m.own m.listeners))
+        (owns-gets v.journal seen seen' k bytes v.places (record { opened = tt; gives = giving seen v.journal v.places k found (house-shut v) (λ own. loud); writes = tt; joins = tt }) m.streams m.own m.listeners))
 
     -- it gives no more
     pub own-ends : IsTrue (is_own k) → is_silent k seen.own ≡ false → now.unnoted ≡ [] → Same (Ends k) seen.blocked → Serving May Rest before (calling now (Turns (End k) ∷ [])) policy pid start seen' held failed given [] s
@@ -86,7 +86,7 @@ module _ {May : HouseReply → Type 0} {Rest : Resting} {before : Option (List H
         (record { log = alike.log; blocked = λ t client. refl; unwritten = λ t client. refl; promise = λ set. record { takes = tt; waits = tt; speaks = tt; open_streams = tt }; rested = λ set. tt; absent = λ e. refl; house = refl })
         (stands-alike v.journal (Ends k ∷ v.journal) v.picked v.replies s v.closed alike v.stands) (notes-calling now (Turns (End k) ∷ []) (Ends k) refl) (λ set. calls-own now k (Turns (End k)) own none) refl refl m.told v.turns
         (placed-ends v seen' s k found m.of_wire m.streams m.blocked m.last m.last_own m.listens refl
-        (owns-ends v.journal seen seen' k v.places (record { opened = tt; gives = giving seen v.journal v.places k found (λ own. loud); writes = tt; joins = tt }) m.streams m.own m.listeners))
+        (owns-ends v.journal seen seen' k v.places (record { opened = tt; gives = giving seen v.journal v.places k found (house-shut v) (λ own. loud); writes = tt; joins = tt }) m.streams m.own m.listeners))
 
     -- it failed
     pub own-failed : IsTrue (is_own k) → now.unnoted ≡ [] → Same (Fails k) seen.blocked → Serving May Rest before (calling now (Turns (Failed k) ∷ [])) policy pid start seen' held (failed ++ k ∷ []) given [] s

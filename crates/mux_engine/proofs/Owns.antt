@@ -10,6 +10,7 @@ use Rattle.mux_outside.specs.declared.house_mark.HouseMark.TheVariants.{HouseIn,
 use Rattle.mux_outside.specs.declared.mark.Mark.{Mark}
 use Rattle.mux_outside.specs.declared.mark.Mark.TheVariants.{Waits, Accepts, Gets, Ends, Frees, Fails, Takes, Holds, WriteFails, Joins, House}
 use Rattle.mux_outside.specs.declared.own_streams.OwnStream.{OwnStream}
+use Rattle.mux_history.specs.declared.limits.TheConstants.{HOUSE}
 use Rattle.mux_engine.specs.Places.{HasPlaces, IsGiving, IsPlaced, IsTaking, KeepsOwn, listeners_marked, own_in, own_marked}
 use Rattle.mux_engine.proofs.Lists.{among-filter, true-false}
 
@@ -182,8 +183,9 @@ taking seen journal p k found unfinished own = record {
 }
 
 -- one that is not silent gives something
-pub giving : (seen : Seen) (journal : List Mark) → HasPlaces seen journal → (k : ℕ) → among k seen.streams ≡ true → (IsTrue (is_own k) → is_silent k seen.own ≡ false) → IsTrue (is_own k) → IsGiving k (own_in journal)
-giving seen journal p k found loud own = record {
+pub giving : (seen : Seen) (journal : List Mark) → HasPlaces seen journal → (k : ℕ) → among k seen.streams ≡ true → among HOUSE seen.streams ≡ false → (IsTrue (is_own k) → is_silent k seen.own ≡ false) → IsTrue (is_own k) → IsGiving k (own_in journal)
+giving seen journal p k found shut loud own = record {
   is = ap (is_one k) (sym p.own) ∙ own-open seen journal p k own found;
   speaks = ap (is_silent k) (sym p.own) ∙ loud own;
+  other = λ e. true-false (sym found ∙ (ap (λ i. among i seen.streams) e ∙ shut));
 }

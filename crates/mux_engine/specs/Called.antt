@@ -1,10 +1,13 @@
 -- The calls of the house that a journal has, the oldest first.
-use Rattle.std.specs.Prelude.{ℕ, List, [], ◌∷◌, ◌++◌, if◌then◌else◌, length, take}
-use Rattle.mux_outside.specs.HouseCalls.{Got, End, Failed, HandsOn, Hears, HouseCall, Joined, Turns, Writable, call_of}
+use Rattle.std.specs.Prelude.{◌≡◌, ℕ, Bool, true, false, List, [], ◌∷◌, ◌++◌, if◌then◌else◌, length, take, IsTrue}
+use Rattle.std.specs.List.{list_any}
+use Rattle.mux_outside.specs.Greeting.{GreetsFirst}
+use Rattle.mux_outside.specs.House.{HouseState}
+use Rattle.mux_outside.specs.HouseCalls.{Got, End, Failed, HandsOn, Hears, HouseCall, Joined, Marks, Turns, Writable, call_of}
 use Rattle.mux_outside.specs.HouseCalls as call
 use Rattle.mux_outside.specs.OwnStreams.{is_own}
 use Rattle.mux_outside.specs.declared.house_mark.HouseMark.{HouseMark}
-use Rattle.mux_outside.specs.declared.house_mark.HouseMark.TheVariants.{HouseTook}
+use Rattle.mux_outside.specs.declared.house_mark.HouseMark.TheVariants.{HouseSaid, HouseTook}
 use Rattle.mux_outside.specs.declared.mark.Mark.{Mark}
 use Rattle.mux_outside.specs.declared.mark.Mark.TheVariants.{Gets, Ends, Frees, Fails, Takes, WriteFails, Joins, House}
 use Rattle.mux_history.specs.declared.limits.TheConstants.{HOUSE}
@@ -45,3 +48,21 @@ pub record Handed (stands stands' : List HouseCall → Type 0) (So : List HouseC
   pub all : List HouseCall
   pub hands : HandsOn stands stands' all
   pub so : So all
+
+-- ---- what a house said as a client
+
+-- the call gave a piece of it
+abbrev pub is_piece : HouseCall → Bool
+is_piece (Marks (HouseSaid bytes)) = true
+is_piece call = false
+
+-- where there is a house, it stands for some calls of which none gave a piece
+abbrev pub HasSaidNothing : HouseState → Type 0
+HasSaidNothing house =
+    IsTrue house.known.present
+    → (calls : List HouseCall) × ((list_any is_piece calls ≡ false) × house.stands calls)
+
+-- where there is a house, whatever calls it stands for, the first piece of them is the greeting
+abbrev pub StandsGreeting : Bool → (List HouseCall → Type 0) → Type 0
+StandsGreeting present stands =
+    IsTrue present → (calls : List HouseCall) → stands calls → GreetsFirst calls

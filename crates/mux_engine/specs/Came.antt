@@ -30,20 +30,21 @@ BrokenBy (Cut have) old new = WentUp old.server_ends new.server_ends
 BrokenBy why old new = WentUp old.server_pieces new.server_pieces
 
 -- what came where a run ended so: a piece of the server where it disconnected or broke the protocol,
--- its end where it ended, and a piece of a client where one ended the run, unless that is a house,
--- which is no stream of the wire
-abbrev pub EndedBy : Bool → Ended → CallCounts → CallCounts → Type 0
-EndedBy present ServerEnd old new = WentUp old.server_ends new.server_ends
-EndedBy present Disconnected old new = WentUp old.server_pieces new.server_pieces
-EndedBy present (Broke index why) old new = BrokenBy why old new
-EndedBy present (Terminated client id) old new =
-    (present ≡ true → client ≢ HOUSE) → WentUp old.client_pieces new.client_pieces
-EndedBy present cause old new = Unit {0}
+-- its end where it ended, and a piece of a client where one ended the run
+abbrev pub EndedBy : Ended → CallCounts → CallCounts → Type 0
+EndedBy ServerEnd old new = WentUp old.server_ends new.server_ends
+EndedBy Disconnected old new = WentUp old.server_pieces new.server_pieces
+EndedBy (Broke index why) old new = BrokenBy why old new
+EndedBy (Terminated client id) old new = WentUp old.client_pieces new.client_pieces
+EndedBy cause old new = Unit {0}
 
--- where it goes on nothing need have come
+-- where it goes on nothing need have come, and nothing where a house ended it, which is no stream of
+-- the wire
 abbrev pub OverBy : Bool → Option Ended → CallCounts → CallCounts → Type 0
 OverBy present None old new = Unit {0}
-OverBy present (Some cause) old new = EndedBy present cause old new
+OverBy present (Some (Terminated client id)) old new =
+    (present ≡ true → client ≢ HOUSE) → EndedBy (Terminated client id) old new
+OverBy present (Some cause) old new = EndedBy cause old new
 
 -- a run goes on, or this client ended it
 abbrev pub EndsFor : ℕ → Option Ended → Type 0

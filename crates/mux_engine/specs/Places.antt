@@ -1,5 +1,5 @@
 -- What the marks of a journal leave open of the master's own listeners and streams.
-use Rattle.std.specs.Prelude.{◌≡◌, ℕ, true, false, List, [], ◌∷◌, ◌++◌, filter, Option, Some, IsTrue}
+use Rattle.std.specs.Prelude.{◌≡◌, ◌≢◌, ℕ, true, false, List, [], ◌∷◌, ◌++◌, filter, Option, Some, IsTrue}
 use Rattle.mux_outside.specs.OwnStreams.{is_finished, is_one, is_own, is_silent, new_stream, numbers_of, with_end, with_finish, with_pause, without_stream}
 use Rattle.mux_outside.specs.Seen.{Seen}
 use Rattle.mux_outside.specs.Streams.{among, without}
@@ -9,6 +9,7 @@ use Rattle.mux_outside.specs.declared.mark.Mark.TheVariants.{Waits, Gets, Ends, 
 use Rattle.mux_outside.specs.declared.order.Order.{Order}
 use Rattle.mux_outside.specs.declared.order.Order.TheVariants.{Listen, Connect, Unlisten, Pause, Resume, Finish, Close}
 use Rattle.mux_outside.specs.declared.own_streams.OwnStream.{OwnStream}
+use Rattle.mux_history.specs.declared.limits.TheConstants.{HOUSE}
 use Rattle.mux_history.specs.Promises.{Throughout}
 
 -- the streams behind an order, whose number is that of what it made
@@ -55,10 +56,12 @@ OpenOwn before (Waits waiting want streams listens) =
     filter is_own streams ≡ numbers_of (own_in before)
 OpenOwn before mark = Unit {0}
 
--- it is one of these that gives something: it is not paused, and has not ended
+-- it is one of these that gives something: it is not paused, and has not ended; and it is not the
+-- house, which has no stream
 pub record IsGiving (t : ℕ) (own : List OwnStream) : Type 0 where
   pub is : IsTrue (is_one t own)
   pub speaks : is_silent t own ≡ false
+  pub other : t ≢ HOUSE
 
 -- what an own stream gives comes from one that gives something
 abbrev pub GivesOwn : List Mark → Mark → Type 0

@@ -11,7 +11,7 @@ use Rattle.mux_history.specs.declared.ended.Ended.{Ended}
 use Rattle.mux_history.specs.declared.ended.Ended.TheVariants.{ServerFailed, Spent, StartRefused}
 use Rattle.mux_history.specs.declared.limits.TheConstants.{HOUSE}
 use Rattle.mux_machine.specs.State.{State}
-use Rattle.mux_engine.specs.Came.{Came, EndedBy, EndsFor, OverBy}
+use Rattle.mux_engine.specs.Came.{Came, EndsFor, OverBy}
 use Rattle.mux_engine.specs.Counted.{Stops}
 use Rattle.mux_engine.specs.Owned.{IsOffered}
 use Rattle.mux_engine.specs.Sides.{Housed}
@@ -119,7 +119,7 @@ pub record HasEnded (present : Bool) (refused : Option ℕ) (answer : Ended) (ol
     (faults faults' : Faults) : Type 0 where
   pub permitted : (index : ℕ) → answer ≡ StartRefused index → refused ≡ Some index
   pub failed : answer ≡ ServerFailed → Rose faults.server faults'.server
-  pub by_count : EndedBy present answer old.calls new.calls
+  pub by_count : OverBy present (Some answer) old.calls new.calls
 
 -- the calls of the wire that a run made
 pub record HasCalled (present : Bool) (turns : ℕ) (answer : Ended) (old new : WireState) :

@@ -5,6 +5,8 @@ ghost use Rattle.mux_outside.specs.HouseCalls.{HandsOn, Turns, happening_of};
 ghost use Rattle.mux_history.specs.declared.ended.Ended.TheVariants.{OutOfMemory as WantOfMemory};
 ghost use Rattle.mux_history.specs.declared.limits.TheConstants.{HOUSE as TheHouse};
 ghost use Rattle.mux_machine.specs.Events.{went_of, here};
+ghost use Rattle.mux_engine.specs.Called.{HasSaidNothing, StandsGreeting};
+ghost use Rattle.mux_engine.specs.Came.{EndedBy};
 ghost use Rattle.mux_engine.specs.Counted.{Cut, Spent, Turned, Well};
 ghost use Rattle.mux_engine.specs.Rests.{EndsSo, GoesOnSo, HasCalled, HasEnded, HasNoneToClose};
 ghost use Rattle.mux_engine.specs.Rests.{IsReadyFor, KnowsPlaces, ended_as, refusal_after, refusal_of};
@@ -99,9 +101,11 @@ fn turn<W: Wire, H: House>(
     }
 }
 
-// The forwarding of the start that ends the run, since it was refused.
+// The forwarding of the start that ends the run, since it was refused. A house that is present says
+// by this that it greets first.
 fn refusal<H: House>(house: &H) -> Option<usize>
-    ensures { result ≡ refusal_of (H.state house.now) }
+    ensures refused { result ≡ refusal_of (H.state house.now) }
+    ensures greets { StandsGreeting (H.state house.now).known.present (H.state house.now).stands }
 {
     if !house.present() || !house.must() {
         return None;
@@ -211,14 +215,17 @@ fn turns_of<W: Wire, H: House>(
     Ok(true)
 }
 
-// Why a run ended, with its turns spent unless something else ended it.
+// Why a run ended, with its turns spent unless something else ended it. A house that is present says
+// by this that it greets first.
 fn answer_of<H: House>(engine: &Engine, house: &H) -> Ended
-    ensures { result ≡ ended_as engine.now.ended (refusal_of (H.state house.now)) }
+    ensures answer { result ≡ ended_as engine.now.ended (refusal_of (H.state house.now)) }
+    ensures greets { StandsGreeting (H.state house.now).known.present (H.state house.now).stands }
 {
+    let refused = refusal(house);
     if let Some(cause) = engine.ended() {
         return cause;
     }
-    match refusal(house) {
+    match refused {
         Some(index) => Ended::StartRefused { index },
         None => Ended::Spent,
     }
@@ -344,6 +351,8 @@ fn run<W: Wire, H: House>(
     ensures ended { IfOk result (λ answer. HasEnded (H.state house.old).known.present
         (refusal_after (H.state house.old) (H.state house.new)) answer (W.state wire.old)
         (W.state wire.new) (W.faults wire.old) (W.faults wire.new)) }
+    ensures greets { OnOk result (StandsGreeting (H.state house.old).known.present
+        (H.state house.new).stands) }
     ensures calls { HasCalled (H.state house.old).known.present turns
         (result_unwrap_or result WantOfMemory) (W.state wire.old) (W.state wire.new) }
     ensures unopened { (H.state house.old).known.present ≡ false
@@ -380,7 +389,8 @@ fn run<W: Wire, H: House>(
 /// was counted, unless that count stands at its last value. Whatever the wire tells, its counts show
 /// what came: the run ends as the server disconnects or breaks the protocol only where a piece of it
 /// came, or its end inside a frame, as it ends only where its end came, and as a client says only
-/// where a piece of a client came, unless that is the house.
+/// where a piece of a client came: a house that has said nothing before greets first, and behind its
+/// greeting it ends no run.
 pub fn serve<W: Wire, H: House>(
     alloc: Global,
     policy: Policy,
@@ -397,6 +407,8 @@ pub fn serve<W: Wire, H: House>(
     ensures ended { HasEnded (H.state house.old).known.present
         (refusal_after (H.state house.old) (H.state house.new)) result (W.state wire.old)
         (W.state wire.new) (W.faults wire.old) (W.faults wire.new) }
+    ensures came { HasSaidNothing (H.state house.old) → EndedBy result (W.state wire.old).calls
+        (W.state wire.new).calls }
     ensures calls { HasCalled (H.state house.old).known.present turns result (W.state wire.old)
         (W.state wire.new) }
     ensures unopened { (H.state house.old).known.present ≡ false

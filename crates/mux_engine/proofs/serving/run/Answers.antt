@@ -19,6 +19,7 @@ returns-in_err-enter g c = let r = c.from_residual in let i = c.enter.ensures.wi
   ran = λ before policy pid start v z. ran-starved _ _ c.args.turns 0 r.result r.ensures.0 (omega arith) (c.in_err-enter.ensures.serving c.args.house.now [] before policy pid start [] [] 0 v z);
   must = refl;
   ended = on-err r.result _ _ r.ensures.0 tt;
+  greets = on-err r.result _ _ r.ensures.0 tt;
   calls = record {
     came = came-same _ _ i.untouched.calls;
     stops = stops-starved r.result _ c.args.turns _ _ r.ensures.0 (cut-idle c.args.turns _ _ i.untouched.calls);
@@ -62,6 +63,7 @@ returns-in_err-all g c = let r = c.from_residual-in_err-all in let i = c.enter.e
       (t.serving c.args.house.now [] before policy pid start (hands-none (g.H.Asks.state c.args.house.now).stands) (none-held _ _ c.new-lists.ensures.held c.new-lists.ensures.failed (c.in_ok-enter.ensures.serving c.args.house.now [] before policy pid start [] [] 0 v z).0));
   must = t.house.must;
   ended = on-err r.result _ _ r.ensures.0 tt;
+  greets = on-err r.result _ _ r.ensures.0 tt;
   calls = record {
     came = came-then _ _ _ (came-same _ _ i.untouched.calls) t.calls.came;
     stops = stops-starved r.result _ c.args.turns _ _ r.ensures.0 (cut-from c.args.turns _ _ _ i.untouched.calls t.calls);
@@ -99,6 +101,7 @@ returns-in_err-finish g c = let H = g.H.Asks in let r = c.from_residual-in_err-f
       (promised-is (λ b. RestsOf H.state b c.args.house.now) _ _ t.house.present (f.serving c.args.house.now handed.all before policy pid start spent.given handed.hands (present-is (λ b. RestsOf H.state b c.args.house.now) _ _ (sym t.house.present) spent.serving)));
   must = f.house.must ∙ t.house.must;
   ended = on-err r.result _ _ r.ensures.0 tt;
+  greets = on-err r.result _ _ r.ensures.0 tt;
   calls = record {
     came = came-then _ _ _ (came-then _ _ _ (came-same _ _ i.untouched.calls) t.calls.came) f.wire.calls.came;
     stops = stops-starved r.result _ c.args.turns _ _ r.ensures.0 (spent-cuts _ _ c.args.turns _ _ _ (spent-from _ _ c.args.turns _ _ _ i.untouched.calls t.calls) f.wire.calls);
@@ -113,7 +116,7 @@ returns-in_err-finish g c = let H = g.H.Asks in let r = c.from_residual-in_err-f
 pub returns : goal.returns
 returns g c = let H = g.H.Asks in let W = g.W.Wire in let p = (H.state c.args.house.now).known.present in
     let i = c.enter.ensures.wire in let t = c.in_ok-all.ensures in let f = c.in_ok-finish.ensures in
-    let is = answer-is c.answer_of.result c.finish.new.engine.ended _ _ _ _ (f.house.known.present ∙ t.house.present) c.answer_of.ensures in record {
+    let is = answer-is c.answer_of.result c.finish.new.engine.ended _ _ _ _ (f.house.known.present ∙ t.house.present) c.answer_of.ensures.answer in record {
       ran = λ before policy pid start v z.
           let handed = t.serving c.args.house.now [] before policy pid start (hands-none (H.state c.args.house.now).stands) (none-held _ _ c.new-lists.ensures.held c.new-lists.ensures.failed (c.in_ok-enter.ensures.serving c.args.house.now [] before policy pid start [] [] 0 v z).0) in
           let spent = handed.so in
@@ -125,11 +128,12 @@ returns g c = let H = g.H.Asks in let W = g.W.Wire in let p = (H.state c.args.ho
       ended = record {
         permitted = λ index e. refused-whole c.answer_of.result c.turns_of.new.engine.ended c.finish.new.engine.ended (W.faults c.turns_of.new.wire) (W.faults c.finish.new.wire) _ index t.ended.by_row f.ended is e;
         failed = failed-whole c.answer_of.result c.turns_of.new.engine.ended c.finish.new.engine.ended (W.faults c.args.wire.now) (W.faults c.enter.new.wire) (W.faults c.turns_of.new.wire) (W.faults c.finish.new.wire) _ (keeps-idle i).later t.wire.later t.ended.failed f.ended is;
-        by_count = over-answer p c.answer_of.result c.finish.new.engine.ended _ (W.state c.args.wire.now).calls (W.state c.finish.new.wire).calls c.answer_of.ensures
+        by_count = over-answer p c.answer_of.result c.finish.new.engine.ended _ (W.state c.args.wire.now).calls (W.state c.finish.new.wire).calls c.answer_of.ensures.answer
             (over-offered p c.turns_of.new.engine.ended c.finish.new.engine.ended _ _ (W.state c.args.wire.now).calls (W.state c.turns_of.new.wire).calls (W.state c.finish.new.wire).calls f.ended
             (over-later p c.turns_of.new.engine.ended (W.state c.args.wire.now).calls (W.state c.enter.new.wire).calls (W.state c.turns_of.new.wire).calls (came-same _ _ i.untouched.calls) t.ended.by_count)
             f.wire.calls.came);
       };
+      greets = λ there. c.answer_of.ensures.greets ((f.house.known.present ∙ t.house.present) ∙ there);
       calls = record {
         came = came-then _ _ _ (came-then _ _ _ (came-same _ _ i.untouched.calls) t.calls.came) f.wire.calls.came;
         stops = stops-whole p _ (H.state c.finish.new.house).must c.args.turns c.answer_of.result _ _ _ _ c.turns_of.new.engine.ended c.finish.new.engine.ended (W.faults c.turns_of.new.wire) (W.faults c.finish.new.wire) (H.state c.finish.new.house).refused

@@ -6,6 +6,7 @@ use Rattle.mux_engine.proofs.Answering.{alone-blank, housed-blank}
 use Rattle.mux_engine.proofs.Comes.{came-none}
 use Rattle.mux_engine.proofs.Counting.{cut-none}
 use Rattle.mux_engine.proofs.Ending.{ended-starved}
+use Rattle.mux_engine.proofs.Greeted.{run-came}
 use Rattle.mux_engine.proofs.Runs.{ends-starved, starts, starts-starved}
 use Rattle.mux_engine.proofs.Spending.{stops-cut}
 use Rattle.mux_engine.proofs.Wired.{keeps-none, no-fault-none}
@@ -23,6 +24,7 @@ returns-in_default g c =
           (starts-starved H.may Rest house.told c.args.policy c.args.pid wire.seen.told c.args.turns);
       must = refl;
       ended = ended-starved _ _ _ _ _ _;
+      came = λ silent. tt;
       calls = record { came = came-none _; stops = stops-cut _ c.args.turns _ _ (cut-none c.args.turns _) };
       unopened = λ p. refl;
       places = λ some. absurd (some refl);
@@ -67,6 +69,13 @@ returns-clause-kept g c = let H = g.H.Asks in let r = c.requires in let o = r.op
     let start = starts H.may (RestsOf H.state (H.state c.args.house.now).known.present c.args.house.now) (outside (H.state c.args.house.now).told (H.state c.args.house.now).known []) c.args.policy c.args.pid (g.W.Wire.state c.args.wire.now).seen c.in-Ok.engine
     e.stands e.policy e.pid e.clients e.refused (ap (λ (k : Known). k.asks) r.blank) refl refl refl o.server_alone o.none_blocked o.listens o.own o.listeners in
     c.in-Err.ensures.ran (H.state c.args.house.now).told c.args.policy c.args.pid (g.W.Wire.state c.args.wire.now).seen.told start.0 start.1
+
+pub returns-in-Ok-run-clause-came : goal.returns-in-Ok-run-clause-came
+returns-in-Ok-run-clause-came g c = let H = g.H.Asks in
+    run-came (H.state c.args.house.now) (H.state c.run.new.house).stands _ _ c.args.turns _ _ _ _ _ c.in-Ok-run.ended _ _ (returns-in-Ok-run-clause-kept g c) (λ some. c.in-Ok-run.ensures.greets) c.in-Ok-run.ensures.ended.by_count
+
+pub returns-clause-came : goal.returns-clause-came
+returns-clause-came g c = λ silent. tt
 
 pub returns-clause-ended : goal.returns-clause-ended
 returns-clause-ended g c = ended-starved _ _ _ _ _ _

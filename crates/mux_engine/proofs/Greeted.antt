@@ -1,0 +1,397 @@
+-- A house that greets first ends no run: what it says behind the greeting is read as frames of SSH
+-- messages.
+use Rattle.std.proofs.Common.{◌≡◌, ◌≢◌, ℕ, zero, suc, Bool, true, false, List, [], ◌∷◌, ◌++◌, length, map, drop, Option, Some, None, refl, sym, ap, ◌∙◌, subst, inl, inr, ◌⊎◌, append_assoc, append-nil, cond}
+use Rattle.std.specs.Prelude.{◌==◌, nat_lt, IsTrue}
+use Rattle.std.specs.List.{list_any}
+use Rattle.std.proofs.lemmas.Bool.Decides.{eqb_tells}
+use Rattle.ssh_grammar.specs.declared.fault.BadFrame.{BadFrame}
+use Rattle.ssh_grammar.specs.declared.framing.Framing.TheVariants as framing
+use Rattle.ssh_grammar.specs.declared.numbers.TheConstants.{VERSION}
+use Rattle.ssh_grammar.specs.Control.{Answer, Greets}
+use Rattle.ssh_grammar.specs.Frames.{cut, frame_answer}
+use Rattle.ssh_grammar.specs.Laws.{faults}
+use Rattle.ssh_grammar.specs.Said.{Saying, Body, Payload, BadFraming, InControl, InProxy, Parsed, parse, said}
+use Rattle.ssh_grammar.proofs.Parses.{parse-append}
+use Rattle.ssh_grammar.proofs.Said.{payloads}
+use Rattle.mux_outside.specs.Greeting.{GreetsFirst}
+use Rattle.mux_outside.specs.House.{HouseState}
+use Rattle.mux_outside.specs.Seen.{Seen}
+use Rattle.mux_outside.specs.HouseCalls.{Begins, HandsOn, Hears, HouseCall, Marks, Takes, Turns}
+use Rattle.mux_outside.specs.HouseCalls as call
+use Rattle.mux_outside.specs.CallCounts.{CallCounts}
+use Rattle.mux_outside.specs.OwnStreams.{is_own}
+use Rattle.mux_outside.specs.declared.greeting.TheConstants.{GREETING}
+use Rattle.mux_outside.specs.declared.house.HouseReply.{HouseReply}
+use Rattle.mux_outside.specs.declared.house_mark.HouseMark.{HouseMark}
+use Rattle.mux_outside.specs.declared.house_mark.HouseMark.TheVariants.{HouseIn, HouseSaid, HouseTook, HouseAsked, HouseAnswer, HouseOrder}
+use Rattle.mux_outside.specs.declared.mark.Mark.{Mark}
+use Rattle.mux_outside.specs.declared.mark.Mark.TheVariants as mark
+use Rattle.mux_history.specs.declared.ended.Ended.{Ended}
+use Rattle.mux_history.specs.declared.ended.Ended.TheVariants as ended
+use Rattle.mux_history.specs.declared.limits.TheConstants.{HOUSE, MAX_CLIENTS}
+use Rattle.mux_history.specs.Controls.{answers_ask, answers_maybe, house_answer, greeted, house_says, in_proxy, said_body}
+use Rattle.mux_history.specs.Journal.{bytes_in, bytes_of, heard_item, house_items, house_said, is_own_stream, items_in, log_of_journal, new_heard, new_sayings, said_item, server_end, unless_own}
+use Rattle.mux_history.specs.Log.{Setting, admits, more_all, more_of, next_row, open_matters, row_of, said_by_client}
+use Rattle.mux_history.specs.Pending.{pending}
+use Rattle.mux_history.specs.Policy.{Policy}
+use Rattle.mux_history.specs.Promises.{Throughout}
+use Rattle.mux_history.specs.Promises.{EndsAs as AnswersAs}
+use Rattle.mux_history.specs.Rows.{Row, rows_of, Item, Admit, Says, Gone, Fate, Goes, Refused, Drop, End}
+use Rattle.mux_history.specs.Rows as row
+use Rattle.mux_history.specs.Said.{Outcome, silent, tells}
+use Rattle.mux_history.specs.Settings.{by_lists}
+use Rattle.mux_history.specs.Solo.{end_of}
+use Rattle.mux_engine.specs.Called.{HasSaidNothing, StandsGreeting, calls_at, calls_in, house_calls, is_piece}
+use Rattle.mux_engine.specs.Came.{EndedBy, EndsFor, OverBy}
+use Rattle.mux_engine.specs.Places.{GivesOwn}
+use Rattle.mux_engine.specs.Run.{IsRun}
+use Rattle.mux_engine.specs.Sides.{AtWaits}
+use Rattle.mux_engine.proofs.Fates.{EndsAs, EndsHeard, Fine, fine-payload, heard-ends, lives-as, one-ends, row-as, said-as, said-for}
+
+-- ---- what the house said, by its calls
+
+abbrev piece : HouseCall → List ℕ
+piece (Marks (HouseSaid bytes)) = bytes
+piece call = []
+
+abbrev pieces : List HouseCall → List ℕ
+pieces [] = []
+pieces (call ∷ later) = piece call ++ pieces later
+
+pieces-append : (a b : List HouseCall) → pieces (a ++ b) ≡ pieces a ++ pieces b
+pieces-append [] b = refl
+pieces-append (call ∷ a) b = ap (λ l. piece call ++ l) (pieces-append a b) ∙ sym (append_assoc (piece call) (pieces a) (pieces b))
+
+own-pieces : (b : Bool) (one : HouseCall) → piece one ≡ [] → pieces (cond b (one ∷ []) []) ≡ []
+own-pieces true one none = ap (λ l. l ++ []) none
+own-pieces false one none = refl
+
+-- the house itself has no stream that gives anything
+gives-other : (before : List Mark) (t : ℕ) (bytes : List ℕ) → GivesOwn before (mark.Gets t bytes) → t ≢ HOUSE
+gives-other before t bytes gives e = (gives (subst (λ (i : ℕ). IsTrue (is_own i)) (sym e) refl)).other e
+
+other-bytes : (t : ℕ) (bytes : List ℕ) → t ≢ HOUSE → bytes_in HOUSE (mark.Gets t bytes) ≡ []
+other-bytes t bytes ne = elim (eqb_tells t HOUSE) [
+  | inl p ↦ absurd (ne p.1)
+  | inr p ↦ ap (λ b. elim b as (λ _. List ℕ) [ true ↦ bytes | false ↦ [] ]) p.0
+]
+
+house-pieces : (waiting : List ℕ) (m : HouseMark) → pieces (house_calls waiting m) ≡ house_said m
+house-pieces waiting HouseIn = refl
+house-pieces waiting (HouseSaid bytes) = append-nil bytes
+house-pieces waiting (HouseTook size) = refl
+house-pieces waiting (HouseAsked client id opening ask reply) = refl
+house-pieces waiting (HouseAnswer client id reply) = refl
+house-pieces waiting (HouseOrder order number) = refl
+
+mark-pieces : (set : Setting) (before : List Mark) (m : Mark) → GivesOwn before m → pieces (calls_at set before m) ≡ bytes_in HOUSE m
+mark-pieces set before (mark.Waits waiting want streams listens) gives = refl
+mark-pieces set before (mark.Accepts k) gives = refl
+mark-pieces set before (mark.Gets t bytes) gives = own-pieces (is_own t) (Turns (call.Got t bytes)) refl ∙ sym (other-bytes t bytes (gives-other before t bytes gives))
+mark-pieces set before (mark.Ends t) gives = own-pieces (is_own t) (Turns (call.End t)) refl
+mark-pieces set before (mark.Frees t) gives = own-pieces (is_own t) (Turns (call.Writable t)) refl
+mark-pieces set before (mark.Fails t) gives = own-pieces (is_own t) (Turns (call.Failed t)) refl
+mark-pieces set before (mark.Takes t bytes) gives = own-pieces (is_own t) (Takes t (length bytes)) refl
+mark-pieces set before (mark.Holds t) gives = refl
+mark-pieces set before (mark.WriteFails t) gives = own-pieces (is_own t) (Turns (call.Failed t)) refl
+mark-pieces set before (mark.Joins l t) gives = refl
+mark-pieces set before (mark.House m) gives = house-pieces (pending HOUSE (log_of_journal set before)) m
+
+journal-pieces : (set : Setting) (journal : List Mark) → Throughout GivesOwn journal → bytes_of HOUSE journal ≡ pieces (calls_in set journal)
+journal-pieces set [] gives = refl
+journal-pieces set (m ∷ before) gives =
+    ap (λ l. l ++ bytes_in HOUSE m) (journal-pieces set before gives.1)
+    ∙ (ap (λ l. pieces (calls_in set before) ++ l) (sym (mark-pieces set before m gives.0)) ∙ sym (pieces-append (calls_in set before) (calls_at set before m)))
+
+-- ---- which greet first
+
+greets-before : (a b : List HouseCall) → GreetsFirst (a ++ b) → GreetsFirst a
+greets-before [] b h = tt
+greets-before (Begins starts ∷ a) b h = greets-before a b h
+greets-before (Marks HouseIn ∷ a) b h = greets-before a b h
+greets-before (Marks (HouseSaid bytes) ∷ a) b h = h
+greets-before (Marks (HouseTook size) ∷ a) b h = greets-before a b h
+greets-before (Marks (HouseAsked client id opening ask reply) ∷ a) b h = greets-before a b h
+greets-before (Marks (HouseAnswer client id reply) ∷ a) b h = greets-before a b h
+greets-before (Marks (HouseOrder order number) ∷ a) b h = greets-before a b h
+greets-before (Hears bytes ∷ a) b h = greets-before a b h
+greets-before (Turns happening ∷ a) b h = greets-before a b h
+greets-before (Takes stream size ∷ a) b h = greets-before a b h
+
+-- behind calls of which none gave a piece
+pub greets-behind : (a b : List HouseCall) → list_any is_piece a ≡ false → GreetsFirst (a ++ b) → GreetsFirst b
+greets-behind [] b none h = h
+greets-behind (Begins starts ∷ a) b none h = greets-behind a b none h
+greets-behind (Marks HouseIn ∷ a) b none h = greets-behind a b none h
+greets-behind (Marks (HouseSaid bytes) ∷ a) b none h = absurd (cc)
+greets-behind (Marks (HouseTook size) ∷ a) b none h = greets-behind a b none h
+greets-behind (Marks (HouseAsked client id opening ask reply) ∷ a) b none h = greets-behind a b none h
+greets-behind (Marks (HouseAnswer client id reply) ∷ a) b none h = greets-behind a b none h
+greets-behind (Marks (HouseOrder order number) ∷ a) b none h = greets-behind a b none h
+greets-behind (Hears bytes ∷ a) b none h = greets-behind a b none h
+greets-behind (Turns happening ∷ a) b none h = greets-behind a b none h
+greets-behind (Takes stream size ∷ a) b none h = greets-behind a b none h
+
+-- nothing, or the greeting and more
+abbrev Greeting : List ℕ → Type 0
+Greeting bytes = (bytes ≡ []) ⊎ ((rest : List ℕ) × (bytes ≡ GREETING.now ++ rest))
+
+greeting-pieces : (calls : List HouseCall) → GreetsFirst calls → Greeting (pieces calls)
+greeting-pieces [] h = inl refl
+greeting-pieces (Begins starts ∷ later) h = greeting-pieces later h
+greeting-pieces (Marks HouseIn ∷ later) h = greeting-pieces later h
+greeting-pieces (Marks (HouseSaid bytes) ∷ later) h = inr (pieces later, ap (λ l. l ++ pieces later) h)
+greeting-pieces (Marks (HouseTook size) ∷ later) h = greeting-pieces later h
+greeting-pieces (Marks (HouseAsked client id opening ask reply) ∷ later) h = greeting-pieces later h
+greeting-pieces (Marks (HouseAnswer client id reply) ∷ later) h = greeting-pieces later h
+greeting-pieces (Marks (HouseOrder order number) ∷ later) h = greeting-pieces later h
+greeting-pieces (Hears bytes ∷ later) h = greeting-pieces later h
+greeting-pieces (Turns happening ∷ later) h = greeting-pieces later h
+greeting-pieces (Takes stream size ∷ later) h = greeting-pieces later h
+
+journal-greets : (set : Setting) (journal : List Mark) → Throughout GivesOwn journal → GreetsFirst (calls_in set journal) → Greeting (bytes_of HOUSE journal)
+journal-greets set journal gives greets = subst Greeting (sym (journal-pieces set journal gives)) (greeting-pieces (calls_in set journal) greets)
+
+-- ---- what is said so
+
+-- a control message that ends no run, whether or not the client has greeted
+abbrev Calm : Saying → Type 0
+Calm (Body body) = (pid k : ℕ) (given : Option HouseReply) (greeted : Bool) → Fine (said_body pid k given greeted body)
+Calm saying = Unit {0}
+
+abbrev AllCalm : List Saying → Type 0
+AllCalm [] = Unit {0}
+AllCalm (x ∷ xs) = Calm x × AllCalm xs
+
+calm-drop : (n : ℕ) (xs : List Saying) → AllCalm xs → AllCalm (drop n xs)
+calm-drop zero xs h = h
+calm-drop (suc n) [] h = tt
+calm-drop (suc n) (x ∷ xs) h = calm-drop n xs h.1
+
+calm-faults : (fault : Option BadFrame) → AllCalm (faults fault)
+calm-faults None = tt
+calm-faults (Some fault) = (tt, tt)
+
+calm-payloads : (payloads : List (List ℕ)) (fault : Option BadFrame) → AllCalm (map Payload payloads ++ faults fault)
+calm-payloads [] fault = calm-faults fault
+calm-payloads (p ∷ payloads) fault = (tt, calm-payloads payloads fault)
+
+calm-proxy : (bytes : List ℕ) → AllCalm (parse InProxy bytes).says
+calm-proxy bytes = subst AllCalm (sym (payloads bytes)) (calm-payloads (cut framing.Proxy bytes).frames (cut framing.Proxy bytes).fault)
+
+-- the two messages of the greeting
+abbrev hello : List ℕ
+hello = 0 ∷ 0 ∷ 0 ∷ 1 ∷ 0 ∷ 0 ∷ 0 ∷ 4 ∷ []
+
+abbrev proxy : List ℕ
+proxy = 16 ∷ 0 ∷ 0 ∷ 15 ∷ 0 ∷ 0 ∷ 0 ∷ 0 ∷ []
+
+greeting-read : parse InControl GREETING.now ≡ record { says = Body hello ∷ Body proxy ∷ []; mode = InProxy; rest = [] }
+greeting-read = refl
+
+calm-hello : Calm (Body hello)
+calm-hello pid k given true = tt
+calm-hello pid k given false = tt
+
+calm-proxying : Calm (Body proxy)
+calm-proxying pid k given true = tt
+calm-proxying pid k given false = tt
+
+said-behind : (rest : List ℕ) → said (GREETING.now ++ rest) ≡ Body hello ∷ Body proxy ∷ (parse InProxy rest).says
+said-behind rest = ap (λ (p : Parsed). p.says) (parse-append InControl GREETING.now rest)
+
+calm-said : (bytes : List ℕ) → Greeting bytes → AllCalm (said bytes)
+calm-said bytes (inl none) = subst (λ l. AllCalm (said l)) (sym none) tt
+calm-said bytes (inr more) = subst (λ l. AllCalm (said l)) (sym more.1) (subst AllCalm (sym (said-behind more.0)) (calm-hello, (calm-proxying, calm-proxy more.0)))
+
+-- ---- rows that don't end the run for the house
+
+abbrev pub ByOther : Option Ended → Type 0
+ByOther (Some (ended.Terminated k id)) = k ≢ HOUSE
+ByOther end = Unit {0}
+
+for-other : (k : ℕ) (f : Fate) → k ≢ HOUSE → EndsAs (EndsFor k) f → EndsAs ByOther f
+for-other k (End (ended.Terminated client id)) ne h = λ e. ne (sym h ∙ e)
+for-other k (End ended.ServerEnd) ne h = tt
+for-other k (End ended.Disconnected) ne h = tt
+for-other k (End ended.ServerFailed) ne h = tt
+for-other k (End (ended.Broke index why)) ne h = tt
+for-other k (End (ended.StartRefused index)) ne h = tt
+for-other k (End ended.Spent) ne h = tt
+for-other k (End ended.OutOfMemory) ne h = tt
+for-other k Goes ne h = tt
+for-other k Refused ne h = tt
+for-other k (Drop why) ne h = tt
+
+heard-other : (f : Fate) → EndsAs EndsHeard f → EndsAs ByOther f
+heard-other (End (ended.Terminated client id)) h = absurd h
+heard-other (End ended.ServerEnd) h = tt
+heard-other (End ended.Disconnected) h = tt
+heard-other (End ended.ServerFailed) h = tt
+heard-other (End (ended.Broke index why)) h = tt
+heard-other (End (ended.StartRefused index)) h = tt
+heard-other (End ended.Spent) h = tt
+heard-other (End ended.OutOfMemory) h = tt
+heard-other Goes h = tt
+heard-other Refused h = tt
+heard-other (Drop why) h = tt
+
+fine-admits : (rows : List Row) → Fine (admits rows)
+fine-admits rows = by_room (nat_lt (open_matters rows) MAX_CLIENTS)
+  where
+    by_room : (b : Bool) → Fine (elim b as (λ _. Outcome) [ true ↦ tells (frame_answer (Greets VERSION)) | false ↦ record { sent = []; told = []; ends = Refused } ])
+    by_room true = tt
+    by_room false = tt
+
+fine-maybe : (o : Option Answer) → Fine (answers_maybe o)
+fine-maybe None = tt
+fine-maybe (Some answer) = tt
+
+fine-house : (own : List Row) (id : ℕ) (given : HouseReply) → Fine (house_says own id given)
+fine-house own id given = by_proxy (in_proxy own)
+  where
+    by_proxy : (b : Bool) → Fine (elim b as (λ _. Outcome) [ true ↦ silent | false ↦ answers_ask true id (Some given) ])
+    by_proxy true = tt
+    by_proxy false = fine-maybe (house_answer true id given)
+
+module _ (policy : Policy) (pid : ℕ) (picks : List ℕ) (given : List HouseReply) where
+  abbrev set : Setting
+  set = by_lists policy pid picks given
+
+  -- an item whose row doesn't
+  abbrev Spares : Item → Type 0
+  Spares item = (rows : List Row) → EndsAs ByOther (next_row set rows item).fate
+
+  abbrev AllSpare : List Item → Type 0
+  AllSpare [] = Unit {0}
+  AllSpare (item ∷ items) = Spares item × AllSpare items
+
+  all-other : (items : List Item) (rows : List Row) → AllSpare items → ByOther (end_of rows) → ByOther (end_of (more_all set rows items))
+  all-other [] rows spare h = h
+  all-other (item ∷ items) rows spare h = all-other items (more_of set rows item) spare.1 (one-ends ByOther policy pid picks given item rows (spare.0 rows) h)
+
+  -- what another client says
+  spare-client : (k : ℕ) → k ≢ HOUSE → (xs : List Saying) → AllSpare (map (said_item k) xs)
+  spare-client k ne [] = tt
+  spare-client k ne (x ∷ xs) = (λ rows. for-other k (next_row set rows (said_item k x)).fate ne (said-for policy pid picks given k x rows), spare-client k ne xs)
+
+  -- what the house says calmly
+  calm-says : (x : Saying) → Calm x → (own : List Row) (pick : ℕ) (reply : Option HouseReply) → Fine (said_by_client policy pid HOUSE own pick x reply)
+  calm-says (Body body) h own pick reply = h pid HOUSE reply (greeted own)
+  calm-says (Payload p) h own pick reply = fine-payload policy HOUSE own pick p
+  calm-says (BadFraming fault) h own pick reply = tt
+
+  spare-house : (xs : List Saying) → AllCalm xs → AllSpare (map (said_item HOUSE) xs)
+  spare-house [] h = tt
+  spare-house (x ∷ xs) h =
+      (said-as ByOther policy pid picks given HOUSE x (λ own pick reply. lives-as ByOther (said_by_client policy pid HOUSE own pick x reply).ends (calm-says x h.0 own pick reply)), spare-house xs h.1)
+
+  -- what the server says
+  spare-heard : (xs : List Saying) → AllSpare (map heard_item xs)
+  spare-heard [] = tt
+  spare-heard (x ∷ xs) = (λ rows. heard-other (next_row set rows (heard_item x)).fate (heard-ends policy pid picks given x rows), spare-heard xs)
+
+  spare-end : (rest : List ℕ) → AllSpare (server_end rest ∷ [])
+  spare-end [] = (λ rows. tt, tt)
+  spare-end (b ∷ rest) = (λ rows. tt, tt)
+
+  -- an item of a client that ends nothing
+  spare-row : (item : Item) (k : ℕ) (o : List Row → Outcome) → ((rows : List Row) → Fine (o rows)) → (rows : List Row) → EndsAs ByOther (row_of item k (o rows) (rows_of k rows)).fate
+  spare-row item k o fine rows = row-as ByOther item k (o rows) (rows_of k rows) (lives-as ByOther (o rows).ends (fine rows))
+
+  spare-admit : (k : ℕ) → AllSpare (Admit k ∷ [])
+  spare-admit k = (spare-row (Admit k) k admits fine-admits, tt)
+
+  spare-gone : (k : ℕ) → AllSpare (Gone k ∷ [])
+  spare-gone k = (spare-row (Gone k) k (λ rows. silent) (λ rows. tt), tt)
+
+  unless-spare : (b : Bool) (items : List Item) → AllSpare items → AllSpare (elim b as (λ _. List Item) [ true ↦ [] | false ↦ items ])
+  unless-spare true items h = tt
+  unless-spare false items h = h
+
+  spare-fails : (k : ℕ) → AllSpare (items_in [] (mark.Fails k))
+  spare-fails k = by_stream (k == 0)
+    where
+      by_stream : (b : Bool) → AllSpare (elim b as (λ _. List Item) [ true ↦ row.ServerFailed ∷ [] | false ↦ unless_own k (Gone k ∷ []) ])
+      by_stream true = (λ rows. tt, tt)
+      by_stream false = unless-spare (is_own_stream k) (Gone k ∷ []) (spare-gone k)
+
+  -- all items of a mark
+  spare-marked : (before : List Mark) (m : HouseMark) → AllCalm (said (bytes_of HOUSE before ++ house_said m)) → AllSpare (house_items before m)
+  spare-marked before HouseIn calm = spare-admit HOUSE
+  spare-marked before (HouseSaid bytes) calm = spare-house (drop (length (said (bytes_of HOUSE before))) (said (bytes_of HOUSE before ++ bytes))) (calm-drop (length (said (bytes_of HOUSE before))) (said (bytes_of HOUSE before ++ bytes)) calm)
+  spare-marked before (HouseTook size) calm = (λ rows. tt, tt)
+  spare-marked before (HouseAsked client id opening ask reply) calm = tt
+  spare-marked before (HouseAnswer client id reply) calm = (spare-row (row.HouseSays client id reply) client (λ rows. house_says (rows_of client rows) id reply) (λ rows. fine-house (rows_of client rows) id reply), tt)
+  spare-marked before (HouseOrder order number) calm = tt
+
+  spare-gets : (before : List Mark) (k : ℕ) (bytes : List ℕ) → k ≢ HOUSE → AllSpare (items_in before (mark.Gets k bytes))
+  spare-gets before k bytes ne = by_stream (k == 0)
+    where
+      by_stream : (b : Bool) → AllSpare (elim b as (λ _. List Item) [ true ↦ new_heard (bytes_of 0 before) (bytes_of 0 before ++ bytes) | false ↦ unless_own k (new_sayings k (bytes_of k before) (bytes_of k before ++ bytes)) ])
+      by_stream true = spare-heard (drop (length (parse InProxy (bytes_of 0 before)).says) (parse InProxy (bytes_of 0 before ++ bytes)).says)
+      by_stream false = unless-spare (is_own_stream k) (new_sayings k (bytes_of k before) (bytes_of k before ++ bytes)) (spare-client k ne (drop (length (said (bytes_of k before))) (said (bytes_of k before ++ bytes))))
+
+  spare-ends : (before : List Mark) (k : ℕ) → AllSpare (items_in before (mark.Ends k))
+  spare-ends before k = by_stream (k == 0)
+    where
+      by_stream : (b : Bool) → AllSpare (elim b as (λ _. List Item) [ true ↦ server_end (parse InProxy (bytes_of 0 before)).rest ∷ [] | false ↦ unless_own k (Gone k ∷ []) ])
+      by_stream true = spare-end (parse InProxy (bytes_of 0 before)).rest
+      by_stream false = unless-spare (is_own_stream k) (Gone k ∷ []) (spare-gone k)
+
+  spare-in : (before : List Mark) (m : Mark) → GivesOwn before m → AllCalm (said (bytes_of HOUSE (m ∷ before))) → AllSpare (items_in before m)
+  spare-in before (mark.Waits waiting want streams listens) gives calm = tt
+  spare-in before (mark.Accepts k) gives calm = spare-admit k
+  spare-in before (mark.Gets k bytes) gives calm = spare-gets before k bytes (gives-other before k bytes gives)
+  spare-in before (mark.Ends k) gives calm = spare-ends before k
+  spare-in before (mark.Frees k) gives calm = tt
+  spare-in before (mark.Fails k) gives calm = spare-fails k
+  spare-in before (mark.Takes k bytes) gives calm = unless-spare (is_own_stream k) (row.Took k (length bytes) ∷ []) (λ rows. tt, tt)
+  spare-in before (mark.Holds k) gives calm = tt
+  spare-in before (mark.WriteFails k) gives calm = spare-fails k
+  spare-in before (mark.Joins l k) gives calm = tt
+  spare-in before (mark.House m) gives calm = spare-marked before m calm
+
+  -- where the calls of the house greet first, no row ends the run for the house
+  pub other-ends : (journal : List Mark) → Throughout GivesOwn journal → GreetsFirst (calls_in set journal) → ByOther (end_of (log_of_journal set journal))
+  other-ends [] gives greets = tt
+  other-ends (m ∷ before) gives greets =
+      all-other (items_in before m) (log_of_journal set before) (spare-in before m gives.0 (calm-said (bytes_of HOUSE (m ∷ before)) (journal-greets set (m ∷ before) gives greets)))
+      (other-ends before gives.1 (greets-before (calls_in set before) (calls_at set before m) greets))
+
+-- ---- the end of a run
+
+-- an answer that the rows give
+answered-other : (turns : ℕ) (marks : List Mark) (refused : Option ℕ) (o : Option Ended) (answer : Ended) → AnswersAs turns marks refused o answer → ByOther o → ByOther (Some answer)
+answered-other turns marks refused (Some cause) answer e h = subst (λ (x : Ended). ByOther (Some x)) (sym e) h
+answered-other turns marks (Some index) None answer e h = subst (λ (x : Ended). ByOther (Some x)) (sym e) tt
+answered-other turns marks None None answer e h = subst (λ (x : Ended). ByOther (Some x)) (sym e.0) tt
+
+-- what came where no house ended it
+counted-other : (present : Bool) (answer : Ended) (a b : CallCounts) → (answer ≢ ended.OutOfMemory → present ≡ true → ByOther (Some answer)) → OverBy present (Some answer) a b → EndedBy answer a b
+counted-other present (ended.Terminated client id) a b other over = over (other (λ e. absurd (let z : ended.Terminated client id ≡ ended.OutOfMemory = e in cc)))
+counted-other present ended.ServerEnd a b other over = over
+counted-other present ended.Disconnected a b other over = over
+counted-other present ended.ServerFailed a b other over = over
+counted-other present (ended.Broke index why) a b other over = over
+counted-other present (ended.StartRefused index) a b other over = over
+counted-other present ended.Spent a b other over = over
+counted-other present ended.OutOfMemory a b other over = over
+
+-- behind calls without a piece the calls of a house greet first, where it greets first by all of them
+greets-since : (present : Bool) (stands stands' : List HouseCall → Type 0) (since : List HouseCall) (calls : List HouseCall) → list_any is_piece calls ≡ false → stands calls → HandsOn stands stands' since → StandsGreeting present stands' → present ≡ true → GreetsFirst since
+greets-since present stands stands' since calls none stood hands greets p = greets-behind calls since none (greets p (calls ++ since) (hands calls stood))
+
+-- what came by the end of a run whose house greets first
+pub run-came : {May : HouseReply → Type 0} {Rest : AtWaits} (house : HouseState) (stands' : List HouseCall → Type 0) (policy : Policy) (pid turns : ℕ) (before now : Option (List HouseMark)) (start : Option (List Mark)) (seen : Seen) (refused : Option ℕ) (answer : Ended) (a b : CallCounts)
+    → IsRun May Rest house.stands stands' house.known.present policy pid turns before now start seen refused answer → (answer ≢ ended.OutOfMemory → StandsGreeting house.known.present stands') → OverBy house.known.present (Some answer) a b → HasSaidNothing house → EndedBy answer a b
+run-came house stands' policy pid turns before now start seen refused answer a b run greets over silent = counted-other house.known.present answer a b other over
+  where
+    set : Setting
+    set = by_lists policy pid run.picks run.replies
+
+    other : answer ≢ ended.OutOfMemory → house.known.present ≡ true → ByOther (Some answer)
+    other ne p = let was = silent p in
+        answered-other turns run.journal refused (end_of (log_of_journal set run.journal)) answer (run.ends ne).end
+        (other-ends policy pid run.picks run.replies run.journal run.own_streams.gives
+        (greets-since house.known.present house.stands stands' (calls_in set run.journal) was.0 was.1.0 was.1.1 (run.handed ne) (greets ne) p))
