@@ -9,6 +9,7 @@ use Rattle.mux_client.specs.declared.asks.Asks.{Asks}
 use Rattle.mux_client.specs.declared.talked.Talked.{Talked}
 use Rattle.mux_client.specs.declared.talked.Talked.TheVariants as talks
 use Rattle.mux_outside.specs.declared.mark.Mark.{Mark}
+use Rattle.mux_outside.specs.Faults.{Faults}
 use Rattle.mux_outside.specs.CallCounts.{CallCounts}
 use Rattle.ssh_mux.specs.declared.ending.Ending.{Ending as MeantEnding}
 use Rattle.ssh_mux.specs.declared.ending.Ending.TheVariants as endings
@@ -46,8 +47,8 @@ joined_after k status ending b n f f' before now r h = carried (λ s. JoinsOnce 
 
 -- ---- counts
 
-pub asked_cause_after : (k : Known) (status : Status) (ending : Ending) (b n : Option (List ℕ)) (f f' s s' c c' : ℕ) → Reports status ending b n f f' → OnTrue (may_ask k (status_of ending)) (WireCause (status_of ending) s s' c c') → OnTrue (may_ask k status) (WireCause status s s' c c')
-asked_cause_after k status ending b n f f' s s' c c' r h = carried (λ x. OnTrue (may_ask k x) (WireCause x s s' c c')) status ending (reported status ending b n f f' r) (on-memory (asks k)) h
+pub asked_cause_after : (k : Known) (status : Status) (ending : Ending) (b n : Option (List ℕ)) (f f' : ℕ) (w w' : Faults) → Reports status ending b n f f' → OnTrue (may_ask k (status_of ending)) (WireCause (status_of ending) w w') → OnTrue (may_ask k status) (WireCause status w w')
+asked_cause_after k status ending b n f f' w w' r h = carried (λ x. OnTrue (may_ask k x) (WireCause x w w')) status ending (reported status ending b n f f' r) (on-memory (asks k)) h
 
 pub asked_waits_after : (k : Known) (turns : ℕ) (status : Status) (ending : Ending) (b n : Option (List ℕ)) (f f' : ℕ) (old calls : CallCounts) → Reports status ending b n f f' → OnTrue (may_ask k (status_of ending)) (TalksFor turns (status_of ending) old calls) → OnTrue (may_ask k status) (TalksFor turns status old calls)
 asked_waits_after k turns status ending b n f f' old calls r h = carried (λ x. OnTrue (may_ask k x) (TalksFor turns x old calls)) status ending (reported status ending b n f f' r) (on-memory (asks k)) h

@@ -9,6 +9,7 @@ use Rattle.mux_outside.specs.declared.mark.Mark.{Mark}
 use Rattle.mux_outside.specs.declared.mark.Opening.{Opening}
 use Rattle.mux_outside.specs.declared.turn.Tally.{Tally}
 use Rattle.mux_outside.specs.Seen.{Seen}
+use Rattle.mux_outside.specs.Faults.{Faults}
 use Rattle.mux_outside.specs.CallCounts.{CallCounts}
 use Rattle.ssh_mux.specs.declared.ending.Ending.{Ending}
 use Rattle.ssh_mux.specs.declared.ending.Ending.TheVariants as endings
@@ -126,12 +127,12 @@ module _ (words : List Bytes) (turns : ℕ) (openings openings' : Option (List O
   pub unsummed-goes : (meant : Ending) → EndsMaster (Err meant) → StartCause (status_of (shown meant)) None → OpensAt [] (drill_transport words) (status_of (shown meant)) openings openings' → Shares RefusesAll NoneRests AnyCalls AnyCalls any_policy 0 turns None None start seen None (Err meant) → DrillGoes words turns (Err meant) openings openings' start seen tally out out
   unsummed-goes meant e r o h = record { ends = drilled meant e r; opened = o; shared = unsummed-shared meant h }
 
-pub summed-cause : (text : Bytes) (result : Result Status Ending) (before now : Option (List ℕ)) (s s' c c' : ℕ) → HandsOver result text before now → WireCause (so_far result) s s' c c'
-summed-cause text (Ok statuses.Done) before now s s' c c' d = tt
-summed-cause text (Ok statuses.Write) before now s s' c c' d = tt
-summed-cause text (Ok status) before now s s' c c' d = absurd d
-summed-cause text (Err endings.NoMemory) before now s s' c c' d = tt
-summed-cause text (Err ending) before now s s' c c' d = absurd d
+pub summed-cause : (text : Bytes) (result : Result Status Ending) (before now : Option (List ℕ)) (w w' : Faults) → HandsOver result text before now → WireCause (so_far result) w w'
+summed-cause text (Ok statuses.Done) before now w w' d = tt
+summed-cause text (Ok statuses.Write) before now w w' d = tt
+summed-cause text (Ok status) before now w w' d = absurd d
+summed-cause text (Err endings.NoMemory) before now w w' d = tt
+summed-cause text (Err ending) before now w w' d = absurd d
 
 pub summed-calls : (turns : ℕ) (due : Status) (text : Bytes) (result : Result Status Ending) (before now : Option (List ℕ)) (old new : CallCounts) → EndsMaster (Ok due) → HandsOver result text before now → CallsEnd turns due old new → CallsEnd turns (so_far result) old new
 summed-calls turns due text result before now old new is d h = record { few = h.few; opens = h.opens; wants = h.wants; starved = λ ne. absurd (unstarved (sym is ∙ h.starved ne)); late = h.late } where
@@ -156,9 +157,9 @@ summed-came due text result before now old new is d h = on result d (subst (λ x
   on (Err endings.NoMemory) d h = tt
   on (Err ending) d h = absurd d
 
-pub summed-idle : (due : Status) (text : Bytes) (result : Result Status Ending) (before now : Option (List ℕ)) (s s' c c' : ℕ) → EndsMaster (Ok due) → HandsOver result text before now → IdleCause due s s' c c' → IdleCause (so_far result) s s' c c'
-summed-idle due text result before now s s' c c' is d h = on result d (subst (λ x. IdleCause x s s' c c') is h) where
-  on : (r : Result Status Ending) → HandsOver r text before now → IdleCause statuses.Done s s' c c' → IdleCause (so_far r) s s' c c'
+pub summed-idle : (due : Status) (text : Bytes) (result : Result Status Ending) (before now : Option (List ℕ)) (w w' : Faults) → EndsMaster (Ok due) → HandsOver result text before now → IdleCause due w w' → IdleCause (so_far result) w w'
+summed-idle due text result before now w w' is d h = on result d (subst (λ x. IdleCause x w w') is h) where
+  on : (r : Result Status Ending) → HandsOver r text before now → IdleCause statuses.Done w w' → IdleCause (so_far r) w w'
   on (Ok statuses.Done) d h = h
   on (Ok statuses.Write) d h = h
   on (Ok status) d h = absurd d

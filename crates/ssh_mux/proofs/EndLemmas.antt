@@ -16,6 +16,7 @@ use Rattle.mux_outside.specs.declared.starts.Starts.{Starts}
 use Rattle.mux_history.specs.declared.ended.Ended.TheVariants as answers
 use Rattle.mux_history.specs.Policy.{Policy}
 use Rattle.mux_outside.specs.Seen.{Seen}
+use Rattle.mux_outside.specs.Faults.{Faults}
 use Rattle.mux_outside.specs.CallCounts.{CallCounts}
 use Rattle.ssh_mux.specs.declared.ending.Ending.{Ending as MeantEnding}
 use Rattle.ssh_mux.specs.declared.ending.Ending.TheVariants as endings
@@ -233,8 +234,8 @@ pub on-memory : (b : Bool) → OnTrue b Unit
 on-memory true = tt
 on-memory false = tt
 
-pub wire_after : (k : Known) (status : Status) (ending : Ending) (b n : Option (List ℕ)) (f f' s s' c c' : ℕ) → Reports status ending b n f f' → OnTrue (touches k (status_of ending)) (WireCause (status_of ending) s s' c c') → OnTrue (touches k status) (WireCause status s s' c c')
-wire_after k status ending b n f f' s s' c c' r h = carried (λ x. OnTrue (touches k x) (WireCause x s s' c c')) status ending (reported status ending b n f f' r) (on-memory (opens k || drills k)) h
+pub wire_after : (k : Known) (status : Status) (ending : Ending) (b n : Option (List ℕ)) (f f' : ℕ) (w w' : Faults) → Reports status ending b n f f' → OnTrue (touches k (status_of ending)) (WireCause (status_of ending) w w') → OnTrue (touches k status) (WireCause status w w')
+wire_after k status ending b n f f' w w' r h = carried (λ x. OnTrue (touches k x) (WireCause x w w')) status ending (reported status ending b n f f' r) (on-memory (opens k || drills k)) h
 
 pub came_after : (k : Known) (housed : Bool) (status : Status) (ending : Ending) (b n : Option (List ℕ)) (f f' : ℕ) (old calls : CallCounts) → Reports status ending b n f f' → OnTrue (touches k (status_of ending)) (CameFor housed (status_of ending) old calls) → OnTrue (touches k status) (CameFor housed status old calls)
 came_after k housed status ending b n f f' old calls r h = carried (λ x. OnTrue (touches k x) (CameFor housed x old calls)) status ending (reported status ending b n f f' r) (on-memory-of housed) h
@@ -252,8 +253,8 @@ must_after k due must status ending b n f f' r h = carried (λ x. OnTrue (may_sh
 pub waits_after : (k : Known) (turns : ℕ) (status : Status) (ending : Ending) (b n : Option (List ℕ)) (f f' : ℕ) (old calls : CallCounts) → Reports status ending b n f f' → OnTrue (touches k (status_of ending)) (WaitsFor turns (status_of ending) old calls) → OnTrue (touches k status) (WaitsFor turns status old calls)
 waits_after k turns status ending b n f f' old calls r h = carried (λ x. OnTrue (touches k x) (WaitsFor turns x old calls)) status ending (reported status ending b n f f' r) (on-memory (opens k || drills k)) h
 
-pub idle_after : (status : Status) (ending : Ending) (b n : Option (List ℕ)) (f f' s s' c c' : ℕ) → Reports status ending b n f f' → IdleCause (status_of ending) s s' c c' → IdleCause status s s' c c'
-idle_after status ending b n f f' s s' c c' r h = carried (λ x. IdleCause x s s' c c') status ending (reported status ending b n f f' r) tt h
+pub idle_after : (status : Status) (ending : Ending) (b n : Option (List ℕ)) (f f' : ℕ) (w w' : Faults) → Reports status ending b n f f' → IdleCause (status_of ending) w w' → IdleCause status w w'
+idle_after status ending b n f f' w w' r h = carried (λ x. IdleCause x w w') status ending (reported status ending b n f f' r) tt h
 
 unshared : (opened shares : Bool) (P : Type 0) → OnFalse (opened && shares) P → OnFalse shares P
 unshared true shares P h = h

@@ -13,6 +13,7 @@ use Rattle.mux_engine.specs.Sides.{Resting}
 use Rattle.mux_history.specs.Policy.{Policy}
 use Rattle.mux_outside.specs.HouseCalls.{HouseCall}
 use Rattle.mux_outside.specs.Seen.{Seen}
+use Rattle.mux_outside.specs.Faults.{Faults}
 use Rattle.mux_outside.specs.CallCounts.{CallCounts}
 use Rattle.mux_outside.specs.declared.house.HouseReply.{HouseReply}
 use Rattle.mux_outside.specs.declared.house_mark.HouseMark.{HouseMark}
@@ -243,11 +244,11 @@ starved-due (Master transport os ls) = tt
 pub still-calls : (turns : ℕ) (status : Status) (calls : CallCounts) → CallsEnd turns status calls calls
 still-calls turns status calls = record { few = omega arith; opens = omega arith; wants = omega arith; starved = λ ne. absurd (ne refl); late = λ e. refl }
 
-pub still-wire : (k : Known) (ending : Ending) (s s' c c' : ℕ) → IsRefused k ending → OnTrue (may_share k (status_of ending)) (WireCause (status_of ending) s s' c c')
-still-wire k ending s s' c c' h = on (unshared k ending h) where
-  on : Unshared k ending → OnTrue (may_share k (status_of ending)) (WireCause (status_of ending) s s' c c')
-  on (inl e) = not_true (may_share k (status_of ending)) (WireCause (status_of ending) s s' c c') e
-  on (inr e) = subst (λ x. OnTrue (may_share k x) (WireCause x s s' c c')) (sym e) (on_true (may_share k statuses.Memory) (WireCause statuses.Memory s s' c c') tt)
+pub still-wire : (k : Known) (ending : Ending) (w w' : Faults) → IsRefused k ending → OnTrue (may_share k (status_of ending)) (WireCause (status_of ending) w w')
+still-wire k ending w w' h = on (unshared k ending h) where
+  on : Unshared k ending → OnTrue (may_share k (status_of ending)) (WireCause (status_of ending) w w')
+  on (inl e) = not_true (may_share k (status_of ending)) (WireCause (status_of ending) w w') e
+  on (inr e) = subst (λ x. OnTrue (may_share k x) (WireCause x w w')) (sym e) (on_true (may_share k statuses.Memory) (WireCause statuses.Memory w w') tt)
 
 pub memory-came : (housed : Bool) (old new : CallCounts) → CameFor housed statuses.Memory old new
 memory-came true old new = tt
@@ -304,11 +305,11 @@ still-waited k ending turns old new h = by_drill (drills k) refl where
   by_drill true e = subst (λ x. OnTrue (touches k x) (WaitsFor turns x old new)) (sym (drill-starved k ending h e)) (on_true (touches k statuses.Memory) (WaitsFor turns statuses.Memory old new) tt)
   by_drill false e = for-master (may_open (status_of ending)) (opens k) (drills k) (WaitsFor turns (status_of ending) old new) e (still-waits k ending turns old new h)
 
-pub still-caused : (k : Known) (ending : Ending) (s s' c c' : ℕ) → IsRefused k ending → OnTrue (touches k (status_of ending)) (WireCause (status_of ending) s s' c c')
-still-caused k ending s s' c c' h = by_drill (drills k) refl where
-  by_drill : (d : Bool) → drills k ≡ d → OnTrue (touches k (status_of ending)) (WireCause (status_of ending) s s' c c')
-  by_drill true e = subst (λ x. OnTrue (touches k x) (WireCause x s s' c c')) (sym (drill-starved k ending h e)) (on_true (touches k statuses.Memory) (WireCause statuses.Memory s s' c c') tt)
-  by_drill false e = for-master (may_open (status_of ending)) (opens k) (drills k) (WireCause (status_of ending) s s' c c') e (still-wire k ending s s' c c' h)
+pub still-caused : (k : Known) (ending : Ending) (w w' : Faults) → IsRefused k ending → OnTrue (touches k (status_of ending)) (WireCause (status_of ending) w w')
+still-caused k ending w w' h = by_drill (drills k) refl where
+  by_drill : (d : Bool) → drills k ≡ d → OnTrue (touches k (status_of ending)) (WireCause (status_of ending) w w')
+  by_drill true e = subst (λ x. OnTrue (touches k x) (WireCause x w w')) (sym (drill-starved k ending h e)) (on_true (touches k statuses.Memory) (WireCause statuses.Memory w w') tt)
+  by_drill false e = for-master (may_open (status_of ending)) (opens k) (drills k) (WireCause (status_of ending) w w') e (still-wire k ending w w' h)
 
 pub refused-came : (k : Known) (ending : Ending) (housed : Bool) (old new : CallCounts) → IsRefused k ending → OnTrue (touches k (status_of ending)) (CameFor housed (status_of ending) old new)
 refused-came k ending housed old new h = by_drill (drills k) refl where
@@ -335,7 +336,7 @@ refused-waits b k ending turns old new h = where_false b (OnTrue (touches k (sta
 pub unshared-waits : (b : Bool) (k : Known) (ending : Ending) (turns : ℕ) (old new : CallCounts) → IsRefused k ending → OnFalse b (OnTrue (may_share k (status_of ending)) (WaitsFor turns (status_of ending) old new))
 unshared-waits b k ending turns old new h = where_false b (OnTrue (may_share k (status_of ending)) (WaitsFor turns (status_of ending) old new)) (still-waits k ending turns old new h)
 
-pub still-idle : (status : Status) (s c : ℕ) → IdleCause status s s c c
-still-idle statuses.Open s c = tt
-still-idle statuses.Memory s c = tt
-still-idle status s c = record { same_server = refl; same_client = refl }
+pub still-idle : (status : Status) (w : Faults) → IdleCause status w w
+still-idle statuses.Open w = tt
+still-idle statuses.Memory w = tt
+still-idle status w = record { server = refl; client = refl }

@@ -7,7 +7,7 @@ use Rattle.mux_engine.specs.Run.{IsRun}
 use Rattle.mux_engine.specs.Sides.{Resting, RestsOf}
 use Rattle.mux_history.specs.declared.ended.Ended.{Ended}
 use Rattle.mux_history.specs.Policy.{any_policy}
-use Rattle.mux_outside.specs.House.{nothing_known}
+use Rattle.mux_outside.specs.NoHouse.{no_house}
 use Rattle.mux_outside.specs.HouseCalls.{HouseCall}
 use Rattle.mux_outside.specs.Seen.{Seen}
 use Rattle.mux_outside.specs.declared.file_error.FileError.TheVariants.{Failed}
@@ -58,9 +58,7 @@ RefusesAll reply = reply ≡ Refused
 
 -- it has no house, so none waits
 abbrev pub NoneRests : Resting
-NoneRests = RestsOf {T = NoHouse} (λ house. None) (λ house. nothing_known false)
-    (λ house. record { says = true; orders = true; answers = true }) (λ house. false)
-    (λ house. None) (λ house calls. Unit {0}) false (record {})
+NoneRests = RestsOf {T = NoHouse} (λ house. no_house) false (record {})
 
 -- it stands for any calls
 abbrev pub AnyCalls : List HouseCall → Type 0

@@ -20,7 +20,8 @@ use Rattle.mux_outside.specs.declared.mark.Opening.{Opening}
 use Rattle.mux_outside.specs.declared.starts.Starts.{Starts}
 use Rattle.mux_outside.specs.Seen.{Seen}
 use Rattle.mux_outside.specs.CallCounts.{CallCounts}
-use Rattle.mux_outside.specs.Wire.{SameFaults, SomeFault}
+use Rattle.mux_outside.specs.Faults.{Faults, OpeningFault}
+use Rattle.mux_engine.specs.Wires.{NoFault}
 use Rattle.ssh_mux.specs.declared.ending.Ending.{Ending as MeantEnding}
 use Rattle.ssh_mux.specs.declared.ending.Ending.TheVariants as endings
 use Rattle.ssh_mux.specs.declared.status.Status.{Status}
@@ -200,10 +201,10 @@ pid_of (Some pid) = pid
 
 -- the sockets weren't opened only where a count rose, and the transport failed only where the
 -- server's did
-abbrev pub WireCause : Status → ℕ → ℕ → ℕ → ℕ → Type 0
-WireCause Open server server' client client' = SomeFault server server' client client'
-WireCause Transport server server' client client' = Rose server server'
-WireCause status server server' client client' = Unit
+abbrev pub WireCause : Status → Faults → Faults → Type 0
+WireCause Open old new = OpeningFault old new
+WireCause Transport old new = Rose old.server new.server
+WireCause status old new = Unit
 
 -- a forwarding is told as refused only where one of the start was, and none may be
 abbrev pub StartCause : Status → Option ℕ → Type 0
@@ -244,9 +245,9 @@ CameFor false Done old new = EndsCame old new
 CameFor false Write old new = EndsCame old new
 CameFor housed status old new = Unit
 
--- what a run without turns and without a house leaves of the counts of faults: both, but where the
--- sockets weren't opened or memory was wanting
-abbrev pub IdleCause : Status → ℕ → ℕ → ℕ → ℕ → Type 0
-IdleCause Open server server' client client' = Unit
-IdleCause Memory server server' client client' = Unit
-IdleCause status server server' client client' = SameFaults server server' client client'
+-- what a run without turns and without a house leaves of the counts of faults: the server's and the
+-- clients', but where the sockets weren't opened or memory was wanting
+abbrev pub IdleCause : Status → Faults → Faults → Type 0
+IdleCause Open old new = Unit
+IdleCause Memory old new = Unit
+IdleCause status old new = NoFault old new

@@ -38,48 +38,46 @@ pub fn ask_master<W: Wire, F: Files, R: Runner, S: Sink>(
     turns: u64,
 ) -> Result<Status, Ending>
     requires named { NamesForwards control asked.now.lines }
-    ensures exact { Comes (of_command (machine (F.state files.old).told (R.told runner.old) facts.now)
+    ensures exact { Comes (of_command (machine (F.told files.old) (R.told runner.old) facts.now)
         (commands.Control asked.now control)) result }
     ensures joined { JoinsOnce
-        (of_command (machine (F.state files.old).told (R.told runner.old) facts.now)
+        (of_command (machine (F.told files.old) (R.told runner.old) facts.now)
         (commands.Control asked.now control)) (so_far result)
         (W.state wire.old).joinings (W.state wire.new).joinings }
     ensures openings { (W.state wire.new).openings ≡ (W.state wire.old).openings }
     ensures talked { ConversesFor
-        (of_command (machine (F.state files.old).told (R.told runner.old) facts.now)
+        (of_command (machine (F.told files.old) (R.told runner.old) facts.now)
         (commands.Control asked.now control)) (W.state wire.old).seen.told (W.state wire.new).seen.told
         (S.told out.old) (S.told out.new) result }
     ensures wire_cause { OnTrue (may_ask
-        (of_command (machine (F.state files.old).told (R.told runner.old) facts.now)
+        (of_command (machine (F.told files.old) (R.told runner.old) facts.now)
         (commands.Control asked.now control)) (so_far result))
-        (WireCause (so_far result) (W.faults wire.old).server (W.faults wire.new).server
-        (W.faults wire.old).client (W.faults wire.new).client) }
+        (WireCause (so_far result) (W.faults wire.old) (W.faults wire.new)) }
     ensures out_cause { OutCause (so_far result) (S.faults out.old) (S.faults out.new) }
     ensures calls { CallsEnd turns (so_far result) (W.state wire.old).calls (W.state wire.new).calls }
     ensures unopened { (W.state wire.new).calls.opens ≡ (W.state wire.old).calls.opens }
     ensures waited { OnTrue (may_ask
-        (of_command (machine (F.state files.old).told (R.told runner.old) facts.now)
+        (of_command (machine (F.told files.old) (R.told runner.old) facts.now)
         (commands.Control asked.now control)) (so_far result))
         (TalksFor turns (so_far result) (W.state wire.old).calls (W.state wire.new).calls) }
     ensures idle { turns ≡ 0 → IdleCause (so_far result)
-        (W.faults wire.old).server (W.faults wire.new).server
-        (W.faults wire.old).client (W.faults wire.new).client }
+        (W.faults wire.old) (W.faults wire.new) }
     ensures wire { OnFalse (may_ask
-        (of_command (machine (F.state files.old).told (R.told runner.old) facts.now)
+        (of_command (machine (F.told files.old) (R.told runner.old) facts.now)
         (commands.Control asked.now control)) (so_far result)) (wire.new ≡ wire.old) }
     ensures unwritten { OnFalse (may_ask
-        (of_command (machine (F.state files.old).told (R.told runner.old) facts.now)
+        (of_command (machine (F.told files.old) (R.told runner.old) facts.now)
         (commands.Control asked.now control)) (so_far result)) (out.new ≡ out.old) }
     ensures ran { RunsFor
-        (commands_of (machine (F.state files.old).told (R.told runner.old) facts.now)
+        (commands_of (machine (F.told files.old) (R.told runner.old) facts.now)
         (commands.Control asked.now control)) (so_far result)
         (R.ran runner.old) (R.ran runner.new) }
     ensures place { Placed
-        (told_over (machine (F.state files.old).told (R.told runner.old) facts.now) asked.now)
+        (told_over (machine (F.told files.old) (R.told runner.old) facts.now) asked.now)
         result (R.ran runner.old) (R.ran runner.new)
         (F.failed files.old) (F.failed files.new) }
     ensures read { ReadsFor
-        (told_over (machine (F.state files.old).told (R.told runner.old) facts.now) asked.now)
+        (told_over (machine (F.told files.old) (R.told runner.old) facts.now) asked.now)
         (so_far result) (F.readings files.old) (F.readings files.new) }
     ensures cause { Caused result (F.faults files.old) (F.faults files.new)
         (R.faults runner.old) (R.faults runner.new) }
@@ -104,15 +102,13 @@ fn join_and_talk<W: Wire, S: Sink>(
     ensures openings { (W.state wire.new).openings ≡ (W.state wire.old).openings }
     ensures talked { Converses asks.now (W.state wire.old).seen.told (W.state wire.new).seen.told
         (S.told out.old) (S.told out.new) result }
-    ensures cause { WireCause (so_far result) (W.faults wire.old).server (W.faults wire.new).server
-        (W.faults wire.old).client (W.faults wire.new).client }
+    ensures cause { WireCause (so_far result) (W.faults wire.old) (W.faults wire.new) }
     ensures out_cause { OutCause (so_far result) (S.faults out.old) (S.faults out.new) }
     ensures calls { CallsEnd turns (so_far result) (W.state wire.old).calls (W.state wire.new).calls }
     ensures unopened { (W.state wire.new).calls.opens ≡ (W.state wire.old).calls.opens }
     ensures waited { TalksFor turns (so_far result) (W.state wire.old).calls (W.state wire.new).calls }
     ensures idle { turns ≡ 0 → IdleCause (so_far result)
-        (W.faults wire.old).server (W.faults wire.new).server
-        (W.faults wire.old).client (W.faults wire.new).client }
+        (W.faults wire.old) (W.faults wire.new) }
 {
     match wire.join(path.as_bytes()) {
         Ok(()) => ending_of(talk(alloc, wire, out, asks, turns)),

@@ -34,8 +34,7 @@ pub fn drill<W: Wire, S: Sink>(
         (W.state wire.old).seen.told (W.state wire.new).seen (W.state wire.new).tally
         (S.told out.old) (S.told out.new) }
     ensures joinings { (W.state wire.new).joinings ≡ (W.state wire.old).joinings }
-    ensures cause { WireCause (so_far result) (W.faults wire.old).server (W.faults wire.new).server
-        (W.faults wire.old).client (W.faults wire.new).client }
+    ensures cause { WireCause (so_far result) (W.faults wire.old) (W.faults wire.new) }
     ensures unwritten { OnFalse (may_write (so_far result)) (out.new ≡ out.old) }
     ensures out_cause { OutCause (so_far result) (S.faults out.old) (S.faults out.new) }
     ensures once { PutsOnce (so_far result) (S.puts out.old) (S.puts out.new) }
@@ -43,8 +42,7 @@ pub fn drill<W: Wire, S: Sink>(
     ensures came { CameFor false (so_far result) (W.state wire.old).calls (W.state wire.new).calls }
     ensures waited { WaitsFor turns (so_far result) (W.state wire.old).calls (W.state wire.new).calls }
     ensures idle { turns ≡ 0 → IdleCause (so_far result)
-        (W.faults wire.old).server (W.faults wire.new).server
-        (W.faults wire.old).client (W.faults wire.new).client }
+        (W.faults wire.old) (W.faults wire.new) }
 {
     serve_drill(alloc, words, wire, turns)?;
     let tally = wire.tally();
@@ -65,14 +63,12 @@ fn serve_drill<W: Wire>(
         (W.state wire.old).seen.told (W.state wire.new).seen None result }
     ensures start { StartCause (so_far result) None }
     ensures joinings { (W.state wire.new).joinings ≡ (W.state wire.old).joinings }
-    ensures cause { WireCause (so_far result) (W.faults wire.old).server (W.faults wire.new).server
-        (W.faults wire.old).client (W.faults wire.new).client }
+    ensures cause { WireCause (so_far result) (W.faults wire.old) (W.faults wire.new) }
     ensures calls { CallsEnd turns (so_far result) (W.state wire.old).calls (W.state wire.new).calls }
     ensures came { CameFor false (so_far result) (W.state wire.old).calls (W.state wire.new).calls }
     ensures waited { WaitsFor turns (so_far result) (W.state wire.old).calls (W.state wire.new).calls }
     ensures idle { turns ≡ 0 → IdleCause (so_far result)
-        (W.faults wire.old).server (W.faults wire.new).server
-        (W.faults wire.old).client (W.faults wire.new).client }
+        (W.faults wire.old) (W.faults wire.new) }
 {
     let transport = transport_of(alloc, words.as_slice())?;
     let none = Texts::new(alloc);

@@ -30,25 +30,25 @@ pub fn list<F: Files, R: Runner, S: Sink>(
     runner: &mut R,
     out: &mut S,
 ) -> Result<Status, Ending>
-    ensures exact { Comes (of_command (machine (F.state files.old).told (R.told runner.old) facts.now)
+    ensures exact { Comes (of_command (machine (F.told files.old) (R.told runner.old) facts.now)
         (commands.List asked.now)) result }
     ensures out { OutTakes (so_far result)
-        (of_command (machine (F.state files.old).told (R.told runner.old) facts.now)
+        (of_command (machine (F.told files.old) (R.told runner.old) facts.now)
         (commands.List asked.now)) (S.told out.old) (S.told out.new) }
     ensures unwritten { OnFalse (may_write (so_far result)) (out.new ≡ out.old) }
     ensures unlisted { OnFalse
-        (writes_out (of_command (machine (F.state files.old).told (R.told runner.old) facts.now)
+        (writes_out (of_command (machine (F.told files.old) (R.told runner.old) facts.now)
         (commands.List asked.now))) (out.new ≡ out.old) }
     ensures out_cause { OutCause (so_far result) (S.faults out.old) (S.faults out.new) }
     ensures once { PutsOnce (so_far result) (S.puts out.old) (S.puts out.new) }
-    ensures ran { RunsFor (commands_of (machine (F.state files.old).told (R.told runner.old) facts.now)
+    ensures ran { RunsFor (commands_of (machine (F.told files.old) (R.told runner.old) facts.now)
         (commands.List asked.now)) (so_far result) (R.ran runner.old) (R.ran runner.new) }
     ensures place { Placed
-        (told_over (machine (F.state files.old).told (R.told runner.old) facts.now) asked.now)
+        (told_over (machine (F.told files.old) (R.told runner.old) facts.now) asked.now)
         result (R.ran runner.old) (R.ran runner.new)
         (F.failed files.old) (F.failed files.new) }
     ensures read { ReadsFor
-        (told_over (machine (F.state files.old).told (R.told runner.old) facts.now) asked.now)
+        (told_over (machine (F.told files.old) (R.told runner.old) facts.now) asked.now)
         (so_far result) (F.readings files.old) (F.readings files.new) }
     ensures cause { Caused result (F.faults files.old) (F.faults files.new)
         (R.faults runner.old) (R.faults runner.new) }
@@ -66,16 +66,16 @@ fn listing_of<F: Files, R: Runner>(
     runner: &mut R,
 ) -> Result<Text, Ending>
     ensures exact { Finds Writes Listing
-        (of_command (machine (F.state files.old).told (R.told runner.old) facts.now)
+        (of_command (machine (F.told files.old) (R.told runner.old) facts.now)
         (commands.List asked.now)) result }
-    ensures ran { RunsUnless (commands_of (machine (F.state files.old).told (R.told runner.old) facts.now)
+    ensures ran { RunsUnless (commands_of (machine (F.told files.old) (R.told runner.old) facts.now)
         (commands.List asked.now)) result (R.ran runner.old) (R.ran runner.new) }
     ensures place { Placed
-        (told_over (machine (F.state files.old).told (R.told runner.old) facts.now) asked.now)
+        (told_over (machine (F.told files.old) (R.told runner.old) facts.now) asked.now)
         result (R.ran runner.old) (R.ran runner.new)
         (F.failed files.old) (F.failed files.new) }
     ensures read { ReadsUnless
-        (told_over (machine (F.state files.old).told (R.told runner.old) facts.now) asked.now)
+        (told_over (machine (F.told files.old) (R.told runner.old) facts.now) asked.now)
         result (F.readings files.old) (F.readings files.new) }
     ensures cause { Caused result (F.faults files.old) (F.faults files.new)
         (R.faults runner.old) (R.faults runner.new) }

@@ -4,7 +4,7 @@ ghost use Rattle.conf_rules.specs.declared.command.Command.TheVariants as comman
 ghost use Rattle.conf_rules.specs.declared.control.Control.{Control};
 ghost use Rattle.conf_rules.specs.Texts.{Bytes};
 ghost use Rattle.forward_rules.specs.Allows.{read_policy};
-ghost use Rattle.mux_engine.specs.Rests.{refused_if};
+ghost use Rattle.mux_engine.specs.Rests.{refusal_after};
 ghost use Rattle.mux_engine.specs.Sides.{RestsOf};
 ghost use Rattle.mux_outside.specs.HouseCalls.{Begins};
 ghost use Rattle.ssh_mux.specs.Answers.{Comes, Finds, so_far, may_share, serves_house};
@@ -59,78 +59,76 @@ pub fn share<W: Wire, F: Files, R: Runner, H: House>(
 ) -> Result<Status, Ending>
     requires permitted { IsOk (read_policy opens.now listens.now) }
     requires fresh { H.fresh house.old }
-    ensures exact { Comes (of_command (machine (F.state files.old).told (R.told runner.old) facts.now)
+    ensures exact { Comes (of_command (machine (F.told files.old) (R.told runner.old) facts.now)
         (commands.Master asked.now transport.now opens.now listens.now)) result }
     ensures opened { OpensOnce
-        (of_command (machine (F.state files.old).told (R.told runner.old) facts.now)
+        (of_command (machine (F.told files.old) (R.told runner.old) facts.now)
         (commands.Master asked.now transport.now opens.now listens.now)) (so_far result)
         (W.state wire.old).openings (W.state wire.new).openings }
     ensures joinings { (W.state wire.new).joinings ≡ (W.state wire.old).joinings }
     ensures served { OnTrue (may_share
-        (of_command (machine (F.state files.old).told (R.told runner.old) facts.now)
+        (of_command (machine (F.told files.old) (R.told runner.old) facts.now)
         (commands.Master asked.now transport.now opens.now listens.now)) (so_far result))
-        (Begun (told_over (machine (F.state files.old).told (R.told runner.old) facts.now) asked.now)
+        (Begun (told_over (machine (F.told files.old) (R.told runner.old) facts.now) asked.now)
         (λ starts. Shares H.may
-        (BegunRests H.told H.known H.quiet H.must H.refused H.stands (H.state house.old).known.present starts)
+        (BegunRests H.state (H.state house.old).known.present starts)
         (BeganWith starts)
         (H.state house.new).stands (the_policy_of opens.now listens.now) (pid_of facts.now.pid) turns
         (H.state house.old).told (H.state house.new).told (W.state wire.old).seen.told (W.state wire.new).seen
-        (refused_if (H.state house.old).known.present (H.state house.new).must (H.state house.new).refused)
+        (refusal_after (H.state house.old) (H.state house.new))
         result)) }
     ensures start { OnTrue (may_share
-        (of_command (machine (F.state files.old).told (R.told runner.old) facts.now)
+        (of_command (machine (F.told files.old) (R.told runner.old) facts.now)
         (commands.Master asked.now transport.now opens.now listens.now)) (so_far result))
         (StartCause (so_far result)
-        (refused_if (H.state house.old).known.present (H.state house.new).must (H.state house.new).refused)) }
+        (refusal_after (H.state house.old) (H.state house.new))) }
     ensures must { IsTrue (H.state house.old).known.present → OnTrue (may_share
-        (of_command (machine (F.state files.old).told (R.told runner.old) facts.now)
+        (of_command (machine (F.told files.old) (R.told runner.old) facts.now)
         (commands.Master asked.now transport.now opens.now listens.now)) (so_far result))
         (MustsAs (so_far result)
-        (must_for (told_over (machine (F.state files.old).told (R.told runner.old) facts.now) asked.now))
+        (must_for (told_over (machine (F.told files.old) (R.told runner.old) facts.now) asked.now))
         (H.state house.new).must) }
     ensures wire_cause { OnTrue (may_share
-        (of_command (machine (F.state files.old).told (R.told runner.old) facts.now)
+        (of_command (machine (F.told files.old) (R.told runner.old) facts.now)
         (commands.Master asked.now transport.now opens.now listens.now)) (so_far result))
-        (WireCause (so_far result) (W.faults wire.old).server (W.faults wire.new).server
-        (W.faults wire.old).client (W.faults wire.new).client) }
+        (WireCause (so_far result) (W.faults wire.old) (W.faults wire.new)) }
     ensures calls { CallsEnd turns (so_far result) (W.state wire.old).calls (W.state wire.new).calls }
     ensures came { OnTrue (may_share
-        (of_command (machine (F.state files.old).told (R.told runner.old) facts.now)
+        (of_command (machine (F.told files.old) (R.told runner.old) facts.now)
         (commands.Master asked.now transport.now opens.now listens.now)) (so_far result))
         (CameFor (serves_house (H.state house.old).known.present
-        (of_command (machine (F.state files.old).told (R.told runner.old) facts.now)
+        (of_command (machine (F.told files.old) (R.told runner.old) facts.now)
         (commands.Master asked.now transport.now opens.now listens.now))) (so_far result)
         (W.state wire.old).calls (W.state wire.new).calls) }
     ensures waited { OnFalse (serves_house (H.state house.old).known.present
-        (of_command (machine (F.state files.old).told (R.told runner.old) facts.now)
+        (of_command (machine (F.told files.old) (R.told runner.old) facts.now)
         (commands.Master asked.now transport.now opens.now listens.now)))
         (OnTrue (may_share
-        (of_command (machine (F.state files.old).told (R.told runner.old) facts.now)
+        (of_command (machine (F.told files.old) (R.told runner.old) facts.now)
         (commands.Master asked.now transport.now opens.now listens.now)) (so_far result))
         (WaitsFor turns (so_far result) (W.state wire.old).calls (W.state wire.new).calls)) }
     ensures idle { turns ≡ 0 → OnFalse (serves_house (H.state house.old).known.present
-        (of_command (machine (F.state files.old).told (R.told runner.old) facts.now)
+        (of_command (machine (F.told files.old) (R.told runner.old) facts.now)
         (commands.Master asked.now transport.now opens.now listens.now)))
-        (IdleCause (so_far result) (W.faults wire.old).server (W.faults wire.new).server
-        (W.faults wire.old).client (W.faults wire.new).client) }
+        (IdleCause (so_far result) (W.faults wire.old) (W.faults wire.new)) }
     ensures wire { OnFalse (may_share
-        (of_command (machine (F.state files.old).told (R.told runner.old) facts.now)
+        (of_command (machine (F.told files.old) (R.told runner.old) facts.now)
         (commands.Master asked.now transport.now opens.now listens.now)) (so_far result))
         (wire.new ≡ wire.old) }
     ensures house { OnFalse (may_share
-        (of_command (machine (F.state files.old).told (R.told runner.old) facts.now)
+        (of_command (machine (F.told files.old) (R.told runner.old) facts.now)
         (commands.Master asked.now transport.now opens.now listens.now)) (so_far result))
         (house.new ≡ house.old) }
     ensures ran { RunsFor
-        (commands_of (machine (F.state files.old).told (R.told runner.old) facts.now)
+        (commands_of (machine (F.told files.old) (R.told runner.old) facts.now)
         (commands.Master asked.now transport.now opens.now listens.now)) (so_far result)
         (R.ran runner.old) (R.ran runner.new) }
     ensures place { Placed
-        (told_over (machine (F.state files.old).told (R.told runner.old) facts.now) asked.now)
+        (told_over (machine (F.told files.old) (R.told runner.old) facts.now) asked.now)
         result (R.ran runner.old) (R.ran runner.new)
         (F.failed files.old) (F.failed files.new) }
     ensures read { ReadsFor
-        (told_over (machine (F.state files.old).told (R.told runner.old) facts.now) asked.now)
+        (told_over (machine (F.told files.old) (R.told runner.old) facts.now) asked.now)
         (so_far result) (F.readings files.old) (F.readings files.new) }
     ensures cause { Caused result (F.faults files.old) (F.faults files.new)
         (R.faults runner.old) (R.faults runner.new) }
@@ -153,28 +151,28 @@ fn found_of<F: Files, R: Runner>(
     ensures exact { (transport : Bytes) (opens listens : List Bytes) →
         Finds (λ found. opens_at transport opens listens found.control)
         (Master transport opens listens)
-        (of_command (machine (F.state files.old).told (R.told runner.old) facts.now)
+        (of_command (machine (F.told files.old) (R.told runner.old) facts.now)
         (commands.Master asked.now transport opens listens)) result }
     ensures ran { (transport : Bytes) (opens listens : List Bytes) →
-        RunsUnless (commands_of (machine (F.state files.old).told (R.told runner.old) facts.now)
+        RunsUnless (commands_of (machine (F.told files.old) (R.told runner.old) facts.now)
         (commands.Master asked.now transport opens listens)) result
         (R.ran runner.old) (R.ran runner.new) }
     ensures client { (what : Control) →
         Finds (λ found. joins_at asked.now what found.control) (Client asked.now what)
-        (of_command (machine (F.state files.old).told (R.told runner.old) facts.now)
+        (of_command (machine (F.told files.old) (R.told runner.old) facts.now)
         (commands.Control asked.now what)) result }
     ensures client_ran { (what : Control) → RunsUnless
-        (commands_of (machine (F.state files.old).told (R.told runner.old) facts.now)
+        (commands_of (machine (F.told files.old) (R.told runner.old) facts.now)
         (commands.Control asked.now what)) result (R.ran runner.old) (R.ran runner.new) }
     ensures place { Placed
-        (told_over (machine (F.state files.old).told (R.told runner.old) facts.now) asked.now)
+        (told_over (machine (F.told files.old) (R.told runner.old) facts.now) asked.now)
         result (R.ran runner.old) (R.ran runner.new)
         (F.failed files.old) (F.failed files.new) }
     ensures read { ReadsUnless
-        (told_over (machine (F.state files.old).told (R.told runner.old) facts.now) asked.now)
+        (told_over (machine (F.told files.old) (R.told runner.old) facts.now) asked.now)
         result (F.readings files.old) (F.readings files.new) }
     ensures settled { IfOk result (λ found. SettledFor
-        (told_over (machine (F.state files.old).told (R.told runner.old) facts.now) asked.now)
+        (told_over (machine (F.told files.old) (R.told runner.old) facts.now) asked.now)
         found.settings) }
     ensures cause { Caused result (F.faults files.old) (F.faults files.new)
         (R.faults runner.old) (R.faults runner.new) }
@@ -197,24 +195,24 @@ pub fn control_of<F: Files, R: Runner>(
 ) -> Result<Text, Ending>
     ensures exact { (transport : Bytes) (opens listens : List Bytes) →
         Finds (opens_at transport opens listens) (Master transport opens listens)
-        (of_command (machine (F.state files.old).told (R.told runner.old) facts.now)
+        (of_command (machine (F.told files.old) (R.told runner.old) facts.now)
         (commands.Master asked.now transport opens listens)) result }
     ensures ran { (transport : Bytes) (opens listens : List Bytes) →
-        RunsUnless (commands_of (machine (F.state files.old).told (R.told runner.old) facts.now)
+        RunsUnless (commands_of (machine (F.told files.old) (R.told runner.old) facts.now)
         (commands.Master asked.now transport opens listens)) result
         (R.ran runner.old) (R.ran runner.new) }
     ensures client { (what : Control) → Finds (joins_at asked.now what) (Client asked.now what)
-        (of_command (machine (F.state files.old).told (R.told runner.old) facts.now)
+        (of_command (machine (F.told files.old) (R.told runner.old) facts.now)
         (commands.Control asked.now what)) result }
     ensures client_ran { (what : Control) → RunsUnless
-        (commands_of (machine (F.state files.old).told (R.told runner.old) facts.now)
+        (commands_of (machine (F.told files.old) (R.told runner.old) facts.now)
         (commands.Control asked.now what)) result (R.ran runner.old) (R.ran runner.new) }
     ensures place { Placed
-        (told_over (machine (F.state files.old).told (R.told runner.old) facts.now) asked.now)
+        (told_over (machine (F.told files.old) (R.told runner.old) facts.now) asked.now)
         result (R.ran runner.old) (R.ran runner.new)
         (F.failed files.old) (F.failed files.new) }
     ensures read { ReadsUnless
-        (told_over (machine (F.state files.old).told (R.told runner.old) facts.now) asked.now)
+        (told_over (machine (F.told files.old) (R.told runner.old) facts.now) asked.now)
         result (F.readings files.old) (F.readings files.new) }
     ensures cause { Caused result (F.faults files.old) (F.faults files.new)
         (R.faults runner.old) (R.faults runner.new) }
@@ -271,25 +269,23 @@ fn begin_and_serve<W: Wire, H: House>(
         (W.state wire.old).openings (W.state wire.new).openings }
     ensures joinings { (W.state wire.new).joinings ≡ (W.state wire.old).joinings }
     ensures served { Shares H.may
-        (BegunRests H.told H.known H.quiet H.must H.refused H.stands (H.state house.old).known.present
+        (BegunRests H.state (H.state house.old).known.present
         (starts_for found.now.settings)) (BeganWith (starts_for found.now.settings))
         (H.state house.new).stands policy pid turns (H.state house.old).told (H.state house.new).told
         (W.state wire.old).seen.told (W.state wire.new).seen
-        (refused_if (H.state house.old).known.present (H.state house.new).must (H.state house.new).refused) result }
+        (refusal_after (H.state house.old) (H.state house.new)) result }
     ensures start { StartCause (so_far result)
-        (refused_if (H.state house.old).known.present (H.state house.new).must (H.state house.new).refused) }
+        (refusal_after (H.state house.old) (H.state house.new)) }
     ensures must { IsTrue (H.state house.old).known.present → MustsAs (so_far result)
         (Some (starts_for found.now.settings).must) (H.state house.new).must }
-    ensures cause { WireCause (so_far result) (W.faults wire.old).server (W.faults wire.new).server
-        (W.faults wire.old).client (W.faults wire.new).client }
+    ensures cause { WireCause (so_far result) (W.faults wire.old) (W.faults wire.new) }
     ensures calls { CallsEnd turns (so_far result) (W.state wire.old).calls (W.state wire.new).calls }
     ensures came { CameFor (H.state house.old).known.present (so_far result) (W.state wire.old).calls
         (W.state wire.new).calls }
     ensures waited { OnFalse (H.state house.old).known.present
         (WaitsFor turns (so_far result) (W.state wire.old).calls (W.state wire.new).calls) }
     ensures idle { turns ≡ 0 → OnFalse (H.state house.old).known.present (IdleCause (so_far result)
-        (W.faults wire.old).server (W.faults wire.new).server
-        (W.faults wire.old).client (W.faults wire.new).client) }
+        (W.faults wire.old) (W.faults wire.new)) }
 {
     begin(alloc, &found.settings, house)?;
     open_and_serve(
@@ -324,20 +320,18 @@ pub fn open_and_serve<W: Wire, H: House>(
         (RestsOf H.state (H.state house.old).known.present house.old)
         (H.state house.old).stands (H.state house.new).stands policy pid turns (H.state house.old).told
         (H.state house.new).told (W.state wire.old).seen.told (W.state wire.new).seen
-        (refused_if (H.state house.old).known.present (H.state house.new).must (H.state house.new).refused) result }
+        (refusal_after (H.state house.old) (H.state house.new)) result }
     ensures start { StartCause (so_far result)
-        (refused_if (H.state house.old).known.present (H.state house.new).must (H.state house.new).refused) }
+        (refusal_after (H.state house.old) (H.state house.new)) }
     ensures must { (H.state house.new).must ≡ (H.state house.old).must }
-    ensures cause { WireCause (so_far result) (W.faults wire.old).server (W.faults wire.new).server
-        (W.faults wire.old).client (W.faults wire.new).client }
+    ensures cause { WireCause (so_far result) (W.faults wire.old) (W.faults wire.new) }
     ensures calls { CallsEnd turns (so_far result) (W.state wire.old).calls (W.state wire.new).calls }
     ensures came { CameFor (H.state house.old).known.present (so_far result) (W.state wire.old).calls
         (W.state wire.new).calls }
     ensures waited { OnFalse (H.state house.old).known.present
         (WaitsFor turns (so_far result) (W.state wire.old).calls (W.state wire.new).calls) }
     ensures idle { turns ≡ 0 → OnFalse (H.state house.old).known.present (IdleCause (so_far result)
-        (W.faults wire.old).server (W.faults wire.new).server
-        (W.faults wire.old).client (W.faults wire.new).client) }
+        (W.faults wire.old) (W.faults wire.new)) }
 {
     // A house that has only begun says by this that nothing is known of it.
     let _blank = house.present();

@@ -14,7 +14,7 @@ pub returns-in_err-path-clause-talked : goal.returns-in_err-path-clause-talked
 returns-in_err-path-clause-talked g c = let p = err_from_is_err_and c.from_residual.result c.from_residual.ensures.1 in rw (p.1, p.2) (still-talked _ _ _ _ (refused-unjoined _ _ (c.in_err-path.ensures.client _)))
 
 pub returns-in_err-path-clause-wire_cause : goal.returns-in_err-path-clause-wire_cause
-returns-in_err-path-clause-wire_cause g c = let p = err_from_is_err_and c.from_residual.result c.from_residual.ensures.1 in rw (p.1, p.2) (still-asked-cause _ _ _ _ _ _ (refused-unjoined _ _ (c.in_err-path.ensures.client _)))
+returns-in_err-path-clause-wire_cause g c = let p = err_from_is_err_and c.from_residual.result c.from_residual.ensures.1 in rw (p.1, p.2) (still-asked-cause _ _ _ _ (refused-unjoined _ _ (c.in_err-path.ensures.client _)))
 
 pub returns-in_err-path-clause-waited : goal.returns-in_err-path-clause-waited
 returns-in_err-path-clause-waited g c = let p = err_from_is_err_and c.from_residual.result c.from_residual.ensures.1 in rw (p.1, p.2) (still-asked-waits _ _ _ _ _ (refused-unjoined _ _ (c.in_err-path.ensures.client _)))

@@ -28,7 +28,7 @@ pub returns-in_err-serve_drill-clause-cause : goal.returns-in_err-serve_drill-cl
 returns-in_err-serve_drill-clause-cause g c = let p = err_from_is_err_and c.from_residual.result c.from_residual.ensures.1 in rw (p.1, p.2) c.in_err-serve_drill.ensures.cause
 
 pub returns-clause-cause : goal.returns-clause-cause
-returns-clause-cause g c = summed-cause (drill_text c.tally-tally.result) c.sum_up.result (g.S.Sink.told c.args.out.now) (g.S.Sink.told c.sum_up.new.out) _ _ _ _ c.sum_up.ensures.handed
+returns-clause-cause g c = summed-cause (drill_text c.tally-tally.result) c.sum_up.result (g.S.Sink.told c.args.out.now) (g.S.Sink.told c.sum_up.new.out) _ _ c.sum_up.ensures.handed
 
 pub returns-clause-goes : goal.returns-clause-goes
 returns-clause-goes g c = summed-goes _ _ _ _ _ _ _ _ _ _ _ c.in_ok-serve_drill.ensures.ends c.in_ok-serve_drill.ensures.opened c.in_ok-serve_drill.ensures.served (rw c.tally-tally.ensures at c.sum_up.ensures.handed)
@@ -43,7 +43,7 @@ pub returns-clause-waited : goal.returns-clause-waited
 returns-clause-waited g c = summed-waits _ _ (drill_text c.tally-tally.result) c.sum_up.result (g.S.Sink.told c.args.out.now) (g.S.Sink.told c.sum_up.new.out) _ _ c.in_ok-serve_drill.ensures.ends c.sum_up.ensures.handed c.in_ok-serve_drill.ensures.waited
 
 pub returns-clause-idle : goal.returns-clause-idle
-returns-clause-idle g c = λ z. summed-idle _ (drill_text c.tally-tally.result) c.sum_up.result (g.S.Sink.told c.args.out.now) (g.S.Sink.told c.sum_up.new.out) _ _ _ _ c.in_ok-serve_drill.ensures.ends c.sum_up.ensures.handed (c.in_ok-serve_drill.ensures.idle z)
+returns-clause-idle g c = λ z. summed-idle _ (drill_text c.tally-tally.result) c.sum_up.result (g.S.Sink.told c.args.out.now) (g.S.Sink.told c.sum_up.new.out) _ _ c.in_ok-serve_drill.ensures.ends c.sum_up.ensures.handed (c.in_ok-serve_drill.ensures.idle z)
 
 pub returns-in_err-serve_drill-clause-once : goal.returns-in_err-serve_drill-clause-once
 returns-in_err-serve_drill-clause-once g c = let p = err_from_is_err_and c.from_residual.result c.from_residual.ensures.1 in rw (p.1, p.2) (quiet-puts _ _ (loud _))

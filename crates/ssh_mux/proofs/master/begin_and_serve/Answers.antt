@@ -29,7 +29,7 @@ pub returns-in_err-begin-clause-idle : goal.returns-in_err-begin-clause-idle
 returns-in_err-begin-clause-idle g c = λ z. let p = err_from_is_err_and c.from_residual.result c.from_residual.ensures.1 in let e = c.in_err-begin.ensures.err in rw (p.1, p.2, e) (where_false _ _ tt)
 
 pub returns-clause-served : goal.returns-clause-served
-returns-clause-served g c = shares-begun g.H.House.told g.H.House.known g.H.House.quiet g.H.House.must g.H.House.refused (g.H.Asks.state _).stands _ _ c.in_ok-begin.ensures.stands _ _ _ _ _ _ _ _ _ _ _ (rw (c.in_ok-begin.ensures.known, c.in_ok-begin.ensures.told) at c.open_and_serve.ensures.served)
+returns-clause-served g c = shares-begun g.H.Asks.state _ _ _ c.in_ok-begin.ensures.stands _ _ _ _ _ _ _ _ _ _ _ (rw (c.in_ok-begin.ensures.known, c.in_ok-begin.ensures.told) at c.open_and_serve.ensures.served)
 
 pub returns-clause-start : goal.returns-clause-start
 returns-clause-start g c = rw c.in_ok-begin.ensures.known at c.open_and_serve.ensures.start

@@ -2,7 +2,7 @@ use Rattle.std.proofs.Common.{Err, refl, ◌∙◌}
 use Rattle.std.proofs.lemmas.Result.{err_from_is_err_and}
 use Rattle.conf_rules.specs.declared.command.Command.TheVariants as commands
 use Rattle.conf_rules.specs.Diagnostics as ends
-use Rattle.mux_engine.specs.Rests.{refused_if}
+use Rattle.mux_engine.specs.Rests.{refusal_after}
 use Rattle.ssh_mux.specs.declared.ending.Ending.TheVariants as endings
 use Rattle.ssh_mux.specs.Answers.{serves_house, so_far}
 use Rattle.ssh_mux.specs.Outcomes.{machine, of_command}
@@ -26,7 +26,7 @@ pub returns-in_err-found-clause-served : goal.returns-in_err-found-clause-served
 returns-in_err-found-clause-served g c = let p = err_from_is_err_and c.from_residual.result c.from_residual.ensures.1 in rw (p.1, p.2) (still-shared _ _ _ _ _ _ _ _ _ _ _ _ (c.in_err-found.ensures.exact _ _ _))
 
 pub returns-in_err-found-clause-wire_cause : goal.returns-in_err-found-clause-wire_cause
-returns-in_err-found-clause-wire_cause g c = let p = err_from_is_err_and c.from_residual.result c.from_residual.ensures.1 in rw (p.1, p.2) (still-wire _ _ _ _ _ _ (c.in_err-found.ensures.exact _ _ _))
+returns-in_err-found-clause-wire_cause g c = let p = err_from_is_err_and c.from_residual.result c.from_residual.ensures.1 in rw (p.1, p.2) (still-wire _ _ _ _ (c.in_err-found.ensures.exact _ _ _))
 
 pub returns-in_err-found-clause-wire : goal.returns-in_err-found-clause-wire
 returns-in_err-found-clause-wire g c = on_false _ _
@@ -47,7 +47,7 @@ pub returns-clause-opened : goal.returns-clause-opened
 returns-clause-opened g c = master-opened _ _ _ _ _ _ _ _ (c.in_ok-found.ensures.exact _ _ _) (master-opens _ c.begin_and_serve.ensures.ends) c.begin_and_serve.ensures.opened
 
 pub returns-clause-served : goal.returns-clause-served
-returns-clause-served g c = on_true _ (Begun (told_over (machine (g.F.Files.told c.args.files.now) (g.R.Runner.told c.args.runner.now) c.args.facts.now) c.args.asked.now) (λ starts. Shares g.H.Asks.may (BegunRests g.H.House.told g.H.House.known g.H.House.quiet g.H.House.must g.H.House.refused g.H.House.stands (g.H.Asks.state c.args.house.now).known.present starts) (BeganWith starts) (g.H.Asks.state c.begin_and_serve.new.house).stands (policy_of c.args.opens.now c.args.listens.now) (pid_of c.args.facts.now.pid) c.args.turns (g.H.Asks.state c.args.house.now).told (g.H.Asks.state c.begin_and_serve.new.house).told (g.W.Wire.state c.args.wire.now).seen.told (g.W.Wire.state c.begin_and_serve.new.wire).seen (refused_if (g.H.Asks.state c.args.house.now).known.present (g.H.Asks.state c.begin_and_serve.new.house).must (g.H.Asks.state c.begin_and_serve.new.house).refused) c.begin_and_serve.result)) (record { starts = _; due = starts-told _ _ c.in_ok-found.ensures.settled; so = rw (c.in_ok-policy.ensures.exact, c.unwrap_or-pid.ensures ∙ pid_is c.args.facts.now.pid) at c.begin_and_serve.ensures.served })
+returns-clause-served g c = on_true _ (Begun (told_over (machine (g.F.Files.told c.args.files.now) (g.R.Runner.told c.args.runner.now) c.args.facts.now) c.args.asked.now) (λ starts. Shares g.H.Asks.may (BegunRests g.H.Asks.state (g.H.Asks.state c.args.house.now).known.present starts) (BeganWith starts) (g.H.Asks.state c.begin_and_serve.new.house).stands (policy_of c.args.opens.now c.args.listens.now) (pid_of c.args.facts.now.pid) c.args.turns (g.H.Asks.state c.args.house.now).told (g.H.Asks.state c.begin_and_serve.new.house).told (g.W.Wire.state c.args.wire.now).seen.told (g.W.Wire.state c.begin_and_serve.new.wire).seen (refusal_after (g.H.Asks.state c.args.house.now) (g.H.Asks.state c.begin_and_serve.new.house)) c.begin_and_serve.result)) (record { starts = _; due = starts-told _ _ c.in_ok-found.ensures.settled; so = rw (c.in_ok-policy.ensures.exact, c.unwrap_or-pid.ensures ∙ pid_is c.args.facts.now.pid) at c.begin_and_serve.ensures.served })
 
 pub returns-clause-wire_cause : goal.returns-clause-wire_cause
 returns-clause-wire_cause g c = on_true _ _ c.begin_and_serve.ensures.cause
@@ -74,10 +74,10 @@ pub returns-in_err-policy-clause-opened : goal.returns-in_err-policy-clause-open
 returns-in_err-policy-clause-opened g c = let p = err_from_is_err_and c.from_residual-in_err-policy.result c.from_residual-in_err-policy.ensures.1 in let e = c.in_err-policy.ensures.err in rw (p.1, p.2, e) (still-opened (of_command (machine (g.F.Files.told c.args.files.now) (g.R.Runner.told c.args.runner.now) c.args.facts.now) (commands.Master c.args.asked.now c.args.transport.now c.args.opens.now c.args.listens.now)) ends.NoMemory (g.W.Wire.state c.args.wire.now).openings (starved-due (of_command (machine (g.F.Files.told c.args.files.now) (g.R.Runner.told c.args.runner.now) c.args.facts.now) (commands.Master c.args.asked.now c.args.transport.now c.args.opens.now c.args.listens.now))))
 
 pub returns-in_err-policy-clause-served : goal.returns-in_err-policy-clause-served
-returns-in_err-policy-clause-served g c = let p = err_from_is_err_and c.from_residual-in_err-policy.result c.from_residual-in_err-policy.ensures.1 in let e = c.in_err-policy.ensures.err in rw (p.1, p.2, e) (still-shared (of_command (machine (g.F.Files.told c.args.files.now) (g.R.Runner.told c.args.runner.now) c.args.facts.now) (commands.Master c.args.asked.now c.args.transport.now c.args.opens.now c.args.listens.now)) endings.NoMemory g.H.Asks.may (BegunRests g.H.House.told g.H.House.known g.H.House.quiet g.H.House.must g.H.House.refused g.H.House.stands (g.H.Asks.state c.args.house.now).known.present) (g.H.Asks.state c.args.house.now).stands (told_over (machine (g.F.Files.told c.args.files.now) (g.R.Runner.told c.args.runner.now) c.args.facts.now) c.args.asked.now) (policy_of c.args.opens.now c.args.listens.now) (pid_of c.args.facts.now.pid) c.args.turns (g.H.Asks.state c.args.house.now).told (g.W.Wire.state c.args.wire.now).seen (refused_if (g.H.Asks.state c.args.house.now).known.present (g.H.Asks.state c.args.house.now).must (g.H.Asks.state c.args.house.now).refused) (starved-due (of_command (machine (g.F.Files.told c.args.files.now) (g.R.Runner.told c.args.runner.now) c.args.facts.now) (commands.Master c.args.asked.now c.args.transport.now c.args.opens.now c.args.listens.now))))
+returns-in_err-policy-clause-served g c = let p = err_from_is_err_and c.from_residual-in_err-policy.result c.from_residual-in_err-policy.ensures.1 in let e = c.in_err-policy.ensures.err in rw (p.1, p.2, e) (still-shared (of_command (machine (g.F.Files.told c.args.files.now) (g.R.Runner.told c.args.runner.now) c.args.facts.now) (commands.Master c.args.asked.now c.args.transport.now c.args.opens.now c.args.listens.now)) endings.NoMemory g.H.Asks.may (BegunRests g.H.Asks.state (g.H.Asks.state c.args.house.now).known.present) (g.H.Asks.state c.args.house.now).stands (told_over (machine (g.F.Files.told c.args.files.now) (g.R.Runner.told c.args.runner.now) c.args.facts.now) c.args.asked.now) (policy_of c.args.opens.now c.args.listens.now) (pid_of c.args.facts.now.pid) c.args.turns (g.H.Asks.state c.args.house.now).told (g.W.Wire.state c.args.wire.now).seen (refusal_after (g.H.Asks.state c.args.house.now) (g.H.Asks.state c.args.house.now)) (starved-due (of_command (machine (g.F.Files.told c.args.files.now) (g.R.Runner.told c.args.runner.now) c.args.facts.now) (commands.Master c.args.asked.now c.args.transport.now c.args.opens.now c.args.listens.now))))
 
 pub returns-in_err-policy-clause-wire_cause : goal.returns-in_err-policy-clause-wire_cause
-returns-in_err-policy-clause-wire_cause g c = let p = err_from_is_err_and c.from_residual-in_err-policy.result c.from_residual-in_err-policy.ensures.1 in let e = c.in_err-policy.ensures.err in rw (p.1, p.2, e) (still-wire (of_command (machine (g.F.Files.told c.args.files.now) (g.R.Runner.told c.args.runner.now) c.args.facts.now) (commands.Master c.args.asked.now c.args.transport.now c.args.opens.now c.args.listens.now)) ends.NoMemory (g.W.Wire.faults c.args.wire.now).server (g.W.Wire.faults c.args.wire.now).server (g.W.Wire.faults c.args.wire.now).client (g.W.Wire.faults c.args.wire.now).client (starved-due (of_command (machine (g.F.Files.told c.args.files.now) (g.R.Runner.told c.args.runner.now) c.args.facts.now) (commands.Master c.args.asked.now c.args.transport.now c.args.opens.now c.args.listens.now))))
+returns-in_err-policy-clause-wire_cause g c = let p = err_from_is_err_and c.from_residual-in_err-policy.result c.from_residual-in_err-policy.ensures.1 in let e = c.in_err-policy.ensures.err in rw (p.1, p.2, e) (still-wire (of_command (machine (g.F.Files.told c.args.files.now) (g.R.Runner.told c.args.runner.now) c.args.facts.now) (commands.Master c.args.asked.now c.args.transport.now c.args.opens.now c.args.listens.now)) ends.NoMemory (g.W.Wire.faults c.args.wire.now) (g.W.Wire.faults c.args.wire.now) (starved-due (of_command (machine (g.F.Files.told c.args.files.now) (g.R.Runner.told c.args.runner.now) c.args.facts.now) (commands.Master c.args.asked.now c.args.transport.now c.args.opens.now c.args.listens.now))))
 
 pub returns-in_err-policy-clause-wire : goal.returns-in_err-policy-clause-wire
 returns-in_err-policy-clause-wire g c = on_false _ _
@@ -98,13 +98,13 @@ pub returns-in_err-found-clause-waited : goal.returns-in_err-found-clause-waited
 returns-in_err-found-clause-waited g c = let p = err_from_is_err_and c.from_residual.result c.from_residual.ensures.1 in rw (p.1, p.2) (unshared-waits (serves_house (g.H.Asks.state c.args.house.now).known.present (of_command (machine (g.F.Files.told c.args.files.now) (g.R.Runner.told c.args.runner.now) c.args.facts.now) (commands.Master c.args.asked.now c.args.transport.now c.args.opens.now c.args.listens.now))) (of_command (machine (g.F.Files.told c.args.files.now) (g.R.Runner.told c.args.runner.now) c.args.facts.now) (commands.Master c.args.asked.now c.args.transport.now c.args.opens.now c.args.listens.now)) _ c.args.turns (g.W.Wire.state c.args.wire.now).calls (g.W.Wire.state c.args.wire.now).calls (c.in_err-found.ensures.exact _ _ _))
 
 pub returns-in_err-found-clause-idle : goal.returns-in_err-found-clause-idle
-returns-in_err-found-clause-idle g c = λ z. where_false _ _ (still-idle _ _ _)
+returns-in_err-found-clause-idle g c = λ z. where_false _ _ (still-idle _ _)
 
 pub returns-in_err-policy-clause-waited : goal.returns-in_err-policy-clause-waited
 returns-in_err-policy-clause-waited g c = let p = err_from_is_err_and c.from_residual-in_err-policy.result c.from_residual-in_err-policy.ensures.1 in let e = c.in_err-policy.ensures.err in rw (p.1, p.2, e) (unshared-waits (serves_house (g.H.Asks.state c.args.house.now).known.present (of_command (machine (g.F.Files.told c.args.files.now) (g.R.Runner.told c.args.runner.now) c.args.facts.now) (commands.Master c.args.asked.now c.args.transport.now c.args.opens.now c.args.listens.now))) (of_command (machine (g.F.Files.told c.args.files.now) (g.R.Runner.told c.args.runner.now) c.args.facts.now) (commands.Master c.args.asked.now c.args.transport.now c.args.opens.now c.args.listens.now)) ends.NoMemory c.args.turns (g.W.Wire.state c.args.wire.now).calls (g.W.Wire.state c.args.wire.now).calls (starved-due (of_command (machine (g.F.Files.told c.args.files.now) (g.R.Runner.told c.args.runner.now) c.args.facts.now) (commands.Master c.args.asked.now c.args.transport.now c.args.opens.now c.args.listens.now))))
 
 pub returns-in_err-policy-clause-idle : goal.returns-in_err-policy-clause-idle
-returns-in_err-policy-clause-idle g c = λ z. where_false _ _ (still-idle _ _ _)
+returns-in_err-policy-clause-idle g c = λ z. where_false _ _ (still-idle _ _)
 
 pub returns-clause-waited : goal.returns-clause-waited
 returns-clause-waited g c = master-waits (of_command (machine (g.F.Files.told c.args.files.now) (g.R.Runner.told c.args.runner.now) c.args.facts.now) (commands.Master c.args.asked.now c.args.transport.now c.args.opens.now c.args.listens.now)) c.args.transport.now c.args.opens.now c.args.listens.now _ (g.H.Asks.state c.args.house.now).known.present c.args.turns (so_far c.begin_and_serve.result) (g.W.Wire.state c.args.wire.now).calls (g.W.Wire.state c.begin_and_serve.new.wire).calls (c.in_ok-found.ensures.exact c.args.transport.now c.args.opens.now c.args.listens.now) c.begin_and_serve.ensures.waited
@@ -122,7 +122,7 @@ pub returns-clause-read : goal.returns-clause-read
 returns-clause-read g c = all-read _ _ _ _ _ c.in_ok-found.ensures.read
 
 pub returns-clause-idle : goal.returns-clause-idle
-returns-clause-idle g c = λ z. master-idle (of_command (machine (g.F.Files.told c.args.files.now) (g.R.Runner.told c.args.runner.now) c.args.facts.now) (commands.Master c.args.asked.now c.args.transport.now c.args.opens.now c.args.listens.now)) c.args.transport.now c.args.opens.now c.args.listens.now _ (g.H.Asks.state c.args.house.now).known.present (so_far c.begin_and_serve.result) (g.W.Wire.faults c.args.wire.now).server (g.W.Wire.faults c.begin_and_serve.new.wire).server (g.W.Wire.faults c.args.wire.now).client (g.W.Wire.faults c.begin_and_serve.new.wire).client (c.in_ok-found.ensures.exact c.args.transport.now c.args.opens.now c.args.listens.now) (c.begin_and_serve.ensures.idle z)
+returns-clause-idle g c = λ z. master-idle (of_command (machine (g.F.Files.told c.args.files.now) (g.R.Runner.told c.args.runner.now) c.args.facts.now) (commands.Master c.args.asked.now c.args.transport.now c.args.opens.now c.args.listens.now)) c.args.transport.now c.args.opens.now c.args.listens.now _ (g.H.Asks.state c.args.house.now).known.present (so_far c.begin_and_serve.result) (g.W.Wire.faults c.args.wire.now) (g.W.Wire.faults c.begin_and_serve.new.wire) (c.in_ok-found.ensures.exact c.args.transport.now c.args.opens.now c.args.listens.now) (c.begin_and_serve.ensures.idle z)
 
 pub returns-clause-start : goal.returns-clause-start
 returns-clause-start g c = on_true _ _ c.begin_and_serve.ensures.start
@@ -131,7 +131,7 @@ pub returns-in_err-found-clause-start : goal.returns-in_err-found-clause-start
 returns-in_err-found-clause-start g c = let p = err_from_is_err_and c.from_residual.result c.from_residual.ensures.1 in rw (p.1, p.2) (still-start _ _ _ (c.in_err-found.ensures.exact _ _ _))
 
 pub returns-in_err-policy-clause-start : goal.returns-in_err-policy-clause-start
-returns-in_err-policy-clause-start g c = let p = err_from_is_err_and c.from_residual-in_err-policy.result c.from_residual-in_err-policy.ensures.1 in let e = c.in_err-policy.ensures.err in rw (p.1, p.2, e) (still-start (of_command (machine (g.F.Files.told c.args.files.now) (g.R.Runner.told c.args.runner.now) c.args.facts.now) (commands.Master c.args.asked.now c.args.transport.now c.args.opens.now c.args.listens.now)) ends.NoMemory (refused_if (g.H.Asks.state c.args.house.now).known.present (g.H.Asks.state c.args.house.now).must (g.H.Asks.state c.args.house.now).refused) (starved-due (of_command (machine (g.F.Files.told c.args.files.now) (g.R.Runner.told c.args.runner.now) c.args.facts.now) (commands.Master c.args.asked.now c.args.transport.now c.args.opens.now c.args.listens.now))))
+returns-in_err-policy-clause-start g c = let p = err_from_is_err_and c.from_residual-in_err-policy.result c.from_residual-in_err-policy.ensures.1 in let e = c.in_err-policy.ensures.err in rw (p.1, p.2, e) (still-start (of_command (machine (g.F.Files.told c.args.files.now) (g.R.Runner.told c.args.runner.now) c.args.facts.now) (commands.Master c.args.asked.now c.args.transport.now c.args.opens.now c.args.listens.now)) ends.NoMemory (refusal_after (g.H.Asks.state c.args.house.now) (g.H.Asks.state c.args.house.now)) (starved-due (of_command (machine (g.F.Files.told c.args.files.now) (g.R.Runner.told c.args.runner.now) c.args.facts.now) (commands.Master c.args.asked.now c.args.transport.now c.args.opens.now c.args.listens.now))))
 
 pub returns-in_err-found-clause-must : goal.returns-in_err-found-clause-must
 returns-in_err-found-clause-must g c = λ x. let p = err_from_is_err_and c.from_residual.result c.from_residual.ensures.1 in rw (p.1, p.2) (still-must _ _ _ _ (c.in_err-found.ensures.exact _ _ _))

@@ -1,7 +1,7 @@
 use Rattle.std.proofs.Common.{◌≡◌, ◌&&◌, ◌||◌, ap, refl}
 use Rattle.std.proofs.lemmas.Result.{err_from_is_err_and}
 use Rattle.conf_rules.specs.declared.command.Command.TheVariants as commands
-use Rattle.mux_engine.specs.Rests.{refused_if}
+use Rattle.mux_engine.specs.Rests.{refusal_after}
 use Rattle.ssh_mux.specs.Answers.{may_ask, may_open, may_write, serves_house, so_far, touches}
 use Rattle.conf_rules.specs.Outcome.{Drills}
 use Rattle.ssh_mux.specs.Outcomes.{Certain, drills, known_of, machine, of_command, opens}
@@ -45,7 +45,7 @@ pub returns-in_err-command-clause-shared : goal.returns-in_err-command-clause-sh
 returns-in_err-command-clause-shared g c = let p = err_from_is_err_and c.from_residual.result c.from_residual.ensures.1 in rw (p.1, p.2) (still-shared _ _ _ _ _ _ _ _ _ _ _ _ (misread _ _ _ c.in_err-command.ensures.exact))
 
 pub returns-in_err-command-clause-wire_cause : goal.returns-in_err-command-clause-wire_cause
-returns-in_err-command-clause-wire_cause g c = let p = err_from_is_err_and c.from_residual.result c.from_residual.ensures.1 in rw (p.1, p.2) (still-caused _ _ _ _ _ _ (misread _ _ _ c.in_err-command.ensures.exact))
+returns-in_err-command-clause-wire_cause g c = let p = err_from_is_err_and c.from_residual.result c.from_residual.ensures.1 in rw (p.1, p.2) (still-caused _ _ _ _ (misread _ _ _ c.in_err-command.ensures.exact))
 
 pub returns-in-List-clause-exact : goal.returns-in-List-clause-exact
 returns-in-List-clause-exact g c = rw (of-read _ _ _ (rw c.in-List.is at c.in_ok-command.ensures.exact)) c.list.ensures.exact
@@ -84,10 +84,10 @@ pub returns-in-Master-clause-opened : goal.returns-in-Master-clause-opened
 returns-in-Master-clause-opened g c = rw (of-read _ _ _ (rw c.in-Master.is at c.in_ok-command.ensures.exact)) c.share.ensures.opened
 
 pub returns-in-Master-clause-shared : goal.returns-in-Master-clause-shared
-returns-in-Master-clause-shared g c = rw (of-read _ _ _ (rw c.in-Master.is at c.in_ok-command.ensures.exact), master-told _ _ _ _ _ _ (rw c.in-Master.is at c.in_ok-command.ensures.exact)) (with-policy (machine (g.F.Files.told c.args.files.now) (g.R.Runner.told c.args.runner.now) c.args.facts.now) c.in-Master.asked c.in-Master.transport c.in-Master.opens c.in-Master.listens (so_far c.share.result) (λ p. Begun (told_over (machine (g.F.Files.told c.args.files.now) (g.R.Runner.told c.args.runner.now) c.args.facts.now) c.in-Master.asked) (λ starts. Shares g.H.Asks.may (BegunRests g.H.House.told g.H.House.known g.H.House.quiet g.H.House.must g.H.House.refused g.H.House.stands (g.H.Asks.state c.args.house.now).known.present starts) (BeganWith starts) (g.H.Asks.state c.share.new.house).stands p (pid_of c.args.facts.now.pid) c.args.turns (g.H.Asks.state c.args.house.now).told (g.H.Asks.state c.share.new.house).told (g.W.Wire.state c.args.wire.now).seen.told (g.W.Wire.state c.share.new.wire).seen (refused_if (g.H.Asks.state c.args.house.now).known.present (g.H.Asks.state c.share.new.house).must (g.H.Asks.state c.share.new.house).refused) c.share.result)) c.share.ensures.served)
+returns-in-Master-clause-shared g c = rw (of-read _ _ _ (rw c.in-Master.is at c.in_ok-command.ensures.exact), master-told _ _ _ _ _ _ (rw c.in-Master.is at c.in_ok-command.ensures.exact)) (with-policy (machine (g.F.Files.told c.args.files.now) (g.R.Runner.told c.args.runner.now) c.args.facts.now) c.in-Master.asked c.in-Master.transport c.in-Master.opens c.in-Master.listens (so_far c.share.result) (λ p. Begun (told_over (machine (g.F.Files.told c.args.files.now) (g.R.Runner.told c.args.runner.now) c.args.facts.now) c.in-Master.asked) (λ starts. Shares g.H.Asks.may (BegunRests g.H.Asks.state (g.H.Asks.state c.args.house.now).known.present starts) (BeganWith starts) (g.H.Asks.state c.share.new.house).stands p (pid_of c.args.facts.now.pid) c.args.turns (g.H.Asks.state c.args.house.now).told (g.H.Asks.state c.share.new.house).told (g.W.Wire.state c.args.wire.now).seen.told (g.W.Wire.state c.share.new.wire).seen (refusal_after (g.H.Asks.state c.args.house.now) (g.H.Asks.state c.share.new.house)) c.share.result)) c.share.ensures.served)
 
 pub returns-in-Master-clause-wire_cause : goal.returns-in-Master-clause-wire_cause
-returns-in-Master-clause-wire_cause g c = rw (of-read _ _ _ (rw c.in-Master.is at c.in_ok-command.ensures.exact)) (for-master (may_open (so_far c.share.result)) (opens (of_command (machine (g.F.Files.told c.args.files.now) (g.R.Runner.told c.args.runner.now) c.args.facts.now) (commands.Master c.in-Master.asked c.in-Master.transport c.in-Master.opens c.in-Master.listens))) (drills (of_command (machine (g.F.Files.told c.args.files.now) (g.R.Runner.told c.args.runner.now) c.args.facts.now) (commands.Master c.in-Master.asked c.in-Master.transport c.in-Master.opens c.in-Master.listens))) (WireCause (so_far c.share.result) (g.W.Wire.faults c.args.wire.now).server (g.W.Wire.faults c.share.new.wire).server (g.W.Wire.faults c.args.wire.now).client (g.W.Wire.faults c.share.new.wire).client) (master-undrilled (machine (g.F.Files.told c.args.files.now) (g.R.Runner.told c.args.runner.now) c.args.facts.now) c.in-Master.asked c.in-Master.transport c.in-Master.opens c.in-Master.listens) c.share.ensures.wire_cause)
+returns-in-Master-clause-wire_cause g c = rw (of-read _ _ _ (rw c.in-Master.is at c.in_ok-command.ensures.exact)) (for-master (may_open (so_far c.share.result)) (opens (of_command (machine (g.F.Files.told c.args.files.now) (g.R.Runner.told c.args.runner.now) c.args.facts.now) (commands.Master c.in-Master.asked c.in-Master.transport c.in-Master.opens c.in-Master.listens))) (drills (of_command (machine (g.F.Files.told c.args.files.now) (g.R.Runner.told c.args.runner.now) c.args.facts.now) (commands.Master c.in-Master.asked c.in-Master.transport c.in-Master.opens c.in-Master.listens))) (WireCause (so_far c.share.result) (g.W.Wire.faults c.args.wire.now) (g.W.Wire.faults c.share.new.wire)) (master-undrilled (machine (g.F.Files.told c.args.files.now) (g.R.Runner.told c.args.runner.now) c.args.facts.now) c.in-Master.asked c.in-Master.transport c.in-Master.opens c.in-Master.listens) c.share.ensures.wire_cause)
 
 pub returns-in_err-command-clause-calls : goal.returns-in_err-command-clause-calls
 returns-in_err-command-clause-calls g c = still-calls _ _ _
@@ -132,13 +132,13 @@ pub returns-in_err-command-clause-waited : goal.returns-in_err-command-clause-wa
 returns-in_err-command-clause-waited g c = let p = err_from_is_err_and c.from_residual.result c.from_residual.ensures.1 in rw (p.1, p.2) (refused-waits (serves_house (g.H.Asks.state c.args.house.now).known.present (known_of (g.F.Files.told c.args.files.now) (g.R.Runner.told c.args.runner.now) c.args.facts.now c.args.words.now)) (known_of (g.F.Files.told c.args.files.now) (g.R.Runner.told c.args.runner.now) c.args.facts.now c.args.words.now) _ c.args.turns (g.W.Wire.state c.args.wire.now).calls (g.W.Wire.state c.args.wire.now).calls (misread _ _ _ c.in_err-command.ensures.exact))
 
 pub returns-in_err-command-clause-idle : goal.returns-in_err-command-clause-idle
-returns-in_err-command-clause-idle g c = λ z. where_false _ _ (still-idle _ _ _)
+returns-in_err-command-clause-idle g c = λ z. where_false _ _ (still-idle _ _)
 
 pub returns-in-List-clause-waited : goal.returns-in-List-clause-waited
 returns-in-List-clause-waited g c = rw (of-read _ _ _ (rw c.in-List.is at c.in_ok-command.ensures.exact)) (unopened-waits (serves_house (g.H.Asks.state c.args.house.now).known.present (of_command (machine (g.F.Files.told c.args.files.now) (g.R.Runner.told c.args.runner.now) c.args.facts.now) (commands.List c.in-List.asked))) (of_command (machine (g.F.Files.told c.args.files.now) (g.R.Runner.told c.args.runner.now) c.args.facts.now) (commands.List c.in-List.asked)) (so_far c.list.result) c.args.turns (g.W.Wire.state c.args.wire.now).calls (g.W.Wire.state c.args.wire.now).calls (list-shut _ _) (list-undrilled _ _))
 
 pub returns-in-List-clause-idle : goal.returns-in-List-clause-idle
-returns-in-List-clause-idle g c = λ z. where_false _ _ (still-idle _ _ _)
+returns-in-List-clause-idle g c = λ z. where_false _ _ (still-idle _ _)
 
 pub returns-in-Master-clause-waited : goal.returns-in-Master-clause-waited
 returns-in-Master-clause-waited g c = rw (of-read _ _ _ (rw c.in-Master.is at c.in_ok-command.ensures.exact)) (follows _ _ _ (for-master (may_open (so_far c.share.result)) (opens (of_command (machine (g.F.Files.told c.args.files.now) (g.R.Runner.told c.args.runner.now) c.args.facts.now) (commands.Master c.in-Master.asked c.in-Master.transport c.in-Master.opens c.in-Master.listens))) (drills (of_command (machine (g.F.Files.told c.args.files.now) (g.R.Runner.told c.args.runner.now) c.args.facts.now) (commands.Master c.in-Master.asked c.in-Master.transport c.in-Master.opens c.in-Master.listens))) (WaitsFor c.args.turns (so_far c.share.result) (g.W.Wire.state c.args.wire.now).calls (g.W.Wire.state c.share.new.wire).calls) (master-undrilled (machine (g.F.Files.told c.args.files.now) (g.R.Runner.told c.args.runner.now) c.args.facts.now) c.in-Master.asked c.in-Master.transport c.in-Master.opens c.in-Master.listens)) c.share.ensures.waited)
@@ -202,7 +202,7 @@ pub returns-in_err-command-clause-asked : goal.returns-in_err-command-clause-ask
 returns-in_err-command-clause-asked g c = let p = err_from_is_err_and c.from_residual.result c.from_residual.ensures.1 in rw (p.1, p.2) (still-talked _ _ _ _ (refused-unjoined _ _ (misread _ _ _ c.in_err-command.ensures.exact)))
 
 pub returns-in_err-command-clause-asked_cause : goal.returns-in_err-command-clause-asked_cause
-returns-in_err-command-clause-asked_cause g c = let p = err_from_is_err_and c.from_residual.result c.from_residual.ensures.1 in rw (p.1, p.2) (still-asked-cause _ _ _ _ _ _ (refused-unjoined _ _ (misread _ _ _ c.in_err-command.ensures.exact)))
+returns-in_err-command-clause-asked_cause g c = let p = err_from_is_err_and c.from_residual.result c.from_residual.ensures.1 in rw (p.1, p.2) (still-asked-cause _ _ _ _ (refused-unjoined _ _ (misread _ _ _ c.in_err-command.ensures.exact)))
 
 pub returns-in_err-command-clause-asked_waits : goal.returns-in_err-command-clause-asked_waits
 returns-in_err-command-clause-asked_waits g c = let p = err_from_is_err_and c.from_residual.result c.from_residual.ensures.1 in rw (p.1, p.2) (still-asked-waits _ _ _ _ _ (refused-unjoined _ _ (misread _ _ _ c.in_err-command.ensures.exact)))

@@ -42,7 +42,7 @@ pub returns-in-Err-clause-calls : goal.returns-in-Err-clause-calls
 returns-in-Err-clause-calls g c = calls_after _ _ _ _ _ _ _ _ _ c.report.ensures.told c.in-Err.ensures.calls
 
 pub returns-in-Err-clause-wire_cause : goal.returns-in-Err-clause-wire_cause
-returns-in-Err-clause-wire_cause g c = wire_after _ _ _ _ _ _ _ _ _ _ _ c.report.ensures.told c.in-Err.ensures.wire_cause
+returns-in-Err-clause-wire_cause g c = wire_after _ _ _ _ _ _ _ _ _ c.report.ensures.told c.in-Err.ensures.wire_cause
 
 pub returns-in-Ok-clause-drill : goal.returns-in-Ok-clause-drill
 returns-in-Ok-clause-drill g c = drill_well _ _ _ _ _ _ _ _ _ _ _ _ _ c.in-Ok.ensures.drill
@@ -54,7 +54,7 @@ pub returns-in-Err-clause-waited : goal.returns-in-Err-clause-waited
 returns-in-Err-clause-waited g c = follows _ _ _ (waits_after _ _ _ _ _ _ _ _ _ _ c.report.ensures.told) c.in-Err.ensures.waited
 
 pub returns-in-Err-clause-idle : goal.returns-in-Err-clause-idle
-returns-in-Err-clause-idle g c = λ z. follows _ _ _ (idle_after _ _ _ _ _ _ _ _ _ _ c.report.ensures.told) (c.in-Err.ensures.idle z)
+returns-in-Err-clause-idle g c = λ z. follows _ _ _ (idle_after _ _ _ _ _ _ _ _ c.report.ensures.told) (c.in-Err.ensures.idle z)
 
 pub returns-in-Err-clause-leaves : goal.returns-in-Err-clause-leaves
 returns-in-Err-clause-leaves g c = record {
@@ -82,7 +82,7 @@ pub returns-in-Err-clause-asked : goal.returns-in-Err-clause-asked
 returns-in-Err-clause-asked g c = asked_after _ _ _ _ _ _ _ _ _ _ _ c.report.ensures.told c.in-Err.ensures.asked (same_told _ (λ w. (g.W.Wire.state w).seen.told) _ _ c.in-Err.ensures.leaves.wire) (same_told _ g.S.Sink.told _ _ c.in-Err.ensures.leaves.unwritten)
 
 pub returns-in-Err-clause-asked_cause : goal.returns-in-Err-clause-asked_cause
-returns-in-Err-clause-asked_cause g c = asked_cause_after _ _ _ _ _ _ _ _ _ _ _ c.report.ensures.told c.in-Err.ensures.asked_cause
+returns-in-Err-clause-asked_cause g c = asked_cause_after _ _ _ _ _ _ _ _ _ c.report.ensures.told c.in-Err.ensures.asked_cause
 
 pub returns-in-Err-clause-asked_waits : goal.returns-in-Err-clause-asked_waits
 returns-in-Err-clause-asked_waits g c = asked_waits_after _ _ _ _ _ _ _ _ _ _ c.report.ensures.told c.in-Err.ensures.asked_waits
