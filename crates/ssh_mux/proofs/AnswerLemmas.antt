@@ -16,7 +16,7 @@ use Rattle.ssh_mux.specs.declared.ending.Ending.TheVariants as endings
 use Rattle.ssh_mux.specs.declared.status.Status.{Status}
 use Rattle.ssh_mux.specs.declared.status.Status.TheVariants as statuses
 use Rattle.ssh_mux.specs.Answers.{may_ask, may_open, may_show, may_write, reaches}
-use Rattle.ssh_mux.specs.Client.{Answers, AnswersBy, AnswersFor, Converses, ConversesBy, ConversesFor, IsAnswered, IsAsked, IsUnasked, JoinsOnce, TalksFor, asks_in, ends_asking, talk_told}
+use Rattle.ssh_mux.specs.Client.{Answers, AnswersBy, Converses, ConversesBy, ConversesFor, IsAnswered, IsAsked, IsUnasked, JoinsOnce, TalksFor, asks_in, ends_asking, talk_told}
 use Rattle.ssh_mux.specs.Ending.{shown}
 use Rattle.ssh_mux.specs.Err.{Reports}
 use Rattle.ssh_mux.specs.Outcomes.{Known, Certain, Client, Listing, Master, asks, drills, opens}
@@ -137,11 +137,14 @@ module _ (start told : Option (List Mark)) (out out' : Option (List ℕ)) (b n :
   own-asks false x meant h r = tt
   own-asks true x meant h r = own-by x meant h r
 
-  asked-by : (k : Known) (status : Status) (meant : MeantEnding) → (status ≡ statuses.Memory) ⊎ (status ≡ status_of (shown meant)) → Reports status (shown meant) b n f f' → ConversesFor k start told out out' (Err meant) → OnFalse (reaches k (status_of (shown meant))) (told ≡ start) → OnFalse (may_show k (status_of (shown meant))) (out' ≡ out) → AnswersFor k start told out out' status b n f f'
-  asked-by k status meant (inl e) r h w o = subst (λ s. AnswersFor k start told out out' s b n f f') (sym e) (memory-asks (may_open (status_of (shown meant))) (opens k || drills k) (asks k) (may_write (status_of (shown meant))) (asks_in k) meant (closed (status_of (shown meant))) h w o (subst (λ s. Reports s (shown meant) b n f f') e r))
-  asked-by k status meant (inr e) r h w o = subst (λ s. AnswersFor k start told out out' s b n f f') (sym e) (own-asks (may_ask k (status_of (shown meant))) (asks_in k) meant h (subst (λ s. Reports s (shown meant) b n f f') e r))
+  abbrev Answered : Known → Status → Type 0
+  Answered k status = OnTrue (may_ask k status) (AnswersBy (asks_in k) start told out out' status b n f f')
 
-  pub asked_after : (k : Known) (status : Status) (meant : MeantEnding) → Reports status (shown meant) b n f f' → ConversesFor k start told out out' (Err meant) → OnFalse (reaches k (status_of (shown meant))) (told ≡ start) → OnFalse (may_show k (status_of (shown meant))) (out' ≡ out) → AnswersFor k start told out out' status b n f f'
+  asked-by : (k : Known) (status : Status) (meant : MeantEnding) → (status ≡ statuses.Memory) ⊎ (status ≡ status_of (shown meant)) → Reports status (shown meant) b n f f' → ConversesFor k start told out out' (Err meant) → OnFalse (reaches k (status_of (shown meant))) (told ≡ start) → OnFalse (may_show k (status_of (shown meant))) (out' ≡ out) → Answered k status
+  asked-by k status meant (inl e) r h w o = subst (λ s. Answered k s) (sym e) (memory-asks (may_open (status_of (shown meant))) (opens k || drills k) (asks k) (may_write (status_of (shown meant))) (asks_in k) meant (closed (status_of (shown meant))) h w o (subst (λ s. Reports s (shown meant) b n f f') e r))
+  asked-by k status meant (inr e) r h w o = subst (λ s. Answered k s) (sym e) (own-asks (may_ask k (status_of (shown meant))) (asks_in k) meant h (subst (λ s. Reports s (shown meant) b n f f') e r))
+
+  pub asked_after : (k : Known) (status : Status) (meant : MeantEnding) → Reports status (shown meant) b n f f' → ConversesFor k start told out out' (Err meant) → OnFalse (reaches k (status_of (shown meant))) (told ≡ start) → OnFalse (may_show k (status_of (shown meant))) (out' ≡ out) → Answered k status
   asked_after k status meant r h w o = asked-by k status meant (reported status (shown meant) b n f f' r) r h w o
 
 -- ---- an end without a line
@@ -175,5 +178,5 @@ module _ (start told : Option (List Mark)) (out out' : Option (List ℕ)) (b : O
   well-on false x status h = tt
   well-on true x status h = well-by x status h
 
-  pub asked_well : (k : Known) (status : Status) → ConversesFor k start told out out' (Ok status) → AnswersFor k start told out out' status b b f f
+  pub asked_well : (k : Known) (status : Status) → ConversesFor k start told out out' (Ok status) → OnTrue (may_ask k status) (AnswersBy (asks_in k) start told out out' status b b f f)
   asked_well k status h = well-on (may_ask k status) (asks_in k) status h

@@ -28,7 +28,7 @@ use Rattle.ssh_mux.proofs.StillLemmas.{not_true, on_true, only-memory}
 -- ---- a client that is refused before
 
 -- no wire is joined by it, but maybe for want of memory
-abbrev Unjoined : Known → Ending → Type 0
+abbrev pub Unjoined : Known → Ending → Type 0
 Unjoined k ending = (may_ask k (status_of ending) ≡ false) ⊎ (status_of ending ≡ statuses.Memory)
 
 none-asks : (k : Known) (ending : Ending) → asks k ≡ false → Unjoined k ending

@@ -120,7 +120,8 @@ abbrev pub BeganWith : Starts → List HouseCall → Type 0
 BeganWith starts calls = calls ≡ Begins starts ∷ []
 
 -- there is a house that has told this, knows these listeners and streams and is as it is right
--- before a wait, and that stands for its beginning and these calls behind it, unless none is present
+-- before a wait, and that stands for its beginning and these calls behind it, unless none is
+-- present
 abbrev pub BegunRests : {T : Type 0} → (T → HouseState) → Bool → Starts → Resting
 BegunRests {T} state present starts = record {
   present = present;

@@ -1,35 +1,19 @@
+use Rattle.std.proofs.Common.{Err, refl}
 use Rattle.std.proofs.lemmas.Result.{err_from_is_err_and}
-use Rattle.ssh_mux.proofs.ReadLemmas.{all-read}
-use Rattle.ssh_mux.proofs.StillLemmas.{still-due}
-use Rattle.ssh_mux.proofs.TalkLemmas.{refused-unjoined, still-asked-cause, still-asked-waits, still-joined, still-talked}
+use Rattle.conf_rules.specs.declared.command.Command.TheVariants as commands
+use Rattle.ssh_mux.specs.Looks.{coming}
+use Rattle.ssh_mux.specs.World.{output, sources}
+use Rattle.ssh_mux.proofs.ClientLemmas.{asked-leaves, bad-asks-cause, bad-asks-come, bad-asks-joined, bad-asks-unjoined, client-asks, client-cause, client-comes, unasked-leaves}
+use Rattle.ssh_mux.proofs.LooksLemmas.{client-placed, found-looks, looks-on}
+use Rattle.ssh_mux.proofs.StillLemmas.{not_false, where_false}
+use Rattle.ssh_mux.proofs.TalkLemmas.{refused-unjoined, still-joined}
 use Rattle.ssh_mux.proofs.client.ask_master.Goals as goal
 
-pub returns-in_err-path-clause-exact : goal.returns-in_err-path-clause-exact
-returns-in_err-path-clause-exact g c = let p = err_from_is_err_and c.from_residual.result c.from_residual.ensures.1 in rw (p.1, p.2) (still-due _ _ (c.in_err-path.ensures.client _))
+pub returns-in_err-path-clause-looks : goal.returns-in_err-path-clause-looks
+returns-in_err-path-clause-looks g c = let p = err_from_is_err_and c.from_residual.result c.from_residual.ensures.1 in rw (p.1, p.2) (found-looks _ _ _ _ _ _ _ _ (c.in_err-path.ensures.client c.args.control))
 
-pub returns-in_err-path-clause-joined : goal.returns-in_err-path-clause-joined
-returns-in_err-path-clause-joined g c = let p = err_from_is_err_and c.from_residual.result c.from_residual.ensures.1 in rw (p.1, p.2) (still-joined _ _ _ (c.in_err-path.ensures.client _))
+pub returns-in_err-path-clause-leaves : goal.returns-in_err-path-clause-leaves
+returns-in_err-path-clause-leaves g c = let p = err_from_is_err_and c.from_residual.result c.from_residual.ensures.1 in let f = c.in_err-path.ensures.client c.args.control in rw (p.1, p.2) (unasked-leaves _ _ _ _ _ _ (still-joined _ _ _ f.exact) (refused-unjoined _ _ f.exact))
 
-pub returns-in_err-path-clause-talked : goal.returns-in_err-path-clause-talked
-returns-in_err-path-clause-talked g c = let p = err_from_is_err_and c.from_residual.result c.from_residual.ensures.1 in rw (p.1, p.2) (still-talked _ _ _ _ (refused-unjoined _ _ (c.in_err-path.ensures.client _)))
-
-pub returns-in_err-path-clause-wire_cause : goal.returns-in_err-path-clause-wire_cause
-returns-in_err-path-clause-wire_cause g c = let p = err_from_is_err_and c.from_residual.result c.from_residual.ensures.1 in rw (p.1, p.2) (still-asked-cause _ _ _ _ (refused-unjoined _ _ (c.in_err-path.ensures.client _)))
-
-pub returns-in_err-path-clause-waited : goal.returns-in_err-path-clause-waited
-returns-in_err-path-clause-waited g c = let p = err_from_is_err_and c.from_residual.result c.from_residual.ensures.1 in rw (p.1, p.2) (still-asked-waits _ _ _ _ _ (refused-unjoined _ _ (c.in_err-path.ensures.client _)))
-
-pub returns-in_err-path-clause-ran : goal.returns-in_err-path-clause-ran
-returns-in_err-path-clause-ran g c = let p = err_from_is_err_and c.from_residual.result c.from_residual.ensures.1 in rw (p.1, p.2) (c.in_err-path.ensures.client_ran _)
-
-pub returns-in_err-path-clause-cause : goal.returns-in_err-path-clause-cause
-returns-in_err-path-clause-cause g c = let p = err_from_is_err_and c.from_residual.result c.from_residual.ensures.1 in rw (p.1, p.2) c.in_err-path.ensures.cause
-
-pub returns-in_err-path-clause-read : goal.returns-in_err-path-clause-read
-returns-in_err-path-clause-read g c = let p = err_from_is_err_and c.from_residual.result c.from_residual.ensures.1 in rw (p.1, p.2) c.in_err-path.ensures.read
-
-pub returns-in_err-asks-clause-read : goal.returns-in_err-asks-clause-read
-returns-in_err-asks-clause-read g c = all-read _ _ _ _ _ c.in_ok-path.ensures.read
-
-pub returns-clause-read : goal.returns-clause-read
-returns-clause-read g c = all-read _ _ _ _ _ c.in_ok-path.ensures.read
+pub returns-in_err-path-clause-untouched : goal.returns-in_err-path-clause-untouched
+returns-in_err-path-clause-untouched g c = where_false _ _ (refl, refl)
