@@ -9,7 +9,9 @@ use Rattle.conf_rules.specs.declared.causes.ResolveError.TheVariants as resolve_
 use Rattle.conf_rules.specs.declared.control.Control.{Control}
 use Rattle.conf_rules.specs.Diagnostics as ends
 use Rattle.conf_rules.specs.Outcome.{Joins}
+use Rattle.conf_resolve.specs.Faults.{FailedPaths}
 use Rattle.conf_rules.specs.Texts.{Bytes}
+use Rattle.conf_rules.specs.Told.{Told}
 use Rattle.mux_client.specs.declared.asks.Asks.{Asks}
 use Rattle.mux_outside.specs.declared.mark.Mark.{Mark}
 use Rattle.mux_outside.specs.Faults.{Faults}
@@ -24,6 +26,7 @@ use Rattle.ssh_mux.specs.Causes.{Caused, OutCause}
 use Rattle.ssh_mux.specs.Client.{ClientLeaves, Converses, ConversesBy, ConversesFor, EndsClient, JoinsAt, JoinsOnce, TalkCounts, TalksFor, asks_in}
 use Rattle.ssh_mux.specs.Ending.{shown}
 use Rattle.ssh_mux.specs.Outcomes.{Known, Certain, Client, asks, joins_at}
+use Rattle.ssh_mux.specs.Places.{Placed}
 use Rattle.ssh_mux.specs.Sharing.{WireCause}
 use Rattle.ssh_mux.specs.Status.{status_of}
 use Rattle.ssh_mux.specs.World.{OutState}
@@ -82,6 +85,12 @@ some-refused asked what meant h = absurd h
 pub bad-asks-come : (k : Known) (asked : Asked) (what : Control) (path : Bytes) (meant : Ending) → IsClient k asked what path → FindsAsks {A = Asks} (Err meant) (asks_for asked what) → Comes k (Err meant)
 bad-asks-come k asked what path meant (inl e) h = subst (λ x. Comes x (Err meant)) (sym e) (certain-refused asked what path meant h)
 bad-asks-come k asked what path meant (inr e) h = subst (λ x. Comes x (Err meant)) (sym e) (some-refused asked what meant h)
+
+pub bad-asks-placed : (told : Option Told) (meant : Ending) (reading : Result Asks ResolveError) (ran ran' : Option (List Bytes)) (failed failed' : FailedPaths) → FindsAsks {A = Asks} (Err meant) reading → Placed {A = Status} told (Err meant) ran ran' failed failed'
+bad-asks-placed None meant reading ran ran' failed failed' h = tt
+bad-asks-placed (Some told) endings.NoMemory reading ran ran' failed failed' h = tt
+bad-asks-placed (Some told) (endings.BadLine file line (causes.Value e)) reading ran ran' failed failed' h = tt
+bad-asks-placed (Some told) meant reading ran ran' failed failed' h = absurd h
 
 -- no fault of files or commands is told of them
 pub bad-asks-cause : (meant : Ending) (reading : Result Asks ResolveError) (f f' r r' : ℕ) → FindsAsks {A = Asks} (Err meant) reading → (f' ≡ f) × (r' ≡ r) → Caused {A = Status} (Err meant) f f' r r'

@@ -6,7 +6,7 @@ use Rattle.mux_client.specs.declared.asks.Asks.{Asks}
 use Rattle.mux_client.specs.declared.talked.Talked.{Talked}
 use Rattle.mux_client.specs.declared.talked.Talked.TheVariants as talks
 use Rattle.mux_client.specs.Journal.{ShowsTold, TalksTold}
-use Rattle.mux_client.specs.Talking.{SameWire}
+use Rattle.mux_client.specs.Talking.{IsJoined, SameWire}
 use Rattle.mux_outside.specs.CallCounts.{CallCounts}
 use Rattle.mux_outside.specs.declared.file_error.FileError.{FileError}
 use Rattle.mux_outside.specs.declared.file_error.FileError.TheVariants as failures
@@ -66,6 +66,9 @@ talk-counts turns talked answer control old mid new f f' f'' e same stops cause 
       waited = talked-waits turns talked old.calls new.calls s;
       idle = λ z. same-idle (so_far (talk_told talked)) f f'' (idle z ∙ same);
     }
+
+pub is-joined : (x : Unit {0}) (control : Bytes) (old mid : WireState) → mid ≡ state_after_join (Ok x) control old → IsJoined mid.seen
+is-joined x control old mid e = subst (λ (w : WireState). IsJoined w.seen) (sym e) (record { alone = record { streams = refl; listens = refl; listeners = refl; own = refl }; none_blocked = refl })
 
 -- where the wire wasn't joined
 module _ (turns : ℕ) (control : Bytes) (old new : WireState) (f f' : Faults) where

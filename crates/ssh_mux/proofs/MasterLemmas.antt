@@ -1,6 +1,7 @@
 -- What a master leaves of its wire and its house, from what was opened and served.
-use Rattle.std.proofs.Common.{◌≡◌, ◌⊎◌, inl, inr, ℕ, Bool, true, false, List, Option, Some, None, Result, Ok, Err, refl, sym, ap, subst, ◌∙◌}
-use Rattle.std.specs.Prelude.{IsTrue}
+use Rattle.std.proofs.Common.{◌≡◌, ◌⊎◌, inl, inr, ℕ, Bool, true, false, List, [], ◌++◌, Option, Some, None, Result, Ok, Err, refl, sym, ap, subst, ◌∙◌}
+use Rattle.std.proofs.lemmas.List.{append-nil}
+use Rattle.std.specs.Prelude.{IsTrue, option_map}
 use Rattle.std.specs.Bool.{OnFalse, OnTrue}
 use Rattle.conf_options.specs.Kept.{Given}
 use Rattle.conf_rules.specs.declared.asked.Asked.{Asked}
@@ -9,7 +10,7 @@ use Rattle.conf_rules.specs.Outcome.{Machine}
 use Rattle.conf_rules.specs.Texts.{Bytes}
 use Rattle.conf_rules.specs.Told.{Told}
 use Rattle.mux_engine.specs.Rests.{HasCalled, HasEnded, refusal_after}
-use Rattle.mux_engine.specs.Wires.{KeepsWire, NoFault}
+use Rattle.mux_engine.specs.Wires.{IsOpened, KeepsWire, NoFault}
 use Rattle.mux_history.specs.declared.ended.Ended.{Ended}
 use Rattle.mux_history.specs.declared.ended.Ended.TheVariants as ends
 use Rattle.mux_outside.specs.CallCounts.{CallCounts, calls_after_open}
@@ -77,7 +78,12 @@ module _ (housed : Bool) (turns : ℕ) (control transport : Bytes) (old new : Wi
     idle = λ z. where_false housed Unit tt;
   }
 
--- where it was served behind the opening
+-- ---- behind the opening
+
+pub is-opened : (x : Unit {0}) (control transport : Bytes) (old mid : WireState) → mid ≡ state_after_open (Ok x) control transport old → IsOpened mid.seen
+is-opened x control transport old mid e = subst (λ (w : WireState). IsOpened w.seen) (sym e) (record { server_alone = refl; none_blocked = refl; listens = refl; own = refl; listeners = refl })
+
+-- where it was served
 served-cause : (ended : Ended) (present : Bool) (refused : Option ℕ) (mid new : WireState) (f f' f'' : Faults) → f' ≡ f → HasEnded present refused ended mid new f' f'' → WireCause (so_far (told_as ended)) f f''
 served-cause ends.ServerFailed present refused mid new f f' f'' e h = subst (λ (x : Faults). WireCause statuses.Transport x f'') e (h.failed refl)
 served-cause ends.ServerEnd present refused mid new f f' f'' e h = tt
@@ -110,6 +116,11 @@ opens_end ends.ServerFailed control transport before now e = e
 opens_end (ends.Broke index why) control transport before now e = e
 opens_end (ends.StartRefused index) control transport before now e = e
 opens_end ends.Spent control transport before now e = e
+
+-- where the opening found no memory, nothing more is told of it
+pub nothing-more : {A : Type 0} (told : Option (List A)) → option_map (λ xs. xs ++ []) told ≡ told
+nothing-more None = refl
+nothing-more (Some xs) = ap Some (append-nil xs)
 
 -- ---- what is left
 

@@ -78,13 +78,13 @@ fn obey<W: Wire, F: Files, R: Runner, S: Sink, H: House>(
     turns: u64,
 ) -> Result<Status, Ending>
     requires fresh { H.fresh house.old }
-    ensures runs { (status : TheStatus) (err err' : OutState) → IsToldBy result status err err'
+    ensures runs { (status : TheStatus) (err told : OutState) → IsToldBy result status err told
         → Runs words.now facts.now
         (world (sockets W.Wire H.Asks.own wire.old house.old)
         (sources F.Files R.Runner files.old runner.old) (output S.Sink out.old) err)
         H.may H.state turns status
         (world (sockets W.Wire H.Asks.own wire.new house.new)
-        (sources F.Files R.Runner files.new runner.new) (output S.Sink out.new) err') }
+        (sources F.Files R.Runner files.new runner.new) (output S.Sink out.new) told) }
     ensures leaves { Leaves
         (coming_of_words (sources F.Files R.Runner files.old runner.old) facts.now words.now)
         (so_far result) (out.new ≡ out.old) (files.new ≡ files.old) (runner.new ≡ runner.old)

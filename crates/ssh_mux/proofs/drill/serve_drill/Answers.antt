@@ -53,3 +53,9 @@ returns-clause-opened g c = rw (c.new-control.ensures, c.in_ok-transport.ensures
 
 pub returns-clause-served : goal.returns-clause-served
 returns-clause-served g c = rw (c.in_ok-policy.ensures.exact ∙ none-policy c.new-none.result c.new-none.ensures) at c.open_and_serve.ensures.served
+
+pub returns-clause-start : goal.returns-clause-start
+returns-clause-start g c = c.open_and_serve.ensures.start
+
+pub returns-clause-wire : goal.returns-clause-wire
+returns-clause-wire g c = c.open_and_serve.ensures.wire
