@@ -58,7 +58,7 @@ module _ (words : List Bytes) (facts : Facts) (before : World) where
     pub ended : Ended known told status before after
     -- that line was handed over once
     pub err_once : OnFalse (is_silent status) (after.err.puts ≡ counted before.err.puts)
-    -- a fault of a file or a command was counted where its status says so, and else nowhere
+    -- a fault of a file or a command was counted exactly where its status says so
     pub fault_cause : FaultCause status before.files.faults after.files.faults
         before.commands.faults after.commands.faults
     -- the output took exactly the listing
@@ -77,10 +77,10 @@ module _ (words : List Bytes) (facts : Facts) (before : World) where
     pub joined : JoinsOnce known status before.wire.joinings after.wire.joinings
     -- its sockets failed to open, and the connection failed, only where that was counted
     pub asked_cause : OnTrue (may_ask known status) (WireCause status before.faults after.faults)
-    -- and it waited once for each turn
+    -- it waited once for each turn where these are spent, and before it ended by an answer
     pub asked_waits : OnTrue (may_ask known status)
         (TalksFor turns status before.wire.calls after.wire.calls)
-    -- a forwarding of the start may be refused unless the settings say that none may
+    -- with a house, a forwarding of the start may be refused unless the settings say that none may
     pub must : IsTrue before.house.known.present → OnTrue (may_share known status)
         (MustsAs status (must_for told) after.house.must)
     -- one is told as refused only where one was, and none may be
@@ -90,6 +90,7 @@ module _ (words : List Bytes) (facts : Facts) (before : World) where
     pub drill : OnTrue (drills known) (IsDrill words turns status before after)
     -- the sockets were opened once, and by a master or a drill alone
     pub opened : OpensOnce known status before.wire.openings after.wire.openings
+    -- and else not
     pub unopened : OnFalse (touches known status)
         (after.wire.calls.opens ≡ before.wire.calls.opens)
     -- they failed to open, and the transport failed, only where that was counted
@@ -99,7 +100,7 @@ module _ (words : List Bytes) (facts : Facts) (before : World) where
     -- the run ended only where that came which ends it so
     pub came : OnTrue (touches known status)
         (CameFor housed status before.wire.calls after.wire.calls)
-    -- without a house it waited once for each turn
+    -- without a house it waited once for each turn where these are spent, and before it ended else
     pub waited : OnFalse housed (OnTrue (touches known status)
         (WaitsFor turns status before.wire.calls after.wire.calls))
     -- and without turns nothing failed but the opening
