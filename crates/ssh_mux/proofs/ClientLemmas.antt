@@ -1,5 +1,5 @@
 -- What a client leaves behind whose control path was found, and one that asks nobody.
-use Rattle.std.proofs.Common.{◌≡◌, ◌⊎◌, inl, inr, ◌&&◌, ℕ, Bool, true, false, List, Option, Some, None, Result, Ok, Err, refl, sym, subst}
+use Rattle.std.proofs.Common.{◌≡◌, ◌⊎◌, inl, inr, ◌&&◌, ℕ, Bool, true, false, List, Option, Some, None, Result, Ok, Err, refl, sym, ap, subst}
 use Rattle.std.specs.Prelude.{IsTrue}
 use Rattle.std.specs.Bool.{OnFalse, OnTrue}
 use Rattle.conf_rules.specs.declared.asked.Asked.{Asked}
@@ -171,8 +171,8 @@ joined-once k asked what path status before now (inl e) o h = subst (λ x. Joins
 joined-once k asked what path status before now (inr e) o h = subst (λ x. JoinsOnce x status before now) (sym e) (some-joined asked what path status before now o h)
 
 asks-are : (k : Known) (asked : Asked) (what : Control) (path : Bytes) (due : Asks) → IsClient k asked what path → asks_for asked what ≡ Ok due → asks_in k ≡ Some (Ok due)
-asks-are k asked what path due (inl i) e = subst (λ x. asks_in x ≡ Some (Ok due)) (sym i) (rw e refl)
-asks-are k asked what path due (inr i) e = subst (λ x. asks_in x ≡ Some (Ok due)) (sym i) (rw e refl)
+asks-are k asked what path due (inl i) e = subst (λ x. asks_in x ≡ Some (Ok due)) (sym i) (ap Some e)
+asks-are k asked what path due (inr i) e = subst (λ x. asks_in x ≡ Some (Ok due)) (sym i) (ap Some e)
 
 pub asked-leaves : (k : Known) (asked : Asked) (what : Control) (path : Bytes) (due : Asks) (turns : ℕ) (result : Result Status Ending) (w w' : WireState) (f f' : Faults) (out out' : OutState) → IsClient k asked what path → asks_for asked what ≡ Ok due → EndsClient result → JoinsAt path (so_far result) w.joinings w'.joinings → Converses due w.seen.told w'.seen.told out.told out'.told result → OutCause (so_far result) out.faults out'.faults → TalkCounts turns (so_far result) w w' f f' → ClientLeaves k turns result w w' f f' out out'
 asked-leaves k asked what path due turns result w w' f f' out out' i e ends joined talked cause counts = record {

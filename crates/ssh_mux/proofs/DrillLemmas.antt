@@ -270,8 +270,8 @@ drill_well false words turns status k k' s s' out out' err h = tt
 
 -- with one
 module _ (words : List Bytes) (turns : ℕ) (w w' : WireState) (out out' : Option (List ℕ)) (err err' : Option (List ℕ)) (f f' : ℕ) where
-  abbrev Told : Status → Type 0
-  Told status = DrillServes turns w.seen.told w'.seen w'.tally status out out' err err' f f'
+  abbrev ToldSo : Status → Type 0
+  ToldSo status = DrillServes turns w.seen.told w'.seen w'.tally status out out' err err' f f'
 
   bad-told : (meant : Ending) (status : Status) (end : Result Status Ending) → (meant ≡ endings.NoMemory → status ≡ statuses.Memory) → SumsUp end w'.tally (Err meant) out out' → Reports status (shown meant) err err' f f' → DrillTells end w'.tally status out out' err err' f f'
   bad-told endings.NoMemory status (Ok due) is h r = subst (λ x. DrillTells (Ok due) w'.tally x out out' err err' f f') (sym (is refl)) (h, subst (λ x. Reports x (shown endings.NoMemory) err err' f f') (is refl) r)
@@ -281,13 +281,13 @@ module _ (words : List Bytes) (turns : ℕ) (w w' : WireState) (out out' : Optio
   bad-run : (meant : Ending) (status : Status) → (meant ≡ endings.NoMemory → status ≡ statuses.Memory) → RunsDrill turns w.seen.told w'.seen w'.tally (Err meant) out out' → Reports status (shown meant) err err' f f' → IsDrilled turns w.seen.told w'.seen w'.tally status out out' err err' f f'
   bad-run meant status is h r = record { answer = h.answer; run = h.run; ends = bad-told meant status (told_as h.answer) is h.ends r }
 
-  memory-told : (meant : Ending) → DrillShares turns w.seen.told w'.seen w'.tally (Err meant) out out' → Reports statuses.Memory (shown meant) err err' f f' → Told statuses.Memory
+  memory-told : (meant : Ending) → DrillShares turns w.seen.told w'.seen w'.tally (Err meant) out out' → Reports statuses.Memory (shown meant) err err' f f' → ToldSo statuses.Memory
   memory-told endings.NotOpened h r = inl h
   memory-told endings.NoMemory (inl h) r = inl h
   memory-told endings.NoMemory (inr h) r = inr (bad-run endings.NoMemory statuses.Memory (λ e. refl) h r)
   memory-told meant h r = inr (bad-run meant statuses.Memory (λ e. refl) h r)
 
-  own-told : (meant : Ending) → EndsDrill (Err meant) → DrillShares turns w.seen.told w'.seen w'.tally (Err meant) out out' → Reports (status_of (shown meant)) (shown meant) err err' f f' → Told (status_of (shown meant))
+  own-told : (meant : Ending) → EndsDrill (Err meant) → DrillShares turns w.seen.told w'.seen w'.tally (Err meant) out out' → Reports (status_of (shown meant)) (shown meant) err err' f f' → ToldSo (status_of (shown meant))
   own-told endings.NotOpened e h r = h
   own-told endings.NoMemory e h r = memory-told endings.NoMemory h r
   own-told endings.TransportFailed e h r = bad-run endings.TransportFailed statuses.Transport (λ x. absurd cc) h r
@@ -300,7 +300,7 @@ module _ (words : List Bytes) (turns : ℕ) (w w' : WireState) (out out' : Optio
   memory-opened status h = inr h
 
   abbrev Drilled : Status → Type 0
-  Drilled status = OpensAt [] (drill_transport words) status w.openings w'.openings × Told status
+  Drilled status = OpensAt [] (drill_transport words) status w.openings w'.openings × ToldSo status
 
   bad-goes : (meant : Ending) (status : Status) → (status ≡ statuses.Memory) ⊎ (status ≡ status_of (shown meant)) → DrillGoes words turns (Err meant) w w' out out' → Reports status (shown meant) err err' f f' → Drilled status
   bad-goes meant status (inl e) h r = subst Drilled (sym e) (memory-opened (status_of (shown meant)) h.opened, memory-told meant h.shared (subst (λ x. Reports x (shown meant) err err' f f') e r))

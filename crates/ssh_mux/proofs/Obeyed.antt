@@ -318,7 +318,7 @@ module _ {T : Type 0} (words : List Bytes) (pid turns : â„•) (May : HouseReply â
     cause = drill-cause result _ _ goes.ends;
     takes = drill-takes seed clients messages words turns result w w' out.told out'.told goes;
     out_cause = out_cause;
-    out_once = on_true _ _ once;
+    out_once = once;
     ran = drilled-runs m words seed clients messages status _ e;
     read = drilled-reads m words seed clients messages status _ e;
     opened = tt;

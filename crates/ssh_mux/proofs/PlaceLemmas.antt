@@ -12,6 +12,7 @@ use Rattle.conf_rules.specs.declared.causes.ResolveError.{ResolveError}
 use Rattle.conf_rules.specs.declared.causes.ResolveError.TheVariants as errors
 use Rattle.conf_rules.specs.declared.command.Command.TheVariants as commands
 use Rattle.conf_rules.specs.declared.control.Control.{Control}
+use Rattle.conf_rules.specs.Diagnostics.{NoControlPath}
 use Rattle.conf_rules.specs.Outcome.{Machine}
 use Rattle.conf_rules.specs.Reading.{reading}
 use Rattle.conf_rules.specs.Resolution.{all_rows}

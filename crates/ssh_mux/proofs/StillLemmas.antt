@@ -1,5 +1,5 @@
 -- An ending that came before anything was written or opened.
-use Rattle.std.proofs.Common.{◌≡◌, ◌⊎◌, inl, inr, ◌&&◌, ◌||◌, ℕ, Bool, true, false, List, [], Option, Some, None, Err, refl, sym, subst, arith}
+use Rattle.std.proofs.Common.{◌≡◌, ◌⊎◌, inl, inr, ◌&&◌, ◌||◌, ℕ, Bool, true, false, List, [], Option, Some, None, Err, refl, sym, ap, subst, arith}
 use Rattle.std.specs.Bool.{OnFalse, OnTrue}
 use Rattle.conf_rules.specs.declared.causes.Cause.TheVariants.{ReadFault, RunFault}
 use Rattle.conf_rules.specs.declared.causes.ListError.TheVariants as list_errors
@@ -52,6 +52,24 @@ not_true b P e = subst (λ x. OnTrue x P) (sym e) tt
 pub where_false : (b : Bool) (P : Type 0) → P → OnFalse b P
 where_false true P h = tt
 where_false false P h = h
+
+-- of two things
+pub both-still : (b : Bool) {X Y : Type 0} (x : X) (y : Y) → OnFalse b ((x ≡ x) × (y ≡ y))
+both-still true x y = tt
+both-still false x y = (refl, refl)
+
+pub first-still : (b : Bool) (P Q : Type 0) → OnFalse b (P × Q) → OnFalse b P
+first-still true P Q h = tt
+first-still false P Q h = h.0
+
+pub second-still : (b : Bool) (P Q : Type 0) → OnFalse b (P × Q) → OnFalse b Q
+second-still true P Q h = tt
+second-still false P Q h = h.1
+
+-- and of what they show
+pub both-shown : (b : Bool) {X Y A B : Type 0} (f : X → A) (g : Y → B) (x x' : X) (y y' : Y) → OnFalse b ((x' ≡ x) × (y' ≡ y)) → OnFalse b ((f x' ≡ f x) × (g y' ≡ g y))
+both-shown true f g x x' y y' h = tt
+both-shown false f g x x' y y' h = (ap f h.0, ap g h.1)
 
 -- what follows there
 pub follows : (b : Bool) (P Q : Type 0) → (P → Q) → OnFalse b P → OnFalse b Q

@@ -1,4 +1,4 @@
-use Rattle.std.proofs.Common.{◌≡◌, ◌&&◌, ◌||◌, Err, ap, refl}
+use Rattle.std.proofs.Common.{◌≡◌, ◌&&◌, ◌||◌, refl}
 use Rattle.std.proofs.lemmas.Result.{err_from_is_err_and}
 use Rattle.conf_rules.specs.declared.command.Command.TheVariants as commands
 use Rattle.conf_rules.specs.Outcome.{Drills}
@@ -16,7 +16,7 @@ use Rattle.ssh_mux.proofs.Obeyed.{client-obeyed, drill-obeyed, list-obeyed, mast
 use Rattle.ssh_mux.proofs.PlaceLemmas.{client-told, list-told, master-told}
 use Rattle.ssh_mux.proofs.PolicyLemmas.{are-permitted}
 use Rattle.ssh_mux.proofs.RefusalLemmas.{list-looks, master-looks}
-use Rattle.ssh_mux.proofs.StillLemmas.{else-or, follows, not_false, on_false, or-else, untouched}
+use Rattle.ssh_mux.proofs.StillLemmas.{both-shown, else-or, first-still, not_false, on_false, or-else, second-still, untouched}
 use Rattle.ssh_mux.proofs.program.obey.Goals as goal
 
 pub share-requires : goal.share-requires
@@ -54,7 +54,7 @@ returns-in-List-clause-leaves g c = record {
 
 pub returns-in-Master-clause-runs : goal.returns-in-Master-clause-runs
 returns-in-Master-clause-runs g c = let e = rw c.in-Master.is at c.in_ok-command.ensures.exact in obeyed-runs c.args.words.now c.args.facts.now c.args.turns g.H.Asks.may g.H.Asks.state (sources g.F.Files g.R.Runner c.args.files.now c.args.runner.now) (sources g.F.Files g.R.Runner c.share.new.files c.share.new.runner) (sockets g.W.Wire g.H.Asks c.args.wire.now c.args.house.now) (sockets g.W.Wire g.H.Asks c.share.new.wire c.share.new.house) (output g.S.Sink c.args.out.now) (output g.S.Sink c.args.out.now) _ _ _ c.share.result (of-read _ _ _ e) (master-told _ _ _ _ _ _ e) (for-read _ _ _ e)
-    (master-obeyed c.args.words.now (pid_of c.args.facts.now.pid) c.args.turns g.H.Asks.may g.H.Asks.state c.args.facts.now c.in-Master.asked c.in-Master.transport c.in-Master.opens c.in-Master.listens c.share.result (sources g.F.Files g.R.Runner c.args.files.now c.args.runner.now) (sources g.F.Files g.R.Runner c.share.new.files c.share.new.runner) (sockets g.W.Wire g.H.Asks c.args.wire.now c.args.house.now) (sockets g.W.Wire g.H.Asks c.share.new.wire c.share.new.house) (output g.S.Sink c.args.out.now) c.share.ensures.looks c.share.ensures.leaves (follows _ _ _ (λ x. (ap g.W.Wire.state x.0, ap (λ h. (g.H.Asks.state h).told) x.1)) c.share.ensures.untouched))
+    (master-obeyed c.args.words.now (pid_of c.args.facts.now.pid) c.args.turns g.H.Asks.may g.H.Asks.state c.args.facts.now c.in-Master.asked c.in-Master.transport c.in-Master.opens c.in-Master.listens c.share.result (sources g.F.Files g.R.Runner c.args.files.now c.args.runner.now) (sources g.F.Files g.R.Runner c.share.new.files c.share.new.runner) (sockets g.W.Wire g.H.Asks c.args.wire.now c.args.house.now) (sockets g.W.Wire g.H.Asks c.share.new.wire c.share.new.house) (output g.S.Sink c.args.out.now) c.share.ensures.looks c.share.ensures.leaves (both-shown _ g.W.Wire.state (λ h. (g.H.Asks.state h).told) _ _ _ _ c.share.ensures.untouched))
 
 pub returns-in-Master-clause-leaves : goal.returns-in-Master-clause-leaves
 returns-in-Master-clause-leaves g c = record {
@@ -62,21 +62,21 @@ returns-in-Master-clause-leaves g c = record {
   unlisted = on_false _ _;
   files = rw (of-read _ _ _ (rw c.in-Master.is at c.in_ok-command.ensures.exact)) (not_false _ _ (master-looks _ _ _ _ _));
   runner = rw (of-read _ _ _ (rw c.in-Master.is at c.in_ok-command.ensures.exact)) (not_false _ _ (master-looks _ _ _ _ _));
-  wire = rw (of-read _ _ _ (rw c.in-Master.is at c.in_ok-command.ensures.exact)) (or-else (touches (coming (sources g.F.Files g.R.Runner c.args.files.now c.args.runner.now) c.args.facts.now (commands.Master c.in-Master.asked c.in-Master.transport c.in-Master.opens c.in-Master.listens)) (so_far c.share.result)) (may_ask (coming (sources g.F.Files g.R.Runner c.args.files.now c.args.runner.now) c.args.facts.now (commands.Master c.in-Master.asked c.in-Master.transport c.in-Master.opens c.in-Master.listens)) (so_far c.share.result)) (c.share.new.wire ≡ c.args.wire.now) (untouched (may_open (so_far c.share.result)) (opens (coming (sources g.F.Files g.R.Runner c.args.files.now c.args.runner.now) c.args.facts.now (commands.Master c.in-Master.asked c.in-Master.transport c.in-Master.opens c.in-Master.listens))) (drills (coming (sources g.F.Files g.R.Runner c.args.files.now c.args.runner.now) c.args.facts.now (commands.Master c.in-Master.asked c.in-Master.transport c.in-Master.opens c.in-Master.listens))) (c.share.new.wire ≡ c.args.wire.now) (follows _ _ _ (λ x. x.0) c.share.ensures.untouched)));
-  house = rw (of-read _ _ _ (rw c.in-Master.is at c.in_ok-command.ensures.exact)) (follows _ _ _ (λ x. x.1) c.share.ensures.untouched);
+  wire = rw (of-read _ _ _ (rw c.in-Master.is at c.in_ok-command.ensures.exact)) (or-else (touches (coming (sources g.F.Files g.R.Runner c.args.files.now c.args.runner.now) c.args.facts.now (commands.Master c.in-Master.asked c.in-Master.transport c.in-Master.opens c.in-Master.listens)) (so_far c.share.result)) (may_ask (coming (sources g.F.Files g.R.Runner c.args.files.now c.args.runner.now) c.args.facts.now (commands.Master c.in-Master.asked c.in-Master.transport c.in-Master.opens c.in-Master.listens)) (so_far c.share.result)) (c.share.new.wire ≡ c.args.wire.now) (untouched (may_open (so_far c.share.result)) (opens (coming (sources g.F.Files g.R.Runner c.args.files.now c.args.runner.now) c.args.facts.now (commands.Master c.in-Master.asked c.in-Master.transport c.in-Master.opens c.in-Master.listens))) (drills (coming (sources g.F.Files g.R.Runner c.args.files.now c.args.runner.now) c.args.facts.now (commands.Master c.in-Master.asked c.in-Master.transport c.in-Master.opens c.in-Master.listens))) (c.share.new.wire ≡ c.args.wire.now) (first-still _ _ _ c.share.ensures.untouched)));
+  house = rw (of-read _ _ _ (rw c.in-Master.is at c.in_ok-command.ensures.exact)) (second-still _ _ _ c.share.ensures.untouched);
 }
 
 pub returns-in-Control-clause-runs : goal.returns-in-Control-clause-runs
 returns-in-Control-clause-runs g c = let e = rw c.in-Control.is at c.in_ok-command.ensures.exact in obeyed-runs c.args.words.now c.args.facts.now c.args.turns g.H.Asks.may g.H.Asks.state (sources g.F.Files g.R.Runner c.args.files.now c.args.runner.now) (sources g.F.Files g.R.Runner c.ask_master.new.files c.ask_master.new.runner) (sockets g.W.Wire g.H.Asks c.args.wire.now c.args.house.now) (sockets g.W.Wire g.H.Asks c.ask_master.new.wire c.args.house.now) (output g.S.Sink c.args.out.now) (output g.S.Sink c.ask_master.new.out) _ _ _ c.ask_master.result (of-read _ _ _ e) (client-told _ _ _ _ e) (for-read _ _ _ e)
-    (client-obeyed c.args.words.now (pid_of c.args.facts.now.pid) c.args.turns g.H.Asks.may g.H.Asks.state c.args.facts.now c.in-Control.asked c.in-Control.control c.ask_master.result (sources g.F.Files g.R.Runner c.args.files.now c.args.runner.now) (sources g.F.Files g.R.Runner c.ask_master.new.files c.ask_master.new.runner) (g.W.Wire.state c.args.wire.now) (g.W.Wire.state c.ask_master.new.wire) (g.W.Wire.faults c.args.wire.now) (g.W.Wire.faults c.ask_master.new.wire) (g.H.Asks.state c.args.house.now) (output g.S.Sink c.args.out.now) (output g.S.Sink c.ask_master.new.out) c.ask_master.ensures.looks c.ask_master.ensures.leaves (follows _ _ _ (λ x. (ap g.W.Wire.state x.0, ap g.S.Sink.told x.1)) c.ask_master.ensures.untouched))
+    (client-obeyed c.args.words.now (pid_of c.args.facts.now.pid) c.args.turns g.H.Asks.may g.H.Asks.state c.args.facts.now c.in-Control.asked c.in-Control.control c.ask_master.result (sources g.F.Files g.R.Runner c.args.files.now c.args.runner.now) (sources g.F.Files g.R.Runner c.ask_master.new.files c.ask_master.new.runner) (g.W.Wire.state c.args.wire.now) (g.W.Wire.state c.ask_master.new.wire) (g.W.Wire.faults c.args.wire.now) (g.W.Wire.faults c.ask_master.new.wire) (g.H.Asks.state c.args.house.now) (output g.S.Sink c.args.out.now) (output g.S.Sink c.ask_master.new.out) c.ask_master.ensures.looks c.ask_master.ensures.leaves (both-shown _ g.W.Wire.state g.S.Sink.told _ _ _ _ c.ask_master.ensures.untouched))
 
 pub returns-in-Control-clause-leaves : goal.returns-in-Control-clause-leaves
 returns-in-Control-clause-leaves g c = record {
-  unwritten = rw (of-read _ _ _ (rw c.in-Control.is at c.in_ok-command.ensures.exact)) (else-or (may_write (so_far c.ask_master.result)) (may_ask (coming (sources g.F.Files g.R.Runner c.args.files.now c.args.runner.now) c.args.facts.now (commands.Control c.in-Control.asked c.in-Control.control)) (so_far c.ask_master.result)) (c.ask_master.new.out ≡ c.args.out.now) (follows _ _ _ (λ x. x.1) c.ask_master.ensures.untouched));
-  unlisted = rw (of-read _ _ _ (rw c.in-Control.is at c.in_ok-command.ensures.exact)) (unlisted-client (machine_of_sources (sources g.F.Files g.R.Runner c.args.files.now c.args.runner.now) c.args.facts.now) c.in-Control.asked c.in-Control.control (so_far c.ask_master.result) (c.ask_master.new.out ≡ c.args.out.now) (follows _ _ _ (λ x. x.1) c.ask_master.ensures.untouched));
+  unwritten = rw (of-read _ _ _ (rw c.in-Control.is at c.in_ok-command.ensures.exact)) (else-or (may_write (so_far c.ask_master.result)) (may_ask (coming (sources g.F.Files g.R.Runner c.args.files.now c.args.runner.now) c.args.facts.now (commands.Control c.in-Control.asked c.in-Control.control)) (so_far c.ask_master.result)) (c.ask_master.new.out ≡ c.args.out.now) (second-still _ _ _ c.ask_master.ensures.untouched));
+  unlisted = rw (of-read _ _ _ (rw c.in-Control.is at c.in_ok-command.ensures.exact)) (unlisted-client (machine_of_sources (sources g.F.Files g.R.Runner c.args.files.now c.args.runner.now) c.args.facts.now) c.in-Control.asked c.in-Control.control (so_far c.ask_master.result) (c.ask_master.new.out ≡ c.args.out.now) (second-still _ _ _ c.ask_master.ensures.untouched));
   files = rw (of-read _ _ _ (rw c.in-Control.is at c.in_ok-command.ensures.exact)) (not_false _ _ (client-looks _ _ _));
   runner = rw (of-read _ _ _ (rw c.in-Control.is at c.in_ok-command.ensures.exact)) (not_false _ _ (client-looks _ _ _));
-  wire = rw (of-read _ _ _ (rw c.in-Control.is at c.in_ok-command.ensures.exact)) (else-or (touches (coming (sources g.F.Files g.R.Runner c.args.files.now c.args.runner.now) c.args.facts.now (commands.Control c.in-Control.asked c.in-Control.control)) (so_far c.ask_master.result)) (may_ask (coming (sources g.F.Files g.R.Runner c.args.files.now c.args.runner.now) c.args.facts.now (commands.Control c.in-Control.asked c.in-Control.control)) (so_far c.ask_master.result)) (c.ask_master.new.wire ≡ c.args.wire.now) (follows _ _ _ (λ x. x.0) c.ask_master.ensures.untouched));
+  wire = rw (of-read _ _ _ (rw c.in-Control.is at c.in_ok-command.ensures.exact)) (else-or (touches (coming (sources g.F.Files g.R.Runner c.args.files.now c.args.runner.now) c.args.facts.now (commands.Control c.in-Control.asked c.in-Control.control)) (so_far c.ask_master.result)) (may_ask (coming (sources g.F.Files g.R.Runner c.args.files.now c.args.runner.now) c.args.facts.now (commands.Control c.in-Control.asked c.in-Control.control)) (so_far c.ask_master.result)) (c.ask_master.new.wire ≡ c.args.wire.now) (first-still _ _ _ c.ask_master.ensures.untouched));
   house = on_false _ _;
 }
 
