@@ -21,19 +21,19 @@ pub talk-requires : goal.talk-requires
 talk-requires g c = record { asks = c.requires.may; joined = is-joined c.in-Ok.field-0 _ (g.W.Wire.state c.args.wire.now) (g.W.Wire.state c.join.new.self) c.in-Ok.ensures.state }
 
 pub returns-in-Err-Failed-clause-joined : goal.returns-in-Err-Failed-clause-joined
-returns-in-Err-Failed-clause-joined g c = ap (λ (s : WireState). s.joinings) (rw c.as_bytes.ensures at c.in-Err-Failed.ensures.state)
+returns-in-Err-Failed-clause-joined g c = ap (λ (s : WireState). s.joinings) (rw (c.in-Err-Failed.field-0-is, c.as_bytes.ensures) at c.in-Err-Failed.ensures.state)
 
 pub returns-in-Err-Failed-clause-talked : goal.returns-in-Err-Failed-clause-talked
 returns-in-Err-Failed-clause-talked g c = record { same_wire = ap (λ (s : WireState). s.seen.told) c.in-Err-Failed.ensures.state; same_out = refl }
 
 pub returns-in-Err-Failed-clause-wire : goal.returns-in-Err-Failed-clause-wire
-returns-in-Err-Failed-clause-wire g c = failed-talk c.args.turns _ (g.W.Wire.state c.args.wire.now) (g.W.Wire.state c.join.new.self) (g.W.Wire.faults c.args.wire.now) (g.W.Wire.faults c.join.new.self) c.in-Err-Failed.ensures.state c.in-Err-Failed.ensures.cause
+returns-in-Err-Failed-clause-wire g c = failed-talk c.args.turns _ (g.W.Wire.state c.args.wire.now) (g.W.Wire.state c.join.new.self) (g.W.Wire.faults c.args.wire.now) (g.W.Wire.faults c.join.new.self) (rw c.in-Err-Failed.field-0-is at c.in-Err-Failed.ensures.state) (rw c.in-Err-Failed.field-0-is at c.in-Err-Failed.ensures.cause)
 
 pub returns-in-Err-OutOfMemory-clause-joined : goal.returns-in-Err-OutOfMemory-clause-joined
-returns-in-Err-OutOfMemory-clause-joined g c = inl (ap (λ (s : WireState). s.joinings) c.in-Err-OutOfMemory.ensures.state ∙ nothing-more _)
+returns-in-Err-OutOfMemory-clause-joined g c = inl (ap (λ (s : WireState). s.joinings) (rw c.in-Err-OutOfMemory.field-0-is at c.in-Err-OutOfMemory.ensures.state) ∙ nothing-more _)
 
 pub returns-in-Err-OutOfMemory-clause-talked : goal.returns-in-Err-OutOfMemory-clause-talked
 returns-in-Err-OutOfMemory-clause-talked g c = inl (record { same_wire = ap (λ (s : WireState). s.seen.told) c.in-Err-OutOfMemory.ensures.state; same_out = refl })
 
 pub returns-in-Err-OutOfMemory-clause-wire : goal.returns-in-Err-OutOfMemory-clause-wire
-returns-in-Err-OutOfMemory-clause-wire g c = lacking-talk c.args.turns _ (g.W.Wire.state c.args.wire.now) (g.W.Wire.state c.join.new.self) (g.W.Wire.faults c.args.wire.now) (g.W.Wire.faults c.join.new.self) c.in-Err-OutOfMemory.ensures.state
+returns-in-Err-OutOfMemory-clause-wire g c = lacking-talk c.args.turns c.as_bytes.result.now (g.W.Wire.state c.args.wire.now) (g.W.Wire.state c.join.new.self) (g.W.Wire.faults c.args.wire.now) (g.W.Wire.faults c.join.new.self) (rw c.in-Err-OutOfMemory.field-0-is at c.in-Err-OutOfMemory.ensures.state)

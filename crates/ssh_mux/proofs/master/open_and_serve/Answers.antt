@@ -1,8 +1,8 @@
-use Rattle.std.proofs.Common.{ap, inl, refl, ◌∙◌}
+use Rattle.std.proofs.Common.{ap, refl, ◌∙◌}
 use Rattle.mux_outside.specs.WireState.{WireState}
-use Rattle.ssh_mux.proofs.MasterLemmas.{failed-counts, lacking-counts, opens_end, served-counts}
+use Rattle.ssh_mux.proofs.MasterLemmas.{failed-counts, opens_end, served-counts}
 use Rattle.ssh_mux.proofs.SharingLemmas.{shares_end, start_end}
-use Rattle.ssh_mux.proofs.MasterLemmas.{is-opened, nothing-more}
+use Rattle.ssh_mux.proofs.MasterLemmas.{is-opened}
 use Rattle.ssh_mux.proofs.master.open_and_serve.Goals as goal
 
 pub returns-in-Ok-clause-opened : goal.returns-in-Ok-clause-opened
@@ -21,19 +21,10 @@ pub serve-requires : goal.serve-requires
 serve-requires g c = record { opened = is-opened c.in-Ok.field-0 _ _ (g.W.Wire.state c.args.wire.now) (g.W.Wire.state c.open.new.self) c.in-Ok.ensures.state; blank = (c.present-blank.ensures.begun c.requires.begun).nothing }
 
 pub returns-in-Err-Failed-clause-opened : goal.returns-in-Err-Failed-clause-opened
-returns-in-Err-Failed-clause-opened g c = ap (λ (s : WireState). s.openings) (rw (c.as_bytes.ensures, c.as_bytes-2.ensures) at c.in-Err-Failed.ensures.state)
+returns-in-Err-Failed-clause-opened g c = ap (λ (s : WireState). s.openings) (rw (c.in-Err-Failed.field-0-is, c.as_bytes.ensures, c.as_bytes-2.ensures) at c.in-Err-Failed.ensures.state)
 
 pub returns-in-Err-Failed-clause-served : goal.returns-in-Err-Failed-clause-served
 returns-in-Err-Failed-clause-served g c = record { same_wire = ap (λ (s : WireState). s.seen.told) c.in-Err-Failed.ensures.state; same_house = refl }
 
 pub returns-in-Err-Failed-clause-wire : goal.returns-in-Err-Failed-clause-wire
-returns-in-Err-Failed-clause-wire g c = failed-counts (g.H.Asks.state c.args.house.now).known.present c.args.turns _ _ (g.W.Wire.state c.args.wire.now) (g.W.Wire.state c.open.new.self) (g.W.Wire.faults c.args.wire.now) (g.W.Wire.faults c.open.new.self) c.in-Err-Failed.ensures.state c.in-Err-Failed.ensures.cause
-
-pub returns-in-Err-OutOfMemory-clause-opened : goal.returns-in-Err-OutOfMemory-clause-opened
-returns-in-Err-OutOfMemory-clause-opened g c = inl (ap (λ (s : WireState). s.openings) c.in-Err-OutOfMemory.ensures.state ∙ nothing-more _)
-
-pub returns-in-Err-OutOfMemory-clause-served : goal.returns-in-Err-OutOfMemory-clause-served
-returns-in-Err-OutOfMemory-clause-served g c = inl (record { same_wire = ap (λ (s : WireState). s.seen.told) c.in-Err-OutOfMemory.ensures.state; same_house = refl })
-
-pub returns-in-Err-OutOfMemory-clause-wire : goal.returns-in-Err-OutOfMemory-clause-wire
-returns-in-Err-OutOfMemory-clause-wire g c = lacking-counts (g.H.Asks.state c.args.house.now).known.present c.args.turns _ _ (g.W.Wire.state c.args.wire.now) (g.W.Wire.state c.open.new.self) (g.W.Wire.faults c.args.wire.now) (g.W.Wire.faults c.open.new.self) c.in-Err-OutOfMemory.ensures.state
+returns-in-Err-Failed-clause-wire g c = failed-counts (g.H.Asks.state c.args.house.now).known.present c.args.turns _ _ (g.W.Wire.state c.args.wire.now) (g.W.Wire.state c.open.new.self) (g.W.Wire.faults c.args.wire.now) (g.W.Wire.faults c.open.new.self) (rw c.in-Err-Failed.field-0-is at c.in-Err-Failed.ensures.state) (rw c.in-Err-Failed.field-0-is at c.in-Err-Failed.ensures.cause)
