@@ -1,19 +1,15 @@
 -- What a client leaves behind whose control path was found, and one that asks nobody.
-use Rattle.std.proofs.Common.{◌≡◌, ◌⊎◌, inl, inr, ◌&&◌, ℕ, Bool, true, false, List, Option, Some, None, Result, Ok, Err, refl, sym, ap, subst}
-use Rattle.std.specs.Prelude.{IsTrue}
-use Rattle.std.specs.Bool.{OnFalse, OnTrue}
+use Rattle.std.proofs.Common.{◌≡◌, ◌⊎◌, inl, inr, ℕ, true, List, Option, Some, None, Result, Ok, Err, refl, sym, ap, subst}
 use Rattle.conf_rules.specs.declared.asked.Asked.{Asked}
 use Rattle.conf_rules.specs.declared.causes.Cause.TheVariants as causes
 use Rattle.conf_rules.specs.declared.causes.ResolveError.{ResolveError}
 use Rattle.conf_rules.specs.declared.causes.ResolveError.TheVariants as resolve_errors
 use Rattle.conf_rules.specs.declared.control.Control.{Control}
 use Rattle.conf_rules.specs.Diagnostics as ends
-use Rattle.conf_rules.specs.Outcome.{Joins}
 use Rattle.conf_resolve.specs.Faults.{FailedPaths}
 use Rattle.conf_rules.specs.Texts.{Bytes}
 use Rattle.conf_rules.specs.Told.{Told}
 use Rattle.mux_client.specs.declared.asks.Asks.{Asks}
-use Rattle.mux_outside.specs.declared.mark.Mark.{Mark}
 use Rattle.mux_outside.specs.Faults.{Faults}
 use Rattle.mux_outside.specs.WireState.{WireState}
 use Rattle.ssh_mux.specs.declared.ending.Ending.{Ending}
@@ -23,14 +19,14 @@ use Rattle.ssh_mux.specs.declared.status.Status.TheVariants as statuses
 use Rattle.ssh_mux.specs.Answers.{Comes, IsAskDue, may_ask, may_open, so_far}
 use Rattle.ssh_mux.specs.Asks.{FindsAsks, asks_for}
 use Rattle.ssh_mux.specs.Causes.{Caused, OutCause}
-use Rattle.ssh_mux.specs.Client.{ClientLeaves, Converses, ConversesBy, ConversesFor, EndsClient, JoinsAt, JoinsOnce, TalkCounts, TalksFor, asks_in}
+use Rattle.ssh_mux.specs.Client.{ClientLeaves, Converses, ConversesBy, EndsClient, JoinsAt, JoinsOnce, TalkCounts, TalksFor, asks_in}
 use Rattle.ssh_mux.specs.Ending.{shown}
 use Rattle.ssh_mux.specs.Outcomes.{Known, Certain, Client, asks, joins_at}
 use Rattle.ssh_mux.specs.Places.{Placed}
 use Rattle.ssh_mux.specs.Sharing.{WireCause}
 use Rattle.ssh_mux.specs.Status.{status_of}
 use Rattle.ssh_mux.specs.World.{OutState}
-use Rattle.ssh_mux.proofs.StillLemmas.{loud, not_false, on_true, quiet-count, starved-due, still-calls, still-idle}
+use Rattle.ssh_mux.proofs.StillLemmas.{loud, on_true, quiet-count, still-calls, still-idle}
 use Rattle.ssh_mux.proofs.TalkLemmas.{Unjoined, still-asked-cause, still-asked-waits, still-talked}
 
 -- what was found of it

@@ -11,10 +11,8 @@ use Rattle.mux_outside.specs.CallCounts.{CallCounts}
 use Rattle.mux_outside.specs.declared.file_error.FileError.{FileError}
 use Rattle.mux_outside.specs.declared.file_error.FileError.TheVariants as failures
 use Rattle.mux_outside.specs.declared.mark.Mark.{Mark}
-use Rattle.mux_outside.specs.Faults.{Faults, OpeningFault, ServerFault}
+use Rattle.mux_outside.specs.Faults.{Faults, ServerFault}
 use Rattle.mux_outside.specs.WireState.{WireState, state_after_join}
-use Rattle.ssh_mux.specs.declared.ending.Ending.{Ending}
-use Rattle.ssh_mux.specs.declared.ending.Ending.TheVariants as endings
 use Rattle.ssh_mux.specs.declared.status.Status.{Status}
 use Rattle.ssh_mux.specs.declared.status.Status.TheVariants as statuses
 use Rattle.ssh_mux.specs.Answers.{so_far}

@@ -1,8 +1,7 @@
 -- What a master leaves of its wire and its house, from what was opened and served.
-use Rattle.std.proofs.Common.{◌≡◌, ◌⊎◌, inl, inr, ℕ, Bool, true, false, List, [], ◌++◌, Option, Some, None, Result, Ok, Err, refl, sym, ap, subst, ◌∙◌}
+use Rattle.std.proofs.Common.{◌≡◌, inr, ℕ, Bool, true, false, List, [], ◌++◌, Option, Some, None, Result, Ok, Err, refl, sym, ap, subst, ◌∙◌}
 use Rattle.std.proofs.lemmas.List.{append-nil}
 use Rattle.std.specs.Prelude.{IsTrue, option_map}
-use Rattle.std.specs.Bool.{OnFalse, OnTrue}
 use Rattle.conf_options.specs.Kept.{Given}
 use Rattle.conf_rules.specs.declared.asked.Asked.{Asked}
 use Rattle.conf_rules.specs.declared.command.Command.TheVariants as commands
@@ -14,7 +13,6 @@ use Rattle.mux_engine.specs.Wires.{IsOpened, KeepsWire, NoFault}
 use Rattle.mux_history.specs.declared.ended.Ended.{Ended}
 use Rattle.mux_history.specs.declared.ended.Ended.TheVariants as ends
 use Rattle.mux_outside.specs.CallCounts.{CallCounts, calls_after_open}
-use Rattle.mux_outside.specs.declared.file_error.FileError.{FileError}
 use Rattle.mux_outside.specs.declared.file_error.FileError.TheVariants as failures
 use Rattle.mux_outside.specs.declared.house.HouseReply.{HouseReply}
 use Rattle.mux_outside.specs.declared.mark.Opening.{Opening}
@@ -23,7 +21,6 @@ use Rattle.mux_outside.specs.Faults.{Faults, OpeningFault}
 use Rattle.mux_outside.specs.House.{HouseState}
 use Rattle.mux_outside.specs.WireState.{WireState, state_after_open}
 use Rattle.ssh_mux.specs.declared.ending.Ending.{Ending}
-use Rattle.ssh_mux.specs.declared.ending.Ending.TheVariants as endings
 use Rattle.ssh_mux.specs.declared.status.Status.{Status}
 use Rattle.ssh_mux.specs.declared.status.Status.TheVariants as statuses
 use Rattle.ssh_mux.specs.Answers.{IsRefused, may_share, serves_house, so_far}

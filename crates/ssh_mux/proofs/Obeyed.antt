@@ -1,5 +1,5 @@
 -- What words come to before a line is written of it, from what each command does, and to a run.
-use Rattle.std.proofs.Common.{◌≡◌, ◌⊎◌, ◌&&◌, ◌||◌, ℕ, Bool, true, false, List, Option, Some, None, Result, Ok, Err, refl, sym, ap, subst, ◌∙◌}
+use Rattle.std.proofs.Common.{◌≡◌, ℕ, true, false, List, Option, Result, Ok, Err, refl, sym, ap, subst}
 use Rattle.std.specs.Prelude.{IsTrue}
 use Rattle.std.specs.Bool.{OnFalse, OnTrue}
 use Rattle.conf_command.specs.declared.reader.WordsError.{WordsError}
@@ -19,25 +19,23 @@ use Rattle.mux_outside.specs.Faults.{Faults}
 use Rattle.mux_outside.specs.House.{HouseState}
 use Rattle.mux_outside.specs.WireState.{WireState}
 use Rattle.ssh_mux.specs.declared.ending.Ending.{Ending}
-use Rattle.ssh_mux.specs.declared.ending.Ending.TheVariants as endings
 use Rattle.ssh_mux.specs.declared.status.Status.{Status}
 use Rattle.ssh_mux.specs.Answers.{Comes, may_ask, may_open, may_share, may_show, may_write, reaches, serves_house, so_far, touches}
 use Rattle.ssh_mux.specs.Causes.{Caused, OutCause}
 use Rattle.ssh_mux.specs.Client.{ClientLeaves, ConversesFor, JoinsOnce, TalksFor}
 use Rattle.ssh_mux.specs.Commands.{RunsFor, commands_for, commands_of}
-use Rattle.ssh_mux.specs.Drill.{DrillGoes, EndsDrill}
+use Rattle.ssh_mux.specs.Drill.{DrillGoes}
 use Rattle.ssh_mux.specs.Ending.{misread_as, shown}
 use Rattle.ssh_mux.specs.Err.{IsToldBy, Reports}
 use Rattle.ssh_mux.specs.Looks.{Looks, coming, machine_of_sources}
 use Rattle.ssh_mux.specs.Out.{OutTakes}
-use Rattle.ssh_mux.specs.Outcomes.{Known, Certain, asks, drills, of_command, of_words, opens}
+use Rattle.ssh_mux.specs.Outcomes.{Known, Certain, drills, of_words, opens}
 use Rattle.ssh_mux.specs.Places.{Placed, told_for, told_over}
 use Rattle.ssh_mux.specs.Puts.{PutsOnce, prints}
 use Rattle.ssh_mux.specs.Reads.{ReadsFor}
 use Rattle.ssh_mux.specs.Runs.{Runs}
 use Rattle.ssh_mux.specs.Sharing.{CallsEnd, CameFor, CountsFor, IdleCause, MasterLeaves, OpensOnce, SharesFor, StartCause, WaitsFor, WireCause, pid_of, policy_in}
 use Rattle.ssh_mux.specs.Starts.{BegunRests, MustsAs, must_for}
-use Rattle.ssh_mux.specs.Status.{status_of}
 use Rattle.ssh_mux.specs.World.{OutState, Sockets, Sources, world}
 use Rattle.ssh_mux.proofs.AnswerLemmas.{asked_after, asked_cause_after, asked_waits_after, asked_well, joined_after}
 use Rattle.ssh_mux.proofs.DrillLemmas.{drill-cause, drill-comes, drill-takes, drill-touches, drill_after, drill_well, drilled-came, drilled-placed, still-drill}
