@@ -65,16 +65,6 @@ module _ (housed : Bool) (turns : ℕ) (control transport : Bytes) (old new : Wi
     idle = λ z. where_false housed Unit tt;
   }
 
-  pub lacking-counts : new ≡ state_after_open (Err failures.OutOfMemory) control transport old → CountsFor housed turns statuses.Memory old new f f'
-  lacking-counts e = record {
-    joinings = ap (λ (w : WireState). w.joinings) e;
-    cause = tt;
-    calls = opening_calls (Err failures.OutOfMemory) turns statuses.Memory old.calls new.calls (ap (λ (w : WireState). w.calls) e);
-    came = memory-came housed old.calls new.calls;
-    waited = where_false housed Unit tt;
-    idle = λ z. where_false housed Unit tt;
-  }
-
 -- ---- behind the opening
 
 pub is-opened : (x : Unit {0}) (control transport : Bytes) (old mid : WireState) → mid ≡ state_after_open (Ok x) control transport old → IsOpened mid.seen
