@@ -9,13 +9,14 @@ use Rattle.mux_client.specs.declared.asks.Asks.{Asks}
 use Rattle.mux_client.specs.declared.talked.Talked.{Talked}
 use Rattle.mux_client.specs.declared.talked.Talked.TheVariants as talks
 use Rattle.mux_outside.specs.declared.mark.Mark.{Mark}
+use Rattle.mux_outside.specs.Faults.{Faults}
 use Rattle.mux_outside.specs.CallCounts.{CallCounts}
 use Rattle.ssh_mux.specs.declared.ending.Ending.{Ending as MeantEnding}
 use Rattle.ssh_mux.specs.declared.ending.Ending.TheVariants as endings
 use Rattle.ssh_mux.specs.declared.status.Status.{Status}
 use Rattle.ssh_mux.specs.declared.status.Status.TheVariants as statuses
 use Rattle.ssh_mux.specs.Answers.{may_ask, may_open, may_show, may_write, reaches}
-use Rattle.ssh_mux.specs.Client.{Answers, AnswersBy, AnswersFor, Converses, ConversesBy, ConversesFor, IsAnswered, IsAsked, IsUnasked, JoinsOnce, TalksFor, asks_in, ends_asking, talk_told}
+use Rattle.ssh_mux.specs.Client.{Answers, AnswersBy, Converses, ConversesBy, ConversesFor, IsAnswered, IsAsked, IsUnasked, JoinsOnce, TalksFor, asks_in, ends_asking, talk_told}
 use Rattle.ssh_mux.specs.Ending.{shown}
 use Rattle.ssh_mux.specs.Err.{Reports}
 use Rattle.ssh_mux.specs.Outcomes.{Known, Certain, Client, Listing, Master, asks, drills, opens}
@@ -46,8 +47,8 @@ joined_after k status ending b n f f' before now r h = carried (λ s. JoinsOnce 
 
 -- ---- counts
 
-pub asked_cause_after : (k : Known) (status : Status) (ending : Ending) (b n : Option (List ℕ)) (f f' s s' c c' : ℕ) → Reports status ending b n f f' → OnTrue (may_ask k (status_of ending)) (WireCause (status_of ending) s s' c c') → OnTrue (may_ask k status) (WireCause status s s' c c')
-asked_cause_after k status ending b n f f' s s' c c' r h = carried (λ x. OnTrue (may_ask k x) (WireCause x s s' c c')) status ending (reported status ending b n f f' r) (on-memory (asks k)) h
+pub asked_cause_after : (k : Known) (status : Status) (ending : Ending) (b n : Option (List ℕ)) (f f' : ℕ) (w w' : Faults) → Reports status ending b n f f' → OnTrue (may_ask k (status_of ending)) (WireCause (status_of ending) w w') → OnTrue (may_ask k status) (WireCause status w w')
+asked_cause_after k status ending b n f f' w w' r h = carried (λ x. OnTrue (may_ask k x) (WireCause x w w')) status ending (reported status ending b n f f' r) (on-memory (asks k)) h
 
 pub asked_waits_after : (k : Known) (turns : ℕ) (status : Status) (ending : Ending) (b n : Option (List ℕ)) (f f' : ℕ) (old calls : CallCounts) → Reports status ending b n f f' → OnTrue (may_ask k (status_of ending)) (TalksFor turns (status_of ending) old calls) → OnTrue (may_ask k status) (TalksFor turns status old calls)
 asked_waits_after k turns status ending b n f f' old calls r h = carried (λ x. OnTrue (may_ask k x) (TalksFor turns x old calls)) status ending (reported status ending b n f f' r) (on-memory (asks k)) h
@@ -136,11 +137,14 @@ module _ (start told : Option (List Mark)) (out out' : Option (List ℕ)) (b n :
   own-asks false x meant h r = tt
   own-asks true x meant h r = own-by x meant h r
 
-  asked-by : (k : Known) (status : Status) (meant : MeantEnding) → (status ≡ statuses.Memory) ⊎ (status ≡ status_of (shown meant)) → Reports status (shown meant) b n f f' → ConversesFor k start told out out' (Err meant) → OnFalse (reaches k (status_of (shown meant))) (told ≡ start) → OnFalse (may_show k (status_of (shown meant))) (out' ≡ out) → AnswersFor k start told out out' status b n f f'
-  asked-by k status meant (inl e) r h w o = subst (λ s. AnswersFor k start told out out' s b n f f') (sym e) (memory-asks (may_open (status_of (shown meant))) (opens k || drills k) (asks k) (may_write (status_of (shown meant))) (asks_in k) meant (closed (status_of (shown meant))) h w o (subst (λ s. Reports s (shown meant) b n f f') e r))
-  asked-by k status meant (inr e) r h w o = subst (λ s. AnswersFor k start told out out' s b n f f') (sym e) (own-asks (may_ask k (status_of (shown meant))) (asks_in k) meant h (subst (λ s. Reports s (shown meant) b n f f') e r))
+  abbrev Answered : Known → Status → Type 0
+  Answered k status = OnTrue (may_ask k status) (AnswersBy (asks_in k) start told out out' status b n f f')
 
-  pub asked_after : (k : Known) (status : Status) (meant : MeantEnding) → Reports status (shown meant) b n f f' → ConversesFor k start told out out' (Err meant) → OnFalse (reaches k (status_of (shown meant))) (told ≡ start) → OnFalse (may_show k (status_of (shown meant))) (out' ≡ out) → AnswersFor k start told out out' status b n f f'
+  asked-by : (k : Known) (status : Status) (meant : MeantEnding) → (status ≡ statuses.Memory) ⊎ (status ≡ status_of (shown meant)) → Reports status (shown meant) b n f f' → ConversesFor k start told out out' (Err meant) → OnFalse (reaches k (status_of (shown meant))) (told ≡ start) → OnFalse (may_show k (status_of (shown meant))) (out' ≡ out) → Answered k status
+  asked-by k status meant (inl e) r h w o = subst (λ s. Answered k s) (sym e) (memory-asks (may_open (status_of (shown meant))) (opens k || drills k) (asks k) (may_write (status_of (shown meant))) (asks_in k) meant (closed (status_of (shown meant))) h w o (subst (λ s. Reports s (shown meant) b n f f') e r))
+  asked-by k status meant (inr e) r h w o = subst (λ s. Answered k s) (sym e) (own-asks (may_ask k (status_of (shown meant))) (asks_in k) meant h (subst (λ s. Reports s (shown meant) b n f f') e r))
+
+  pub asked_after : (k : Known) (status : Status) (meant : MeantEnding) → Reports status (shown meant) b n f f' → ConversesFor k start told out out' (Err meant) → OnFalse (reaches k (status_of (shown meant))) (told ≡ start) → OnFalse (may_show k (status_of (shown meant))) (out' ≡ out) → Answered k status
   asked_after k status meant r h w o = asked-by k status meant (reported status (shown meant) b n f f' r) r h w o
 
 -- ---- an end without a line
@@ -174,5 +178,5 @@ module _ (start told : Option (List Mark)) (out out' : Option (List ℕ)) (b : O
   well-on false x status h = tt
   well-on true x status h = well-by x status h
 
-  pub asked_well : (k : Known) (status : Status) → ConversesFor k start told out out' (Ok status) → AnswersFor k start told out out' status b b f f
+  pub asked_well : (k : Known) (status : Status) → ConversesFor k start told out out' (Ok status) → OnTrue (may_ask k status) (AnswersBy (asks_in k) start told out out' status b b f f)
   asked_well k status h = well-on (may_ask k status) (asks_in k) status h

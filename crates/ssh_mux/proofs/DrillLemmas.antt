@@ -1,14 +1,18 @@
 -- How a drill goes, from what was served and what was handed over to what the program tells.
-use Rattle.std.proofs.Common.{◌≡◌, ◌⊎◌, ◌&&◌, inl, inr, ℕ, Bool, true, false, List, [], Option, None, Result, Ok, Err, refl, sym, subst, ◌∙◌, arith}
+use Rattle.std.proofs.Common.{◌≡◌, ◌⊎◌, ◌&&◌, inl, inr, ℕ, Bool, true, false, List, [], Option, Some, None, Result, Ok, Err, refl, sym, subst, ◌∙◌, arith}
 use Rattle.std.specs.Bool.{OnTrue}
 use Rattle.conf_rules.specs.declared.causes.Cause.TheVariants.{ReadFault, RunFault}
 use Rattle.conf_rules.specs.Outcome.{Ends, Writes, Opens, Drills, Joins}
+use Rattle.conf_resolve.specs.Faults.{FailedPaths}
 use Rattle.conf_rules.specs.Texts.{Bytes}
+use Rattle.conf_rules.specs.Told.{Told}
+use Rattle.ssh_mux.specs.Places.{Placed}
 use Rattle.mux_history.specs.Policy.{any_policy}
 use Rattle.mux_outside.specs.declared.mark.Mark.{Mark}
-use Rattle.mux_outside.specs.declared.mark.Opening.{Opening}
 use Rattle.mux_outside.specs.declared.turn.Tally.{Tally}
 use Rattle.mux_outside.specs.Seen.{Seen}
+use Rattle.mux_outside.specs.WireState.{WireState}
+use Rattle.mux_outside.specs.Faults.{Faults}
 use Rattle.mux_outside.specs.CallCounts.{CallCounts}
 use Rattle.ssh_mux.specs.declared.ending.Ending.{Ending}
 use Rattle.ssh_mux.specs.declared.ending.Ending.TheVariants as endings
@@ -22,8 +26,9 @@ use Rattle.ssh_mux.specs.Err.{Reports}
 use Rattle.ssh_mux.specs.Master.{EndsMaster}
 use Rattle.ssh_mux.specs.Out.{HandsOver, OutTakes}
 use Rattle.ssh_mux.specs.Outcomes.{Known, Certain, Listing, Master, Client, drills}
-use Rattle.ssh_mux.specs.Sharing.{CallsEnd, CameFor, IdleCause, IsShared, OpensAt, Shares, StartCause, WaitsFor, WireCause, told_as}
+use Rattle.ssh_mux.specs.Sharing.{CallsEnd, CameFor, CountsFor, IdleCause, IsShared, OpensAt, Shares, StartCause, WaitsFor, WireCause, told_as}
 use Rattle.ssh_mux.specs.Status.{status_of}
+use Rattle.ssh_mux.specs.World.{OutState, Sockets, Sources, world}
 use Rattle.ssh_mux.proofs.EndLemmas.{reported}
 use Rattle.ssh_mux.proofs.StillLemmas.{loud, quiet-out}
 
@@ -69,6 +74,17 @@ drill-cause (Err (endings.ServerBroke index why)) f r h = (refl, refl)
 drill-cause (Err endings.TurnsSpent) f r h = (refl, refl)
 drill-cause (Err ending) f r h = absurd cc
 
+-- nor is a fault of one told
+pub drilled-placed : (told : Option Told) (result : Result Status Ending) (ran ran' : Option (List Bytes)) (failed failed' : FailedPaths) → EndsDrill result → Placed told result ran ran' failed failed'
+drilled-placed told (Ok status) ran ran' failed failed' h = tt
+drilled-placed None (Err ending) ran ran' failed failed' h = tt
+drilled-placed (Some told) (Err endings.NoMemory) ran ran' failed failed' h = tt
+drilled-placed (Some told) (Err endings.NotOpened) ran ran' failed failed' h = tt
+drilled-placed (Some told) (Err endings.TransportFailed) ran ran' failed failed' h = tt
+drilled-placed (Some told) (Err (endings.ServerBroke index why)) ran ran' failed failed' h = tt
+drilled-placed (Some told) (Err endings.TurnsSpent) ran ran' failed failed' h = tt
+drilled-placed (Some told) (Err ending) ran ran' failed failed' h = absurd cc
+
 pub handed-ends : (text : Bytes) (result : Result Status Ending) (before now : Option (List ℕ)) → HandsOver result text before now → EndsDrill result
 handed-ends text (Ok statuses.Done) before now h = refl
 handed-ends text (Ok statuses.Write) before now h = refl
@@ -78,67 +94,67 @@ handed-ends text (Err ending) before now h = absurd h
 
 -- ---- what was served, and the summary
 
-module _ (words : List Bytes) (turns : ℕ) (openings openings' : Option (List Opening)) (start : Option (List Mark)) (seen : Seen) (tally : Tally) (out out' : Option (List ℕ)) where
+module _ (words : List Bytes) (turns : ℕ) (w w' : WireState) (out out' : Option (List ℕ)) where
   abbrev Shared : Result Status Ending → Type 0
-  Shared result = Shares RefusesAll NoneRests AnyCalls AnyCalls any_policy 0 turns None None start seen None result
+  Shared result = Shares RefusesAll NoneRests AnyCalls AnyCalls any_policy 0 turns None None w.seen.told w'.seen None result
 
   abbrev Ran : Result Status Ending → Type 0
-  Ran result = IsShared RefusesAll NoneRests AnyCalls AnyCalls any_policy 0 turns None None start seen None result
+  Ran result = IsShared RefusesAll NoneRests AnyCalls AnyCalls any_policy 0 turns None None w.seen.told w'.seen None result
 
   -- of a run that ended well
-  summed-run : (due : Status) (result : Result Status Ending) → Ran (Ok due) → HandsOver result (drill_text tally) out out' → RunsDrill turns start seen tally result out out'
-  summed-run due result h d = record { answer = h.answer; run = h.run; ends = subst (λ e. SumsUp e tally result out out') h.is_told d }
+  summed-run : (due : Status) (result : Result Status Ending) → Ran (Ok due) → HandsOver result (drill_text w'.tally) out out' → RunsDrill turns w.seen.told w'.seen w'.tally result out out'
+  summed-run due result h d = record { answer = h.answer; run = h.run; ends = subst (λ e. SumsUp e w'.tally result out out') h.is_told d }
 
-  summed-shared : (due : Status) (result : Result Status Ending) → Ran (Ok due) → HandsOver result (drill_text tally) out out' → DrillShares turns start seen tally result out out'
+  summed-shared : (due : Status) (result : Result Status Ending) → Ran (Ok due) → HandsOver result (drill_text w'.tally) out out' → DrillShares turns w.seen.told w'.seen w'.tally result out out'
   summed-shared due (Ok status) h d = summed-run due (Ok status) h d
   summed-shared due (Err endings.NotOpened) h d = absurd d
   summed-shared due (Err endings.NoMemory) h d = inr (summed-run due (Err endings.NoMemory) h d)
   summed-shared due (Err ending) h d = summed-run due (Err ending) h d
 
-  summed-opened : (due : Status) (result : Result Status Ending) → due ≡ statuses.Done → HandsOver result (drill_text tally) out out' → OpensAt [] (drill_transport words) due openings openings' → OpensAt [] (drill_transport words) (so_far result) openings openings'
-  summed-opened due result is d o = on result d (subst (λ x. OpensAt [] (drill_transport words) x openings openings') is o) where
-    on : (r : Result Status Ending) → HandsOver r (drill_text tally) out out' → OpensAt [] (drill_transport words) statuses.Done openings openings' → OpensAt [] (drill_transport words) (so_far r) openings openings'
+  summed-opened : (due : Status) (result : Result Status Ending) → due ≡ statuses.Done → HandsOver result (drill_text w'.tally) out out' → OpensAt [] (drill_transport words) due w.openings w'.openings → OpensAt [] (drill_transport words) (so_far result) w.openings w'.openings
+  summed-opened due result is d o = on result d (subst (λ x. OpensAt [] (drill_transport words) x w.openings w'.openings) is o) where
+    on : (r : Result Status Ending) → HandsOver r (drill_text w'.tally) out out' → OpensAt [] (drill_transport words) statuses.Done w.openings w'.openings → OpensAt [] (drill_transport words) (so_far r) w.openings w'.openings
     on (Ok statuses.Done) d o = o
     on (Ok statuses.Write) d o = o
     on (Ok status) d o = absurd d
     on (Err endings.NoMemory) d o = inr o
     on (Err ending) d o = absurd d
 
-  pub summed-goes : (due : Status) (result : Result Status Ending) → EndsMaster (Ok due) → OpensAt [] (drill_transport words) due openings openings' → Shared (Ok due) → HandsOver result (drill_text tally) out out' → DrillGoes words turns result openings openings' start seen tally out out'
-  summed-goes due result is o h d = record { ends = handed-ends (drill_text tally) result out out' d; opened = summed-opened due result is d o; shared = summed-shared due result h d }
+  pub summed-goes : (due : Status) (result : Result Status Ending) → EndsMaster (Ok due) → OpensAt [] (drill_transport words) due w.openings w'.openings → Shared (Ok due) → HandsOver result (drill_text w'.tally) out out' → DrillGoes words turns result w w' out out'
+  summed-goes due result is o h d = record { ends = handed-ends (drill_text w'.tally) result out out' d; opened = summed-opened due result is d o; shared = summed-shared due result h d }
 
 -- of one that ended badly
-module _ (words : List Bytes) (turns : ℕ) (openings openings' : Option (List Opening)) (start : Option (List Mark)) (seen : Seen) (tally : Tally) (out : Option (List ℕ)) where
+module _ (words : List Bytes) (turns : ℕ) (w w' : WireState) (out : Option (List ℕ)) where
   -- no forwarding of a start is refused
   drilled : (meant : Ending) → EndsMaster (Err meant) → StartCause (status_of (shown meant)) None → EndsDrill (Err meant)
   drilled endings.StartRefused e r = absurd cc
   drilled meant e r = e
 
-  unsummed-run : (meant : Ending) → IsShared RefusesAll NoneRests AnyCalls AnyCalls any_policy 0 turns None None start seen None (Err meant) → RunsDrill turns start seen tally (Err meant) out out
-  unsummed-run meant h = record { answer = h.answer; run = h.run; ends = subst (λ e. SumsUp e tally (Err meant) out out) h.is_told (refl, refl) }
+  unsummed-run : (meant : Ending) → IsShared RefusesAll NoneRests AnyCalls AnyCalls any_policy 0 turns None None w.seen.told w'.seen None (Err meant) → RunsDrill turns w.seen.told w'.seen w'.tally (Err meant) out out
+  unsummed-run meant h = record { answer = h.answer; run = h.run; ends = subst (λ e. SumsUp e w'.tally (Err meant) out out) h.is_told (refl, refl) }
 
-  unsummed-shared : (meant : Ending) → Shares RefusesAll NoneRests AnyCalls AnyCalls any_policy 0 turns None None start seen None (Err meant) → DrillShares turns start seen tally (Err meant) out out
+  unsummed-shared : (meant : Ending) → Shares RefusesAll NoneRests AnyCalls AnyCalls any_policy 0 turns None None w.seen.told w'.seen None (Err meant) → DrillShares turns w.seen.told w'.seen w'.tally (Err meant) out out
   unsummed-shared endings.NotOpened h = (h, refl)
   unsummed-shared endings.NoMemory (inl h) = inl (h, refl)
   unsummed-shared endings.NoMemory (inr h) = inr (unsummed-run endings.NoMemory h)
   unsummed-shared meant h = unsummed-run meant h
 
-  pub unsummed-goes : (meant : Ending) → EndsMaster (Err meant) → StartCause (status_of (shown meant)) None → OpensAt [] (drill_transport words) (status_of (shown meant)) openings openings' → Shares RefusesAll NoneRests AnyCalls AnyCalls any_policy 0 turns None None start seen None (Err meant) → DrillGoes words turns (Err meant) openings openings' start seen tally out out
+  pub unsummed-goes : (meant : Ending) → EndsMaster (Err meant) → StartCause (status_of (shown meant)) None → OpensAt [] (drill_transport words) (status_of (shown meant)) w.openings w'.openings → Shares RefusesAll NoneRests AnyCalls AnyCalls any_policy 0 turns None None w.seen.told w'.seen None (Err meant) → DrillGoes words turns (Err meant) w w' out out
   unsummed-goes meant e r o h = record { ends = drilled meant e r; opened = o; shared = unsummed-shared meant h }
 
-pub summed-cause : (text : Bytes) (result : Result Status Ending) (before now : Option (List ℕ)) (s s' c c' : ℕ) → HandsOver result text before now → WireCause (so_far result) s s' c c'
-summed-cause text (Ok statuses.Done) before now s s' c c' d = tt
-summed-cause text (Ok statuses.Write) before now s s' c c' d = tt
-summed-cause text (Ok status) before now s s' c c' d = absurd d
-summed-cause text (Err endings.NoMemory) before now s s' c c' d = tt
-summed-cause text (Err ending) before now s s' c c' d = absurd d
+summed-cause : (text : Bytes) (result : Result Status Ending) (before now : Option (List ℕ)) (w w' : Faults) → HandsOver result text before now → WireCause (so_far result) w w'
+summed-cause text (Ok statuses.Done) before now w w' d = tt
+summed-cause text (Ok statuses.Write) before now w w' d = tt
+summed-cause text (Ok status) before now w w' d = absurd d
+summed-cause text (Err endings.NoMemory) before now w w' d = tt
+summed-cause text (Err ending) before now w w' d = absurd d
 
-pub summed-calls : (turns : ℕ) (due : Status) (text : Bytes) (result : Result Status Ending) (before now : Option (List ℕ)) (old new : CallCounts) → EndsMaster (Ok due) → HandsOver result text before now → CallsEnd turns due old new → CallsEnd turns (so_far result) old new
+summed-calls : (turns : ℕ) (due : Status) (text : Bytes) (result : Result Status Ending) (before now : Option (List ℕ)) (old new : CallCounts) → EndsMaster (Ok due) → HandsOver result text before now → CallsEnd turns due old new → CallsEnd turns (so_far result) old new
 summed-calls turns due text result before now old new is d h = record { few = h.few; opens = h.opens; wants = h.wants; starved = λ ne. absurd (unstarved (sym is ∙ h.starved ne)); late = h.late } where
   unstarved : statuses.Done ≡ statuses.Memory → ⊥
   unstarved e = absurd cc
 
-pub summed-waits : (turns : ℕ) (due : Status) (text : Bytes) (result : Result Status Ending) (before now : Option (List ℕ)) (old new : CallCounts) → EndsMaster (Ok due) → HandsOver result text before now → WaitsFor turns due old new → WaitsFor turns (so_far result) old new
+summed-waits : (turns : ℕ) (due : Status) (text : Bytes) (result : Result Status Ending) (before now : Option (List ℕ)) (old new : CallCounts) → EndsMaster (Ok due) → HandsOver result text before now → WaitsFor turns due old new → WaitsFor turns (so_far result) old new
 summed-waits turns due text result before now old new is d h = on result d (subst (λ x. WaitsFor turns x old new) is h) where
   on : (r : Result Status Ending) → HandsOver r text before now → WaitsFor turns statuses.Done old new → WaitsFor turns (so_far r) old new
   on (Ok statuses.Done) d h = h
@@ -147,7 +163,7 @@ summed-waits turns due text result before now old new is d h = on result d (subs
   on (Err endings.NoMemory) d h = tt
   on (Err ending) d h = absurd d
 
-pub summed-came : (due : Status) (text : Bytes) (result : Result Status Ending) (before now : Option (List ℕ)) (old new : CallCounts) → EndsMaster (Ok due) → HandsOver result text before now → CameFor false due old new → CameFor false (so_far result) old new
+summed-came : (due : Status) (text : Bytes) (result : Result Status Ending) (before now : Option (List ℕ)) (old new : CallCounts) → EndsMaster (Ok due) → HandsOver result text before now → CameFor false due old new → CameFor false (so_far result) old new
 summed-came due text result before now old new is d h = on result d (subst (λ x. CameFor false x old new) is h) where
   on : (r : Result Status Ending) → HandsOver r text before now → CameFor false statuses.Done old new → CameFor false (so_far r) old new
   on (Ok statuses.Done) d h = h
@@ -156,14 +172,24 @@ summed-came due text result before now old new is d h = on result d (subst (λ x
   on (Err endings.NoMemory) d h = tt
   on (Err ending) d h = absurd d
 
-pub summed-idle : (due : Status) (text : Bytes) (result : Result Status Ending) (before now : Option (List ℕ)) (s s' c c' : ℕ) → EndsMaster (Ok due) → HandsOver result text before now → IdleCause due s s' c c' → IdleCause (so_far result) s s' c c'
-summed-idle due text result before now s s' c c' is d h = on result d (subst (λ x. IdleCause x s s' c c') is h) where
-  on : (r : Result Status Ending) → HandsOver r text before now → IdleCause statuses.Done s s' c c' → IdleCause (so_far r) s s' c c'
+summed-idle : (due : Status) (text : Bytes) (result : Result Status Ending) (before now : Option (List ℕ)) (w w' : Faults) → EndsMaster (Ok due) → HandsOver result text before now → IdleCause due w w' → IdleCause (so_far result) w w'
+summed-idle due text result before now w w' is d h = on result d (subst (λ x. IdleCause x w w') is h) where
+  on : (r : Result Status Ending) → HandsOver r text before now → IdleCause statuses.Done w w' → IdleCause (so_far r) w w'
   on (Ok statuses.Done) d h = h
   on (Ok statuses.Write) d h = h
   on (Ok status) d h = absurd d
   on (Err endings.NoMemory) d h = tt
   on (Err ending) d h = absurd d
+
+pub summed-counts : (turns : ℕ) (due : Status) (text : Bytes) (result : Result Status Ending) (before now : Option (List ℕ)) (w w' : WireState) (f f' : Faults) → EndsMaster (Ok due) → HandsOver result text before now → CountsFor false turns due w w' f f' → CountsFor false turns (so_far result) w w' f f'
+summed-counts turns due text result before now w w' f f' is d h = record {
+  joinings = h.joinings;
+  cause = summed-cause text result before now f f' d;
+  calls = summed-calls turns due text result before now w.calls w'.calls is d h.calls;
+  came = summed-came due text result before now w.calls w'.calls is d h.came;
+  waited = summed-waits turns due text result before now w.calls w'.calls is d h.waited;
+  idle = λ z. summed-idle due text result before now f f' is d (h.idle z);
+}
 
 -- ---- what the output takes
 
@@ -186,85 +212,82 @@ drill-takes-from seed clients messages turns start seen tally (Ok status) out ou
 drill-takes-from seed clients messages turns start seen tally (Err meant) out out' e h =
     subst (λ o. OutTakes (status_of (shown meant)) (Certain (Drills seed clients messages)) out o) (sym (unwritten turns start seen tally meant out out' h)) (quiet-out (status_of (shown meant)) (Certain (Drills seed clients messages)) out (loud (shown meant)))
 
-pub drill-takes : (seed clients messages : ℕ) (words : List Bytes) (turns : ℕ) (result : Result Status Ending) (openings openings' : Option (List Opening)) (start : Option (List Mark)) (seen : Seen) (tally : Tally) (out out' : Option (List ℕ)) → DrillGoes words turns result openings openings' start seen tally out out' → OutTakes (so_far result) (Certain (Drills seed clients messages)) out out'
-drill-takes seed clients messages words turns result openings openings' start seen tally out out' h = drill-takes-from seed clients messages turns start seen tally result out out' h.ends h.shared
+pub drill-takes : (seed clients messages : ℕ) (words : List Bytes) (turns : ℕ) (result : Result Status Ending) (w w' : WireState) (out out' : Option (List ℕ)) → DrillGoes words turns result w w' out out' → OutTakes (so_far result) (Certain (Drills seed clients messages)) out out'
+drill-takes seed clients messages words turns result w w' out out' h = drill-takes-from seed clients messages turns w.seen.told w'.seen w'.tally result out out' h.ends h.shared
 
 -- ---- an ending that came before
 
-pub still-drill : (k : Known) (meant : Ending) (words : List Bytes) (turns : ℕ) (openings : Option (List Opening)) (seen : Seen) (tally : Tally) (out : Option (List ℕ)) → IsRefused k (shown meant) → OnTrue (drills k) (DrillGoes words turns (Err meant) openings openings seen.told seen tally out out)
-still-drill (Certain (Ends due)) meant words turns openings seen tally out h = tt
-still-drill (Certain (Writes text)) meant words turns openings seen tally out h = tt
-still-drill (Certain (Opens control transport os ls)) meant words turns openings seen tally out h = tt
-still-drill Listing meant words turns openings seen tally out h = tt
-still-drill (Certain (Joins control asked what)) meant words turns openings seen tally out h = tt
-still-drill (Client asked what) meant words turns openings seen tally out h = tt
-still-drill (Master transport os ls) meant words turns openings seen tally out h = tt
-still-drill (Certain (Drills seed clients messages)) endings.NoMemory words turns openings seen tally out h =
+pub still-drill : (k : Known) (meant : Ending) (words : List Bytes) (turns : ℕ) (w : WireState) (out : Option (List ℕ)) → IsRefused k (shown meant) → OnTrue (drills k) (DrillGoes words turns (Err meant) w w out out)
+still-drill (Certain (Ends due)) meant words turns w out h = tt
+still-drill (Certain (Writes text)) meant words turns w out h = tt
+still-drill (Certain (Opens control transport os ls)) meant words turns w out h = tt
+still-drill Listing meant words turns w out h = tt
+still-drill (Certain (Joins control asked what)) meant words turns w out h = tt
+still-drill (Client asked what) meant words turns w out h = tt
+still-drill (Master transport os ls) meant words turns w out h = tt
+still-drill (Certain (Drills seed clients messages)) endings.NoMemory words turns w out h =
     record { ends = refl; opened = inl refl; shared = inl (record { same_wire = refl; same_house = refl }, refl) }
-still-drill (Certain (Drills seed clients messages)) (endings.BadLine file line ReadFault) words turns openings seen tally out h = absurd cc
-still-drill (Certain (Drills seed clients messages)) (endings.BadLine file line RunFault) words turns openings seen tally out h = absurd cc
-still-drill (Certain (Drills seed clients messages)) meant words turns openings seen tally out h = absurd h
+still-drill (Certain (Drills seed clients messages)) (endings.BadLine file line ReadFault) words turns w out h = absurd cc
+still-drill (Certain (Drills seed clients messages)) (endings.BadLine file line RunFault) words turns w out h = absurd cc
+still-drill (Certain (Drills seed clients messages)) meant words turns w out h = absurd h
 
 -- ---- with its line
 
-module _ (words : List Bytes) (turns : ℕ) (openings openings' : Option (List Opening)) (start : Option (List Mark)) (seen : Seen) (tally : Tally) (out out' : Option (List ℕ)) where
+module _ (words : List Bytes) (turns : ℕ) (w w' : WireState) (out out' : Option (List ℕ)) where
   abbrev Went : Result Status Ending → Type 0
-  Went result = DrillGoes words turns result openings openings' start seen tally out out'
+  Went result = DrillGoes words turns result w w' out out'
 
   -- without one
-  well-told : (status : Status) (end : Result Status Ending) (err : Option (List ℕ)) (f : ℕ) → SumsUp end tally (Ok status) out out' → DrillTells end tally status out out' err err f f
+  well-told : (status : Status) (end : Result Status Ending) (err : Option (List ℕ)) (f : ℕ) → SumsUp end w'.tally (Ok status) out out' → DrillTells end w'.tally status out out' err err f f
   well-told statuses.Done (Ok due) err f h = (h, refl)
   well-told statuses.Write (Ok due) err f h = (h, refl)
   well-told status (Ok due) err f h = absurd h
   well-told status (Err ending) err f h = let e = h.0 in absurd cc
 
-  well-run : (status : Status) (err : Option (List ℕ)) (f : ℕ) → RunsDrill turns start seen tally (Ok status) out out' → IsDrilled turns start seen tally status out out' err err f f
+  well-run : (status : Status) (err : Option (List ℕ)) (f : ℕ) → RunsDrill turns w.seen.told w'.seen w'.tally (Ok status) out out' → IsDrilled turns w.seen.told w'.seen w'.tally status out out' err err f f
   well-run status err f h = record { answer = h.answer; run = h.run; ends = well-told status (told_as h.answer) err f h.ends }
 
   -- a status without a line is neither that of want of memory nor that of sockets that aren't open
-  silent-end : (status : Status) (end : Result Status Ending) → SumsUp end tally (Ok status) out out' → (status ≡ statuses.Done) ⊎ (status ≡ statuses.Write)
+  silent-end : (status : Status) (end : Result Status Ending) → SumsUp end w'.tally (Ok status) out out' → (status ≡ statuses.Done) ⊎ (status ≡ statuses.Write)
   silent-end statuses.Done end h = inl refl
   silent-end statuses.Write end h = inr refl
   silent-end status (Ok due) h = absurd h
   silent-end status (Err ending) h = let e = h.0 in absurd cc
 
   abbrev Served : Status → Option (List ℕ) → ℕ → Type 0
-  Served status err f = DrillServes turns start seen tally status out out' err err f f
+  Served status err f = DrillServes turns w.seen.told w'.seen w'.tally status out out' err err f f
 
-  well-served : (status : Status) (err : Option (List ℕ)) (f : ℕ) → (status ≡ statuses.Done) ⊎ (status ≡ statuses.Write) → IsDrilled turns start seen tally status out out' err err f f → Served status err f
-  well-served status err f (inl e) h = subst (λ x. Served x err f) (sym e) (subst (λ x. IsDrilled turns start seen tally x out out' err err f f) e h)
-  well-served status err f (inr e) h = subst (λ x. Served x err f) (sym e) (subst (λ x. IsDrilled turns start seen tally x out out' err err f f) e h)
+  well-served : (status : Status) (err : Option (List ℕ)) (f : ℕ) → (status ≡ statuses.Done) ⊎ (status ≡ statuses.Write) → IsDrilled turns w.seen.told w'.seen w'.tally status out out' err err f f → Served status err f
+  well-served status err f (inl e) h = subst (λ x. Served x err f) (sym e) (subst (λ x. IsDrilled turns w.seen.told w'.seen w'.tally x out out' err err f f) e h)
+  well-served status err f (inr e) h = subst (λ x. Served x err f) (sym e) (subst (λ x. IsDrilled turns w.seen.told w'.seen w'.tally x out out' err err f f) e h)
 
-  well-goes : (status : Status) (err : Option (List ℕ)) (f : ℕ) → Went (Ok status) → IsDrill words turns status openings openings' start seen tally out out' err err f f
-  well-goes status err f h = record {
-    opened = h.opened;
-    served = well-served status err f (silent-end status (told_as h.shared.answer) h.shared.ends) (well-run status err f h.shared);
-  }
+  well-goes : (status : Status) (err : Option (List ℕ)) (f : ℕ) → Went (Ok status) → OpensAt [] (drill_transport words) status w.openings w'.openings × Served status err f
+  well-goes status err f h = (h.opened, well-served status err f (silent-end status (told_as h.shared.answer) h.shared.ends) (well-run status err f h.shared))
 
-  pub drill_well : (drilled : Bool) (status : Status) (err : Option (List ℕ)) (f : ℕ) → OnTrue drilled (Went (Ok status)) → OnTrue drilled (IsDrill words turns status openings openings' start seen tally out out' err err f f)
-  drill_well true status err f h = well-goes status err f h
-  drill_well false status err f h = tt
+pub drill_well : (drilled : Bool) (words : List Bytes) (turns : ℕ) (status : Status) (k k' : Sockets) (s s' : Sources) (out out' err : OutState) → OnTrue drilled (DrillGoes words turns (Ok status) k.wire k'.wire out.told out'.told) → OnTrue drilled (IsDrill words turns status (world k s out err) (world k' s' out' err))
+drill_well true words turns status k k' s s' out out' err h = let w = well-goes words turns k.wire k'.wire out.told out'.told status err.told err.faults h in record { opened = w.0; served = w.1 }
+drill_well false words turns status k k' s s' out out' err h = tt
 
 -- with one
-module _ (words : List Bytes) (turns : ℕ) (openings openings' : Option (List Opening)) (start : Option (List Mark)) (seen : Seen) (tally : Tally) (out out' : Option (List ℕ)) (err err' : Option (List ℕ)) (f f' : ℕ) where
-  abbrev Told : Status → Type 0
-  Told status = DrillServes turns start seen tally status out out' err err' f f'
+module _ (words : List Bytes) (turns : ℕ) (w w' : WireState) (out out' : Option (List ℕ)) (err err' : Option (List ℕ)) (f f' : ℕ) where
+  abbrev ToldSo : Status → Type 0
+  ToldSo status = DrillServes turns w.seen.told w'.seen w'.tally status out out' err err' f f'
 
-  bad-told : (meant : Ending) (status : Status) (end : Result Status Ending) → (meant ≡ endings.NoMemory → status ≡ statuses.Memory) → SumsUp end tally (Err meant) out out' → Reports status (shown meant) err err' f f' → DrillTells end tally status out out' err err' f f'
-  bad-told endings.NoMemory status (Ok due) is h r = subst (λ x. DrillTells (Ok due) tally x out out' err err' f f') (sym (is refl)) (h, subst (λ x. Reports x (shown endings.NoMemory) err err' f f') (is refl) r)
+  bad-told : (meant : Ending) (status : Status) (end : Result Status Ending) → (meant ≡ endings.NoMemory → status ≡ statuses.Memory) → SumsUp end w'.tally (Err meant) out out' → Reports status (shown meant) err err' f f' → DrillTells end w'.tally status out out' err err' f f'
+  bad-told endings.NoMemory status (Ok due) is h r = subst (λ x. DrillTells (Ok due) w'.tally x out out' err err' f f') (sym (is refl)) (h, subst (λ x. Reports x (shown endings.NoMemory) err err' f f') (is refl) r)
   bad-told meant status (Ok due) is h r = absurd h
   bad-told meant status (Err ending) is h r = let same : meant ≡ ending = (let e = h.0 in cc) in (h.1, subst (λ m. Reports status (shown m) err err' f f') same r)
 
-  bad-run : (meant : Ending) (status : Status) → (meant ≡ endings.NoMemory → status ≡ statuses.Memory) → RunsDrill turns start seen tally (Err meant) out out' → Reports status (shown meant) err err' f f' → IsDrilled turns start seen tally status out out' err err' f f'
+  bad-run : (meant : Ending) (status : Status) → (meant ≡ endings.NoMemory → status ≡ statuses.Memory) → RunsDrill turns w.seen.told w'.seen w'.tally (Err meant) out out' → Reports status (shown meant) err err' f f' → IsDrilled turns w.seen.told w'.seen w'.tally status out out' err err' f f'
   bad-run meant status is h r = record { answer = h.answer; run = h.run; ends = bad-told meant status (told_as h.answer) is h.ends r }
 
-  memory-told : (meant : Ending) → DrillShares turns start seen tally (Err meant) out out' → Reports statuses.Memory (shown meant) err err' f f' → Told statuses.Memory
+  memory-told : (meant : Ending) → DrillShares turns w.seen.told w'.seen w'.tally (Err meant) out out' → Reports statuses.Memory (shown meant) err err' f f' → ToldSo statuses.Memory
   memory-told endings.NotOpened h r = inl h
   memory-told endings.NoMemory (inl h) r = inl h
   memory-told endings.NoMemory (inr h) r = inr (bad-run endings.NoMemory statuses.Memory (λ e. refl) h r)
   memory-told meant h r = inr (bad-run meant statuses.Memory (λ e. refl) h r)
 
-  own-told : (meant : Ending) → EndsDrill (Err meant) → DrillShares turns start seen tally (Err meant) out out' → Reports (status_of (shown meant)) (shown meant) err err' f f' → Told (status_of (shown meant))
+  own-told : (meant : Ending) → EndsDrill (Err meant) → DrillShares turns w.seen.told w'.seen w'.tally (Err meant) out out' → Reports (status_of (shown meant)) (shown meant) err err' f f' → ToldSo (status_of (shown meant))
   own-told endings.NotOpened e h r = h
   own-told endings.NoMemory e h r = memory-told endings.NoMemory h r
   own-told endings.TransportFailed e h r = bad-run endings.TransportFailed statuses.Transport (λ x. absurd cc) h r
@@ -272,23 +295,17 @@ module _ (words : List Bytes) (turns : ℕ) (openings openings' : Option (List O
   own-told endings.TurnsSpent e h r = bad-run endings.TurnsSpent statuses.Spent (λ x. absurd cc) h r
   own-told meant e h r = absurd cc
 
-  memory-opened : (status : Status) → OpensAt [] (drill_transport words) status openings openings' → OpensAt [] (drill_transport words) statuses.Memory openings openings'
+  memory-opened : (status : Status) → OpensAt [] (drill_transport words) status w.openings w'.openings → OpensAt [] (drill_transport words) statuses.Memory w.openings w'.openings
   memory-opened statuses.Memory h = h
   memory-opened status h = inr h
 
   abbrev Drilled : Status → Type 0
-  Drilled status = IsDrill words turns status openings openings' start seen tally out out' err err' f f'
+  Drilled status = OpensAt [] (drill_transport words) status w.openings w'.openings × ToldSo status
 
-  bad-goes : (meant : Ending) (status : Status) → (status ≡ statuses.Memory) ⊎ (status ≡ status_of (shown meant)) → DrillGoes words turns (Err meant) openings openings' start seen tally out out' → Reports status (shown meant) err err' f f' → Drilled status
-  bad-goes meant status (inl e) h r = subst Drilled (sym e) (record {
-    opened = memory-opened (status_of (shown meant)) h.opened;
-    served = memory-told meant h.shared (subst (λ x. Reports x (shown meant) err err' f f') e r);
-  })
-  bad-goes meant status (inr e) h r = subst Drilled (sym e) (record {
-    opened = h.opened;
-    served = own-told meant h.ends h.shared (subst (λ x. Reports x (shown meant) err err' f f') e r);
-  })
+  bad-goes : (meant : Ending) (status : Status) → (status ≡ statuses.Memory) ⊎ (status ≡ status_of (shown meant)) → DrillGoes words turns (Err meant) w w' out out' → Reports status (shown meant) err err' f f' → Drilled status
+  bad-goes meant status (inl e) h r = subst Drilled (sym e) (memory-opened (status_of (shown meant)) h.opened, memory-told meant h.shared (subst (λ x. Reports x (shown meant) err err' f f') e r))
+  bad-goes meant status (inr e) h r = subst Drilled (sym e) (h.opened, own-told meant h.ends h.shared (subst (λ x. Reports x (shown meant) err err' f f') e r))
 
-  pub drill_after : (drilled : Bool) (meant : Ending) (status : Status) → Reports status (shown meant) err err' f f' → OnTrue drilled (DrillGoes words turns (Err meant) openings openings' start seen tally out out') → OnTrue drilled (Drilled status)
-  drill_after true meant status r h = bad-goes meant status (reported status (shown meant) err err' f f' r) h r
-  drill_after false meant status r h = tt
+pub drill_after : (drilled : Bool) (words : List Bytes) (turns : ℕ) (meant : Ending) (status : Status) (k k' : Sockets) (s s' : Sources) (out out' err err' : OutState) → Reports status (shown meant) err.told err'.told err.faults err'.faults → OnTrue drilled (DrillGoes words turns (Err meant) k.wire k'.wire out.told out'.told) → OnTrue drilled (IsDrill words turns status (world k s out err) (world k' s' out' err'))
+drill_after true words turns meant status k k' s s' out out' err err' r h = let w = bad-goes words turns k.wire k'.wire out.told out'.told err.told err'.told err.faults err'.faults meant status (reported status (shown meant) err.told err'.told err.faults err'.faults r) h r in record { opened = w.0; served = w.1 }
+drill_after false words turns meant status k k' s s' out out' err err' r h = tt

@@ -1,7 +1,6 @@
 -- From what a run came to, and the line that was written of it, to how it ended.
 use Rattle.std.proofs.Common.{◌≡◌, ◌⊎◌, ◌&&◌, ◌||◌, inl, inr, ℕ, Bool, true, false, List, Option, Result, Ok, Err, refl, sym, ap, subst, ◌∙◌}
 use Rattle.std.specs.Bool.{OnFalse, OnTrue}
-use Rattle.conf_resolve.specs.Faults.{FailedPaths}
 use Rattle.conf_rules.specs.Diagnostics.{Ending}
 use Rattle.conf_rules.specs.Outcome.{Ends, Writes, Opens, Drills, Joins}
 use Rattle.conf_rules.specs.Texts.{Bytes}
@@ -16,6 +15,7 @@ use Rattle.mux_outside.specs.declared.starts.Starts.{Starts}
 use Rattle.mux_history.specs.declared.ended.Ended.TheVariants as answers
 use Rattle.mux_history.specs.Policy.{Policy}
 use Rattle.mux_outside.specs.Seen.{Seen}
+use Rattle.mux_outside.specs.Faults.{Faults}
 use Rattle.mux_outside.specs.CallCounts.{CallCounts}
 use Rattle.ssh_mux.specs.declared.ending.Ending.{Ending as MeantEnding}
 use Rattle.ssh_mux.specs.declared.ending.Ending.TheVariants as endings
@@ -34,6 +34,7 @@ use Rattle.ssh_mux.specs.Sharing.{CallsEnd, CameFor, IdleCause, IsServed, IsShar
 use Rattle.ssh_mux.specs.Sharing.{told_as}
 use Rattle.ssh_mux.specs.Starts.{BeganWith, Begun, MustsAs}
 use Rattle.ssh_mux.specs.Status.{status_of}
+use Rattle.ssh_mux.specs.World.{World}
 use Rattle.ssh_mux.proofs.StillLemmas.{loud, not_true, some-begun}
 use Rattle.ssh_mux.proofs.CauseLemmas.{fault-cause, fault-later, runs-starved}
 
@@ -54,18 +55,18 @@ carried P status ending (inr e) memory held = subst P (sym e) held
 quiet : (status : Status) (ending : Ending) → is_silent status ≡ true → status ≡ status_of ending → ⊥
 quiet status ending silent e = let k : is_silent (status_of ending) ≡ true = subst (λ (s : Status). is_silent s ≡ true) e silent in let l = loud ending in absurd cc
 
-pub ended : (k : Known) (told : Option Told) (status : Status) (ending : Ending) (before now : Option (List ℕ)) (f f' files files' runner runner' : ℕ) (ran ran' : Option (List Bytes)) (failed failed' : FailedPaths) → IsDue k ending → EndCause ending files files' runner runner' → EndPlace told ending ran ran' failed failed' → Reports status ending before now f f'
-    → Ended k told status before now f f' files files' runner runner' ran ran' failed failed'
-ended k told statuses.Done ending before now f f' files files' runner runner' ran ran' failed failed' due cause place r = absurd (quiet statuses.Done ending refl r.0)
-ended k told statuses.Write ending before now f f' files files' runner runner' ran ran' failed failed' due cause place r = absurd (quiet statuses.Write ending refl r.0)
-ended k told statuses.Memory ending before now f f' files files' runner runner' ran ran' failed failed' due cause place r = r
-ended k told status ending before now f f' files files' runner runner' ran ran' failed failed' due cause place r = record { ending = ending; is_due = due; has_status = r.0; line = r.1; cause = cause; place = place }
+pub ended : (k : Known) (told : Option Told) (status : Status) (ending : Ending) (before after : World) → IsDue k ending → EndCause ending before.files.faults after.files.faults before.commands.faults after.commands.faults → EndPlace told ending before.commands.ran after.commands.ran before.files.failed after.files.failed → Reports status ending before.err.told after.err.told before.err.faults after.err.faults
+    → Ended k told status before after
+ended k told statuses.Done ending before after due cause place r = absurd (quiet statuses.Done ending refl r.0)
+ended k told statuses.Write ending before after due cause place r = absurd (quiet statuses.Write ending refl r.0)
+ended k told statuses.Memory ending before after due cause place r = r
+ended k told status ending before after due cause place r = record { ending = ending; is_due = due; has_status = r.0; line = r.1; cause = cause; place = place }
 
 -- without a line
-pub ended-well : (k : Known) (told : Option Told) (status : Status) (before : Option (List ℕ)) (f files files' runner runner' : ℕ) (ran ran' : Option (List Bytes)) (failed failed' : FailedPaths) → IsWell k status → Ended k told status before before f f files files' runner runner' ran ran' failed failed'
-ended-well k told statuses.Done before f files files' runner runner' ran ran' failed failed' h = (h, refl)
-ended-well k told statuses.Write before f files files' runner runner' ran ran' failed failed' h = (h, refl)
-ended-well k told status before f files files' runner runner' ran ran' failed failed' h = absurd h
+pub ended-well : (k : Known) (told : Option Told) (status : Status) (before after : World) → after.err.told ≡ before.err.told → IsWell k status → Ended k told status before after
+ended-well k told statuses.Done before after e h = (h, e)
+ended-well k told statuses.Write before after e h = (h, e)
+ended-well k told status before after e h = absurd h
 
 pub well-cause : (k : Known) (status : Status) (f f' r r' : ℕ) → IsWell k status → (f' ≡ f) × (r' ≡ r) → FaultCause status f f' r r'
 well-cause k statuses.Done f f' r r' w h = h
@@ -233,8 +234,8 @@ pub on-memory : (b : Bool) → OnTrue b Unit
 on-memory true = tt
 on-memory false = tt
 
-pub wire_after : (k : Known) (status : Status) (ending : Ending) (b n : Option (List ℕ)) (f f' s s' c c' : ℕ) → Reports status ending b n f f' → OnTrue (touches k (status_of ending)) (WireCause (status_of ending) s s' c c') → OnTrue (touches k status) (WireCause status s s' c c')
-wire_after k status ending b n f f' s s' c c' r h = carried (λ x. OnTrue (touches k x) (WireCause x s s' c c')) status ending (reported status ending b n f f' r) (on-memory (opens k || drills k)) h
+pub wire_after : (k : Known) (status : Status) (ending : Ending) (b n : Option (List ℕ)) (f f' : ℕ) (w w' : Faults) → Reports status ending b n f f' → OnTrue (touches k (status_of ending)) (WireCause (status_of ending) w w') → OnTrue (touches k status) (WireCause status w w')
+wire_after k status ending b n f f' w w' r h = carried (λ x. OnTrue (touches k x) (WireCause x w w')) status ending (reported status ending b n f f' r) (on-memory (opens k || drills k)) h
 
 pub came_after : (k : Known) (housed : Bool) (status : Status) (ending : Ending) (b n : Option (List ℕ)) (f f' : ℕ) (old calls : CallCounts) → Reports status ending b n f f' → OnTrue (touches k (status_of ending)) (CameFor housed (status_of ending) old calls) → OnTrue (touches k status) (CameFor housed status old calls)
 came_after k housed status ending b n f f' old calls r h = carried (λ x. OnTrue (touches k x) (CameFor housed x old calls)) status ending (reported status ending b n f f' r) (on-memory-of housed) h
@@ -252,8 +253,8 @@ must_after k due must status ending b n f f' r h = carried (λ x. OnTrue (may_sh
 pub waits_after : (k : Known) (turns : ℕ) (status : Status) (ending : Ending) (b n : Option (List ℕ)) (f f' : ℕ) (old calls : CallCounts) → Reports status ending b n f f' → OnTrue (touches k (status_of ending)) (WaitsFor turns (status_of ending) old calls) → OnTrue (touches k status) (WaitsFor turns status old calls)
 waits_after k turns status ending b n f f' old calls r h = carried (λ x. OnTrue (touches k x) (WaitsFor turns x old calls)) status ending (reported status ending b n f f' r) (on-memory (opens k || drills k)) h
 
-pub idle_after : (status : Status) (ending : Ending) (b n : Option (List ℕ)) (f f' s s' c c' : ℕ) → Reports status ending b n f f' → IdleCause (status_of ending) s s' c c' → IdleCause status s s' c c'
-idle_after status ending b n f f' s s' c c' r h = carried (λ x. IdleCause x s s' c c') status ending (reported status ending b n f f' r) tt h
+pub idle_after : (status : Status) (ending : Ending) (b n : Option (List ℕ)) (f f' : ℕ) (w w' : Faults) → Reports status ending b n f f' → IdleCause (status_of ending) w w' → IdleCause status w w'
+idle_after status ending b n f f' w w' r h = carried (λ x. IdleCause x w w') status ending (reported status ending b n f f' r) tt h
 
 unshared : (opened shares : Bool) (P : Type 0) → OnFalse (opened && shares) P → OnFalse shares P
 unshared true shares P h = h

@@ -12,6 +12,7 @@ use Rattle.conf_rules.specs.declared.causes.ResolveError.{ResolveError}
 use Rattle.conf_rules.specs.declared.causes.ResolveError.TheVariants as errors
 use Rattle.conf_rules.specs.declared.command.Command.TheVariants as commands
 use Rattle.conf_rules.specs.declared.control.Control.{Control}
+use Rattle.conf_rules.specs.Diagnostics.{NoControlPath}
 use Rattle.conf_rules.specs.Outcome.{Machine}
 use Rattle.conf_rules.specs.Reading.{reading}
 use Rattle.conf_rules.specs.Resolution.{all_rows}
@@ -60,3 +61,8 @@ master-told m words asked transport opens listens e = ap (told_by m) e
 pub client-told : (m : Option Machine) (words : List Bytes) (asked : Asked) (what : Control) → reading words ≡ Ok (commands.Control asked what) → told_for m words ≡ told_over m asked
 unfolding told_for
 client-told m words asked what e = ap (told_by m) e
+
+-- settings without a control path
+pub unset-place : (told : Option Told) (before now : Option (List Bytes)) (failed failed-now : FailedPaths) → EndPlace told NoControlPath before now failed failed-now
+unset-place None before now failed failed-now = tt
+unset-place (Some told) before now failed failed-now = tt

@@ -15,10 +15,11 @@ use Rattle.mux_history.specs.Policy.{Policy}
 use Rattle.mux_outside.specs.Calls.{calls_after}
 use Rattle.mux_outside.specs.HouseCalls.{HouseCall}
 use Rattle.mux_outside.specs.Seen.{Seen}
+use Rattle.mux_outside.specs.Faults.{Faults}
 use Rattle.mux_outside.specs.CallCounts.{CallCounts, calls_after_open}
 use Rattle.mux_outside.specs.declared.file_error.FileError.{FileError}
 use Rattle.mux_outside.specs.declared.file_error.FileError.TheVariants as faults
-use Rattle.mux_outside.specs.Wire.{SameFaults}
+use Rattle.mux_engine.specs.Wires.{NoFault}
 use Rattle.mux_outside.specs.declared.house.HouseReply.{HouseReply}
 use Rattle.mux_outside.specs.declared.house_mark.HouseMark.{HouseMark}
 use Rattle.mux_outside.specs.declared.mark.Mark.{Mark}
@@ -143,10 +144,10 @@ serving_calls answer present turns ended old mid new e stops came =
     let c : Came (calls_after_open answer old) new = subst (λ (x : CallCounts). Came x new) e came in
     record { few = s.few; opens = subst (λ (n : ℕ). n ≤ old.opens + 1) (sym c.opens) (opens-most answer old.opens); wants = s.wants; starved = λ ne. ap (λ (x : Ended). so_far (told_as x)) (s.starved ne); late = s.late }
 
-pub idle_end : (present : Bool) (ended : Ended) (s s' s'' c c' c'' : ℕ) → SameFaults s s' c c' → (present ≡ false → SameFaults s' s'' c' c'') → OnFalse present (IdleCause (so_far (told_as ended)) s s'' c c'')
-idle_end true ended s s' s'' c c' c'' a b = tt
-idle_end false ended s s' s'' c c' c'' a b = by_end ended (record { same_server = (b refl).same_server ∙ a.same_server; same_client = (b refl).same_client ∙ a.same_client }) where
-  by_end : (x : Ended) → SameFaults s s'' c c'' → IdleCause (so_far (told_as x)) s s'' c c''
+pub idle_end : (present : Bool) (ended : Ended) (old mid new : Faults) → mid ≡ old → (present ≡ false → NoFault mid new) → OnFalse present (IdleCause (so_far (told_as ended)) old new)
+idle_end true ended old mid new a b = tt
+idle_end false ended old mid new a b = by_end ended (subst (λ (x : Faults). NoFault x new) a (b refl)) where
+  by_end : (x : Ended) → NoFault old new → IdleCause (so_far (told_as x)) old new
   by_end ends.OutOfMemory h = tt
   by_end ends.ServerEnd h = h
   by_end ends.Disconnected h = h
@@ -229,8 +230,8 @@ master-came k transport os ls control present status old new m h = on_true (may_
     by_house true h = subst (λ (b : Bool). CameFor b status old new) (sym (opens-for k transport os ls control m)) h
     by_house false h = h
 
-pub master-idle : (k : Known) (transport : Bytes) (os ls : List Bytes) (control : Bytes) (present : Bool) (status : Status) (s s' c c' : ℕ) → IsMaster k transport os ls control → OnFalse present (IdleCause status s s' c c') → OnFalse (serves_house present k) (IdleCause status s s' c c')
-master-idle k transport os ls control present status s s' c c' m h = served-house present (opens k) (IdleCause status s s' c c') (opens-for k transport os ls control m) h
+pub master-idle : (k : Known) (transport : Bytes) (os ls : List Bytes) (control : Bytes) (present : Bool) (status : Status) (w w' : Faults) → IsMaster k transport os ls control → OnFalse present (IdleCause status w w') → OnFalse (serves_house present k) (IdleCause status w w')
+master-idle k transport os ls control present status w w' m h = served-house present (opens k) (IdleCause status w w') (opens-for k transport os ls control m) h
 
 pub master-shares : (k : Known) (transport : Bytes) (os ls : List Bytes) (control : Bytes) (result : Result Status Ending) → IsMaster k transport os ls control → EndsMaster result → may_share k (so_far result) ≡ true
 master-shares k transport os ls control result (inl e) h = rw (master-opens result h) (subst (λ x. opens x ≡ true) (sym e) refl)

@@ -18,7 +18,7 @@ use Rattle.mux_history.specs.Log.{Setting}
 use Rattle.mux_history.specs.Policy.{Policy}
 use Rattle.mux_history.specs.Settings.{by_lists}
 use Rattle.mux_history.specs.declared.ended.Ended.{Ended}
-use Rattle.mux_outside.specs.House.{Known, Quiet}
+use Rattle.mux_outside.specs.House.{HouseState}
 use Rattle.mux_outside.specs.HouseCalls.{Begins, HouseCall}
 use Rattle.mux_outside.specs.Seen.{Seen}
 use Rattle.mux_outside.specs.declared.facts.Facts.{Facts}
@@ -126,27 +126,27 @@ module _ (May : HouseReply → Type 0) (R R' : AtWaits) (stands begun stands' : 
     ends = h.ends;
   }
 
-module _ {T : Type 0} (told_by : T → Option (List HouseMark)) (known_by : T → Known) (quiet : T → Quiet) (must_be : T → Bool) (refused_by : T → Option ℕ) (stands : T → List HouseCall → Type 0) (present : Bool) (first : T) (starts : Starts) (begun : stands first (Begins starts ∷ [])) (May : HouseReply → Type 0) (stands' : List HouseCall → Type 0) (policy : Policy) (pid turns : ℕ) (before now : Option (List HouseMark)) (start : Option (List Mark)) (seen : Seen) (refused : Option ℕ) where
+module _ {T : Type 0} (state : T → HouseState) (present : Bool) (first : T) (starts : Starts) (begun : (state first).stands (Begins starts ∷ [])) (May : HouseReply → Type 0) (stands' : List HouseCall → Type 0) (policy : Policy) (pid turns : ℕ) (before now : Option (List HouseMark)) (start : Option (List Mark)) (seen : Seen) (refused : Option ℕ) where
   abbrev First : Resting
-  First = RestsOf told_by known_by quiet must_be refused_by stands present first
+  First = RestsOf state present first
 
   abbrev Second : Resting
-  Second = BegunRests told_by known_by quiet must_be refused_by stands present starts
+  Second = BegunRests state present starts
 
   at-rest : (want : Want) (now : Option (List HouseMark)) (calls : List HouseCall) (ls : List ℕ) (os : List OwnStream) → First.rests want now calls ls os → Second.rests want now calls ls os
   at-rest want now calls ls os h = λ p. let r = h p in let x = r.1 in (r.0, (x.0, x.1, x.2 (Begins starts ∷ []) begun, x.3))
 
-  stood-for : (calls : List HouseCall) → BeganWith starts calls → stands first calls
-  stood-for calls e = subst (stands first) (sym e) begun
+  stood-for : (calls : List HouseCall) → BeganWith starts calls → (state first).stands calls
+  stood-for calls e = subst (state first).stands (sym e) begun
 
-  shared-begun : (result : Result Status Ending) → IsShared May First (stands first) stands' policy pid turns before now start seen refused result → IsShared May Second (BeganWith starts) stands' policy pid turns before now start seen refused result
+  shared-begun : (result : Result Status Ending) → IsShared May First (state first).stands stands' policy pid turns before now start seen refused result → IsShared May Second (BeganWith starts) stands' policy pid turns before now start seen refused result
   shared-begun result h = record {
     answer = h.answer;
     is_told = h.is_told;
-    run = run-of May First.rests Second.rests (stands first) (BeganWith starts) stands' present policy pid turns before now start seen refused at-rest stood-for h.answer h.run;
+    run = run-of May First.rests Second.rests (state first).stands (BeganWith starts) stands' present policy pid turns before now start seen refused at-rest stood-for h.answer h.run;
   }
 
-  pub shares-begun : (result : Result Status Ending) → Shares May First (stands first) stands' policy pid turns before now start seen refused result → Shares May Second (BeganWith starts) stands' policy pid turns before now start seen refused result
+  pub shares-begun : (result : Result Status Ending) → Shares May First (state first).stands stands' policy pid turns before now start seen refused result → Shares May Second (BeganWith starts) stands' policy pid turns before now start seen refused result
   shares-begun (Err endings.NotOpened) h = h
   shares-begun (Err endings.NoMemory) (inl h) = inl h
   shares-begun (Err endings.NoMemory) (inr h) = inr (shared-begun (Err endings.NoMemory) h)

@@ -1,5 +1,5 @@
 -- An ending that came before anything was written or opened.
-use Rattle.std.proofs.Common.{◌≡◌, ◌⊎◌, inl, inr, ◌&&◌, ◌||◌, ℕ, Bool, true, false, List, [], Option, Some, None, Err, refl, sym, subst, arith}
+use Rattle.std.proofs.Common.{◌≡◌, ◌⊎◌, inl, inr, ◌&&◌, ◌||◌, ℕ, Bool, true, false, List, [], Option, Some, None, Err, refl, sym, ap, subst, arith}
 use Rattle.std.specs.Bool.{OnFalse, OnTrue}
 use Rattle.conf_rules.specs.declared.causes.Cause.TheVariants.{ReadFault, RunFault}
 use Rattle.conf_rules.specs.declared.causes.ListError.TheVariants as list_errors
@@ -13,6 +13,7 @@ use Rattle.mux_engine.specs.Sides.{Resting}
 use Rattle.mux_history.specs.Policy.{Policy}
 use Rattle.mux_outside.specs.HouseCalls.{HouseCall}
 use Rattle.mux_outside.specs.Seen.{Seen}
+use Rattle.mux_outside.specs.Faults.{Faults}
 use Rattle.mux_outside.specs.CallCounts.{CallCounts}
 use Rattle.mux_outside.specs.declared.house.HouseReply.{HouseReply}
 use Rattle.mux_outside.specs.declared.house_mark.HouseMark.{HouseMark}
@@ -51,6 +52,24 @@ not_true b P e = subst (λ x. OnTrue x P) (sym e) tt
 pub where_false : (b : Bool) (P : Type 0) → P → OnFalse b P
 where_false true P h = tt
 where_false false P h = h
+
+-- of two things
+pub both-still : (b : Bool) {X Y : Type 0} (x : X) (y : Y) → OnFalse b ((x ≡ x) × (y ≡ y))
+both-still true x y = tt
+both-still false x y = (refl, refl)
+
+pub first-still : (b : Bool) (P Q : Type 0) → OnFalse b (P × Q) → OnFalse b P
+first-still true P Q h = tt
+first-still false P Q h = h.0
+
+pub second-still : (b : Bool) (P Q : Type 0) → OnFalse b (P × Q) → OnFalse b Q
+second-still true P Q h = tt
+second-still false P Q h = h.1
+
+-- and of what they show
+pub both-shown : (b : Bool) {X Y A B : Type 0} (f : X → A) (g : Y → B) (x x' : X) (y y' : Y) → OnFalse b ((x' ≡ x) × (y' ≡ y)) → OnFalse b ((f x' ≡ f x) × (g y' ≡ g y))
+both-shown true f g x x' y y' h = tt
+both-shown false f g x x' y y' h = (ap f h.0, ap g h.1)
 
 -- what follows there
 pub follows : (b : Bool) (P Q : Type 0) → (P → Q) → OnFalse b P → OnFalse b Q
@@ -243,11 +262,11 @@ starved-due (Master transport os ls) = tt
 pub still-calls : (turns : ℕ) (status : Status) (calls : CallCounts) → CallsEnd turns status calls calls
 still-calls turns status calls = record { few = omega arith; opens = omega arith; wants = omega arith; starved = λ ne. absurd (ne refl); late = λ e. refl }
 
-pub still-wire : (k : Known) (ending : Ending) (s s' c c' : ℕ) → IsRefused k ending → OnTrue (may_share k (status_of ending)) (WireCause (status_of ending) s s' c c')
-still-wire k ending s s' c c' h = on (unshared k ending h) where
-  on : Unshared k ending → OnTrue (may_share k (status_of ending)) (WireCause (status_of ending) s s' c c')
-  on (inl e) = not_true (may_share k (status_of ending)) (WireCause (status_of ending) s s' c c') e
-  on (inr e) = subst (λ x. OnTrue (may_share k x) (WireCause x s s' c c')) (sym e) (on_true (may_share k statuses.Memory) (WireCause statuses.Memory s s' c c') tt)
+pub still-wire : (k : Known) (ending : Ending) (w w' : Faults) → IsRefused k ending → OnTrue (may_share k (status_of ending)) (WireCause (status_of ending) w w')
+still-wire k ending w w' h = on (unshared k ending h) where
+  on : Unshared k ending → OnTrue (may_share k (status_of ending)) (WireCause (status_of ending) w w')
+  on (inl e) = not_true (may_share k (status_of ending)) (WireCause (status_of ending) w w') e
+  on (inr e) = subst (λ x. OnTrue (may_share k x) (WireCause x w w')) (sym e) (on_true (may_share k statuses.Memory) (WireCause statuses.Memory w w') tt)
 
 pub memory-came : (housed : Bool) (old new : CallCounts) → CameFor housed statuses.Memory old new
 memory-came true old new = tt
@@ -304,11 +323,11 @@ still-waited k ending turns old new h = by_drill (drills k) refl where
   by_drill true e = subst (λ x. OnTrue (touches k x) (WaitsFor turns x old new)) (sym (drill-starved k ending h e)) (on_true (touches k statuses.Memory) (WaitsFor turns statuses.Memory old new) tt)
   by_drill false e = for-master (may_open (status_of ending)) (opens k) (drills k) (WaitsFor turns (status_of ending) old new) e (still-waits k ending turns old new h)
 
-pub still-caused : (k : Known) (ending : Ending) (s s' c c' : ℕ) → IsRefused k ending → OnTrue (touches k (status_of ending)) (WireCause (status_of ending) s s' c c')
-still-caused k ending s s' c c' h = by_drill (drills k) refl where
-  by_drill : (d : Bool) → drills k ≡ d → OnTrue (touches k (status_of ending)) (WireCause (status_of ending) s s' c c')
-  by_drill true e = subst (λ x. OnTrue (touches k x) (WireCause x s s' c c')) (sym (drill-starved k ending h e)) (on_true (touches k statuses.Memory) (WireCause statuses.Memory s s' c c') tt)
-  by_drill false e = for-master (may_open (status_of ending)) (opens k) (drills k) (WireCause (status_of ending) s s' c c') e (still-wire k ending s s' c c' h)
+pub still-caused : (k : Known) (ending : Ending) (w w' : Faults) → IsRefused k ending → OnTrue (touches k (status_of ending)) (WireCause (status_of ending) w w')
+still-caused k ending w w' h = by_drill (drills k) refl where
+  by_drill : (d : Bool) → drills k ≡ d → OnTrue (touches k (status_of ending)) (WireCause (status_of ending) w w')
+  by_drill true e = subst (λ x. OnTrue (touches k x) (WireCause x w w')) (sym (drill-starved k ending h e)) (on_true (touches k statuses.Memory) (WireCause statuses.Memory w w') tt)
+  by_drill false e = for-master (may_open (status_of ending)) (opens k) (drills k) (WireCause (status_of ending) w w') e (still-wire k ending w w' h)
 
 pub refused-came : (k : Known) (ending : Ending) (housed : Bool) (old new : CallCounts) → IsRefused k ending → OnTrue (touches k (status_of ending)) (CameFor housed (status_of ending) old new)
 refused-came k ending housed old new h = by_drill (drills k) refl where
@@ -335,7 +354,7 @@ refused-waits b k ending turns old new h = where_false b (OnTrue (touches k (sta
 pub unshared-waits : (b : Bool) (k : Known) (ending : Ending) (turns : ℕ) (old new : CallCounts) → IsRefused k ending → OnFalse b (OnTrue (may_share k (status_of ending)) (WaitsFor turns (status_of ending) old new))
 unshared-waits b k ending turns old new h = where_false b (OnTrue (may_share k (status_of ending)) (WaitsFor turns (status_of ending) old new)) (still-waits k ending turns old new h)
 
-pub still-idle : (status : Status) (s c : ℕ) → IdleCause status s s c c
-still-idle statuses.Open s c = tt
-still-idle statuses.Memory s c = tt
-still-idle status s c = record { same_server = refl; same_client = refl }
+pub still-idle : (status : Status) (w : Faults) → IdleCause status w w
+still-idle statuses.Open w = tt
+still-idle statuses.Memory w = tt
+still-idle status w = record { server = refl; client = refl }

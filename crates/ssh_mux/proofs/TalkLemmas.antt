@@ -11,6 +11,7 @@ use Rattle.conf_rules.specs.Outcome.{Ends, Writes, Opens, Drills, Joins}
 use Rattle.conf_rules.specs.Texts.{Bytes}
 use Rattle.mux_client.specs.declared.asks.Asks.{Asks}
 use Rattle.mux_outside.specs.declared.mark.Mark.{Mark}
+use Rattle.mux_outside.specs.Faults.{Faults}
 use Rattle.mux_outside.specs.CallCounts.{CallCounts}
 use Rattle.ssh_mux.specs.declared.ending.Ending.{Ending as MeantEnding}
 use Rattle.ssh_mux.specs.declared.ending.Ending.TheVariants as endings
@@ -27,7 +28,7 @@ use Rattle.ssh_mux.proofs.StillLemmas.{not_true, on_true, only-memory}
 -- ---- a client that is refused before
 
 -- no wire is joined by it, but maybe for want of memory
-abbrev Unjoined : Known → Ending → Type 0
+abbrev pub Unjoined : Known → Ending → Type 0
 Unjoined k ending = (may_ask k (status_of ending) ≡ false) ⊎ (status_of ending ≡ statuses.Memory)
 
 none-asks : (k : Known) (ending : Ending) → asks k ≡ false → Unjoined k ending
@@ -75,9 +76,9 @@ still-talked k meant start out (inr e) = on_true (may_ask k (status_of (shown me
       by_asks (Some (Ok what)) = inl (record { same_wire = refl; same_out = refl })
       by_asks (Some (Err e)) = record { same_wire = refl; same_out = refl }
 
-pub still-asked-cause : (k : Known) (ending : Ending) (s s' c c' : ℕ) → Unjoined k ending → OnTrue (may_ask k (status_of ending)) (WireCause (status_of ending) s s' c c')
-still-asked-cause k ending s s' c c' (inl e) = not_true (may_ask k (status_of ending)) (WireCause (status_of ending) s s' c c') e
-still-asked-cause k ending s s' c c' (inr e) = subst (λ x. OnTrue (may_ask k x) (WireCause x s s' c c')) (sym e) (on_true (may_ask k statuses.Memory) (WireCause statuses.Memory s s' c c') tt)
+pub still-asked-cause : (k : Known) (ending : Ending) (w w' : Faults) → Unjoined k ending → OnTrue (may_ask k (status_of ending)) (WireCause (status_of ending) w w')
+still-asked-cause k ending w w' (inl e) = not_true (may_ask k (status_of ending)) (WireCause (status_of ending) w w') e
+still-asked-cause k ending w w' (inr e) = subst (λ x. OnTrue (may_ask k x) (WireCause x w w')) (sym e) (on_true (may_ask k statuses.Memory) (WireCause statuses.Memory w w') tt)
 
 pub still-asked-waits : (k : Known) (ending : Ending) (turns : ℕ) (old new : CallCounts) → Unjoined k ending → OnTrue (may_ask k (status_of ending)) (TalksFor turns (status_of ending) old new)
 still-asked-waits k ending turns old new (inl e) = not_true (may_ask k (status_of ending)) (TalksFor turns (status_of ending) old new) e

@@ -11,6 +11,8 @@ use Rattle.mux_client.specs.Journal.{TalksTold, ShowsTold}
 use Rattle.mux_outside.specs.Counts.{counted}
 use Rattle.mux_outside.specs.declared.mark.Mark.{Mark}
 use Rattle.mux_outside.specs.CallCounts.{CallCounts}
+use Rattle.mux_outside.specs.Faults.{Faults}
+use Rattle.mux_outside.specs.WireState.{WireState}
 use Rattle.ssh_mux.specs.declared.ending.Ending.{Ending as MeantEnding}
 use Rattle.ssh_mux.specs.declared.ending.Ending.TheVariants as endings
 use Rattle.ssh_mux.specs.declared.status.Status.{Status}
@@ -19,7 +21,9 @@ use Rattle.ssh_mux.specs.declared.status.Status.TheVariants.{Open, Spent, Memory
 use Rattle.ssh_mux.specs.Answers.{is_silent, may_ask, so_far}
 use Rattle.ssh_mux.specs.Asks.{asks_for}
 use Rattle.ssh_mux.specs.Outcomes.{Known, Certain, Client}
-use Rattle.ssh_mux.specs.Sharing.{TellsEnd}
+use Rattle.ssh_mux.specs.Causes.{OutCause}
+use Rattle.ssh_mux.specs.Sharing.{CallsEnd, IdleCause, TellsEnd, WireCause}
+use Rattle.ssh_mux.specs.World.{OutState, World}
 
 -- ---- the joining
 
@@ -86,8 +90,8 @@ pub record IsUnasked (start told : Option (List Mark)) (out out' : Option (List 
   pub same_wire : told ≡ start
   pub same_out : out' ≡ out
 
--- A talk that keeps its promises, and its very end; `start` and `told` are what the wire tells, `out`
--- and `out'` what the output does.
+-- A talk that keeps its promises, and its very end; `start` and `told` are what the wire tells,
+-- `out` and `out'` what the output does.
 pub record IsAsked (asks : Asks) (start told : Option (List Mark)) (out out' : Option (List ℕ))
     (result : Result Status MeantEnding) : Type 0 where
   pub answer : Talked
@@ -157,11 +161,10 @@ AnswersBy (Some (Err e)) start told out out' status err err' faults faults' =
 AnswersBy None start told out out' status err err' faults faults' = Unit
 
 -- the same of what comes of words: only a client asks
-abbrev pub AnswersFor : Known → Option (List Mark) → Option (List Mark) → Option (List ℕ)
-    → Option (List ℕ) → Status → Option (List ℕ) → Option (List ℕ) → ℕ → ℕ → Type 0
-AnswersFor known start told out out' status err err' faults faults' =
-    OnTrue (may_ask known status)
-    (AnswersBy (asks_in known) start told out out' status err err' faults faults')
+abbrev pub AnswersFor : Known → Status → World → World → Type 0
+AnswersFor known status before after = OnTrue (may_ask known status) (AnswersBy (asks_in known)
+    before.wire.seen.told after.wire.seen.told before.out.told after.out.told status
+    before.err.told after.err.told before.err.faults after.err.faults)
 
 -- ---- turns
 
@@ -176,3 +179,38 @@ TalksFor turns Write old new = counted old.waits ≤ new.waits
 TalksFor turns Refused old new = counted old.waits ≤ new.waits
 TalksFor turns BadMaster old new = counted old.waits ≤ new.waits
 TalksFor turns status old new = Unit
+
+-- ---- what is left of a wire and an output
+
+-- what a talk leaves of a wire that is joined, and is not opened
+pub record TalkCounts (turns : ℕ) (status : Status) (old new : WireState)
+    (faults faults' : Faults) : Type 0 where
+  pub openings : new.openings ≡ old.openings
+  pub unopened : new.calls.opens ≡ old.calls.opens
+  pub cause : WireCause status faults faults'
+  pub calls : CallsEnd turns status old.calls new.calls
+  pub waited : TalksFor turns status old.calls new.calls
+  pub idle : turns ≡ 0 → IdleCause status faults faults'
+
+-- what a client of which this is known leaves of its wire and the output
+pub record ClientLeaves (known : Known) (turns : ℕ) (result : Result Status MeantEnding)
+    (old new : WireState) (faults faults' : Faults) (out out' : OutState) : Type 0 where
+  -- the wire was joined once
+  pub joined : JoinsOnce known (so_far result) old.joinings new.joinings
+  -- and not opened
+  pub openings : new.openings ≡ old.openings
+  pub unopened : new.calls.opens ≡ old.calls.opens
+  -- then a running master was asked
+  pub talked : ConversesFor known old.seen.told new.seen.told out.told out'.told result
+  -- the sockets failed to open, and the connection failed, only where that was counted
+  pub wire_cause : OnTrue (may_ask known (so_far result))
+      (WireCause (so_far result) faults faults')
+  -- and the output only where that was
+  pub out_cause : OutCause (so_far result) out.faults out'.faults
+  -- calls were few, and none came behind one that wanted memory
+  pub calls : CallsEnd turns (so_far result) old.calls new.calls
+  -- it waited once for each turn
+  pub waited : OnTrue (may_ask known (so_far result))
+      (TalksFor turns (so_far result) old.calls new.calls)
+  -- and without turns nothing failed but the joining
+  pub idle : turns ≡ 0 → IdleCause (so_far result) faults faults'

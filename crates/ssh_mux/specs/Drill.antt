@@ -1,5 +1,5 @@
 -- What a drill opens, how its run goes, and what it writes.
-use Rattle.std.specs.Prelude.{◌≡◌, ℕ, Bool, true, false, IsTrue, ◌⊎◌, List, [], ◌∷◌, ◌++◌, codes, Option, None, Result, Ok, Err}
+use Rattle.std.specs.Prelude.{◌≡◌, ℕ, Bool, false, IsTrue, ◌⊎◌, List, [], ◌∷◌, ◌++◌, codes, Option, None, Result, Ok, Err}
 use Rattle.conf_rules.specs.Diagnostics.{line_of, NoMemory}
 use Rattle.conf_rules.specs.Numbers.{digits_of}
 use Rattle.conf_rules.specs.Texts.{Bytes}
@@ -7,14 +7,14 @@ use Rattle.mux_engine.specs.Run.{IsRun}
 use Rattle.mux_engine.specs.Sides.{Resting, RestsOf}
 use Rattle.mux_history.specs.declared.ended.Ended.{Ended}
 use Rattle.mux_history.specs.Policy.{any_policy}
-use Rattle.mux_outside.specs.House.{nothing_known}
+use Rattle.mux_outside.specs.NoHouse.{no_house}
 use Rattle.mux_outside.specs.HouseCalls.{HouseCall}
 use Rattle.mux_outside.specs.Seen.{Seen}
+use Rattle.mux_outside.specs.WireState.{WireState}
 use Rattle.mux_outside.specs.declared.file_error.FileError.TheVariants.{Failed}
 use Rattle.mux_outside.specs.declared.house.HouseReply.{HouseReply}
 use Rattle.mux_outside.specs.declared.house.HouseReply.TheVariants.{Refused}
 use Rattle.mux_outside.specs.declared.mark.Mark.{Mark}
-use Rattle.mux_outside.specs.declared.mark.Opening.{Opening}
 use Rattle.mux_outside.specs.declared.no_house.NoHouse.{NoHouse}
 use Rattle.mux_outside.specs.declared.turn.Tally.{Tally}
 use Rattle.mux_outside.specs.Sink.{TakesTold}
@@ -28,6 +28,7 @@ use Rattle.ssh_mux.specs.Err.{Reports, TookSome}
 use Rattle.ssh_mux.specs.Master.{ends_sharing}
 use Rattle.ssh_mux.specs.Out.{HandsOver}
 use Rattle.ssh_mux.specs.Sharing.{IsUnserved, OpensAt, told_as}
+use Rattle.ssh_mux.specs.World.{World}
 
 -- ---- texts
 
@@ -58,9 +59,7 @@ RefusesAll reply = reply ≡ Refused
 
 -- it has no house, so none waits
 abbrev pub NoneRests : Resting
-NoneRests = RestsOf {T = NoHouse} (λ house. None) (λ house. nothing_known false)
-    (λ house. record { says = true; orders = true; answers = true }) (λ house. false)
-    (λ house. None) (λ house calls. Unit {0}) false (record {})
+NoneRests = RestsOf {T = NoHouse} (λ house. no_house) false (record {})
 
 -- it stands for any calls
 abbrev pub AnyCalls : List HouseCall → Type 0
@@ -82,8 +81,8 @@ DrillTells (Err ending) tally status out out' err err' faults faults' =
     (out' ≡ out) × Reports status (shown ending) err err' faults faults'
 
 -- A run that keeps its promises, for clients that are permitted anything and are told process id 0,
--- and what was written of its end; `start` is what the wire told before, and `seen` is seen of it in
--- the end.
+-- and what was written of its end; `start` is what the wire told before, and `seen` is seen of it
+-- in the end.
 pub record IsDrilled (turns : ℕ) (start : Option (List Mark)) (seen : Seen) (tally : Tally)
     (status : Status) (out out' err err' : Option (List ℕ)) (faults faults' : ℕ) : Type 0 where
   pub answer : Ended
@@ -110,16 +109,17 @@ DrillServes turns start seen tally status out out' err err' faults faults' =
 
 -- A drill: its wire was opened once, with an empty control path and its words for a transport, but
 -- for want of memory. It was served, and its end was told.
-pub record IsDrill (words : List Bytes) (turns : ℕ) (status : Status)
-    (openings openings' : Option (List Opening)) (start : Option (List Mark)) (seen : Seen)
-    (tally : Tally) (out out' err err' : Option (List ℕ)) (faults faults' : ℕ) : Type 0 where
-  pub opened : OpensAt [] (drill_transport words) status openings openings'
-  pub served : DrillServes turns start seen tally status out out' err err' faults faults'
+pub record IsDrill (words : List Bytes) (turns : ℕ) (status : Status) (before after : World) :
+    Type 0 where
+  pub opened : OpensAt [] (drill_transport words) status before.wire.openings after.wire.openings
+  pub served : DrillServes turns before.wire.seen.told after.wire.seen after.wire.tally status
+      before.out.told after.out.told before.err.told after.err.told before.err.faults
+      after.err.faults
 
 -- ---- before a line is written
 
--- whether a drill ends so: as a master whose control path was found, which has no forwardings of its
--- own
+-- whether a drill ends so: as a master whose control path was found, which has no forwardings of
+-- its own
 abbrev pub ends_drilling : MeantEnding → Bool
 ends_drilling endings.StartRefused = false
 ends_drilling ending = ends_sharing ending
@@ -157,8 +157,7 @@ DrillShares turns start seen tally result out out' =
 
 -- how a drill went
 pub record DrillGoes (words : List Bytes) (turns : ℕ) (result : Result Status MeantEnding)
-    (openings openings' : Option (List Opening)) (start : Option (List Mark)) (seen : Seen)
-    (tally : Tally) (out out' : Option (List ℕ)) : Type 0 where
+    (old new : WireState) (out out' : Option (List ℕ)) : Type 0 where
   pub ends : EndsDrill result
-  pub opened : OpensAt [] (drill_transport words) (so_far result) openings openings'
-  pub shared : DrillShares turns start seen tally result out out'
+  pub opened : OpensAt [] (drill_transport words) (so_far result) old.openings new.openings
+  pub shared : DrillShares turns old.seen.told new.seen new.tally result out out'

@@ -1,18 +1,19 @@
 -- What the standard error has taken.
-use Rattle.std.specs.Prelude.{◌≡◌, ℕ, List, ◌++◌, ◌⊎◌, Option, Some, None}
-use Rattle.conf_resolve.specs.Faults.{FailedPaths}
+use Rattle.std.specs.Prelude.{◌≡◌, ℕ, List, ◌++◌, ◌⊎◌, Option, Some, None, Result, Ok, Err}
 use Rattle.conf_rules.specs.Diagnostics.{Ending, line_of, NoMemory}
-use Rattle.conf_rules.specs.Texts.{Bytes}
 use Rattle.conf_rules.specs.Told.{Told}
-use Rattle.mux_outside.specs.Counts.{Rose}
+use Rattle.mux_outside.specs.Counts.{Rose, counted}
 use Rattle.mux_outside.specs.Sink.{TookPrefix}
+use Rattle.ssh_mux.specs.declared.ending.Ending.{Ending as MeantEnding}
 use Rattle.ssh_mux.specs.declared.status.Status.{Status}
 use Rattle.ssh_mux.specs.declared.status.Status.TheVariants.{Done, Write, Memory}
 use Rattle.ssh_mux.specs.Answers.{IsDue, IsWell}
 use Rattle.ssh_mux.specs.Causes.{EndCause}
+use Rattle.ssh_mux.specs.Ending.{shown}
 use Rattle.ssh_mux.specs.Outcomes.{Known}
 use Rattle.ssh_mux.specs.Places.{EndPlace}
 use Rattle.ssh_mux.specs.Status.{status_of}
+use Rattle.ssh_mux.specs.World.{OutState, World}
 
 -- the whole line, or where the sink failed a prefix of it
 abbrev pub TookLine : List ℕ → Option (List ℕ) → Option (List ℕ) → ℕ → ℕ → Type 0
@@ -42,31 +43,33 @@ Reports Memory ending before now faults faults' = TookSome (line_of NoMemory) be
 Reports result ending before now faults faults' =
     (result ≡ status_of ending) × TookLine (line_of ending) before now faults faults'
 
+-- what a call came to was told so, with this status: without a line where it has a status of its
+-- own, and else with the line of its ending, which was handed over once
+abbrev pub IsToldBy : Result Status MeantEnding → Status → OutState → OutState → Type 0
+IsToldBy (Ok due) status err err' = (status ≡ due) × (err' ≡ err)
+IsToldBy (Err ending) status err err' =
+    Reports status (shown ending) err.told err'.told err.faults err'.faults
+    × (err'.puts ≡ counted err.puts)
+
 -- the run ended by an ending that is due, whose line was handed over, and whose fault, if it is
 -- one, raised its count and is told where it came up: a failed read with its path
-pub record EndsBy (known : Known) (told : Option Told) (status : Status)
-    (before now : Option (List ℕ)) (faults faults' files files' runner runner' : ℕ)
-    (ran ran' : Option (List Bytes)) (failed failed' : FailedPaths) : Type 0 where
+pub record EndsBy (known : Known) (told : Option Told) (status : Status) (before after : World) :
+    Type 0 where
   pub ending : Ending
   pub is_due : IsDue known ending
   pub has_status : status ≡ status_of ending
-  pub line : TookLine (line_of ending) before now faults faults'
-  pub cause : EndCause ending files files' runner runner'
-  pub place : EndPlace told ending ran ran' failed failed'
+  pub line : TookLine (line_of ending) before.err.told after.err.told before.err.faults
+      after.err.faults
+  pub cause : EndCause ending before.files.faults after.files.faults before.commands.faults
+      after.commands.faults
+  pub place : EndPlace told ending before.commands.ran after.commands.ran before.files.failed
+      after.files.failed
 
 -- How a run ended: without a word where it went well or `out` failed, with the line of its ending
--- otherwise; of the line of want of memory some part may be written. `files` and `runner` count
--- their faults; `ran` are the commands that were run, and `failed` the paths that failed.
-abbrev pub Ended :
-    Known → Option Told → Status → Option (List ℕ) → Option (List ℕ) → ℕ → ℕ → ℕ → ℕ → ℕ → ℕ
-    → Option (List Bytes) → Option (List Bytes) → FailedPaths → FailedPaths → Type 0
-Ended known told Done before now faults faults' files files' runner runner'
-    ran ran' failed failed' = IsWell known Done × (now ≡ before)
-Ended known told Write before now faults faults' files files' runner runner'
-    ran ran' failed failed' = IsWell known Write × (now ≡ before)
-Ended known told Memory before now faults faults' files files' runner runner'
-    ran ran' failed failed' = TookSome (line_of NoMemory) before now
-Ended known told status before now faults faults' files files' runner runner'
-    ran ran' failed failed' =
-    EndsBy known told status before now faults faults' files files' runner runner'
-    ran ran' failed failed'
+-- otherwise; of the line of want of memory some part may be written.
+abbrev pub Ended : Known → Option Told → Status → World → World → Type 0
+Ended known told Done before after = IsWell known Done × (after.err.told ≡ before.err.told)
+Ended known told Write before after = IsWell known Write × (after.err.told ≡ before.err.told)
+Ended known told Memory before after =
+    TookSome (line_of NoMemory) before.err.told after.err.told
+Ended known told status before after = EndsBy known told status before after

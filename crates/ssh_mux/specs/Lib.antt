@@ -1,5 +1,6 @@
 pub mod Status
 pub mod Breaks
+pub mod World
 pub mod Ending
 pub mod Outcomes
 pub mod Answers
@@ -11,8 +12,10 @@ pub mod Master
 pub mod Places
 pub mod Puts
 pub mod Reads
-pub mod Sharing
+pub mod Looks
 pub mod Asks
 pub mod Starts
+pub mod Sharing
 pub mod Client
 pub mod Drill
+pub mod Runs

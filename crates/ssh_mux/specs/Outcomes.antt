@@ -66,11 +66,6 @@ unfoldable pub of_words : Option Machine → List Bytes → Known
 of_words (Some m) words = Certain (outcome m words)
 of_words None words = untold_words (reading words)
 
--- the same of files, commands and facts
-abbrev pub known_of :
-    Option (List Pair) → Option (List CommandStatus) → Facts → List Bytes → Known
-known_of files statuses facts words = of_words (machine files statuses facts) words
-
 -- a master with these permissions that opens its control path
 abbrev pub opens_at : Bytes → List Bytes → List Bytes → Bytes → Outcome
 opens_at transport opens listens control = Opens control transport opens listens

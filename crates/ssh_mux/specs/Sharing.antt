@@ -1,36 +1,40 @@
 -- What a master opens, and how its run goes.
-use Rattle.std.specs.Prelude.{◌≡◌, ◌≢◌, ◌≤◌, ◌<◌, ◌+◌, ◌-◌, ◌^◌, min, ℕ, Bool, false, ◌⊎◌, List, [], ◌∷◌, ◌++◌, Option, Some, None, option_map, IsSome, Result, Ok, Err}
-use Rattle.std.specs.Bool.{OnTrue}
+use Rattle.std.specs.Prelude.{◌≡◌, ◌≢◌, ◌≤◌, ◌<◌, ◌+◌, ◌-◌, ◌^◌, min, ℕ, Bool, false, ◌⊎◌, List, [], ◌∷◌, ◌++◌, Option, Some, None, option_map, IsSome, IsTrue, Result, Ok, Err}
+use Rattle.std.specs.Bool.{OnFalse, OnTrue}
 use Rattle.conf_rules.specs.Outcome.{Drills, Opens}
 use Rattle.conf_rules.specs.Texts.{Bytes}
 use Rattle.conf_rules.specs.Told.{Told}
 use Rattle.forward_rules.specs.Allows.{read_policy}
 use Rattle.mux_engine.specs.Came.{WentUp}
+use Rattle.mux_engine.specs.Rests.{refusal_after}
 use Rattle.mux_engine.specs.Run.{IsRun}
 use Rattle.mux_engine.specs.Sides.{Resting}
 use Rattle.mux_history.specs.declared.ended.Ended.{Ended}
 use Rattle.mux_history.specs.declared.ended.Ended.TheVariants as ends
 use Rattle.mux_history.specs.Policy.{Entries, Policy}
 use Rattle.mux_outside.specs.Counts.{Rose, counted}
+use Rattle.mux_outside.specs.House.{HouseState}
 use Rattle.mux_outside.specs.HouseCalls.{HouseCall}
+use Rattle.mux_outside.specs.WireState.{WireState}
 use Rattle.mux_outside.specs.declared.house.HouseReply.{HouseReply}
 use Rattle.mux_outside.specs.declared.house_mark.HouseMark.{HouseMark}
 use Rattle.mux_outside.specs.declared.mark.Mark.{Mark}
 use Rattle.mux_outside.specs.declared.mark.Opening.{Opening}
-use Rattle.mux_outside.specs.declared.starts.Starts.{Starts}
 use Rattle.mux_outside.specs.Seen.{Seen}
 use Rattle.mux_outside.specs.CallCounts.{CallCounts}
-use Rattle.mux_outside.specs.Wire.{SameFaults, SomeFault}
+use Rattle.mux_outside.specs.Faults.{Faults, OpeningFault}
+use Rattle.mux_engine.specs.Wires.{NoFault}
 use Rattle.ssh_mux.specs.declared.ending.Ending.{Ending as MeantEnding}
 use Rattle.ssh_mux.specs.declared.ending.Ending.TheVariants as endings
 use Rattle.ssh_mux.specs.declared.status.Status.{Status}
 use Rattle.ssh_mux.specs.declared.status.Status.TheVariants.{Done, Config, Outside, Write}
 use Rattle.ssh_mux.specs.declared.status.Status.TheVariants.{Open, Transport, Broke, Spent, StartRefused, Memory}
-use Rattle.ssh_mux.specs.Answers.{may_share, so_far}
+use Rattle.ssh_mux.specs.Answers.{may_share, serves_house, so_far}
 use Rattle.ssh_mux.specs.Ending.{shown}
 use Rattle.ssh_mux.specs.Err.{Reports}
 use Rattle.ssh_mux.specs.Outcomes.{Known, Certain, Master}
-use Rattle.ssh_mux.specs.Starts.{BeganWith, Begun}
+use Rattle.ssh_mux.specs.Starts.{BeganWith, Begun, BegunRests, MustsAs, must_for}
+use Rattle.ssh_mux.specs.World.{Sockets, World}
 
 -- ---- the opening
 
@@ -105,8 +109,8 @@ pub record IsUnserved (before now : Option (List HouseMark)) (start : Option (Li
 -- a run that keeps its promises, and its very end; `Rest` is whether a house is present, and what
 -- is so of it right before a wait; `stands` and `stands'` are the calls that it stands for before
 -- and behind the run; `before` and `now` are what the house tells, `start` what the wire did, and
--- `seen` what is seen of it in the end; `refused` is the forwarding of the start that was refused, if
--- none may be
+-- `seen` what is seen of it in the end; `refused` is the forwarding of the start that was refused,
+-- if none may be
 pub record IsShared (May : HouseReply → Type 0) (Rest : Resting)
     (stands stands' : List HouseCall → Type 0) (policy : Policy) (pid turns : ℕ)
     (before now : Option (List HouseMark)) (start : Option (List Mark)) (seen : Seen)
@@ -132,16 +136,21 @@ Shares May Rest stands stands' policy pid turns before now start seen refused
 Shares May Rest stands stands' policy pid turns before now start seen refused result =
     IsShared May Rest stands stands' policy pid turns before now start seen refused result
 
+-- the same of a house and a wire, from what they showed to what they show
+abbrev pub SharesWith : (HouseReply → Type 0) → Resting → (List HouseCall → Type 0) → Policy → ℕ → ℕ
+    → HouseState → HouseState → WireState → WireState → Result Status MeantEnding → Type 0
+SharesWith May Rest stands policy pid turns house house' wire wire' result =
+    Shares May Rest stands house'.stands policy pid turns house.told house'.told wire.seen.told
+    wire'.seen (refusal_after house house') result
+
 -- the same of what comes of words: only a master serves, with a house that begins as is due by what
 -- is told of files and commands
-abbrev pub SharesFor : (HouseReply → Type 0) → (Starts → Resting) → (List HouseCall → Type 0)
-    → Known → Option Told → ℕ → ℕ
-    → Option (List HouseMark) → Option (List HouseMark) → Option (List Mark) → Seen
-    → Option ℕ → Result Status MeantEnding → Type 0
-SharesFor May Rest stands known by pid turns before now start seen refused result =
-    OnTrue (may_share known (so_far result))
-    (Begun by (λ starts. Shares May (Rest starts) (BeganWith starts) stands (policy_in known) pid
-    turns before now start seen refused result))
+abbrev pub SharesFor : {T : Type 0} → (HouseReply → Type 0) → (T → HouseState) → Known
+    → Option Told → ℕ → ℕ → Sockets → Sockets → Result Status MeantEnding → Type 0
+SharesFor May state known by pid turns old new result =
+    OnTrue (may_share known (so_far result)) (Begun by (λ starts. SharesWith May
+    (BegunRests state old.house.known.present starts) (BeganWith starts) (policy_in known) pid turns
+    old.house new.house old.wire new.wire result))
 
 -- the line of an end was handed over, if it has one; there may be no memory for it
 abbrev pub TellsEnd :
@@ -179,17 +188,22 @@ Serves May Rest stands stands' policy pid turns before now start seen refused st
     IsServed May Rest stands stands' policy pid turns before now start seen refused status err err'
     faults faults'
 
+-- the same from what a world showed to what it shows
+abbrev pub ServesWith : (HouseReply → Type 0) → Resting → (List HouseCall → Type 0) → Policy → ℕ → ℕ
+    → World → World → Status → Type 0
+ServesWith May Rest stands policy pid turns before after status =
+    Serves May Rest stands after.house.stands policy pid turns before.house.told after.house.told
+    before.wire.seen.told after.wire.seen (refusal_after before.house after.house) status
+    before.err.told after.err.told before.err.faults after.err.faults
+
 -- the same of what comes of words: only a master serves, with a house that begins as is due by what
 -- is told of files and commands
-abbrev pub ServesFor : (HouseReply → Type 0) → (Starts → Resting) → (List HouseCall → Type 0)
-    → Known → Option Told → ℕ → ℕ
-    → Option (List HouseMark) → Option (List HouseMark) → Option (List Mark) → Seen
-    → Option ℕ → Status → Option (List ℕ) → Option (List ℕ) → ℕ → ℕ → Type 0
-ServesFor May Rest stands known by pid turns before now start seen refused status err err' faults
-    faults' =
-    OnTrue (may_share known status)
-    (Begun by (λ starts. Serves May (Rest starts) (BeganWith starts) stands (policy_in known) pid
-    turns before now start seen refused status err err' faults faults'))
+abbrev pub ServesFor : {T : Type 0} → (HouseReply → Type 0) → (T → HouseState) → Known
+    → Option Told → ℕ → ℕ → World → World → Status → Type 0
+ServesFor May state known by pid turns before after status =
+    OnTrue (may_share known status) (Begun by (λ starts. ServesWith May
+    (BegunRests state before.house.known.present starts) (BeganWith starts) (policy_in known) pid
+    turns before after status))
 
 -- the process id that clients are told: 0 where none is known
 abbrev pub pid_of : Option ℕ → ℕ
@@ -200,17 +214,18 @@ pid_of (Some pid) = pid
 
 -- the sockets weren't opened only where a count rose, and the transport failed only where the
 -- server's did
-abbrev pub WireCause : Status → ℕ → ℕ → ℕ → ℕ → Type 0
-WireCause Open server server' client client' = SomeFault server server' client client'
-WireCause Transport server server' client client' = Rose server server'
-WireCause status server server' client client' = Unit
+abbrev pub WireCause : Status → Faults → Faults → Type 0
+WireCause Open old new = OpeningFault old new
+WireCause Transport old new = Rose old.server new.server
+WireCause status old new = Unit
 
 -- a forwarding is told as refused only where one of the start was, and none may be
 abbrev pub StartCause : Status → Option ℕ → Type 0
 StartCause StartRefused refused = IsSome refused
 StartCause status refused = Unit
 
--- `wait` is called at most so many times and `open` once, and a call that finds no memory is the last
+-- `wait` is called at most so many times and `open` once, and a call that finds no memory is the
+-- last
 pub record CallsEnd (turns : ℕ) (status : Status) (old new : CallCounts) : Type 0 where
   pub few : new.waits ≤ old.waits + turns
   pub opens : new.opens ≤ old.opens + 1
@@ -230,9 +245,9 @@ WaitsFor turns Transport old new = counted old.waits ≤ new.waits
 WaitsFor turns Broke old new = counted old.waits ≤ new.waits
 WaitsFor turns status old new = Unit
 
--- What came at the wire by then: where the server broke the protocol a piece of it, or its end inside
--- a frame; and where a run without a house ended well its end, a piece of it or of a client. A count
--- that went up may stand at the end of its type.
+-- What came at the wire by then: where the server broke the protocol a piece of it, or its end
+-- inside a frame; and where a run without a house ended well its end, a piece of it or of a client.
+-- A count that went up may stand at the end of its type.
 abbrev pub EndsCame : CallCounts → CallCounts → Type 0
 EndsCame old new = WentUp old.server_ends new.server_ends
     ⊎ (WentUp old.server_pieces new.server_pieces ⊎ WentUp old.client_pieces new.client_pieces)
@@ -244,9 +259,55 @@ CameFor false Done old new = EndsCame old new
 CameFor false Write old new = EndsCame old new
 CameFor housed status old new = Unit
 
--- what a run without turns and without a house leaves of the counts of faults: both, but where the
--- sockets weren't opened or memory was wanting
-abbrev pub IdleCause : Status → ℕ → ℕ → ℕ → ℕ → Type 0
-IdleCause Open server server' client client' = Unit
-IdleCause Memory server server' client client' = Unit
-IdleCause status server server' client client' = SameFaults server server' client client'
+-- what a run without turns and without a house leaves of the counts of faults: the server's and the
+-- clients', but where the sockets weren't opened or memory was wanting
+abbrev pub IdleCause : Status → Faults → Faults → Type 0
+IdleCause Open old new = Unit
+IdleCause Memory old new = Unit
+IdleCause status old new = NoFault old new
+
+-- ---- what is left of a wire
+
+-- what a run over a wire that is opened leaves of what is counted there; `housed` is whether there
+-- is a house
+pub record CountsFor (housed : Bool) (turns : ℕ) (status : Status) (old new : WireState)
+    (faults faults' : Faults) : Type 0 where
+  pub joinings : new.joinings ≡ old.joinings
+  pub cause : WireCause status faults faults'
+  pub calls : CallsEnd turns status old.calls new.calls
+  pub came : CameFor housed status old.calls new.calls
+  pub waited : OnFalse housed (WaitsFor turns status old.calls new.calls)
+  pub idle : turns ≡ 0 → OnFalse housed (IdleCause status faults faults')
+
+-- what a master of which this is known leaves of its wire and its house
+pub record MasterLeaves {T : Type 0} (May : HouseReply → Type 0) (state : T → HouseState)
+    (known : Known) (by : Option Told) (pid turns : ℕ) (result : Result Status MeantEnding)
+    (old new : Sockets) : Type 0 where
+  -- the wire was opened once
+  pub opened : OpensOnce known (so_far result) old.wire.openings new.wire.openings
+  -- and not joined
+  pub joinings : new.wire.joinings ≡ old.wire.joinings
+  -- then it was served with a house that had begun
+  pub served : SharesFor May state known by pid turns old new result
+  -- a forwarding is told as refused only where one of the start was, and none may be
+  pub start : OnTrue (may_share known (so_far result))
+      (StartCause (so_far result) (refusal_after old.house new.house))
+  -- none may be where the settings say so
+  pub must : IsTrue old.house.known.present → OnTrue (may_share known (so_far result))
+      (MustsAs (so_far result) (must_for by) new.house.must)
+  -- the sockets failed to open, and the transport failed, only where that was counted
+  pub wire_cause : OnTrue (may_share known (so_far result))
+      (WireCause (so_far result) old.faults new.faults)
+  -- calls were few, and none came behind one that wanted memory
+  pub calls : CallsEnd turns (so_far result) old.wire.calls new.wire.calls
+  -- it ended only where that came which ends it so
+  pub came : OnTrue (may_share known (so_far result))
+      (CameFor (serves_house old.house.known.present known) (so_far result) old.wire.calls
+      new.wire.calls)
+  -- without a house it waited once for each turn
+  pub waited : OnFalse (serves_house old.house.known.present known)
+      (OnTrue (may_share known (so_far result))
+      (WaitsFor turns (so_far result) old.wire.calls new.wire.calls))
+  -- and without turns nothing failed but the opening
+  pub idle : turns ≡ 0 → OnFalse (serves_house old.house.known.present known)
+      (IdleCause (so_far result) old.faults new.faults)

@@ -14,9 +14,8 @@ use Rattle.conf_rules.specs.Resolution.{all_rows}
 use Rattle.conf_rules.specs.Rows.{Row, given, value, values, values_among}
 use Rattle.conf_rules.specs.Told.{Told}
 use Rattle.mux_engine.specs.Sides.{HouseWaits, Knows, Resting}
-use Rattle.mux_outside.specs.House.{Known, Quiet}
+use Rattle.mux_outside.specs.House.{HouseState}
 use Rattle.mux_outside.specs.HouseCalls.{Begins, HouseCall}
-use Rattle.mux_outside.specs.declared.house_mark.HouseMark.{HouseMark}
 use Rattle.mux_outside.specs.declared.start_ask.StartAsk.{StartAsk}
 use Rattle.mux_outside.specs.declared.starts.Starts.{Starts}
 use Rattle.ssh_mux.specs.declared.asks.AskedEnd.{AskedEnd}
@@ -121,17 +120,17 @@ abbrev pub BeganWith : Starts → List HouseCall → Type 0
 BeganWith starts calls = calls ≡ Begins starts ∷ []
 
 -- there is a house that has told this, knows these listeners and streams and is as it is right
--- before a wait, and that stands for its beginning and these calls behind it, unless none is present
-abbrev pub BegunRests : {T : Type 0} → (T → Option (List HouseMark)) → (T → Known)
-    → (T → Quiet)
-    → (T → Bool) → (T → Option ℕ) → (T → List HouseCall → Type 0) → Bool → Starts → Resting
-BegunRests {T} told known quiet must refused stands present starts = record {
+-- before a wait, and that stands for its beginning and these calls behind it, unless none is
+-- present
+abbrev pub BegunRests : {T : Type 0} → (T → HouseState) → Bool → Starts → Resting
+BegunRests {T} state present starts = record {
   present = present;
   rests = λ want now calls listeners own. IsTrue present
       → (house : T)
-      × (HouseWaits want (quiet house) (must house) (refused house) × (told house ≡ now)
-      × stands house (Begins starts ∷ calls)
-      × Knows (known house) listeners own);
+      × (HouseWaits want (state house).quiet (state house).must (state house).refused
+      × ((state house).told ≡ now)
+      × (state house).stands (Begins starts ∷ calls)
+      × Knows (state house).known listeners own);
 }
 
 -- ---- ExitOnForwardFailure

@@ -1,17 +1,14 @@
+ghost use Rattle.std.specs.Bool.{OnFalse};
 ghost use Rattle.std.specs.Prelude.{◌≡◌};
-ghost use Rattle.std.specs.Bool.{OnTrue, OnFalse};
 ghost use Rattle.conf_rules.specs.declared.command.Command.TheVariants as commands;
 ghost use Rattle.mux_client.specs.Requests.{MayAsk};
-ghost use Rattle.ssh_mux.specs.Answers.{Comes, so_far, may_ask};
+ghost use Rattle.ssh_mux.specs.Answers.{may_ask, so_far};
 ghost use Rattle.ssh_mux.specs.Asks.{NamesForwards};
-ghost use Rattle.ssh_mux.specs.Causes.{Caused, OutCause};
-ghost use Rattle.ssh_mux.specs.Client.{Converses, ConversesFor, EndsClient, JoinsAt, JoinsOnce};
-ghost use Rattle.ssh_mux.specs.Client.{TalksFor, talk_told};
-ghost use Rattle.ssh_mux.specs.Commands.{RunsFor, commands_of};
-ghost use Rattle.ssh_mux.specs.Outcomes.{machine, of_command};
-ghost use Rattle.ssh_mux.specs.Places.{Placed, told_over};
-ghost use Rattle.ssh_mux.specs.Reads.{ReadsFor};
-ghost use Rattle.ssh_mux.specs.Sharing.{CallsEnd, IdleCause, WireCause};
+ghost use Rattle.ssh_mux.specs.Causes.{OutCause};
+ghost use Rattle.ssh_mux.specs.Client.{ClientLeaves, Converses, EndsClient, JoinsAt, TalkCounts};
+ghost use Rattle.ssh_mux.specs.Client.{talk_told};
+ghost use Rattle.ssh_mux.specs.Looks.{Looks, coming};
+ghost use Rattle.ssh_mux.specs.World.{output, sources};
 
 use crate::asks::asks_of;
 use crate::ending::Ending;
@@ -38,51 +35,16 @@ pub fn ask_master<W: Wire, F: Files, R: Runner, S: Sink>(
     turns: u64,
 ) -> Result<Status, Ending>
     requires named { NamesForwards control asked.now.lines }
-    ensures exact { Comes (of_command (machine (F.state files.old).told (R.told runner.old) facts.now)
-        (commands.Control asked.now control)) result }
-    ensures joined { JoinsOnce
-        (of_command (machine (F.state files.old).told (R.told runner.old) facts.now)
-        (commands.Control asked.now control)) (so_far result)
-        (W.state wire.old).joinings (W.state wire.new).joinings }
-    ensures openings { (W.state wire.new).openings ≡ (W.state wire.old).openings }
-    ensures talked { ConversesFor
-        (of_command (machine (F.state files.old).told (R.told runner.old) facts.now)
-        (commands.Control asked.now control)) (W.state wire.old).seen.told (W.state wire.new).seen.told
-        (S.told out.old) (S.told out.new) result }
-    ensures wire_cause { OnTrue (may_ask
-        (of_command (machine (F.state files.old).told (R.told runner.old) facts.now)
+    ensures looks { Looks facts.now (commands.Control asked.now control) asked.now result
+        (sources F.Files R.Runner files.old runner.old)
+        (sources F.Files R.Runner files.new runner.new) }
+    ensures leaves { ClientLeaves (coming (sources F.Files R.Runner files.old runner.old) facts.now
+        (commands.Control asked.now control)) turns result (W.state wire.old) (W.state wire.new)
+        (W.faults wire.old) (W.faults wire.new) (output S.Sink out.old) (output S.Sink out.new) }
+    ensures untouched { OnFalse (may_ask
+        (coming (sources F.Files R.Runner files.old runner.old) facts.now
         (commands.Control asked.now control)) (so_far result))
-        (WireCause (so_far result) (W.faults wire.old).server (W.faults wire.new).server
-        (W.faults wire.old).client (W.faults wire.new).client) }
-    ensures out_cause { OutCause (so_far result) (S.faults out.old) (S.faults out.new) }
-    ensures calls { CallsEnd turns (so_far result) (W.state wire.old).calls (W.state wire.new).calls }
-    ensures unopened { (W.state wire.new).calls.opens ≡ (W.state wire.old).calls.opens }
-    ensures waited { OnTrue (may_ask
-        (of_command (machine (F.state files.old).told (R.told runner.old) facts.now)
-        (commands.Control asked.now control)) (so_far result))
-        (TalksFor turns (so_far result) (W.state wire.old).calls (W.state wire.new).calls) }
-    ensures idle { turns ≡ 0 → IdleCause (so_far result)
-        (W.faults wire.old).server (W.faults wire.new).server
-        (W.faults wire.old).client (W.faults wire.new).client }
-    ensures wire { OnFalse (may_ask
-        (of_command (machine (F.state files.old).told (R.told runner.old) facts.now)
-        (commands.Control asked.now control)) (so_far result)) (wire.new ≡ wire.old) }
-    ensures unwritten { OnFalse (may_ask
-        (of_command (machine (F.state files.old).told (R.told runner.old) facts.now)
-        (commands.Control asked.now control)) (so_far result)) (out.new ≡ out.old) }
-    ensures ran { RunsFor
-        (commands_of (machine (F.state files.old).told (R.told runner.old) facts.now)
-        (commands.Control asked.now control)) (so_far result)
-        (R.ran runner.old) (R.ran runner.new) }
-    ensures place { Placed
-        (told_over (machine (F.state files.old).told (R.told runner.old) facts.now) asked.now)
-        result (R.ran runner.old) (R.ran runner.new)
-        (F.failed files.old) (F.failed files.new) }
-    ensures read { ReadsFor
-        (told_over (machine (F.state files.old).told (R.told runner.old) facts.now) asked.now)
-        (so_far result) (F.readings files.old) (F.readings files.new) }
-    ensures cause { Caused result (F.faults files.old) (F.faults files.new)
-        (R.faults runner.old) (R.faults runner.new) }
+        ((wire.new ≡ wire.old) × (out.new ≡ out.old)) }
 {
     let path = control_of(alloc, asked, facts, files, runner)?;
     let asks = asks_of(alloc, asked, control)?;
@@ -100,19 +62,13 @@ fn join_and_talk<W: Wire, S: Sink>(
 ) -> Result<Status, Ending>
     requires may { MayAsk asks.now }
     ensures ends { EndsClient result }
-    ensures joined { JoinsAt path.now (so_far result) (W.state wire.old).joinings (W.state wire.new).joinings }
-    ensures openings { (W.state wire.new).openings ≡ (W.state wire.old).openings }
+    ensures joined { JoinsAt path.now (so_far result) (W.state wire.old).joinings
+        (W.state wire.new).joinings }
     ensures talked { Converses asks.now (W.state wire.old).seen.told (W.state wire.new).seen.told
         (S.told out.old) (S.told out.new) result }
-    ensures cause { WireCause (so_far result) (W.faults wire.old).server (W.faults wire.new).server
-        (W.faults wire.old).client (W.faults wire.new).client }
     ensures out_cause { OutCause (so_far result) (S.faults out.old) (S.faults out.new) }
-    ensures calls { CallsEnd turns (so_far result) (W.state wire.old).calls (W.state wire.new).calls }
-    ensures unopened { (W.state wire.new).calls.opens ≡ (W.state wire.old).calls.opens }
-    ensures waited { TalksFor turns (so_far result) (W.state wire.old).calls (W.state wire.new).calls }
-    ensures idle { turns ≡ 0 → IdleCause (so_far result)
-        (W.faults wire.old).server (W.faults wire.new).server
-        (W.faults wire.old).client (W.faults wire.new).client }
+    ensures wire { TalkCounts turns (so_far result) (W.state wire.old) (W.state wire.new)
+        (W.faults wire.old) (W.faults wire.new) }
 {
     match wire.join(path.as_bytes()) {
         Ok(()) => ending_of(talk(alloc, wire, out, asks, turns)),

@@ -1,15 +1,14 @@
-ghost use Rattle.std.specs.Prelude.{◌≡◌, ◌++◌, ◌∷◌, [], None, false, IfOk, OnOk};
 ghost use Rattle.std.specs.Bool.{OnFalse};
+ghost use Rattle.std.specs.Prelude.{◌≡◌, ◌++◌, ◌∷◌, [], None, false, IfOk, OnOk};
 ghost use Rattle.mux_history.specs.Policy.{any_policy};
 ghost use Rattle.ssh_mux.specs.Answers.{may_write, so_far};
 ghost use Rattle.ssh_mux.specs.Causes.{OutCause};
-ghost use Rattle.ssh_mux.specs.Drill.{count_line, drill_text, drill_transport};
-ghost use Rattle.ssh_mux.specs.Drill.{AnyCalls, DrillGoes, NoneRests, RefusesAll};
+ghost use Rattle.ssh_mux.specs.Drill.{AnyCalls, DrillGoes, NoneRests, RefusesAll, count_line};
+ghost use Rattle.ssh_mux.specs.Drill.{drill_text, drill_transport};
 ghost use Rattle.ssh_mux.specs.Master.{EndsMaster};
 ghost use Rattle.ssh_mux.specs.Out.{HandsOver};
 ghost use Rattle.ssh_mux.specs.Puts.{PutsOnce};
-ghost use Rattle.ssh_mux.specs.Sharing.{CallsEnd, CameFor, IdleCause, OpensAt, Shares};
-ghost use Rattle.ssh_mux.specs.Sharing.{StartCause, WaitsFor, WireCause};
+ghost use Rattle.ssh_mux.specs.Sharing.{CountsFor, OpensAt, Shares, StartCause};
 
 use crate::ending::Ending;
 use crate::listing::hand_over;
@@ -30,21 +29,13 @@ pub fn drill<W: Wire, S: Sink>(
     out: &mut S,
     turns: u64,
 ) -> Result<Status, Ending>
-    ensures goes { DrillGoes words.now turns result (W.state wire.old).openings (W.state wire.new).openings
-        (W.state wire.old).seen.told (W.state wire.new).seen (W.state wire.new).tally
+    ensures goes { DrillGoes words.now turns result (W.state wire.old) (W.state wire.new)
         (S.told out.old) (S.told out.new) }
-    ensures joinings { (W.state wire.new).joinings ≡ (W.state wire.old).joinings }
-    ensures cause { WireCause (so_far result) (W.faults wire.old).server (W.faults wire.new).server
-        (W.faults wire.old).client (W.faults wire.new).client }
+    ensures wire { CountsFor false turns (so_far result) (W.state wire.old) (W.state wire.new)
+        (W.faults wire.old) (W.faults wire.new) }
     ensures unwritten { OnFalse (may_write (so_far result)) (out.new ≡ out.old) }
     ensures out_cause { OutCause (so_far result) (S.faults out.old) (S.faults out.new) }
     ensures once { PutsOnce (so_far result) (S.puts out.old) (S.puts out.new) }
-    ensures calls { CallsEnd turns (so_far result) (W.state wire.old).calls (W.state wire.new).calls }
-    ensures came { CameFor false (so_far result) (W.state wire.old).calls (W.state wire.new).calls }
-    ensures waited { WaitsFor turns (so_far result) (W.state wire.old).calls (W.state wire.new).calls }
-    ensures idle { turns ≡ 0 → IdleCause (so_far result)
-        (W.faults wire.old).server (W.faults wire.new).server
-        (W.faults wire.old).client (W.faults wire.new).client }
 {
     serve_drill(alloc, words, wire, turns)?;
     let tally = wire.tally();
@@ -64,15 +55,8 @@ fn serve_drill<W: Wire>(
     ensures served { Shares RefusesAll NoneRests AnyCalls AnyCalls any_policy 0 turns None None
         (W.state wire.old).seen.told (W.state wire.new).seen None result }
     ensures start { StartCause (so_far result) None }
-    ensures joinings { (W.state wire.new).joinings ≡ (W.state wire.old).joinings }
-    ensures cause { WireCause (so_far result) (W.faults wire.old).server (W.faults wire.new).server
-        (W.faults wire.old).client (W.faults wire.new).client }
-    ensures calls { CallsEnd turns (so_far result) (W.state wire.old).calls (W.state wire.new).calls }
-    ensures came { CameFor false (so_far result) (W.state wire.old).calls (W.state wire.new).calls }
-    ensures waited { WaitsFor turns (so_far result) (W.state wire.old).calls (W.state wire.new).calls }
-    ensures idle { turns ≡ 0 → IdleCause (so_far result)
-        (W.faults wire.old).server (W.faults wire.new).server
-        (W.faults wire.old).client (W.faults wire.new).client }
+    ensures wire { CountsFor false turns (so_far result) (W.state wire.old) (W.state wire.new)
+        (W.faults wire.old) (W.faults wire.new) }
 {
     let transport = transport_of(alloc, words.as_slice())?;
     let none = Texts::new(alloc);

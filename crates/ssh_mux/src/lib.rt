@@ -1,6 +1,6 @@
 //! What the program does, over any outside: the settings of `ssh_config(5)` for a host, the master
-//! of connection sharing (PROTOCOL.mux version 4), in earnest or as a drill, and the client that asks
-//! a running master. The program is `run`.
+//! of connection sharing (PROTOCOL.mux version 4), in earnest or as a drill, and the client that
+//! asks a running master. The program is `run`.
 #![tactic(auto)]
 
 mod asks;

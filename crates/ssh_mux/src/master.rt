@@ -1,23 +1,21 @@
+ghost use Rattle.std.specs.Bool.{OnFalse};
 ghost use Rattle.std.specs.Prelude.{◌≡◌, ◌∷◌, [], List, IfOk, IsOk, IsTrue, OnOk, Some};
-ghost use Rattle.std.specs.Bool.{OnTrue, OnFalse};
+ghost use Rattle.conf_rules.specs.Texts.{Bytes};
 ghost use Rattle.conf_rules.specs.declared.command.Command.TheVariants as commands;
 ghost use Rattle.conf_rules.specs.declared.control.Control.{Control};
-ghost use Rattle.conf_rules.specs.Texts.{Bytes};
 ghost use Rattle.forward_rules.specs.Allows.{read_policy};
-ghost use Rattle.mux_engine.specs.Rests.{refused_if};
+ghost use Rattle.mux_engine.specs.Rests.{refusal_after};
 ghost use Rattle.mux_engine.specs.Sides.{RestsOf};
 ghost use Rattle.mux_outside.specs.HouseCalls.{Begins};
-ghost use Rattle.ssh_mux.specs.Answers.{Comes, Finds, so_far, may_share, serves_house};
-ghost use Rattle.ssh_mux.specs.Causes.{Caused};
-ghost use Rattle.ssh_mux.specs.Commands.{RunsFor, RunsUnless, commands_of};
+ghost use Rattle.ssh_mux.specs.Answers.{may_share, so_far};
+ghost use Rattle.ssh_mux.specs.Looks.{FoundFor, Looks, coming, machine_of_sources};
 ghost use Rattle.ssh_mux.specs.Master.{EndsMaster, OnlyStarves};
-ghost use Rattle.ssh_mux.specs.Outcomes.{Client, Master, joins_at, machine, of_command, opens_at};
-ghost use Rattle.ssh_mux.specs.Places.{Placed, told_over};
-ghost use Rattle.ssh_mux.specs.Reads.{ReadsFor, ReadsUnless};
-ghost use Rattle.ssh_mux.specs.Sharing.{CallsEnd, CameFor, IdleCause, OpensAt, OpensOnce, Shares};
-ghost use Rattle.ssh_mux.specs.Sharing.{StartCause, WaitsFor, WireCause, pid_of, policy_of as the_policy_of, told_as};
-ghost use Rattle.ssh_mux.specs.Starts.{BeganWith, Begun, BegunRests, MustsAs, SettledFor};
-ghost use Rattle.ssh_mux.specs.Starts.{must_for, starts_for};
+ghost use Rattle.ssh_mux.specs.Outcomes.{Client, Master, joins_at, opens_at};
+ghost use Rattle.ssh_mux.specs.Places.{told_over};
+ghost use Rattle.ssh_mux.specs.Sharing.{CountsFor, MasterLeaves, OpensAt, SharesWith, StartCause};
+ghost use Rattle.ssh_mux.specs.Sharing.{pid_of, policy_of as the_policy_of, told_as};
+ghost use Rattle.ssh_mux.specs.Starts.{BeganWith, BegunRests, MustsAs, SettledFor, starts_for};
+ghost use Rattle.ssh_mux.specs.World.{sockets, sources};
 
 use crate::ending::Ending;
 use crate::starts::starts_of;
@@ -59,81 +57,21 @@ pub fn share<W: Wire, F: Files, R: Runner, H: House>(
 ) -> Result<Status, Ending>
     requires permitted { IsOk (read_policy opens.now listens.now) }
     requires fresh { H.fresh house.old }
-    ensures exact { Comes (of_command (machine (F.state files.old).told (R.told runner.old) facts.now)
-        (commands.Master asked.now transport.now opens.now listens.now)) result }
-    ensures opened { OpensOnce
-        (of_command (machine (F.state files.old).told (R.told runner.old) facts.now)
-        (commands.Master asked.now transport.now opens.now listens.now)) (so_far result)
-        (W.state wire.old).openings (W.state wire.new).openings }
-    ensures joinings { (W.state wire.new).joinings ≡ (W.state wire.old).joinings }
-    ensures served { OnTrue (may_share
-        (of_command (machine (F.state files.old).told (R.told runner.old) facts.now)
+    ensures looks { Looks facts.now
+        (commands.Master asked.now transport.now opens.now listens.now) asked.now result
+        (sources F.Files R.Runner files.old runner.old)
+        (sources F.Files R.Runner files.new runner.new) }
+    ensures leaves { MasterLeaves H.may H.state
+        (coming (sources F.Files R.Runner files.old runner.old) facts.now
+        (commands.Master asked.now transport.now opens.now listens.now))
+        (told_over (machine_of_sources (sources F.Files R.Runner files.old runner.old) facts.now)
+        asked.now) (pid_of facts.now.pid) turns result
+        (sockets W.Wire H.Asks.own wire.old house.old)
+        (sockets W.Wire H.Asks.own wire.new house.new) }
+    ensures untouched { OnFalse (may_share
+        (coming (sources F.Files R.Runner files.old runner.old) facts.now
         (commands.Master asked.now transport.now opens.now listens.now)) (so_far result))
-        (Begun (told_over (machine (F.state files.old).told (R.told runner.old) facts.now) asked.now)
-        (λ starts. Shares H.may
-        (BegunRests H.told H.known H.quiet H.must H.refused H.stands (H.state house.old).known.present starts)
-        (BeganWith starts)
-        (H.state house.new).stands (the_policy_of opens.now listens.now) (pid_of facts.now.pid) turns
-        (H.state house.old).told (H.state house.new).told (W.state wire.old).seen.told (W.state wire.new).seen
-        (refused_if (H.state house.old).known.present (H.state house.new).must (H.state house.new).refused)
-        result)) }
-    ensures start { OnTrue (may_share
-        (of_command (machine (F.state files.old).told (R.told runner.old) facts.now)
-        (commands.Master asked.now transport.now opens.now listens.now)) (so_far result))
-        (StartCause (so_far result)
-        (refused_if (H.state house.old).known.present (H.state house.new).must (H.state house.new).refused)) }
-    ensures must { IsTrue (H.state house.old).known.present → OnTrue (may_share
-        (of_command (machine (F.state files.old).told (R.told runner.old) facts.now)
-        (commands.Master asked.now transport.now opens.now listens.now)) (so_far result))
-        (MustsAs (so_far result)
-        (must_for (told_over (machine (F.state files.old).told (R.told runner.old) facts.now) asked.now))
-        (H.state house.new).must) }
-    ensures wire_cause { OnTrue (may_share
-        (of_command (machine (F.state files.old).told (R.told runner.old) facts.now)
-        (commands.Master asked.now transport.now opens.now listens.now)) (so_far result))
-        (WireCause (so_far result) (W.faults wire.old).server (W.faults wire.new).server
-        (W.faults wire.old).client (W.faults wire.new).client) }
-    ensures calls { CallsEnd turns (so_far result) (W.state wire.old).calls (W.state wire.new).calls }
-    ensures came { OnTrue (may_share
-        (of_command (machine (F.state files.old).told (R.told runner.old) facts.now)
-        (commands.Master asked.now transport.now opens.now listens.now)) (so_far result))
-        (CameFor (serves_house (H.state house.old).known.present
-        (of_command (machine (F.state files.old).told (R.told runner.old) facts.now)
-        (commands.Master asked.now transport.now opens.now listens.now))) (so_far result)
-        (W.state wire.old).calls (W.state wire.new).calls) }
-    ensures waited { OnFalse (serves_house (H.state house.old).known.present
-        (of_command (machine (F.state files.old).told (R.told runner.old) facts.now)
-        (commands.Master asked.now transport.now opens.now listens.now)))
-        (OnTrue (may_share
-        (of_command (machine (F.state files.old).told (R.told runner.old) facts.now)
-        (commands.Master asked.now transport.now opens.now listens.now)) (so_far result))
-        (WaitsFor turns (so_far result) (W.state wire.old).calls (W.state wire.new).calls)) }
-    ensures idle { turns ≡ 0 → OnFalse (serves_house (H.state house.old).known.present
-        (of_command (machine (F.state files.old).told (R.told runner.old) facts.now)
-        (commands.Master asked.now transport.now opens.now listens.now)))
-        (IdleCause (so_far result) (W.faults wire.old).server (W.faults wire.new).server
-        (W.faults wire.old).client (W.faults wire.new).client) }
-    ensures wire { OnFalse (may_share
-        (of_command (machine (F.state files.old).told (R.told runner.old) facts.now)
-        (commands.Master asked.now transport.now opens.now listens.now)) (so_far result))
-        (wire.new ≡ wire.old) }
-    ensures house { OnFalse (may_share
-        (of_command (machine (F.state files.old).told (R.told runner.old) facts.now)
-        (commands.Master asked.now transport.now opens.now listens.now)) (so_far result))
-        (house.new ≡ house.old) }
-    ensures ran { RunsFor
-        (commands_of (machine (F.state files.old).told (R.told runner.old) facts.now)
-        (commands.Master asked.now transport.now opens.now listens.now)) (so_far result)
-        (R.ran runner.old) (R.ran runner.new) }
-    ensures place { Placed
-        (told_over (machine (F.state files.old).told (R.told runner.old) facts.now) asked.now)
-        result (R.ran runner.old) (R.ran runner.new)
-        (F.failed files.old) (F.failed files.new) }
-    ensures read { ReadsFor
-        (told_over (machine (F.state files.old).told (R.told runner.old) facts.now) asked.now)
-        (so_far result) (F.readings files.old) (F.readings files.new) }
-    ensures cause { Caused result (F.faults files.old) (F.faults files.new)
-        (R.faults runner.old) (R.faults runner.new) }
+        ((wire.new ≡ wire.old) × (house.new ≡ house.old)) }
 {
     let found = found_of(alloc, asked, facts, files, runner)?;
     let policy = policy_of(alloc, opens, listens)?;
@@ -141,8 +79,8 @@ pub fn share<W: Wire, F: Files, R: Runner, H: House>(
     begin_and_serve(alloc, &found, transport, policy, pid, wire, house, turns)
 }
 
-// The settings of what the words ask for, and the control path of them: of a master, and of a client
-// of one.
+// The settings of what the words ask for, and the control path of them: of a master, and of a
+// client of one.
 fn found_of<F: Files, R: Runner>(
     alloc: Global,
     asked: &Asked,
@@ -150,34 +88,20 @@ fn found_of<F: Files, R: Runner>(
     files: &mut F,
     runner: &mut R,
 ) -> Result<Found, Ending>
-    ensures exact { (transport : Bytes) (opens listens : List Bytes) →
-        Finds (λ found. opens_at transport opens listens found.control)
-        (Master transport opens listens)
-        (of_command (machine (F.state files.old).told (R.told runner.old) facts.now)
-        (commands.Master asked.now transport opens listens)) result }
-    ensures ran { (transport : Bytes) (opens listens : List Bytes) →
-        RunsUnless (commands_of (machine (F.state files.old).told (R.told runner.old) facts.now)
-        (commands.Master asked.now transport opens listens)) result
-        (R.ran runner.old) (R.ran runner.new) }
+    ensures master { (transport : Bytes) (opens listens : List Bytes) →
+        FoundFor (λ found. opens_at transport opens listens found.control)
+        (Master transport opens listens) facts.now
+        (commands.Master asked.now transport opens listens) asked.now result
+        (sources F.Files R.Runner files.old runner.old)
+        (sources F.Files R.Runner files.new runner.new) }
     ensures client { (what : Control) →
-        Finds (λ found. joins_at asked.now what found.control) (Client asked.now what)
-        (of_command (machine (F.state files.old).told (R.told runner.old) facts.now)
-        (commands.Control asked.now what)) result }
-    ensures client_ran { (what : Control) → RunsUnless
-        (commands_of (machine (F.state files.old).told (R.told runner.old) facts.now)
-        (commands.Control asked.now what)) result (R.ran runner.old) (R.ran runner.new) }
-    ensures place { Placed
-        (told_over (machine (F.state files.old).told (R.told runner.old) facts.now) asked.now)
-        result (R.ran runner.old) (R.ran runner.new)
-        (F.failed files.old) (F.failed files.new) }
-    ensures read { ReadsUnless
-        (told_over (machine (F.state files.old).told (R.told runner.old) facts.now) asked.now)
-        result (F.readings files.old) (F.readings files.new) }
+        FoundFor (λ found. joins_at asked.now what found.control) (Client asked.now what) facts.now
+        (commands.Control asked.now what) asked.now result
+        (sources F.Files R.Runner files.old runner.old)
+        (sources F.Files R.Runner files.new runner.new) }
     ensures settled { IfOk result (λ found. SettledFor
-        (told_over (machine (F.state files.old).told (R.told runner.old) facts.now) asked.now)
-        found.settings) }
-    ensures cause { Caused result (F.faults files.old) (F.faults files.new)
-        (R.faults runner.old) (R.faults runner.new) }
+        (told_over (machine_of_sources (sources F.Files R.Runner files.old runner.old) facts.now)
+        asked.now) found.settings) }
 {
     let settings = resolve(alloc, asked, facts, files, runner)?;
     let found = control_path(alloc, &settings, asked.original.as_bytes(), facts)?;
@@ -195,29 +119,16 @@ pub fn control_of<F: Files, R: Runner>(
     files: &mut F,
     runner: &mut R,
 ) -> Result<Text, Ending>
-    ensures exact { (transport : Bytes) (opens listens : List Bytes) →
-        Finds (opens_at transport opens listens) (Master transport opens listens)
-        (of_command (machine (F.state files.old).told (R.told runner.old) facts.now)
-        (commands.Master asked.now transport opens listens)) result }
-    ensures ran { (transport : Bytes) (opens listens : List Bytes) →
-        RunsUnless (commands_of (machine (F.state files.old).told (R.told runner.old) facts.now)
-        (commands.Master asked.now transport opens listens)) result
-        (R.ran runner.old) (R.ran runner.new) }
-    ensures client { (what : Control) → Finds (joins_at asked.now what) (Client asked.now what)
-        (of_command (machine (F.state files.old).told (R.told runner.old) facts.now)
-        (commands.Control asked.now what)) result }
-    ensures client_ran { (what : Control) → RunsUnless
-        (commands_of (machine (F.state files.old).told (R.told runner.old) facts.now)
-        (commands.Control asked.now what)) result (R.ran runner.old) (R.ran runner.new) }
-    ensures place { Placed
-        (told_over (machine (F.state files.old).told (R.told runner.old) facts.now) asked.now)
-        result (R.ran runner.old) (R.ran runner.new)
-        (F.failed files.old) (F.failed files.new) }
-    ensures read { ReadsUnless
-        (told_over (machine (F.state files.old).told (R.told runner.old) facts.now) asked.now)
-        result (F.readings files.old) (F.readings files.new) }
-    ensures cause { Caused result (F.faults files.old) (F.faults files.new)
-        (R.faults runner.old) (R.faults runner.new) }
+    ensures master { (transport : Bytes) (opens listens : List Bytes) →
+        FoundFor (opens_at transport opens listens) (Master transport opens listens) facts.now
+        (commands.Master asked.now transport opens listens) asked.now result
+        (sources F.Files R.Runner files.old runner.old)
+        (sources F.Files R.Runner files.new runner.new) }
+    ensures client { (what : Control) →
+        FoundFor (joins_at asked.now what) (Client asked.now what) facts.now
+        (commands.Control asked.now what) asked.now result
+        (sources F.Files R.Runner files.old runner.old)
+        (sources F.Files R.Runner files.new runner.new) }
 {
     let found = found_of(alloc, asked, facts, files, runner)?;
     Ok(found.control)
@@ -244,7 +155,8 @@ fn begin<H: House>(alloc: Global, settings: &Settings, house: &mut H) -> Result<
     ensures must { OnOk result (IsTrue (H.state house.old).known.present
         → (H.state house.new).must ≡ (starts_for settings.now).must) }
     ensures told { (H.state house.new).told ≡ (H.state house.old).told }
-    ensures stands { OnOk result ((H.state house.new).stands (Begins (starts_for settings.now) ∷ [])) }
+    ensures stands { OnOk result
+        ((H.state house.new).stands (Begins (starts_for settings.now) ∷ [])) }
     ensures err { OnlyStarves result }
 {
     // A house that was never called says by this that it stands for no call.
@@ -269,27 +181,16 @@ fn begin_and_serve<W: Wire, H: House>(
     ensures ends { EndsMaster result }
     ensures opened { OpensAt found.now.control transport.now (so_far result)
         (W.state wire.old).openings (W.state wire.new).openings }
-    ensures joinings { (W.state wire.new).joinings ≡ (W.state wire.old).joinings }
-    ensures served { Shares H.may
-        (BegunRests H.told H.known H.quiet H.must H.refused H.stands (H.state house.old).known.present
-        (starts_for found.now.settings)) (BeganWith (starts_for found.now.settings))
-        (H.state house.new).stands policy pid turns (H.state house.old).told (H.state house.new).told
-        (W.state wire.old).seen.told (W.state wire.new).seen
-        (refused_if (H.state house.old).known.present (H.state house.new).must (H.state house.new).refused) result }
+    ensures served { SharesWith H.may
+        (BegunRests H.state (H.state house.old).known.present (starts_for found.now.settings))
+        (BeganWith (starts_for found.now.settings)) policy pid turns (H.state house.old)
+        (H.state house.new) (W.state wire.old) (W.state wire.new) result }
     ensures start { StartCause (so_far result)
-        (refused_if (H.state house.old).known.present (H.state house.new).must (H.state house.new).refused) }
+        (refusal_after (H.state house.old) (H.state house.new)) }
     ensures must { IsTrue (H.state house.old).known.present → MustsAs (so_far result)
         (Some (starts_for found.now.settings).must) (H.state house.new).must }
-    ensures cause { WireCause (so_far result) (W.faults wire.old).server (W.faults wire.new).server
-        (W.faults wire.old).client (W.faults wire.new).client }
-    ensures calls { CallsEnd turns (so_far result) (W.state wire.old).calls (W.state wire.new).calls }
-    ensures came { CameFor (H.state house.old).known.present (so_far result) (W.state wire.old).calls
-        (W.state wire.new).calls }
-    ensures waited { OnFalse (H.state house.old).known.present
-        (WaitsFor turns (so_far result) (W.state wire.old).calls (W.state wire.new).calls) }
-    ensures idle { turns ≡ 0 → OnFalse (H.state house.old).known.present (IdleCause (so_far result)
-        (W.faults wire.old).server (W.faults wire.new).server
-        (W.faults wire.old).client (W.faults wire.new).client) }
+    ensures wire { CountsFor (H.state house.old).known.present turns (so_far result)
+        (W.state wire.old) (W.state wire.new) (W.faults wire.old) (W.faults wire.new) }
 {
     begin(alloc, &found.settings, house)?;
     open_and_serve(
@@ -319,25 +220,15 @@ pub fn open_and_serve<W: Wire, H: House>(
     ensures ends { EndsMaster result }
     ensures opened { OpensAt control.now transport.now (so_far result)
         (W.state wire.old).openings (W.state wire.new).openings }
-    ensures joinings { (W.state wire.new).joinings ≡ (W.state wire.old).joinings }
-    ensures served { Shares H.may
-        (RestsOf H.state (H.state house.old).known.present house.old)
-        (H.state house.old).stands (H.state house.new).stands policy pid turns (H.state house.old).told
-        (H.state house.new).told (W.state wire.old).seen.told (W.state wire.new).seen
-        (refused_if (H.state house.old).known.present (H.state house.new).must (H.state house.new).refused) result }
+    ensures served { SharesWith H.may
+        (RestsOf H.state (H.state house.old).known.present house.old) (H.state house.old).stands
+        policy pid turns (H.state house.old) (H.state house.new) (W.state wire.old)
+        (W.state wire.new) result }
     ensures start { StartCause (so_far result)
-        (refused_if (H.state house.old).known.present (H.state house.new).must (H.state house.new).refused) }
+        (refusal_after (H.state house.old) (H.state house.new)) }
     ensures must { (H.state house.new).must ≡ (H.state house.old).must }
-    ensures cause { WireCause (so_far result) (W.faults wire.old).server (W.faults wire.new).server
-        (W.faults wire.old).client (W.faults wire.new).client }
-    ensures calls { CallsEnd turns (so_far result) (W.state wire.old).calls (W.state wire.new).calls }
-    ensures came { CameFor (H.state house.old).known.present (so_far result) (W.state wire.old).calls
-        (W.state wire.new).calls }
-    ensures waited { OnFalse (H.state house.old).known.present
-        (WaitsFor turns (so_far result) (W.state wire.old).calls (W.state wire.new).calls) }
-    ensures idle { turns ≡ 0 → OnFalse (H.state house.old).known.present (IdleCause (so_far result)
-        (W.faults wire.old).server (W.faults wire.new).server
-        (W.faults wire.old).client (W.faults wire.new).client) }
+    ensures wire { CountsFor (H.state house.old).known.present turns (so_far result)
+        (W.state wire.old) (W.state wire.new) (W.faults wire.old) (W.faults wire.new) }
 {
     // A house that has only begun says by this that nothing is known of it.
     let _blank = house.present();

@@ -5,7 +5,7 @@ use Rattle.forward_rules.specs.Allows.{read_policy}
 use Rattle.mux_history.specs.Policy.{any_policy}
 use Rattle.ssh_mux.specs.Sharing.{policy_of}
 use Rattle.std.proofs.lemmas.Result.{err_from_is_err_and}
-use Rattle.ssh_mux.proofs.StillLemmas.{still-calls}
+use Rattle.ssh_mux.proofs.MasterLemmas.{starved-counts}
 use Rattle.ssh_mux.proofs.drill.serve_drill.Goals as goal
 
 -- lists without an entry permit anything
@@ -14,6 +14,9 @@ none-read none e = subst (λ n. IsOk (read_policy n n)) (sym e) refl
 
 none-policy : (none : List Bytes) → none ≡ [] → policy_of none none ≡ any_policy
 none-policy none e = ap (λ n. policy_of n n) e
+
+pub policy_of-requires : goal.policy_of-requires
+policy_of-requires g c = record { permitted = none-read c.new-none.result c.new-none.ensures }
 
 pub returns-in_err-transport-clause-ends : goal.returns-in_err-transport-clause-ends
 returns-in_err-transport-clause-ends g c = let p = err_from_is_err_and c.from_residual.result c.from_residual.ensures.1 in rw (p.1, p.2) refl
@@ -24,20 +27,11 @@ returns-in_err-transport-clause-opened g c = let p = err_from_is_err_and c.from_
 pub returns-in_err-transport-clause-served : goal.returns-in_err-transport-clause-served
 returns-in_err-transport-clause-served g c = let p = err_from_is_err_and c.from_residual.result c.from_residual.ensures.1 in rw (p.1, p.2) (inl (record { same_wire = refl; same_house = refl }))
 
-pub returns-in_err-transport-clause-cause : goal.returns-in_err-transport-clause-cause
-returns-in_err-transport-clause-cause g c = let p = err_from_is_err_and c.from_residual.result c.from_residual.ensures.1 in rw (p.1, p.2) tt
+pub returns-in_err-transport-clause-start : goal.returns-in_err-transport-clause-start
+returns-in_err-transport-clause-start g c = let p = err_from_is_err_and c.from_residual.result c.from_residual.ensures.1 in rw (p.1, p.2) tt
 
-pub returns-in_err-transport-clause-calls : goal.returns-in_err-transport-clause-calls
-returns-in_err-transport-clause-calls g c = still-calls _ _ _
-
-pub returns-in_err-transport-clause-waited : goal.returns-in_err-transport-clause-waited
-returns-in_err-transport-clause-waited g c = let p = err_from_is_err_and c.from_residual.result c.from_residual.ensures.1 in rw (p.1, p.2) tt
-
-pub returns-in_err-transport-clause-idle : goal.returns-in_err-transport-clause-idle
-returns-in_err-transport-clause-idle g c = λ z. let p = err_from_is_err_and c.from_residual.result c.from_residual.ensures.1 in rw (p.1, p.2) tt
-
-pub policy_of-requires : goal.policy_of-requires
-policy_of-requires g c = record { permitted = none-read c.new-none.result c.new-none.ensures }
+pub returns-in_err-transport-clause-wire : goal.returns-in_err-transport-clause-wire
+returns-in_err-transport-clause-wire g c = let p = err_from_is_err_and c.from_residual.result c.from_residual.ensures.1 in rw (p.1, p.2) (starved-counts _ _ _ _)
 
 pub returns-in_err-policy-clause-ends : goal.returns-in_err-policy-clause-ends
 returns-in_err-policy-clause-ends g c = let p = err_from_is_err_and c.from_residual-in_err-policy.result c.from_residual-in_err-policy.ensures.1 in let e = c.in_err-policy.ensures.err in rw (p.1, p.2, e) refl
@@ -48,17 +42,11 @@ returns-in_err-policy-clause-opened g c = let p = err_from_is_err_and c.from_res
 pub returns-in_err-policy-clause-served : goal.returns-in_err-policy-clause-served
 returns-in_err-policy-clause-served g c = let p = err_from_is_err_and c.from_residual-in_err-policy.result c.from_residual-in_err-policy.ensures.1 in let e = c.in_err-policy.ensures.err in rw (p.1, p.2, e) (inl (record { same_wire = refl; same_house = refl }))
 
-pub returns-in_err-policy-clause-cause : goal.returns-in_err-policy-clause-cause
-returns-in_err-policy-clause-cause g c = let p = err_from_is_err_and c.from_residual-in_err-policy.result c.from_residual-in_err-policy.ensures.1 in let e = c.in_err-policy.ensures.err in rw (p.1, p.2, e) tt
+pub returns-in_err-policy-clause-start : goal.returns-in_err-policy-clause-start
+returns-in_err-policy-clause-start g c = let p = err_from_is_err_and c.from_residual-in_err-policy.result c.from_residual-in_err-policy.ensures.1 in let e = c.in_err-policy.ensures.err in rw (p.1, p.2, e) tt
 
-pub returns-in_err-policy-clause-calls : goal.returns-in_err-policy-clause-calls
-returns-in_err-policy-clause-calls g c = still-calls _ _ _
-
-pub returns-in_err-policy-clause-waited : goal.returns-in_err-policy-clause-waited
-returns-in_err-policy-clause-waited g c = let p = err_from_is_err_and c.from_residual-in_err-policy.result c.from_residual-in_err-policy.ensures.1 in let e = c.in_err-policy.ensures.err in rw (p.1, p.2, e) tt
-
-pub returns-in_err-policy-clause-idle : goal.returns-in_err-policy-clause-idle
-returns-in_err-policy-clause-idle g c = λ z. let p = err_from_is_err_and c.from_residual-in_err-policy.result c.from_residual-in_err-policy.ensures.1 in let e = c.in_err-policy.ensures.err in rw (p.1, p.2, e) tt
+pub returns-in_err-policy-clause-wire : goal.returns-in_err-policy-clause-wire
+returns-in_err-policy-clause-wire g c = let p = err_from_is_err_and c.from_residual-in_err-policy.result c.from_residual-in_err-policy.ensures.1 in let e = c.in_err-policy.ensures.err in rw (p.1, p.2, e) (starved-counts _ _ _ _)
 
 pub returns-clause-opened : goal.returns-clause-opened
 returns-clause-opened g c = rw (c.new-control.ensures, c.in_ok-transport.ensures, c.as_slice.ensures) at c.open_and_serve.ensures.opened
@@ -66,14 +54,8 @@ returns-clause-opened g c = rw (c.new-control.ensures, c.in_ok-transport.ensures
 pub returns-clause-served : goal.returns-clause-served
 returns-clause-served g c = rw (c.in_ok-policy.ensures.exact ∙ none-policy c.new-none.result c.new-none.ensures) at c.open_and_serve.ensures.served
 
-pub returns-in_err-transport-clause-start : goal.returns-in_err-transport-clause-start
-returns-in_err-transport-clause-start g c = let p = err_from_is_err_and c.from_residual.result c.from_residual.ensures.1 in rw (p.1, p.2) tt
+pub returns-clause-start : goal.returns-clause-start
+returns-clause-start g c = c.open_and_serve.ensures.start
 
-pub returns-in_err-policy-clause-start : goal.returns-in_err-policy-clause-start
-returns-in_err-policy-clause-start g c = let p = err_from_is_err_and c.from_residual-in_err-policy.result c.from_residual-in_err-policy.ensures.1 in let e = c.in_err-policy.ensures.err in rw (p.1, p.2, e) tt
-
-pub returns-in_err-transport-clause-came : goal.returns-in_err-transport-clause-came
-returns-in_err-transport-clause-came g c = let p = err_from_is_err_and c.from_residual.result c.from_residual.ensures.1 in rw (p.1, p.2) tt
-
-pub returns-in_err-policy-clause-came : goal.returns-in_err-policy-clause-came
-returns-in_err-policy-clause-came g c = let p = err_from_is_err_and c.from_residual-in_err-policy.result c.from_residual-in_err-policy.ensures.1 in let e = c.in_err-policy.ensures.err in rw (p.1, p.2, e) tt
+pub returns-clause-wire : goal.returns-clause-wire
+returns-clause-wire g c = c.open_and_serve.ensures.wire

@@ -14,4 +14,4 @@ pub returns-clause-must : goal.returns-clause-must
 returns-clause-must g c = λ x. c.in_ok-begin.ensures.must x ∙ ap (λ (s : Starts). s.must) c.in_ok-starts.ensures.exact
 
 pub returns-clause-stands : goal.returns-clause-stands
-returns-clause-stands g c = subst (λ (s : Starts). (g.H.Asks.state c.begin.new.self).stands (Begins s ∷ [])) c.in_ok-starts.ensures.exact (c.in_ok-begin.ensures.stands (c.present-fresh.ensures.stands c.requires.fresh))
+returns-clause-stands g c = subst (λ (s : Starts). (g.H.Asks.state c.begin.new.self).stands (Begins s ∷ [])) c.in_ok-starts.ensures.exact (c.in_ok-begin.ensures.stands (c.present-fresh.ensures.fresh c.requires.fresh).stands)

@@ -1,7 +1,7 @@
 use Rattle.std.proofs.Common.{inl, refl, ◌∙◌}
 use Rattle.std.proofs.lemmas.Result.{err_from_is_err_and}
+use Rattle.ssh_mux.proofs.MasterLemmas.{starved-counts}
 use Rattle.ssh_mux.proofs.StartLemmas.{musts-begun, shares-begun}
-use Rattle.ssh_mux.proofs.StillLemmas.{memory-came, still-calls, where_false}
 use Rattle.ssh_mux.proofs.master.begin_and_serve.Goals as goal
 
 pub returns-in_err-begin-clause-ends : goal.returns-in_err-begin-clause-ends
@@ -16,38 +16,20 @@ returns-in_err-begin-clause-served g c = let p = err_from_is_err_and c.from_resi
 pub returns-in_err-begin-clause-start : goal.returns-in_err-begin-clause-start
 returns-in_err-begin-clause-start g c = let p = err_from_is_err_and c.from_residual.result c.from_residual.ensures.1 in let e = c.in_err-begin.ensures.err in rw (p.1, p.2, e) tt
 
-pub returns-in_err-begin-clause-cause : goal.returns-in_err-begin-clause-cause
-returns-in_err-begin-clause-cause g c = let p = err_from_is_err_and c.from_residual.result c.from_residual.ensures.1 in let e = c.in_err-begin.ensures.err in rw (p.1, p.2, e) tt
+pub returns-in_err-begin-clause-must : goal.returns-in_err-begin-clause-must
+returns-in_err-begin-clause-must g c = λ x. let p = err_from_is_err_and c.from_residual.result c.from_residual.ensures.1 in let e = c.in_err-begin.ensures.err in rw (p.1, p.2, e) tt
 
-pub returns-in_err-begin-clause-calls : goal.returns-in_err-begin-clause-calls
-returns-in_err-begin-clause-calls g c = still-calls _ _ _
-
-pub returns-in_err-begin-clause-waited : goal.returns-in_err-begin-clause-waited
-returns-in_err-begin-clause-waited g c = let p = err_from_is_err_and c.from_residual.result c.from_residual.ensures.1 in let e = c.in_err-begin.ensures.err in rw (p.1, p.2, e) (where_false _ _ tt)
-
-pub returns-in_err-begin-clause-idle : goal.returns-in_err-begin-clause-idle
-returns-in_err-begin-clause-idle g c = λ z. let p = err_from_is_err_and c.from_residual.result c.from_residual.ensures.1 in let e = c.in_err-begin.ensures.err in rw (p.1, p.2, e) (where_false _ _ tt)
+pub returns-in_err-begin-clause-wire : goal.returns-in_err-begin-clause-wire
+returns-in_err-begin-clause-wire g c = let p = err_from_is_err_and c.from_residual.result c.from_residual.ensures.1 in let e = c.in_err-begin.ensures.err in rw (p.1, p.2, e) (starved-counts _ _ _ _)
 
 pub returns-clause-served : goal.returns-clause-served
-returns-clause-served g c = shares-begun g.H.House.told g.H.House.known g.H.House.quiet g.H.House.must g.H.House.refused (g.H.Asks.state _).stands _ _ c.in_ok-begin.ensures.stands _ _ _ _ _ _ _ _ _ _ _ (rw (c.in_ok-begin.ensures.known, c.in_ok-begin.ensures.told) at c.open_and_serve.ensures.served)
+returns-clause-served g c = shares-begun g.H.Asks.state _ _ _ c.in_ok-begin.ensures.stands _ _ _ _ _ _ _ _ _ _ _ (rw (c.in_ok-begin.ensures.known, c.in_ok-begin.ensures.told) at c.open_and_serve.ensures.served)
 
 pub returns-clause-start : goal.returns-clause-start
 returns-clause-start g c = rw c.in_ok-begin.ensures.known at c.open_and_serve.ensures.start
 
-pub returns-clause-waited : goal.returns-clause-waited
-returns-clause-waited g c = rw c.in_ok-begin.ensures.known at c.open_and_serve.ensures.waited
-
-pub returns-clause-idle : goal.returns-clause-idle
-returns-clause-idle g c = λ z. rw c.in_ok-begin.ensures.known at (c.open_and_serve.ensures.idle z)
-
-pub returns-in_err-begin-clause-must : goal.returns-in_err-begin-clause-must
-returns-in_err-begin-clause-must g c = λ x. let p = err_from_is_err_and c.from_residual.result c.from_residual.ensures.1 in let e = c.in_err-begin.ensures.err in rw (p.1, p.2, e) tt
-
 pub returns-clause-must : goal.returns-clause-must
 returns-clause-must g c = λ x. musts-begun _ _ _ (c.open_and_serve.ensures.must ∙ c.in_ok-begin.ensures.must x)
 
-pub returns-in_err-begin-clause-came : goal.returns-in_err-begin-clause-came
-returns-in_err-begin-clause-came g c = let p = err_from_is_err_and c.from_residual.result c.from_residual.ensures.1 in let e = c.in_err-begin.ensures.err in rw (p.1, p.2, e) (memory-came (g.H.Asks.state c.args.house.now).known.present (g.W.Wire.state c.args.wire.now).calls (g.W.Wire.state c.args.wire.now).calls)
-
-pub returns-clause-came : goal.returns-clause-came
-returns-clause-came g c = rw c.in_ok-begin.ensures.known at c.open_and_serve.ensures.came
+pub returns-clause-wire : goal.returns-clause-wire
+returns-clause-wire g c = rw c.in_ok-begin.ensures.known at c.open_and_serve.ensures.wire

@@ -1,0 +1,151 @@
+-- What a master leaves of its wire and its house, from what was opened and served.
+use Rattle.std.proofs.Common.{◌≡◌, inr, ℕ, Bool, true, false, List, [], ◌++◌, Option, Some, None, Result, Ok, Err, refl, sym, ap, subst, ◌∙◌}
+use Rattle.std.proofs.lemmas.List.{append-nil}
+use Rattle.std.specs.Prelude.{IsTrue, option_map}
+use Rattle.conf_options.specs.Kept.{Given}
+use Rattle.conf_rules.specs.declared.asked.Asked.{Asked}
+use Rattle.conf_rules.specs.declared.command.Command.TheVariants as commands
+use Rattle.conf_rules.specs.Outcome.{Machine}
+use Rattle.conf_rules.specs.Texts.{Bytes}
+use Rattle.conf_rules.specs.Told.{Told}
+use Rattle.mux_engine.specs.Rests.{HasCalled, HasEnded, refusal_after}
+use Rattle.mux_engine.specs.Wires.{IsOpened, KeepsWire, NoFault}
+use Rattle.mux_history.specs.declared.ended.Ended.{Ended}
+use Rattle.mux_history.specs.declared.ended.Ended.TheVariants as ends
+use Rattle.mux_outside.specs.CallCounts.{CallCounts, calls_after_open}
+use Rattle.mux_outside.specs.declared.file_error.FileError.TheVariants as failures
+use Rattle.mux_outside.specs.declared.house.HouseReply.{HouseReply}
+use Rattle.mux_outside.specs.declared.mark.Opening.{Opening}
+use Rattle.mux_outside.specs.declared.starts.Starts.{Starts}
+use Rattle.mux_outside.specs.Faults.{Faults, OpeningFault}
+use Rattle.mux_outside.specs.House.{HouseState}
+use Rattle.mux_outside.specs.WireState.{WireState, state_after_open}
+use Rattle.ssh_mux.specs.declared.ending.Ending.{Ending}
+use Rattle.ssh_mux.specs.declared.status.Status.{Status}
+use Rattle.ssh_mux.specs.declared.status.Status.TheVariants as statuses
+use Rattle.ssh_mux.specs.Answers.{IsRefused, may_share, serves_house, so_far}
+use Rattle.ssh_mux.specs.Ending.{shown}
+use Rattle.ssh_mux.specs.Master.{EndsMaster}
+use Rattle.ssh_mux.specs.Outcomes.{Known, of_command}
+use Rattle.ssh_mux.specs.Sharing.{CameFor, CountsFor, MasterLeaves, OpensAt, SharesWith, StartCause, WireCause, opened, policy_in, policy_of, told_as}
+use Rattle.ssh_mux.specs.Starts.{BeganWith, Begun, BegunRests, MustsAs, SettledFor, must_for, starts_for}
+use Rattle.ssh_mux.specs.Status.{status_of}
+use Rattle.ssh_mux.specs.World.{Sockets}
+use Rattle.ssh_mux.proofs.PolicyLemmas.{with-policy}
+use Rattle.ssh_mux.proofs.SharingLemmas.{IsMaster, came_end, idle_end, master-came, master-idle, master-opened, master-opens, master-waits, opened_ended, opened_stops, opening_calls, serving_calls, waits_end}
+use Rattle.ssh_mux.proofs.StartLemmas.{musts-told, starts-told}
+use Rattle.ssh_mux.proofs.StillLemmas.{memory-came, on_true, still-came, still-calls, still-idle, still-must, still-opened, still-shared, still-start, still-wire, unshared-waits, where_false}
+
+-- ---- counts
+
+-- where there was no memory before the opening
+pub starved-counts : (housed : Bool) (turns : ℕ) (w : WireState) (f : Faults) → CountsFor housed turns statuses.Memory w w f f
+starved-counts housed turns w f = record {
+  joinings = refl;
+  cause = tt;
+  calls = still-calls turns statuses.Memory w.calls;
+  came = memory-came housed w.calls w.calls;
+  waited = where_false housed Unit tt;
+  idle = λ z. where_false housed Unit tt;
+}
+
+-- where the opening had this answer, and nothing was served
+open-came : (housed : Bool) (old new : CallCounts) → CameFor housed statuses.Open old new
+open-came true old new = tt
+open-came false old new = tt
+
+module _ (housed : Bool) (turns : ℕ) (control transport : Bytes) (old new : WireState) (f f' : Faults) where
+  pub failed-counts : new ≡ state_after_open (Err failures.Failed) control transport old → OpeningFault f f' → CountsFor housed turns statuses.Open old new f f'
+  failed-counts e cause = record {
+    joinings = ap (λ (w : WireState). w.joinings) e;
+    cause = cause;
+    calls = opening_calls (Err failures.Failed) turns statuses.Open old.calls new.calls (ap (λ (w : WireState). w.calls) e);
+    came = open-came housed old.calls new.calls;
+    waited = where_false housed Unit tt;
+    idle = λ z. where_false housed Unit tt;
+  }
+
+-- ---- behind the opening
+
+pub is-opened : (x : Unit {0}) (control transport : Bytes) (old mid : WireState) → mid ≡ state_after_open (Ok x) control transport old → IsOpened mid.seen
+is-opened x control transport old mid e = subst (λ (w : WireState). IsOpened w.seen) (sym e) (record { server_alone = refl; none_blocked = refl; listens = refl; own = refl; listeners = refl })
+
+-- where it was served
+served-cause : (ended : Ended) (present : Bool) (refused : Option ℕ) (mid new : WireState) (f f' f'' : Faults) → f' ≡ f → HasEnded present refused ended mid new f' f'' → WireCause (so_far (told_as ended)) f f''
+served-cause ends.ServerFailed present refused mid new f f' f'' e h = subst (λ (x : Faults). WireCause statuses.Transport x f'') e (h.failed refl)
+served-cause ends.ServerEnd present refused mid new f f' f'' e h = tt
+served-cause ends.Disconnected present refused mid new f f' f'' e h = tt
+served-cause (ends.Terminated client id) present refused mid new f f' f'' e h = tt
+served-cause (ends.Broke index why) present refused mid new f f' f'' e h = tt
+served-cause (ends.StartRefused index) present refused mid new f f' f'' e h = tt
+served-cause ends.Spent present refused mid new f f' f'' e h = tt
+served-cause ends.OutOfMemory present refused mid new f f' f'' e h = tt
+
+pub served-counts : (housed : Bool) (turns : ℕ) (ended : Ended) (refused : Option ℕ) (x : Unit {0}) (control transport : Bytes) (old mid new : WireState) (f f' f'' : Faults) → mid ≡ state_after_open (Ok x) control transport old → f' ≡ f → HasCalled housed turns ended mid new → HasEnded housed refused ended mid new f' f'' → KeepsWire mid new f' f'' → (turns ≡ 0 → housed ≡ false → NoFault f' f'') → CountsFor housed turns (so_far (told_as ended)) old new f f''
+served-counts housed turns ended refused x control transport old mid new f f' f'' e same called over keeps idle =
+    let c : mid.calls ≡ calls_after_open (Ok x) old.calls = ap (λ (w : WireState). w.calls) e in
+    record {
+      joinings = keeps.joinings ∙ ap (λ (w : WireState). w.joinings) e;
+      cause = served-cause ended housed refused mid new f f' f'' same over;
+      calls = serving_calls (Ok x) housed turns ended old.calls mid.calls new.calls c called.stops called.came;
+      came = came_end housed ended old.calls new.calls (opened_ended (Ok x) housed ended old.calls mid.calls new.calls c over.by_count);
+      waited = waits_end housed turns ended old.calls new.calls (opened_stops (Ok x) housed turns ended old.calls mid.calls new.calls c called.stops);
+      idle = λ z. idle_end housed ended f f' f'' same (idle z);
+    }
+
+-- and the wire was opened once
+pub opens_end : (ended : Ended) (control transport : Bytes) (before now : Option (List Opening)) → now ≡ opened control transport before → OpensAt control transport (so_far (told_as ended)) before now
+opens_end ends.OutOfMemory control transport before now e = inr e
+opens_end ends.ServerEnd control transport before now e = e
+opens_end ends.Disconnected control transport before now e = e
+opens_end (ends.Terminated client id) control transport before now e = e
+opens_end ends.ServerFailed control transport before now e = e
+opens_end (ends.Broke index why) control transport before now e = e
+opens_end (ends.StartRefused index) control transport before now e = e
+opens_end ends.Spent control transport before now e = e
+
+-- where the opening found no memory, nothing more is told of it
+pub nothing-more : {A : Type 0} (told : Option (List A)) → option_map (λ xs. xs ++ []) told ≡ told
+nothing-more None = refl
+nothing-more (Some xs) = ap Some (append-nil xs)
+
+-- ---- what is left
+
+module _ {T : Type 0} (May : HouseReply → Type 0) (state : T → HouseState) where
+  -- of a master that was refused before
+  pub refused-leaves : (known : Known) (by : Option Told) (pid turns : ℕ) (meant : Ending) (k : Sockets) → IsRefused known (shown meant) → MasterLeaves May state known by pid turns (Err meant) k k
+  refused-leaves known by pid turns meant k r = record {
+    opened = still-opened known (shown meant) k.wire.openings r;
+    joinings = refl;
+    served = still-shared known meant May (BegunRests state k.house.known.present) k.house.stands by (policy_in known) pid turns k.house.told k.wire.seen (refusal_after k.house k.house) r;
+    start = still-start known (shown meant) (refusal_after k.house k.house) r;
+    must = λ p. still-must known (shown meant) (must_for by) k.house.must r;
+    wire_cause = still-wire known (shown meant) k.faults k.faults r;
+    calls = still-calls turns (status_of (shown meant)) k.wire.calls;
+    came = still-came known (shown meant) (serves_house k.house.known.present known) k.wire.calls k.wire.calls r;
+    waited = unshared-waits (serves_house k.house.known.present known) known (shown meant) turns k.wire.calls k.wire.calls r;
+    idle = λ z. where_false (serves_house k.house.known.present known) _ (still-idle (status_of (shown meant)) k.faults);
+  }
+
+  -- of one whose control path was found
+  pub served-leaves : (m : Option Machine) (asked : Asked) (transport : Bytes) (os ls : List Bytes) (control : Bytes) (by : Option Told) (settings : List Given) (pid turns : ℕ) (result : Result Status Ending) (k k' : Sockets) → IsMaster (of_command m (commands.Master asked transport os ls)) transport os ls control → SettledFor by settings → EndsMaster result → OpensAt control transport (so_far result) k.wire.openings k'.wire.openings
+      → SharesWith May (BegunRests state k.house.known.present (starts_for settings)) (BeganWith (starts_for settings)) (policy_of os ls) pid turns k.house k'.house k.wire k'.wire result
+      → StartCause (so_far result) (refusal_after k.house k'.house) → (IsTrue k.house.known.present → MustsAs (so_far result) (Some (starts_for settings).must) k'.house.must) → CountsFor k.house.known.present turns (so_far result) k.wire k'.wire k.faults k'.faults
+      → MasterLeaves May state (of_command m (commands.Master asked transport os ls)) by pid turns result k k'
+  served-leaves m asked transport os ls control by settings pid turns result k k' is settled over once served start must counts =
+    let known : Known = of_command m (commands.Master asked transport os ls) in
+    let present : Bool = k.house.known.present in
+    let status : Status = so_far result in
+    record {
+      opened = master-opened known transport os ls control status k.wire.openings k'.wire.openings is (master-opens result over) once;
+      joinings = counts.joinings;
+      served = with-policy m asked transport os ls status (λ p. Begun by (λ (starts : Starts). SharesWith May (BegunRests state present starts) (BeganWith starts) p pid turns k.house k'.house k.wire k'.wire result))
+        (on_true (may_share known status) (Begun by (λ (starts : Starts). SharesWith May (BegunRests state present starts) (BeganWith starts) (policy_of os ls) pid turns k.house k'.house k.wire k'.wire result)) (record { starts = starts_for settings; due = starts-told by settings settled; so = served }));
+      start = on_true (may_share known status) (StartCause status (refusal_after k.house k'.house)) start;
+      must = λ p. on_true (may_share known status) (MustsAs status (must_for by) k'.house.must) (musts-told by settings status k'.house.must settled (must p));
+      wire_cause = on_true (may_share known status) (WireCause status k.faults k'.faults) counts.cause;
+      calls = counts.calls;
+      came = master-came known transport os ls control present status k.wire.calls k'.wire.calls is counts.came;
+      waited = master-waits known transport os ls control present turns status k.wire.calls k'.wire.calls is counts.waited;
+      idle = λ z. master-idle known transport os ls control present status k.faults k'.faults is (counts.idle z);
+    }
