@@ -59,11 +59,6 @@ drill-opens (Err ending) h = absurd cc
 pub drill-touches : (seed clients messages : ℕ) (result : Result Status Ending) → EndsDrill result → touches (Certain (Drills seed clients messages)) (so_far result) ≡ true
 drill-touches seed clients messages result h = rw (drill-opens result h) refl
 
--- it serves no house
-pub drilled-came : (present : Bool) (status : Status) (old new : CallCounts) → CameFor false status old new → CameFor (present && false) status old new
-drilled-came true status old new h = h
-drilled-came false status old new h = h
-
 -- files and commands have no part in it
 pub drill-cause : (result : Result Status Ending) (f r : ℕ) → EndsDrill result → Caused result f f r r
 drill-cause (Ok status) f r h = (refl, refl)
@@ -163,9 +158,9 @@ summed-waits turns due text result before now old new is d h = on result d (subs
   on (Err endings.NoMemory) d h = tt
   on (Err ending) d h = absurd d
 
-summed-came : (due : Status) (text : Bytes) (result : Result Status Ending) (before now : Option (List ℕ)) (old new : CallCounts) → EndsMaster (Ok due) → HandsOver result text before now → CameFor false due old new → CameFor false (so_far result) old new
-summed-came due text result before now old new is d h = on result d (subst (λ x. CameFor false x old new) is h) where
-  on : (r : Result Status Ending) → HandsOver r text before now → CameFor false statuses.Done old new → CameFor false (so_far r) old new
+summed-came : (due : Status) (text : Bytes) (result : Result Status Ending) (before now : Option (List ℕ)) (old new : CallCounts) → EndsMaster (Ok due) → HandsOver result text before now → CameFor due old new → CameFor (so_far result) old new
+summed-came due text result before now old new is d h = on result d (subst (λ x. CameFor x old new) is h) where
+  on : (r : Result Status Ending) → HandsOver r text before now → CameFor statuses.Done old new → CameFor (so_far r) old new
   on (Ok statuses.Done) d h = h
   on (Ok statuses.Write) d h = h
   on (Ok status) d h = absurd d

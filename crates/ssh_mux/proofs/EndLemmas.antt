@@ -237,12 +237,11 @@ on-memory false = tt
 pub wire_after : (k : Known) (status : Status) (ending : Ending) (b n : Option (List ℕ)) (f f' : ℕ) (w w' : Faults) → Reports status ending b n f f' → OnTrue (touches k (status_of ending)) (WireCause (status_of ending) w w') → OnTrue (touches k status) (WireCause status w w')
 wire_after k status ending b n f f' w w' r h = carried (λ x. OnTrue (touches k x) (WireCause x w w')) status ending (reported status ending b n f f' r) (on-memory (opens k || drills k)) h
 
-pub came_after : (k : Known) (housed : Bool) (status : Status) (ending : Ending) (b n : Option (List ℕ)) (f f' : ℕ) (old calls : CallCounts) → Reports status ending b n f f' → OnTrue (touches k (status_of ending)) (CameFor housed (status_of ending) old calls) → OnTrue (touches k status) (CameFor housed status old calls)
-came_after k housed status ending b n f f' old calls r h = carried (λ x. OnTrue (touches k x) (CameFor housed x old calls)) status ending (reported status ending b n f f' r) (on-memory-of housed) h
+pub came_after : (k : Known) (status : Status) (ending : Ending) (b n : Option (List ℕ)) (f f' : ℕ) (old calls : CallCounts) → Reports status ending b n f f' → OnTrue (touches k (status_of ending)) (CameFor (status_of ending) old calls) → OnTrue (touches k status) (CameFor status old calls)
+came_after k status ending b n f f' old calls r h = carried (λ x. OnTrue (touches k x) (CameFor x old calls)) status ending (reported status ending b n f f' r) on-memory-of h
   where
-    on-memory-of : (housed : Bool) → OnTrue (opens k || drills k) (CameFor housed statuses.Memory old calls)
-    on-memory-of true = on-memory (opens k || drills k)
-    on-memory-of false = on-memory (opens k || drills k)
+    on-memory-of : OnTrue (opens k || drills k) (CameFor statuses.Memory old calls)
+    on-memory-of = on-memory (opens k || drills k)
 
 pub start_after : (k : Known) (status : Status) (ending : Ending) (b n : Option (List ℕ)) (f f' : ℕ) (refused : Option ℕ) → Reports status ending b n f f' → OnTrue (may_share k (status_of ending)) (StartCause (status_of ending) refused) → OnTrue (may_share k status) (StartCause status refused)
 start_after k status ending b n f f' refused r h = carried (λ x. OnTrue (may_share k x) (StartCause x refused)) status ending (reported status ending b n f f' r) (on-memory (opens k)) h

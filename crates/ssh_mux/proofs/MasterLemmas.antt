@@ -8,6 +8,7 @@ use Rattle.conf_rules.specs.declared.command.Command.TheVariants as commands
 use Rattle.conf_rules.specs.Outcome.{Machine}
 use Rattle.conf_rules.specs.Texts.{Bytes}
 use Rattle.conf_rules.specs.Told.{Told}
+use Rattle.mux_engine.specs.Came.{EndedBy}
 use Rattle.mux_engine.specs.Rests.{HasCalled, HasEnded, refusal_after}
 use Rattle.mux_engine.specs.Wires.{IsOpened, KeepsWire, NoFault}
 use Rattle.mux_history.specs.declared.ended.Ended.{Ended}
@@ -34,7 +35,7 @@ use Rattle.ssh_mux.specs.World.{Sockets}
 use Rattle.ssh_mux.proofs.PolicyLemmas.{with-policy}
 use Rattle.ssh_mux.proofs.SharingLemmas.{IsMaster, came_end, idle_end, master-came, master-idle, master-opened, master-opens, master-waits, opened_ended, opened_stops, opening_calls, serving_calls, waits_end}
 use Rattle.ssh_mux.proofs.StartLemmas.{musts-told, starts-told}
-use Rattle.ssh_mux.proofs.StillLemmas.{memory-came, on_true, still-came, still-calls, still-idle, still-must, still-opened, still-shared, still-start, still-wire, unshared-waits, where_false}
+use Rattle.ssh_mux.proofs.StillLemmas.{on_true, still-came, still-calls, still-idle, still-must, still-opened, still-shared, still-start, still-wire, unshared-waits, where_false}
 
 -- ---- counts
 
@@ -44,23 +45,19 @@ starved-counts housed turns w f = record {
   joinings = refl;
   cause = tt;
   calls = still-calls turns statuses.Memory w.calls;
-  came = memory-came housed w.calls w.calls;
+  came = tt;
   waited = where_false housed Unit tt;
   idle = λ z. where_false housed Unit tt;
 }
 
 -- where the opening had this answer, and nothing was served
-open-came : (housed : Bool) (old new : CallCounts) → CameFor housed statuses.Open old new
-open-came true old new = tt
-open-came false old new = tt
-
 module _ (housed : Bool) (turns : ℕ) (control transport : Bytes) (old new : WireState) (f f' : Faults) where
   pub failed-counts : new ≡ state_after_open (Err failures.Failed) control transport old → OpeningFault f f' → CountsFor housed turns statuses.Open old new f f'
   failed-counts e cause = record {
     joinings = ap (λ (w : WireState). w.joinings) e;
     cause = cause;
     calls = opening_calls (Err failures.Failed) turns statuses.Open old.calls new.calls (ap (λ (w : WireState). w.calls) e);
-    came = open-came housed old.calls new.calls;
+    came = tt;
     waited = where_false housed Unit tt;
     idle = λ z. where_false housed Unit tt;
   }
@@ -81,14 +78,14 @@ served-cause (ends.StartRefused index) present refused mid new f f' f'' e h = tt
 served-cause ends.Spent present refused mid new f f' f'' e h = tt
 served-cause ends.OutOfMemory present refused mid new f f' f'' e h = tt
 
-pub served-counts : (housed : Bool) (turns : ℕ) (ended : Ended) (refused : Option ℕ) (x : Unit {0}) (control transport : Bytes) (old mid new : WireState) (f f' f'' : Faults) → mid ≡ state_after_open (Ok x) control transport old → f' ≡ f → HasCalled housed turns ended mid new → HasEnded housed refused ended mid new f' f'' → KeepsWire mid new f' f'' → (turns ≡ 0 → housed ≡ false → NoFault f' f'') → CountsFor housed turns (so_far (told_as ended)) old new f f''
-served-counts housed turns ended refused x control transport old mid new f f' f'' e same called over keeps idle =
+pub served-counts : (housed : Bool) (turns : ℕ) (ended : Ended) (refused : Option ℕ) (x : Unit {0}) (control transport : Bytes) (old mid new : WireState) (f f' f'' : Faults) → mid ≡ state_after_open (Ok x) control transport old → f' ≡ f → HasCalled housed turns ended mid new → HasEnded housed refused ended mid new f' f'' → EndedBy ended mid.calls new.calls → KeepsWire mid new f' f'' → (turns ≡ 0 → housed ≡ false → NoFault f' f'') → CountsFor housed turns (so_far (told_as ended)) old new f f''
+served-counts housed turns ended refused x control transport old mid new f f' f'' e same called over came keeps idle =
     let c : mid.calls ≡ calls_after_open (Ok x) old.calls = ap (λ (w : WireState). w.calls) e in
     record {
       joinings = keeps.joinings ∙ ap (λ (w : WireState). w.joinings) e;
       cause = served-cause ended housed refused mid new f f' f'' same over;
       calls = serving_calls (Ok x) housed turns ended old.calls mid.calls new.calls c called.stops called.came;
-      came = came_end housed ended old.calls new.calls (opened_ended (Ok x) housed ended old.calls mid.calls new.calls c over.by_count);
+      came = came_end ended old.calls new.calls (opened_ended (Ok x) ended old.calls mid.calls new.calls c came);
       waited = waits_end housed turns ended old.calls new.calls (opened_stops (Ok x) housed turns ended old.calls mid.calls new.calls c called.stops);
       idle = λ z. idle_end housed ended f f' f'' same (idle z);
     }
@@ -122,7 +119,7 @@ module _ {T : Type 0} (May : HouseReply → Type 0) (state : T → HouseState) w
     must = λ p. still-must known (shown meant) (must_for by) k.house.must r;
     wire_cause = still-wire known (shown meant) k.faults k.faults r;
     calls = still-calls turns (status_of (shown meant)) k.wire.calls;
-    came = still-came known (shown meant) (serves_house k.house.known.present known) k.wire.calls k.wire.calls r;
+    came = still-came known (shown meant) k.wire.calls k.wire.calls r;
     waited = unshared-waits (serves_house k.house.known.present known) known (shown meant) turns k.wire.calls k.wire.calls r;
     idle = λ z. where_false (serves_house k.house.known.present known) _ (still-idle (status_of (shown meant)) k.faults);
   }
@@ -145,7 +142,7 @@ module _ {T : Type 0} (May : HouseReply → Type 0) (state : T → HouseState) w
       must = λ p. on_true (may_share known status) (MustsAs status (must_for by) k'.house.must) (musts-told by settings status k'.house.must settled (must p));
       wire_cause = on_true (may_share known status) (WireCause status k.faults k'.faults) counts.cause;
       calls = counts.calls;
-      came = master-came known transport os ls control present status k.wire.calls k'.wire.calls is counts.came;
+      came = master-came known status k.wire.calls k'.wire.calls counts.came;
       waited = master-waits known transport os ls control present turns status k.wire.calls k'.wire.calls is counts.waited;
       idle = λ z. master-idle known transport os ls control present status k.faults k'.faults is (counts.idle z);
     }

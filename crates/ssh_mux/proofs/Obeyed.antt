@@ -38,7 +38,7 @@ use Rattle.ssh_mux.specs.Sharing.{CallsEnd, CameFor, CountsFor, IdleCause, Maste
 use Rattle.ssh_mux.specs.Starts.{BegunRests, MustsAs, must_for}
 use Rattle.ssh_mux.specs.World.{OutState, Sockets, Sources, world}
 use Rattle.ssh_mux.proofs.AnswerLemmas.{asked_after, asked_cause_after, asked_waits_after, asked_well, joined_after}
-use Rattle.ssh_mux.proofs.DrillLemmas.{drill-cause, drill-comes, drill-takes, drill-touches, drill_after, drill_well, drilled-came, drilled-placed, still-drill}
+use Rattle.ssh_mux.proofs.DrillLemmas.{drill-cause, drill-comes, drill-takes, drill-touches, drill_after, drill_well, drilled-placed, still-drill}
 use Rattle.ssh_mux.proofs.EndLemmas.{calls_after, came_after, ended, ended-well, fault_after, idle_after, must_after, opened_after, out_after, runs_after, shared_after, shared_well, sink_after, start_after, stays_after, waits_after, well-cause, wire_after}
 use Rattle.ssh_mux.proofs.JoinLemmas.{client-shut, client-taken, client-undrilled, list-unasked, master-unasked}
 use Rattle.ssh_mux.proofs.MisreadLemmas.{drilled-runs, misread, misread-cause, misread-runs}
@@ -74,7 +74,7 @@ pub record Obeyed {T : Type 0} (known : Known) (told : Option Told) (due : Optio
   pub asked_waits : OnTrue (may_ask known (so_far result)) (TalksFor turns (so_far result) k.wire.calls k'.wire.calls)
   pub calls : CallsEnd turns (so_far result) k.wire.calls k'.wire.calls
   pub unopened : OnFalse (touches known (so_far result)) (k'.wire.calls.opens ≡ k.wire.calls.opens)
-  pub came : OnTrue (touches known (so_far result)) (CameFor (serves_house k.house.known.present known) (so_far result) k.wire.calls k'.wire.calls)
+  pub came : OnTrue (touches known (so_far result)) (CameFor (so_far result) k.wire.calls k'.wire.calls)
   pub waited : OnFalse (serves_house k.house.known.present known) (OnTrue (touches known (so_far result)) (WaitsFor turns (so_far result) k.wire.calls k'.wire.calls))
   pub idle : turns ≡ 0 → OnFalse (serves_house k.house.known.present known) (IdleCause (so_far result) k.faults k'.faults)
   pub drill : OnTrue (drills known) (DrillGoes words turns result k.wire k'.wire out.told out'.told)
@@ -145,7 +145,7 @@ module _ {T : Type 0} (words : List Bytes) (facts : Facts) (turns : ℕ) (May : 
     unopened = stays_after _ _ status e err.told err'.told err.faults err'.faults r h.unopened;
     wire_cause = wire_after Known_ status e err.told err'.told err.faults err'.faults k.faults k'.faults r h.wire_cause;
     calls = calls_after turns status e err.told err'.told err.faults err'.faults k.wire.calls k'.wire.calls r h.calls;
-    came = came_after Known_ (serves_house k.house.known.present Known_) status e err.told err'.told err.faults err'.faults k.wire.calls k'.wire.calls r h.came;
+    came = came_after Known_ status e err.told err'.told err.faults err'.faults k.wire.calls k'.wire.calls r h.came;
     waited = follows _ _ _ (waits_after Known_ turns status e err.told err'.told err.faults err'.faults k.wire.calls k'.wire.calls r) h.waited;
     idle = λ z. follows _ _ _ (idle_after status e err.told err'.told err.faults err'.faults k.faults k'.faults r) (h.idle z);
   }
@@ -184,7 +184,7 @@ module _ {T : Type 0} (words : List Bytes) (pid turns : ℕ) (May : HouseReply �
     asked_waits = still-asked-waits _ _ turns k.wire.calls k.wire.calls (refused-unjoined _ _ r);
     calls = still-calls turns _ k.wire.calls;
     unopened = where_false _ _ refl;
-    came = refused-came _ _ (serves_house k.house.known.present (of_words m words)) k.wire.calls k.wire.calls r;
+    came = refused-came _ _ k.wire.calls k.wire.calls r;
     waited = refused-waits (serves_house k.house.known.present (of_words m words)) _ _ turns k.wire.calls k.wire.calls r;
     idle = λ z. where_false _ _ (still-idle _ k.faults);
     drill = still-drill _ (misread_as e) words turns k.wire out.told r;
@@ -255,7 +255,7 @@ module _ {T : Type 0} (words : List Bytes) (pid turns : ℕ) (May : HouseReply �
     asked_waits = not_true _ _ (unasked known status apart);
     calls = leaves.calls;
     unopened = untouched (may_open status) (opens known) (drills known) (k'.wire.calls.opens ≡ k.wire.calls.opens) (follows (may_share known status) ((k'.wire ≡ k.wire) × (k'.house.told ≡ k.house.told)) (k'.wire.calls.opens ≡ k.wire.calls.opens) (λ e. ap (λ (w : WireState). w.calls.opens) e.0) still);
-    came = for-master (may_open status) (opens known) (drills known) (CameFor (serves_house k.house.known.present known) status k.wire.calls k'.wire.calls) none leaves.came;
+    came = for-master (may_open status) (opens known) (drills known) (CameFor status k.wire.calls k'.wire.calls) none leaves.came;
     waited = follows (serves_house k.house.known.present known) (OnTrue (may_share known status) (WaitsFor turns status k.wire.calls k'.wire.calls)) (OnTrue (touches known status) (WaitsFor turns status k.wire.calls k'.wire.calls)) (for-master (may_open status) (opens known) (drills known) (WaitsFor turns status k.wire.calls k'.wire.calls) none) leaves.waited;
     idle = leaves.idle;
     drill = not_true _ _ none;
@@ -330,7 +330,7 @@ module _ {T : Type 0} (words : List Bytes) (pid turns : ℕ) (May : HouseReply �
     asked_waits = not_true _ _ (unasked known status refl);
     calls = counts.calls;
     unopened = not_false _ _ touched;
-    came = on_true _ _ (drilled-came house.known.present status w.calls w'.calls counts.came);
+    came = on_true _ _ counts.came;
     waited = where_false _ _ (on_true _ _ counts.waited);
     idle = λ z. where_false _ _ (counts.idle z);
     drill = goes;

@@ -85,23 +85,15 @@ waits_end false turns ends.ServerFailed old new h = h.ends refl (λ e. absurd cc
 waits_end false turns (ends.Broke index why) old new h = h.ends refl (λ e. absurd cc) (λ e. absurd cc)
 
 -- what came by the end of one
-pub came_end : (present : Bool) (ended : Ended) (old new : CallCounts) → EndedBy present ended old new → CameFor present (so_far (told_as ended)) old new
-came_end true ends.ServerEnd old new h = tt
-came_end true ends.Disconnected old new h = tt
-came_end true (ends.Terminated client id) old new h = tt
-came_end true ends.ServerFailed old new h = tt
-came_end true (ends.Broke index why) old new h = broken_end why old new h
-came_end true (ends.StartRefused index) old new h = tt
-came_end true ends.Spent old new h = tt
-came_end true ends.OutOfMemory old new h = tt
-came_end false ends.ServerEnd old new h = inl h
-came_end false ends.Disconnected old new h = inr (inl h)
-came_end false (ends.Terminated client id) old new h = inr (inr (h (λ e. absurd (let z : false ≡ true = e in cc))))
-came_end false ends.ServerFailed old new h = tt
-came_end false (ends.Broke index why) old new h = broken_end why old new h
-came_end false (ends.StartRefused index) old new h = tt
-came_end false ends.Spent old new h = tt
-came_end false ends.OutOfMemory old new h = tt
+pub came_end : (ended : Ended) (old new : CallCounts) → EndedBy ended old new → CameFor (so_far (told_as ended)) old new
+came_end ends.ServerEnd old new h = inl h
+came_end ends.Disconnected old new h = inr (inl h)
+came_end (ends.Terminated client id) old new h = inr (inr h)
+came_end ends.ServerFailed old new h = tt
+came_end (ends.Broke index why) old new h = broken_end why old new h
+came_end (ends.StartRefused index) old new h = tt
+came_end ends.Spent old new h = tt
+came_end ends.OutOfMemory old new h = tt
 
 -- an opening before it leaves all that these count but itself
 pub opened_stops : (answer : Result (Unit {0}) FileError) (present : Bool) (turns : ℕ) (ended : Ended) (old mid new : CallCounts) → mid ≡ calls_after_open answer old → Stops present turns ended mid new → Stops present turns ended old new
@@ -120,18 +112,18 @@ opened_broken answer (broke.NotPending n) old new h = h
 opened_broken answer (broke.NoChannel n) old new h = h
 opened_broken answer (broke.Channel n breach) old new h = h
 
-opened_by : (answer : Result (Unit {0}) FileError) (present : Bool) (ended : Ended) (old new : CallCounts) → EndedBy present ended (calls_after_open answer old) new → EndedBy present ended old new
-opened_by answer present ends.ServerEnd old new h = h
-opened_by answer present ends.Disconnected old new h = h
-opened_by answer present (ends.Terminated client id) old new h = h
-opened_by answer present ends.ServerFailed old new h = h
-opened_by answer present (ends.Broke index why) old new h = opened_broken answer why old new h
-opened_by answer present (ends.StartRefused index) old new h = h
-opened_by answer present ends.Spent old new h = h
-opened_by answer present ends.OutOfMemory old new h = h
+opened_by : (answer : Result (Unit {0}) FileError) (ended : Ended) (old new : CallCounts) → EndedBy ended (calls_after_open answer old) new → EndedBy ended old new
+opened_by answer ends.ServerEnd old new h = h
+opened_by answer ends.Disconnected old new h = h
+opened_by answer (ends.Terminated client id) old new h = h
+opened_by answer ends.ServerFailed old new h = h
+opened_by answer (ends.Broke index why) old new h = opened_broken answer why old new h
+opened_by answer (ends.StartRefused index) old new h = h
+opened_by answer ends.Spent old new h = h
+opened_by answer ends.OutOfMemory old new h = h
 
-pub opened_ended : (answer : Result (Unit {0}) FileError) (present : Bool) (ended : Ended) (old mid new : CallCounts) → mid ≡ calls_after_open answer old → EndedBy present ended mid new → EndedBy present ended old new
-opened_ended answer present ended old mid new e h = opened_by answer present ended old new (subst (λ (x : CallCounts). EndedBy present ended x new) e h)
+pub opened_ended : (answer : Result (Unit {0}) FileError) (ended : Ended) (old mid new : CallCounts) → mid ≡ calls_after_open answer old → EndedBy ended mid new → EndedBy ended old new
+opened_ended answer ended old mid new e h = opened_by answer ended old new (subst (λ (x : CallCounts). EndedBy ended x new) e h)
 
 -- where nothing but an opening was asked of the wire
 pub opening_calls : (answer : Result (Unit {0}) FileError) (turns : ℕ) (status : Status) (old new : CallCounts) → new ≡ calls_after_open answer old → CallsEnd turns status old new
@@ -223,12 +215,8 @@ opens-for k transport os ls control (inr e) = subst (λ x. opens x ≡ true) (sy
 pub master-waits : (k : Known) (transport : Bytes) (os ls : List Bytes) (control : Bytes) (present : Bool) (turns : ℕ) (status : Status) (old new : CallCounts) → IsMaster k transport os ls control → OnFalse present (WaitsFor turns status old new) → OnFalse (serves_house present k) (OnTrue (may_share k status) (WaitsFor turns status old new))
 master-waits k transport os ls control present turns status old new m h = served-house present (opens k) (OnTrue (may_share k status) (WaitsFor turns status old new)) (opens-for k transport os ls control m) (follows present (WaitsFor turns status old new) (OnTrue (may_share k status) (WaitsFor turns status old new)) (on_true (may_share k status) (WaitsFor turns status old new)) h)
 
-pub master-came : (k : Known) (transport : Bytes) (os ls : List Bytes) (control : Bytes) (present : Bool) (status : Status) (old new : CallCounts) → IsMaster k transport os ls control → CameFor present status old new → OnTrue (may_share k status) (CameFor (serves_house present k) status old new)
-master-came k transport os ls control present status old new m h = on_true (may_share k status) (CameFor (serves_house present k) status old new) (by_house present h)
-  where
-    by_house : (p : Bool) → CameFor p status old new → CameFor (serves_house p k) status old new
-    by_house true h = subst (λ (b : Bool). CameFor b status old new) (sym (opens-for k transport os ls control m)) h
-    by_house false h = h
+pub master-came : (k : Known) (status : Status) (old new : CallCounts) → CameFor status old new → OnTrue (may_share k status) (CameFor status old new)
+master-came k status old new h = on_true (may_share k status) (CameFor status old new) h
 
 pub master-idle : (k : Known) (transport : Bytes) (os ls : List Bytes) (control : Bytes) (present : Bool) (status : Status) (w w' : Faults) → IsMaster k transport os ls control → OnFalse present (IdleCause status w w') → OnFalse (serves_house present k) (IdleCause status w w')
 master-idle k transport os ls control present status w w' m h = served-house present (opens k) (IdleCause status w w') (opens-for k transport os ls control m) h

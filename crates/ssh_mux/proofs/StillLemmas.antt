@@ -268,15 +268,11 @@ still-wire k ending w w' h = on (unshared k ending h) where
   on (inl e) = not_true (may_share k (status_of ending)) (WireCause (status_of ending) w w') e
   on (inr e) = subst (λ x. OnTrue (may_share k x) (WireCause x w w')) (sym e) (on_true (may_share k statuses.Memory) (WireCause statuses.Memory w w') tt)
 
-pub memory-came : (housed : Bool) (old new : CallCounts) → CameFor housed statuses.Memory old new
-memory-came true old new = tt
-memory-came false old new = tt
-
-pub still-came : (k : Known) (ending : Ending) (housed : Bool) (old new : CallCounts) → IsRefused k ending → OnTrue (may_share k (status_of ending)) (CameFor housed (status_of ending) old new)
-still-came k ending housed old new h = on (unshared k ending h) where
-  on : Unshared k ending → OnTrue (may_share k (status_of ending)) (CameFor housed (status_of ending) old new)
-  on (inl e) = not_true (may_share k (status_of ending)) (CameFor housed (status_of ending) old new) e
-  on (inr e) = subst (λ x. OnTrue (may_share k x) (CameFor housed x old new)) (sym e) (on_true (may_share k statuses.Memory) (CameFor housed statuses.Memory old new) (memory-came housed old new))
+pub still-came : (k : Known) (ending : Ending) (old new : CallCounts) → IsRefused k ending → OnTrue (may_share k (status_of ending)) (CameFor (status_of ending) old new)
+still-came k ending old new h = on (unshared k ending h) where
+  on : Unshared k ending → OnTrue (may_share k (status_of ending)) (CameFor (status_of ending) old new)
+  on (inl e) = not_true (may_share k (status_of ending)) (CameFor (status_of ending) old new) e
+  on (inr e) = subst (λ x. OnTrue (may_share k x) (CameFor x old new)) (sym e) (on_true (may_share k statuses.Memory) (CameFor statuses.Memory old new) tt)
 
 pub still-start : (k : Known) (ending : Ending) (refused : Option ℕ) → IsRefused k ending → OnTrue (may_share k (status_of ending)) (StartCause (status_of ending) refused)
 still-start k ending refused h = on (unshared k ending h) where
@@ -329,11 +325,11 @@ still-caused k ending w w' h = by_drill (drills k) refl where
   by_drill true e = subst (λ x. OnTrue (touches k x) (WireCause x w w')) (sym (drill-starved k ending h e)) (on_true (touches k statuses.Memory) (WireCause statuses.Memory w w') tt)
   by_drill false e = for-master (may_open (status_of ending)) (opens k) (drills k) (WireCause (status_of ending) w w') e (still-wire k ending w w' h)
 
-pub refused-came : (k : Known) (ending : Ending) (housed : Bool) (old new : CallCounts) → IsRefused k ending → OnTrue (touches k (status_of ending)) (CameFor housed (status_of ending) old new)
-refused-came k ending housed old new h = by_drill (drills k) refl where
-  by_drill : (d : Bool) → drills k ≡ d → OnTrue (touches k (status_of ending)) (CameFor housed (status_of ending) old new)
-  by_drill true e = subst (λ x. OnTrue (touches k x) (CameFor housed x old new)) (sym (drill-starved k ending h e)) (on_true (touches k statuses.Memory) (CameFor housed statuses.Memory old new) (memory-came housed old new))
-  by_drill false e = for-master (may_open (status_of ending)) (opens k) (drills k) (CameFor housed (status_of ending) old new) e (still-came k ending housed old new h)
+pub refused-came : (k : Known) (ending : Ending) (old new : CallCounts) → IsRefused k ending → OnTrue (touches k (status_of ending)) (CameFor (status_of ending) old new)
+refused-came k ending old new h = by_drill (drills k) refl where
+  by_drill : (d : Bool) → drills k ≡ d → OnTrue (touches k (status_of ending)) (CameFor (status_of ending) old new)
+  by_drill true e = subst (λ x. OnTrue (touches k x) (CameFor x old new)) (sym (drill-starved k ending h e)) (on_true (touches k statuses.Memory) (CameFor statuses.Memory old new) tt)
+  by_drill false e = for-master (may_open (status_of ending)) (opens k) (drills k) (CameFor (status_of ending) old new) e (still-came k ending old new h)
 
 -- what opens nothing
 pub shut-all : (k : Known) (status : Status) → opens k ≡ false → drills k ≡ false → touches k status ≡ false

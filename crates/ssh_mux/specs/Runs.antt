@@ -99,7 +99,7 @@ module _ (words : List Bytes) (facts : Facts) (before : World) where
     pub calls : CallsEnd turns status before.wire.calls after.wire.calls
     -- the run ended only where that came which ends it so
     pub came : OnTrue (touches known status)
-        (CameFor housed status before.wire.calls after.wire.calls)
+        (CameFor status before.wire.calls after.wire.calls)
     -- without a house it waited once for each turn where these are spent, and before it ended else
     pub waited : OnFalse housed (OnTrue (touches known status)
         (WaitsFor turns status before.wire.calls after.wire.calls))

@@ -246,18 +246,18 @@ WaitsFor turns Broke old new = counted old.waits ≤ new.waits
 WaitsFor turns status old new = Unit
 
 -- What came at the wire by then: where the server broke the protocol a piece of it, or its end
--- inside a frame; and where a run without a house ended well its end, a piece of it or of a client.
+-- inside a frame; and where a run ended well its end, a piece of it or of a client.
 -- A count that went up may stand at the end of its type.
 abbrev pub EndsCame : CallCounts → CallCounts → Type 0
 EndsCame old new = WentUp old.server_ends new.server_ends
     ⊎ (WentUp old.server_pieces new.server_pieces ⊎ WentUp old.client_pieces new.client_pieces)
 
-abbrev pub CameFor : Bool → Status → CallCounts → CallCounts → Type 0
-CameFor housed Broke old new =
+abbrev pub CameFor : Status → CallCounts → CallCounts → Type 0
+CameFor Broke old new =
     WentUp old.server_pieces new.server_pieces ⊎ WentUp old.server_ends new.server_ends
-CameFor false Done old new = EndsCame old new
-CameFor false Write old new = EndsCame old new
-CameFor housed status old new = Unit
+CameFor Done old new = EndsCame old new
+CameFor Write old new = EndsCame old new
+CameFor status old new = Unit
 
 -- what a run without turns and without a house leaves of the counts of faults: the server's and the
 -- clients', but where the sockets weren't opened or memory was wanting
@@ -275,7 +275,7 @@ pub record CountsFor (housed : Bool) (turns : ℕ) (status : Status) (old new : 
   pub joinings : new.joinings ≡ old.joinings
   pub cause : WireCause status faults faults'
   pub calls : CallsEnd turns status old.calls new.calls
-  pub came : CameFor housed status old.calls new.calls
+  pub came : CameFor status old.calls new.calls
   pub waited : OnFalse housed (WaitsFor turns status old.calls new.calls)
   pub idle : turns ≡ 0 → OnFalse housed (IdleCause status faults faults')
 
@@ -302,8 +302,7 @@ pub record MasterLeaves {T : Type 0} (May : HouseReply → Type 0) (state : T �
   pub calls : CallsEnd turns (so_far result) old.wire.calls new.wire.calls
   -- it ended only where that came which ends it so
   pub came : OnTrue (may_share known (so_far result))
-      (CameFor (serves_house old.house.known.present known) (so_far result) old.wire.calls
-      new.wire.calls)
+      (CameFor (so_far result) old.wire.calls new.wire.calls)
   -- without a house it waited once for each turn
   pub waited : OnFalse (serves_house old.house.known.present known)
       (OnTrue (may_share known (so_far result))

@@ -4,6 +4,7 @@ ghost use Rattle.conf_rules.specs.Texts.{Bytes};
 ghost use Rattle.conf_rules.specs.declared.command.Command.TheVariants as commands;
 ghost use Rattle.conf_rules.specs.declared.control.Control.{Control};
 ghost use Rattle.forward_rules.specs.Allows.{read_policy};
+ghost use Rattle.mux_engine.specs.Called.{HasSaidNothing};
 ghost use Rattle.mux_engine.specs.Rests.{refusal_after};
 ghost use Rattle.mux_engine.specs.Sides.{RestsOf};
 ghost use Rattle.mux_outside.specs.HouseCalls.{Begins};
@@ -217,6 +218,7 @@ pub fn open_and_serve<W: Wire, H: House>(
     turns: u64,
 ) -> Result<Status, Ending>
     requires begun { H.begun house.old }
+    requires silent { HasSaidNothing (H.state house.old) }
     ensures ends { EndsMaster result }
     ensures opened { OpensAt control.now transport.now (so_far result)
         (W.state wire.old).openings (W.state wire.new).openings }

@@ -15,7 +15,7 @@ pub returns-in-Ok-clause-start : goal.returns-in-Ok-clause-start
 returns-in-Ok-clause-start g c = rw c.ending_of.ensures.told (start_end _ _ c.serve.ensures.ended.permitted)
 
 pub returns-in-Ok-clause-wire : goal.returns-in-Ok-clause-wire
-returns-in-Ok-clause-wire g c = rw c.ending_of.ensures.told (served-counts (g.H.Asks.state c.args.house.now).known.present c.args.turns c.serve.result _ c.in-Ok.field-0 _ _ (g.W.Wire.state c.args.wire.now) (g.W.Wire.state c.open.new.self) (g.W.Wire.state c.serve.new.wire) (g.W.Wire.faults c.args.wire.now) (g.W.Wire.faults c.open.new.self) (g.W.Wire.faults c.serve.new.wire) c.in-Ok.ensures.state c.in-Ok.ensures.cause c.serve.ensures.calls c.serve.ensures.ended c.serve.ensures.wire c.serve.ensures.idle)
+returns-in-Ok-clause-wire g c = rw c.ending_of.ensures.told (served-counts (g.H.Asks.state c.args.house.now).known.present c.args.turns c.serve.result _ c.in-Ok.field-0 _ _ (g.W.Wire.state c.args.wire.now) (g.W.Wire.state c.open.new.self) (g.W.Wire.state c.serve.new.wire) (g.W.Wire.faults c.args.wire.now) (g.W.Wire.faults c.open.new.self) (g.W.Wire.faults c.serve.new.wire) c.in-Ok.ensures.state c.in-Ok.ensures.cause c.serve.ensures.calls c.serve.ensures.ended (c.serve.ensures.came c.requires.silent) c.serve.ensures.wire c.serve.ensures.idle)
 
 pub serve-requires : goal.serve-requires
 serve-requires g c = record { opened = is-opened c.in-Ok.field-0 _ _ (g.W.Wire.state c.args.wire.now) (g.W.Wire.state c.open.new.self) c.in-Ok.ensures.state; blank = (c.present-blank.ensures.begun c.requires.begun).nothing }
