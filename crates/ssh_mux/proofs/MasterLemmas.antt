@@ -130,19 +130,19 @@ module _ {T : Type 0} (May : HouseReply → Type 0) (state : T → HouseState) w
       → StartCause (so_far result) (refusal_after k.house k'.house) → (IsTrue k.house.known.present → MustsAs (so_far result) (Some (starts_for settings).must) k'.house.must) → CountsFor k.house.known.present turns (so_far result) k.wire k'.wire k.faults k'.faults
       → MasterLeaves May state (of_command m (commands.Master asked transport os ls)) by pid turns result k k'
   served-leaves m asked transport os ls control by settings pid turns result k k' is settled over once served start must counts =
-    let known : Known = of_command m (commands.Master asked transport os ls) in
-    let present : Bool = k.house.known.present in
-    let status : Status = so_far result in
-    record {
-      opened = master-opened known transport os ls control status k.wire.openings k'.wire.openings is (master-opens result over) once;
-      joinings = counts.joinings;
-      served = with-policy m asked transport os ls status (λ p. Begun by (λ (starts : Starts). SharesWith May (BegunRests state present starts) (BeganWith starts) p pid turns k.house k'.house k.wire k'.wire result))
-        (on_true (may_share known status) (Begun by (λ (starts : Starts). SharesWith May (BegunRests state present starts) (BeganWith starts) (policy_of os ls) pid turns k.house k'.house k.wire k'.wire result)) (record { starts = starts_for settings; due = starts-told by settings settled; so = served }));
-      start = on_true (may_share known status) (StartCause status (refusal_after k.house k'.house)) start;
-      must = λ p. on_true (may_share known status) (MustsAs status (must_for by) k'.house.must) (musts-told by settings status k'.house.must settled (must p));
-      wire_cause = on_true (may_share known status) (WireCause status k.faults k'.faults) counts.cause;
-      calls = counts.calls;
-      came = master-came known status k.wire.calls k'.wire.calls counts.came;
-      waited = master-waits known transport os ls control present turns status k.wire.calls k'.wire.calls is counts.waited;
-      idle = λ z. master-idle known transport os ls control present status k.faults k'.faults is (counts.idle z);
-    }
+      let known : Known = of_command m (commands.Master asked transport os ls) in
+      let present : Bool = k.house.known.present in
+      let status : Status = so_far result in
+      record {
+        opened = master-opened known transport os ls control status k.wire.openings k'.wire.openings is (master-opens result over) once;
+        joinings = counts.joinings;
+        served = with-policy m asked transport os ls status (λ p. Begun by (λ (starts : Starts). SharesWith May (BegunRests state present starts) (BeganWith starts) p pid turns k.house k'.house k.wire k'.wire result))
+            (on_true (may_share known status) (Begun by (λ (starts : Starts). SharesWith May (BegunRests state present starts) (BeganWith starts) (policy_of os ls) pid turns k.house k'.house k.wire k'.wire result)) (record { starts = starts_for settings; due = starts-told by settings settled; so = served }));
+        start = on_true (may_share known status) (StartCause status (refusal_after k.house k'.house)) start;
+        must = λ p. on_true (may_share known status) (MustsAs status (must_for by) k'.house.must) (musts-told by settings status k'.house.must settled (must p));
+        wire_cause = on_true (may_share known status) (WireCause status k.faults k'.faults) counts.cause;
+        calls = counts.calls;
+        came = master-came known status k.wire.calls k'.wire.calls counts.came;
+        waited = master-waits known transport os ls control present turns status k.wire.calls k'.wire.calls is counts.waited;
+        idle = λ z. master-idle known transport os ls control present status k.faults k'.faults is (counts.idle z);
+      }

@@ -229,112 +229,112 @@ module _ {T : Type 0} (words : List Bytes) (pid turns : ℕ) (May : HouseReply �
   pub master-obeyed : (facts : Facts) (asked : Asked) (transport : Bytes) (os ls : List Bytes) (result : Result Status Ending) (s s' : Sources) (k k' : Sockets) (out : OutState) → Looks facts (commands.Master asked transport os ls) asked result s s' → MasterLeaves May state (coming s facts (commands.Master asked transport os ls)) (told_over (machine_of_sources s facts) asked) pid turns result k k' → OnFalse (may_share (coming s facts (commands.Master asked transport os ls)) (so_far result)) ((k'.wire ≡ k.wire) × (k'.house.told ≡ k.house.told))
       → Obeyed (coming s facts (commands.Master asked transport os ls)) (told_over (machine_of_sources s facts) asked) (commands_of (machine_of_sources s facts) (commands.Master asked transport os ls)) words pid turns May state result s s' k k' out out
   master-obeyed facts asked transport os ls result s s' k k' out looks leaves still =
-    let m = machine_of_sources s facts in
-    let known : Known = coming s facts (commands.Master asked transport os ls) in
-    let status : Status = so_far result in
-    let none : drills known ≡ false = master-undrilled m asked transport os ls in
-    let quiet = master-quiet m asked transport os ls in
-    let apart = master-unasked m asked transport os ls in
-    record {
-    exact = looks.exact;
-    place = looks.place;
-    cause = looks.cause;
-    takes = none-taken known status out.told quiet;
-    out_cause = none-counted known result out.faults quiet looks.exact;
-    out_once = not_true _ _ (unprinted known quiet);
-    ran = looks.ran;
-    read = looks.read;
-    opened = leaves.opened;
-    joined = none-joined known status k.wire.joinings k'.wire.joinings apart leaves.joinings;
-    shared = leaves.served;
-    start = leaves.start;
-    must = leaves.must;
-    wire_cause = for-master (may_open status) (opens known) (drills known) (WireCause status k.faults k'.faults) none leaves.wire_cause;
-    asked = not_true _ _ (unasked known status apart);
-    asked_cause = not_true _ _ (unasked known status apart);
-    asked_waits = not_true _ _ (unasked known status apart);
-    calls = leaves.calls;
-    unopened = untouched (may_open status) (opens known) (drills known) (k'.wire.calls.opens ≡ k.wire.calls.opens) (follows (may_share known status) ((k'.wire ≡ k.wire) × (k'.house.told ≡ k.house.told)) (k'.wire.calls.opens ≡ k.wire.calls.opens) (λ e. ap (λ (w : WireState). w.calls.opens) e.0) still);
-    came = for-master (may_open status) (opens known) (drills known) (CameFor status k.wire.calls k'.wire.calls) none leaves.came;
-    waited = follows (serves_house k.house.known.present known) (OnTrue (may_share known status) (WaitsFor turns status k.wire.calls k'.wire.calls)) (OnTrue (touches known status) (WaitsFor turns status k.wire.calls k'.wire.calls)) (for-master (may_open status) (opens known) (drills known) (WaitsFor turns status k.wire.calls k'.wire.calls) none) leaves.waited;
-    idle = leaves.idle;
-    drill = not_true _ _ none;
-    still_wire = or-else (touches known status) (may_ask known status) (k'.wire.seen.told ≡ k.wire.seen.told) (untouched (may_open status) (opens known) (drills known) (k'.wire.seen.told ≡ k.wire.seen.told) (follows (may_share known status) ((k'.wire ≡ k.wire) × (k'.house.told ≡ k.house.told)) (k'.wire.seen.told ≡ k.wire.seen.told) (λ e. ap (λ (w : WireState). w.seen.told) e.0) still));
-    still_house = follows (may_share known status) ((k'.wire ≡ k.wire) × (k'.house.told ≡ k.house.told)) (k'.house.told ≡ k.house.told) (λ e. e.1) still;
-    still_out = on_false _ _;
-  }
+      let m = machine_of_sources s facts in
+      let known : Known = coming s facts (commands.Master asked transport os ls) in
+      let status : Status = so_far result in
+      let none : drills known ≡ false = master-undrilled m asked transport os ls in
+      let quiet = master-quiet m asked transport os ls in
+      let apart = master-unasked m asked transport os ls in
+      record {
+        exact = looks.exact;
+        place = looks.place;
+        cause = looks.cause;
+        takes = none-taken known status out.told quiet;
+        out_cause = none-counted known result out.faults quiet looks.exact;
+        out_once = not_true _ _ (unprinted known quiet);
+        ran = looks.ran;
+        read = looks.read;
+        opened = leaves.opened;
+        joined = none-joined known status k.wire.joinings k'.wire.joinings apart leaves.joinings;
+        shared = leaves.served;
+        start = leaves.start;
+        must = leaves.must;
+        wire_cause = for-master (may_open status) (opens known) (drills known) (WireCause status k.faults k'.faults) none leaves.wire_cause;
+        asked = not_true _ _ (unasked known status apart);
+        asked_cause = not_true _ _ (unasked known status apart);
+        asked_waits = not_true _ _ (unasked known status apart);
+        calls = leaves.calls;
+        unopened = untouched (may_open status) (opens known) (drills known) (k'.wire.calls.opens ≡ k.wire.calls.opens) (follows (may_share known status) ((k'.wire ≡ k.wire) × (k'.house.told ≡ k.house.told)) (k'.wire.calls.opens ≡ k.wire.calls.opens) (λ e. ap (λ (w : WireState). w.calls.opens) e.0) still);
+        came = for-master (may_open status) (opens known) (drills known) (CameFor status k.wire.calls k'.wire.calls) none leaves.came;
+        waited = follows (serves_house k.house.known.present known) (OnTrue (may_share known status) (WaitsFor turns status k.wire.calls k'.wire.calls)) (OnTrue (touches known status) (WaitsFor turns status k.wire.calls k'.wire.calls)) (for-master (may_open status) (opens known) (drills known) (WaitsFor turns status k.wire.calls k'.wire.calls) none) leaves.waited;
+        idle = leaves.idle;
+        drill = not_true _ _ none;
+        still_wire = or-else (touches known status) (may_ask known status) (k'.wire.seen.told ≡ k.wire.seen.told) (untouched (may_open status) (opens known) (drills known) (k'.wire.seen.told ≡ k.wire.seen.told) (follows (may_share known status) ((k'.wire ≡ k.wire) × (k'.house.told ≡ k.house.told)) (k'.wire.seen.told ≡ k.wire.seen.told) (λ e. ap (λ (w : WireState). w.seen.told) e.0) still));
+        still_house = follows (may_share known status) ((k'.wire ≡ k.wire) × (k'.house.told ≡ k.house.told)) (k'.house.told ≡ k.house.told) (λ e. e.1) still;
+        still_out = on_false _ _;
+      }
 
   -- a client
   pub client-obeyed : (facts : Facts) (asked : Asked) (what : Control) (result : Result Status Ending) (s s' : Sources) (w w' : WireState) (f f' : Faults) (house : HouseState) (out out' : OutState) → Looks facts (commands.Control asked what) asked result s s' → ClientLeaves (coming s facts (commands.Control asked what)) turns result w w' f f' out out' → OnFalse (may_ask (coming s facts (commands.Control asked what)) (so_far result)) ((w' ≡ w) × (out'.told ≡ out.told))
       → Obeyed (coming s facts (commands.Control asked what)) (told_over (machine_of_sources s facts) asked) (commands_of (machine_of_sources s facts) (commands.Control asked what)) words pid turns May state result s s' (record { wire = w; faults = f; house = house }) (record { wire = w'; faults = f'; house = house }) out out'
   client-obeyed facts asked what result s s' w w' f f' house out out' looks leaves still =
-    let m = machine_of_sources s facts in
-    let known : Known = coming s facts (commands.Control asked what) in
-    let status : Status = so_far result in
-    let none = client-undrilled m asked what in
-    let closed = client-shut m asked what in
-    let unwritten : OnFalse (may_ask known status) (out'.told ≡ out.told) = follows (may_ask known status) ((w' ≡ w) × (out'.told ≡ out.told)) (out'.told ≡ out.told) (λ e. e.1) still in
-    record {
-    exact = looks.exact;
-    place = looks.place;
-    cause = looks.cause;
-    takes = client-taken m asked what status out.told out'.told unwritten;
-    out_cause = leaves.out_cause;
-    out_once = not_true _ _ (client-unprinted m asked what);
-    ran = looks.ran;
-    read = looks.read;
-    opened = subst (λ x. OpensOnce known status w.openings x) (sym leaves.openings) (none-opened known status w.openings closed);
-    joined = leaves.joined;
-    shared = not_true _ _ (shut known status closed);
-    start = not_true _ _ (shut known status closed);
-    must = λ p. not_true _ _ (shut known status closed);
-    wire_cause = not_true _ _ (shut-all known status closed none);
-    asked = leaves.talked;
-    asked_cause = leaves.wire_cause;
-    asked_waits = leaves.waited;
-    calls = leaves.calls;
-    unopened = where_false _ _ leaves.unopened;
-    came = not_true _ _ (shut-all known status closed none);
-    waited = unopened-waits (serves_house house.known.present known) known status turns w.calls w'.calls closed none;
-    idle = λ z. where_false _ _ (leaves.idle z);
-    drill = not_true _ _ none;
-    still_wire = else-or (touches known status) (may_ask known status) (w'.seen.told ≡ w.seen.told) (follows (may_ask known status) ((w' ≡ w) × (out'.told ≡ out.told)) (w'.seen.told ≡ w.seen.told) (λ e. ap (λ (x : WireState). x.seen.told) e.0) still);
-    still_house = on_false _ _;
-    still_out = else-or (may_write status) (may_ask known status) (out'.told ≡ out.told) unwritten;
-  }
+      let m = machine_of_sources s facts in
+      let known : Known = coming s facts (commands.Control asked what) in
+      let status : Status = so_far result in
+      let none = client-undrilled m asked what in
+      let closed = client-shut m asked what in
+      let unwritten : OnFalse (may_ask known status) (out'.told ≡ out.told) = follows (may_ask known status) ((w' ≡ w) × (out'.told ≡ out.told)) (out'.told ≡ out.told) (λ e. e.1) still in
+      record {
+        exact = looks.exact;
+        place = looks.place;
+        cause = looks.cause;
+        takes = client-taken m asked what status out.told out'.told unwritten;
+        out_cause = leaves.out_cause;
+        out_once = not_true _ _ (client-unprinted m asked what);
+        ran = looks.ran;
+        read = looks.read;
+        opened = subst (λ x. OpensOnce known status w.openings x) (sym leaves.openings) (none-opened known status w.openings closed);
+        joined = leaves.joined;
+        shared = not_true _ _ (shut known status closed);
+        start = not_true _ _ (shut known status closed);
+        must = λ p. not_true _ _ (shut known status closed);
+        wire_cause = not_true _ _ (shut-all known status closed none);
+        asked = leaves.talked;
+        asked_cause = leaves.wire_cause;
+        asked_waits = leaves.waited;
+        calls = leaves.calls;
+        unopened = where_false _ _ leaves.unopened;
+        came = not_true _ _ (shut-all known status closed none);
+        waited = unopened-waits (serves_house house.known.present known) known status turns w.calls w'.calls closed none;
+        idle = λ z. where_false _ _ (leaves.idle z);
+        drill = not_true _ _ none;
+        still_wire = else-or (touches known status) (may_ask known status) (w'.seen.told ≡ w.seen.told) (follows (may_ask known status) ((w' ≡ w) × (out'.told ≡ out.told)) (w'.seen.told ≡ w.seen.told) (λ e. ap (λ (x : WireState). x.seen.told) e.0) still);
+        still_house = on_false _ _;
+        still_out = else-or (may_write status) (may_ask known status) (out'.told ≡ out.told) unwritten;
+      }
 
   -- a drill
   pub drill-obeyed : (m : Option Machine) (seed clients messages : ℕ) (result : Result Status Ending) (s : Sources) (w w' : WireState) (f f' : Faults) (house : HouseState) (out out' : OutState) → reading words ≡ Ok (commands.Drill seed clients messages) → DrillGoes words turns result w w' out.told out'.told → CountsFor false turns (so_far result) w w' f f' → OutCause (so_far result) out.faults out'.faults → PutsOnce (so_far result) out.puts out'.puts → OnFalse (may_write (so_far result)) (out'.told ≡ out.told)
       → Obeyed (Certain (Drills seed clients messages)) (told_for m words) (commands_for m words) words pid turns May state result s s (record { wire = w; faults = f; house = house }) (record { wire = w'; faults = f'; house = house }) out out'
   drill-obeyed m seed clients messages result s w w' f f' house out out' e goes counts out_cause once unwritten =
-    let known : Known = Certain (Drills seed clients messages) in
-    let status : Status = so_far result in
-    let touched : touches known status ≡ true = drill-touches seed clients messages result goes.ends in
-    record {
-    exact = drill-comes seed clients messages result goes.ends;
-    place = drilled-placed _ result _ _ _ _ goes.ends;
-    cause = drill-cause result _ _ goes.ends;
-    takes = drill-takes seed clients messages words turns result w w' out.told out'.told goes;
-    out_cause = out_cause;
-    out_once = once;
-    ran = drilled-runs m words seed clients messages status _ e;
-    read = drilled-reads m words seed clients messages status _ e;
-    opened = tt;
-    joined = none-joined known status w.joinings w'.joinings refl counts.joinings;
-    shared = not_true _ _ (shut known status refl);
-    start = not_true _ _ (shut known status refl);
-    must = λ p. not_true _ _ (shut known status refl);
-    wire_cause = on_true _ _ counts.cause;
-    asked = not_true _ _ (unasked known status refl);
-    asked_cause = not_true _ _ (unasked known status refl);
-    asked_waits = not_true _ _ (unasked known status refl);
-    calls = counts.calls;
-    unopened = not_false _ _ touched;
-    came = on_true _ _ counts.came;
-    waited = where_false _ _ (on_true _ _ counts.waited);
-    idle = λ z. where_false _ _ (counts.idle z);
-    drill = goes;
-    still_wire = or-else (touches known status) (may_ask known status) (w'.seen.told ≡ w.seen.told) (not_false (touches known status) (w'.seen.told ≡ w.seen.told) touched);
-    still_house = on_false _ _;
-    still_out = or-else (may_write status) (may_ask known status) (out'.told ≡ out.told) unwritten;
-  }
+      let known : Known = Certain (Drills seed clients messages) in
+      let status : Status = so_far result in
+      let touched : touches known status ≡ true = drill-touches seed clients messages result goes.ends in
+      record {
+        exact = drill-comes seed clients messages result goes.ends;
+        place = drilled-placed _ result _ _ _ _ goes.ends;
+        cause = drill-cause result _ _ goes.ends;
+        takes = drill-takes seed clients messages words turns result w w' out.told out'.told goes;
+        out_cause = out_cause;
+        out_once = once;
+        ran = drilled-runs m words seed clients messages status _ e;
+        read = drilled-reads m words seed clients messages status _ e;
+        opened = tt;
+        joined = none-joined known status w.joinings w'.joinings refl counts.joinings;
+        shared = not_true _ _ (shut known status refl);
+        start = not_true _ _ (shut known status refl);
+        must = λ p. not_true _ _ (shut known status refl);
+        wire_cause = on_true _ _ counts.cause;
+        asked = not_true _ _ (unasked known status refl);
+        asked_cause = not_true _ _ (unasked known status refl);
+        asked_waits = not_true _ _ (unasked known status refl);
+        calls = counts.calls;
+        unopened = not_false _ _ touched;
+        came = on_true _ _ counts.came;
+        waited = where_false _ _ (on_true _ _ counts.waited);
+        idle = λ z. where_false _ _ (counts.idle z);
+        drill = goes;
+        still_wire = or-else (touches known status) (may_ask known status) (w'.seen.told ≡ w.seen.told) (not_false (touches known status) (w'.seen.told ≡ w.seen.told) touched);
+        still_house = on_false _ _;
+        still_out = or-else (may_write status) (may_ask known status) (out'.told ≡ out.told) unwritten;
+      }

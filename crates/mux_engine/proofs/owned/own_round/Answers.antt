@@ -30,23 +30,23 @@ loop-stream-init g c = record {
 pub loop-stream-preserved : goal.loop-stream-preserved
 loop-stream-preserved g c = let v = c.loop-stream.invariant in let o = c.in_ok-offer_own.ensures in
     let listed : among c.in-Some.stream c.loop-stream.todo ≡ true = first-among c.in-Some.stream c.loop-stream.todo (sym c.get.ensures ∙ c.in-Some.is) in record {
-  serving = λ present first before now policy pid start given todo s none hands v'.
-      let h = v.serving present first before now policy pid start given todo s none hands v' in
-      o.serving present first before (record now { calls = h.all }) policy pid start given todo s none h.hands h.so;
-  house = took-then v.house (took o.house);
-  places = places-then _ _ _ v.places c.offer_own.ensures.places;
-  held_is = o.held_is;
-  within = λ t h. v.within t (was-among c.in-Some.stream t c.loop-stream.todo (ap (among t) (sym c.remove.ensures) ∙ h));
-  offered = λ same t h. elim (v.offered (omega (arith, v.fails.grows, o.fails.grows, same)) t h) [
-    | inl a ↦ elim (rest-or c.in-Some.stream t c.loop-stream.todo a) [
-      | inl r ↦ inl (ap (among t) c.remove.ensures ∙ r)
-      | inr is ↦ inr (subst (λ (j : ℕ). IsOffered ((g.H.Asks.state c.offer_own.new.house).queue j) c.offer_own.new.held c.offer_own.new.failed j) is o.offered)
-    ]
-    | inr q ↦ inr (o.keeps (omega (arith, v.fails.grows, o.fails.grows, same)) t q)
-  ];
-  fails = fails-then v.fails (fails-within (v.within c.in-Some.stream listed) o.fails);
-  wire = works-own-then v.wire (worked-own o.wire);
-}
+      serving = λ present first before now policy pid start given todo s none hands v'.
+          let h = v.serving present first before now policy pid start given todo s none hands v' in
+          o.serving present first before (record now { calls = h.all }) policy pid start given todo s none h.hands h.so;
+      house = took-then v.house (took o.house);
+      places = places-then _ _ _ v.places c.offer_own.ensures.places;
+      held_is = o.held_is;
+      within = λ t h. v.within t (was-among c.in-Some.stream t c.loop-stream.todo (ap (among t) (sym c.remove.ensures) ∙ h));
+      offered = λ same t h. elim (v.offered (omega (arith, v.fails.grows, o.fails.grows, same)) t h) [
+        | inl a ↦ elim (rest-or c.in-Some.stream t c.loop-stream.todo a) [
+          | inl r ↦ inl (ap (among t) c.remove.ensures ∙ r)
+          | inr is ↦ inr (subst (λ (j : ℕ). IsOffered ((g.H.Asks.state c.offer_own.new.house).queue j) c.offer_own.new.held c.offer_own.new.failed j) is o.offered)
+        ]
+        | inr q ↦ inr (o.keeps (omega (arith, v.fails.grows, o.fails.grows, same)) t q)
+      ];
+      fails = fails-then v.fails (fails-within (v.within c.in-Some.stream listed) o.fails);
+      wire = works-own-then v.wire (worked-own o.wire);
+    }
 
 pub loop-stream-smaller : goal.loop-stream-smaller
 loop-stream-smaller g c = subst (λ (l : List ℕ). length l < length c.loop-stream.todo) (sym c.remove.ensures) (shorter c.in-Some.stream c.loop-stream.todo (sym c.get.ensures ∙ c.in-Some.is))

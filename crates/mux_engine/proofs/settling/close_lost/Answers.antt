@@ -40,12 +40,11 @@ loop-client-preserved g c =
       ready = λ known quiet queue failed own h.
           let w = c.requires.served in
           let was = c.loop-client.invariant.ready known quiet queue failed own h in
-          let v = c.loop-client.invariant.serving w.present w.first w.before w.now w.policy w.pid w.start w.failed w.given w.todo w.serving in
-          (
+          let v = c.loop-client.invariant.serving w.present w.first w.before w.now w.policy w.pid w.start w.failed w.given w.todo w.serving in (
             subst (λ (x : Seen). Housed known x own) (sym (seen-is c.close.ensures.state)) (housed-closed v k leaves known own was.0),
             λ r. subst (λ x. IsReady known quiet queue x failed own c.closed.new.self) (sym c.remove.ensures)
-            (subst (λ (t : State). IsReady known quiet queue (without k c.loop-client.held) failed own t) (sym c.closed.ensures.exact)
-            (ready-closed v k leaves known quiet queue failed own was.0 (was.1 r))),
+                (subst (λ (t : State). IsReady known quiet queue (without k c.loop-client.held) failed own t) (sym c.closed.ensures.exact)
+                (ready-closed v k leaves known quiet queue failed own was.0 (was.1 r))),
           );
       ended = ap (λ (t : State). t.ended) c.closed.ensures.exact ∙ c.loop-client.invariant.ended;
       unopened = ap (λ (x : Seen). x.last_own) (seen-is c.close.ensures.state) ∙ c.loop-client.invariant.unopened;
