@@ -52,7 +52,7 @@ starved-counts housed turns w f = record {
 
 -- where the opening had this answer, and nothing was served
 module _ (housed : Bool) (turns : ℕ) (control transport : Bytes) (old new : WireState) (f f' : Faults) where
-  pub failed-counts : new ≡ state_after_open (Err failures.Failed) control transport old → OpeningFault f f' → CountsFor housed turns statuses.Open old new f f'
+  pub failed-counts : new ≡ state_after_open (Err failures.Failed) control transport new.tally old → OpeningFault f f' → CountsFor housed turns statuses.Open old new f f'
   failed-counts e cause = record {
     joinings = ap (λ (w : WireState). w.joinings) e;
     cause = cause;
@@ -64,7 +64,7 @@ module _ (housed : Bool) (turns : ℕ) (control transport : Bytes) (old new : Wi
 
 -- ---- behind the opening
 
-pub is-opened : (x : Unit {0}) (control transport : Bytes) (old mid : WireState) → mid ≡ state_after_open (Ok x) control transport old → IsOpened mid.seen
+pub is-opened : (x : Unit {0}) (control transport : Bytes) (old mid : WireState) → mid ≡ state_after_open (Ok x) control transport mid.tally old → IsOpened mid.seen
 is-opened x control transport old mid e = subst (λ (w : WireState). IsOpened w.seen) (sym e) (record { server_alone = refl; none_blocked = refl; listens = refl; own = refl; listeners = refl })
 
 -- where it was served
@@ -78,7 +78,7 @@ served-cause (ends.StartRefused index) present refused mid new f f' f'' e h = tt
 served-cause ends.Spent present refused mid new f f' f'' e h = tt
 served-cause ends.OutOfMemory present refused mid new f f' f'' e h = tt
 
-pub served-counts : (housed : Bool) (turns : ℕ) (ended : Ended) (refused : Option ℕ) (x : Unit {0}) (control transport : Bytes) (old mid new : WireState) (f f' f'' : Faults) → mid ≡ state_after_open (Ok x) control transport old → f' ≡ f → HasCalled housed turns ended mid new → HasEnded housed refused ended mid new f' f'' → EndedBy ended mid.calls new.calls → KeepsWire mid new f' f'' → (turns ≡ 0 → housed ≡ false → NoFault f' f'') → CountsFor housed turns (so_far (told_as ended)) old new f f''
+pub served-counts : (housed : Bool) (turns : ℕ) (ended : Ended) (refused : Option ℕ) (x : Unit {0}) (control transport : Bytes) (old mid new : WireState) (f f' f'' : Faults) → mid ≡ state_after_open (Ok x) control transport mid.tally old → f' ≡ f → HasCalled housed turns ended mid new → HasEnded housed refused ended mid new f' f'' → EndedBy ended mid.calls new.calls → KeepsWire mid new f' f'' → (turns ≡ 0 → housed ≡ false → NoFault f' f'') → CountsFor housed turns (so_far (told_as ended)) old new f f''
 served-counts housed turns ended refused x control transport old mid new f f' f'' e same called over came keeps idle =
     let c : mid.calls ≡ calls_after_open (Ok x) old.calls = ap (λ (w : WireState). w.calls) e in
     record {
