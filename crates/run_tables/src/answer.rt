@@ -91,7 +91,7 @@ fn add_taken(lines: &mut Texts, alloc: Global, log: &WireLog) -> Result<(), OutO
         return Ok(());
     }
     add_takings(lines, alloc, log, 0, log.last())?;
-    add_takings(lines, alloc, log, FIRST_OWN, log.last_own())?;
+    add_takings(lines, alloc, log, FIRST_OWN, log.state().last_own())?;
     let mut line = Text::copy(alloc, b"left")?;
     for stream in log.streams().as_slice() {
         let number = format!(in alloc; " {stream}")?;
