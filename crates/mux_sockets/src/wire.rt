@@ -4,7 +4,7 @@ ghost use Rattle.mux_outside.specs.Faults.{no_faults};
 ghost use Rattle.mux_outside.specs.OwnStreams.{is_own, is_silent};
 ghost use Rattle.mux_outside.specs.Seen.{seen_after_connect, seen_after_finish, seen_after_join, seen_after_listen, seen_after_pause, seen_after_silence};
 ghost use Rattle.mux_outside.specs.Streams.{among};
-ghost use Rattle.mux_outside.specs.Wire.{JoinFaults, MakeFaults, NumberFits, OpenFaults, OwnFits, TurnFaults, TurnFits, WroteFaults, WroteFits};
+ghost use Rattle.mux_outside.specs.Wire.{IsNewOwn, JoinFaults, MakeFaults, NumberFits, OpenFaults, OwnFits, TurnFaults, TurnFits, WroteFaults, WroteFits};
 ghost use Rattle.mux_outside.specs.WireState.{nothing_called, opens_stream, seeing, state_opened, state_waited, state_written, untelling};
 ghost use Rattle.mux_outside.specs.declared.turn.Turn.TheVariants.{NoMemory};
 ghost use Rattle.mux_outside.specs.declared.turn.Want.{Want as TheWant};
@@ -116,13 +116,13 @@ impl<R: Files + Net + Processes + Clock + Clone + Drop> RealWire<R> {
         ensures state { self.new.state ≡ seeing (seen_after_listen result) self.old.state }
         ensures faults { self.new.faults ≡ self.old.faults }
     {
-        let number = self.state.next_own().ok_or(FileError::Failed)?;
+        let number = next_number(&self.state)?;
         listen(&mut self.sockets, &self.rt, number, host, port)?;
-        if self.state.listened(number).is_err() {
+        let kept = keep_listener(&mut self.state, number);
+        if kept.is_err() {
             unlisten(&mut self.sockets, number);
-            return Err(FileError::OutOfMemory);
         }
-        Ok(number)
+        kept
     }
 
     // Begins to connect with the next number.
@@ -131,13 +131,13 @@ impl<R: Files + Net + Processes + Clock + Clone + Drop> RealWire<R> {
         ensures state { self.new.state ≡ seeing (seen_after_connect result) self.old.state }
         ensures faults { self.new.faults ≡ self.old.faults }
     {
-        let number = self.state.next_own().ok_or(FileError::Failed)?;
+        let number = next_number(&self.state)?;
         connect(&mut self.sockets, &self.rt, number, host, port)?;
-        if self.state.connected(number).is_err() {
+        let kept = keep_stream(&mut self.state, number);
+        if kept.is_err() {
             drop_socket(&mut self.sockets, number);
-            return Err(FileError::OutOfMemory);
         }
-        Ok(number)
+        kept
     }
 }
 
@@ -324,6 +324,40 @@ fn gives(state: &WireState, stream: u64) -> bool
         && not (is_own stream && is_silent stream state.now.seen.own) }
 {
     state.streams().contains(stream) && !(is_own(stream) && state.own().is_silent(stream))
+}
+
+// The next number of a listener or stream of the master's own.
+fn next_number(state: &WireState) -> Result<u64, FileError>
+    ensures { NumberFits result state.now.seen.last_own }
+{
+    match state.next_own() {
+        Some(number) => Ok(number),
+        None => Err(FileError::Failed),
+    }
+}
+
+// Keeps a listener with this number, if there is memory.
+fn keep_listener(state: &mut WireState, number: u64) -> Result<u64, FileError>
+    requires { IsNewOwn state.old.seen.last_own number }
+    ensures fits { NumberFits result state.old.seen.last_own }
+    ensures state { state.new ≡ seeing (seen_after_listen result) state.old }
+{
+    match state.listened(number) {
+        Ok(()) => Ok(number),
+        Err(_) => Err(FileError::OutOfMemory),
+    }
+}
+
+// Keeps a stream of the master's own with this number, if there is memory.
+fn keep_stream(state: &mut WireState, number: u64) -> Result<u64, FileError>
+    requires { IsNewOwn state.old.seen.last_own number }
+    ensures fits { NumberFits result state.old.seen.last_own }
+    ensures state { state.new ≡ seeing (seen_after_connect result) state.old }
+{
+    match state.connected(number) {
+        Ok(()) => Ok(number),
+        Err(_) => Err(FileError::OutOfMemory),
+    }
 }
 
 // Counts what was to be made and failed: it is a fault of the master's own.
