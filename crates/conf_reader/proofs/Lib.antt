@@ -5,6 +5,7 @@ pub mod FolderLemmas
 pub mod FoundLemmas
 pub mod LeftLemmas
 pub mod LookingLemmas
+pub mod MovingLemmas
 pub mod NextLemmas
 pub mod OneLemmas
 pub mod OpenLemmas
@@ -13,3 +14,4 @@ pub mod PathLemmas
 pub mod RefusalLemmas
 pub mod TakeLemmas
 pub mod ToReadLemmas
+pub mod UsesLemmas

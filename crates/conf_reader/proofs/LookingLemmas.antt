@@ -29,7 +29,7 @@ use Rattle.conf_reader.specs.declared.reader.Lines.{Lines}
 use Rattle.conf_reader.specs.declared.stack.OpenFiles.{OpenFiles}
 use Rattle.conf_reader.specs.Results.{refused_at}
 use Rattle.conf_reader.specs.Left.{source_of, IsSettled, GivenBy, gone, include_of, named_as, named_by}
-use Rattle.conf_reader.specs.Looking.{FailsAmong, FirstFails, LineFails, Test, meets_in, meets, firsts_meet, all_meet, line_meets, TellsFailed, LooksOn}
+use Rattle.conf_reader.specs.Looking.{FailsAmong, FirstFails, LineFails, Test, meets_in, meets, firsts_meet, all_meet, line_meets, TellsFailed}
 use Rattle.conf_reader.proofs.OpenLemmas.{drop-at}
 
 -- ---- lists
@@ -254,7 +254,3 @@ pub all-look : (A : Type 0) (test : Test) (told : Told) (r : Lines) (o : OpenFil
     → TellsFailed test result before now × OnOk result (all_meet test told (record r { open_files = o }) ≡ true)
 all-look A test told r o (Ok x) before now h step = (step.0, all-on test told r (record r { open_files = o }) refl step.1 h)
 all-look A test told r o (Err e) before now h step = (step.0, tt)
-
--- a line that is read behind a step which left the failed paths
-pub looks-on : (test : Test) (told : Told) (new : Lines) (result : Result (Option ConfLine) ResolveError) (before mid now : Option (List Bytes)) → mid ≡ before → TellsFailed test result mid now × LooksOn test told new result → TellsFailed test result before now × LooksOn test told new result
-looks-on test told new result before mid now same h = (subst (λ b. TellsFailed test result b now) same h.0, h.1)

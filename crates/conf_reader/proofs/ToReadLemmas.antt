@@ -29,9 +29,7 @@ use Rattle.conf_reader.specs.declared.reader.FirstFile.{FirstFile}
 use Rattle.conf_reader.specs.declared.reader.Lines.{Lines}
 use Rattle.conf_reader.specs.Firsts.{firsts_of}
 use Rattle.conf_reader.specs.Left.{source_of, IsSettled, HeadIs, Names, heading_of, gone, include_of, named_as, named_by}
-use Rattle.conf_reader.specs.ToRead.{names_left, file_reads, files_read, open_reads, first_reads, all_read, reading_of, ReadsTo, ReadsSome, Notes, NotesFirst, LineNotes}
-use Rattle.conf_reader.specs.Reads.{IsOver}
-use Rattle.conf_reader.specs.declared.line.ConfLine.{ConfLine}
+use Rattle.conf_reader.specs.ToRead.{names_left, file_reads, files_read, open_reads, first_reads, all_read, reading_of, ReadsTo, ReadsSome, Notes, NotesFirst}
 use Rattle.conf_reader.proofs.OpenLemmas.{drop-at}
 
 -- ---- readings
@@ -337,6 +335,13 @@ names-at t f path fact top at n = subst (λ p. IfSome p fact) at (subst (λ x. N
 pub fails-behind : (path : Bytes) (before rest : List Bytes) (readings now : Option (List Reading)) → before ≡ path ∷ rest → now ≡ option_map (λ rs. rs ++ reading_of path ∷ []) readings → ReadsSome before readings now
 fails-behind path before rest readings now e n = (rest, one-read path before rest readings now e n)
 
+-- a first file was read, behind which the call fails
+pub first-behind : (told : Told) (r : Lines) (f : FirstFile) (path : Bytes) (readings now : Option (List Reading)) → r.open_files.top ≡ None → r.open_files.below.items ≡ [] → slice_get r.firsts.items r.next_first ≡ Some f → path ≡ f.path
+    → now ≡ option_map (λ rs. rs ++ reading_of path ∷ []) readings → ReadsSome (all_read told r) readings now
+first-behind told r f path readings now top below named same noted =
+    let some = first-some told r f top below named in
+    fails-behind f.path (all_read told r) some.0 readings now some.1 (subst (λ p. now ≡ option_map (λ rs. rs ++ reading_of p ∷ []) readings) same noted)
+
 -- a first file's read, or the memory for it, failed
 pub first-fails : (path given : Bytes) (before rest : List Bytes) (e : ResolveError) (readings now : Option (List Reading)) → given ≡ path → before ≡ path ∷ rest → NotesFirst {A = Found} given (Err e) readings now → ReadsSome before readings now
 first-fails path given before rest errors.OutOfMemory readings now same is n = none-read before readings now n
@@ -353,25 +358,8 @@ pub first-at : (r : Lines) (f : FirstFile) (fact : FirstFile → Type 0) → sli
 first-at r f fact at n = subst (λ p. IfSome p fact) at n
 
 -- a line was taken from what was reached
-pub taken-all : (told : Told) (r : Lines) (new : OpenFiles) (count : ℕ) (before : List Bytes) (readings now : Option (List Reading)) → open_reads told r.open_files ≡ open_reads told new → ReadsTo before (all_read told r) readings now
-    → ReadsTo before (all_read told (record r { open_files = new; read = count })) readings now
-taken-all told r new count before readings now same h = subst (λ (xs : List Bytes). ReadsTo before (xs ++ flat_map (first_reads told) (drop r.next_first r.firsts.items)) readings now) same h
-
--- the end was reached
-pub reached-end : (told : Told) (r : Lines) (before : List Bytes) (readings now : Option (List Reading)) → r.open_files.top ≡ None → r.open_files.below.items ≡ [] → length r.firsts.items ≤ r.next_first → ReadsTo before (all_read told r) readings now → ReadsTo before [] readings now
-reached-end told r before readings now top below past h = subst (λ (xs : List Bytes). ReadsTo before xs readings now) (ended-reads told r top below past) h
-
--- what was read before the next line
-pub then-line : (a b c : List Bytes) (result : Result (Option ConfLine) ResolveError) (r m n : Option (List Reading)) → ReadsTo a b r m → LineNotes b c result m n → LineNotes a c result r n
-then-line a b c (Ok None) r m n x y = then-read a b [] r m n x y
-then-line a b c (Ok (Some line)) r m n x y = then-read a b c r m n x y
-then-line a b c (Err e) r m n x y = then-some a b r m n x y
-
--- where no line was given, what is left doesn't matter
-pub line-over : (a b c : List Bytes) (result : Result (Option ConfLine) ResolveError) (r n : Option (List Reading)) → IsOver result → LineNotes a b result r n → LineNotes a c result r n
-line-over a b c (Ok None) r n over h = h
-line-over a b c (Ok (Some line)) r n over h = absurd over
-line-over a b c (Err e) r n over h = h
+pub taken-all : (told : Told) (r : Lines) (new : OpenFiles) (count : ℕ) → open_reads told r.open_files ≡ open_reads told new → all_read told r ≡ all_read told (record r { open_files = new; read = count })
+taken-all told r new count same = ap (λ xs. xs ++ flat_map (first_reads told) (drop r.next_first r.firsts.items)) same
 
 -- a reader that is new
 pub begins-reads : (told : Told) (r : Lines) (home : Option Bytes) (from : ConfigFrom) → r.open_files.below.items ≡ [] → r.open_files.top ≡ None → r.next_first ≡ 0 → r.firsts.items ≡ firsts_of home from → told.facts.home ≡ home → all_read told r ≡ read_once told from

@@ -1,5 +1,6 @@
 pub mod Between
 pub mod Blocks
+pub mod FilesState
 pub mod Firsts
 pub mod Known
 pub mod Left
@@ -9,3 +10,4 @@ pub mod Paths
 pub mod Reads
 pub mod Results
 pub mod ToRead
+pub mod Uses

@@ -1,16 +1,15 @@
 -- What open files have still to look at, and where a failed read is told.
-use Rattle.std.specs.Prelude.{◌≡◌, ℕ, ◌-◌, Bool, true, ◌&&◌, if◌then◌else◌, List, [], ◌∷◌, ◌++◌, drop, Option, Some, None, Result, Ok, Err, OnOk, codes}
+use Rattle.std.specs.Prelude.{◌≡◌, ℕ, ◌-◌, Bool, true, ◌&&◌, if◌then◌else◌, List, [], ◌∷◌, ◌++◌, drop, Option, Some, None, Result, Ok, Err, codes}
 use Rattle.std.specs.List.{list_all, list_any}
 use Rattle.std.specs.Option.{option_map}
 use Rattle.std.specs.Str.{bytes_eq}
-use Rattle.mux_outside.specs.declared.pairs.Pair.{Pair}
 use Rattle.mux_outside.specs.declared.file_error.FileError.{FileError}
 use Rattle.mux_outside.specs.declared.file_error.FileError.TheVariants as file_errors
 use Rattle.conf_rules.specs.declared.causes.Cause.TheVariants as causes
 use Rattle.conf_rules.specs.declared.causes.ResolveError.{ResolveError}
 use Rattle.conf_rules.specs.declared.causes.ResolveError.TheVariants.{At, OutOfMemory}
 use Rattle.conf_rules.specs.Texts.{Bytes, same_word}
-use Rattle.conf_rules.specs.Told.{Facts, Told}
+use Rattle.conf_rules.specs.Told.{Told}
 use Rattle.conf_rules.specs.Includes.{Source}
 use Rattle.conf_rules.specs.Looks.{looks_at}
 use Rattle.conf_reader.specs.declared.errors.LineError.{LineError}
@@ -20,9 +19,6 @@ use Rattle.conf_reader.specs.declared.open_file.OpenFile.{OpenFile}
 use Rattle.conf_reader.specs.declared.stack.OpenFiles.{OpenFiles}
 use Rattle.conf_reader.specs.declared.reader.FirstFile.{FirstFile}
 use Rattle.conf_reader.specs.declared.reader.Lines.{Lines}
-use Rattle.conf_reader.specs.declared.reader.Step.{Step}
-use Rattle.conf_reader.specs.declared.reader.Step.TheVariants as steps
-use Rattle.conf_reader.specs.Known.{TellsFiles}
 use Rattle.conf_reader.specs.Left.{source_of, stack}
 
 -- ---- what failed, call by call
@@ -104,14 +100,6 @@ TellsFailed test (Err (At file number causes.ReadFault)) before now =
     FailsAt test file number before now
 TellsFailed test (Err (At file number cause)) before now = now ≡ before
 
--- behind a line that was given, all that is still to be looked at meets the test, where the line's
--- own does
-abbrev pub LooksOn : Test → Told → Lines → Result (Option ConfLine) ResolveError → Type 0
-LooksOn test told new (Ok (Some line)) =
-    line_meets test told (source_of new.open_files.system) line ≡ true
-    → meets test told new.open_files ≡ true
-LooksOn test told new result = Unit {0}
-
 -- ---- what steps do
 
 -- what meets a test goes on meeting it
@@ -126,67 +114,3 @@ TakesLooks old new (Ok (Some line)) =
     (told : Told) (test : Test) → meets test told old ≡ true
     → line_meets test told (source_of new.system) line ≡ true → meets test told new ≡ true
 TakesLooks old new (Err e) = Unit {0}
-
--- whatever test is met by all that is still to be looked at, a failed read meets it where it is
--- told, and so does what is then left
-abbrev pub MovesLooks : {A : Type 0} → Option (List Bytes) → Option (List Bytes)
-    → OpenFiles → OpenFiles → Result A ResolveError → Type 0
-MovesLooks failed now old new result =
-    (told : Told) (test : Test) → meets test told old ≡ true
-    → TellsFailed test result failed now × OnOk result (meets test told new ≡ true)
-
--- the same of one that looks at the machine too, where files tell
-abbrev pub ExpandsLooks : {A : Type 0} → Option (List Pair) → Facts → Bytes → Option (List Bytes)
-    → Option (List Bytes) → OpenFiles → OpenFiles → Result A ResolveError → Type 0
-ExpandsLooks files facts original failed now old new result =
-    (told : Told) (test : Test) → TellsFiles files told → told.facts ≡ facts
-    → told.asked.original ≡ original → meets test told old ≡ true
-    → TellsFailed test result failed now × OnOk result (meets test told new ≡ true)
-
--- ---- the same over all files
-
-abbrev pub AllLook : {A : Type 0} → Option (List Bytes) → Option (List Bytes)
-    → Lines → Lines → Result A ResolveError → Type 0
-AllLook failed now old new result =
-    (told : Told) (test : Test) → all_meet test told old ≡ true
-    → TellsFailed test result failed now × OnOk result (all_meet test told new ≡ true)
-
--- one that looks at the machine too
-abbrev pub AllExpandLooks : {A : Type 0} → Option (List Pair) → Facts → Bytes → Option (List Bytes)
-    → Option (List Bytes) → Lines → Lines → Result A ResolveError → Type 0
-AllExpandLooks files facts original failed now old new result =
-    (told : Told) (test : Test) → TellsFiles files told → told.facts ≡ facts
-    → told.asked.original ≡ original → all_meet test told old ≡ true
-    → TellsFailed test result failed now × OnOk result (all_meet test told new ≡ true)
-
--- behind one line
-abbrev pub StepsOn : Test → Told → Lines → Result Step ResolveError → Type 0
-StepsOn test told new (Ok steps.Comment) = all_meet test told new ≡ true
-StepsOn test told new (Ok (steps.Given line)) =
-    line_meets test told (source_of new.open_files.system) line ≡ true
-    → meets test told new.open_files ≡ true
-StepsOn test told new result = Unit {0}
-
--- one line
-abbrev pub StepLooks : Option (List Bytes) → Option (List Bytes)
-    → Lines → Lines → Result Step ResolveError → Type 0
-StepLooks failed now old new result =
-    (told : Told) (test : Test) → all_meet test told old ≡ true
-    → TellsFailed test result failed now × StepsOn test told new result
-
--- the next line that says something
-abbrev pub LineLooks : Option (List Bytes) → Option (List Bytes)
-    → Lines → Lines → Result (Option ConfLine) ResolveError → Type 0
-LineLooks failed now old new result =
-    (told : Told) (test : Test) → all_meet test told old ≡ true
-    → TellsFailed test result failed now × LooksOn test told new result
-
--- where files tell, with these facts: whatever test is met by all that is still to be looked at, a
--- failed read meets it where it is told, and so does what is to be looked at behind a line that is
--- given
-abbrev pub Looks : Option (List Pair) → Facts → Bytes → Option (List Bytes) → Option (List Bytes)
-    → Lines → Lines → Result (Option ConfLine) ResolveError → Type 0
-Looks files facts original failed now old new result =
-    (told : Told) (test : Test) → TellsFiles files told → told.facts ≡ facts
-    → told.asked.original ≡ original → all_meet test told old ≡ true
-    → TellsFailed test result failed now × LooksOn test told new result

@@ -1,5 +1,5 @@
 -- What the steps of a reader keep and do, whatever is told.
-use Rattle.std.specs.Prelude.{◌≡◌, ℕ, ◌+◌, ◌<◌, Bool, IfSome, IsSome, List, length, Option, None, Result}
+use Rattle.std.specs.Prelude.{◌≡◌, ℕ, ◌+◌, ◌<◌, Bool, IfSome, IsSome, List, length, Option, None, Result, OnOk}
 use Rattle.std.specs.Bool.{MatchBool}
 use Rattle.mux_outside.specs.declared.pairs.Pair.{Pair}
 use Rattle.conf_rules.specs.declared.causes.ResolveError.{ResolveError}
@@ -12,7 +12,7 @@ use Rattle.conf_reader.specs.declared.reader.Step.{Step}
 use Rattle.conf_reader.specs.declared.stack.OpenFiles.{OpenFiles}
 use Rattle.conf_reader.specs.Blocks.{Blocks}
 use Rattle.conf_reader.specs.Known.{TellsFiles}
-use Rattle.conf_reader.specs.Left.{open_left, left, Moves, IsSettled, Bounded}
+use Rattle.conf_reader.specs.Left.{open_left, left, Moves, IsReady, IsSettled, Bounded}
 use Rattle.conf_reader.specs.Reads.{OneLine, Reads}
 
 -- ---- open files
@@ -39,6 +39,11 @@ KeepsLeft old new =
 abbrev pub KeepsBounds : OpenFiles → OpenFiles → Type 0
 KeepsBounds old new = (n : ℕ) → Bounded old n → Bounded new n
 
+-- behind a step the next one can be done, and no more files are open of which a line was given
+pub record GoesOn (old new : OpenFiles) : Type 0 where
+  pub ready : IsReady new
+  pub bounded : KeepsBounds old new
+
 -- where files tell, a step left everything as it was, or it refused
 abbrev pub MovesOver : {A : Type 0} →
     Option (List Pair) → OpenFiles → OpenFiles → Result A ResolveError → Type 0
@@ -63,7 +68,16 @@ AllMove files old new result =
     (told : Told) (place : ℕ) (blocks : Blocks) → TellsFiles files told
     → Moves (left told place blocks old) (left told place blocks new) result
 
--- the same of one that looks at the machine too
+-- what a step over all files did to the lines: it left those that are left, the first files and the
+-- count of lines as they were, or it refused; and the next one can be done
+pub record MovesLines {A : Type 0} (files : Option (List Pair)) (old new : Lines)
+    (result : Result A ResolveError) : Type 0 where
+  pub moves : AllMove files old new result
+  pub goes_on : OnOk result (GoesOn old.open_files new.open_files)
+  pub firsts : new.firsts ≡ old.firsts
+  pub count : new.read ≡ old.read
+
+-- where files tell, a step over all files that looks at the machine too did so
 abbrev pub AllExpand : {A : Type 0} →
     Option (List Pair) → Facts → Bytes → Lines → Lines → Result A ResolveError → Type 0
 AllExpand files facts original old new result =

@@ -124,3 +124,14 @@ IsOver (Err e) = Unit {0}
 -- whether a reader gives no line any more
 abbrev pub is_spent : LineReader → Bool
 is_spent reader = reader.over
+
+-- a reader gives no line any more, and none is left
+pub record IsAtEnd (reader : LineReader) : Type 0 where
+  pub spent : is_spent reader ≡ true
+  pub ended : (told : Told) (place : ℕ) (blocks : Blocks) → left told place blocks reader.lines ≡ []
+
+-- a reader keeps what it was made for: the facts, the host that was asked for and the first files
+pub record KeepsAsked (old new : LineReader) : Type 0 where
+  pub facts : new.facts ≡ old.facts
+  pub original : new.original ≡ old.original
+  pub firsts : new.lines.firsts ≡ old.lines.firsts

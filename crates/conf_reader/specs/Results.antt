@@ -71,6 +71,12 @@ HasLineCause (Ok x) before now = now ≡ before
 HasLineCause (Err line_errors.OutOfMemory) before now = now ≡ before
 HasLineCause (Err (line_errors.Refused cause)) before now = IsFilesCause cause before now
 
+-- the same of a call that may refuse
+abbrev pub HasFilesCause : {A : Type 0} → Result A ResolveError → ℕ → ℕ → Type 0
+HasFilesCause (Ok x) before now = now ≡ before
+HasFilesCause (Err OutOfMemory) before now = now ≡ before
+HasFilesCause (Err (At file line cause)) before now = IsFilesCause cause before now
+
 -- the refusal of a line of a file, unless memory was wanting
 abbrev pub Refuses : LineError → Bytes → ℕ → ResolveError → Type 0
 Refuses line_errors.OutOfMemory file line error = error ≡ OutOfMemory
@@ -81,20 +87,6 @@ Refuses (line_errors.Refused cause) file line (At f l c) = At f l c ≡ At file 
 abbrev pub refused_at : LineError → Bytes → ℕ → ResolveError
 refused_at line_errors.OutOfMemory file line = OutOfMemory
 refused_at (line_errors.Refused cause) file line = At file line cause
-
--- a read fault comes only where the count of faults rose, and every other answer leaves it, want of
--- memory too
-abbrev pub HasReadCause : {A : Type 0} → Result A ResolveError → ℕ → ℕ → Type 0
-HasReadCause (Ok x) before now = now ≡ before
-HasReadCause (Err OutOfMemory) before now = now ≡ before
-HasReadCause (Err (At file line cause)) before now =
-    MatchBool (is_fault cause) (Rose before now) (now ≡ before)
-
--- the same of a refusal, whose fault is one of reading
-abbrev pub HasFilesCause : {A : Type 0} → Result A ResolveError → ℕ → ℕ → Type 0
-HasFilesCause (Ok x) before now = now ≡ before
-HasFilesCause (Err OutOfMemory) before now = now ≡ before
-HasFilesCause (Err (At file line cause)) before now = IsFilesCause cause before now
 
 -- whether a refusal tells that a command failed to run
 abbrev pub is_run_fault : ResolveError → Bool

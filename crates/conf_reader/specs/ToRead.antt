@@ -1,25 +1,20 @@
 -- Which paths a reader of lines has still to read, and which of them its calls read.
 use Rattle.std.specs.Prelude.{◌≡◌, ℕ, ◌+◌, ◌-◌, List, [], ◌∷◌, ◌++◌, drop, flat_map, map, Option, Some, None, Result, Ok, Err}
 use Rattle.std.specs.Option.{option_map}
-use Rattle.mux_outside.specs.declared.pairs.Pair.{Pair}
 use Rattle.mux_outside.specs.declared.reading.Reading.{Reading}
 use Rattle.conf_rules.specs.declared.causes.ResolveError.{ResolveError}
 use Rattle.conf_rules.specs.declared.causes.ResolveError.TheVariants.{OutOfMemory}
 use Rattle.conf_rules.specs.Texts.{Bytes}
 use Rattle.conf_rules.specs.Heads.{lines_of}
 use Rattle.conf_rules.specs.Words.{words_of}
-use Rattle.conf_rules.specs.Told.{Facts, Told}
+use Rattle.conf_rules.specs.Told.{Told}
 use Rattle.conf_rules.specs.Includes.{Source}
 use Rattle.conf_rules.specs.Sources.{depth_limit, size_limit}
 use Rattle.conf_rules.specs.ReadOrder.{paths_in, read_along, read_by, read_first}
-use Rattle.conf_reader.specs.declared.line.ConfLine.{ConfLine}
 use Rattle.conf_reader.specs.declared.open_file.OpenFile.{OpenFile}
 use Rattle.conf_reader.specs.declared.stack.OpenFiles.{OpenFiles}
 use Rattle.conf_reader.specs.declared.reader.FirstFile.{FirstFile}
 use Rattle.conf_reader.specs.declared.reader.Lines.{Lines}
-use Rattle.conf_reader.specs.declared.reader.Step.{Step}
-use Rattle.conf_reader.specs.declared.reader.Step.TheVariants as steps
-use Rattle.conf_reader.specs.Known.{TellsFiles}
 use Rattle.conf_reader.specs.Left.{source_of, stack}
 
 -- ---- what is still to be read
@@ -83,64 +78,3 @@ abbrev pub Notes : {A : Type 0} → List Bytes → List Bytes → Result A Resol
     → Option (List Reading) → Option (List Reading) → Type 0
 Notes before after (Ok x) readings now = ReadsTo before after readings now
 Notes before after (Err e) readings now = ReadsSome before readings now
-
--- where files tell, a step reads the first of what is still to be read
-abbrev pub OpenNotes : {A : Type 0} → Option (List Pair) → Option (List Reading)
-    → Option (List Reading) → OpenFiles → OpenFiles → Result A ResolveError → Type 0
-OpenNotes files readings now old new result =
-    (told : Told) → TellsFiles files told
-    → Notes (open_reads told old) (open_reads told new) result readings now
-
--- the same of one that looks at the machine too
-abbrev pub ExpandNotes : {A : Type 0} → Option (List Pair) → Facts → Bytes
-    → Option (List Reading) → Option (List Reading) → OpenFiles → OpenFiles
-    → Result A ResolveError → Type 0
-ExpandNotes files facts original readings now old new result =
-    (told : Told) → TellsFiles files told → told.facts ≡ facts → told.asked.original ≡ original
-    → Notes (open_reads told old) (open_reads told new) result readings now
-
--- ---- the same over all files
-
-abbrev pub AllNote : {A : Type 0} → Option (List Pair) → Option (List Reading)
-    → Option (List Reading) → Lines → Lines → Result A ResolveError → Type 0
-AllNote files readings now old new result =
-    (told : Told) → TellsFiles files told
-    → Notes (all_read told old) (all_read told new) result readings now
-
--- one that looks at the machine too
-abbrev pub AllExpandNotes : {A : Type 0} → Option (List Pair) → Facts → Bytes
-    → Option (List Reading) → Option (List Reading) → Lines → Lines
-    → Result A ResolveError → Type 0
-AllExpandNotes files facts original readings now old new result =
-    (told : Told) → TellsFiles files told → told.facts ≡ facts → told.asked.original ≡ original
-    → Notes (all_read told old) (all_read told new) result readings now
-
--- one line; at the end nothing is left
-abbrev pub StepNotes : Option (List Pair) → Option (List Reading) → Option (List Reading)
-    → Lines → Lines → Result Step ResolveError → Type 0
-StepNotes files readings now old new (Ok steps.End) =
-    (told : Told) → TellsFiles files told → ReadsTo (all_read told old) [] readings now
-StepNotes files readings now old new result =
-    (told : Told) → TellsFiles files told
-    → Notes (all_read told old) (all_read told new) result readings now
-
--- what is left behind the next line that says something; at the end nothing
-abbrev pub LineNotes : List Bytes → List Bytes → Result (Option ConfLine) ResolveError
-    → Option (List Reading) → Option (List Reading) → Type 0
-LineNotes before after (Ok None) readings now = ReadsTo before [] readings now
-LineNotes before after result readings now = Notes before after result readings now
-
--- the next line that says something, where files tell
-abbrev pub NextNotes : Option (List Pair) → Option (List Reading) → Option (List Reading)
-    → Lines → Lines → Result (Option ConfLine) ResolveError → Type 0
-NextNotes files readings now old new result =
-    (told : Told) → TellsFiles files told
-    → LineNotes (all_read told old) (all_read told new) result readings now
-
--- the same of a call that looks at the machine too
-abbrev pub NextNotesFor : Option (List Pair) → Facts → Bytes
-    → Option (List Reading) → Option (List Reading) → Lines → Lines
-    → Result (Option ConfLine) ResolveError → Type 0
-NextNotesFor files facts original readings now old new result =
-    (told : Told) → TellsFiles files told → told.facts ≡ facts → told.asked.original ≡ original
-    → LineNotes (all_read told old) (all_read told new) result readings now

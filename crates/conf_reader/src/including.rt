@@ -11,11 +11,10 @@ use mux_outside::{Facts, Files};
 use ssh_fields::{Text, Texts};
 
 impl OpenFiles {
-    ghost use Rattle.conf_reader.specs.Left.{IsReady, IsGiven, named_as};
-    ghost use Rattle.conf_reader.specs.Moving.{KeepsBounds, ExpandsOver};
-    ghost use Rattle.conf_reader.specs.Results.{HasFilesCause};
-    ghost use Rattle.conf_reader.specs.Looking.{ExpandsLooks};
-    ghost use Rattle.conf_reader.specs.ToRead.{ExpandNotes};
+    ghost use Rattle.conf_reader.specs.FilesState.{state_of};
+    ghost use Rattle.conf_reader.specs.Left.{IsGiven, named_as};
+    ghost use Rattle.conf_reader.specs.Moving.{GoesOn, ExpandsOver};
+    ghost use Rattle.conf_reader.specs.Uses.{UsesFilesFor, of_open};
 
     /// Notes the paths that the last line names.
     pub fn name(&mut self, paths: Texts)
@@ -48,15 +47,10 @@ impl OpenFiles {
         requires given { IsGiven self.old }
         ensures moves { ExpandsOver (F.told files.old) (known facts.now) original.now self.old
             self.new result }
-        ensures ready { OnOk result (IsReady self.new) }
+        ensures goes_on { OnOk result (GoesOn self.old self.new) }
         ensures below { OnOk result (self.new.below ≡ self.old.below) }
-        ensures told { F.told files.new ≡ F.told files.old }
-        ensures cause { HasFilesCause result (F.faults files.old) (F.faults files.new) }
-        ensures bounded { OnOk result (KeepsBounds self.old self.new) }
-        ensures looks { ExpandsLooks (F.told files.old) (known facts.now) original.now
-            (F.failed files.old) (F.failed files.new) self.old self.new result }
-        ensures noted { ExpandNotes (F.told files.old) (known facts.now) original.now
-            (F.readings files.old) (F.readings files.new) self.old self.new result }
+        ensures files { UsesFilesFor (known facts.now) original.now (state_of F.Files files.old)
+            (state_of F.Files files.new) (of_open self.old) (of_open self.new) result }
     {
         let found = match self.include() {
             None => return Ok(()),

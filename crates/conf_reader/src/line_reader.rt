@@ -1,6 +1,6 @@
 ghost use Rattle.std.specs.Prelude.{◌≡◌, ◌≤◌, ◌+◌, ◌++◌, ◌∷◌, [], ℕ, IfOk, IfSome, OnOk, Ok, None, codes};
 ghost use Rattle.conf_tokens.specs.Known.{known};
-ghost use Rattle.std.specs.Prelude.{true, false, IfErr};
+ghost use Rattle.std.specs.Prelude.{true, false};
 ghost use Rattle.std.specs.List.{list_all};
 ghost use Rattle.conf_reader.specs.Firsts.{firsts_of};
 ghost use Rattle.conf_reader.specs.Left.{is_plain_first};
@@ -123,13 +123,13 @@ pub struct LineReader {
 impl LineReader {
     ghost use Rattle.conf_rules.specs.Told.{Told};
     ghost use Rattle.conf_rules.specs.Sources.{lines_from};
-    ghost use Rattle.conf_reader.specs.Blocks.{Blocks};
+    ghost use Rattle.conf_reader.specs.FilesState.{state_of};
     ghost use Rattle.conf_reader.specs.Left.{left, Bounded};
     ghost use Rattle.conf_reader.specs.Moving.{ReadsFor};
-    ghost use Rattle.conf_reader.specs.Reads.{IsGivenFrom, IsOver, open_count, is_spent};
-    ghost use Rattle.conf_reader.specs.Results.{HasReadCause, is_run_fault};
-    ghost use Rattle.conf_reader.specs.Looking.{Test, meets, Looks};
-    ghost use Rattle.conf_reader.specs.ToRead.{NextNotesFor, all_read};
+    ghost use Rattle.conf_reader.specs.Reads.{IsAtEnd, IsGivenFrom, IsOver, KeepsAsked, open_count, is_spent};
+    ghost use Rattle.conf_reader.specs.Looking.{Test, meets};
+    ghost use Rattle.conf_reader.specs.ToRead.{all_read};
+    ghost use Rattle.conf_reader.specs.Uses.{UsesFilesFor, behind_call, of_all};
     ghost use Rattle.conf_rules.specs.ReadOrder.{read_once};
 
     /// A reader of the files that are asked for.
@@ -169,20 +169,12 @@ impl LineReader {
             self.old.lines self.new.lines result }
         ensures given { IfOk result (λ given.
             IfSome given (IsGivenFrom self.old.lines self.new.lines)) }
-        ensures ended { IsOver result → (told : Told) (place : ℕ) (blocks : Blocks)
-            → left told place blocks self.new.lines ≡ [] }
-        ensures over { is_spent self.old ≡ true → result ≡ Ok None }
-        ensures spent { IsOver result → is_spent self.new ≡ true }
-        ensures facts { (self.new.facts ≡ self.old.facts)
-            × (self.new.original ≡ self.old.original) }
-        ensures told { F.told files.new ≡ F.told files.old }
-        ensures cause { HasReadCause result (F.faults files.old) (F.faults files.new) }
-        ensures no_run_fault { IfErr result (λ e. is_run_fault e ≡ false) }
-        ensures looks { Looks (F.told files.old) (known self.old.facts) self.old.original
-            (F.failed files.old) (F.failed files.new) self.old.lines self.new.lines result }
-        ensures noted { NextNotesFor (F.told files.old) (known self.old.facts) self.old.original
-            (F.readings files.old) (F.readings files.new) self.old.lines self.new.lines result }
-        ensures firsts { self.new.lines.firsts ≡ self.old.lines.firsts }
+        ensures over { IsOver result → IsAtEnd self.new }
+        ensures spent { is_spent self.old ≡ true → result ≡ Ok None }
+        ensures asked { KeepsAsked self.old self.new }
+        ensures files { UsesFilesFor (known self.old.facts) self.old.original
+            (state_of F.Files files.old) (state_of F.Files files.new) (of_all self.old.lines)
+            (behind_call result self.new.lines) result }
     {
         if self.over {
             return Ok(None);

@@ -71,10 +71,12 @@ fn first_found<F: Files>(alloc: Global, path: &[u8], files: &mut F) -> Result<Fo
 impl Lines {
     ghost use Rattle.conf_reader.specs.declared.errors.LineError.TheVariants as line_errors;
     ghost use Rattle.conf_reader.specs.Left.{left, IsReady, is_plain_first, BeginsWith, IsLacking};
-    ghost use Rattle.conf_reader.specs.Moving.{IsAtLine, Settles, KeepsBounds, AllMove};
+    ghost use Rattle.conf_reader.specs.FilesState.{state_of};
+    ghost use Rattle.conf_reader.specs.Moving.{IsAtLine, Settles, GoesOn, MovesLines};
     ghost use Rattle.conf_reader.specs.Results.{Refuses};
-    ghost use Rattle.conf_reader.specs.Looking.{KeepsLooks, AllLook};
-    ghost use Rattle.conf_reader.specs.ToRead.{AllNote, all_read};
+    ghost use Rattle.conf_reader.specs.Looking.{KeepsLooks};
+    ghost use Rattle.conf_reader.specs.ToRead.{all_read};
+    ghost use Rattle.conf_reader.specs.Uses.{UsesFiles, of_all};
 
     /// The lines of first files, of which none is opened yet.
     pub fn new(alloc: Global, firsts: Vec<FirstFile>) -> Lines
@@ -108,10 +110,9 @@ impl Lines {
         ensures left { OnOk result ((told : Told) (place : ℕ) (blocks : Blocks)
             → BeginsWith told self.old text → left told place blocks self.old
             ≡ left told place blocks self.new) }
-        ensures ready { OnOk result (IsReady self.new.open_files) }
+        ensures goes_on { OnOk result (GoesOn self.old.open_files self.new.open_files) }
         ensures firsts { self.new.firsts ≡ self.old.firsts }
         ensures next { OnOk result (self.new.next_first ≡ self.old.next_first + 1) }
-        ensures bounded { OnOk result (KeepsBounds self.old.open_files self.new.open_files) }
         ensures looks { OnOk result (KeepsLooks self.old.open_files self.new.open_files) }
         ensures reads { OnOk result ((told : Told)
             → IfSome (slice_get self.old.firsts.items self.old.next_first) (λ f.
@@ -172,20 +173,13 @@ impl Lines {
         requires none { self.old.open_files.top ≡ None }
         requires ready { IsReady self.old.open_files }
         requires plain { list_all is_plain_first self.old.firsts.items ≡ true }
-        ensures moves { AllMove (F.told files.old) self.old self.new result }
-        ensures ready { OnOk result (IsReady self.new.open_files) }
-        ensures firsts { self.new.firsts ≡ self.old.firsts }
+        ensures lines { MovesLines (F.told files.old) self.old self.new result }
         ensures next { IfOk result (λ more.
             MatchBool more ((self.new.next_first ≡ self.old.next_first + 1)
             × (self.old.next_first < length self.old.firsts.items)) ((self.new ≡ self.old)
             × (length self.old.firsts.items ≤ self.old.next_first))) }
-        ensures told { F.told files.new ≡ F.told files.old }
-        ensures cause { HasFilesCause result (F.faults files.old) (F.faults files.new) }
-        ensures bounded { OnOk result (KeepsBounds self.old.open_files self.new.open_files) }
-        ensures looks { AllLook (F.failed files.old) (F.failed files.new) self.old self.new result }
-        ensures noted { AllNote (F.told files.old) (F.readings files.old) (F.readings files.new)
-            self.old self.new result }
-        ensures count { self.new.read ≡ self.old.read }
+        ensures files { UsesFiles (state_of F.Files files.old) (state_of F.Files files.new)
+            (of_all self.old) (of_all self.new) result }
     {
         let Some(first) = self.next_file() else {
             return Ok(false);
@@ -211,20 +205,13 @@ impl Lines {
     pub fn reach<F: Files>(&mut self, files: &mut F) -> Result<bool, ResolveError>
         requires ready { IsReady self.old.open_files }
         requires plain { list_all is_plain_first self.old.firsts.items ≡ true }
-        ensures moves { AllMove (F.told files.old) self.old self.new result }
-        ensures ready { OnOk result (IsReady self.new.open_files) }
+        ensures lines { MovesLines (F.told files.old) self.old self.new result }
         ensures line { IfOk result (λ found.
             MatchBool found (IsAtLine self.new.open_files.top × IsSome self.new.open_files.top)
             ((self.new.open_files.top ≡ None)
             × (length self.new.firsts.items ≤ self.new.next_first))) }
-        ensures firsts { self.new.firsts ≡ self.old.firsts }
-        ensures told { F.told files.new ≡ F.told files.old }
-        ensures cause { HasFilesCause result (F.faults files.old) (F.faults files.new) }
-        ensures bounded { OnOk result (KeepsBounds self.old.open_files self.new.open_files) }
-        ensures looks { AllLook (F.failed files.old) (F.failed files.new) self.old self.new result }
-        ensures noted { AllNote (F.told files.old) (F.readings files.old) (F.readings files.new)
-            self.old self.new result }
-        ensures count { self.new.read ≡ self.old.read }
+        ensures files { UsesFiles (state_of F.Files files.old) (state_of F.Files files.new)
+            (of_all self.old) (of_all self.new) result }
     {
         loop {
             if self.settle(files)? {
@@ -236,20 +223,15 @@ impl Lines {
         }
     }
 
-    /// Goes to the next line of the open files. It stands apart for its proof alone: what is so of open
-    /// files is so of all lines.
+    /// Goes to the next line of the open files. It stands apart for its proof alone: what is so of
+    /// open files is so of all lines.
     fn settle<F: Files>(&mut self, files: &mut F) -> Result<bool, ResolveError>
         requires ready { IsReady self.old.open_files }
-        ensures moves { AllMove (F.told files.old) self.old self.new result }
-        ensures ready { OnOk result (IsReady self.new.open_files) }
+        ensures lines { MovesLines (F.told files.old) self.old self.new result }
         ensures line { IfOk result (Settles self.new.open_files.top) }
         ensures others { self.new ≡ record self.old { open_files = self.new.open_files } }
-        ensures told { F.told files.new ≡ F.told files.old }
-        ensures cause { HasFilesCause result (F.faults files.old) (F.faults files.new) }
-        ensures bounded { OnOk result (KeepsBounds self.old.open_files self.new.open_files) }
-        ensures looks { AllLook (F.failed files.old) (F.failed files.new) self.old self.new result }
-        ensures noted { AllNote (F.told files.old) (F.readings files.old) (F.readings files.new)
-            self.old self.new result }
+        ensures files { UsesFiles (state_of F.Files files.old) (state_of F.Files files.new)
+            (of_all self.old) (of_all self.new) result }
     {
         self.open_files.settle(files)
     }

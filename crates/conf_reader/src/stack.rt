@@ -37,10 +37,12 @@ pub enum Stand {
 
 impl OpenFiles {
     ghost use Rattle.conf_reader.specs.Left.{open_left, IsReady, IsSettled, work, Moves, Names, RefusesTop, RefusesNext, GivesUp, StandOf, IsFound};
-    ghost use Rattle.conf_reader.specs.Moving.{NamesPath, Settles, KeepsLeft, KeepsBounds, MovesOver};
-    ghost use Rattle.conf_reader.specs.Results.{HasFilesCause, is_fault_at};
-    ghost use Rattle.conf_reader.specs.Looking.{KeepsLooks, MovesLooks};
-    ghost use Rattle.conf_reader.specs.ToRead.{OpenNotes, open_reads};
+    ghost use Rattle.conf_reader.specs.Moving.{NamesPath, Settles, KeepsLeft, GoesOn, MovesOver};
+    ghost use Rattle.conf_reader.specs.FilesState.{state_of};
+    ghost use Rattle.conf_reader.specs.Results.{is_fault_at};
+    ghost use Rattle.conf_reader.specs.Looking.{KeepsLooks};
+    ghost use Rattle.conf_reader.specs.ToRead.{open_reads};
+    ghost use Rattle.conf_reader.specs.Uses.{UsesFiles, of_open};
 
     /// No file.
     pub fn new(alloc: Global) -> OpenFiles
@@ -62,9 +64,8 @@ impl OpenFiles {
         requires ended { IfSome self.old.top (λ f. IsSettled f × (length f.text ≤ f.at)) }
         requires some { IsSome self.old.top }
         ensures left { KeepsLeft self.old self.new }
-        ensures ready { IsReady self.new }
+        ensures goes_on { GoesOn self.old self.new }
         ensures less { work self.new < work self.old }
-        ensures bounded { KeepsBounds self.old self.new }
         ensures looks { KeepsLooks self.old self.new }
         ensures reads { (told : Told) → open_reads told self.old ≡ open_reads told self.new }
     {
@@ -80,9 +81,8 @@ impl OpenFiles {
         ensures left { (told : Told) (place : ℕ) (blocks : Blocks)
             → Names self.old.top (λ path. told.content path ≡ None)
             → open_left told place blocks self.old ≡ open_left told place blocks self.new }
-        ensures ready { IsReady self.new }
+        ensures goes_on { GoesOn self.old self.new }
         ensures less { work self.new < work self.old }
-        ensures bounded { KeepsBounds self.old self.new }
         ensures looks { KeepsLooks self.old self.new }
         ensures reads { (told : Told) → Names self.old.top (λ path. told.content path ≡ None
             → open_reads told self.old ≡ path ∷ open_reads told self.new) }
@@ -102,9 +102,8 @@ impl OpenFiles {
             → Names self.old.top (λ path. told.content path ≡ Some text)
             → nat_lt size_limit (length text) ≡ false → open_left told place blocks self.old
             ≡ open_left told place blocks self.new) }
-        ensures ready { OnOk result (IsReady self.new) }
+        ensures goes_on { OnOk result (GoesOn self.old self.new) }
         ensures less { OnOk result (work self.new < work self.old) }
-        ensures bounded { OnOk result (KeepsBounds self.old self.new) }
         ensures looks { OnOk result (KeepsLooks self.old self.new) }
         ensures reads { OnOk result ((told : Told)
             → Names self.old.top (λ path. told.content path ≡ Some text
@@ -177,9 +176,8 @@ impl OpenFiles {
             → Names self.old.top (λ path. IsFound found (told.content path))
             → Moves (open_left told place blocks self.old)
             (open_left told place blocks self.new) result }
-        ensures ready { OnOk result (IsReady self.new) }
+        ensures goes_on { OnOk result (GoesOn self.old self.new) }
         ensures less { OnOk result (work self.new < work self.old) }
-        ensures bounded { OnOk result (KeepsBounds self.old self.new) }
         ensures looks { OnOk result (KeepsLooks self.old self.new) }
         ensures quiet { IfErr result (λ e. is_fault_at e ≡ false) }
         ensures reads { OnOk result ((told : Told)
@@ -213,15 +211,10 @@ impl OpenFiles {
     pub fn advance<F: Files>(&mut self, files: &mut F) -> Result<Stand, ResolveError>
         requires ready { IsReady self.old }
         ensures moves { MovesOver (F.told files.old) self.old self.new result }
-        ensures ready { OnOk result (IsReady self.new) }
+        ensures goes_on { OnOk result (GoesOn self.old self.new) }
         ensures stand { IfOk result (StandOf self.old self.new) }
-        ensures told { F.told files.new ≡ F.told files.old }
-        ensures cause { HasFilesCause result (F.faults files.old) (F.faults files.new) }
-        ensures bounded { OnOk result (KeepsBounds self.old self.new) }
-        ensures looks { MovesLooks (F.failed files.old) (F.failed files.new) self.old self.new
-            result }
-        ensures noted { OpenNotes (F.told files.old) (F.readings files.old) (F.readings files.new)
-            self.old self.new result }
+        ensures files { UsesFiles (state_of F.Files files.old) (state_of F.Files files.new)
+            (of_open self.old) (of_open self.new) result }
     {
         let Some(top) = &self.top else {
             return Ok(Stand::End);
@@ -249,15 +242,10 @@ impl OpenFiles {
     pub fn settle<F: Files>(&mut self, files: &mut F) -> Result<bool, ResolveError>
         requires ready { IsReady self.old }
         ensures moves { MovesOver (F.told files.old) self.old self.new result }
-        ensures ready { OnOk result (IsReady self.new) }
+        ensures goes_on { OnOk result (GoesOn self.old self.new) }
         ensures line { IfOk result (Settles self.new.top) }
-        ensures told { F.told files.new ≡ F.told files.old }
-        ensures cause { HasFilesCause result (F.faults files.old) (F.faults files.new) }
-        ensures bounded { OnOk result (KeepsBounds self.old self.new) }
-        ensures looks { MovesLooks (F.failed files.old) (F.failed files.new) self.old self.new
-            result }
-        ensures noted { OpenNotes (F.told files.old) (F.readings files.old) (F.readings files.new)
-            self.old self.new result }
+        ensures files { UsesFiles (state_of F.Files files.old) (state_of F.Files files.new)
+            (of_open self.old) (of_open self.new) result }
     {
         loop {
             match self.advance(files)? {

@@ -17,29 +17,25 @@ impl Lines {
     ghost use Rattle.conf_reader.specs.declared.reader.Step.TheVariants as steps;
     ghost use Rattle.conf_reader.specs.Reads.{CountsOne, GivenStep, IsGivenFrom};
     ghost use Rattle.conf_reader.specs.Left.{left, IsReady, IsGiven, is_plain_first, Bounded};
-    ghost use Rattle.conf_reader.specs.Moving.{KeepsBounds, AllExpand, TakesOne, ReadsOver, ReadsFor};
-    ghost use Rattle.conf_reader.specs.Results.{HasFilesCause};
+    ghost use Rattle.conf_reader.specs.FilesState.{state_of};
+    ghost use Rattle.conf_reader.specs.Moving.{GoesOn, AllExpand, TakesOne, ReadsOver, ReadsFor};
     ghost use Rattle.conf_reader.specs.Between.{is_ended};
-    ghost use Rattle.conf_reader.specs.Looking.{Test, meets, StepLooks, LineLooks, AllExpandLooks, Looks};
-    ghost use Rattle.conf_reader.specs.ToRead.{StepNotes, NextNotes, AllExpandNotes, NextNotesFor, all_read};
+    ghost use Rattle.conf_reader.specs.Looking.{Test, meets};
+    ghost use Rattle.conf_reader.specs.ToRead.{all_read};
+    ghost use Rattle.conf_reader.specs.Uses.{UsesFiles, UsesFilesFor, of_all, behind_step, behind_call};
 
     /// Takes one line of all files.
     fn one<F: Files>(&mut self, files: &mut F) -> Result<Step, ResolveError>
         requires ready { IsReady self.old.open_files }
         requires plain { list_all is_plain_first self.old.firsts.items ≡ true }
         ensures one { TakesOne (F.told files.old) self.old self.new result }
-        ensures comment { result ≡ Ok steps.Comment → IsReady self.new.open_files }
-        ensures bounded { result ≡ Ok steps.Comment
-            → KeepsBounds self.old.open_files self.new.open_files }
+        ensures comment { result ≡ Ok steps.Comment
+            → GoesOn self.old.open_files self.new.open_files }
         ensures firsts { self.new.firsts ≡ self.old.firsts }
         ensures counts { IfOk result (λ step. CountsOne step self.old.read self.new.read) }
         ensures given { IfOk result (λ step. GivenStep step self.old self.new) }
-        ensures looks { StepLooks (F.failed files.old) (F.failed files.new) self.old self.new
-            result }
-        ensures noted { StepNotes (F.told files.old) (F.readings files.old) (F.readings files.new)
-            self.old self.new result }
-        ensures told { F.told files.new ≡ F.told files.old }
-        ensures cause { HasFilesCause result (F.faults files.old) (F.faults files.new) }
+        ensures files { UsesFiles (state_of F.Files files.old) (state_of F.Files files.new)
+            (of_all self.old) (behind_step result self.new) result }
     {
         if !self.reach(files)? {
             return Ok(Step::End);
@@ -63,13 +59,9 @@ impl Lines {
         requires plain { list_all is_plain_first self.old.firsts.items ≡ true }
         ensures reads { ReadsOver (F.told files.old) self.old self.new result }
         ensures given { IfOk result (λ given. IfSome given (IsGivenFrom self.old self.new)) }
-        ensures looks { LineLooks (F.failed files.old) (F.failed files.new) self.old self.new
-            result }
-        ensures noted { NextNotes (F.told files.old) (F.readings files.old) (F.readings files.new)
-            self.old self.new result }
         ensures firsts { self.new.firsts ≡ self.old.firsts }
-        ensures told { F.told files.new ≡ F.told files.old }
-        ensures cause { HasFilesCause result (F.faults files.old) (F.faults files.new) }
+        ensures files { UsesFiles (state_of F.Files files.old) (state_of F.Files files.new)
+            (of_all self.old) (behind_call result self.new) result }
     {
         loop {
             match self.one(files)? {
@@ -90,15 +82,10 @@ impl Lines {
         requires given { IsGiven self.old.open_files }
         ensures moves { AllExpand (F.told files.old) (known facts.now) original.now self.old
             self.new result }
-        ensures ready { OnOk result (IsReady self.new.open_files) }
+        ensures goes_on { OnOk result (GoesOn self.old.open_files self.new.open_files) }
         ensures others { self.new ≡ record self.old { open_files = self.new.open_files } }
-        ensures told { F.told files.new ≡ F.told files.old }
-        ensures cause { HasFilesCause result (F.faults files.old) (F.faults files.new) }
-        ensures bounded { OnOk result (KeepsBounds self.old.open_files self.new.open_files) }
-        ensures looks { AllExpandLooks (F.told files.old) (known facts.now) original.now
-            (F.failed files.old) (F.failed files.new) self.old self.new result }
-        ensures noted { AllExpandNotes (F.told files.old) (known facts.now) original.now
-            (F.readings files.old) (F.readings files.new) self.old self.new result }
+        ensures files { UsesFilesFor (known facts.now) original.now (state_of F.Files files.old)
+            (state_of F.Files files.new) (of_all self.old) (of_all self.new) result }
     {
         self.open_files.expand(facts, original, files)
     }
@@ -115,13 +102,9 @@ impl Lines {
         ensures reads { ReadsFor (F.told files.old) (known facts.now) original.now self.old
             self.new result }
         ensures given { IfOk result (λ given. IfSome given (IsGivenFrom self.old self.new)) }
-        ensures looks { Looks (F.told files.old) (known facts.now) original.now
-            (F.failed files.old) (F.failed files.new) self.old self.new result }
-        ensures noted { NextNotesFor (F.told files.old) (known facts.now) original.now
-            (F.readings files.old) (F.readings files.new) self.old self.new result }
         ensures firsts { self.new.firsts ≡ self.old.firsts }
-        ensures told { F.told files.new ≡ F.told files.old }
-        ensures cause { HasFilesCause result (F.faults files.old) (F.faults files.new) }
+        ensures files { UsesFilesFor (known facts.now) original.now (state_of F.Files files.old)
+            (state_of F.Files files.new) (of_all self.old) (behind_call result self.new) result }
     {
         self.expand(facts, original, files)?;
         self.next_line(files)

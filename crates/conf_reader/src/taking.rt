@@ -15,7 +15,7 @@ use ssh_fields::{OutOfMemory, Text};
 
 impl OpenFiles {
     ghost use Rattle.conf_reader.specs.Left.{IsReady, stack, Takes, IsGiven, IsGivenBy, gone, HeadIs};
-    ghost use Rattle.conf_reader.specs.Moving.{IsAtLine, KeepsBounds};
+    ghost use Rattle.conf_reader.specs.Moving.{IsAtLine, GoesOn};
     ghost use Rattle.conf_reader.specs.Results.{Refuses, is_fault_at};
     ghost use Rattle.conf_reader.specs.Looking.{TakesLooks};
     ghost use Rattle.conf_reader.specs.ToRead.{open_reads};
@@ -81,13 +81,12 @@ impl OpenFiles {
         ensures takes { (told : Told) (place : ℕ) (blocks : Blocks)
             → length self.old.below.items ≤ length blocks
             → Takes told place blocks self.old self.new result }
-        ensures comment { result ≡ Ok None → IsReady self.new }
+        ensures comment { result ≡ Ok None → GoesOn self.old self.new }
         ensures given { IfOk result (λ line.
             IfSome line (λ l. IsGiven self.new × (l.depth ≡ length self.new.below.items))) }
         ensures opens { IfOk result (λ line.
             IfSome line (λ l. (l.opens ≡ self.old.fresh) × (l.depth ≡ length self.old.below.items)
             × (length (stack self.new) ≡ l.depth + 1))) }
-        ensures bounded { result ≡ Ok None → KeepsBounds self.old self.new }
         ensures looks { TakesLooks self.old self.new result }
         ensures reads { OnOk result ((told : Told)
             → open_reads told self.old ≡ open_reads told self.new) }

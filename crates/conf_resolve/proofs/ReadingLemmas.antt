@@ -10,7 +10,9 @@ use Rattle.conf_rules.specs.Told.{Told}
 use Rattle.conf_rules.specs.Resolution.{wants_second, refusal_in}
 use Rattle.conf_rules.specs.ReadOrder.{all_reads, asks_second, read_once}
 use Rattle.conf_reader.specs.declared.line.ConfLine.{ConfLine}
-use Rattle.conf_reader.specs.ToRead.{reading_of, LineNotes, ReadsSome, ReadsTo}
+use Rattle.conf_reader.specs.declared.reader.Lines.{Lines}
+use Rattle.conf_reader.specs.ToRead.{reading_of, ReadsSome, ReadsTo}
+use Rattle.conf_reader.specs.Uses.{behind_call}
 use Rattle.conf_reader.proofs.ToReadLemmas.{more-left, then-read, then-some}
 use Rattle.conf_resolve.specs.Passes.{first_rows}
 use Rattle.conf_resolve.specs.Readings.{Readings, ReadsAll, ReadsUnless}
@@ -27,9 +29,9 @@ of-all : (paths : List Bytes) (before now : Readings) → ReadsAll paths before 
 of-all paths before now h = record { read = paths; parts = sym (append-nil paths); noted = h }
 
 -- no line is left
-pub no-line : (a b : List Bytes) (v : Option ConfLine) (before now : Readings) → ((line : ConfLine) → v ≡ Some line → ⊥) → LineNotes a b (Ok v) before now → ReadsTo a [] before now
-no-line a b None before now n h = h
-no-line a b (Some line) before now n h = absurd (n line refl)
+pub no-line : (told : Told) (a : List Bytes) (v : Option ConfLine) (new : Lines) (before now : Readings) → ((line : ConfLine) → v ≡ Some line → ⊥) → ReadsTo a ((behind_call (Ok v) new).paths told) before now → ReadsTo a [] before now
+no-line told a None new before now n h = h
+no-line told a (Some line) new before now n h = absurd (n line refl)
 
 some-more : (a b : List Bytes) (before now : Readings) → ReadsSome a before now → ReadsSome (a ++ b) before now
 some-more a b before now h = (h.0 ++ b, more-left a h.0 b before now h.1)

@@ -1,10 +1,12 @@
 use Rattle.std.proofs.Common.{◌∙◌, ◌+◌, length, sym, ap, refl, arith}
 use Rattle.std.proofs.lemmas.Result.{err_from_is_err_and}
+use Rattle.std.specs.Prelude.{Option}
 use Rattle.conf_rules.specs.declared.asked.Asked.{Asked}
 use Rattle.conf_rules.specs.Told.{Facts}
+use Rattle.conf_reader.specs.declared.line.ConfLine.{ConfLine}
 use Rattle.conf_reader.specs.Firsts.{firsts_of}
 use Rattle.conf_resolve.specs.Passes.{final_rows}
-use Rattle.conf_resolve.proofs.CauseLemmas.{run-causes}
+use Rattle.conf_resolve.proofs.CauseLemmas.{read-causes, run-causes}
 use Rattle.conf_resolve.proofs.DepthLemmas.{depth-low, given-bounded, more-bounded}
 use Rattle.conf_resolve.proofs.PassLemmas.{goes-on, line-fails, reader-fails, all-given, line-ran, reader-ran, all-ran, start-ran, none-given}
 use Rattle.conf_resolve.proofs.ResolveLemmas.{underway}
@@ -12,6 +14,7 @@ use Rattle.conf_resolve.proofs.FaultLemmas.{read-stands, run-stands, none-fails,
 use Rattle.conf_resolve.proofs.IncludeLemmas.{any_place, any-meets}
 use Rattle.conf_rules.specs.ReadOrder.{read_once}
 use Rattle.conf_reader.proofs.ToReadLemmas.{none-read, stays-read, then-read, then-some}
+use Rattle.conf_reader.proofs.UsesLemmas.{no-run-fault}
 use Rattle.conf_resolve.proofs.ReadingLemmas.{no-line, to-all}
 use Rattle.conf_resolve.proofs.resolution.pass.Goals as goal
 
@@ -70,28 +73,33 @@ returns-in_err-line-2-clause-ran g c = λ told asked facts tells status pass row
     (λ rows place l stands next. c.in_err-line-2.ensures.ran told pass rows u.blocks place l facts (rw c.loop-reader.invariant.runner status) stands next)
     began)
 
+pub returns-in_err-line-clause-cause : goal.returns-in_err-line-clause-cause
+returns-in_err-line-clause-cause g c =
+    let p = err_from_is_err_and c.from_residual-in_err-line.result c.from_residual-in_err-line.ensures.1 in
+    rw (p.1, p.2) (read-causes _ _ _ _ _ _ c.loop-reader.invariant.file_faults c.loop-reader.invariant.run_faults c.in_err-line.ensures.files.cause)
+
 pub returns-in_err-line-2-clause-cause : goal.returns-in_err-line-2-clause-cause
 returns-in_err-line-2-clause-cause g c =
     let p = err_from_is_err_and c.from_residual-in_err-line-2.result c.from_residual-in_err-line-2.ensures.1 in
-    rw (p.1, p.2) (run-causes _ _ _ _ _ _ (c.in_ok-line.ensures.cause ∙ c.loop-reader.invariant.file_faults) c.loop-reader.invariant.run_faults c.in_err-line-2.ensures.cause)
+    rw (p.1, p.2) (run-causes _ _ _ _ _ _ (c.in_ok-line.ensures.files.cause ∙ c.loop-reader.invariant.file_faults) c.loop-reader.invariant.run_faults c.in_err-line-2.ensures.cause)
 
 pub loop-reader-preserved : goal.loop-reader-preserved
 loop-reader-preserved g c =
     let from = rw c.in-Some.is at c.in_ok-line.ensures.given in
     let bounded = given-bounded c.loop-reader.reader.lines c.next.new.self.lines c.in-Some.line (length c.loop-reader.fold.applies) (length c.line.new.self.applies) from c.loop-reader.invariant.fits c.in_ok-line-2.ensures.depth in
     record {
-      files = c.next.ensures.told ∙ c.loop-reader.invariant.files;
+      files = c.in_ok-line.ensures.files.told ∙ c.loop-reader.invariant.files;
       runner = c.line.ensures.told ∙ c.loop-reader.invariant.runner;
-      file_faults = c.in_ok-line.ensures.cause ∙ c.loop-reader.invariant.file_faults;
+      file_faults = c.in_ok-line.ensures.files.cause ∙ c.loop-reader.invariant.file_faults;
       run_faults = c.in_ok-line-2.ensures.cause ∙ c.loop-reader.invariant.run_faults;
-      facts = ap Rattle.conf_tokens.specs.Known.known c.next.ensures.facts.0 ∙ c.loop-reader.invariant.facts;
-      original = c.next.ensures.facts.1 ∙ c.loop-reader.invariant.original;
-      firsts = ap (λ (v : _). v.items) c.next.ensures.firsts ∙ c.loop-reader.invariant.firsts;
+      facts = ap Rattle.conf_tokens.specs.Known.known c.in_ok-line.ensures.asked.facts ∙ c.loop-reader.invariant.facts;
+      original = c.in_ok-line.ensures.asked.original ∙ c.loop-reader.invariant.original;
+      firsts = ap (λ (v : _). v.items) c.in_ok-line.ensures.asked.firsts ∙ c.loop-reader.invariant.firsts;
       failed = λ told asked facts tells.
-          (c.in_ok-line.ensures.looks told any_place (rw c.loop-reader.invariant.files tells) (facts ∙ sym c.loop-reader.invariant.facts) (ap (λ (a : Asked). a.original) asked ∙ sym c.loop-reader.invariant.original) (any-meets told c.loop-reader.reader.lines)).0
+          (c.in_ok-line.ensures.files.looks told any_place (rw c.loop-reader.invariant.files tells) (facts ∙ sym c.loop-reader.invariant.facts) (ap (λ (a : Asked). a.original) asked ∙ sym c.loop-reader.invariant.original) (any-meets told c.loop-reader.reader.lines)).0
           ∙ c.loop-reader.invariant.failed told asked facts tells;
       notes = λ told asked facts tells.
-          then-read _ _ _ _ _ _ (c.loop-reader.invariant.notes told asked facts tells) (rw c.in-Some.is at (c.in_ok-line.ensures.noted told (rw c.loop-reader.invariant.files tells) (facts ∙ sym c.loop-reader.invariant.facts) (ap (λ (a : Asked). a.original) asked ∙ sym c.loop-reader.invariant.original)));
+          then-read _ _ _ _ _ _ (c.loop-reader.invariant.notes told asked facts tells) (rw c.in-Some.is at (c.in_ok-line.ensures.files.noted told (rw c.loop-reader.invariant.files tells) (facts ∙ sym c.loop-reader.invariant.facts) (ap (λ (a : Asked). a.original) asked ∙ sym c.loop-reader.invariant.original)));
       fits = bounded;
       underway = λ told pass rows asked facts tells status begins.
           let u = c.loop-reader.invariant.underway told pass rows asked facts tells status begins in
@@ -101,7 +109,7 @@ loop-reader-preserved g c =
           (given-bounded c.loop-reader.reader.lines c.next.new.self.lines c.in-Some.line (length c.loop-reader.fold.applies) (c.in-Some.line.depth + 1) from c.loop-reader.invariant.fits refl)
           (depth-low told pass c.loop-reader.fold u.rows u.blocks c.loop-reader.reader.lines c.next.new.self.lines c.in-Some.line u.stands from c.loop-reader.invariant.fits)
           (c.loop-reader.invariant.firsts ∙ ap (λ h. firsts_of h c.args.asked.now.from) (sym (ap (λ (f : Facts). f.home) facts)) ∙ ap (firsts_of told.facts.home) (sym (ap (λ (a : Asked). a.from) asked)))
-          (λ test passes. (rw c.in-Some.is at (c.in_ok-line.ensures.looks told test (rw c.loop-reader.invariant.files tells) (facts ∙ sym c.loop-reader.invariant.facts) (ap (λ (a : Asked). a.original) asked ∙ sym c.loop-reader.invariant.original) passes).1))
+          (λ test passes. (rw c.in-Some.is at (c.in_ok-line.ensures.files.looks told test (rw c.loop-reader.invariant.files tells) (facts ∙ sym c.loop-reader.invariant.facts) (ap (λ (a : Asked). a.original) asked ∙ sym c.loop-reader.invariant.original) passes).1))
           _
           (λ rows place l stands next. c.in_ok-line-2.ensures.ran told pass rows u.blocks place l facts (rw c.loop-reader.invariant.runner status) stands next);
     }
@@ -146,8 +154,8 @@ returns-in_err-line-clause-fault g c = λ told asked facts tells status pass row
     let home = ap (λ (f : Facts). f.home) facts in
     let from = ap (λ (a : Asked). a.from) asked in
     rw (p.1, p.2) (read-stands told pass c.loop-reader.fold c.loop-reader.reader.lines (final_rows told pass rows) rows _ _ before u _ _ _ _ (c.loop-reader.invariant.failed told asked facts tells)
-    (λ test passes. (c.in_err-line.ensures.looks told test (rw c.loop-reader.invariant.files tells) (facts ∙ sym c.loop-reader.invariant.facts) (ap (λ (a : Asked). a.original) asked ∙ sym c.loop-reader.invariant.original) passes).0)
-    c.in_err-line.ensures.no_run_fault
+    (λ test passes. (c.in_err-line.ensures.files.looks told test (rw c.loop-reader.invariant.files tells) (facts ∙ sym c.loop-reader.invariant.facts) (ap (λ (a : Asked). a.original) asked ∙ sym c.loop-reader.invariant.original) passes).0)
+    (no-run-fault (Option ConfLine) _ _ _ c.in_err-line.ensures.files.cause)
     (c.loop-reader.invariant.firsts ∙ ap (λ h. firsts_of h c.args.asked.now.from) (sym home) ∙ ap (firsts_of told.facts.home) (sym from)) began)
 
 pub returns-in_err-line-2-clause-fault : goal.returns-in_err-line-2-clause-fault
@@ -169,18 +177,18 @@ pub returns-in_err-line-clause-failed : goal.returns-in_err-line-clause-failed
 returns-in_err-line-clause-failed g c = λ told asked facts tells status.
     let p = err_from_is_err_and c.from_residual-in_err-line.result c.from_residual-in_err-line.ensures.1 in
     rw (p.1, p.2) (none-told any_place _ _ _ _ (c.loop-reader.invariant.failed told asked facts tells)
-    (c.in_err-line.ensures.looks told any_place (rw c.loop-reader.invariant.files tells) (facts ∙ sym c.loop-reader.invariant.facts) (ap (λ (a : Asked). a.original) asked ∙ sym c.loop-reader.invariant.original) (any-meets told c.loop-reader.reader.lines)).0)
+    (c.in_err-line.ensures.files.looks told any_place (rw c.loop-reader.invariant.files tells) (facts ∙ sym c.loop-reader.invariant.facts) (ap (λ (a : Asked). a.original) asked ∙ sym c.loop-reader.invariant.original) (any-meets told c.loop-reader.reader.lines)).0)
 
 pub returns-in_err-line-2-clause-failed : goal.returns-in_err-line-2-clause-failed
 returns-in_err-line-2-clause-failed g c = λ told asked facts tells status.
     let p = err_from_is_err_and c.from_residual-in_err-line-2.result c.from_residual-in_err-line-2.ensures.1 in
     rw (p.1, p.2) (none-fails _ _ _
-    ((c.in_ok-line.ensures.looks told any_place (rw c.loop-reader.invariant.files tells) (facts ∙ sym c.loop-reader.invariant.facts) (ap (λ (a : Asked). a.original) asked ∙ sym c.loop-reader.invariant.original) (any-meets told c.loop-reader.reader.lines)).0
+    ((c.in_ok-line.ensures.files.looks told any_place (rw c.loop-reader.invariant.files tells) (facts ∙ sym c.loop-reader.invariant.facts) (ap (λ (a : Asked). a.original) asked ∙ sym c.loop-reader.invariant.original) (any-meets told c.loop-reader.reader.lines)).0
     ∙ c.loop-reader.invariant.failed told asked facts tells))
 
 pub returns-clause-failed : goal.returns-clause-failed
 returns-clause-failed g c = λ told asked facts tells status.
-    (c.in_ok-line.ensures.looks told any_place (rw c.loop-reader.invariant.files tells) (facts ∙ sym c.loop-reader.invariant.facts) (ap (λ (a : Asked). a.original) asked ∙ sym c.loop-reader.invariant.original) (any-meets told c.loop-reader.reader.lines)).0
+    (c.in_ok-line.ensures.files.looks told any_place (rw c.loop-reader.invariant.files tells) (facts ∙ sym c.loop-reader.invariant.facts) (ap (λ (a : Asked). a.original) asked ∙ sym c.loop-reader.invariant.original) (any-meets told c.loop-reader.reader.lines)).0
     ∙ c.loop-reader.invariant.failed told asked facts tells
 
 pub returns-in_err-reader-clause-noted : goal.returns-in_err-reader-clause-noted
@@ -191,13 +199,13 @@ returns-in_err-reader-clause-noted g c = λ told asked facts tells status.
 pub returns-in_err-line-clause-noted : goal.returns-in_err-line-clause-noted
 returns-in_err-line-clause-noted g c = λ told asked facts tells status.
     let p = err_from_is_err_and c.from_residual-in_err-line.result c.from_residual-in_err-line.ensures.1 in
-    rw p.1 (then-some _ _ _ _ _ (c.loop-reader.invariant.notes told asked facts tells) (c.in_err-line.ensures.noted told (rw c.loop-reader.invariant.files tells) (facts ∙ sym c.loop-reader.invariant.facts) (ap (λ (a : Asked). a.original) asked ∙ sym c.loop-reader.invariant.original)))
+    rw p.1 (then-some _ _ _ _ _ (c.loop-reader.invariant.notes told asked facts tells) (c.in_err-line.ensures.files.noted told (rw c.loop-reader.invariant.files tells) (facts ∙ sym c.loop-reader.invariant.facts) (ap (λ (a : Asked). a.original) asked ∙ sym c.loop-reader.invariant.original)))
 
 pub returns-in_err-line-2-clause-noted : goal.returns-in_err-line-2-clause-noted
 returns-in_err-line-2-clause-noted g c = λ told asked facts tells status.
     let p = err_from_is_err_and c.from_residual-in_err-line-2.result c.from_residual-in_err-line-2.ensures.1 in
-    rw p.1 (_, then-read _ _ _ _ _ _ (c.loop-reader.invariant.notes told asked facts tells) (rw c.in-Some.is at (c.in_ok-line.ensures.noted told (rw c.loop-reader.invariant.files tells) (facts ∙ sym c.loop-reader.invariant.facts) (ap (λ (a : Asked). a.original) asked ∙ sym c.loop-reader.invariant.original))))
+    rw p.1 (_, then-read _ _ _ _ _ _ (c.loop-reader.invariant.notes told asked facts tells) (rw c.in-Some.is at (c.in_ok-line.ensures.files.noted told (rw c.loop-reader.invariant.files tells) (facts ∙ sym c.loop-reader.invariant.facts) (ap (λ (a : Asked). a.original) asked ∙ sym c.loop-reader.invariant.original))))
 
 pub returns-clause-noted : goal.returns-clause-noted
 returns-clause-noted g c = λ told asked facts tells status.
-    to-all _ _ _ (then-read _ _ _ _ _ _ (c.loop-reader.invariant.notes told asked facts tells) (no-line _ _ _ _ _ c.in_default.not-Some (c.in_ok-line.ensures.noted told (rw c.loop-reader.invariant.files tells) (facts ∙ sym c.loop-reader.invariant.facts) (ap (λ (a : Asked). a.original) asked ∙ sym c.loop-reader.invariant.original))))
+    to-all _ _ _ (then-read _ _ _ _ _ _ (c.loop-reader.invariant.notes told asked facts tells) (no-line told _ _ _ _ _ c.in_default.not-Some (c.in_ok-line.ensures.files.noted told (rw c.loop-reader.invariant.files tells) (facts ∙ sym c.loop-reader.invariant.facts) (ap (λ (a : Asked). a.original) asked ∙ sym c.loop-reader.invariant.original))))

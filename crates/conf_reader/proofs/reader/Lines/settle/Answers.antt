@@ -1,13 +1,15 @@
+use Rattle.std.proofs.Common.{refl}
 use Rattle.conf_reader.proofs.FirstLemmas.{lift-moves}
-use Rattle.conf_reader.proofs.LookingLemmas.{all-look, files-meet}
-use Rattle.conf_reader.proofs.ToReadLemmas.{all-note}
+use Rattle.conf_reader.proofs.UsesLemmas.{uses-all}
 use Rattle.conf_reader.proofs.reader.Lines.settle.Goals as goal
 
-pub returns-clause-moves : goal.returns-clause-moves
-returns-clause-moves g c = λ told place blocks tells. lift-moves told place blocks c.args.self.now c.settle.new.self c.settle.result (c.settle.ensures.moves told place blocks tells)
+pub returns-clause-lines : goal.returns-clause-lines
+returns-clause-lines g c = record {
+  moves = λ told place blocks tells. lift-moves told place blocks c.args.self.now c.settle.new.self c.settle.result (c.settle.ensures.moves told place blocks tells);
+  goes_on = c.settle.ensures.goes_on;
+  firsts = refl;
+  count = refl;
+}
 
-pub returns-clause-looks : goal.returns-clause-looks
-returns-clause-looks g c = λ told test h. all-look _ test told c.args.self.now c.settle.new.self c.settle.result _ _ h (c.settle.ensures.looks told test (files-meet test told c.args.self.now h))
-
-pub returns-clause-noted : goal.returns-clause-noted
-returns-clause-noted g c = λ told tells. all-note _ told c.args.self.now c.settle.new.self c.settle.result _ _ (c.settle.ensures.noted told tells)
+pub returns-clause-files : goal.returns-clause-files
+returns-clause-files g c = uses-all c.args.self.now c.settle.new.self c.settle.result c.settle.ensures.files

@@ -1,69 +1,50 @@
-use Rattle.std.proofs.Common.{◌∙◌, Bool, refl}
+use Rattle.std.proofs.Common.{◌∙◌, refl, sym, subst}
 use Rattle.std.proofs.lemmas.Result.{err_from_is_err_and}
+use Rattle.conf_reader.proofs.MovingLemmas.{goes-same, goes-then}
 use Rattle.conf_reader.proofs.RefusalLemmas.{moved-before}
+use Rattle.conf_reader.proofs.UsesLemmas.{uses-fails, uses-none, uses-then}
+use Rattle.conf_reader.specs.Known.{TellsFiles}
 use Rattle.conf_reader.specs.Left.{open_left}
-use Rattle.conf_reader.specs.declared.stack.Stand.{Stand}
-use Rattle.conf_reader.proofs.LookingLemmas.{tells-on}
-use Rattle.conf_reader.proofs.ToReadLemmas.{stays-read, then-read, then-some}
 use Rattle.conf_reader.proofs.stack.OpenFiles.settle.Goals as goal
+
+pub loop-init : goal.loop-init
+loop-init g c = record {
+  left = λ told place blocks tells. refl;
+  goes_on = goes-same c.args.self.now c.requires.ready;
+  files = uses-none (λ told test h. h) (λ told. refl);
+}
+
+pub loop-preserved : goal.loop-preserved
+loop-preserved g c = record {
+  left = λ told place blocks tells. c.loop.invariant.left told place blocks tells ∙ c.in_ok-advance.ensures.moves told place blocks (subst (λ f. TellsFiles f told) (sym c.loop.invariant.files.told) tells);
+  goes_on = goes-then c.loop.invariant.goes_on c.in_ok-advance.ensures.goes_on;
+  files = uses-then tt c.loop.invariant.files c.in_ok-advance.ensures.files;
+}
 
 pub returns-in_err-advance-clause-moves : goal.returns-in_err-advance-clause-moves
 returns-in_err-advance-clause-moves g c = λ told place blocks tells.
     let p = err_from_is_err_and c.from_residual.result c.from_residual.ensures.1 in
-    rw (p.1, p.2) (moved-before (open_left told place blocks c.args.self.now) (open_left told place blocks c.loop.self) _ (c.loop.invariant.left told place blocks tells) (c.in_err-advance.ensures.moves told place blocks (rw c.loop.invariant.told tells)))
+    rw (p.1, p.2) (moved-before (open_left told place blocks c.args.self.now) (open_left told place blocks c.loop.self) _ (c.loop.invariant.left told place blocks tells) (c.in_err-advance.ensures.moves told place blocks (subst (λ f. TellsFiles f told) (sym c.loop.invariant.files.told) tells)))
 
-pub loop-preserved : goal.loop-preserved
-loop-preserved g c = record {
-  ready = c.in_ok-advance.ensures.ready;
-  told = c.advance.ensures.told ∙ c.loop.invariant.told;
-  faults = c.in_ok-advance.ensures.cause ∙ c.loop.invariant.faults;
-  looks = λ told test h.
-      let before = c.loop.invariant.looks told test h in
-      let step = c.in_ok-advance.ensures.looks told test before.1 in
-      (step.0 ∙ before.0, step.1);
-  bounded = λ n b. c.in_ok-advance.ensures.bounded n (c.loop.invariant.bounded n b);
-  notes = λ told tells. then-read _ _ _ _ _ _ (c.loop.invariant.notes told tells) (c.in_ok-advance.ensures.noted told (rw c.loop.invariant.told tells));
-  left = λ told place blocks tells. c.loop.invariant.left told place blocks tells ∙ c.in_ok-advance.ensures.moves told place blocks (rw c.loop.invariant.told tells);
-}
+pub returns-in-Line-clause-moves : goal.returns-in-Line-clause-moves
+returns-in-Line-clause-moves g c = λ told place blocks tells. c.loop.invariant.left told place blocks tells ∙ c.in_ok-advance.ensures.moves told place blocks (subst (λ f. TellsFiles f told) (sym c.loop.invariant.files.told) tells)
 
-pub returns-in-Line-clause-looks : goal.returns-in-Line-clause-looks
-returns-in-Line-clause-looks g c = λ told test h.
-    let before = c.loop.invariant.looks told test h in
-    let step = c.in_ok-advance.ensures.looks told test before.1 in
-    (step.0 ∙ before.0, step.1)
+pub returns-in-Line-clause-goes_on : goal.returns-in-Line-clause-goes_on
+returns-in-Line-clause-goes_on g c = goes-then c.loop.invariant.goes_on c.in_ok-advance.ensures.goes_on
 
-pub returns-in-End-clause-looks : goal.returns-in-End-clause-looks
-returns-in-End-clause-looks g c = λ told test h.
-    let before = c.loop.invariant.looks told test h in
-    let step = c.in_ok-advance.ensures.looks told test before.1 in
-    (step.0 ∙ before.0, step.1)
+pub returns-in-Line-clause-files : goal.returns-in-Line-clause-files
+returns-in-Line-clause-files g c = uses-then _ c.loop.invariant.files c.in_ok-advance.ensures.files
 
-pub returns-in_err-advance-clause-looks : goal.returns-in_err-advance-clause-looks
-returns-in_err-advance-clause-looks g c = λ told test h.
-    let before = c.loop.invariant.looks told test h in
-    let step = c.in_err-advance.ensures.looks told test before.1 in
+pub returns-in-End-clause-moves : goal.returns-in-End-clause-moves
+returns-in-End-clause-moves g c = λ told place blocks tells. c.loop.invariant.left told place blocks tells ∙ c.in_ok-advance.ensures.moves told place blocks (subst (λ f. TellsFiles f told) (sym c.loop.invariant.files.told) tells)
+
+pub returns-in-End-clause-goes_on : goal.returns-in-End-clause-goes_on
+returns-in-End-clause-goes_on g c = goes-then c.loop.invariant.goes_on c.in_ok-advance.ensures.goes_on
+
+pub returns-in-End-clause-files : goal.returns-in-End-clause-files
+returns-in-End-clause-files g c = uses-then _ c.loop.invariant.files c.in_ok-advance.ensures.files
+
+pub returns-in_err-advance-clause-files : goal.returns-in_err-advance-clause-files
+returns-in_err-advance-clause-files g c =
     let p = err_from_is_err_and c.from_residual.result c.from_residual.ensures.1 in
-    rw (p.1, p.2) (tells-on Stand Bool test _ _ _ _ before.0 step.0, tt)
-
-pub returns-in-Line-clause-noted : goal.returns-in-Line-clause-noted
-returns-in-Line-clause-noted g c = λ told tells. then-read _ _ _ _ _ _ (c.loop.invariant.notes told tells) (c.in_ok-advance.ensures.noted told (rw c.loop.invariant.told tells))
-
-pub returns-in-End-clause-noted : goal.returns-in-End-clause-noted
-returns-in-End-clause-noted g c = λ told tells. then-read _ _ _ _ _ _ (c.loop.invariant.notes told tells) (c.in_ok-advance.ensures.noted told (rw c.loop.invariant.told tells))
-
-pub returns-in_err-advance-clause-noted : goal.returns-in_err-advance-clause-noted
-returns-in_err-advance-clause-noted g c =
-    let p = err_from_is_err_and c.from_residual.result c.from_residual.ensures.1 in
-    rw p.1 (λ told tells.
-    then-some _ _ _ _ _ (c.loop.invariant.notes told tells) (c.in_err-advance.ensures.noted told (rw c.loop.invariant.told tells)))
-
-pub loop-init : goal.loop-init
-loop-init g c = record {
-  ready = c.requires.ready;
-  told = refl;
-  faults = refl;
-  looks = λ told test h. (refl, h);
-  bounded = λ n b. b;
-  notes = λ told tells. stays-read _ _ _ _ refl refl;
-  left = λ told place blocks tells. refl;
-}
+    rw (p.1, p.2) (uses-fails c.loop.invariant.files c.in_err-advance.ensures.files)
