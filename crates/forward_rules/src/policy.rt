@@ -2,11 +2,11 @@ ghost use Rattle.std.specs.Prelude.{◌≡◌};
 ghost use Rattle.ssh_grammar.specs.Messages as grammar;
 ghost use Rattle.mux_history.specs.Policy.{permits};
 ghost use Rattle.forward_rules.specs.Allows.{error_in, read_policy, ReadsAs};
-ghost use Rattle.forward_rules.specs.Keys.{key_of};
+ghost use Rattle.conn_messages.specs.Keys.{key_of};
 
 use crate::entry::Allowed;
-use crate::key::Key;
 use crate::reading::{ListFault, read_list};
+use conn_messages::Key;
 use ssh_fields::Texts;
 use std::alloc::Global;
 use std::marker::Model;

@@ -1,5 +1,5 @@
 use Rattle.std.proofs.Common.{rules, sym, ◌∙◌}
-use Rattle.mux_core.specs.Gists.{opening_of}
+use Rattle.conn_messages.specs.Message.{opening_of}
 use Rattle.window_ledger.specs.Act.{act_of}
 use Rattle.mux_history.specs.Gist.{Confirmation, Fails, Within}
 use Rattle.mux_core.proofs.Dispatch.{not-one, on-all, on-bad, on-judged, on-open, on-other, on-refusal, on-some, on-success}
