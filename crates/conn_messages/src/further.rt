@@ -1,4 +1,3 @@
-ghost use Rattle.std.specs.Prelude.{◌≡◌};
 ghost use Rattle.ssh_grammar.specs.Gives.{Gives};
 ghost use Rattle.ssh_grammar.specs.ReadMessage.{read_key, read_path, read_global, read_ends, read_direct_path, read_forwarded_path, read_opens};
 ghost use Rattle.ssh_grammar.specs.Messages as grammar;

@@ -2,7 +2,6 @@
 //! those that the master writes of its own.
 #![tactic(auto)]
 
-mod counts;
 mod further;
 mod key;
 mod message;
@@ -10,7 +9,6 @@ mod places;
 mod read;
 mod write;
 
-pub use counts::{data_len, wanted};
 pub use key::{Key, OwnKey};
 pub use message::{Message, Opening, Request};
 pub use places::{recipient_at, sender_at};

@@ -1,4 +1,4 @@
-ghost use Rattle.std.specs.Prelude.{◌≡◌, ◌≤◌, List, IfOk, Ok};
+ghost use Rattle.std.specs.Prelude.{◌≡◌, ◌≤◌, IfOk, Ok};
 ghost use Rattle.ssh_grammar.specs.Gives.{Gives};
 ghost use Rattle.ssh_grammar.specs.ReadMessage.{read_global_request, read_open, read_confirmation, read_open_failure, read_adjust, read_data, read_extended, read_request, on_end, read_as, read_message as reading};
 ghost use Rattle.ssh_grammar.specs.IsMessage.{Spells};

@@ -1,4 +1,4 @@
-ghost use Rattle.std.specs.Prelude.{◌≡◌, ◌++◌, [], ◌∷◌, ◌≤◌, map, length, filter, IfSome, OnOk, OnErr};
+ghost use Rattle.std.specs.Prelude.{◌≡◌, ◌++◌, [], ◌∷◌, map, length, filter, IfSome, OnOk, OnErr};
 ghost use Rattle.global_replies.specs.Asks.{IsShort, what_of};
 ghost use Rattle.global_replies.specs.Replies.{asked_of, request_of, FirstAsked, rest_of, is_of};
 ghost use Rattle.global_replies.specs.Stands.{AskGoesOn, ReplyGoesOn};

@@ -17,7 +17,7 @@ ghost use Rattle.mux_core.specs.Settling.{settled};
 ghost use Rattle.mux_core.specs.declared.heard.Heard.TheVariants.{Client, Lost};
 
 use crate::reading::{Gist, read_gist};
-use crate::state::{Core, waits};
+use crate::state::Core;
 use client_teardown::cancel;
 use conn_messages::{Key, Request, request_failure};
 use mux_history::Break;

@@ -1,5 +1,4 @@
 ghost use Rattle.std.specs.Prelude.{◌≡◌, ◌≤◌, length, IfOk, IfSome, OnErr};
-ghost use Rattle.ssh_fields.specs.Fields.{AreBytes};
 ghost use Rattle.ssh_grammar.specs.declared.framing.Framing.TheVariants.{Proxy};
 ghost use Rattle.ssh_grammar.specs.IsFrame.{IsContent};
 ghost use Rattle.proxy_frames.specs.declared.queue.TheConstants.{LONGEST_PAYLOAD};
@@ -11,7 +10,7 @@ ghost use Rattle.conn_messages.specs.Message.{opening_of};
 ghost use Rattle.mux_core.specs.Opening.{fails_with, open_verdict};
 
 use crate::reading::{Gist, read_gist};
-use crate::state::{Core, confirmed_ledger, note_bytes, put_sender};
+use crate::state::{Core, confirmed_ledger, put_sender};
 use crate::verdict::Verdict;
 use channel_table::Refused;
 use conn_messages::{Opening, open_failure};
@@ -47,7 +46,6 @@ impl Core {
         ensures policy { self.new.policy ≡ self.old.policy }
         ensures err { OnErr result (up.new ≡ up.old) }
     {
-        note_bytes(payload);
         let (sender, window, maximum) = match read_gist(payload) {
             Err(bad) => return Ok(Verdict::Drop(Why::BadMessage(bad))),
             Ok(Gist::Transport { number: DISCONNECT }) => {
@@ -137,8 +135,7 @@ impl Core {
         maximum: u32,
         up: &mut Queue,
     ) -> Result<Verdict, OutOfMemory>
-        requires content { IsContent Proxy payload.old }
-        requires bytes { AreBytes payload.old }
+        requires { IsContent Proxy payload.old }
         ensures stands { IfOk result (λ v.
             StartsOn self.old self.new client payload.old sender window maximum up.old up.new v) }
         ensures fits { IfOk result AnswerFits }
@@ -173,8 +170,7 @@ impl Core {
         maximum: u32,
         up: &mut Queue,
     ) -> Result<Verdict, OutOfMemory>
-        requires content { IsContent Proxy payload.old }
-        requires bytes { AreBytes payload.old }
+        requires { IsContent Proxy payload.old }
         ensures stands { IfOk result (λ v.
             SaysSome self.old self.new client payload.old
             (Confirmation remote sender window maximum) up.old up.new v) }
