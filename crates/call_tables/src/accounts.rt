@@ -92,23 +92,12 @@ const EVERYTHING: [Row; 5] = [
     (Down, Data(1), None, FULL, 0),
 ];
 
-fn said(ledger: &mut Ledger, way: Side, act: Act) -> Result<(), Breach> {
-    match act {
-        Data(len) => ledger.data(way, len),
-        Grant(n) => ledger.grant(way, n),
-        Eof => ledger.eof(way),
-        Close => ledger.close(way),
-        Request(want) => ledger.request(way, want),
-        Reply => ledger.reply(way),
-    }
-}
-
 /// The ledger after all rows, and the place of the first that went otherwise.
 fn follow(start: Ledger, rows: &[Row]) -> (Ledger, Option<usize>) {
     let mut ledger = start;
     for (i, (way, act, breach, up, down)) in rows.iter().enumerate() {
         let before = ledger;
-        let broken = said(&mut ledger, *way, *act).err();
+        let broken = ledger.take(*way, *act).err();
         let kept = broken.is_none() || ledger == before;
         if broken != *breach || !kept || ledger.room(Up) != *up || ledger.room(Down) != *down {
             return (ledger, Some(i));
@@ -120,7 +109,7 @@ fn follow(start: Ledger, rows: &[Row]) -> (Ledger, Option<usize>) {
 #[test]
 fn an_account_is_kept_at_its_edges(rt: HostRuntime) {
     let mut ledger = Ledger::opened(Up, 2_097_152, 32_768);
-    assert_eq!(rt; ledger.data(Up, 0), Err(Breach::NotOpen));
+    assert_eq!(rt; ledger.take(Up, Data(0)), Err(Breach::NotOpen));
     assert_eq!(rt; (ledger.room(Up), ledger.room(Down)), (0, 2_097_152));
     ledger.confirm(5, 32_768);
     let (ledger, wrong) = follow(ledger, &EDGES);
@@ -143,16 +132,16 @@ fn at_most_1024_requests_of_a_direction_are_unanswered(rt: HostRuntime) {
     let mut ledger = Ledger::opened(Up, 0, 0);
     ledger.confirm(0, 0);
     for _ in 0..1024 {
-        assert_eq!(rt; ledger.request(Up, true), Ok(()));
+        assert_eq!(rt; ledger.take(Up, Request(true)), Ok(()));
     }
     assert_eq!(rt;
-        ledger.request(Up, true),
+        ledger.take(Up, Request(true)),
         Err(Breach::TooManyAsks { have: 1024 })
     );
-    assert_eq!(rt; ledger.request(Up, false), Ok(()));
-    assert_eq!(rt; ledger.request(Down, true), Ok(()));
-    assert_eq!(rt; ledger.reply(Down), Ok(()));
-    assert_eq!(rt; ledger.request(Up, true), Ok(()));
+    assert_eq!(rt; ledger.take(Up, Request(false)), Ok(()));
+    assert_eq!(rt; ledger.take(Down, Request(true)), Ok(()));
+    assert_eq!(rt; ledger.take(Down, Reply), Ok(()));
+    assert_eq!(rt; ledger.take(Up, Request(true)), Ok(()));
 }
 
 #[test]

@@ -1,9 +1,11 @@
 ghost use Rattle.std.specs.Prelude.{IfSome};
-ghost use Rattle.global_replies.specs.Asks.{IsShort};
+ghost use Rattle.global_replies.specs.Asks.{IsShort, what_of};
 
 use Step::{Refused, Replied, Sent};
+use conn_messages::{Key, OwnKey};
 use global_replies::{Ask, Askers, ClientAnswers};
-use ssh_fields::{OutOfMemory, Small};
+use mux_history::limits::MAX_ADDRESS;
+use ssh_fields::OutOfMemory;
 
 /// A client, and what it asks: the request, its address or path, and its port.
 type Row = (u64, Kind, &'static [u8], u32);
@@ -30,39 +32,37 @@ const ASKED: [Row; 7] = [
 ];
 
 fn ask_of(kind: Kind, text: &[u8], port: u32) -> Option<Ask>
-    ensures { IfSome result IsShort }
+    ensures { IfSome result (λ ask. IsShort (what_of ask)) }
 {
-    if text.len() > 255 {
+    if text.len() > MAX_ADDRESS {
         return None;
     }
-    let text = Small::copy(text);
+    let end = Key::Tcp {
+        address: text,
+        port,
+    };
     Some(match kind {
         Kind::Alive => Ask::KeepAlive,
-        Kind::Port => Ask::Forward {
-            address: text,
-            port,
-        },
-        Kind::PortEnds => Ask::Cancel {
-            address: text,
-            port,
-        },
-        Kind::Path => Ask::PathForward { path: text },
-        Kind::PathEnds => Ask::PathCancel { path: text },
+        Kind::Port => Ask::Forward(OwnKey::copy(end)),
+        Kind::PortEnds => Ask::Cancel(OwnKey::copy(end)),
+        Kind::Path => Ask::Forward(OwnKey::copy(Key::Path(text))),
+        Kind::PathEnds => Ask::Cancel(OwnKey::copy(Key::Path(text))),
     })
 }
 
 fn is(ask: &Ask, row: &Row) -> bool {
     let (_, kind, text, port) = *row;
-    match ask {
-        Ask::KeepAlive => kind == Kind::Alive,
-        Ask::Forward { address, port: p } => {
-            kind == Kind::Port && address.as_bytes() == text && *p == port
+    let end = Key::Tcp {
+        address: text,
+        port,
+    };
+    match (ask, kind) {
+        (Ask::KeepAlive, Kind::Alive) => true,
+        (Ask::Forward(key), Kind::Port) | (Ask::Cancel(key), Kind::PortEnds) => key.is(end),
+        (Ask::Forward(key), Kind::Path) | (Ask::Cancel(key), Kind::PathEnds) => {
+            key.is(Key::Path(text))
         }
-        Ask::Cancel { address, port: p } => {
-            kind == Kind::PortEnds && address.as_bytes() == text && *p == port
-        }
-        Ask::PathForward { path } => kind == Kind::Path && path.as_bytes() == text,
-        Ask::PathCancel { path } => kind == Kind::PathEnds && path.as_bytes() == text,
+        _ => false,
     }
 }
 

@@ -1,6 +1,5 @@
 use conn_messages::{
-    Bad, cancel_forward, cancel_path, close, data_len, open_failure, read_message, request_failure,
-    wanted,
+    Bad, cancel_forward, cancel_path, close, open_failure, read_message, request_failure,
 };
 
 /// A payload with one byte too many behind it; the fault where its last byte is missing, and the
@@ -148,34 +147,4 @@ fn own_messages_are_written_to_the_byte(rt: HostRuntime) {
         cancel_path(b"/s").as_bytes(),
         b"\x50\x00\x00\x00\x26cancel-streamlocal-forward@openssh.com\x00\x00\x00\x00\x02/s".as_slice()
     );
-}
-
-#[test]
-fn what_a_message_counts_in_its_channel(rt: HostRuntime) {
-    // A message, how much of the window it takes, and whether it wants a reply from its channel.
-    let rows: [(&[u8], Option<u32>, bool); 6] = [
-        (b"\x5e\x00\x00\x00\x05\x00\x00\x00\x05hello", Some(5), false),
-        (b"\x5e\x00\x00\x00\x05\x00\x00\x00\x00", Some(0), false),
-        (
-            b"\x5f\x00\x00\x00\x05\x00\x00\x00\x01\x00\x00\x00\x03err",
-            Some(3),
-            false,
-        ),
-        (
-            b"\x62\x00\x00\x00\x05\x00\x00\x00\x04exec\x01ls",
-            None,
-            true,
-        ),
-        (
-            b"\x62\x00\x00\x00\x05\x00\x00\x00\x04exec\x00ls",
-            None,
-            false,
-        ),
-        (b"\x50\x00\x00\x00\x01x\x01", None, false),
-    ];
-    for (payload, length, want) in rows {
-        let message = read_message(payload).ok();
-        assert_eq!(rt; message.and_then(|m| data_len(&m)), length, "{payload:?}");
-        assert_eq!(rt; message.is_some_and(|m| wanted(&m)), want, "{payload:?}");
-    }
 }

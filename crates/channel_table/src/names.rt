@@ -1,4 +1,4 @@
-ghost use Rattle.std.specs.Prelude.{◌≡◌, ◌<◌, ℕ, Bool, [], ◌∷◌, ◌++◌, length, IsSome, Some, None, OnOk, IfOk, OnErr, nat_eq, not, filter, ◌==◌, if◌then◌else◌};
+ghost use Rattle.std.specs.Prelude.{◌≡◌, ◌<◌, ℕ, [], ◌∷◌, ◌++◌, length, IsSome, Some, None, OnOk, IfOk, OnErr, nat_eq, not, filter, ◌==◌, if◌then◌else◌};
 ghost use Rattle.indexmap.specs.IndexMap.{get};
 ghost use Rattle.channel_table.specs.Entries.{IsFree};
 ghost use Rattle.channel_table.specs.Slots.{IsReady};

@@ -41,7 +41,7 @@ impl Model for Table {
 }
 
 impl Table {
-    ghost use Rattle.channel_table.specs.Entries.{AreSound, IsFree, RefusesAs, SetsOwn, SetsRemote, admitted_at, changed_at, channel_at, count_of, entry_at, freed, full_refusal, holder_of, ledger_at, nth_number, number_of_own, number_of_remote, own_entry, own_refusal, remote_entry, remote_refusal, with_ledger, with_own, with_remote};
+    ghost use Rattle.channel_table.specs.Entries.{AreSound, IsFree, RefusesAs, SetsOwn, SetsRemote, admitted_at, changed_at, channel_at, count_of, freed, full_refusal, holder_of, ledger_at, nth_number, number_of_own, number_of_remote, own_entry, own_refusal, remote_entry, remote_refusal, with_ledger, with_own, with_remote};
     ghost use Rattle.channel_table.specs.Indices.{IsOwnIndex, IsRemoteIndex};
 
     /// A table without a channel.
@@ -192,7 +192,7 @@ impl Table {
     }
 
     /// The client whose channel the server names by its own number.
-    pub fn holder(&self, remote: u32) -> Option<u64>
+    fn holder(&self, remote: u32) -> Option<u64>
         ensures { result ≡ holder_of self.now remote }
     {
         let number = self.by_remote(remote)?;
@@ -255,14 +255,16 @@ impl Table {
         self.clients.get(&client)?.get(i)
     }
 
-    /// From each client and its own number to the number.
+    /// From each client and its own number to the number. The product calls it nowhere: its
+    /// contract says that the index has exactly the list's numbers.
     pub fn own_index(&self) -> &IndexMap<(u64, u32), u32>
         ensures { IsOwnIndex result.now self.now }
     {
         &self.own
     }
 
-    /// From each of the server's numbers to the number.
+    /// From each of the server's numbers to the number. The product calls it nowhere: its contract
+    /// says that the index has exactly the list's numbers.
     pub fn remote_index(&self) -> &IndexMap<u32, u32>
         ensures { IsRemoteIndex result.now self.now }
     {

@@ -11,10 +11,10 @@ use Rattle.mux_history.specs.Laws.{with_act}
 use Rattle.mux_history.specs.Rows.{Row}
 use Rattle.channel_table.specs.Entries.{Entry}
 use Rattle.channel_table.specs.Stands.{ChannelsFit}
-use Rattle.forward_rules.specs.Keys.{key_of}
+use Rattle.conn_messages.specs.Keys.{key_of}
 use Rattle.forward_rules.specs.State.{Forward}
 use Rattle.forward_rules.specs.Stands.{AreListed}
-use Rattle.forward_rules.specs.declared.key.Key.{Key}
+use Rattle.conn_messages.specs.declared.key.Key.{Key}
 use Rattle.client_teardown.specs.Leaving.{channel_farewells, forward_farewells, late_payload, left_entries}
 use Rattle.client_teardown.specs.declared.message.Late.TheVariants as late
 

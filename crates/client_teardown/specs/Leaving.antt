@@ -12,7 +12,7 @@ use Rattle.window_ledger.specs.Leaving as account
 use Rattle.window_ledger.specs.Stands.{confirmed}
 use Rattle.channel_table.specs.declared.channel.Channel.{Channel}
 use Rattle.channel_table.specs.Entries.{Entry, changed_at, is_of}
-use Rattle.forward_rules.specs.Keys.{IsShort, key_of}
+use Rattle.conn_messages.specs.Keys.{IsShort, key_of}
 use Rattle.forward_rules.specs.State.{Forward}
 use Rattle.forward_rules.specs.Step as forwards
 use Rattle.client_teardown.specs.declared.message.Late.{Late}

@@ -1,9 +1,8 @@
 ghost use Rattle.std.specs.Prelude.{◌≡◌, ◌≤◌, length};
 ghost use Rattle.ssh_grammar.specs.SpellMessage as spelling;
-ghost use Rattle.forward_rules.specs.Keys.{IsShort, key_of};
+ghost use Rattle.conn_messages.specs.Keys.{IsShort, key_of};
 
-use conn_messages::{cancel_forward, cancel_path};
-use forward_rules::Key;
+use conn_messages::{Key, cancel_forward, cancel_path};
 use ssh_fields::Small;
 
 /// The payload that cancels a key and wants no reply (RFC 4254, section 7.1; OpenSSH's PROTOCOL,

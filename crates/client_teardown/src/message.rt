@@ -1,4 +1,4 @@
-use forward_rules::Key;
+use conn_messages::Key;
 
 /// What the server says for a client that is lost already, and that the master has to undo.
 #[derive(Clone, Copy, Debug)]

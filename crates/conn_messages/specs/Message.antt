@@ -1,41 +1,38 @@
 -- A message as the grammar sees it: its strings and data as lists of bytes.
 use Rattle.std.specs.Prelude.{ℕ, Result}
-use Rattle.conn_messages.specs.declared.message.Global.{Global}
-use Rattle.conn_messages.specs.declared.message.Global.TheVariants as global
-use Rattle.conn_messages.specs.declared.message.Opens.{Opens}
-use Rattle.conn_messages.specs.declared.message.Opens.TheVariants as opens
+use Rattle.conn_messages.specs.declared.message.Request.{Request}
+use Rattle.conn_messages.specs.declared.message.Request.TheVariants as request
+use Rattle.conn_messages.specs.declared.message.Opening.{Opening}
+use Rattle.conn_messages.specs.declared.message.Opening.TheVariants as opening
 use Rattle.conn_messages.specs.declared.message.Message.{Message}
 use Rattle.conn_messages.specs.declared.message.Message.TheVariants as message
+use Rattle.conn_messages.specs.Keys.{key_of}
 use Rattle.ssh_grammar.specs.declared.fault.Bad.{Bad}
 use Rattle.ssh_grammar.specs.Gives.{Gives}
 use Rattle.ssh_grammar.specs.Messages as grammar
 use Rattle.ssh_grammar.specs.ReadMessage.{with_reading, Form, OfNone, forms}
 use Rattle.ssh_grammar.specs.Tables.{by_number}
 
-abbrev pub global_of : Global → grammar.Global
-global_of (global.Forward address port) = grammar.Forward (grammar.Tcp address.now port)
-global_of (global.Cancel address port) = grammar.Cancel (grammar.Tcp address.now port)
-global_of (global.PathForward path) = grammar.Forward (grammar.Path path.now)
-global_of (global.PathCancel path) = grammar.Cancel (grammar.Path path.now)
-global_of global.KeepAlive = grammar.KeepAlive
-global_of global.Other = grammar.OtherName
+abbrev pub request_of : Request → grammar.Global
+request_of (request.Forward key) = grammar.Forward (key_of key)
+request_of (request.Cancel key) = grammar.Cancel (key_of key)
+request_of request.KeepAlive = grammar.KeepAlive
+request_of request.Other = grammar.OtherName
 
-abbrev pub opens_of : Opens → grammar.Opens
-opens_of opens.Session = grammar.Session
-opens_of (opens.Direct host port) = grammar.Direct (grammar.Tcp host.now port)
-opens_of (opens.Forwarded address port) = grammar.Forwarded (grammar.Tcp address.now port)
-opens_of (opens.DirectPath path) = grammar.Direct (grammar.Path path.now)
-opens_of (opens.ForwardedPath path) = grammar.Forwarded (grammar.Path path.now)
-opens_of opens.Other = grammar.OtherType
+abbrev pub opening_of : Opening → grammar.Opens
+opening_of opening.Session = grammar.Session
+opening_of (opening.Direct key) = grammar.Direct (key_of key)
+opening_of (opening.Forwarded key) = grammar.Forwarded (key_of key)
+opening_of opening.Other = grammar.OtherType
 
 abbrev pub message_of : Message → grammar.Message
 message_of (message.Transport number rest) = grammar.Plain (grammar.Transport number rest.now)
 message_of (message.GlobalRequest name want rest what) =
-    grammar.Plain (grammar.GlobalRequest name.now want rest.now (global_of what))
+    grammar.Plain (grammar.GlobalRequest name.now want rest.now (request_of what))
 message_of (message.RequestSuccess rest) = grammar.Plain (grammar.RequestSuccess rest.now)
 message_of message.RequestFailure = grammar.Plain grammar.RequestFailure
 message_of (message.Open kind sender window maximum rest what) =
-    grammar.Plain (grammar.Open kind.now sender window maximum rest.now (opens_of what))
+    grammar.Plain (grammar.Open kind.now sender window maximum rest.now (opening_of what))
 message_of (message.Confirmation recipient sender window maximum rest) =
     grammar.To recipient (grammar.Confirmation sender window maximum rest.now)
 message_of (message.OpenFailure recipient reason text language) =

@@ -1,10 +1,11 @@
-ghost use Rattle.std.specs.Prelude.{◌≡◌};
 ghost use Rattle.ssh_grammar.specs.Gives.{Gives};
 ghost use Rattle.ssh_grammar.specs.ReadMessage.{read_key, read_path, read_global, read_ends, read_direct_path, read_forwarded_path, read_opens};
 ghost use Rattle.ssh_grammar.specs.Messages as grammar;
-ghost use Rattle.conn_messages.specs.Message.{global_of, opens_of};
+ghost use Rattle.conn_messages.specs.Keys.{key_of};
+ghost use Rattle.conn_messages.specs.Message.{opening_of, request_of};
 
-use crate::message::{Global, Opens};
+use crate::key::Key;
+use crate::message::{Opening, Request};
 use ssh_fields::FieldReader;
 use ssh_grammar::Bad;
 
@@ -19,59 +20,60 @@ pub(crate) const CANCEL_PATH: &[u8] = b"cancel-streamlocal-forward@openssh.com";
 const KEEP_ALIVE: &[u8] = b"keepalive@openssh.com";
 
 /// An address and a port, and nothing after them.
-fn key<'a>(fields: &mut FieldReader<'a>) -> Result<(&'a [u8], u32), Bad>
+fn port_key<'a>(fields: &mut FieldReader<'a>) -> Result<Key<'a>, Bad>
     ensures { (what : grammar.Key → grammar.Global)
-        → Gives (λ k. what (grammar.Tcp k.0.now k.1)) result
-        (read_key fields.old.cursor fields.old.at what) }
+        → Gives (λ k. what (key_of k)) result (read_key fields.old.cursor fields.old.at what) }
 {
     let address = fields.take_string()?;
     let port = fields.take_u32()?;
     fields.end()?;
-    Ok((address, port))
+    Ok(Key::Tcp { address, port })
 }
 
-fn forward<'a>(fields: &mut FieldReader<'a>) -> Result<Global<'a>, Bad>
-    ensures { Gives global_of result (read_key fields.old.cursor fields.old.at grammar.Forward) }
+fn forward<'a>(fields: &mut FieldReader<'a>) -> Result<Request<'a>, Bad>
+    ensures { Gives request_of result (read_key fields.old.cursor fields.old.at grammar.Forward) }
 {
-    let (address, port) = key(fields)?;
-    Ok(Global::Forward { address, port })
+    let key = port_key(fields)?;
+    Ok(Request::Forward(key))
 }
 
-fn cancel<'a>(fields: &mut FieldReader<'a>) -> Result<Global<'a>, Bad>
-    ensures { Gives global_of result (read_key fields.old.cursor fields.old.at grammar.Cancel) }
+fn cancel<'a>(fields: &mut FieldReader<'a>) -> Result<Request<'a>, Bad>
+    ensures { Gives request_of result (read_key fields.old.cursor fields.old.at grammar.Cancel) }
 {
-    let (address, port) = key(fields)?;
-    Ok(Global::Cancel { address, port })
+    let key = port_key(fields)?;
+    Ok(Request::Cancel(key))
 }
 
 /// A path, and nothing after it.
-fn path<'a>(fields: &mut FieldReader<'a>) -> Result<&'a [u8], Bad>
+fn path_key<'a>(fields: &mut FieldReader<'a>) -> Result<Key<'a>, Bad>
     ensures { (what : grammar.Key → grammar.Global)
-        → Gives (λ p. what (grammar.Path p.now)) result
-        (read_path fields.old.cursor fields.old.at what) }
+        → Gives (λ k. what (key_of k)) result (read_path fields.old.cursor fields.old.at what) }
 {
     let path = fields.take_string()?;
     fields.end()?;
-    Ok(path)
+    Ok(Key::Path(path))
 }
 
-fn forward_path<'a>(fields: &mut FieldReader<'a>) -> Result<Global<'a>, Bad>
-    ensures { Gives global_of result (read_path fields.old.cursor fields.old.at grammar.Forward) }
+fn forward_path<'a>(fields: &mut FieldReader<'a>) -> Result<Request<'a>, Bad>
+    ensures { Gives request_of result (read_path fields.old.cursor fields.old.at grammar.Forward) }
 {
-    let path = path(fields)?;
-    Ok(Global::PathForward { path })
+    let key = path_key(fields)?;
+    Ok(Request::Forward(key))
 }
 
-fn cancel_path<'a>(fields: &mut FieldReader<'a>) -> Result<Global<'a>, Bad>
-    ensures { Gives global_of result (read_path fields.old.cursor fields.old.at grammar.Cancel) }
+fn cancel_path<'a>(fields: &mut FieldReader<'a>) -> Result<Request<'a>, Bad>
+    ensures { Gives request_of result (read_path fields.old.cursor fields.old.at grammar.Cancel) }
 {
-    let path = path(fields)?;
-    Ok(Global::PathCancel { path })
+    let key = path_key(fields)?;
+    Ok(Request::Cancel(key))
 }
 
 /// A global request's data, by its name.
-pub(crate) fn global<'a>(name: &[u8], fields: &mut FieldReader<'a>) -> Result<Global<'a>, Bad>
-    ensures { Gives global_of result (read_global name.now fields.old.cursor fields.old.at) }
+pub(crate) fn request_data<'a>(
+    name: &[u8],
+    fields: &mut FieldReader<'a>,
+) -> Result<Request<'a>, Bad>
+    ensures { Gives request_of result (read_global name.now fields.old.cursor fields.old.at) }
 {
     if name == FORWARD {
         forward(fields)
@@ -82,9 +84,9 @@ pub(crate) fn global<'a>(name: &[u8], fields: &mut FieldReader<'a>) -> Result<Gl
     } else if name == CANCEL_PATH {
         cancel_path(fields)
     } else if name == KEEP_ALIVE {
-        Ok(Global::KeepAlive)
+        Ok(Request::KeepAlive)
     } else {
-        Ok(Global::Other)
+        Ok(Request::Other)
     }
 }
 
@@ -99,60 +101,63 @@ const DIRECT_PATH: &[u8] = b"direct-streamlocal@openssh.com";
 const FORWARDED_PATH: &[u8] = b"forwarded-streamlocal@openssh.com";
 
 /// A host and a port, those of the originator, and nothing after them.
-fn ends<'a>(fields: &mut FieldReader<'a>) -> Result<(&'a [u8], u32), Bad>
+fn port_end<'a>(fields: &mut FieldReader<'a>) -> Result<Key<'a>, Bad>
     ensures { (what : grammar.Key → grammar.Opens)
-        → Gives (λ k. what (grammar.Tcp k.0.now k.1)) result
-        (read_ends fields.old.cursor fields.old.at what) }
+        → Gives (λ k. what (key_of k)) result (read_ends fields.old.cursor fields.old.at what) }
 {
-    let host = fields.take_string()?;
+    let address = fields.take_string()?;
     let port = fields.take_u32()?;
     fields.take_string()?;
     fields.take_u32()?;
     fields.end()?;
-    Ok((host, port))
+    Ok(Key::Tcp { address, port })
 }
 
-fn direct<'a>(fields: &mut FieldReader<'a>) -> Result<Opens<'a>, Bad>
-    ensures { Gives opens_of result (read_ends fields.old.cursor fields.old.at grammar.Direct) }
+fn direct<'a>(fields: &mut FieldReader<'a>) -> Result<Opening<'a>, Bad>
+    ensures { Gives opening_of result (read_ends fields.old.cursor fields.old.at grammar.Direct) }
 {
-    let (host, port) = ends(fields)?;
-    Ok(Opens::Direct { host, port })
+    let key = port_end(fields)?;
+    Ok(Opening::Direct(key))
 }
 
-fn forwarded<'a>(fields: &mut FieldReader<'a>) -> Result<Opens<'a>, Bad>
-    ensures { Gives opens_of result (read_ends fields.old.cursor fields.old.at grammar.Forwarded) }
+fn forwarded<'a>(fields: &mut FieldReader<'a>) -> Result<Opening<'a>, Bad>
+    ensures { Gives opening_of result
+        (read_ends fields.old.cursor fields.old.at grammar.Forwarded) }
 {
-    let (address, port) = ends(fields)?;
-    Ok(Opens::Forwarded { address, port })
+    let key = port_end(fields)?;
+    Ok(Opening::Forwarded(key))
 }
 
 /// A path, a reserved text and a reserved number, and nothing after them.
-fn direct_path<'a>(fields: &mut FieldReader<'a>) -> Result<Opens<'a>, Bad>
-    ensures { Gives opens_of result (read_direct_path fields.old.cursor fields.old.at) }
+fn direct_path<'a>(fields: &mut FieldReader<'a>) -> Result<Opening<'a>, Bad>
+    ensures { Gives opening_of result (read_direct_path fields.old.cursor fields.old.at) }
 {
     let path = fields.take_string()?;
     fields.take_string()?;
     fields.take_u32()?;
     fields.end()?;
-    Ok(Opens::DirectPath { path })
+    Ok(Opening::Direct(Key::Path(path)))
 }
 
 /// A path and a reserved text, and nothing after them.
-fn forwarded_path<'a>(fields: &mut FieldReader<'a>) -> Result<Opens<'a>, Bad>
-    ensures { Gives opens_of result (read_forwarded_path fields.old.cursor fields.old.at) }
+fn forwarded_path<'a>(fields: &mut FieldReader<'a>) -> Result<Opening<'a>, Bad>
+    ensures { Gives opening_of result (read_forwarded_path fields.old.cursor fields.old.at) }
 {
     let path = fields.take_string()?;
     fields.take_string()?;
     fields.end()?;
-    Ok(Opens::ForwardedPath { path })
+    Ok(Opening::Forwarded(Key::Path(path)))
 }
 
 /// An open's data, by its type.
-pub(crate) fn opens<'a>(kind: &[u8], fields: &mut FieldReader<'a>) -> Result<Opens<'a>, Bad>
-    ensures { Gives opens_of result (read_opens kind.now fields.old.cursor fields.old.at) }
+pub(crate) fn opening_data<'a>(
+    kind: &[u8],
+    fields: &mut FieldReader<'a>,
+) -> Result<Opening<'a>, Bad>
+    ensures { Gives opening_of result (read_opens kind.now fields.old.cursor fields.old.at) }
 {
     if kind == SESSION {
-        Ok(Opens::Session)
+        Ok(Opening::Session)
     } else if kind == DIRECT {
         direct(fields)
     } else if kind == FORWARDED {
@@ -162,6 +167,6 @@ pub(crate) fn opens<'a>(kind: &[u8], fields: &mut FieldReader<'a>) -> Result<Ope
     } else if kind == FORWARDED_PATH {
         forwarded_path(fields)
     } else {
-        Ok(Opens::Other)
+        Ok(Opening::Other)
     }
 }

@@ -2,19 +2,16 @@
 //! those that the master writes of its own.
 #![tactic(auto)]
 
-mod counts;
 mod further;
+mod key;
 mod message;
 mod places;
 mod read;
 mod write;
 
-pub use counts::{data_len, wanted};
-pub use message::{Global, Message, Opens};
+pub use key::{Key, OwnKey};
+pub use message::{Message, Opening, Request};
 pub use places::{recipient_at, sender_at};
 pub use read::read_message;
 pub use ssh_grammar::Bad;
-pub use write::{
-    LONGEST_ADDRESS, LONGEST_TEXT, cancel_forward, cancel_path, close, open_failure,
-    request_failure,
-};
+pub use write::{LONGEST_TEXT, cancel_forward, cancel_path, close, open_failure, request_failure};

@@ -1,15 +1,13 @@
+use crate::key::Key;
+
 /// What a global request is about: its data, read further for these names alone (RFC 4254, sections
 /// 4 and 7.1; OpenSSH's PROTOCOL, section 2.4).
 #[derive(Clone, Copy, Debug)]
-pub enum Global<'a> {
-    /// `tcpip-forward`
-    Forward { address: &'a [u8], port: u32 },
-    /// `cancel-tcpip-forward`
-    Cancel { address: &'a [u8], port: u32 },
-    /// `streamlocal-forward@openssh.com`
-    PathForward { path: &'a [u8] },
-    /// `cancel-streamlocal-forward@openssh.com`
-    PathCancel { path: &'a [u8] },
+pub enum Request<'a> {
+    /// `tcpip-forward` or `streamlocal-forward@openssh.com`
+    Forward(Key<'a>),
+    /// `cancel-tcpip-forward` or `cancel-streamlocal-forward@openssh.com`
+    Cancel(Key<'a>),
     /// `keepalive@openssh.com`
     KeepAlive,
     /// Every other name.
@@ -19,17 +17,13 @@ pub enum Global<'a> {
 /// What an open is about: its data, read further for these types alone (RFC 4254, sections 6.1 and
 /// 7.2; OpenSSH's PROTOCOL, section 2.4).
 #[derive(Clone, Copy, Debug)]
-pub enum Opens<'a> {
+pub enum Opening<'a> {
     /// `session`
     Session,
-    /// `direct-tcpip`: where to connect to.
-    Direct { host: &'a [u8], port: u32 },
-    /// `forwarded-tcpip`: what was connected to.
-    Forwarded { address: &'a [u8], port: u32 },
-    /// `direct-streamlocal@openssh.com`: the path to connect to.
-    DirectPath { path: &'a [u8] },
-    /// `forwarded-streamlocal@openssh.com`: the path that was connected to.
-    ForwardedPath { path: &'a [u8] },
+    /// `direct-tcpip` or `direct-streamlocal@openssh.com`: where to connect to.
+    Direct(Key<'a>),
+    /// `forwarded-tcpip` or `forwarded-streamlocal@openssh.com`: what was connected to.
+    Forwarded(Key<'a>),
     /// Every other type.
     Other,
 }
@@ -47,7 +41,7 @@ pub enum Message<'a> {
         name: &'a [u8],
         want: bool,
         rest: &'a [u8],
-        what: Global<'a>,
+        what: Request<'a>,
     },
     RequestSuccess {
         rest: &'a [u8],
@@ -59,7 +53,7 @@ pub enum Message<'a> {
         window: u32,
         maximum: u32,
         rest: &'a [u8],
-        what: Opens<'a>,
+        what: Opening<'a>,
     },
     Confirmation {
         recipient: u32,

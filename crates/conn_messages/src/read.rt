@@ -1,11 +1,11 @@
-ghost use Rattle.std.specs.Prelude.{◌≡◌, ◌≤◌, List, IfOk, Ok};
+ghost use Rattle.std.specs.Prelude.{◌≡◌, ◌≤◌, IfOk, Ok};
 ghost use Rattle.ssh_grammar.specs.Gives.{Gives};
 ghost use Rattle.ssh_grammar.specs.ReadMessage.{read_global_request, read_open, read_confirmation, read_open_failure, read_adjust, read_data, read_extended, read_request, on_end, read_as, read_message as reading};
 ghost use Rattle.ssh_grammar.specs.IsMessage.{Spells};
 ghost use Rattle.ssh_grammar.specs.Messages as grammar;
 ghost use Rattle.conn_messages.specs.Message.{message_of, GivesPlain, GivesTo, form_of};
 
-use crate::further::{global, opens};
+use crate::further::{opening_data, request_data};
 use crate::message::Message;
 use ssh_fields::FieldReader;
 use ssh_grammar::Bad;
@@ -29,7 +29,7 @@ fn global_request<'a>(fields: &mut FieldReader<'a>) -> Result<Message<'a>, Bad>
     let name = fields.take_string()?;
     let want = fields.take_bool()?;
     let rest = fields.rest();
-    let what = global(name, fields)?;
+    let what = request_data(name, fields)?;
     Ok(Message::GlobalRequest {
         name,
         want,
@@ -47,7 +47,7 @@ fn open<'a>(fields: &mut FieldReader<'a>) -> Result<Message<'a>, Bad>
     let window = fields.take_u32()?;
     let maximum = fields.take_u32()?;
     let rest = fields.rest();
-    let what = opens(kind, fields)?;
+    let what = opening_data(kind, fields)?;
     Ok(Message::Open {
         kind,
         sender,

@@ -2,6 +2,7 @@ ghost use Rattle.std.specs.Prelude.{◌≡◌, ◌≤◌, [], length, Ok};
 ghost use Rattle.ssh_grammar.specs.Messages as grammar;
 ghost use Rattle.ssh_grammar.specs.ReadMessage.{read_message as reading};
 ghost use Rattle.ssh_grammar.specs.SpellMessage as spelling;
+ghost use Rattle.mux_history.specs.declared.limits.TheConstants.{MAX_ADDRESS};
 
 use crate::further::{CANCEL, CANCEL_PATH};
 use ssh_fields::Small;
@@ -9,9 +10,6 @@ use ssh_grammar::numbers::*;
 
 /// The longest text that goes with the reason of a failed open.
 pub const LONGEST_TEXT: usize = 64;
-
-/// The longest address or path that is forwarded.
-pub const LONGEST_ADDRESS: usize = 255;
 
 /// The boolean of a request that wants no reply.
 const NO_REPLY: &[u8] = &[0];
@@ -51,7 +49,7 @@ pub fn request_failure() -> Small
 
 /// A `cancel-tcpip-forward` that wants no reply (RFC 4254, section 7.1).
 pub fn cancel_forward(address: &[u8], port: u32) -> Small
-    requires { length address.now ≤ LONGEST_ADDRESS }
+    requires { length address.now ≤ MAX_ADDRESS }
     ensures spelled { result ≡ spelling.cancel_forward (grammar.Tcp address.now port) }
     ensures read_back { reading result ≡ Ok (spelling.cancel_of (grammar.Tcp address.now port)) }
 {
@@ -66,7 +64,7 @@ pub fn cancel_forward(address: &[u8], port: u32) -> Small
 /// A `cancel-streamlocal-forward@openssh.com` that wants no reply (OpenSSH's PROTOCOL, section
 /// 2.4).
 pub fn cancel_path(path: &[u8]) -> Small
-    requires { length path.now ≤ LONGEST_ADDRESS }
+    requires { length path.now ≤ MAX_ADDRESS }
     ensures spelled { result ≡ spelling.cancel_forward (grammar.Path path.now) }
     ensures read_back { reading result ≡ Ok (spelling.cancel_of (grammar.Path path.now)) }
 {

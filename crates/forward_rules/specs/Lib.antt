@@ -1,4 +1,3 @@
-pub mod Keys
 pub mod State
 pub mod Listing
 pub mod Step

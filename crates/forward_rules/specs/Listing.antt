@@ -1,5 +1,5 @@
 -- A forwarding that is kept, as contracts see it.
-use Rattle.forward_rules.specs.Keys.{own_key_of}
+use Rattle.conn_messages.specs.Keys.{own_key_of}
 use Rattle.forward_rules.specs.State.{Forward}
 use Rattle.forward_rules.specs.declared.listed.Listed.{Listed}
 

@@ -1,8 +1,9 @@
 -- What each call does with the forwardings that are asked or live, in order of asking.
 use Rattle.std.specs.Prelude.{ℕ, ◌-◌, ◌==◌, ◌&&◌, Bool, true, false, not, List, [], ◌∷◌, length, filter, find, map, Option, Some, None, is_none, is_some, option_map, nat_lt, min}
-use Rattle.ssh_grammar.specs.Messages.{Key, Tcp, Path}
+use Rattle.ssh_grammar.specs.Messages.{Key}
 use Rattle.mux_history.specs.Channels.{is_number}
 use Rattle.mux_history.specs.Keys.{is_key}
+use Rattle.conn_messages.specs.Keys.{with_port}
 use Rattle.forward_rules.specs.State.{Forward}
 
 -- a client's
@@ -45,12 +46,6 @@ asked k key = record { client = k; key = key; live = false; cancel = None }
 -- how many of a client are asked or live
 abbrev pub count_of : List Forward → ℕ → ℕ
 count_of fs k = length (filter (is_of k) fs)
-
--- the key that is listened on: the one asked, with the port that the server chose where 0 was asked
-abbrev pub with_port : ℕ → Key → Key
-with_port chosen (Tcp address port) =
-    Tcp address (elim (port == 0) [ true ↦ chosen | false ↦ port ])
-with_port chosen (Path path) = Path path
 
 -- the server's answer to the one of this key that was asked first: it is live, or it is none
 abbrev pub answered : ℕ → Key → Option ℕ → List Forward → List Forward

@@ -2,10 +2,10 @@
 use Rattle.std.specs.Prelude.{◌≡◌, ◌≤◌, ◌<◌, ℕ, ◌&&◌, Bool, true, false, List, filter, find, map, Option, Some, None, is_some, Result, Ok, Err}
 use Rattle.ssh_grammar.specs.Messages as grammar
 use Rattle.mux_history.specs.declared.limits.TheConstants.{MAX_FORWARDINGS}
-use Rattle.forward_rules.specs.Keys.{own_key_of}
+use Rattle.conn_messages.specs.Keys.{own_key_of}
 use Rattle.forward_rules.specs.State.{Forward}
 use Rattle.forward_rules.specs.Step.{count_of, is_of, moved_up, without_client, without_first}
-use Rattle.forward_rules.specs.declared.key.OwnKey.{OwnKey}
+use Rattle.conn_messages.specs.declared.key.OwnKey.{OwnKey}
 use Rattle.forward_rules.specs.declared.forwards.ForwardRefused.{ForwardRefused}
 use Rattle.forward_rules.specs.declared.forwards.ForwardRefused.TheVariants.{Full, OutOfMemory}
 

@@ -1,10 +1,10 @@
 ghost use Rattle.std.specs.Prelude.{◌≡◌, map, IfOk};
 ghost use Rattle.mux_history.specs.Policy.{has_host, has_port, is_for, permits};
 ghost use Rattle.mux_history.specs.Rows.{any_of};
-ghost use Rattle.forward_rules.specs.Keys.{key_of};
-ghost use Rattle.forward_rules.specs.Allows.{allow_of, entry_of, host_of, parts_of};
+ghost use Rattle.conn_messages.specs.Keys.{key_of};
+ghost use Rattle.forward_rules.specs.Allows.{allow_of, entry_of, parts_of};
 
-use crate::key::Key;
+use conn_messages::Key;
 use ssh_fields::{OutOfMemory, Text};
 use std::alloc::Global;
 

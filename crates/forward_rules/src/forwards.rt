@@ -1,12 +1,12 @@
-ghost use Rattle.std.specs.Prelude.{◌≡◌, ◌≤◌, ◌<◌, ◌+◌, ◌++◌, [], ◌∷◌, length, filter, map, not, position, true, false, option_map, IfSome, IfNone, OnSome, OnOk, OnErr};
+ghost use Rattle.std.specs.Prelude.{◌≡◌, ◌≤◌, ◌+◌, ◌++◌, [], ◌∷◌, filter, map, not, position, true, false, option_map, IfSome, IfNone, OnSome, OnOk, OnErr};
 ghost use Rattle.mux_history.specs.declared.limits.TheConstants.{MAX_FORWARDINGS};
-ghost use Rattle.forward_rules.specs.Keys.{key_of, own_key_of, IsShort};
+ghost use Rattle.conn_messages.specs.Keys.{key_of, own_key_of, IsShort};
 ghost use Rattle.forward_rules.specs.Step.{asked, answered, cancelled, cancels, cancel_answered, earlier, first_cancel, is_asked_at, is_cancelled_at, is_free_at, is_leaving_at, is_live_at, some_free, owner_at, count_of, without_cancel_of, without_client};
 ghost use Rattle.forward_rules.specs.Listing.{forward_of};
 ghost use Rattle.forward_rules.specs.Taking.{AddsAs, after_taking, closed_up, first_live, is_live_of, moved_up_of, taken_of, told_of};
 
-use crate::key::{Key, OwnKey};
 use crate::listed::Listed;
+use conn_messages::{Key, OwnKey};
 use mux_history::limits::MAX_FORWARDINGS;
 use std::alloc::Global;
 use std::marker::Model;

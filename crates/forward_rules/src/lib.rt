@@ -4,12 +4,10 @@
 
 mod entry;
 mod forwards;
-mod key;
 mod listed;
 mod policy;
 mod reading;
 mod steps;
 
 pub use forwards::{ForwardRefused, Forwards};
-pub use key::{Key, OwnKey};
 pub use policy::{Policy, PolicyError};

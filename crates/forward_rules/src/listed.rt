@@ -1,6 +1,6 @@
-ghost use Rattle.forward_rules.specs.Keys.{own_key_of, IsShort};
+ghost use Rattle.conn_messages.specs.Keys.{own_key_of, IsShort};
 
-use crate::key::OwnKey;
+use conn_messages::OwnKey;
 
 /// A forwarding that is asked or live.
 #[derive(Drop)]

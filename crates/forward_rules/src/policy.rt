@@ -1,12 +1,11 @@
 ghost use Rattle.std.specs.Prelude.{◌≡◌};
-ghost use Rattle.ssh_grammar.specs.Messages as grammar;
 ghost use Rattle.mux_history.specs.Policy.{permits};
 ghost use Rattle.forward_rules.specs.Allows.{error_in, read_policy, ReadsAs};
-ghost use Rattle.forward_rules.specs.Keys.{key_of};
+ghost use Rattle.conn_messages.specs.Keys.{key_of};
 
 use crate::entry::Allowed;
-use crate::key::Key;
 use crate::reading::{ListFault, read_list};
+use conn_messages::Key;
 use ssh_fields::Texts;
 use std::alloc::Global;
 use std::marker::Model;
@@ -79,36 +78,5 @@ impl Policy {
         ensures { result ≡ permits self.now.listens (key_of key.entry) }
     {
         self.listens.permits(key)
-    }
-
-    /// Whether a channel may be opened to this host and port (`direct-tcpip`).
-    pub fn permits_open(&self, host: &[u8], port: u32) -> bool
-        ensures { result ≡ permits self.now.opens (grammar.Tcp host.now port) }
-    {
-        self.permits_open_to(Key::Tcp {
-            address: host,
-            port,
-        })
-    }
-
-    /// Whether a channel may be opened to this path (`direct-streamlocal@openssh.com`).
-    pub fn permits_open_path(&self, path: &[u8]) -> bool
-        ensures { result ≡ permits self.now.opens (grammar.Path path.now) }
-    {
-        self.permits_open_to(Key::Path(path))
-    }
-
-    /// Whether this address and port may be listened on (`tcpip-forward`).
-    pub fn permits_listen(&self, address: &[u8], port: u32) -> bool
-        ensures { result ≡ permits self.now.listens (grammar.Tcp address.now port) }
-    {
-        self.permits_listen_on(Key::Tcp { address, port })
-    }
-
-    /// Whether this path may be listened on (`streamlocal-forward@openssh.com`).
-    pub fn permits_listen_path(&self, path: &[u8]) -> bool
-        ensures { result ≡ permits self.now.listens (grammar.Path path.now) }
-    {
-        self.permits_listen_on(Key::Path(path))
     }
 }

@@ -1,4 +1,4 @@
-ghost use Rattle.std.specs.Prelude.{◌≡◌, ◌≤◌, length, map, option_map, IfOk};
+ghost use Rattle.std.specs.Prelude.{◌≡◌, option_map};
 ghost use Rattle.mux_history.specs.Policy as history;
 ghost use Rattle.mux_history.specs.Rows.{any_of};
 ghost use Rattle.forward_rules.specs.declared.reading.ListFault.TheVariants as faults;

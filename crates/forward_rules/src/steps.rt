@@ -1,11 +1,11 @@
 ghost use Rattle.std.specs.Prelude.{◌≡◌, true};
-ghost use Rattle.forward_rules.specs.Keys.{key_of, own_key_of};
+ghost use Rattle.conn_messages.specs.Keys.{key_of, own_key_of, with_port};
 ghost use Rattle.forward_rules.specs.Listing.{forward_of};
-ghost use Rattle.forward_rules.specs.Step.{is_asked_at, is_cancelled_at, is_free_at, is_leaving_at, is_live_at, with_port, without_cancel_of};
+ghost use Rattle.forward_rules.specs.Step.{is_asked_at, is_cancelled_at, is_free_at, is_leaving_at, is_live_at, without_cancel_of};
 ghost use Rattle.forward_rules.specs.Taking.{moved_up_of};
 
-use crate::key::Key;
 use crate::listed::Listed;
+use conn_messages::Key;
 
 impl Listed {
     /// Whether the client has asked for it by this key, and the server hasn't answered.

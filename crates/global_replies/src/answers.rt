@@ -1,4 +1,4 @@
-ghost use Rattle.std.specs.Prelude.{◌≡◌, ◌++◌, [], ◌∷◌, ◌≤◌, length, drop, true, false, IfOk, OnOk, OnErr};
+ghost use Rattle.std.specs.Prelude.{◌≡◌, ◌++◌, [], ◌∷◌, ◌≤◌, length, drop, true, IfOk, OnOk, OnErr};
 ghost use Rattle.global_replies.specs.Replies.{is_none_left, or_behind, refusals_behind, after_reply, leading, without_leading};
 ghost use Rattle.global_replies.specs.Stands.{AnswerGoesOn, LeavesUnanswered, RefusalGoesOn, SentGoesOn};
 

@@ -1,24 +1,32 @@
-ghost use Rattle.global_replies.specs.Asks.{IsShort};
+ghost use Rattle.std.specs.Prelude.{◌≡◌};
+ghost use Rattle.conn_messages.specs.Message.{request_of};
+ghost use Rattle.global_replies.specs.Asks.{IsShort, what_of};
 
-use ssh_fields::Small;
+use conn_messages::{OwnKey, Request};
 
 /// The most requests that wait.
 pub const MOST_WAITING: usize = 4_294_967_295;
 
-/// A global request that was sent and wants a reply (RFC 4254, sections 4 and 7.1; OpenSSH's
-/// PROTOCOL, section 2.4).
+/// A global request that was sent and wants a reply, with bytes of its own (RFC 4254, sections 4
+/// and 7.1; OpenSSH's PROTOCOL, section 2.4).
 #[derive(Drop)]
 pub enum Ask {
-    /// `keepalive@openssh.com`
+    Forward(OwnKey),
+    Cancel(OwnKey),
     KeepAlive,
-    /// `tcpip-forward`
-    Forward { address: Small, port: u32 },
-    /// `cancel-tcpip-forward`
-    Cancel { address: Small, port: u32 },
-    /// `streamlocal-forward@openssh.com`
-    PathForward { path: Small },
-    /// `cancel-streamlocal-forward@openssh.com`
-    PathCancel { path: Small },
+}
+
+impl Ask {
+    /// The same request, lent.
+    pub fn as_request(&self) -> Request<'_>
+        ensures { request_of result ≡ what_of self.now }
+    {
+        match self {
+            Ask::Forward(key) => Request::Forward(key.as_key()),
+            Ask::Cancel(key) => Request::Cancel(key.as_key()),
+            Ask::KeepAlive => Request::KeepAlive,
+        }
+    }
 }
 
 /// It, with its client.
@@ -26,5 +34,5 @@ pub enum Ask {
 pub struct Asked {
     pub client: u64,
     pub what: Ask,
-    ghost short: { IsShort what },
+    ghost short: { IsShort (what_of what) },
 }

@@ -1,5 +1,5 @@
-ghost use Rattle.std.specs.Prelude.{◌≡◌, ◌++◌, [], ◌∷◌, ◌≤◌, map, length, filter, IfSome, OnOk, OnErr};
-ghost use Rattle.global_replies.specs.Asks.{IsShort};
+ghost use Rattle.std.specs.Prelude.{◌≡◌, ◌++◌, [], ◌∷◌, map, length, filter, IfSome, OnOk, OnErr};
+ghost use Rattle.global_replies.specs.Asks.{IsShort, what_of};
 ghost use Rattle.global_replies.specs.Replies.{asked_of, request_of, FirstAsked, rest_of, is_of};
 ghost use Rattle.global_replies.specs.Stands.{AskGoesOn, ReplyGoesOn};
 
@@ -47,7 +47,7 @@ impl Askers {
     /// A request of a client is sent, whose address or path has at most 255 bytes. An `Err` also
     /// comes where 2^32 - 1 requests wait.
     pub fn ask(&mut self, client: u64, what: Ask) -> Result<(), OutOfMemory>
-        requires { IsShort what }
+        requires { IsShort (what_of what) }
         ensures stands { OnOk result (AskGoesOn self.old self.new (request_of client what)) }
         ensures ok { OnOk result (self.new ≡ self.old ++ request_of client what ∷ []) }
         ensures unchanged { OnErr result (self.new ≡ self.old) }
@@ -69,7 +69,7 @@ impl Askers {
         ensures stands { ReplyGoesOn self.old self.new result }
         ensures first { FirstAsked self.old result }
         ensures rest { self.new ≡ rest_of self.old }
-        ensures short { IfSome result (λ a. IsShort a.1) }
+        ensures short { IfSome result (λ a. IsShort (what_of a.1)) }
     {
         let asked = self.waiting.pop_front()?;
         drop_one(&mut self.counts, asked.client);

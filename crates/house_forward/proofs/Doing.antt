@@ -10,8 +10,9 @@ use Rattle.ssh_grammar.specs.declared.framing.Framing.TheVariants as framing
 use Rattle.conn_messages.specs.Message.{message_of}
 use Rattle.conn_messages.specs.declared.message.Message.{Message}
 use Rattle.conn_messages.specs.declared.message.Message.TheVariants as message
-use Rattle.conn_messages.specs.declared.message.Opens.{Opens}
-use Rattle.conn_messages.specs.declared.message.Opens.TheVariants as opens
+use Rattle.conn_messages.specs.declared.message.Opening.{Opening}
+use Rattle.conn_messages.specs.declared.message.Opening.TheVariants as opens
+use Rattle.conn_messages.specs.declared.key.Key.TheVariants as keys
 use Rattle.proxy_frames.specs.Steps.{switched}
 use Rattle.mux_outside.specs.HouseCalls.{HouseCall}
 use Rattle.mux_outside.specs.HouseCalls.{Begins as IsBegun, Marks, Hears, Turns, Takes}
@@ -70,14 +71,13 @@ opens-for (Some f) remote window maximum deeds old new left h = record {
   stage_is = ap (λ (c : Course). c.stage) h.more;
 }
 
-hears-open : (what : Opens) (remote window maximum : ℕ) (deeds : List Deed) (old new : Course) → Leave deeds old.desk
+hears-open : (what : Opening) (remote window maximum : ℕ) (deeds : List Deed) (old new : Course) → Leave deeds old.desk
     → HearsOpen what remote window maximum old new → Heard [] deeds old.stage new
-hears-open (opens.Forwarded address port) remote window maximum deeds old new left h =
+hears-open (opens.Forwarded (keys.Tcp address port)) remote window maximum deeds old new left h =
     opens-for (find (served_at address.now port) old.desk.all) remote window maximum deeds old new left h
 hears-open opens.Session remote window maximum deeds old new left h = nothing deeds old new left h
-hears-open (opens.Direct host port) remote window maximum deeds old new left h = nothing deeds old new left h
-hears-open (opens.DirectPath path) remote window maximum deeds old new left h = nothing deeds old new left h
-hears-open (opens.ForwardedPath path) remote window maximum deeds old new left h = nothing deeds old new left h
+hears-open (opens.Direct key) remote window maximum deeds old new left h = nothing deeds old new left h
+hears-open (opens.Forwarded (keys.Path path)) remote window maximum deeds old new left h = nothing deeds old new left h
 hears-open opens.Other remote window maximum deeds old new left h = nothing deeds old new left h
 
 replies : (success : Bool) (port : Option ℕ) (deeds : List Deed) (old new : Course) → Leave deeds old.desk

@@ -11,7 +11,8 @@ use Rattle.ssh_grammar.specs.declared.fault.Bad.{Bad}
 use Rattle.conn_messages.specs.Message.{message_of}
 use Rattle.conn_messages.specs.declared.message.Message.{Message}
 use Rattle.conn_messages.specs.declared.message.Message.TheVariants as message
-use Rattle.conn_messages.specs.declared.message.Opens.TheVariants as opens
+use Rattle.conn_messages.specs.declared.message.Opening.TheVariants as opens
+use Rattle.conn_messages.specs.declared.key.Key.TheVariants as keys
 use Rattle.house_forward.specs.Connects.{Place, place_of, taken_message, taken_reading, taken_frame, taken_frames}
 use Rattle.house_forward.specs.Forwardings.{served_at}
 use Rattle.house_forward.specs.Lives.{Life, Course, One, Listens, HearsAt, OpensFor, HearsMessage, HearsReading, HearsFrame, HearsFrames}
@@ -59,11 +60,10 @@ heard K heeds (message.GlobalRequest name want rest what) old new taken h s k = 
 heard K heeds (message.RequestSuccess rest) old new taken h s k = nothing K old new taken (ap (λ (c : Course). c.lives) h) k
 heard K heeds message.RequestFailure old new taken h s k = nothing K old new taken (ap (λ (c : Course). c.lives) h) k
 heard K heeds (message.Open kind sender window maximum rest opens.Session) old new taken h s k = same K old new taken h k
-heard K heeds (message.Open kind sender window maximum rest (opens.Direct host port)) old new taken h s k = same K old new taken h k
-heard K heeds (message.Open kind sender window maximum rest (opens.Forwarded address port)) old new taken h s k =
+heard K heeds (message.Open kind sender window maximum rest (opens.Direct key)) old new taken h s k = same K old new taken h k
+heard K heeds (message.Open kind sender window maximum rest (opens.Forwarded (keys.Tcp address port))) old new taken h s k =
     opens-for K heeds (find (served_at address.now port) old.desk.all) sender window maximum old new taken h k
-heard K heeds (message.Open kind sender window maximum rest (opens.DirectPath path)) old new taken h s k = same K old new taken h k
-heard K heeds (message.Open kind sender window maximum rest (opens.ForwardedPath path)) old new taken h s k = same K old new taken h k
+heard K heeds (message.Open kind sender window maximum rest (opens.Forwarded (keys.Path path))) old new taken h s k = same K old new taken h k
 heard K heeds (message.Open kind sender window maximum rest opens.Other) old new taken h s k = same K old new taken h k
 heard K heeds (message.Confirmation recipient sender window maximum rest) old new taken h s k = at K heeds recipient (message.Confirmation recipient sender window maximum rest) old new taken h s k
 heard K heeds (message.OpenFailure recipient reason text language) old new taken h s k = at K heeds recipient (message.OpenFailure recipient reason text language) old new taken h s k

@@ -13,8 +13,9 @@ use Rattle.ssh_grammar.specs.declared.framing.Framing.TheVariants as framing
 use Rattle.conn_messages.specs.Message.{message_of}
 use Rattle.conn_messages.specs.declared.message.Message.{Message}
 use Rattle.conn_messages.specs.declared.message.Message.TheVariants as message
-use Rattle.conn_messages.specs.declared.message.Opens.{Opens}
-use Rattle.conn_messages.specs.declared.message.Opens.TheVariants as opens
+use Rattle.conn_messages.specs.declared.message.Opening.{Opening}
+use Rattle.conn_messages.specs.declared.message.Opening.TheVariants as opens
+use Rattle.conn_messages.specs.declared.key.Key.TheVariants as keys
 use Rattle.proxy_frames.specs.State.{FramerState}
 use Rattle.proxy_frames.specs.Steps.{pushed, switched, front_of, answer_to, after_front}
 use Rattle.proxy_frames.specs.declared.next.Next.{Next}
@@ -104,16 +105,16 @@ an-open address port remote window maximum (Some f) old new framer stage desk is
       n.2,
     )
 
-pub a-forwarded : (reading : Result Said Bad) (m : Message) (kind rest address : Bor (List ℕ)) (remote window maximum port : ℕ) (what : Opens)
+pub a-forwarded : (reading : Result Said Bad) (m : Message) (kind rest address : Bor (List ℕ)) (remote window maximum port : ℕ) (what : Opening)
     (o : Option Forwarding) (relays relays' : Relays) (fs : Forwardings) (asks : Asks) → reading ≡ Ok (message_of m)
-    → m ≡ message.Open kind remote window maximum rest what → what ≡ opens.Forwarded address port
+    → m ≡ message.Open kind remote window maximum rest what → what ≡ opens.Forwarded (keys.Tcp address port)
     → o ≡ find (served_at address.now port) fs.all.items → (o ≡ None → relays'.all.items ≡ relays.all.items)
     → IfSome o (λ f. Offers f remote window maximum relays.all.items relays'.all.items)
     → HouseGoes (HearsReading reading) relays fs asks relays' fs asks
 a-forwarded reading m kind rest address remote window maximum port what o relays relays' fs asks e is forwarded found none some =
     a-message reading m relays fs asks relays' fs asks e
     (subst (λ (x : Message). HouseGoes (HearsMessage x) relays fs asks relays' fs asks) (sym is)
-    (subst (λ (w : Opens). HouseGoes (HearsMessage (message.Open kind remote window maximum rest w)) relays fs asks relays' fs asks) (sym forwarded)
+    (subst (λ (w : Opening). HouseGoes (HearsMessage (message.Open kind remote window maximum rest w)) relays fs asks relays' fs asks) (sym forwarded)
     (λ framer stage gateway greeted.
     an-open address.now port remote window maximum o relays.all.items relays'.all.items framer stage (desk_of gateway greeted fs asks) found none some)))
 

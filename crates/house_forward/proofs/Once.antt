@@ -11,8 +11,9 @@ use Rattle.ssh_grammar.specs.ReadMessage.{read_message as reading}
 use Rattle.ssh_grammar.specs.declared.fault.Bad.{Bad}
 use Rattle.conn_messages.specs.declared.message.Message.{Message}
 use Rattle.conn_messages.specs.declared.message.Message.TheVariants as message
-use Rattle.conn_messages.specs.declared.message.Opens.{Opens}
-use Rattle.conn_messages.specs.declared.message.Opens.TheVariants as opens
+use Rattle.conn_messages.specs.declared.message.Opening.{Opening}
+use Rattle.conn_messages.specs.declared.message.Opening.TheVariants as opens
+use Rattle.conn_messages.specs.declared.key.Key.TheVariants as keys
 use Rattle.mux_outside.specs.HouseCalls.{HouseCall, Happening, Begins, Marks, Hears as HearsBytes, Turns, Takes as TakesBytes}
 use Rattle.mux_outside.specs.HouseCalls.{Joined, Got, End, Writable, Failed}
 use Rattle.mux_outside.specs.declared.house_mark.HouseMark.{HouseMark}
@@ -263,14 +264,13 @@ joins-opens : (o : Option Forwarding) (remote window maximum : ℕ) (old new : C
 joins-opens None remote window maximum old new h = ap (λ (c : Course). c.joins) h
 joins-opens (Some f) remote window maximum old new h = ap (λ (c : Course). c.joins) h.more
 
-joins-open : (what : Opens) (remote window maximum : ℕ) (old new : Course) → HearsOpen what remote window maximum old new
+joins-open : (what : Opening) (remote window maximum : ℕ) (old new : Course) → HearsOpen what remote window maximum old new
     → new.joins ≡ old.joins
-joins-open (opens.Forwarded address port) remote window maximum old new h =
+joins-open (opens.Forwarded (keys.Tcp address port)) remote window maximum old new h =
     joins-opens (find (served_at address.now port) old.desk.all) remote window maximum old new h
 joins-open opens.Session remote window maximum old new h = ap (λ (c : Course). c.joins) h
-joins-open (opens.Direct host port) remote window maximum old new h = ap (λ (c : Course). c.joins) h
-joins-open (opens.DirectPath path) remote window maximum old new h = ap (λ (c : Course). c.joins) h
-joins-open (opens.ForwardedPath path) remote window maximum old new h = ap (λ (c : Course). c.joins) h
+joins-open (opens.Direct key) remote window maximum old new h = ap (λ (c : Course). c.joins) h
+joins-open (opens.Forwarded (keys.Path path)) remote window maximum old new h = ap (λ (c : Course). c.joins) h
 joins-open opens.Other remote window maximum old new h = ap (λ (c : Course). c.joins) h
 
 joins-message : (m : Message) (old new : Course) → HearsMessage m old new → new.joins ≡ old.joins

@@ -8,8 +8,9 @@ use Rattle.ssh_grammar.specs.ReadMessage.{read_message as reading}
 use Rattle.ssh_grammar.specs.declared.fault.Bad.{Bad}
 use Rattle.conn_messages.specs.declared.message.Message.{Message}
 use Rattle.conn_messages.specs.declared.message.Message.TheVariants as message
-use Rattle.conn_messages.specs.declared.message.Opens.{Opens}
-use Rattle.conn_messages.specs.declared.message.Opens.TheVariants as opens
+use Rattle.conn_messages.specs.declared.message.Opening.{Opening}
+use Rattle.conn_messages.specs.declared.message.Opening.TheVariants as opens
+use Rattle.conn_messages.specs.declared.key.Key.TheVariants as keys
 use Rattle.mux_outside.specs.HouseCalls.{HouseCall, Happening, Begins, Marks, Hears as HearsBytes, Turns, Takes as TakesBytes}
 use Rattle.mux_outside.specs.HouseCalls.{Joined, Got, End, Writable, Failed}
 use Rattle.mux_outside.specs.OwnStreams.{new_stream}
@@ -191,14 +192,13 @@ all-opens Now P k (Some f) remote window maximum old new h all = subst (All P) (
   past = all.past;
 })
 
-all-open : (Now : HouseCall → Course → Type 0) (P : Life → Type 0) → Kept Now P → (what : Opens) (remote window maximum : ℕ) (old new : Course)
+all-open : (Now : HouseCall → Course → Type 0) (P : Life → Type 0) → Kept Now P → (what : Opening) (remote window maximum : ℕ) (old new : Course)
     → HearsOpen what remote window maximum old new → All P old → All P new
-all-open Now P k (opens.Forwarded address port) remote window maximum old new h all =
+all-open Now P k (opens.Forwarded (keys.Tcp address port)) remote window maximum old new h all =
     all-opens Now P k (find (served_at address.now port) old.desk.all) remote window maximum old new h all
 all-open Now P k opens.Session remote window maximum old new h all = all-same P old new h all
-all-open Now P k (opens.Direct host port) remote window maximum old new h all = all-same P old new h all
-all-open Now P k (opens.DirectPath path) remote window maximum old new h all = all-same P old new h all
-all-open Now P k (opens.ForwardedPath path) remote window maximum old new h all = all-same P old new h all
+all-open Now P k (opens.Direct key) remote window maximum old new h all = all-same P old new h all
+all-open Now P k (opens.Forwarded (keys.Path path)) remote window maximum old new h all = all-same P old new h all
 all-open Now P k opens.Other remote window maximum old new h all = all-same P old new h all
 
 all-desk : (P : Life → Type 0) (old new : Course) → new ≡ record old { desk = new.desk } → All P old → All P new

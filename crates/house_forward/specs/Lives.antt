@@ -12,8 +12,9 @@ use Rattle.ssh_grammar.specs.declared.numbers.TheConstants.{S_PROXY}
 use Rattle.conn_messages.specs.Message.{message_of}
 use Rattle.conn_messages.specs.declared.message.Message.{Message}
 use Rattle.conn_messages.specs.declared.message.Message.TheVariants as message
-use Rattle.conn_messages.specs.declared.message.Opens.{Opens}
-use Rattle.conn_messages.specs.declared.message.Opens.TheVariants as opens
+use Rattle.conn_messages.specs.declared.message.Opening.{Opening}
+use Rattle.conn_messages.specs.declared.message.Opening.TheVariants as opens
+use Rattle.conn_messages.specs.declared.key.Key.TheVariants as keys
 use Rattle.proxy_frames.specs.State.{FramerState}
 use Rattle.proxy_frames.specs.Steps.{new_framer, pushed, switched, front_of, answer_to, after_front}
 use Rattle.proxy_frames.specs.declared.next.Next.TheVariants as next
@@ -300,13 +301,12 @@ OpensFor None remote window maximum old new = new ≡ old
 OpensFor (Some f) remote window maximum old new = OffersOne f remote window maximum old new
 
 -- an OPEN of the server is taken where it listens for a forwarding at this address and port
-abbrev pub HearsOpen : Opens → ℕ → ℕ → ℕ → Course → Course → Type 0
-HearsOpen (opens.Forwarded address port) remote window maximum old new =
+abbrev pub HearsOpen : Opening → ℕ → ℕ → ℕ → Course → Course → Type 0
+HearsOpen (opens.Forwarded (keys.Tcp address port)) remote window maximum old new =
     OpensFor (find (served_at address.now port) old.desk.all) remote window maximum old new
+HearsOpen (opens.Forwarded (keys.Path path)) remote window maximum old new = new ≡ old
 HearsOpen opens.Session remote window maximum old new = new ≡ old
-HearsOpen (opens.Direct host port) remote window maximum old new = new ≡ old
-HearsOpen (opens.DirectPath path) remote window maximum old new = new ≡ old
-HearsOpen (opens.ForwardedPath path) remote window maximum old new = new ≡ old
+HearsOpen (opens.Direct key) remote window maximum old new = new ≡ old
 HearsOpen opens.Other remote window maximum old new = new ≡ old
 
 -- the port that a success carries, if it does

@@ -13,7 +13,7 @@ use crate::forwardings::Forwardings;
 use crate::link::{Link, Stream};
 use crate::relays::Relays;
 use crate::two_texts::TwoTexts;
-use conn_messages::{Message, Opens, read_message};
+use conn_messages::{Key, Message, Opening, read_message};
 use house_relay::Relay;
 use ssh_fields::{Cursor, OutOfMemory};
 use std::alloc::Global;
@@ -53,7 +53,7 @@ pub fn hear(
             sender,
             window,
             maximum,
-            what: Opens::Forwarded { address, port },
+            what: Opening::Forwarded(Key::Tcp { address, port }),
             ..
         } => take_open(
             alloc,

@@ -2,6 +2,7 @@ ghost use Rattle.std.specs.Prelude.{◌≡◌, true, false, ◌≤◌, ◌+◌, 
 ghost use Rattle.ssh_grammar.specs.declared.framing.Framing.TheVariants.{Proxy};
 ghost use Rattle.ssh_grammar.specs.IsFrame.{IsContent};
 ghost use Rattle.ssh_grammar.specs.Frames.{frame_payload};
+ghost use Rattle.proxy_frames.specs.declared.queue.TheConstants.{LONGEST_PAYLOAD};
 ghost use Rattle.mux_core.specs.Calls.{LeavesUnsent, LeavesTold};
 ghost use Rattle.mux_clients.specs.declared.standing.Standing.TheVariants.{Lost};
 ghost use Rattle.mux_clients.specs.State.{full_of, part, refusals_of, told, KeepsRoom};
@@ -29,14 +30,11 @@ use mux_history::Why;
 use mux_history::limits::MAX_QUEUE;
 use mux_messages::hello;
 use mux_outside::HouseReply;
-use proxy_frames::Queue;
+use proxy_frames::{HEADER, Queue};
 use ssh_fields::{OutOfMemory, Small};
 use ssh_grammar::BadFrame;
 use std::alloc::Global;
 use std::marker::Model;
-
-/// How many bytes the header of a proxy frame has.
-const HEADER: usize = 5;
 
 /// A client but for what it says: how it stands, and what waits for it.
 #[derive(Drop)]
@@ -188,7 +186,7 @@ impl Seat {
         core: &mut Core,
         up: &mut Queue,
     ) -> Result<(), OutOfMemory>
-        requires length { length payload.old ≤ 262143 }
+        requires length { length payload.old ≤ LONGEST_PAYLOAD }
         requires room { FAREWELL_ROOM ≤ up.old.spare }
         ensures stands { OnOk result
             (SaysPayload payload.old (part core.old self.old up.old)

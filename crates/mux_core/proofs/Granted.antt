@@ -13,8 +13,9 @@ use Rattle.mux_history.specs.Requests.{Ask}
 use Rattle.mux_history.proofs.Bools.{same-number}
 use Rattle.mux_history.proofs.SameKeys.{is-key}
 use Rattle.mux_history.proofs.Finds.{find-no}
+use Rattle.conn_messages.specs.Keys.{with_port}
 use Rattle.forward_rules.specs.State.{Forward}
-use Rattle.forward_rules.specs.Step.{change_first, is_asked_at, with_port}
+use Rattle.forward_rules.specs.Step.{change_first, is_asked_at}
 use Rattle.forward_rules.specs.Stands.{AreListed, AreTwo, EachTwo, Fits, IsAwaited, Places}
 
 -- the one that was asked at this place by this client

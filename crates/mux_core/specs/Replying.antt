@@ -3,7 +3,6 @@ use Rattle.std.specs.Prelude.{ℕ, ◌==◌, ◌&&◌, not, Bool, true, false, L
 use Rattle.ssh_fields.specs.Fields.{u32_at}
 use Rattle.ssh_grammar.specs.Messages.{Global, Forward, Cancel}
 use Rattle.mux_history.specs.Keys.{learns_port}
-use Rattle.forward_rules.specs.Keys.{IsShort}
 use Rattle.forward_rules.specs.State as kept
 use Rattle.forward_rules.specs.Step.{answered, cancel_answered}
 
@@ -11,12 +10,6 @@ use Rattle.forward_rules.specs.Step.{answered, cancel_answered}
 abbrev pub misses_port : Global → List ℕ → Bool
 misses_port (Forward key) rest = learns_port key && not (length rest == 4)
 misses_port what rest = false
-
--- its key isn't too long to be said in a cancel
-abbrev pub MayBeCancelled : Global → Type 0
-MayBeCancelled (Forward key) = IsShort key
-MayBeCancelled (Cancel key) = IsShort key
-MayBeCancelled what = Unit {0}
 
 -- a success makes live what was asked, and ends what was to be cancelled
 abbrev pub after_success : ℕ → Global → List ℕ → List kept.Forward → List kept.Forward

@@ -2,23 +2,24 @@ ghost use Rattle.std.specs.Prelude.{◌≡◌, ◌≤◌, length, IfOk, IfSome, 
 ghost use Rattle.ssh_fields.specs.Fields.{u32_at};
 ghost use Rattle.ssh_grammar.specs.declared.framing.Framing.TheVariants.{Proxy};
 ghost use Rattle.ssh_grammar.specs.IsFrame.{IsContent};
+ghost use Rattle.proxy_frames.specs.declared.queue.TheConstants.{LONGEST_PAYLOAD};
 ghost use Rattle.mux_history.specs.Gist.{Refuses, Requests, Succeeds};
 ghost use Rattle.mux_history.specs.Farewell.{late_refusal, late_success};
+ghost use Rattle.global_replies.specs.Asks.{IsShort};
 ghost use Rattle.global_replies.specs.Replies.{after_reply, refusals_behind};
 ghost use Rattle.client_teardown.specs.Leaving.{with_payloads};
 ghost use Rattle.mux_core.specs.Calls.{HearsOn, HearsWith};
-ghost use Rattle.mux_core.specs.Gists.{request_of};
+ghost use Rattle.conn_messages.specs.Message.{request_of};
 ghost use Rattle.client_teardown.specs.Steps.{listed};
-ghost use Rattle.mux_core.specs.Replying.{MayBeCancelled, after_failure, after_success, misses_port};
+ghost use Rattle.mux_core.specs.Replying.{after_failure, after_success, misses_port};
 ghost use Rattle.mux_core.specs.Requesting.{waiting_of, with_waiting};
 ghost use Rattle.mux_core.specs.Settling.{settled};
 ghost use Rattle.mux_core.specs.declared.heard.Heard.TheVariants.{Client, Lost};
 
-use crate::reading::{Gist, Request, asked, read_gist};
-use crate::state::{Core, waits};
+use crate::reading::{Gist, read_gist};
+use crate::state::Core;
 use client_teardown::cancel;
-use conn_messages::request_failure;
-use forward_rules::Key;
+use conn_messages::{Key, Request, request_failure};
 use mux_history::Break;
 use proxy_frames::Queue;
 use ssh_fields::{Cursor, OutOfMemory, Small};
@@ -59,7 +60,7 @@ fn told_port(rest: &[u8]) -> u32
 // What follows for a client that is lost where its request succeeds: what it asked for is
 // cancelled.
 fn late_success(request: Request<'_>, rest: &[u8]) -> Option<Small>
-    requires { MayBeCancelled (request_of request) }
+    requires { IsShort (request_of request) }
     ensures exact { listed result ≡ late_success rest.now (request_of request.entry) }
     ensures fits { IfSome result (IsContent Proxy) }
 {
@@ -71,7 +72,7 @@ fn late_success(request: Request<'_>, rest: &[u8]) -> Option<Small>
 
 // And where it fails: a cancel is said again.
 fn late_refusal(request: Request<'_>) -> Option<Small>
-    requires { MayBeCancelled (request_of request) }
+    requires { IsShort (request_of request) }
     ensures exact { listed result ≡ late_refusal (request_of request.entry) }
     ensures fits { IfSome result (IsContent Proxy) }
 {
@@ -85,7 +86,7 @@ impl Core {
     /// The server says a payload. Where it goes to a client it has the client's own number for the
     /// channel afterwards.
     pub fn heard(&mut self, payload: &mut [u8], up: &mut Queue) -> Result<Heard, OutOfMemory>
-        requires { length payload.old ≤ 262143 }
+        requires { length payload.old ≤ LONGEST_PAYLOAD }
         ensures stands { IfOk result (λ h.
             HearsOn self.old self.new payload.old payload.new up.old up.new h) }
         ensures length { length payload.new ≡ length payload.old }
@@ -163,7 +164,7 @@ impl Core {
         let Some((client, ask)) = self.take_asker() else {
             return Ok(Heard::Broke(Break::NoAsker));
         };
-        let request = asked(&ask);
+        let request = ask.as_request();
         if misses_port(request, rest) {
             return Ok(Heard::Broke(Break::BadReply { length: rest.len() }));
         }
@@ -186,7 +187,7 @@ impl Core {
         let Some((client, ask)) = self.take_asker() else {
             return Ok(Heard::Broke(Break::NoAsker));
         };
-        let request = asked(&ask);
+        let request = ask.as_request();
         if self.is_lost(client) {
             return self.hear_late(client, late_refusal(request), up);
         }

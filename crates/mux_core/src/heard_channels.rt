@@ -5,15 +5,14 @@ ghost use Rattle.mux_history.specs.Gist.{Confirmation, Fails, Open, Within};
 ghost use Rattle.window_ledger.specs.Act.{act_of};
 ghost use Rattle.mux_core.specs.Calls.{HearsGist, HearsWith};
 ghost use Rattle.mux_core.specs.Delivering.{DeliversAs};
-ghost use Rattle.mux_core.specs.Gists.{opening_of};
+ghost use Rattle.conn_messages.specs.Message.{opening_of};
 ghost use Rattle.mux_core.specs.Opening.{owner_for};
 ghost use Rattle.mux_core.specs.Settling.{is_lost_in};
 
 use crate::heard::Heard;
-use crate::reading::Opening;
 use crate::state::{Core, confirmed_ledger, put_recipient, waits};
 use channel_table::{Channel, Refused};
-use conn_messages::{close, open_failure};
+use conn_messages::{Opening, close, open_failure};
 use mux_history::Break;
 use proxy_frames::Queue;
 use ssh_fields::OutOfMemory;

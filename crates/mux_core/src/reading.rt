@@ -3,35 +3,10 @@ ghost use Rattle.ssh_grammar.specs.IsMessage.{IsMessage};
 ghost use Rattle.conn_messages.specs.Message.{message_of};
 ghost use Rattle.mux_history.specs.Gist.{Within, gist, read_gist};
 ghost use Rattle.window_ledger.specs.Act.{act_of};
-ghost use Rattle.conn_messages.specs.Message.{global_of, opens_of};
-ghost use Rattle.global_replies.specs.Asks.{what_of};
-ghost use Rattle.global_replies.specs.Asks as asks;
-ghost use Rattle.mux_core.specs.Replying.{MayBeCancelled};
-ghost use Rattle.mux_core.specs.Gists.{gist_of, opening_of, request_of};
+ghost use Rattle.mux_core.specs.Gists.{gist_of};
 
-use conn_messages::{Global, Message, Opens, read_message};
-use forward_rules::Key;
-use global_replies::Ask;
-use ssh_grammar::Bad;
+use conn_messages::{Bad, Message, Opening, Request, read_message};
 use window_ledger::Act;
-
-/// What a global request is about.
-#[derive(Clone, Copy)]
-pub enum Request<'a> {
-    Forward(Key<'a>),
-    Cancel(Key<'a>),
-    KeepAlive,
-    Other,
-}
-
-/// What an open is about.
-#[derive(Clone, Copy)]
-pub enum Opening<'a> {
-    Session,
-    Direct(Key<'a>),
-    Forwarded(Key<'a>),
-    Other,
-}
 
 /// What a message does, without the texts and data that only pass.
 #[derive(Clone, Copy)]
@@ -69,55 +44,6 @@ pub enum Gist<'a> {
     },
 }
 
-fn request_of<'a>(what: Global<'a>) -> Request<'a>
-    ensures { request_of result ≡ global_of what.entry }
-{
-    match what {
-        Global::Forward { address, port } => Request::Forward(Key::Tcp { address, port }),
-        Global::PathForward { path } => Request::Forward(Key::Path(path)),
-        Global::Cancel { address, port } => Request::Cancel(Key::Tcp { address, port }),
-        Global::PathCancel { path } => Request::Cancel(Key::Path(path)),
-        Global::KeepAlive => Request::KeepAlive,
-        Global::Other => Request::Other,
-    }
-}
-
-fn opening_of<'a>(what: Opens<'a>) -> Opening<'a>
-    ensures { opening_of result ≡ opens_of what.entry }
-{
-    match what {
-        Opens::Session => Opening::Session,
-        Opens::Direct { host, port } => Opening::Direct(Key::Tcp {
-            address: host,
-            port,
-        }),
-        Opens::DirectPath { path } => Opening::Direct(Key::Path(path)),
-        Opens::Forwarded { address, port } => Opening::Forwarded(Key::Tcp { address, port }),
-        Opens::ForwardedPath { path } => Opening::Forwarded(Key::Path(path)),
-        Opens::Other => Opening::Other,
-    }
-}
-
-/// What was asked.
-pub fn asked(ask: &Ask) -> Request<'_>
-    ensures exact { request_of result ≡ what_of ask.now }
-    ensures short { asks.IsShort ask.now → MayBeCancelled (request_of result) }
-{
-    match ask {
-        Ask::KeepAlive => Request::KeepAlive,
-        Ask::Forward { address, port } => Request::Forward(Key::Tcp {
-            address: address.as_bytes(),
-            port: *port,
-        }),
-        Ask::PathForward { path } => Request::Forward(Key::Path(path.as_bytes())),
-        Ask::Cancel { address, port } => Request::Cancel(Key::Tcp {
-            address: address.as_bytes(),
-            port: *port,
-        }),
-        Ask::PathCancel { path } => Request::Cancel(Key::Path(path.as_bytes())),
-    }
-}
-
 // An act in a channel that both sides have confirmed.
 fn act_in<'a>(recipient: u32, act: Act) -> Gist<'a>
     ensures { gist_of result ≡ Within recipient (act_of act) }
@@ -125,16 +51,13 @@ fn act_in<'a>(recipient: u32, act: Act) -> Gist<'a>
     Gist::Within { recipient, act }
 }
 
-fn shorten<'a>(message: Message<'a>) -> Gist<'a>
+fn gist_of<'a>(message: Message<'a>) -> Gist<'a>
     requires { IsMessage (message_of message) }
     ensures { gist_of result ≡ gist (message_of message.entry) }
 {
     match message {
         Message::Transport { number, .. } => Gist::Transport { number },
-        Message::GlobalRequest { what, want, .. } => Gist::Requests {
-            what: request_of(what),
-            want,
-        },
+        Message::GlobalRequest { what, want, .. } => Gist::Requests { what, want },
         Message::RequestSuccess { rest } => Gist::Succeeds { rest },
         Message::RequestFailure => Gist::Refuses,
         Message::Open {
@@ -144,7 +67,7 @@ fn shorten<'a>(message: Message<'a>) -> Gist<'a>
             what,
             ..
         } => Gist::Open {
-            what: opening_of(what),
+            what,
             sender,
             window,
             maximum,
@@ -188,7 +111,7 @@ pub fn read_gist(payload: &[u8]) -> Result<Gist<'_>, Bad>
         read_gist payload.now ≡ Err e) }
 {
     match read_message(payload) {
-        Ok(message) => Ok(shorten(message)),
+        Ok(message) => Ok(gist_of(message)),
         Err(bad) => Err(bad),
     }
 }

@@ -1,18 +1,19 @@
 ghost use Rattle.std.specs.Prelude.{◌≡◌, ◌≤◌, length, IfOk, IfSome, OnErr};
-ghost use Rattle.ssh_fields.specs.Fields.{AreBytes};
 ghost use Rattle.ssh_grammar.specs.declared.framing.Framing.TheVariants.{Proxy};
 ghost use Rattle.ssh_grammar.specs.IsFrame.{IsContent};
+ghost use Rattle.proxy_frames.specs.declared.queue.TheConstants.{LONGEST_PAYLOAD};
+ghost use Rattle.conn_messages.specs.declared.write.TheConstants.{LONGEST_TEXT};
 ghost use Rattle.mux_history.specs.Gist.{Confirmation, Fails, Within};
 ghost use Rattle.window_ledger.specs.Act.{act_of};
 ghost use Rattle.mux_core.specs.Calls.{AnswerFits, SaysAs, SaysOn, SaysSome, StartsOn};
-ghost use Rattle.mux_core.specs.Gists.{opening_of};
+ghost use Rattle.conn_messages.specs.Message.{opening_of};
 ghost use Rattle.mux_core.specs.Opening.{fails_with, open_verdict};
 
-use crate::reading::{Gist, Opening, read_gist};
-use crate::state::{Core, confirmed_ledger, note_bytes, put_sender};
+use crate::reading::{Gist, read_gist};
+use crate::state::{Core, confirmed_ledger, put_sender};
 use crate::verdict::Verdict;
 use channel_table::Refused;
-use conn_messages::open_failure;
+use conn_messages::{Opening, open_failure};
 use mux_history::Why;
 use proxy_frames::Queue;
 use ssh_fields::OutOfMemory;
@@ -22,7 +23,7 @@ use window_ledger::{Act, Ledger};
 
 // The answer to an open that fails.
 fn refuse(sender: u32, reason: u32, text: &[u8]) -> Verdict
-    requires { length text.now ≤ 64 }
+    requires { length text.now ≤ LONGEST_TEXT }
     ensures { result ≡ fails_with sender reason text.now }
 {
     Verdict::Answer(open_failure(sender, reason, text))
@@ -37,7 +38,7 @@ impl Core {
         payload: &mut [u8],
         up: &mut Queue,
     ) -> Result<Verdict, OutOfMemory>
-        requires { length payload.old ≤ 262143 }
+        requires { length payload.old ≤ LONGEST_PAYLOAD }
         ensures stands { IfOk result (λ v.
             SaysOn self.old self.new client payload.old up.old up.new v) }
         ensures fits { IfOk result AnswerFits }
@@ -45,7 +46,6 @@ impl Core {
         ensures policy { self.new.policy ≡ self.old.policy }
         ensures err { OnErr result (up.new ≡ up.old) }
     {
-        note_bytes(payload);
         let (sender, window, maximum) = match read_gist(payload) {
             Err(bad) => return Ok(Verdict::Drop(Why::BadMessage(bad))),
             Ok(Gist::Transport { number: DISCONNECT }) => {
@@ -135,8 +135,7 @@ impl Core {
         maximum: u32,
         up: &mut Queue,
     ) -> Result<Verdict, OutOfMemory>
-        requires content { IsContent Proxy payload.old }
-        requires bytes { AreBytes payload.old }
+        requires { IsContent Proxy payload.old }
         ensures stands { IfOk result (λ v.
             StartsOn self.old self.new client payload.old sender window maximum up.old up.new v) }
         ensures fits { IfOk result AnswerFits }
@@ -171,8 +170,7 @@ impl Core {
         maximum: u32,
         up: &mut Queue,
     ) -> Result<Verdict, OutOfMemory>
-        requires content { IsContent Proxy payload.old }
-        requires bytes { AreBytes payload.old }
+        requires { IsContent Proxy payload.old }
         ensures stands { IfOk result (λ v.
             SaysSome self.old self.new client payload.old
             (Confirmation remote sender window maximum) up.old up.new v) }

@@ -5,58 +5,21 @@ ghost use Rattle.ssh_grammar.specs.declared.framing.Framing.TheVariants.{Proxy};
 ghost use Rattle.ssh_grammar.specs.IsFrame.{IsContent};
 ghost use Rattle.ssh_grammar.specs.Messages.{Cancel, Forward, KeepAlive};
 ghost use Rattle.mux_history.specs.Gist.{Requests};
-ghost use Rattle.forward_rules.specs.Keys.{IsShort, key_of};
-ghost use Rattle.global_replies.specs.Asks.{what_of};
-ghost use Rattle.global_replies.specs.Asks as asks;
+ghost use Rattle.conn_messages.specs.Keys.{IsShort, key_of};
 ghost use Rattle.mux_core.specs.Calls.{AnswerFits, SaysAs};
-ghost use Rattle.mux_core.specs.Gists.{request_of};
+ghost use Rattle.conn_messages.specs.Message.{request_of};
 ghost use Rattle.mux_core.specs.Requesting.{SaysRoomy, after_refusal, is_full, may_ask, refusal, waiting_of};
 
-use crate::reading::Request;
 use crate::state::Core;
 use crate::verdict::Verdict;
-use conn_messages::request_failure;
-use forward_rules::{ForwardRefused, Key};
+use conn_messages::{Key, OwnKey, Request, request_failure};
+use forward_rules::ForwardRefused;
 use global_replies::Ask;
 use mux_history::Why;
 use mux_history::limits::MAX_GLOBAL_REQUESTS;
 use proxy_frames::Queue;
-use ssh_fields::{OutOfMemory, Small};
+use ssh_fields::OutOfMemory;
 use ssh_grammar::numbers::*;
-
-// A request for a forwarding.
-fn ask_forward(key: Key<'_>) -> Ask
-    requires { IsShort (key_of key) }
-    ensures exact { what_of result ≡ Forward (key_of key.entry) }
-    ensures short { asks.IsShort result }
-{
-    match key {
-        Key::Tcp { address, port } => Ask::Forward {
-            address: Small::copy(address),
-            port,
-        },
-        Key::Path(path) => Ask::PathForward {
-            path: Small::copy(path),
-        },
-    }
-}
-
-// A cancel of one.
-fn ask_cancel(key: Key<'_>) -> Ask
-    requires { IsShort (key_of key) }
-    ensures exact { what_of result ≡ Cancel (key_of key.entry) }
-    ensures short { asks.IsShort result }
-{
-    match key {
-        Key::Tcp { address, port } => Ask::Cancel {
-            address: Small::copy(address),
-            port,
-        },
-        Key::Path(path) => Ask::PathCancel {
-            path: Small::copy(path),
-        },
-    }
-}
 
 impl Core {
     // What a client asks of all.
@@ -174,7 +137,7 @@ impl Core {
             Err(ForwardRefused::Full { .. }) => return self.refuse_request(client, want),
             Err(ForwardRefused::OutOfMemory) => return Err(OutOfMemory),
         }
-        self.await_reply(client, ask_forward(key))?;
+        self.await_reply(client, Ask::Forward(OwnKey::copy(key)))?;
         up.push_payload(payload)?;
         Ok(Verdict::Sent)
     }
@@ -201,7 +164,7 @@ impl Core {
             return self.refuse_request(client, want);
         }
         if want {
-            self.await_reply(client, ask_cancel(key))?;
+            self.await_reply(client, Ask::Cancel(OwnKey::copy(key)))?;
             up.push_payload(payload)?;
             return Ok(Verdict::Sent);
         }

@@ -1,5 +1,4 @@
 ghost use Rattle.std.specs.Prelude.{◌≡◌, ◌≤◌, ◌+◌, ◌++◌, List, [], true, false, nat_lt, length, IfOk, OnErr};
-ghost use Rattle.ssh_fields.specs.Fields.{AreBytes};
 ghost use Rattle.ssh_grammar.specs.SpellMessage.{with_recipient, with_sender};
 ghost use Rattle.mux_history.specs.declared.limits.TheConstants.{MAX_CLIENTS};
 ghost use Rattle.mux_history.specs.Rows.{Row};
@@ -7,8 +6,7 @@ ghost use Rattle.mux_history.specs.Log.{open_matters};
 ghost use Rattle.mux_history.specs.Policy.{permits};
 ghost use Rattle.window_ledger.specs.Stands.{IsConfirmed, confirmed};
 ghost use Rattle.window_ledger.specs.Leaving.{left};
-ghost use Rattle.global_replies.specs.Asks as asks;
-ghost use Rattle.forward_rules.specs.Keys.{key_of};
+ghost use Rattle.conn_messages.specs.Keys.{key_of};
 ghost use Rattle.client_teardown.specs.Leaving.{Sends, channel_farewells, forward_farewells};
 ghost use Rattle.mux_core.specs.State.{new_state};
 ghost use Rattle.mux_core.specs.Stands.{Stands};
@@ -24,8 +22,8 @@ mod requests;
 use crate::clients::Clients;
 use channel_table::{Channel, Table};
 use client_teardown::{FAREWELL_ROOM, tear_down};
-use conn_messages::{recipient_at, sender_at};
-use forward_rules::{Forwards, Key, Policy};
+use conn_messages::{Key, recipient_at, sender_at};
+use forward_rules::{Forwards, Policy};
 use global_replies::Askers;
 use proxy_frames::Queue;
 use ssh_fields::{OutOfMemory, patch_u32};
@@ -78,13 +76,6 @@ pub(crate) fn put_recipient(payload: &mut [u8], number: u32)
     if let Some(at) = recipient_at(payload) {
         patch_u32(payload, at, number);
     }
-}
-
-// What a slice of bytes holds are bytes.
-pub(crate) fn note_bytes(payload: &[u8])
-    ensures { AreBytes payload.now }
-{
-    let _ = payload;
 }
 
 // Whether the channel is a client's open that has no answer.

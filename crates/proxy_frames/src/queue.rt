@@ -6,11 +6,15 @@ ghost use Rattle.proxy_frames.specs.Queued.{empty_queue, with_bytes, frame_lengt
 
 use bytes::BytesMut;
 use ssh_fields::OutOfMemory;
+use ssh_grammar::numbers::LONGEST_FRAME;
 use std::alloc::Global;
 use std::marker::Model;
 
 /// How many bytes the header of a proxy frame has: a packet length and a padding length.
-const HEADER: usize = 5;
+pub const HEADER: usize = 5;
+
+/// The longest payload of a proxy frame: its packet length counts the padding length too.
+pub const LONGEST_PAYLOAD: usize = LONGEST_FRAME as usize - 1;
 
 /// Bytes that wait to be written, in order, and room for more that lasts.
 #[derive(Drop)]

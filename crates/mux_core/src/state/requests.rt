@@ -3,13 +3,14 @@
 ghost use Rattle.std.specs.Prelude.{◌≡◌, ◌+◌, ◌++◌, ◌∷◌, [], true, false, length, IfOk, IfSome, OnOk, OnErr};
 ghost use Rattle.global_replies.specs.Replies.{FirstAsked, after_reply, is_none_left, or_behind, refusals_behind, request_of, rest_of};
 ghost use Rattle.global_replies.specs.Asks as asks;
-ghost use Rattle.forward_rules.specs.Keys.{IsShort, key_of};
+ghost use Rattle.conn_messages.specs.Keys.{IsShort, key_of};
 ghost use Rattle.forward_rules.specs.Step.{answered, asked, cancel_answered, cancelled, owner_at, some_free};
 ghost use Rattle.forward_rules.specs.Taking.{AddsAs};
 ghost use Rattle.mux_core.specs.Requesting.{more_awaited, waiting_of, with_waiting};
 
 use super::Core;
-use forward_rules::{ForwardRefused, Key};
+use conn_messages::Key;
+use forward_rules::ForwardRefused;
 use global_replies::Ask;
 use ssh_fields::OutOfMemory;
 
@@ -23,7 +24,7 @@ impl Core {
 
     // A request that was sent and wants a reply.
     pub(crate) fn await_reply(&mut self, client: u64, what: Ask) -> Result<(), OutOfMemory>
-        requires { asks.IsShort what }
+        requires { asks.IsShort (asks.what_of what) }
         ensures ok { OnOk result
             (self.new ≡ record self.old {
               asks = self.old.asks ++ request_of client what ∷ [];
@@ -52,7 +53,7 @@ impl Core {
     pub(crate) fn take_asker(&mut self) -> Option<(u64, Ask)>
         ensures first { FirstAsked self.old.asks result }
         ensures rest { self.new ≡ record self.old { asks = rest_of self.old.asks } }
-        ensures short { IfSome result (λ a. asks.IsShort a.1) }
+        ensures short { IfSome result (λ a. asks.IsShort (asks.what_of a.1)) }
     {
         self.askers.answered()
     }

@@ -11,6 +11,7 @@ ghost use Rattle.mux_history.specs.Log.{open_matters};
 ghost use Rattle.mux_history.specs.Pending.{pending};
 ghost use Rattle.mux_history.specs.Promises.{listens, has_output};
 ghost use Rattle.mux_history.specs.Journal.{IsLawful};
+ghost use Rattle.mux_bounds.specs.Bounds.{longest_rest};
 ghost use Rattle.mux_machine.specs.Bounds.{QueueShort};
 ghost use Rattle.mux_machine.specs.Stands.{Closes, GoesAlone, IsFirst, Stands, log, not_closed};
 ghost use Rattle.mux_machine.specs.State.{closed_by, first_of, queue_in, rest_in, taken, waiting_in};
@@ -66,7 +67,7 @@ impl Engine {
     pub fn rest_of(&self, stream: u64) -> usize
         ensures exact { result ≡ length (rest_in self.now stream) }
         ensures short { (picked : List ℕ) (given : List TheReply) (marks : List TheMark)
-            (closed : List ℕ) → Stands picked given self.now marks closed → result ≤ 262147 }
+            (closed : List ℕ) → Stands picked given self.now marks closed → result ≤ longest_rest }
     {
         if self.ended.is_some() {
             return 0;

@@ -1,5 +1,5 @@
 use Rattle.std.proofs.Common.{◌≡◌, ◌++◌, Bool, length, refl, ap, sym, ◌∙◌, arith}
-use Rattle.forward_rules.specs.Keys.{own_key_of}
+use Rattle.conn_messages.specs.Keys.{own_key_of}
 use Rattle.forward_rules.specs.Step.{without_client}
 use Rattle.forward_rules.proofs.Taken.{taking-others}
 use Rattle.ssh_grammar.specs.Messages.{Key}

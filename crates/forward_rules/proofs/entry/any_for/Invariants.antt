@@ -2,7 +2,7 @@ use Rattle.std.proofs.Common.{◌≡◌, map, drop}
 use Rattle.mux_history.specs.Policy.{is_for}
 use Rattle.mux_history.specs.Rows.{any_of}
 use Rattle.forward_rules.specs.Allows.{entry_of}
-use Rattle.forward_rules.specs.Keys.{key_of}
+use Rattle.conn_messages.specs.Keys.{key_of}
 use Rattle.forward_rules.proofs.entry.any_for.Given as goal
 
 abbrev pub invariant-loop-entry : goal.invariant-loop-entry

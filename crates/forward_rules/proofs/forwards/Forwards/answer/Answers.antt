@@ -1,9 +1,9 @@
 use Rattle.std.proofs.Common.{rules, ◌≡◌, ◌∙◌, ap, sym, subst, position, map, refl, true, ℕ, List, Option, Some, None, slice_index_or, slice_set}
 use Rattle.ssh_grammar.specs.Messages.{Key}
-use Rattle.forward_rules.specs.Keys.{key_of}
+use Rattle.conn_messages.specs.Keys.{key_of, with_port}
 use Rattle.forward_rules.specs.Listing.{forward_of}
 use Rattle.forward_rules.specs.State.{Forward}
-use Rattle.forward_rules.specs.Step.{answered, is_asked_at, with_port}
+use Rattle.forward_rules.specs.Step.{answered, is_asked_at}
 use Rattle.forward_rules.specs.Taking.{AreFew}
 use Rattle.forward_rules.specs.declared.listed.Listed.{Listed}
 use Rattle.forward_rules.proofs.Counts.{few-first, few-without}

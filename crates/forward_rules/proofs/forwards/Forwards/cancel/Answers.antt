@@ -4,7 +4,7 @@ use Rattle.mux_history.specs.Keys.{is_key}
 use Rattle.mux_history.proofs.SameKeys.{key-is}
 use Rattle.mux_history.proofs.Sends.{and-right}
 use Rattle.ssh_grammar.specs.Messages.{Key}
-use Rattle.forward_rules.specs.Keys.{IsShort, key_of, own_key_of}
+use Rattle.conn_messages.specs.Keys.{IsShort, key_of, own_key_of}
 use Rattle.forward_rules.specs.Listing.{forward_of}
 use Rattle.forward_rules.specs.State.{Forward}
 use Rattle.forward_rules.specs.Step.{cancelled, cancels, is_free_at, is_live_at, is_of, some_free}

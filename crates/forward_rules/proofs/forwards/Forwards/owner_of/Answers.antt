@@ -1,6 +1,6 @@
 use Rattle.std.proofs.Common.{rules, ◌≡◌, ◌∙◌, ap, sym, position, Some, None}
 use Rattle.std.specs.Prelude.{option_map}
-use Rattle.forward_rules.specs.Keys.{key_of}
+use Rattle.conn_messages.specs.Keys.{key_of}
 use Rattle.forward_rules.specs.State.{Forward}
 use Rattle.forward_rules.specs.Step.{is_live_at}
 use Rattle.forward_rules.specs.declared.listed.Listed.{Listed}

@@ -4,7 +4,7 @@ use Rattle.ssh_grammar.specs.declared.numbers.TheConstants.{ADMINISTRATIVELY_PRO
 use Rattle.ssh_grammar.specs.Frames.{frame_payload}
 use Rattle.ssh_grammar.specs.SpellMessage.{not_permitted, open_failure, too_many_channels}
 use Rattle.proxy_frames.specs.State.{QueueState}
-use Rattle.mux_core.specs.Gists.{opening_of}
+use Rattle.conn_messages.specs.Message.{opening_of}
 use Rattle.channel_table.specs.Entries.{number_of_remote}
 use Rattle.mux_core.specs.Opening.{owner_for}
 use Rattle.mux_core.proofs.HearsOpens.{open-full, open-given, open-refused, open-used, reads-refusal, reads-shortage, remote-full, remote-room}

@@ -2,7 +2,7 @@ use Rattle.std.proofs.Common.{rules, ◌≡◌, ◌++◌, ap, ◌∙◌, Ok, tru
 use Rattle.ssh_grammar.specs.Frames.{frame_payload}
 use Rattle.ssh_grammar.specs.SpellMessage.{request_failure}
 use Rattle.proxy_frames.specs.State.{QueueState}
-use Rattle.mux_core.specs.Gists.{request_of}
+use Rattle.conn_messages.specs.Message.{request_of}
 use Rattle.mux_history.specs.Gist.{Requests}
 use Rattle.mux_core.proofs.HearsRequest.{request-passed, request-refused}
 use Rattle.mux_core.proofs.state.Core.hear_request.Goals as goal

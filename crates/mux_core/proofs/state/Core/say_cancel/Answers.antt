@@ -1,5 +1,5 @@
 use Rattle.std.proofs.Common.{rules, sym, refl}
-use Rattle.forward_rules.specs.Keys.{key_of}
+use Rattle.conn_messages.specs.Keys.{key_of}
 use Rattle.mux_core.proofs.Asking.{cancel-not, refused-result}
 use Rattle.mux_core.proofs.SaysRequests.{cancel-unwanted, cancel-wanted}
 use Rattle.mux_core.proofs.state.Core.say_cancel.Goals as goal

@@ -1,5 +1,5 @@
 use Rattle.std.proofs.Common.{rules}
-use Rattle.forward_rules.specs.Keys.{key_of}
+use Rattle.conn_messages.specs.Keys.{key_of}
 use Rattle.mux_core.proofs.Asking.{forward-full, forward-goes, forward-not, refused-result}
 use Rattle.mux_core.proofs.state.Core.say_forward.Goals as goal
 

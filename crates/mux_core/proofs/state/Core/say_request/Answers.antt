@@ -1,6 +1,6 @@
 use Rattle.std.proofs.Common.{rules, refl}
 use Rattle.ssh_grammar.specs.Messages.{OtherName}
-use Rattle.mux_core.specs.Gists.{request_of}
+use Rattle.conn_messages.specs.Message.{request_of}
 use Rattle.mux_core.proofs.Asking.{refused-result, roomy-result}
 use Rattle.mux_core.proofs.SaysRequests.{too-many}
 use Rattle.mux_core.proofs.state.Core.say_request.Goals as goal

@@ -1,7 +1,6 @@
 ghost use Rattle.std.specs.Prelude.{◌≡◌, true};
 ghost use Rattle.mux_history.specs.Keys.{is_askable, is_key};
-ghost use Rattle.forward_rules.specs.Keys.{key_of, own_key_of, IsShort};
-ghost use Rattle.forward_rules.specs.Step.{with_port};
+ghost use Rattle.conn_messages.specs.Keys.{key_of, own_key_of, with_port, IsShort};
 
 use mux_history::limits::MAX_ADDRESS;
 use ssh_fields::Small;
@@ -94,7 +93,7 @@ impl OwnKey {
     }
 
     /// Where port 0 was asked, the port that the server chose.
-    pub(crate) fn bind(&mut self, chosen: u32)
+    pub fn bind(&mut self, chosen: u32)
         ensures { own_key_of self.new ≡ with_port chosen (own_key_of self.old) }
     {
         if let OwnKey::Tcp { port, .. } = self {
