@@ -8,8 +8,6 @@ mod accounts;
 #[cfg(test)]
 mod answers;
 #[cfg(test)]
-mod breaks;
-#[cfg(test)]
 mod control_messages;
 #[cfg(test)]
 mod dialogs;

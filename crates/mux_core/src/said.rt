@@ -1,4 +1,5 @@
 ghost use Rattle.std.specs.Prelude.{◌≡◌, ◌≤◌, length, IfOk, IfSome, OnErr};
+ghost use Rattle.ssh_fields.specs.Fields.{AreBytes};
 ghost use Rattle.ssh_grammar.specs.declared.framing.Framing.TheVariants.{Proxy};
 ghost use Rattle.ssh_grammar.specs.IsFrame.{IsContent};
 ghost use Rattle.proxy_frames.specs.declared.queue.TheConstants.{LONGEST_PAYLOAD};
@@ -10,7 +11,7 @@ ghost use Rattle.conn_messages.specs.Message.{opening_of};
 ghost use Rattle.mux_core.specs.Opening.{fails_with, open_verdict};
 
 use crate::reading::{Gist, read_gist};
-use crate::state::{Core, confirmed_ledger, put_sender};
+use crate::state::{Core, are_bytes, confirmed_ledger, put_sender};
 use crate::verdict::Verdict;
 use channel_table::Refused;
 use conn_messages::{Opening, open_failure};
@@ -46,6 +47,7 @@ impl Core {
         ensures policy { self.new.policy ≡ self.old.policy }
         ensures err { OnErr result (up.new ≡ up.old) }
     {
+        are_bytes(payload);
         let (sender, window, maximum) = match read_gist(payload) {
             Err(bad) => return Ok(Verdict::Drop(Why::BadMessage(bad))),
             Ok(Gist::Transport { number: DISCONNECT }) => {
@@ -135,7 +137,8 @@ impl Core {
         maximum: u32,
         up: &mut Queue,
     ) -> Result<Verdict, OutOfMemory>
-        requires { IsContent Proxy payload.old }
+        requires content { IsContent Proxy payload.old }
+        requires bytes { AreBytes payload.old }
         ensures stands { IfOk result (λ v.
             StartsOn self.old self.new client payload.old sender window maximum up.old up.new v) }
         ensures fits { IfOk result AnswerFits }
@@ -170,7 +173,8 @@ impl Core {
         maximum: u32,
         up: &mut Queue,
     ) -> Result<Verdict, OutOfMemory>
-        requires { IsContent Proxy payload.old }
+        requires content { IsContent Proxy payload.old }
+        requires bytes { AreBytes payload.old }
         ensures stands { IfOk result (λ v.
             SaysSome self.old self.new client payload.old
             (Confirmation remote sender window maximum) up.old up.new v) }

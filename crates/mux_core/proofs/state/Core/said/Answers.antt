@@ -23,11 +23,17 @@ returns-in-Ok-Fails-clause-stands c = on-all c.args.self.now c.say_failure.new.s
 pub returns-in-Ok-Within-clause-stands : goal.returns-in-Ok-Within-clause-stands
 returns-in-Ok-Within-clause-stands c = on-all c.args.self.now c.say_within.new.self c.args.client c.args.payload.now (Within c.in-Ok-Within.recipient (act_of c.in-Ok-Within.act)) c.args.up.now c.say_within.new.up c.say_within.result (search rules) c.say_within.ensures.stands
 
+pub say_confirmation-requires-clause-bytes : goal.say_confirmation-requires-clause-bytes
+say_confirmation-requires-clause-bytes c = c.are_bytes.ensures
+
 pub returns-in-Ok-Confirmation-clause-stands : goal.returns-in-Ok-Confirmation-clause-stands
 returns-in-Ok-Confirmation-clause-stands c = on-some c.args.self.now c.say_confirmation.new.self c.args.client c.args.payload.now (Confirmation c.in-Ok-Confirmation.recipient c.in-Ok-Confirmation.sender c.in-Ok-Confirmation.window c.in-Ok-Confirmation.maximum) c.args.up.now c.say_confirmation.new.up c.say_confirmation.result (search rules) c.say_confirmation.ensures.stands
 
 pub returns-in-Some-clause-stands : goal.returns-in-Some-clause-stands
 returns-in-Some-clause-stands c = on-judged c.args.self.now c.args.client c.args.payload.now (opening_of c.in-Ok-Open.what) c.in-Ok-Open.sender c.in-Ok-Open.window c.in-Ok-Open.maximum c.args.up.now c.in-Some.verdict (search rules) (sym c.judge_open.ensures.exact ∙ c.in-Some.is)
+
+pub start-requires-clause-bytes : goal.start-requires-clause-bytes
+start-requires-clause-bytes c = c.are_bytes.ensures
 
 pub returns-clause-stands : goal.returns-clause-stands
 returns-clause-stands c = on-open c.args.self.now c.start.new.self c.args.client c.args.payload.now (opening_of c.in-Ok-Open.what) c.in-Ok-Open.sender c.in-Ok-Open.window c.in-Ok-Open.maximum c.args.up.now c.start.new.up c.start.result (search rules) (sym c.judge_open.ensures.exact ∙ search rules) c.start.ensures.stands

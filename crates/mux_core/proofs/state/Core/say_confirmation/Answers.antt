@@ -1,9 +1,8 @@
-use Rattle.std.proofs.Common.{arith, rules, ◌≡◌, sym, ◌∙◌, Some, true, false}
+use Rattle.std.proofs.Common.{rules, ◌≡◌, sym, ◌∙◌, Some, true, false}
 use Rattle.std.specs.Prelude.{is_some}
 use Rattle.window_ledger.specs.Stands.{IsConfirmed}
 use Rattle.channel_table.specs.Entries.{number_of_own, with_own}
 use Rattle.mux_core.specs.Lookups.{waiting_for}
-use Rattle.mux_core.proofs.Dispatch.{are-bytes}
 use Rattle.mux_core.proofs.Naming.{is-unused, is-used, named-not, own-named, own-used}
 use Rattle.mux_core.proofs.SaysConfirmation.{confirms, confirms-none, confirms-used, waiting-idle}
 use Rattle.mux_core.proofs.state.Core.say_confirmation.Goals as goal
@@ -33,5 +32,5 @@ returns-clause-stands c = record {
       let unused : is_some (number_of_own c.args.self.now.channels c.args.client c.args.sender) ≡ false = sym (own-used c.args.self.now.channels c.args.client c.args.remote c.in-Some.number c.args.sender c.in-Some.ledger found) ∙ is-unused c.in_ok-name_own.field-0 _ c.in_ok-name_own.ensures.exact c.if-not-branch.false in
       let given : IsConfirmed c.in-Some.ledger c.confirmed_ledger.result c.args.window c.args.maximum = c.confirmed_ledger.ensures.stands (waiting-idle c.args.self.now.channels c.args.client c.args.remote c.in-Some.number c.in-Some.ledger st.channels.apart found) in
       let after = own-named c.args.self.now c.name_own.new.self c.set_ledger.new.self c.in_ok-name_own.field-0 c.in-Some.number c.args.sender c.confirmed_ledger.result c.if-not-branch.false c.in_ok-name_own.ensures.ok c.set_ledger.ensures in
-      rw (c.in_ok-push_payload.ensures.ok, c.put_sender.ensures) (confirms c.args.self.now c.set_ledger.new.self c.args.client c.args.remote c.in-Some.number c.args.sender c.args.window c.args.maximum c.in-Some.ledger c.confirmed_ledger.result c.args.payload.now c.args.up.now rows st serves (are-bytes c.args.payload.now (λ i. let h = c.type_inv.payload i in omega (arith, h))) found unused given c.confirmed_ledger.ensures.confirmed after e);
+      rw (c.in_ok-push_payload.ensures.ok, c.put_sender.ensures) (confirms c.args.self.now c.set_ledger.new.self c.args.client c.args.remote c.in-Some.number c.args.sender c.args.window c.args.maximum c.in-Some.ledger c.confirmed_ledger.result c.args.payload.now c.args.up.now rows st serves c.requires.bytes found unused given c.confirmed_ledger.ensures.confirmed after e);
 }

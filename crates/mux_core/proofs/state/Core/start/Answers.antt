@@ -1,5 +1,4 @@
-use Rattle.std.proofs.Common.{arith, rules}
-use Rattle.mux_core.proofs.Dispatch.{are-bytes}
+use Rattle.std.proofs.Common.{rules}
 use Rattle.mux_core.proofs.OpensJudged.{free-own, has-room, is-full, no-room, none-own}
 use Rattle.mux_core.proofs.OpensSent.{goes-up}
 use Rattle.mux_core.proofs.state.Core.start.Goals as goal
@@ -21,5 +20,5 @@ returns-clause-stands c =
       goes = λ what judges rows st serves e.
           let free = free-own c.args.self.now c.args.client c.args.sender what judges in
           let room = has-room c.args.self.now c.args.client c.args.sender free (search rules) in
-          rw (c.in_ok-push_payload.ensures.ok, c.put_sender.ensures) (goes-up c.args.self.now c.args.client c.in-Ok.number c.args.sender c.args.window c.args.maximum what c.args.payload.now c.opened-ledger.result c.args.up.now _ rows st serves (are-bytes c.args.payload.now (λ i. let h = c.type_inv.payload i in omega (arith, h))) e judges (search rules) (none-own c.args.self.now c.args.client c.args.sender free) room c.opened-ledger.ensures.confirmed c.opened-ledger.ensures.stands (search rules));
+          rw (c.in_ok-push_payload.ensures.ok, c.put_sender.ensures) (goes-up c.args.self.now c.args.client c.in-Ok.number c.args.sender c.args.window c.args.maximum what c.args.payload.now c.opened-ledger.result c.args.up.now _ rows st serves c.requires.bytes e judges (search rules) (none-own c.args.self.now c.args.client c.args.sender free) room c.opened-ledger.ensures.confirmed c.opened-ledger.ensures.stands (search rules));
     }
