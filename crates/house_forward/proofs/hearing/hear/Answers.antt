@@ -2,17 +2,21 @@ use Rattle.std.proofs.Common.{◌≡◌, ◌∙◌, sym, ap, ℕ, List, Some}
 use Rattle.std.specs.Option.{option_copied}
 use Rattle.ssh_grammar.specs.ReadMessage.{read_message as reading}
 use Rattle.ssh_fields.specs.Fields.{take_u32}
+use Rattle.conn_messages.specs.declared.message.Opening.TheVariants as opens
+use Rattle.conn_messages.specs.declared.key.Key.TheVariants as keys
 use Rattle.house_forward.specs.Lives.{port_in}
 use Rattle.house_forward.proofs.Going.{on-ok}
 use Rattle.house_forward.proofs.Leading.{channel_of, its-channel, a-forwarded, a-channel-message, a-success, a-failure, port-read}
 use Rattle.house_forward.proofs.hearing.hear.Goals as goal
 use Rattle.house_forward.proofs.hearing.hear.Goals.{in-Confirmation, in-Confirmation-2, in-Confirmation-3, in-Confirmation-4, in-Confirmation-5, in-Confirmation-6, in-Confirmation-7, in-Confirmation-8, in-Confirmation-9, in-Confirmation-10}
 
-pub returns-in-Open-default-default-default-default-default-Forwarded-clause-goes :
-    goal.returns-in-Open-default-default-default-default-default-Forwarded-clause-goes
-returns-in-Open-default-default-default-default-default-Forwarded-clause-goes c =
-    let o = c.in-Open-default-default-default-default-default-Forwarded in
-    let what = rw o.is at o.what-is in
+pub returns-in-Open-default-default-default-default-default-Forwarded-Tcp-clause-goes :
+    goal.returns-in-Open-default-default-default-default-default-Forwarded-Tcp-clause-goes
+returns-in-Open-default-default-default-default-default-Forwarded-Tcp-clause-goes c =
+    let o = c.in-Open-default-default-default-default-default-Forwarded-Tcp in
+    let outer = rw o.is at o.what-is in
+    let inner = rw (o.is, outer) at o.what-0-is in
+    let what : o.what ≡ opens.Forwarded (keys.Tcp o.address o.port) = cc (outer, inner) in
     on-ok c.take_open.result (λ offered. a-forwarded (reading c.args.payload.now) c.in-Ok.message o.kind o.rest o.address o.sender o.window o.maximum o.port o.what
     (option_copied c.of_server.result) c.args.relays.now c.take_open.new.relays c.args.forwardings.now c.args.asks.now c.in-Ok.ensures.exact o.is what
     c.of_server.ensures c.take_open.ensures.others offered) c.take_open.ensures.offered
