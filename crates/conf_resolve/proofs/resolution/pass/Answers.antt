@@ -208,4 +208,16 @@ returns-in_err-line-2-clause-noted g c = λ told asked facts tells status.
 
 pub returns-clause-noted : goal.returns-clause-noted
 returns-clause-noted g c = λ told asked facts tells status.
-    to-all _ _ _ (then-read _ _ _ _ _ _ (c.loop-reader.invariant.notes told asked facts tells) (no-line told _ _ _ _ _ c.in_default.not-Some (c.in_ok-line.ensures.files.noted told (rw c.loop-reader.invariant.files tells) (facts ∙ sym c.loop-reader.invariant.facts) (ap (λ (a : Asked). a.original) asked ∙ sym c.loop-reader.invariant.original))))
+    to-all _ _ _ (then-read _ _ _ _ _ _ (c.loop-reader.invariant.notes told asked facts tells) (no-line told _ _ c.next.new.self.lines _ _ c.in_default.not-Some (c.in_ok-line.ensures.files.noted told (rw c.loop-reader.invariant.files tells) (facts ∙ sym c.loop-reader.invariant.facts) (ap (λ (a : Asked). a.original) asked ∙ sym c.loop-reader.invariant.original))))
+
+pub returns-clause-cause : goal.returns-clause-cause
+returns-clause-cause g c = (c.in_ok-line.ensures.files.cause ∙ c.loop-reader.invariant.file_faults, c.loop-reader.invariant.run_faults)
+
+pub returns-clause-files : goal.returns-clause-files
+returns-clause-files g c = c.in_ok-line.ensures.files.told ∙ c.loop-reader.invariant.files
+
+pub returns-in_err-line-clause-files : goal.returns-in_err-line-clause-files
+returns-in_err-line-clause-files g c = c.in_err-line.ensures.files.told ∙ c.loop-reader.invariant.files
+
+pub returns-in_err-line-2-clause-files : goal.returns-in_err-line-2-clause-files
+returns-in_err-line-2-clause-files g c = c.in_ok-line.ensures.files.told ∙ c.loop-reader.invariant.files
