@@ -37,8 +37,8 @@ heard_turn Nothing number = None
 heard_turn Interrupted number = None
 heard_turn Failed number = Some (turn.Failed number)
 
--- a stream is read again untold: after the most that a read takes, where reads stop short, and after
--- a signal
+-- a stream is read again untold: after the most that a read takes, where reads stop short, and
+-- after a signal
 abbrev pub heard_again : Heard → Bool → ℕ → Bool
 heard_again (Bytes n) stops_short most = stops_short || nat_le most n
 heard_again End stops_short most = false

@@ -1,5 +1,5 @@
--- Names of hosts, and what a look-up writes of one: a row for each address and kind of socket, with the
--- address in its first column and the kind behind it.
+-- Names of hosts, and what a look-up writes of one: a row for each address and kind of socket, with
+-- the address in its first column and the kind behind it.
 use Rattle.std.specs.Prelude.{◌≡◌, ◌==◌, ◌⊎◌, ◌&&◌, ◌||◌, not, if◌then◌else◌, ℕ, Bool, true, false, List, [], ◌∷◌, ◌++◌, length, take, drop, nat_le, nat_eq, codes}
 use Rattle.std.specs.List.{list_all, prefix_len, starts_with}
 use Rattle.std.specs.Char.{is_ascii_alphanumeric}

@@ -18,8 +18,8 @@ pub record MayBeGiven (numbers : Numbers) (want : Want) (seen : Seen) : Type 0 w
       × (k ≡ seen.last + 1) × (seen.last < LAST_CLIENT))
   pub own : IfSome numbers.own (λ t. (want ≡ WantsAll) × IsNewOwn seen.last_own t)
 
--- a client and a stream that is joined have the number that was given, bytes are at most a piece and
--- not none, and nothing else changes the piece
+-- a client and a stream that is joined have the number that was given, bytes are at most a piece
+-- and not none, and nothing else changes the piece
 abbrev pub FoundFits : Turn → Numbers → List ℕ → List ℕ → Type 0
 FoundFits (Accepted k) numbers before now = (numbers.client ≡ Some k) × (now ≡ before)
 FoundFits (Got t) numbers before now = (0 < length now) × (length now ≤ LONGEST_PIECE)

@@ -4,4 +4,5 @@ use Rattle.mux_sockets.specs.declared.sockets.resolver.Target.{Target}
 
 -- how many addresses are left to be tried
 abbrev pub left_of : Target → ℕ
-left_of target = unwrap_or (option_map (λ addresses. length addresses.items) target.addresses) 0 - target.tried
+left_of target =
+    unwrap_or (option_map (λ addresses. length addresses.items) target.addresses) 0 - target.tried

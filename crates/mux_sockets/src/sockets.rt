@@ -50,21 +50,21 @@ struct Listening<R: Files + Drop> {
     listener: UnixListener,
 }
 
-/// The sockets of a run, each under the number of its stream or listener, which is the system's token
-/// for it too.
+/// The sockets of a run, each under the number of its stream or listener, which is the system's
+/// token for it too.
 ///
 /// A read of the master's own streams takes no more bytes than one message carries, any other read
 /// takes a full piece at most.
 ///
 /// The system tells once that bytes came, and not again while they are there. So a stream stays
 /// noted until a read shows that none are left: one that would wait, or one that takes fewer bytes
-/// than it may (epoll(7)). Such a short read shows nothing where descriptors may be passed, since a read
-/// of a Unix socket stops at them: so nothing on the streams of clients. Nobody passes any on the
-/// server's stream. There a read stops short at urgent bytes over TCP, and before the end: once the
+/// than it may (epoll(7)). Such a short read shows nothing where descriptors may be passed, since a
+/// read of a Unix socket stops at them: so nothing on the streams of clients. Nobody passes any on
+/// the server's stream. There a read stops short at urgent bytes over TCP, and before the end: once the
 /// system told of one, or of an error, a short read shows nothing any more.
 ///
-/// Of a stream that is paused, or whose connection isn't made, it is kept that it may be read, since
-/// the system won't tell again.
+/// Of a stream that is paused, or whose connection isn't made, it is kept that it may be read,
+/// since the system won't tell again.
 ///
 /// What becomes ready goes behind what was ready before, and the system is asked again when all
 /// that was ready then was served at most twice. So no stream is passed over for longer than that.
@@ -266,8 +266,8 @@ impl<R: Files + Processes + Drop> Sockets<R> {
 
 impl<R: Files + Net + Processes + Clock + Drop> Sockets<R> {
     /// What happens next. A turn is given for the writes of the waiting streams alone, or for all
-    /// that can be read too; and for what was written, whatever is waited for. A client and a stream
-    /// that is joined get the given number; without one none is accepted.
+    /// that can be read too; and for what was written, whatever is waited for. A client and a
+    /// stream that is joined get the given number; without one none is accepted.
     pub fn next(
         &mut self,
         rt: &R,

@@ -73,8 +73,8 @@ impl<R: Files + Net + Processes + Clock + Drop> Sockets<R> {
         }
     }
 
-    // Looks whether a connection is made. What may be read of it is noted then. Where it isn't made,
-    // the next of its addresses is tried, if the host is a name.
+    // Looks whether a connection is made. What may be read of it is noted then. Where it isn't
+    // made, the next of its addresses is tried, if the host is a name.
     pub(super) fn meet(&mut self, rt: &R, number: u64) -> Option<Turn>
         ensures turn { IfSome result (λ turn.
             (turn ≡ Turn.Writable number) ⊎ (turn ≡ Turn.Failed number)) }

@@ -50,8 +50,8 @@ pub enum Ready {
     Connect(u64),
 }
 
-/// What is ready, each once, so at most twice as many as there are streams and listeners, and one. A
-/// round goes over it twice: the second read of a stream mostly shows that nothing is left.
+/// What is ready, each once, so at most twice as many as there are streams and listeners, and one.
+/// A round goes over it twice: the second read of a stream mostly shows that nothing is left.
 #[derive(Drop)]
 pub struct Queue {
     items: VecDeque<Ready>,
@@ -315,8 +315,8 @@ impl Queue {
         }
     }
 
-    /// Where the first is that may be served. Of the master's own streams none is read where they are
-    /// held back.
+    /// Where the first is that may be served. Of the master's own streams none is read where they
+    /// are held back.
     pub fn first(
         &self,
         waiting: &[u64],

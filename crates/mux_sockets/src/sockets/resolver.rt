@@ -43,10 +43,10 @@ struct Target {
     tried: usize,
 }
 
-/// The look-ups under way, the addresses that were had within the last seconds, and the streams that
-/// connect to names. A look-up has the number of the stream that began it as the system's token,
-/// which that stream has only once the look-up is over. It ends with the last stream that waits for
-/// it, so a number that is given again is no look-up's any more.
+/// The look-ups under way, the addresses that were had within the last seconds, and the streams
+/// that connect to names. A look-up has the number of the stream that began it as the system's
+/// token, which that stream has only once the look-up is over. It ends with the last stream that
+/// waits for it, so a number that is given again is no look-up's any more.
 #[derive(Drop)]
 pub struct Resolver<P: Processes> {
     alloc: Global,
@@ -121,8 +121,8 @@ impl<P: Processes> Resolver<P> {
 }
 
 impl<P: Net + Processes + Clock> Resolver<P> {
-    /// Begins to look up where a stream connects to. `true`: it is known already. After an `Err` the
-    /// caller lets it `forget` the stream.
+    /// Begins to look up where a stream connects to. `true`: it is known already. After an `Err`
+    /// the caller lets it `forget` the stream.
     pub fn begin(
         &mut self,
         rt: &P,

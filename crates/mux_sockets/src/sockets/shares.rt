@@ -1,4 +1,5 @@
-//! How far the clients and the master's own streams are read while the server's stream is waited for.
+//! How far the clients and the master's own streams are read while the server's stream is waited
+//! for.
 ghost use Rattle.std.specs.Prelude.{◌≡◌, false};
 ghost use Rattle.mux_outside.specs.Streams.{among};
 ghost use Rattle.mux_sockets.specs.Shares.{holds_own, no_shares, shares_after};
