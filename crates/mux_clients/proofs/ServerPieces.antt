@@ -18,7 +18,8 @@ use Rattle.mux_history.specs.Solo.{end_of}
 use Rattle.mux_history.specs.Journal.{heard_item}
 use Rattle.mux_history.specs.Log.{Setting, more_all, next_row}
 use Rattle.mux_core.specs.State.{CoreState}
-use Rattle.mux_clients.specs.State.{ClientState}
+use Rattle.mux_clients.specs.State.{ClientState, Crowd}
+use Rattle.mux_clients.specs.Losing.{NotesMore}
 use Rattle.mux_clients.specs.Among.{AllFit}
 use Rattle.mux_clients.specs.Hearings.{HeardBy, end_by}
 use Rattle.mux_clients.specs.Pieces.{behind}
@@ -66,18 +67,17 @@ heard-first policy pid picks given all rows core cs queue rest index e a = recor
   over = ((parse InProxy all).says, refl);
 }
 
-pub hearing-first : (all : List ℕ) (leaving : List (ℕ × Option Why)) (core : CoreState) (cs : List ClientState) (queue : QueueState) (first now : ServerState) → now.framing ≡ first.framing → now.fault ≡ None → now.rest ≡ all → now.index ≡ first.index
-    → HearingAll all leaving leaving core cs queue first core cs queue now None
-hearing-first all leaving core cs queue first now cuts well rest index = record {
+pub hearing-first : (all : List ℕ) (old : Crowd) (first now : ServerState) → now.framing ≡ first.framing → now.fault ≡ None → now.rest ≡ all → now.index ≡ first.index → HearingAll all old old first now None
+hearing-first all old first now cuts well rest index = record {
   noted = [];
-  leaves = sym (append-nil leaving);
+  leaves = sym (append-nil old.clients.leaving);
   policy = refl;
   present = λ j. refl;
   among = tt;
-  reading = keep-same cs;
+  reading = keep-same old.clients.all;
   framing = λ e. cuts;
   fault = λ e. well;
-  goes = λ pid picks given rows a. subst (λ i. HeardTo core.policy pid picks given all [] rows core cs queue now.rest i None) (sym index) (heard-first core.policy pid picks given all rows core cs queue now.rest first.index rest a);
+  goes = λ pid picks given rows a. subst (λ i. HeardTo old.core.policy pid picks given all [] rows old.core old.clients.all old.up now.rest i None) (sym index) (heard-first old.core.policy pid picks given all rows old.core old.clients.all old.up now.rest first.index rest a);
 }
 
 -- ---- one frame more
@@ -103,32 +103,27 @@ heard-fault policy pid picks given all noted rows core cs queue rest rest' i i' 
       over = ([], ap (λ (p : Parsed). p.says) (on.said_is ∙ ap (behind r.says) (parse-at InProxy rest (Faulty fault) front)) ∙ sym (append-nil (r.says ++ BadFraming fault ∷ [])));
     }
 
-hearing-frame : (all content rest : List ℕ) (leaving0 leaving leaving' : List (ℕ × Option Why)) (core0 core core' : CoreState) (cs0 cs cs' : List ClientState) (queue0 queue queue' : QueueState) (first now new : ServerState) (ended' : Option Ended)
-    → core'.policy ≡ core.policy → first_in InProxy now.rest ≡ Frame content rest → HearingAll all leaving0 leaving core0 cs0 queue0 first core cs queue now None → ServerFrame content rest leaving leaving' core core' cs cs' queue queue' now new ended'
-    → HearingAll all leaving0 leaving' core0 cs0 queue0 first core' cs' queue' new ended'
-hearing-frame all content rest leaving0 leaving leaving' core0 core core' cs0 cs cs' queue0 queue queue' first now new ended' pol front h s = record {
+hearing-frame : (all content rest : List ℕ) (old mid new : Crowd) (first was now : ServerState) (ended' : Option Ended)
+    → new.core.policy ≡ mid.core.policy → first_in InProxy was.rest ≡ Frame content rest → HearingAll all old mid first was None → ServerFrame content rest mid new was now ended' → HearingAll all old new first now ended'
+hearing-frame all content rest old mid new first was now ended' pol front h s = record {
   noted = h.noted ++ s.hears.noted;
-  leaves = s.hears.leaves ∙ (ap (λ l. l ++ s.hears.noted) h.leaves ∙ append_assoc leaving0 h.noted s.hears.noted);
+  leaves = s.hears.leaves ∙ (ap (λ l. l ++ s.hears.noted) h.leaves ∙ append_assoc old.clients.leaving h.noted s.hears.noted);
   policy = pol ∙ h.policy;
   present = λ j. s.present j ∙ h.present j;
-  among = among-then cs0 cs h.noted s.hears.noted h.present h.among s.hears.among;
-  reading = keep-then cs0 cs cs' h.reading s.hears.reading;
+  among = among-then old.clients.all mid.clients.all h.noted s.hears.noted h.present h.among s.hears.among;
+  reading = keep-then old.clients.all mid.clients.all new.clients.all h.reading s.hears.reading;
   framing = λ e. s.framing ∙ h.framing refl;
   fault = λ e. s.fault;
   goes = λ pid picks given rows a.
-      payload-heard core0.policy pid picks given all h.noted s.hears.noted rows core core' cs cs' queue queue' now.rest new.rest content now.index new.index ended' h.policy (front ∙ ap (Frame content) (sym s.left)) s.hears.hears s.present s.next
-      (heard-item core0.policy pid picks given content) (h.goes pid picks given rows a);
+      payload-heard old.core.policy pid picks given all h.noted s.hears.noted rows mid.core new.core mid.clients.all new.clients.all mid.up new.up was.rest now.rest content was.index now.index ended' h.policy (front ∙ ap (Frame content) (sym s.left)) s.hears.hears s.present s.next
+      (heard-item old.core.policy pid picks given content) (h.goes pid picks given rows a);
 }
 
-hearing-fault : (all : List ℕ) (fault : BadFrame) (leaving0 leaving leaving' : List (ℕ × Option Why)) (core0 core core' : CoreState) (cs0 cs cs' : List ClientState) (queue0 queue queue' : QueueState) (first now new : ServerState) (ended' : Option Ended)
-    → first_in InProxy now.rest ≡ Faulty fault → HearingAll all leaving0 leaving core0 cs0 queue0 first core cs queue now None → ServerFault fault leaving leaving' core core' cs cs' queue queue' now ended'
-    → HearingAll all leaving0 leaving' core0 cs0 queue0 first core' cs' queue' new ended'
-hearing-fault all fault leaving0 leaving leaving' core0 core core' cs0 cs cs' queue0 queue queue' first now new ended' front h s =
-    subst (λ (x : List (ℕ × Option Why)). HearingAll all leaving0 x core0 cs0 queue0 first core' cs' queue' new ended') (sym s.leaving_same)
-    (subst (λ (x : CoreState). HearingAll all leaving0 leaving core0 cs0 queue0 first x cs' queue' new ended') (sym s.core_same)
-    (subst (λ (x : List ClientState). HearingAll all leaving0 leaving core0 cs0 queue0 first core x queue' new ended') (sym s.clients_same)
-    (subst (λ (x : QueueState). HearingAll all leaving0 leaving core0 cs0 queue0 first core cs x new ended') (sym s.queue_same)
-    (subst (λ (x : Option Ended). HearingAll all leaving0 leaving core0 cs0 queue0 first core cs queue new x) (sym s.ends) (record {
+hearing-fault : (all : List ℕ) (fault : BadFrame) (old mid new : Crowd) (first was now : ServerState) (ended' : Option Ended)
+    → first_in InProxy was.rest ≡ Faulty fault → HearingAll all old mid first was None → ServerFault fault mid new was ended' → HearingAll all old new first now ended'
+hearing-fault all fault old mid new first was now ended' front h s =
+    subst (λ (x : Crowd). HearingAll all old x first now ended') (sym s.untouched)
+    (subst (λ (x : Option Ended). HearingAll all old mid first now x) (sym s.ends) (record {
       noted = h.noted;
       leaves = h.leaves;
       policy = h.policy;
@@ -137,25 +132,24 @@ hearing-fault all fault leaving0 leaving leaving' core0 core core' cs0 cs cs' qu
       reading = h.reading;
       framing = λ e. absurd (cc);
       fault = λ e. absurd (cc);
-      goes = λ pid picks given rows a. heard-fault core0.policy pid picks given all h.noted rows core cs queue now.rest new.rest now.index new.index fault front (h.goes pid picks given rows a);
-    })))))
+      goes = λ pid picks given rows a. heard-fault old.core.policy pid picks given all h.noted rows mid.core mid.clients.all mid.up was.rest now.rest was.index now.index fault front (h.goes pid picks given rows a);
+    }))
 
-pub hearing-goes : (all : List ℕ) (leaving0 leaving leaving' : List (ℕ × Option Why)) (core0 core core' : CoreState) (cs0 cs cs' : List ClientState) (queue0 queue queue' : QueueState) (first now new : ServerState) (ended' : Option Ended)
-    → core'.policy ≡ core.policy → HearingAll all leaving0 leaving core0 cs0 queue0 first core cs queue now None → ServerNext true (first_in InProxy now.rest) leaving leaving' core core' cs cs' queue queue' now new None ended'
-    → HearingAll all leaving0 leaving' core0 cs0 queue0 first core' cs' queue' new ended'
-hearing-goes all leaving0 leaving leaving' core0 core core' cs0 cs cs' queue0 queue queue' first now new ended' pol h says = by_front (first_in InProxy now.rest) refl says
+pub hearing-goes : (all : List ℕ) (old mid new : Crowd) (first was now : ServerState) (ended' : Option Ended)
+    → new.core.policy ≡ mid.core.policy → HearingAll all old mid first was None → ServerNext true (first_in InProxy was.rest) mid new was now None ended' → HearingAll all old new first now ended'
+hearing-goes all old mid new first was now ended' pol h says = by_front (first_in InProxy was.rest) refl says
   where
-    by_front : (f : Front) → first_in InProxy now.rest ≡ f → ServerNext true f leaving leaving' core core' cs cs' queue queue' now new None ended' → HearingAll all leaving0 leaving' core0 cs0 queue0 first core' cs' queue' new ended'
-    by_front (Frame content rest) e s = hearing-frame all content rest leaving0 leaving leaving' core0 core core' cs0 cs cs' queue0 queue queue' first now new ended' pol e h s
+    by_front : (f : Front) → first_in InProxy was.rest ≡ f → ServerNext true f mid new was now None ended' → HearingAll all old new first now ended'
+    by_front (Frame content rest) e s = hearing-frame all content rest old mid new first was now ended' pol e h s
     by_front More e s = absurd s
-    by_front (Faulty fault) e s = hearing-fault all fault leaving0 leaving leaving' core0 core core' cs0 cs cs' queue0 queue queue' first now new ended' e h s
+    by_front (Faulty fault) e s = hearing-fault all fault old mid new first was now ended' e h s
 
 -- what was said next, while the run went on, by whether there was anything
-pub turn : (more more' : Bool) (leaving leaving' : List (ℕ × Option Why)) (core core' : CoreState) (cs cs' : List ClientState) (queue queue' : QueueState) (now new : ServerState) (ended ended' : Option Ended)
-    → more ≡ more' → ended ≡ None → ServerNext more (first_in InProxy now.rest) leaving leaving' core core' cs cs' queue queue' now new ended ended' → ServerNext more' (first_in InProxy now.rest) leaving leaving' core core' cs cs' queue queue' now new None ended'
-turn more more' leaving leaving' core core' cs cs' queue queue' now new ended ended' m e says =
-    subst (λ (b : Bool). ServerNext b (first_in InProxy now.rest) leaving leaving' core core' cs cs' queue queue' now new None ended') m
-    (subst (λ (o : Option Ended). ServerNext more (first_in InProxy now.rest) leaving leaving' core core' cs cs' queue queue' now new o ended') e says)
+pub turn : (more more' : Bool) (old new : Crowd) (was now : ServerState) (ended ended' : Option Ended)
+    → more ≡ more' → ended ≡ None → ServerNext more (first_in InProxy was.rest) old new was now ended ended' → ServerNext more' (first_in InProxy was.rest) old new was now None ended'
+turn more more' old new was now ended ended' m e says =
+    subst (λ (b : Bool). ServerNext b (first_in InProxy was.rest) old new was now None ended') m
+    (subst (λ (o : Option Ended). ServerNext more (first_in InProxy was.rest) old new was now o ended') e says)
 
 pub none-then : (o : Option Ended) → is_some o ≡ false → o ≡ None
 none-then None e = refl
@@ -170,6 +164,13 @@ left_of (Some cause) rest = 0
 
 -- ---- with the room
 
-pub record ServerLoop (all : List ℕ) (leaving0 leaving : List (ℕ × Option Why)) (core0 : CoreState) (cs0 : List ClientState) (queue0 : QueueState) (first : ServerState) (core : CoreState) (cs : List ClientState) (queue : QueueState) (now : ServerState) (ended : Option Ended) : Type 0 where
-  pub hearing : HearingAll all leaving0 leaving core0 cs0 queue0 first core cs queue now ended
-  pub room : HasRoom cs queue
+pub record ServerLoop (all : List ℕ) (old new : Crowd) (first now : ServerState) (ended : Option Ended) : Type 0 where
+  pub hearing : HearingAll all old new first now ended
+  pub room : HasRoom new.clients.all new.up
+
+-- the losses that were noted before a want of memory, and by it
+pub more-noted : (all : List ℕ) (old new : Crowd) (first now : ServerState) (ended : Option Ended) (later : List (ℕ × Option Why)) → HearingAll all old new first now ended → NotesMore new.clients.leaving later → NotesMore old.clients.leaving later
+more-noted all old new first now ended later h m = record {
+  more = h.noted ++ m.more;
+  longer = m.longer ∙ (ap (λ l. l ++ m.more) h.leaves ∙ append_assoc old.clients.leaving h.noted m.more);
+}

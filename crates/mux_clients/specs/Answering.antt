@@ -9,7 +9,7 @@ use Rattle.mux_history.specs.Rows.{Row, HouseSays, is_end, is_ended, is_refusal}
 use Rattle.mux_history.specs.Settings.{by_lists}
 use Rattle.mux_history.specs.Log.{next_row}
 use Rattle.mux_core.specs.State.{CoreState}
-use Rattle.mux_clients.specs.State.{ClientState, Part, part}
+use Rattle.mux_clients.specs.State.{ClientState, Crowd, Part, part}
 use Rattle.mux_clients.specs.Stands.{Fits, is_lost}
 use Rattle.mux_clients.specs.Losing.{loss_between}
 use Rattle.mux_clients.specs.Among.{AreAmong, ChangesOne, KeepReading, is_present}
@@ -45,13 +45,12 @@ pub record AnswersNoting (k id : ℕ) (given : HouseReply) (noted : List (ℕ ×
   pub answers : AnswersIn id given old new up up' x y
   pub noted_is : noted ≡ loss_between x.seat.standing y.seat.standing k
 
--- the reply to the client of a number, where it is here; `leaving` has the losses that were noted
--- before, and `leaving'` those of now
-pub record AnswersAt (k id : ℕ) (given : HouseReply) (leaving leaving' : List (ℕ × Option Why))
-    (old new : CoreState) (up up' : QueueState) (cs cs' : List ClientState) : Type 0 where
+-- the reply to the client of a number, where it is here; the losses are noted behind those of before
+pub record AnswersAt (k id : ℕ) (given : HouseReply) (old new : Crowd) : Type 0 where
   pub noted : List (ℕ × Option Why)
-  pub leaves : leaving' ≡ leaving ++ noted
-  pub changes : is_present cs k ≡ true
-      → ChangesOne k (AnswersNoting k id given noted old new up up') cs cs'
-  pub among : AreAmong cs noted
-  pub reading : KeepReading cs cs'
+  pub leaves : new.clients.leaving ≡ old.clients.leaving ++ noted
+  pub changes : is_present old.clients.all k ≡ true
+      → ChangesOne k (AnswersNoting k id given noted old.core new.core old.up new.up)
+      old.clients.all new.clients.all
+  pub among : AreAmong old.clients.all noted
+  pub reading : KeepReading old.clients.all new.clients.all

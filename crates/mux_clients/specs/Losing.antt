@@ -1,5 +1,5 @@
 -- A client whose stream is gone, from every list of rows that the part stood for.
-use Rattle.std.specs.Prelude.{◌≡◌, ℕ, List, [], ◌∷◌, false, Option, None, MatchBool, if◌then◌else◌}
+use Rattle.std.specs.Prelude.{◌≡◌, ℕ, List, [], ◌∷◌, ◌++◌, false, Option, None, MatchBool, if◌then◌else◌}
 use Rattle.mux_outside.specs.declared.house.HouseReply.{HouseReply}
 use Rattle.proxy_frames.specs.State.{QueueState}
 use Rattle.mux_history.specs.declared.why.Why.{Why}
@@ -35,6 +35,11 @@ LosesIn old new up up' x y = MatchBool (is_lost x.seat.standing) (LosesNothing o
     (Loses (part old x.seat up) (part new y.seat up'))
 
 -- ---- who is noted as lost
+
+-- more are noted behind those that were
+pub record NotesMore (old new : List (ℕ × Option Why)) : Type 0 where
+  pub more : List (ℕ × Option Why)
+  pub longer : new ≡ old ++ more
 
 -- a client that is lost, with the cause
 abbrev pub loss_in : Standing → ℕ → List (ℕ × Option Why)

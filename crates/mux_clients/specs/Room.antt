@@ -1,9 +1,10 @@
 -- The room that lasts in the server's queue for what is said of clients that leave.
-use Rattle.std.specs.Prelude.{◌≤◌, ◌+◌, ◌*◌, ℕ, List, [], ◌∷◌, length, if◌then◌else◌}
+use Rattle.std.specs.Prelude.{◌≡◌, ◌≤◌, ◌+◌, ◌*◌, ℕ, List, [], ◌∷◌, length, if◌then◌else◌}
 use Rattle.proxy_frames.specs.State.{QueueState}
 use Rattle.client_teardown.specs.declared.farewell.TheConstants.{FAREWELL_ROOM}
 use Rattle.mux_clients.specs.State.{ClientState}
 use Rattle.mux_clients.specs.Stands.{is_lost}
+use Rattle.mux_clients.specs.Among.{is_present, numbers}
 
 -- the clients that are not lost
 abbrev pub served_in : List ClientState → List ℕ
@@ -13,6 +14,12 @@ served_in (c ∷ cs) = if is_lost c.seat.standing then served_in cs else c.seat.
 -- there is room for the farewell of each of them
 abbrev pub HasRoom : List ClientState → QueueState → Type 0
 HasRoom cs up = FAREWELL_ROOM * length (served_in cs) ≤ up.spare
+
+-- the same clients are here in the same order, and there is room for them where there was
+pub record KeepsAll (cs cs' : List ClientState) (up up' : QueueState) : Type 0 where
+  pub present : (j : ℕ) → is_present cs' j ≡ is_present cs j
+  pub numbers_same : numbers cs' ≡ numbers cs
+  pub room : HasRoom cs up → HasRoom cs' up'
 
 -- the room that a client's farewell may need yet
 abbrev pub farewell_of : ClientState → ℕ

@@ -1,5 +1,5 @@
 -- What is kept of a client, and what one saying of it touches.
-use Rattle.std.specs.Prelude.{◌≤◌, ◌+◌, ℕ, List, ◌++◌, length, drop, replicate, Option}
+use Rattle.std.specs.Prelude.{◌≡◌, ◌≤◌, ◌+◌, ℕ, List, [], ◌++◌, length, drop, replicate, Option}
 use Rattle.ssh_grammar.specs.Frames.{frame_payload}
 use Rattle.ssh_grammar.specs.SpellMessage.{request_failure}
 use Rattle.proxy_frames.specs.State.{QueueState}
@@ -22,6 +22,32 @@ pub record ClientState : Type 0 where
   pub seat : SeatState
   pub rest : List ℕ
 
+-- the clients of a master: those that were let in, in the order in which they came; and those that
+-- are lost or refused and not closed, in that order, each with the cause for which it was dropped
+pub record ClientsState : Type 0 where
+  pub all : List ClientState
+  pub leaving : List (ℕ × Option Why)
+
+abbrev pub clients_of : List ClientState → List (ℕ × Option Why) → ClientsState
+clients_of all leaving = record { all = all; leaving = leaving }
+
+-- before anyone came
+abbrev pub no_clients : ClientsState
+no_clients = clients_of [] []
+
+-- the clients, the shared connection, and what waits for the server
+pub record Crowd : Type 0 where
+  pub clients : ClientsState
+  pub core : CoreState
+  pub up : QueueState
+
+abbrev pub crowd : ClientsState → CoreState → QueueState → Crowd
+crowd clients core up = record { clients = clients; core = core; up = up }
+
+-- nothing is touched
+abbrev pub IsUntouched : Crowd → Crowd → Type 0
+IsUntouched old new = new ≡ old
+
 -- the shared connection, a client, and what waits for the server
 pub record Part : Type 0 where
   pub core : CoreState
@@ -39,6 +65,11 @@ refusals_of n = replicate n (frame_payload request_failure)
 abbrev pub KeepsRoom : QueueState → QueueState → Standing → Type 0
 KeepsRoom old new (Lost why) = old.spare ≤ new.spare + FAREWELL_ROOM
 KeepsRoom old new standing = old.spare ≤ new.spare
+
+-- a client keeps its number, and the room that lasts
+pub record KeepsSeat (up up' : QueueState) (old new : SeatState) : Type 0 where
+  pub number : new.number ≡ old.number
+  pub spare : KeepsRoom up up' new.standing
 
 -- a client that is told these frames, as far as they fit into its queue
 abbrev pub told : List (List ℕ) → SeatState → SeatState

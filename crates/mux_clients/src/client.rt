@@ -1,9 +1,9 @@
-ghost use Rattle.std.specs.Prelude.{◌≡◌, ◌≤◌, ◌+◌, [], ◌∷◌, ◌++◌, length, IfOk, OnOk, OnErr, Some, None, true, false, if◌then◌else◌};
+ghost use Rattle.std.specs.Prelude.{◌≡◌, ◌≤◌, ◌+◌, [], ◌∷◌, length, IfOk, OnOk, OnErr, Some, None, true, false};
 ghost use Rattle.ssh_grammar.specs.declared.framing.Framing.TheVariants.{Proxy};
 ghost use Rattle.ssh_grammar.specs.IsFrame.{IsContent};
 ghost use Rattle.ssh_grammar.specs.Frames.{frame_payload};
 ghost use Rattle.mux_clients.specs.Asked.{Heeds};
-ghost use Rattle.mux_clients.specs.State.{client_took, part, refusals_of, KeepsRoom};
+ghost use Rattle.mux_clients.specs.State.{client_took, part, refusals_of, KeepsSeat};
 ghost use Rattle.mux_clients.specs.Hears.{HearsTold};
 ghost use Rattle.ssh_grammar.specs.Said.{first_in};
 ghost use Rattle.mux_clients.specs.Stands.{is_lost, is_read, mode_of};
@@ -13,7 +13,7 @@ ghost use Rattle.mux_clients.specs.Pieces.{HearsIn, HearsPiece};
 ghost use Rattle.mux_clients.specs.Starved.{AsksNext, HearsSome};
 ghost use Rattle.mux_clients.specs.Losing.{LosesIn};
 ghost use Rattle.mux_clients.specs.Answering.{AnswersIn};
-ghost use Rattle.mux_clients.specs.Entering.{Enters, new_client};
+ghost use Rattle.mux_clients.specs.Entering.{new_client};
 
 use crate::ask_log::AskLog;
 use crate::decision::decide;
@@ -51,29 +51,6 @@ impl Model for Client {
         → (a.framer.framing ≡ framing_of a.seat.standing) × (a.framer.fault ≡ None) };
 }
 
-/// A client comes: whether it is let in. Then the master's hello waits for it, and its own is
-/// awaited.
-pub fn admit(
-    clients: &mut Vec<Client>,
-    alloc: Global,
-    number: u64,
-    core: &mut Core,
-) -> Result<bool, OutOfMemory>
-    ensures enters { IfOk result (λ let_in.
-        Enters number core.old core.new clients.old.items clients.new.items let_in) }
-    ensures clients { IfOk result (λ let_in.
-        clients.new.items ≡ (if let_in then clients.old.items ++ new_client number ∷ []
-        else clients.old.items)) }
-    ensures policy { core.new.policy ≡ core.old.policy }
-{
-    let client = Client::new(alloc, number)?;
-    if !core.admit(number)? {
-        return Ok(false);
-    }
-    clients.push(client)?;
-    Ok(true)
-}
-
 impl Client {
     /// A client that comes: the master's hello waits for it, and its own is awaited.
     pub fn new(alloc: Global, number: u64) -> Result<Client, OutOfMemory>
@@ -106,8 +83,8 @@ impl Client {
         }
     }
 
-    /// A piece of its bytes, where it is read.
-    pub fn hear<H: Asks>(
+    /// Its stream gave bytes, which are read where it is: what they did beyond it.
+    pub fn got<H: Asks>(
         &mut self,
         pid: u32,
         bytes: &[u8],
@@ -129,7 +106,7 @@ impl Client {
         ensures policy { OnOk result (core.new.policy ≡ core.old.policy) }
     {
         if self.seat.is_read() {
-            return self.got(pid, bytes, house, asks, core, up);
+            return self.read(pid, bytes, house, asks, core, up);
         }
         Ok(Heard {
             stops: false,
@@ -142,6 +119,13 @@ impl Client {
         ensures { result ≡ self.now.seat.number }
     {
         self.seat.number()
+    }
+
+    /// Whether what it says is read.
+    pub fn is_read(&self) -> bool
+        ensures { result ≡ is_read self.now.seat.standing }
+    {
+        self.seat.is_read()
     }
 
     /// How it stands.
@@ -247,8 +231,7 @@ impl Client {
             self.old.seat.number self.old.seat.standing
             (first_in (mode_of self.old.seat.standing) self.old.rest)) }
         ensures policy { core.new.policy ≡ core.old.policy }
-        ensures number { OnOk result (self.new.seat.number ≡ self.old.seat.number) }
-        ensures spare { OnOk result (KeepsRoom up.old up.new self.new.seat.standing) }
+        ensures keeps { OnOk result (KeepsSeat up.old up.new self.old.seat self.new.seat) }
     {
         match self.framer.next() {
             Next::More => Ok(false),
@@ -279,8 +262,8 @@ impl Client {
         }
     }
 
-    /// Its stream gave bytes, where it is read: what they did beyond it.
-    pub fn got<H: Asks>(
+    // Reads a piece of its bytes: what they did beyond it.
+    fn read<H: Asks>(
         &mut self,
         pid: u32,
         bytes: &[u8],
@@ -299,8 +282,7 @@ impl Client {
         ensures cut { OnErr result (HearsSome H.may (H.state house.old).told
             (H.state house.new).told pid bytes.now core.old up.old self.old) }
         ensures policy { OnOk result (core.new.policy ≡ core.old.policy) }
-        ensures number { OnOk result (self.new.seat.number ≡ self.old.seat.number) }
-        ensures spare { OnOk result (KeepsRoom up.old up.new self.new.seat.standing) }
+        ensures keeps { OnOk result (KeepsSeat up.old up.new self.old.seat self.new.seat) }
     {
         let mut heard = Heard {
             stops: false,

@@ -1,40 +1,40 @@
 ghost use Rattle.std.specs.Prelude.{◌≡◌, ℕ, IfOk, OnOk};
 ghost use Rattle.mux_clients.specs.Hearings.{HearsPayload};
 ghost use Rattle.mux_clients.specs.Among.{is_present};
+ghost use Rattle.mux_clients.specs.Losing.{NotesMore};
 ghost use Rattle.mux_clients.specs.Room.{HasRoom};
+ghost use Rattle.mux_clients.specs.State.{crowd};
 ghost use Rattle.ssh_grammar.specs.IsFrame.{IsContent};
 ghost use Rattle.ssh_grammar.specs.declared.framing.Framing.TheVariants.{Proxy};
 
-use crate::among::hear_at;
-use crate::client::Client;
+use crate::clients::Clients;
 use mux_core::{Core, Heard};
-use mux_history::{Ended, Why};
+use mux_history::Ended;
 use proxy_frames::Queue;
 use ssh_fields::OutOfMemory;
 
-/// The server says a payload, its `index`th: how the run ends by it, if it does. A client that is
-/// lost by it is pushed to `leaving`, with the cause.
-pub fn hear(
-    clients: &mut [Client],
+/// A payload of the server, its `index`th, is delivered: how the run ends by it, if it does.
+pub fn deliver(
+    clients: &mut Clients,
     index: u64,
     payload: &mut [u8],
-    leaving: &mut Vec<(u64, Option<Why>)>,
     core: &mut Core,
     up: &mut Queue,
 ) -> Result<Option<Ended>, OutOfMemory>
     requires payload { IsContent Proxy payload.old }
-    requires room { HasRoom clients.old up.old }
-    ensures hears { IfOk result (λ ended.
-        HearsPayload payload.old index leaving.old.items leaving.new.items core.old core.new
-        clients.old clients.new up.old up.new ended) }
-    ensures present { OnOk result ((j : ℕ) → is_present clients.new j ≡ is_present clients.old j) }
-    ensures room { OnOk result (HasRoom clients.old up.old → HasRoom clients.new up.new) }
+    requires room { HasRoom clients.old.all up.old }
+    ensures hears { IfOk result (λ ended. HearsPayload payload.old index
+        (crowd clients.old core.old up.old) (crowd clients.new core.new up.new) ended) }
+    ensures present { OnOk result
+        ((j : ℕ) → is_present clients.new.all j ≡ is_present clients.old.all j) }
+    ensures room { OnOk result (HasRoom clients.old.all up.old → HasRoom clients.new.all up.new) }
+    ensures more { NotesMore clients.old.leaving clients.new.leaving }
     ensures policy { OnOk result (core.new.policy ≡ core.old.policy) }
 {
     match core.heard(payload, up)? {
         Heard::Master | Heard::Lost { .. } => Ok(None),
         Heard::Client { client, refusals } => {
-            hear_at(clients, client, payload, refusals, leaving, core, up)?;
+            clients.hears(client, payload, refusals, core, up)?;
             Ok(None)
         }
         Heard::Disconnect => Ok(Some(Ended::Disconnected)),

@@ -139,8 +139,8 @@ impl Seat {
         }
     }
 
-    // It is dropped, and says farewell.
-    fn leave(&mut self, why: Why, core: &mut Core, up: &mut Queue)
+    // It is dropped for a cause, and says farewell.
+    fn drop_for(&mut self, why: Why, core: &mut Core, up: &mut Queue)
         requires room { FAREWELL_ROOM ≤ up.old.spare }
         ensures seat { self.new ≡ record self.old { standing = Lost (Some why) } }
         ensures out { is_read self.new.standing ≡ false }
@@ -176,7 +176,7 @@ impl Seat {
         ensures policy { core.new.policy ≡ core.old.policy }
         ensures spare { KeepsRoom up.old up.new self.new.standing }
     {
-        self.leave(Why::BadFrame(fault), core, up);
+        self.drop_for(Why::BadFrame(fault), core, up);
     }
 
     /// It says a payload.
@@ -201,12 +201,12 @@ impl Seat {
             Verdict::Answer(answer) => match self.tell(answer.as_bytes())? {
                 None => Ok(()),
                 Some(why) => {
-                    self.leave(why, core, up);
+                    self.drop_for(why, core, up);
                     Ok(())
                 }
             },
             Verdict::Drop(why) => {
-                self.leave(why, core, up);
+                self.drop_for(why, core, up);
                 Ok(())
             }
         }
@@ -232,7 +232,7 @@ impl Seat {
         match self.tell_all(payload, refusals)? {
             None => Ok(()),
             Some(why) => {
-                self.leave(why, core, up);
+                self.drop_for(why, core, up);
                 Ok(())
             }
         }
@@ -280,7 +280,7 @@ impl Seat {
         match self.tell_frame(&answer_of(true, id, reply))? {
             None => Ok(()),
             Some(why) => {
-                self.leave(why, core, up);
+                self.drop_for(why, core, up);
                 Ok(())
             }
         }
@@ -306,7 +306,7 @@ impl Seat {
     {
         match decision.fate {
             Fate::Drops(why) => {
-                self.leave(why, core, up);
+                self.drop_for(why, core, up);
                 Ok(())
             }
             Fate::Ends(cause) => {
@@ -319,7 +319,7 @@ impl Seat {
                 &decision.told,
             )? {
                 Some(why) => {
-                    self.leave(why, core, up);
+                    self.drop_for(why, core, up);
                     Ok(())
                 }
                 None => {

@@ -2,12 +2,14 @@ ghost use Rattle.std.specs.Prelude.{◌≡◌, length, IfOk, OnOk, None};
 ghost use Rattle.ssh_grammar.specs.declared.framing.Framing.TheVariants.{Proxy as InFrames};
 ghost use Rattle.ssh_grammar.specs.Said.{first_in, InProxy};
 ghost use Rattle.mux_clients.specs.Server.{HearsBytes, ServerNext, new_server, stream_end};
+ghost use Rattle.mux_clients.specs.Losing.{NotesMore};
 ghost use Rattle.mux_clients.specs.Room.{HasRoom};
+ghost use Rattle.mux_clients.specs.State.{crowd};
 
-use crate::client::Client;
-use crate::hearing::hear;
+use crate::clients::Clients;
+use crate::hearing::deliver;
 use mux_core::Core;
-use mux_history::{Break, Ended, Why};
+use mux_history::{Break, Ended};
 use proxy_frames::{Framer, Framing, Next, Queue};
 use ssh_fields::OutOfMemory;
 use std::alloc::Global;
@@ -67,20 +69,20 @@ impl Server {
     // What it says next: whether anything whole was there.
     fn say_next(
         &mut self,
-        clients: &mut [Client],
+        clients: &mut Clients,
         ended: &mut Option<Ended>,
-        leaving: &mut Vec<(u64, Option<Why>)>,
         core: &mut Core,
         up: &mut Queue,
     ) -> Result<bool, OutOfMemory>
         requires cuts { self.old.framing ≡ InFrames }
         requires well { self.old.fault ≡ None }
-        requires room { HasRoom clients.old up.old }
+        requires room { HasRoom clients.old.all up.old }
         ensures next { IfOk result (λ more.
-            ServerNext more (first_in InProxy self.old.rest) leaving.old.items leaving.new.items
-            core.old core.new clients.old clients.new up.old up.new self.old self.new ended.old
-            ended.new) }
-        ensures room { OnOk result (HasRoom clients.old up.old → HasRoom clients.new up.new) }
+            ServerNext more (first_in InProxy self.old.rest) (crowd clients.old core.old up.old)
+            (crowd clients.new core.new up.new) self.old self.new ended.old ended.new) }
+        ensures room { OnOk result
+            (HasRoom clients.old.all up.old → HasRoom clients.new.all up.new) }
+        ensures more { NotesMore clients.old.leaving clients.new.leaving }
         ensures policy { OnOk result (core.new.policy ≡ core.old.policy) }
     {
         match self.framer.next() {
@@ -93,7 +95,7 @@ impl Server {
                 Ok(true)
             }
             Next::Frame => {
-                *ended = hear(clients, self.index, self.framer.frame(), leaving, core, up)?;
+                *ended = deliver(clients, self.index, self.framer.frame(), core, up)?;
                 self.index = self.index.saturating_add(1);
                 Ok(true)
             }
@@ -101,29 +103,29 @@ impl Server {
     }
 
     /// Its stream gave bytes, where it is read: how the run ended by them, if it did. After an end
-    /// it isn't read again. The clients that are lost by it are pushed to `leaving`, in that order,
-    /// each with the cause.
+    /// it isn't read again. The clients that are lost by it are to be closed, in that order.
     pub fn got(
         &mut self,
-        clients: &mut [Client],
+        clients: &mut Clients,
         bytes: &[u8],
-        leaving: &mut Vec<(u64, Option<Why>)>,
         core: &mut Core,
         up: &mut Queue,
     ) -> Result<Option<Ended>, OutOfMemory>
         requires cuts { self.old.framing ≡ InFrames }
         requires well { self.old.fault ≡ None }
-        requires room { HasRoom clients.old up.old }
+        requires room { HasRoom clients.old.all up.old }
         ensures hears { IfOk result (λ ended.
-            HearsBytes bytes.now leaving.old.items leaving.new.items core.old clients.old up.old
-            self.old core.new clients.new up.new self.new ended) }
-        ensures room { OnOk result (HasRoom clients.old up.old → HasRoom clients.new up.new) }
+            HearsBytes bytes.now (crowd clients.old core.old up.old)
+            (crowd clients.new core.new up.new) self.old self.new ended) }
+        ensures room { OnOk result
+            (HasRoom clients.old.all up.old → HasRoom clients.new.all up.new) }
+        ensures more { NotesMore clients.old.leaving clients.new.leaving }
         ensures policy { OnOk result (core.new.policy ≡ core.old.policy) }
     {
         self.framer.push(bytes)?;
         let mut ended = None;
         while ended.is_none() {
-            if !self.say_next(clients, &mut ended, leaving, core, up)? {
+            if !self.say_next(clients, &mut ended, core, up)? {
                 break;
             }
         }

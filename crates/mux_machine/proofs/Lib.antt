@@ -1,4 +1,3 @@
-pub mod Heeded
 mod Asking
 mod Bounded
 mod Closes
@@ -19,7 +18,6 @@ mod OneClient
 mod Others
 pub mod Over
 mod Pairs
-mod Places
 mod Queues
 mod Refused
 mod Rests

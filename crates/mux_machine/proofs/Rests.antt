@@ -56,11 +56,11 @@ server-rest s parts n picked given marks closed view is on st =
     let le : length s.server.rest ≤ 262147 = server-short (bytes_of 0 marks) s.server.rest r.mode_is r.rest_is in
     omega (arith, le, is, ap (λ (x : State). length x.server.rest) view)
 
-pub client-rest : (s parts : State) (k n : ℕ) (shown : List ClientState) (picked : List ℕ) (given : List HouseReply) (marks : List Mark) (closed : List ℕ) → parts ≡ s → shown ≡ parts.clients → n ≡ length (in_client [] (λ c. c.rest) shown k) → (is_heard shown k ≡ false → n ≡ 0) → is_some parts.ended ≡ false → Stands picked given s marks closed → n ≤ 262147
-client-rest s parts k n shown picked given marks closed view shows exact unheard on st = by_heard (is_heard s.clients k) refl
+pub client-rest : (s parts : State) (k n : ℕ) (picked : List ℕ) (given : List HouseReply) (marks : List Mark) (closed : List ℕ) → parts ≡ s → n ≡ length (in_client [] (λ c. c.rest) parts.clients k) → (is_heard parts.clients k ≡ false → n ≡ 0) → is_some parts.ended ≡ false → Stands picked given s marks closed → n ≤ 262147
+client-rest s parts k n picked given marks closed view exact unheard on st = by_heard (is_heard s.clients k) refl
   where
-    same : shown ≡ s.clients
-    same = shows ∙ ap (λ (x : State). x.clients) view
+    same : parts.clients ≡ s.clients
+    same = ap (λ (x : State). x.clients) view
 
     by_heard : (b : Bool) → is_heard s.clients k ≡ b → n ≤ 262147
     by_heard true e =

@@ -13,13 +13,14 @@ use Rattle.mux_history.specs.Journal.{bytes_of, items_in, said_item}
 use Rattle.mux_history.specs.Log.{more_all}
 use Rattle.mux_core.specs.State.{CoreState}
 use Rattle.mux_clients.specs.declared.heard.Heard.{Heard}
-use Rattle.mux_clients.specs.State.{ClientState}
+use Rattle.mux_clients.specs.State.{ClientState, ClientsState}
 use Rattle.mux_clients.specs.Stands.{is_read, mode_of}
-use Rattle.mux_clients.specs.Among.{ChangesOne, EachFits, InFits, is_present}
+use Rattle.mux_clients.specs.Among.{ChangesOne, EachFits, InFits, Noting, NotesOne, is_present}
 use Rattle.mux_clients.specs.Asked.{Heeds, asked_of}
 use Rattle.mux_clients.specs.Pieces.{HearsIn, ReplyNext, rows_said}
 use Rattle.mux_clients.specs.Says.{ComeNext}
 use Rattle.mux_clients.specs.Starved.{BeginsWith, HearsSome, OneIs}
+use Rattle.mux_clients.proofs.Found.{hears-of}
 use Rattle.mux_clients.proofs.Heeding.{tells_none}
 use Rattle.mux_clients.proofs.Journaled.{says-new}
 use Rattle.mux_clients.proofs.Starved.{all-begin, hears-all}
@@ -35,7 +36,6 @@ use Rattle.mux_machine.proofs.Lists.{either, true_false}
 use Rattle.mux_machine.proofs.Looked.{changes-so, so-here}
 use Rattle.mux_machine.proofs.Over.{some-end}
 use Rattle.mux_machine.proofs.Pairs.{Pair, pair}
-use Rattle.mux_machine.proofs.Written.{hears-of}
 
 -- ---- the client of a number
 
@@ -66,20 +66,18 @@ one-here k P (c ∷ cs) h = by_head (c.seat.number == k) h (one-here k P cs)
 
 -- ---- as the code shows it
 
-pub some-shown : (May : HouseReply → Type 0) (told told' : Option (List Asked)) (k : ℕ) (bytes : List ℕ) (parts s : State) (lent : List ClientState) → parts ≡ s → lent ≡ parts.clients → OneIs k (HearsSome May told told' parts.pid bytes parts.core parts.up) lent → OneIs k (HearsSome May told told' s.pid bytes s.core s.up) s.clients
-some-shown May told told' k bytes parts s lent view lends h =
-    subst (λ (x : State). OneIs k (HearsSome May told told' x.pid bytes x.core x.up) x.clients) view
-    (subst (λ (l : List ClientState). OneIs k (HearsSome May told told' parts.pid bytes parts.core parts.up) l) lends h)
+pub some-shown : (May : HouseReply → Type 0) (told told' : Option (List Asked)) (k : ℕ) (bytes : List ℕ) (parts s : State) → parts ≡ s → OneIs k (HearsSome May told told' parts.pid bytes parts.core parts.up) parts.clients → OneIs k (HearsSome May told told' s.pid bytes s.core s.up) s.clients
+some-shown May told told' k bytes parts s view h = subst (λ (x : State). OneIs k (HearsSome May told told' x.pid bytes x.core x.up) x.clients) view h
 
 -- all was taken in, and then there was no memory
-pub some-heard : {A E : Type 0} {a : A} (May : HouseReply → Type 0) {asks asks' : List Asked} {old new : HouseState} (pid : ℕ) (bytes : List ℕ) (core core' : CoreState) (up up' : QueueState) (heard : Heard) (k : ℕ) (lent cs : List ClientState) → is_heard lent k ≡ true
-    → (is_present lent k ≡ true → ChangesOne k (HearsIn May (Some asks) (Some asks') pid bytes core core' up up' heard) lent cs) → Heeds {A = A} {E = E} (Ok a) asks asks' old new → OneIs k (HearsSome May old.told new.told pid bytes core up) lent
-some-heard May {asks} {asks'} {old} {new} pid bytes core core' up up' heard k lent cs read hears h =
-    let here : is_present lent k ≡ true = so-here is_read k lent read in
-    let R : ClientState → ClientState → Type 0 = HearsIn May (Some asks) (Some asks') pid bytes core core' up up' heard in
-    changes-one k (λ x y. (is_read x.seat.standing ≡ true) × R x y) (HearsSome May old.told new.told pid bytes core up) lent cs
-    (λ x y r. hears-all May pid bytes core core' up up' x y heard r.0 (hears-of May (Some asks) (Some asks') pid bytes core core' up up' heard x y r.0 r.1) h)
-    here (changes-so is_read k R lent cs read (hears here))
+pub some-heard : {A E : Type 0} {a : A} (May : HouseReply → Type 0) {asks asks' : List Asked} {old new : HouseState} (pid : ℕ) (bytes : List ℕ) (core core' : CoreState) (up up' : QueueState) (heard : Heard) (k : ℕ) (was now : ClientsState) → is_heard was.all k ≡ true
+    → NotesOne k (HearsIn May (Some asks) (Some asks') pid bytes core core' up up' heard) was now → Heeds {A = A} {E = E} (Ok a) asks asks' old new → OneIs k (HearsSome May old.told new.told pid bytes core up) was.all
+some-heard May {asks} {asks'} {old} {new} pid bytes core core' up up' heard k was now read hears h =
+    let here : is_present was.all k ≡ true = so-here is_read k was.all read in
+    let R : ClientState → ClientState → Type 0 = Noting k hears.noted (HearsIn May (Some asks) (Some asks') pid bytes core core' up up' heard) in
+    changes-one k (λ x y. (is_read x.seat.standing ≡ true) × R x y) (HearsSome May old.told new.told pid bytes core up) was.all now.all
+    (λ x y r. hears-all May pid bytes core core' up up' x y heard r.0 (hears-of May (Some asks) (Some asks') pid bytes core core' up up' heard x y r.0 r.1.goes) h)
+    here (changes-so is_read k R was.all now.all read (hears.changes here))
 
 -- ---- an event
 

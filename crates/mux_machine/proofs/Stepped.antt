@@ -16,7 +16,7 @@ use Rattle.mux_machine.specs.Events.{Tells}
 use Rattle.mux_machine.specs.Moves.{AnsweredAt, GainsAt, HeardAt, IsEvent, IsGone, LosesAt, not_lost}
 use Rattle.mux_machine.specs.State.{State, entered, numbers, over, server_cause}
 use Rattle.mux_machine.specs.Stands.{GoesAlone, GoesOn}
-use Rattle.mux_machine.specs.Steps.{EntersAt, is_heard, is_served}
+use Rattle.mux_machine.specs.Steps.{EntersAt, GainsFrom, is_heard, is_served}
 use Rattle.mux_machine.proofs.Asking.{alone-goes}
 use Rattle.mux_machine.proofs.Comes.{goes-in}
 use Rattle.mux_machine.proofs.Gains.{goes-gained}
@@ -179,10 +179,9 @@ pub replied-on : {T E : Type 0} (r : Result T E) (s new : State) (k id : ℕ) (g
 replied-on (Ok x) s new k id given answers stays = record { answers = answers; stays = stays }
 replied-on (Err e) s new k id given answers stays = tt
 
-pub gained-on : {T E : Type 0} (r : Result T E) (May : HouseReply → Type 0) (before told : Option (List Asked)) (s new : State) (k : ℕ) (bytes : List ℕ) → OnOk r (is_heard s.clients k ≡ true → GainsAt May before told s new k bytes) → OnOk r (is_heard s.clients k ≡ false → new ≡ s) → (is_heard s.clients k ≡ false → told ≡ before) → OnOk r (new.core.policy ≡ s.core.policy) → OnOk r (numbers new.clients ≡ numbers s.clients)
-    → OnOk r (Gained May before told s new k bytes)
-gained-on (Ok x) May before told s new k bytes gains stays untold policy same = record { gains = gains; stays = stays; untold = untold; policy = policy; numbers_are = same }
-gained-on (Err e) May before told s new k bytes gains stays untold policy same = tt
+pub gained-on : {T E : Type 0} (r : Result T E) (May : HouseReply → Type 0) (before told : Option (List Asked)) (s new : State) (k : ℕ) (bytes : List ℕ) → OnOk r (GainsFrom May before told s new k bytes) → (is_heard s.clients k ≡ false → told ≡ before) → OnOk r (Gained May before told s new k bytes)
+gained-on (Ok x) May before told s new k bytes g untold = record { gains = g.gains; stays = g.stays; untold = untold; policy = g.policy; numbers_are = g.numbers_are }
+gained-on (Err e) May before told s new k bytes g untold = tt
 
 pub cause-as : (s : State) → stream_end s.server.rest s.server.index ≡ server_cause s
 cause-as s = by_rest s.server.rest

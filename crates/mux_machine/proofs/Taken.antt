@@ -1,29 +1,26 @@
 -- The parts of an engine after bytes were taken or a stream was closed.
-use Rattle.std.proofs.Common.{◌≡◌, ℕ, Bool, true, false, not, List, [], ◌++◌, length, take, drop, Option, sym, ap, ◌∙◌, subst, cond}
+use Rattle.std.proofs.Common.{◌≡◌, ℕ, Bool, true, false, not, List, [], Option, sym, ap, ◌∙◌, subst, cond}
 use Rattle.std.specs.Prelude.{◌==◌, filter}
 use Rattle.proxy_frames.specs.Queued.{without_first}
 use Rattle.proxy_frames.specs.State.{QueueState}
 use Rattle.mux_outside.specs.Streams.{without}
 use Rattle.mux_history.specs.Promises.{is_empty}
 use Rattle.mux_history.specs.declared.why.Why.{Why}
-use Rattle.mux_clients.specs.State.{ClientState}
+use Rattle.mux_clients.specs.State.{ClientState, ClientsState}
 use Rattle.mux_machine.specs.Ready.{IsSound}
 use Rattle.mux_machine.specs.State.{State, at_client, client_took, closed_by, in_client, taken, without_client}
 use Rattle.mux_machine.specs.Steps.{waiting_for}
 use Rattle.mux_machine.proofs.Sound.{sound-taken}
-use Rattle.mux_machine.proofs.Written.{whole-written}
 
-pub record TakeParts (parts : State) (t n m : ℕ) (lent cs : List ClientState) (up : QueueState) (empty : Bool) (ws : List ℕ) : Type 0 where
-  pub lends : lent ≡ parts.clients
-  pub all : m ≡ length parts.clients
-  pub same : length cs ≡ length lent
+pub record TakeParts (parts : State) (t n : ℕ) (cs : ClientsState) (up : QueueState) (empty : Bool) (ws : List ℕ) : Type 0 where
   pub up_is : up ≡ cond (t == 0) (without_first n parts.up) parts.up
-  pub clients_are : cs ≡ cond (t == 0) lent (at_client t (client_took n) lent)
-  pub empty_is : empty ≡ is_empty (waiting_for up cs t)
+  pub clients_are : cs.all ≡ cond (t == 0) parts.clients (at_client t (client_took n) parts.clients)
+  pub leaving_is : cs.leaving ≡ parts.leaving
+  pub empty_is : empty ≡ is_empty (waiting_for up cs.all t)
   pub waits : ws ≡ cond empty (without t parts.waiting) parts.waiting
 
-abbrev pub take_new : State → ℕ → List ClientState → QueueState → List ℕ → State
-take_new parts m cs up ws = record parts { up = up; clients = take m (cs ++ drop (length cs) parts.clients); waiting = ws }
+abbrev pub take_new : State → ClientsState → QueueState → List ℕ → State
+take_new parts cs up ws = record parts { up = up; clients = cs.all; leaving = cs.leaving; waiting = ws }
 
 -- with the clients as they are
 take-as : (parts : State) (t n : ℕ) (cs : List ClientState) (up : QueueState) (empty : Bool) (ws : List ℕ) → up ≡ cond (t == 0) (without_first n parts.up) parts.up → cs ≡ cond (t == 0) parts.clients (at_client t (client_took n) parts.clients) → empty ≡ is_empty (waiting_for up cs t) → ws ≡ cond empty (without t parts.waiting) parts.waiting
@@ -47,14 +44,13 @@ take-as parts t n cs up empty ws u k e w = by_server (t == 0) u k (w ∙ ap (λ 
         ∙ (ap (λ (q : QueueState). record parts { up = q; clients = cs; waiting = cond (is_empty (in_client [] (λ c. c.seat.queue) cs t)) (without t parts.waiting) parts.waiting }) u
         ∙ ap (λ (l : List ClientState). record parts { clients = l; waiting = cond (is_empty (in_client [] (λ c. c.seat.queue) l t)) (without t parts.waiting) parts.waiting }) k)
 
-pub take-written : (parts : State) (t n m : ℕ) (lent cs : List ClientState) (up : QueueState) (empty : Bool) (ws : List ℕ) → TakeParts parts t n m lent cs up empty ws → take_new parts m cs up ws ≡ taken parts t n
-take-written parts t n m lent cs up empty ws p =
-    let whole : take m (cs ++ drop (length cs) parts.clients) ≡ cs = whole-written m cs parts.clients p.all (p.same ∙ ap length p.lends) in
-    let clients : cs ≡ cond (t == 0) parts.clients (at_client t (client_took n) parts.clients) = p.clients_are ∙ ap (λ (l : List ClientState). cond (t == 0) l (at_client t (client_took n) l)) p.lends in
-    ap (λ (l : List ClientState). record parts { up = up; clients = l; waiting = ws }) whole ∙ take-as parts t n cs up empty ws p.up_is clients p.empty_is p.waits
+pub take-written : (parts : State) (t n : ℕ) (cs : ClientsState) (up : QueueState) (empty : Bool) (ws : List ℕ) → TakeParts parts t n cs up empty ws → take_new parts cs up ws ≡ taken parts t n
+take-written parts t n cs up empty ws p =
+    ap (λ (l : List (ℕ × Option Why)). record parts { up = up; clients = cs.all; leaving = l; waiting = ws }) p.leaving_is
+    ∙ take-as parts t n cs.all up empty ws p.up_is p.clients_are p.empty_is p.waits
 
-pub sound-take : (parts : State) (t n m : ℕ) (lent cs : List ClientState) (up : QueueState) (empty : Bool) (ws : List ℕ) → IsSound parts → TakeParts parts t n m lent cs up empty ws → IsSound (take_new parts m cs up ws)
-sound-take parts t n m lent cs up empty ws h p = subst IsSound (sym (take-written parts t n m lent cs up empty ws p)) (sound-taken parts t n h)
+pub sound-take : (parts : State) (t n : ℕ) (cs : ClientsState) (up : QueueState) (empty : Bool) (ws : List ℕ) → IsSound parts → TakeParts parts t n cs up empty ws → IsSound (take_new parts cs up ws)
+sound-take parts t n cs up empty ws h p = subst IsSound (sym (take-written parts t n cs up empty ws p)) (sound-taken parts t n h)
 
 -- ---- a stream that was closed
 

@@ -1,6 +1,7 @@
 -- How much waits in an engine: from every lawful journal for which it stands.
-use Rattle.std.specs.Prelude.{◌≡◌, ◌≢◌, ◌≤◌, ◌<◌, ◌++◌, ℕ, false, List, length}
+use Rattle.std.specs.Prelude.{◌≡◌, ◌≤◌, ◌<◌, ◌++◌, ℕ, true, false, List, length}
 use Rattle.mux_outside.specs.Streams.{among}
+use Rattle.mux_outside.specs.Whose.{is_server}
 use Rattle.mux_outside.specs.declared.house.HouseReply.{HouseReply}
 use Rattle.mux_outside.specs.declared.mark.Mark.{Mark}
 use Rattle.mux_history.specs.declared.limits.TheConstants.{MAX_QUEUE}
@@ -21,8 +22,8 @@ ReadsInTime picked given s marks =
 -- reading stops in time
 pub record QueueShort (picked : List ℕ) (given : List HouseReply) (s : State) (marks : List Mark)
     (stream : ℕ) (bytes : List ℕ) : Type 0 where
-  pub client : stream ≢ 0 → length bytes ≤ MAX_QUEUE
-  pub server : stream ≡ 0 → ReadsInTime picked given s marks → length bytes < longest_server_queue
+  pub client : is_server stream ≡ false → length bytes ≤ MAX_QUEUE
+  pub server : is_server stream ≡ true → ReadsInTime picked given s marks → length bytes < longest_server_queue
 
 -- from every lawful journal for which an engine stands, for each stream that was not closed
 abbrev pub QueuesShort : State → Type 0

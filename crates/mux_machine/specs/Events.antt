@@ -1,5 +1,6 @@
 -- What the events of an engine are in the journal, and what they change.
-use Rattle.std.specs.Prelude.{◌≡◌, ◌≢◌, ◌⊎◌, ℕ, List, [], ◌∷◌, ◌++◌, Option, Some, None}
+use Rattle.std.specs.Prelude.{◌≡◌, ◌≢◌, ◌⊎◌, ℕ, List, [], ◌∷◌, ◌++◌, true, Option, Some, None, Result, IfOk, OnErr, IsErr}
+use Rattle.ssh_fields.specs.declared.out_of_memory.OutOfMemory.{OutOfMemory}
 use Rattle.mux_history.specs.declared.ended.Ended.{Ended}
 use Rattle.mux_history.specs.declared.ended.Ended.TheVariants as ended
 use Rattle.mux_history.specs.declared.why.Why.{Why}
@@ -94,3 +95,9 @@ pub record Keeps (event : Event) (old new : State) : Type 0 where
   pub more_leaving : List (ℕ × Option Why)
   pub leaving : new.leaving ≡ old.leaving ++ more_leaving
   pub over : (cause : Ended) → old.ended ≡ Some cause → new ≡ old
+
+-- what an event answers: how the run ended, if it did; and that there was no memory, which lasts
+pub record AnswersSo (result : Result Went OutOfMemory) (old new : State) : Type 0 where
+  pub went : IfOk result (λ went. went ≡ went_of new.ended)
+  pub starved : old.starved ≡ true → IsErr result
+  pub err : OnErr result (new.starved ≡ true)

@@ -16,6 +16,7 @@ use Rattle.mux_clients.specs.declared.heard.Heard.{Heard}
 use Rattle.mux_clients.specs.declared.standing.Standing.{Standing}
 use Rattle.mux_clients.specs.State.{ClientState}
 use Rattle.mux_clients.specs.Stands.{is_lost, is_read}
+pub use Rattle.mux_clients.specs.Stands.{not_lost}
 use Rattle.mux_clients.specs.Among.{ChangesOne, KeepReading, is_present}
 use Rattle.mux_clients.specs.Answering.{AnswersNoting}
 use Rattle.mux_clients.specs.Entering.{Enters}
@@ -23,7 +24,7 @@ use Rattle.mux_clients.specs.Losing.{Loses}
 use Rattle.mux_clients.specs.Pieces.{HearsPiece}
 use Rattle.mux_clients.specs.Server.{HearsBytes}
 use Rattle.mux_clients.specs.State as clients
-use Rattle.mux_machine.specs.State.{State, closed_by, entered, loss_between, over, server_cause, taken, waiting_in}
+use Rattle.mux_machine.specs.State.{State, closed_by, crowd_of, entered, loss_between, over, server_cause, taken, waiting_in}
 use Rattle.mux_machine.specs.Stands.{Closes, GoesAlone, GoesOn, IsFirst}
 
 -- ---- marks
@@ -51,9 +52,6 @@ IsGone mark k = ⊥
 abbrev pub NoneStands : (Standing → Bool) → ℕ → List ClientState → Type 0
 NoneStands test k cs =
     AllByRecursion (λ c. (c.seat.number == k) ≡ true → test c.seat.standing ≡ false) cs
-
-abbrev pub not_lost : Standing → Bool
-not_lost s = not (is_lost s)
 
 -- the stream of a client that wasn't lost is gone
 pub record LosesAt (s new : State) (k : ℕ) : Type 0 where
@@ -104,8 +102,7 @@ pub record HeardAt (s new : State) (bytes : List ℕ) : Type 0 where
   pub pid : new.pid ≡ s.pid
   pub refused : new.refused ≡ s.refused
   pub listening : new.listening ≡ s.listening
-  pub piece : HearsBytes bytes s.leaving new.leaving s.core s.clients s.up s.server new.core
-      new.clients new.up new.server new.ended
+  pub piece : HearsBytes bytes (crowd_of s) (crowd_of new) s.server new.server new.ended
   pub waiting : new.waiting ≡ waiting_in new
 
 -- ---- the laws

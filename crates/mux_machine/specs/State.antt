@@ -8,13 +8,14 @@ use Rattle.mux_history.specs.declared.ended.Ended.{Ended}
 use Rattle.mux_history.specs.declared.ended.Ended.TheVariants as ended
 use Rattle.mux_history.specs.Promises.{is_empty}
 use Rattle.mux_outside.specs.Streams.{among, without}
+use Rattle.mux_outside.specs.Whose.{is_server}
 use Rattle.mux_core.specs.State.{CoreState}
-use Rattle.mux_clients.specs.State.{ClientState}
+use Rattle.mux_clients.specs.State.{ClientState, Crowd, clients_of, crowd}
 pub use Rattle.mux_clients.specs.State.{client_took}
 use Rattle.mux_clients.specs.Server.{ServerState}
 use Rattle.mux_clients.specs.Among.{is_present}
 use Rattle.mux_clients.specs.Entering.{new_client}
-pub use Rattle.mux_clients.specs.Among.{numbers}
+pub use Rattle.mux_clients.specs.Among.{at_client, first_of, in_client, numbers, waiting_clients, without_client}
 pub use Rattle.mux_clients.specs.Losing.{loss_in, loss_between}
 pub use Rattle.mux_clients.specs.Room.{served_in}
 
@@ -37,14 +38,9 @@ pub record State : Type 0 where
 
 -- ---- the clients
 
--- what is looked up in the client of a number, and another answer where there is none
-abbrev pub in_client : {A : Type 0} → A → (ClientState → A) → List ClientState → ℕ → A
-in_client none look [] k = none
-in_client none look (c ∷ cs) k = if c.seat.number == k then look c else in_client none look cs k
-
--- a client whose stream was closed
-abbrev pub without_client : ℕ → List ClientState → List ClientState
-without_client k cs = filter (λ c. not (c.seat.number == k)) cs
+-- the clients, the shared connection, and what waits for the server
+abbrev pub crowd_of : State → Crowd
+crowd_of s = crowd (clients_of s.clients s.leaving) s.core s.up
 
 -- a client as it was
 abbrev pub SameClient : ℕ → List ClientState → List ClientState → Type 0
@@ -54,29 +50,18 @@ SameClient k old new = in_client None (λ c. Some c) new k ≡ in_client None (�
 
 -- what waits for a stream
 abbrev pub queue_in : State → ℕ → List ℕ
-queue_in s t = if t == 0 then s.up.waiting else in_client [] (λ c. c.seat.queue) s.clients t
+queue_in s t = if is_server t then s.up.waiting else in_client [] (λ c. c.seat.queue) s.clients t
 
 -- the bytes that a stream gave and that are not cut yet: none at the end of the run
 abbrev pub rest_in : State → ℕ → List ℕ
 rest_in s t =
-    if is_some s.ended then [] else if t == 0 then s.server.rest
+    if is_some s.ended then [] else if is_server t then s.server.rest
     else in_client [] (λ c. c.rest) s.clients t
 
 -- the streams with something that waits
-abbrev pub waiting_clients : List ClientState → List ℕ
-waiting_clients [] = []
-waiting_clients (c ∷ cs) = if is_empty c.seat.queue then waiting_clients cs
-    else c.seat.number ∷ waiting_clients cs
-
 abbrev pub waiting_in : State → List ℕ
 waiting_in s = if is_empty s.up.waiting then waiting_clients s.clients
     else 0 ∷ waiting_clients s.clients
-
--- ---- those that are lost or refused and not closed
-
-abbrev pub first_of : List (ℕ × Option Why) → Option (ℕ × Option Why)
-first_of [] = None
-first_of (l ∷ ls) = Some l
 
 -- a client whose stream was closed: nothing waits for it any more
 abbrev pub closed_by : State → ℕ → State
@@ -90,14 +75,9 @@ closed_by s k = record s {
 
 -- ---- what was taken
 
--- the clients with the first of one number changed
-abbrev pub at_client : ℕ → (ClientState → ClientState) → List ClientState → List ClientState
-at_client k f [] = []
-at_client k f (c ∷ cs) = if c.seat.number == k then f c ∷ cs else c ∷ at_client k f cs
-
 -- so many bytes that a stream took, and then the streams that wait
 abbrev pub took : State → ℕ → ℕ → State
-took s t n = if t == 0 then record s { up = without_first n s.up }
+took s t n = if is_server t then record s { up = without_first n s.up }
     else record s { clients = at_client t (client_took n) s.clients }
 
 abbrev pub taken : State → ℕ → ℕ → State

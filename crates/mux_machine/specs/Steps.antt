@@ -1,22 +1,16 @@
 -- What each kind of event does to an engine of a run that goes on.
-use Rattle.std.specs.Prelude.{◌≡◌, ℕ, Bool, false, List, [], ◌∷◌, ◌++◌, Option, None, if◌then◌else◌, ◌==◌}
+use Rattle.std.specs.Prelude.{◌≡◌, ℕ, Bool, true, false, List, [], ◌∷◌, ◌++◌, Option, None, if◌then◌else◌}
 use Rattle.proxy_frames.specs.State.{QueueState}
-use Rattle.mux_history.specs.declared.why.Why.{Why}
+use Rattle.mux_outside.specs.Whose.{is_server}
+use Rattle.mux_outside.specs.declared.house_mark.HouseMark.{HouseMark as Asked}
+use Rattle.mux_outside.specs.declared.house.HouseReply.{HouseReply}
 use Rattle.mux_history.specs.Promises.{is_empty}
-use Rattle.mux_clients.specs.State.{ClientState}
-use Rattle.mux_clients.specs.Stands.{is_read}
 use Rattle.mux_core.specs.State.{CoreState}
+use Rattle.mux_clients.specs.State.{ClientState, ClientsState}
+pub use Rattle.mux_clients.specs.Among.{is_heard, is_served}
 use Rattle.mux_clients.specs.Entering.{Enters, new_client}
-use Rattle.mux_machine.specs.Moves.{not_lost}
-use Rattle.mux_machine.specs.State.{State, entered, in_client, waiting_clients}
-
--- the client of a number is here and isn't lost
-abbrev pub is_served : List ClientState → ℕ → Bool
-is_served cs k = in_client false (λ c. not_lost c.seat.standing) cs k
-
--- it is here, and what it says is read
-abbrev pub is_heard : List ClientState → ℕ → Bool
-is_heard cs k = in_client false (λ c. is_read c.seat.standing) cs k
+use Rattle.mux_machine.specs.Moves.{GainsAt}
+use Rattle.mux_machine.specs.State.{State, entered, in_client, numbers, waiting_clients}
 
 -- the streams with something that waits: the server's, where bytes wait for it, and those of
 -- clients
@@ -25,16 +19,16 @@ waiting_of up cs = if is_empty up then waiting_clients cs else 0 ∷ waiting_cli
 
 -- what waits for a stream, of which 0 is the server's
 abbrev pub waiting_for : QueueState → List ClientState → ℕ → List ℕ
-waiting_for up cs t = if t == 0 then up.waiting else in_client [] (λ c. c.seat.queue) cs t
+waiting_for up cs t = if is_server t then up.waiting else in_client [] (λ c. c.seat.queue) cs t
 
 -- a client came: it was let in, or refused and is to be closed
-pub record Receives (k : ℕ) (core core' : CoreState) (cs cs' : List ClientState)
-    (refused refused' : List ℕ) (leaving leaving' : List (ℕ × Option Why)) : Type 0 where
+pub record Receives (k : ℕ) (core core' : CoreState) (cs cs' : ClientsState)
+    (refused refused' : List ℕ) : Type 0 where
   pub let_in : Bool
-  pub enters : Enters k core core' cs cs' let_in
-  pub clients_are : cs' ≡ (if let_in then cs ++ new_client k ∷ [] else cs)
+  pub enters : Enters k core core' cs.all cs'.all let_in
+  pub clients_are : cs'.all ≡ (if let_in then cs.all ++ new_client k ∷ [] else cs.all)
   pub refused_are : refused' ≡ (if let_in then refused else refused ++ k ∷ [])
-  pub leaving_are : leaving' ≡ (if let_in then leaving else leaving ++ (k, None) ∷ [])
+  pub leaving_are : cs'.leaving ≡ (if let_in then cs.leaving else cs.leaving ++ (k, None) ∷ [])
 
 -- and the engine with it
 pub record EntersAt (s new : State) (k : ℕ) : Type 0 where
@@ -43,3 +37,11 @@ pub record EntersAt (s new : State) (k : ℕ) : Type 0 where
   pub waiting : new.up.waiting ≡ s.up.waiting
   pub enters : Enters k s.core new.core s.clients new.clients let_in
   pub new_is : new ≡ entered s new.core new.up k let_in
+
+-- a client's stream gave bytes, which are read where it is
+pub record GainsFrom (May : HouseReply → Type 0) (before told : Option (List Asked)) (s new : State)
+    (k : ℕ) (bytes : List ℕ) : Type 0 where
+  pub gains : is_heard s.clients k ≡ true → GainsAt May before told s new k bytes
+  pub stays : is_heard s.clients k ≡ false → new ≡ s
+  pub policy : new.core.policy ≡ s.core.policy
+  pub numbers_are : numbers new.clients ≡ numbers s.clients

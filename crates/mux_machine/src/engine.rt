@@ -1,26 +1,26 @@
-ghost use Rattle.std.specs.Prelude.{◌≡◌, ◌≤◌, ◌*◌, [], true, false, IfOk, OnOk, OnErr, IsErr, Some, None};
+ghost use Rattle.std.specs.Prelude.{◌≡◌, ◌≤◌, ◌*◌, [], true, false, IfOk, OnOk, OnErr, Some, None};
 ghost use Rattle.mux_outside.specs.declared.mark.Mark.{Mark as TheMark};
 ghost use Rattle.client_teardown.specs.declared.farewell.TheConstants.{FAREWELL_ROOM as TheRoom};
 ghost use Rattle.mux_history.specs.declared.limits.TheConstants.{MAX_CLIENTS as TheMost};
 ghost use Rattle.mux_clients.specs.Asked.{Heeds};
 ghost use Rattle.mux_clients.specs.Starved.{HearsSome, OneIs};
 ghost use Rattle.mux_machine.specs.Bounds.{QueuesShort};
-ghost use Rattle.mux_machine.specs.Events.{EndsBy, Keeps, Tells, went_of};
-ghost use Rattle.mux_machine.specs.Moves.{AnsweredAt, GainsAt, HeardAt, LosesAt};
+ghost use Rattle.mux_machine.specs.Events.{AnswersSo, EndsBy, Keeps, Tells, went_of};
+ghost use Rattle.mux_machine.specs.Moves.{AnsweredAt, HeardAt, LosesAt};
 ghost use Rattle.mux_machine.specs.Others.{LeavesIdle, ServerLeavesIdle};
 ghost use Rattle.mux_machine.specs.Ready.{IsReady};
 ghost use Rattle.mux_machine.specs.Stands.{CutsShort, GoesOn, Stands};
 ghost use Rattle.mux_machine.specs.State.{numbers, over};
-ghost use Rattle.mux_machine.specs.Steps.{EntersAt, is_heard, is_served};
+ghost use Rattle.mux_machine.specs.Steps.{EntersAt, GainsFrom, is_heard, is_served};
 
 mod views;
 
-use crate::clients::*;
 use crate::event::{Event, Went};
+use crate::streams::*;
 use forward_rules::Policy;
-use mux_clients::{AskLog, Client, Server, answer_at, got_at, lose_at};
+use mux_clients::{AskLog, Clients, Server};
 use mux_core::Core;
-use mux_history::{Ended, Why};
+use mux_history::Ended;
 use mux_outside::{Asks, HouseReply, Streams};
 use proxy_frames::Queue;
 use ssh_fields::OutOfMemory;
@@ -30,17 +30,14 @@ use std::marker::Model;
 /// The machine of a run.
 #[derive(Drop)]
 pub struct Engine {
-    alloc: Global,
     pid: u32,
     core: Core,
     server: Server,
     /// What waits for the server.
     up: Queue,
-    clients: Vec<Client>,
+    clients: Clients,
     /// The clients that were refused and whose streams are not closed.
     refused: Streams,
-    /// The clients that are lost or refused and whose streams are not closed, in that order.
-    leaving: Vec<(u64, Option<Why>)>,
     /// The streams with something that waits.
     waiting: Streams,
     listening: bool,
@@ -88,17 +85,16 @@ impl Engine {
         ensures room { IfOk result (λ engine. TheMost * TheRoom ≤ engine.up.spare) }
         ensures stands { IfOk result (λ engine. Stands [] [] engine [] []) }
     {
+        let clients = Clients::new(alloc);
         let mut up = Queue::new(alloc);
-        reserve_farewells(&mut up, &[])?;
+        clients.reserve_farewells(&mut up)?;
         Ok(Engine {
-            alloc,
             pid,
             core: Core::new(alloc, policy)?,
             server: Server::new(alloc),
             up,
-            clients: Vec::new(alloc),
+            clients,
             refused: Streams::new(alloc),
-            leaving: Vec::new(alloc),
             waiting: Streams::new(alloc),
             listening: true,
             ended: None,
@@ -127,9 +123,7 @@ impl Engine {
         ensures ends { OnOk result ((mark : TheMark) → Tells e.entry mark
             → EndsBy e.entry self.old self.new mark) }
         ensures bounded { OnOk result (QueuesShort self.new) }
-        ensures went { IfOk result (λ went. went ≡ went_of self.new.ended) }
-        ensures starved { self.old.starved ≡ true → IsErr result }
-        ensures err { OnErr result (self.new.starved ≡ true) }
+        ensures answers { AnswersSo result self.old self.new }
     {
         if self.starved {
             return Err(OutOfMemory);
@@ -171,11 +165,11 @@ impl Engine {
     {
         match e {
             Event::Accepted(client) => self.enter(client),
-            Event::FromClient(client, bytes) => self.got(client, bytes, house, asks),
+            Event::FromClient(client, bytes) => self.got_from_client(client, bytes, house, asks),
             Event::ClientEnd(client) => self.lose(client),
             Event::ClientFailed(client) => self.lose(client),
             Event::HouseSays(client, id, reply) => self.answer(client, id, reply),
-            Event::FromServer(bytes) => self.hear(bytes),
+            Event::FromServer(bytes) => self.got_from_server(bytes),
             Event::ServerEnd => {
                 let cause = self.server.end();
                 self.end(cause);
@@ -196,20 +190,13 @@ impl Engine {
         ensures ready { OnOk result (IsReady self.new) }
         ensures starved { self.new.starved ≡ true }
     {
-        reserve_farewells(&mut self.up, &self.clients)?;
-        receive(
-            &mut self.clients,
-            &mut self.refused,
-            &mut self.leaving,
-            self.alloc,
-            client,
-            &mut self.core,
-        )?;
+        self.clients.reserve_farewells(&mut self.up)?;
+        receive(&mut self.clients, &mut self.refused, client, &mut self.core)?;
         list_waiting(&mut self.waiting, &self.up, &self.clients)
     }
 
     // A client's stream gave bytes, which are read as long as it is.
-    fn got<H: Asks>(
+    fn got_from_client<H: Asks>(
         &mut self,
         client: u64,
         bytes: &[u8],
@@ -220,26 +207,21 @@ impl Engine {
         requires goes { self.old.ended ≡ None }
         requires starved { self.old.starved ≡ true }
         requires ready { IsReady self.old }
-        ensures gains { OnOk result (is_heard self.old.clients client ≡ true
-            → GainsAt H.may (Some asks.old) (Some asks.new) self.old self.new client
-            bytes.now) }
-        ensures stays { OnOk result (is_heard self.old.clients client ≡ false
-            → self.new ≡ self.old) }
+        ensures gains { OnOk result (GainsFrom H.may (Some asks.old) (Some asks.new) self.old
+            self.new client bytes.now) }
         ensures untold { is_heard self.old.clients client ≡ false
             → asks.new ≡ asks.old }
         ensures heeds { Heeds result asks.old asks.new (H.state house.old) (H.state house.new) }
         ensures cut { OnErr result (OneIs client (HearsSome H.may (H.state house.old).told
-            (H.state house.new).told self.old.pid bytes.now self.old.core self.old.up) self.old.clients) }
-        ensures policy { OnOk result (self.new.core.policy ≡ self.old.core.policy) }
-        ensures numbers { OnOk result (numbers self.new.clients ≡ numbers self.old.clients) }
+            (H.state house.new).told self.old.pid bytes.now self.old.core self.old.up)
+            self.old.clients) }
         ensures ready { OnOk result (IsReady self.new) }
         ensures starved { self.new.starved ≡ true }
     {
-        if !is_heard(&self.clients, client) {
+        if !self.clients.is_heard(client) {
             return Ok(());
         }
-        let heard = got_at(
-            &mut self.clients,
+        let heard = self.clients.got(
             client,
             self.pid,
             bytes,
@@ -248,7 +230,6 @@ impl Engine {
             &mut self.core,
             &mut self.up,
         )?;
-        note_loss(&mut self.leaving, &self.clients, client)?;
         self.listening &= !heard.stops;
         self.ended = heard.ended;
         list_waiting(&mut self.waiting, &self.up, &self.clients)
@@ -265,11 +246,10 @@ impl Engine {
         ensures ready { OnOk result (IsReady self.new) }
         ensures starved { self.new.starved ≡ true }
     {
-        if !is_served(&self.clients, client) {
+        if !self.clients.is_served(client) {
             return Ok(());
         }
-        self.leaving.push((client, None))?;
-        lose_at(&mut self.clients, client, &mut self.core, &mut self.up);
+        self.clients.lose(client, &mut self.core, &mut self.up)?;
         list_waiting(&mut self.waiting, &self.up, &self.clients)
     }
 
@@ -285,25 +265,16 @@ impl Engine {
         ensures ready { OnOk result (IsReady self.new) }
         ensures starved { self.new.starved ≡ true }
     {
-        if !is_served(&self.clients, client) {
+        if !self.clients.is_served(client) {
             return Ok(());
         }
-        let mut lost = Vec::new(self.alloc);
-        answer_at(
-            &mut self.clients,
-            client,
-            id,
-            reply,
-            &mut lost,
-            &mut self.core,
-            &mut self.up,
-        )?;
-        self.leaving.extend_from_slice(&lost)?;
+        self.clients
+            .answered(client, id, reply, &mut self.core, &mut self.up)?;
         list_waiting(&mut self.waiting, &self.up, &self.clients)
     }
 
     // The server's stream gave bytes.
-    fn hear(&mut self, bytes: &[u8]) -> Result<(), OutOfMemory>
+    fn got_from_server(&mut self, bytes: &[u8]) -> Result<(), OutOfMemory>
         requires goes { self.old.ended ≡ None }
         requires starved { self.old.starved ≡ true }
         requires ready { IsReady self.old }
@@ -312,15 +283,9 @@ impl Engine {
         ensures ready { OnOk result (self.new.ended ≡ None → IsReady self.new) }
         ensures starved { self.new.starved ≡ true }
     {
-        let mut lost = Vec::new(self.alloc);
-        self.ended = self.server.got(
-            &mut self.clients,
-            bytes,
-            &mut lost,
-            &mut self.core,
-            &mut self.up,
-        )?;
-        self.leaving.extend_from_slice(&lost)?;
+        self.ended = self
+            .server
+            .got(&mut self.clients, bytes, &mut self.core, &mut self.up)?;
         list_waiting(&mut self.waiting, &self.up, &self.clients)
     }
 

@@ -3,10 +3,10 @@
 //! newest mark first, with the numbers that were picked and the replies that the house gave.
 #![tactic(auto)]
 
-mod clients;
 mod engine;
 mod event;
 pub mod laws;
+mod streams;
 
 pub use engine::Engine;
 pub use event::{Event, Went};

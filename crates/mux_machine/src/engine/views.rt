@@ -17,7 +17,7 @@ ghost use Rattle.mux_machine.specs.Stands.{Closes, GoesAlone, IsFirst, Stands, l
 ghost use Rattle.mux_machine.specs.State.{closed_by, first_of, queue_in, rest_in, taken, waiting_in};
 
 use super::Engine;
-use crate::clients::*;
+use crate::streams::*;
 use mux_history::{Ended, Why};
 use mux_outside::Streams;
 
@@ -47,7 +47,7 @@ impl Engine {
         if stream == 0 {
             return self.up.front();
         }
-        queue_at(&self.clients, stream)
+        self.clients.queue_of(stream)
     }
 
     /// So many bytes that wait for a stream were taken.
@@ -75,7 +75,7 @@ impl Engine {
         if stream == 0 {
             return self.server.rest_len();
         }
-        rest_at(&self.clients, stream)
+        self.clients.rest_of(stream)
     }
 
     /// The streams for which bytes wait: the server's first, then the clients' in the order in
@@ -134,7 +134,7 @@ impl Engine {
             (losses (log self.now (picked ++ picks) (given ++ replies) marks))) }
         ensures none { self.now.leaving ≡ [] → self.now.refused ≡ [] }
     {
-        self.leaving.first().copied()
+        self.clients.closing()
     }
 
     /// The stream of the client that `closing` shows was closed: nothing waits for it any more.
@@ -143,9 +143,8 @@ impl Engine {
         ensures exact { self.new ≡ closed_by self.old client }
         ensures stands { Closes self.old self.new client }
     {
-        close_at(&mut self.clients, client);
+        self.clients.close(client);
         self.refused.remove(client);
-        leave_at(&mut self.leaving, client);
         self.waiting.remove(client);
     }
 }

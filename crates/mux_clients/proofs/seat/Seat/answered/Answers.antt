@@ -11,4 +11,4 @@ returns-in-None-clause-answers c = answers-on c.args.id c.args.reply c.args.core
 
 pub returns-in-Some-clause-answers : goal.returns-in-Some-clause-answers
 returns-in-Some-clause-answers c = answers-full c.args.id c.args.reply c.args.core.now c.args.self.now c.args.up.now c.answer_of.result (c.answer_of.ensures ∙ ap (λ b. answer_in b c.args.id c.args.reply) (sym (sym c.is_proxied.ensures ∙ c.if-is_proxied.false)))
-    c.in-Some.why c.leave.new.core c.tell_frame.new.self c.leave.new.self c.leave.new.up c.in_ok-tell_frame.ensures.queue (sym c.in_ok-tell_frame.ensures.full ∙ c.in-Some.is) c.leave.ensures.seat c.leave.ensures.told
+    c.in-Some.why c.drop_for.new.core c.tell_frame.new.self c.drop_for.new.self c.drop_for.new.up c.in_ok-tell_frame.ensures.queue (sym c.in_ok-tell_frame.ensures.full ∙ c.in-Some.is) c.drop_for.ensures.seat c.drop_for.ensures.told

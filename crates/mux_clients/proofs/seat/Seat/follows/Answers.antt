@@ -5,12 +5,12 @@ use Rattle.mux_clients.proofs.Bodied.{follows-on, follows-full, follows-drop, go
 use Rattle.mux_clients.proofs.seat.Seat.follows.Goals as goal
 
 pub returns-in-Drops-clause-follows : goal.returns-in-Drops-clause-follows
-returns-in-Drops-clause-follows c = follows-drop c.args.decision.now c.in-Drops.why c.args.core.now c.leave.new.core c.args.self.now c.leave.new.self c.args.up.now c.leave.new.up c.args.heard.now c.in-Drops.is c.leave.ensures.seat c.leave.ensures.unsent
+returns-in-Drops-clause-follows c = follows-drop c.args.decision.now c.in-Drops.why c.args.core.now c.drop_for.new.core c.args.self.now c.drop_for.new.self c.args.up.now c.drop_for.new.up c.args.heard.now c.in-Drops.is c.drop_for.ensures.seat c.drop_for.ensures.unsent
 
 pub returns-in-Some-clause-follows : goal.returns-in-Some-clause-follows
-returns-in-Some-clause-follows c = follows-full c.args.decision.now c.in-Some.why c.args.core.now c.leave-in-Some.new.core c.args.self.now c.tell_frame-in-Goes.new.self c.leave-in-Some.new.self c.args.up.now c.leave-in-Some.new.up c.args.heard.now
+returns-in-Some-clause-follows c = follows-full c.args.decision.now c.in-Some.why c.args.core.now c.drop_for-in-Some.new.core c.args.self.now c.tell_frame-in-Goes.new.self c.drop_for-in-Some.new.self c.args.up.now c.drop_for-in-Some.new.up c.args.heard.now
     (goes-by c.args.decision.now.fate c.in-Goes.is).0 c.in_ok-why-in-Goes.ensures.queue (sym c.in_ok-why-in-Goes.ensures.full ∙ c.in-Some.is)
-    c.leave-in-Some.ensures.seat c.leave-in-Some.ensures.told
+    c.drop_for-in-Some.ensures.seat c.drop_for-in-Some.ensures.told
 
 pub returns-in-None-clause-follows : goal.returns-in-None-clause-follows
 returns-in-None-clause-follows c =

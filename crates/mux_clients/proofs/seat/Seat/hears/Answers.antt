@@ -8,5 +8,5 @@ pub returns-in-None-clause-stands : goal.returns-in-None-clause-stands
 returns-in-None-clause-stands c = hears-on (frame_payload c.args.payload.now ∷ refusals_of c.args.refusals) c.args.core.now c.args.self.now c.tell_all.new.self c.args.up.now c.in_ok-tell_all.ensures.queue (sym c.in_ok-tell_all.ensures.full ∙ c.in-None.is)
 
 pub returns-in-Some-clause-stands : goal.returns-in-Some-clause-stands
-returns-in-Some-clause-stands c = hears-full (frame_payload c.args.payload.now ∷ refusals_of c.args.refusals) c.in-Some.why c.args.core.now c.leave.new.core c.args.self.now c.tell_all.new.self c.leave.new.self c.args.up.now c.leave.new.up
-    c.in_ok-tell_all.ensures.queue (sym c.in_ok-tell_all.ensures.full ∙ c.in-Some.is) c.leave.ensures.seat c.leave.ensures.told
+returns-in-Some-clause-stands c = hears-full (frame_payload c.args.payload.now ∷ refusals_of c.args.refusals) c.in-Some.why c.args.core.now c.drop_for.new.core c.args.self.now c.tell_all.new.self c.drop_for.new.self c.args.up.now c.drop_for.new.up
+    c.in_ok-tell_all.ensures.queue (sym c.in_ok-tell_all.ensures.full ∙ c.in-Some.is) c.drop_for.ensures.seat c.drop_for.ensures.told

@@ -20,14 +20,14 @@ returns-in-None-clause-stands c =
 
 pub returns-in-Some-clause-stands : goal.returns-in-Some-clause-stands
 returns-in-Some-clause-stands c =
-    says-full c.as_bytes.result.now c.args.payload.now c.in-Some.why c.args.core.now c.said.new.self c.leave.new.core c.args.self.now c.tell.new.self c.leave.new.self c.args.up.now c.said.new.up c.leave.new.up
+    says-full c.as_bytes.result.now c.args.payload.now c.in-Some.why c.args.core.now c.said.new.self c.drop_for.new.core c.args.self.now c.tell.new.self c.drop_for.new.self c.args.up.now c.said.new.up c.drop_for.new.up
     (on-verdict c.in_ok-said.field-0 (verdict.Answer c.as_bytes.result.now) c.args.payload.now c.args.core.now c.said.new.self c.self.inside.number c.args.self.now.number c.args.up.now c.said.new.up
     (c.in-Answer.is ∙ ap (λ (l : List ℕ). verdict.Answer l) (sym c.as_bytes.ensures.value)) (sym (ap (λ (t : SeatState). t.number) c.self.view_is)) c.in_ok-said.ensures.stands)
     c.in_ok-tell-in-Answer.ensures.queue (sym c.in_ok-tell-in-Answer.ensures.full ∙ c.in-Some.is)
-    c.leave.ensures.seat c.leave.ensures.told
+    c.drop_for.ensures.seat c.drop_for.ensures.told
 
 pub returns-in-Drop-clause-stands : goal.returns-in-Drop-clause-stands
 returns-in-Drop-clause-stands c =
-    says-drop c.args.payload.now c.in-Drop.why c.args.core.now c.said.new.self c.leave-in-Drop.new.core c.args.self.now c.leave-in-Drop.new.self c.args.up.now c.said.new.up c.leave-in-Drop.new.up
+    says-drop c.args.payload.now c.in-Drop.why c.args.core.now c.said.new.self c.drop_for-in-Drop.new.core c.args.self.now c.drop_for-in-Drop.new.self c.args.up.now c.said.new.up c.drop_for-in-Drop.new.up
     (on-verdict c.in_ok-said.field-0 (verdict.Drop c.in-Drop.why) c.args.payload.now c.args.core.now c.said.new.self c.self.inside.number c.args.self.now.number c.args.up.now c.said.new.up c.in-Drop.is (sym (ap (λ (t : SeatState). t.number) c.self.view_is)) c.in_ok-said.ensures.stands)
-    c.leave-in-Drop.ensures.seat c.leave-in-Drop.ensures.unsent
+    c.drop_for-in-Drop.ensures.seat c.drop_for-in-Drop.ensures.unsent

@@ -11,9 +11,9 @@ use Rattle.mux_machine.proofs.engine.Engine.closed.Goals as goal
 pub invariant_of-self : goal.invariant_of-self
 invariant_of-self c =
     let parts : State = state_of c.self.inside in
-    subst IsSound (sym (close-written parts c.args.client c.close_at.new.clients.items c.remove.new.self c.leave_at.new.leaving.items c.remove-2.new.self c.close_at.ensures c.remove.ensures c.leave_at.ensures c.remove-2.ensures)) (sound-closed parts c.args.client c.self.invariant)
+    subst IsSound (sym (close-written parts c.args.client c.close.new.self.all c.remove.new.self c.close.new.self.leaving c.remove-2.new.self c.close.ensures.clients c.remove.ensures c.close.ensures.leaving c.remove-2.ensures)) (sound-closed parts c.args.client c.self.invariant)
 
 pub returns-clause-stands : goal.returns-clause-stands
 returns-clause-stands c =
     let parts : State = state_of c.self.inside in
-    subst (λ (x : State). Closes c.args.self.now x c.args.client) (sym (close-written parts c.args.client c.close_at.new.clients.items c.remove.new.self c.leave_at.new.leaving.items c.remove-2.new.self c.close_at.ensures c.remove.ensures c.leave_at.ensures c.remove-2.ensures ∙ ap (λ (x : State). closed_by x c.args.client) c.self.view_is)) (closes c.args.self.now c.args.client c.requires)
+    subst (λ (x : State). Closes c.args.self.now x c.args.client) (sym (close-written parts c.args.client c.close.new.self.all c.remove.new.self c.close.new.self.leaving c.remove-2.new.self c.close.ensures.clients c.remove.ensures c.close.ensures.leaving c.remove-2.ensures ∙ ap (λ (x : State). closed_by x c.args.client) c.self.view_is)) (closes c.args.self.now c.args.client c.requires)

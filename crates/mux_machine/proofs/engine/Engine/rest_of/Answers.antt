@@ -15,4 +15,4 @@ pub returns-clause-short : goal.returns-clause-short
 returns-clause-short c =
     let parts : State = state_of c.self.inside in
     let on : is_some c.self.inside.ended ≡ false = cc (c.is_some.ensures, c.if-is_some.false) in
-    λ picked given marks closed st. client-rest c.args.self.now parts c.args.stream c.rest_at.result c.deref.result.now picked given marks closed c.self.view_is c.deref.ensures.value c.rest_at.ensures.exact c.rest_at.ensures.unheard on st
+    λ picked given marks closed st. client-rest c.args.self.now parts c.args.stream c.rest_of.result picked given marks closed c.self.view_is c.rest_of.ensures.exact c.rest_of.ensures.unheard on st

@@ -37,13 +37,13 @@ pub returns-in-HouseSays-clause-keeps : goal.returns-in-HouseSays-clause-keeps
 returns-in-HouseSays-clause-keeps g c = on_ok_weaker c.answer.result (λ d. did-keeps c.args.self.now c.answer.new.self c.args.e c.requires.goes (subst (DidAlone c.args.self.now c.answer.new.self) (sym c.in-HouseSays.is) d)) (replied-on c.answer.result c.args.self.now c.answer.new.self c.in-HouseSays.client c.in-HouseSays.id c.in-HouseSays.reply c.answer.ensures.answers c.answer.ensures.stays)
 
 pub returns-in-FromServer-clause-stands : goal.returns-in-FromServer-clause-stands
-returns-in-FromServer-clause-stands g c = on_ok_weaker c.hear.result (λ d mark t. did-goes g.H.Asks.may (Some c.args.asks.now) c.args.self.now c.hear.new.self c.args.e mark c.requires.goes (subst (DidAlone c.args.self.now c.hear.new.self) (sym c.in-FromServer.is) d) t) c.hear.ensures.heard
+returns-in-FromServer-clause-stands g c = on_ok_weaker c.got_from_server.result (λ d mark t. did-goes g.H.Asks.may (Some c.args.asks.now) c.args.self.now c.got_from_server.new.self c.args.e mark c.requires.goes (subst (DidAlone c.args.self.now c.got_from_server.new.self) (sym c.in-FromServer.is) d) t) c.got_from_server.ensures.heard
 
 pub returns-in-FromServer-clause-keeps : goal.returns-in-FromServer-clause-keeps
-returns-in-FromServer-clause-keeps g c = on_ok_weaker c.hear.result (λ d. did-keeps c.args.self.now c.hear.new.self c.args.e c.requires.goes (subst (DidAlone c.args.self.now c.hear.new.self) (sym c.in-FromServer.is) d)) c.hear.ensures.heard
+returns-in-FromServer-clause-keeps g c = on_ok_weaker c.got_from_server.result (λ d. did-keeps c.args.self.now c.got_from_server.new.self c.args.e c.requires.goes (subst (DidAlone c.args.self.now c.got_from_server.new.self) (sym c.in-FromServer.is) d)) c.got_from_server.ensures.heard
 
 pub returns-in-FromServer-clause-ends : goal.returns-in-FromServer-clause-ends
-returns-in-FromServer-clause-ends g c = on_ok_weaker c.hear.result (λ d mark t. alone-ends c.args.self.now c.hear.new.self c.args.e mark (subst (DidAlone c.args.self.now c.hear.new.self) (sym c.in-FromServer.is) d) t) c.hear.ensures.heard
+returns-in-FromServer-clause-ends g c = on_ok_weaker c.got_from_server.result (λ d mark t. alone-ends c.args.self.now c.got_from_server.new.self c.args.e mark (subst (DidAlone c.args.self.now c.got_from_server.new.self) (sym c.in-FromServer.is) d) t) c.got_from_server.ensures.heard
 
 pub returns-in-ServerEnd-clause-stands : goal.returns-in-ServerEnd-clause-stands
 returns-in-ServerEnd-clause-stands g c = λ mark t. did-goes g.H.Asks.may (Some c.args.asks.now) c.args.self.now c.end.new.self c.args.e mark c.requires.goes (subst (DidAlone c.args.self.now c.end.new.self) (sym c.in-ServerEnd.is) (c.end.ensures ∙ ap (over c.args.self.now) (c.end-cause.ensures ∙ (ap (λ (x : State). stream_end x.server.rest x.server.index) c.self.view_is ∙ cause-as c.args.self.now)))) t
@@ -52,13 +52,13 @@ pub returns-in-ServerFailed-clause-stands : goal.returns-in-ServerFailed-clause-
 returns-in-ServerFailed-clause-stands g c = λ mark t. did-goes g.H.Asks.may (Some c.args.asks.now) c.args.self.now c.end-in-ServerFailed.new.self c.args.e mark c.requires.goes (subst (DidAlone c.args.self.now c.end-in-ServerFailed.new.self) (sym c.in-ServerFailed.is) c.end-in-ServerFailed.ensures) t
 
 pub returns-in-FromClient-clause-stands : goal.returns-in-FromClient-clause-stands
-returns-in-FromClient-clause-stands g c = on_ok_weaker c.got.result (λ d mark t. asking-goes g.H.Asks.may (Some c.args.asks.now) (Some c.got.new.asks) c.args.self.now c.got.new.self c.args.e mark c.requires.goes (subst (DidAsking g.H.Asks.may (Some c.args.asks.now) (Some c.got.new.asks) c.args.self.now c.got.new.self) (sym c.in-FromClient.is) d) t) (gained-on c.got.result g.H.Asks.may (Some c.args.asks.now) (Some c.got.new.asks) c.args.self.now c.got.new.self c.in-FromClient.client c.in-FromClient.bytes.now c.got.ensures.gains c.got.ensures.stays (λ h. ap (λ (l : List HouseMark). Some l) (c.got.ensures.untold h)) c.got.ensures.policy c.got.ensures.numbers)
+returns-in-FromClient-clause-stands g c = on_ok_weaker c.got_from_client.result (λ d mark t. asking-goes g.H.Asks.may (Some c.args.asks.now) (Some c.got_from_client.new.asks) c.args.self.now c.got_from_client.new.self c.args.e mark c.requires.goes (subst (DidAsking g.H.Asks.may (Some c.args.asks.now) (Some c.got_from_client.new.asks) c.args.self.now c.got_from_client.new.self) (sym c.in-FromClient.is) d) t) (gained-on c.got_from_client.result g.H.Asks.may (Some c.args.asks.now) (Some c.got_from_client.new.asks) c.args.self.now c.got_from_client.new.self c.in-FromClient.client c.in-FromClient.bytes.now c.got_from_client.ensures.gains (λ h. ap (λ (l : List HouseMark). Some l) (c.got_from_client.ensures.untold h)))
 
 pub returns-in-FromClient-clause-keeps : goal.returns-in-FromClient-clause-keeps
-returns-in-FromClient-clause-keeps g c = on_ok_weaker c.got.result (λ d. asking-keeps g.H.Asks.may (Some c.args.asks.now) (Some c.got.new.asks) c.args.self.now c.got.new.self c.args.e c.requires.goes (subst (DidAsking g.H.Asks.may (Some c.args.asks.now) (Some c.got.new.asks) c.args.self.now c.got.new.self) (sym c.in-FromClient.is) d)) (gained-on c.got.result g.H.Asks.may (Some c.args.asks.now) (Some c.got.new.asks) c.args.self.now c.got.new.self c.in-FromClient.client c.in-FromClient.bytes.now c.got.ensures.gains c.got.ensures.stays (λ h. ap (λ (l : List HouseMark). Some l) (c.got.ensures.untold h)) c.got.ensures.policy c.got.ensures.numbers)
+returns-in-FromClient-clause-keeps g c = on_ok_weaker c.got_from_client.result (λ d. asking-keeps g.H.Asks.may (Some c.args.asks.now) (Some c.got_from_client.new.asks) c.args.self.now c.got_from_client.new.self c.args.e c.requires.goes (subst (DidAsking g.H.Asks.may (Some c.args.asks.now) (Some c.got_from_client.new.asks) c.args.self.now c.got_from_client.new.self) (sym c.in-FromClient.is) d)) (gained-on c.got_from_client.result g.H.Asks.may (Some c.args.asks.now) (Some c.got_from_client.new.asks) c.args.self.now c.got_from_client.new.self c.in-FromClient.client c.in-FromClient.bytes.now c.got_from_client.ensures.gains (λ h. ap (λ (l : List HouseMark). Some l) (c.got_from_client.ensures.untold h)))
 
 pub returns-in-FromClient-clause-ends : goal.returns-in-FromClient-clause-ends
-returns-in-FromClient-clause-ends g c = on_ok_weaker c.got.result (λ d mark t. asking-ends g.H.Asks.may (Some c.args.asks.now) (Some c.got.new.asks) c.args.self.now c.got.new.self c.args.e mark (subst (DidAsking g.H.Asks.may (Some c.args.asks.now) (Some c.got.new.asks) c.args.self.now c.got.new.self) (sym c.in-FromClient.is) d) t) (gained-on c.got.result g.H.Asks.may (Some c.args.asks.now) (Some c.got.new.asks) c.args.self.now c.got.new.self c.in-FromClient.client c.in-FromClient.bytes.now c.got.ensures.gains c.got.ensures.stays (λ h. ap (λ (l : List HouseMark). Some l) (c.got.ensures.untold h)) c.got.ensures.policy c.got.ensures.numbers)
+returns-in-FromClient-clause-ends g c = on_ok_weaker c.got_from_client.result (λ d mark t. asking-ends g.H.Asks.may (Some c.args.asks.now) (Some c.got_from_client.new.asks) c.args.self.now c.got_from_client.new.self c.args.e mark (subst (DidAsking g.H.Asks.may (Some c.args.asks.now) (Some c.got_from_client.new.asks) c.args.self.now c.got_from_client.new.self) (sym c.in-FromClient.is) d) t) (gained-on c.got_from_client.result g.H.Asks.may (Some c.args.asks.now) (Some c.got_from_client.new.asks) c.args.self.now c.got_from_client.new.self c.in-FromClient.client c.in-FromClient.bytes.now c.got_from_client.ensures.gains (λ h. ap (λ (l : List HouseMark). Some l) (c.got_from_client.ensures.untold h)))
 
 pub returns-in-Accepted-clause-heeds : goal.returns-in-Accepted-clause-heeds
 returns-in-Accepted-clause-heeds g c = heeds_none c.enter.result c.args.asks.now (g.H.Asks.state c.args.house.now)
@@ -73,7 +73,7 @@ pub returns-in-HouseSays-clause-heeds : goal.returns-in-HouseSays-clause-heeds
 returns-in-HouseSays-clause-heeds g c = heeds_none c.answer.result c.args.asks.now (g.H.Asks.state c.args.house.now)
 
 pub returns-in-FromServer-clause-heeds : goal.returns-in-FromServer-clause-heeds
-returns-in-FromServer-clause-heeds g c = heeds_none c.hear.result c.args.asks.now (g.H.Asks.state c.args.house.now)
+returns-in-FromServer-clause-heeds g c = heeds_none c.got_from_server.result c.args.asks.now (g.H.Asks.state c.args.house.now)
 
 -- ---- what was asked where memory was wanting
 
@@ -90,12 +90,12 @@ pub returns-in-HouseSays-clause-cut : goal.returns-in-HouseSays-clause-cut
 returns-in-HouseSays-clause-cut g c = on-err c.answer.result (λ mark t. cut-alone g.H.Asks.may (g.H.Asks.state c.args.house.now).told c.args.self.now mark)
 
 pub returns-in-FromServer-clause-cut : goal.returns-in-FromServer-clause-cut
-returns-in-FromServer-clause-cut g c = on-err c.hear.result (λ mark t. cut-alone g.H.Asks.may (g.H.Asks.state c.args.house.now).told c.args.self.now mark)
+returns-in-FromServer-clause-cut g c = on-err c.got_from_server.result (λ mark t. cut-alone g.H.Asks.may (g.H.Asks.state c.args.house.now).told c.args.self.now mark)
 
 pub returns-in-FromClient-clause-cut : goal.returns-in-FromClient-clause-cut
-returns-in-FromClient-clause-cut g c = err-then c.got.result (λ one mark t. cut-asking g.H.Asks.may (g.H.Asks.state c.args.house.now).told (g.H.Asks.state c.got.new.house).told c.args.self.now c.args.e c.requires.goes (subst (CutsOne g.H.Asks.may (g.H.Asks.state c.args.house.now).told (g.H.Asks.state c.got.new.house).told c.args.self.now) (sym c.in-FromClient.is) one) mark t) c.got.ensures.cut
+returns-in-FromClient-clause-cut g c = err-then c.got_from_client.result (λ one mark t. cut-asking g.H.Asks.may (g.H.Asks.state c.args.house.now).told (g.H.Asks.state c.got_from_client.new.house).told c.args.self.now c.args.e c.requires.goes (subst (CutsOne g.H.Asks.may (g.H.Asks.state c.args.house.now).told (g.H.Asks.state c.got_from_client.new.house).told c.args.self.now) (sym c.in-FromClient.is) one) mark t) c.got_from_client.ensures.cut
 
 -- ---- whom the server's piece leaves as it was
 
 pub returns-in-FromServer-clause-others : goal.returns-in-FromServer-clause-others
-returns-in-FromServer-clause-others g c = on_ok_weaker c.hear.result (λ h. subst (λ e. ServerLeavesIdle e c.args.self.now c.hear.new.self) (sym c.in-FromServer.is) h) c.hear.ensures.others
+returns-in-FromServer-clause-others g c = on_ok_weaker c.got_from_server.result (λ h. subst (λ e. ServerLeavesIdle e c.args.self.now c.got_from_server.new.self) (sym c.in-FromServer.is) h) c.got_from_server.ensures.others

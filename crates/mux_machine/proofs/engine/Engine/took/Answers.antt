@@ -12,58 +12,50 @@ pub invariant_of-self : goal.invariant_of-self
 invariant_of-self c =
     let s = c.self.inside in
     let parts : State = state_of s in
-    let p : TakeParts parts c.args.stream c.args.n s.clients.len c.deref_mut.result.now c.take.new.clients c.take.new.up c.take.result c.remove.new.self = record {
-      lends = c.deref_mut.ensures.value;
-      all = s.clients.ok.0;
-      same = c.take.auto.clients;
+    let p : TakeParts parts c.args.stream c.args.n c.take.new.clients c.take.new.up c.take.result c.remove.new.self = record {
       up_is = c.take.ensures.up;
       clients_are = c.take.ensures.clients;
+      leaving_is = c.take.ensures.leaving;
       empty_is = c.take.ensures.left;
       waits = c.remove.ensures ∙ sym (ap (λ b. cond b (without c.args.stream s.waiting) s.waiting) c.if-take.true);
     } in
-    sound-take parts c.args.stream c.args.n s.clients.len c.deref_mut.result.now c.take.new.clients c.take.new.up c.take.result c.remove.new.self c.self.invariant p
+    sound-take parts c.args.stream c.args.n c.take.new.clients c.take.new.up c.take.result c.remove.new.self c.self.invariant p
 
 pub invariant_of-self-else-take : goal.invariant_of-self-else-take
 invariant_of-self-else-take c =
     let s = c.self.inside in
     let parts : State = state_of s in
-    let p : TakeParts parts c.args.stream c.args.n s.clients.len c.deref_mut.result.now c.take.new.clients c.take.new.up c.take.result s.waiting = record {
-      lends = c.deref_mut.ensures.value;
-      all = s.clients.ok.0;
-      same = c.take.auto.clients;
+    let p : TakeParts parts c.args.stream c.args.n c.take.new.clients c.take.new.up c.take.result s.waiting = record {
       up_is = c.take.ensures.up;
       clients_are = c.take.ensures.clients;
+      leaving_is = c.take.ensures.leaving;
       empty_is = c.take.ensures.left;
       waits = sym (ap (λ b. cond b (without c.args.stream s.waiting) s.waiting) c.if-take.false);
     } in
-    sound-take parts c.args.stream c.args.n s.clients.len c.deref_mut.result.now c.take.new.clients c.take.new.up c.take.result s.waiting c.self.invariant p
+    sound-take parts c.args.stream c.args.n c.take.new.clients c.take.new.up c.take.result s.waiting c.self.invariant p
 
 pub returns-then-take-clause-stands : goal.returns-then-take-clause-stands
 returns-then-take-clause-stands c =
     let s = c.self.inside in
     let parts : State = state_of s in
-    let p : TakeParts parts c.args.stream c.args.n s.clients.len c.deref_mut.result.now c.take.new.clients c.take.new.up c.take.result c.remove.new.self = record {
-      lends = c.deref_mut.ensures.value;
-      all = s.clients.ok.0;
-      same = c.take.auto.clients;
+    let p : TakeParts parts c.args.stream c.args.n c.take.new.clients c.take.new.up c.take.result c.remove.new.self = record {
       up_is = c.take.ensures.up;
       clients_are = c.take.ensures.clients;
+      leaving_is = c.take.ensures.leaving;
       empty_is = c.take.ensures.left;
       waits = c.remove.ensures ∙ sym (ap (λ b. cond b (without c.args.stream s.waiting) s.waiting) c.if-take.true);
     } in
-    λ bytes size. subst (λ (x : State). GoesAlone c.args.self.now x (Takes c.args.stream bytes)) (sym (take-written parts c.args.stream c.args.n s.clients.len c.deref_mut.result.now c.take.new.clients c.take.new.up c.take.result c.remove.new.self p ∙ ap (λ (x : State). taken x c.args.stream c.args.n) c.self.view_is)) (goes-took c.args.self.now c.args.stream c.args.n bytes size)
+    λ bytes size. subst (λ (x : State). GoesAlone c.args.self.now x (Takes c.args.stream bytes)) (sym (take-written parts c.args.stream c.args.n c.take.new.clients c.take.new.up c.take.result c.remove.new.self p ∙ ap (λ (x : State). taken x c.args.stream c.args.n) c.self.view_is)) (goes-took c.args.self.now c.args.stream c.args.n bytes size)
 
 pub returns-else-take-clause-stands : goal.returns-else-take-clause-stands
 returns-else-take-clause-stands c =
     let s = c.self.inside in
     let parts : State = state_of s in
-    let p : TakeParts parts c.args.stream c.args.n s.clients.len c.deref_mut.result.now c.take.new.clients c.take.new.up c.take.result s.waiting = record {
-      lends = c.deref_mut.ensures.value;
-      all = s.clients.ok.0;
-      same = c.take.auto.clients;
+    let p : TakeParts parts c.args.stream c.args.n c.take.new.clients c.take.new.up c.take.result s.waiting = record {
       up_is = c.take.ensures.up;
       clients_are = c.take.ensures.clients;
+      leaving_is = c.take.ensures.leaving;
       empty_is = c.take.ensures.left;
       waits = sym (ap (λ b. cond b (without c.args.stream s.waiting) s.waiting) c.if-take.false);
     } in
-    λ bytes size. subst (λ (x : State). GoesAlone c.args.self.now x (Takes c.args.stream bytes)) (sym (take-written parts c.args.stream c.args.n s.clients.len c.deref_mut.result.now c.take.new.clients c.take.new.up c.take.result s.waiting p ∙ ap (λ (x : State). taken x c.args.stream c.args.n) c.self.view_is)) (goes-took c.args.self.now c.args.stream c.args.n bytes size)
+    λ bytes size. subst (λ (x : State). GoesAlone c.args.self.now x (Takes c.args.stream bytes)) (sym (take-written parts c.args.stream c.args.n c.take.new.clients c.take.new.up c.take.result s.waiting p ∙ ap (λ (x : State). taken x c.args.stream c.args.n) c.self.view_is)) (goes-took c.args.self.now c.args.stream c.args.n bytes size)

@@ -1,0 +1,115 @@
+-- A client that was found by its number, and what follows where it goes on.
+use Rattle.std.proofs.Common.{◌≡◌, ◌≤◌, ◌<◌, ℕ, Bool, true, false, not, List, [], ◌∷◌, length, get_or, set, Option, Some, None, Ok, refl, sym, ap, ◌∙◌, subst, arith, append-nil, cond}
+use Rattle.std.specs.Prelude.{MatchBool}
+use Rattle.mux_outside.specs.House.{HouseState}
+use Rattle.mux_outside.specs.declared.house_mark.HouseMark.{HouseMark as Asked}
+use Rattle.mux_outside.specs.declared.house.HouseReply.{HouseReply}
+use Rattle.proxy_frames.specs.State.{QueueState}
+use Rattle.client_teardown.specs.declared.farewell.TheConstants.{FAREWELL_ROOM}
+use Rattle.mux_history.specs.declared.why.Why.{Why}
+use Rattle.mux_core.specs.State.{CoreState}
+use Rattle.mux_clients.specs.declared.heard.Heard.{Heard}
+use Rattle.mux_clients.specs.declared.standing.Standing.{Standing}
+use Rattle.mux_clients.specs.State.{ClientState, part}
+use Rattle.mux_clients.specs.Stands as stands
+use Rattle.mux_clients.specs.Among.{ChangesOne, KeepReading, at_client, client_index, in_client, is_present}
+use Rattle.mux_clients.specs.Losing.{Loses, LosesIn, LosesNothing, NotesMore, loss_between, loss_in}
+use Rattle.mux_clients.specs.Asked.{Heeds}
+use Rattle.mux_clients.specs.Pieces.{HearsIn, HearsNothing, HearsPiece}
+use Rattle.mux_clients.specs.Starved.{HearsSome, OneIs}
+use Rattle.mux_clients.specs.Room.{HasRoom, KeepsAll, LeavesRoom}
+use Rattle.mux_clients.proofs.Keeping.{keep-set}
+use Rattle.mux_clients.proofs.Placed.{numbers-set, placed-absent, placed-here, placed-present, present-set, set-changes}
+use Rattle.mux_clients.proofs.Places.{at_client_set, look_at}
+use Rattle.mux_clients.proofs.Rooms.{room-at, room-set}
+use Rattle.mux_clients.proofs.Starved.{hears-all, one-is}
+
+-- it is the first of the number, at this place
+pub record Found (k i : ℕ) (x : ClientState) (cs : List ClientState) : Type 0 where
+  pub place : i ≡ client_index k cs
+  pub within : i < length cs
+  pub is : x ≡ get_or cs i x
+
+pub found : (k i n m : ℕ) (x : ClientState) (lent cs : List ClientState) → i ≡ client_index k lent → lent ≡ cs → i < n → n ≡ m → m ≡ length cs → x ≡ get_or cs i x → Found k i x cs
+found k i n m x lent cs place same lt len all is = record { place = place ∙ ap (client_index k) same; within = omega (arith, lt, len, all); is = is }
+
+pub found-changes : (k i : ℕ) (R : ClientState → ClientState → Type 0) (x y : ClientState) (cs : List ClientState) → Found k i x cs → R x y → ChangesOne k R cs (set cs i y)
+found-changes k i R x y cs f r = set-changes k i R x y cs f.place f.within (subst (λ (z : ClientState). R z y) f.is r)
+
+pub found-keeps : (k i : ℕ) (x y : ClientState) (cs : List ClientState) (up up' : QueueState) → Found k i x cs → y.seat.number ≡ x.seat.number → LeavesRoom up up' x y → KeepsAll cs (set cs i y) up up'
+found-keeps k i x y cs up up' f same room =
+    let number : y.seat.number ≡ (get_or cs i x).seat.number = same ∙ ap (λ (z : ClientState). z.seat.number) f.is in
+    record {
+      present = present-set i x y cs f.within number;
+      numbers_same = numbers-set i x y cs f.within number;
+      room = room-set i x y cs up up' f.within (subst (λ (z : ClientState). LeavesRoom up up' z y) f.is room);
+    }
+
+pub found-reading : (k i : ℕ) (x y : ClientState) (cs : List ClientState) → Found k i x cs → y.seat.number ≡ x.seat.number
+    → (stands.is_lost y.seat.standing ≡ false → (y.seat.standing ≡ x.seat.standing) × (y.rest ≡ x.rest)) → KeepReading cs (set cs i y)
+found-reading k i x y cs f same reads =
+    keep-set i x y cs f.within (same ∙ ap (λ (z : ClientState). z.seat.number) f.is)
+    (λ l. let r = reads l in (r.0 ∙ ap (λ (z : ClientState). z.seat.standing) f.is, r.1 ∙ ap (λ (z : ClientState). z.rest) f.is))
+
+-- there is room for its farewell where it isn't lost
+pub found-room : (k i : ℕ) (x : ClientState) (cs : List ClientState) (up : QueueState) → Found k i x cs → HasRoom cs up → stands.is_lost x.seat.standing ≡ false → FAREWELL_ROOM ≤ up.spare
+found-room k i x cs up f room here = room-at i x cs up f.within (ap (λ (z : ClientState). stands.is_lost z.seat.standing) (sym f.is) ∙ here) room
+
+pub found-here : {A : Type 0} (k i : ℕ) (x : ClientState) (cs : List ClientState) → Found k i x cs → is_present cs k ≡ false → A
+found-here k i x cs f gone = placed-here k i cs f.place f.within gone
+
+pub found-present : (k i : ℕ) (x : ClientState) (cs : List ClientState) → Found k i x cs → is_present cs k ≡ true
+found-present k i x cs f = placed-present k i cs f.place f.within
+
+pub found-look : {A : Type 0} (none : A) (look : ClientState → A) (k i : ℕ) (x : ClientState) (cs : List ClientState) → Found k i x cs → in_client none look cs k ≡ look x
+found-look none look k i x cs f = look_at none look k i x cs f.place f.within ∙ ap look (sym f.is)
+
+pub found-at : (k i : ℕ) (f : ClientState → ClientState) (x y : ClientState) (cs : List ClientState) → Found k i x cs → y ≡ f x → set cs i y ≡ at_client k f cs
+found-at k i f x y cs fd e = at_client_set k i f x y cs fd.place (e ∙ ap f fd.is)
+
+-- ---- none was found
+
+pub none-found : (k i n m : ℕ) (lent cs : List ClientState) → i ≡ client_index k lent → lent ≡ cs → n ≤ i → n ≡ m → m ≡ length cs → length cs ≤ client_index k cs
+none-found k i n m lent cs place same le len all = omega (arith, place ∙ ap (client_index k) same, le, len, all)
+
+pub none-here : {A : Type 0} (k : ℕ) (cs : List ClientState) → length cs ≤ client_index k cs → is_present cs k ≡ true → A
+none-here k cs le here = absurd (let gone : is_present cs k ≡ false = placed-absent k cs le in let d : false ≡ true = sym gone ∙ here in cc)
+
+pub keeps-same : (cs : List ClientState) (up : QueueState) → KeepsAll cs cs up up
+keeps-same cs up = record { present = λ j. refl; numbers_same = refl; room = λ h. h }
+
+-- ---- what is noted
+
+pub none-noted : (l : List (ℕ × Option Why)) → NotesMore l l
+none-noted l = record { more = []; longer = sym (append-nil l) }
+
+-- one that is lost by its stream
+pub loss-lost : (k : ℕ) (old new : CoreState) (up up' : QueueState) (x y : ClientState) → LosesIn old new up up' x y → loss_between x.seat.standing y.seat.standing k ≡ cond (stands.not_lost x.seat.standing) ((k, None) ∷ []) []
+loss-lost k old new up up' x y h = by_lost (stands.is_lost x.seat.standing) h
+  where
+    by_lost : (b : Bool) → MatchBool b (LosesNothing old new up up' x y) (Loses (part old x.seat up) (part new y.seat up')) → cond b [] (loss_in y.seat.standing k) ≡ cond (not b) ((k, None) ∷ []) []
+    by_lost true h = refl
+    by_lost false h = ap (λ (s : Standing). loss_in s k) h.standing
+
+-- ---- what the house was asked
+
+pub hears-of : (May : HouseReply → Type 0) (before told : Option (List Asked)) (pid : ℕ) (bytes : List ℕ) (core core' : CoreState) (up up' : QueueState) (heard : Heard) (x y : ClientState) → stands.is_read x.seat.standing ≡ true → HearsIn May before told pid bytes core core' up up' heard x y → HearsPiece May before told pid bytes core up x core' up' y heard
+hears-of May before told pid bytes core core' up up' heard x y e h = by_read (stands.is_read x.seat.standing) e h
+  where
+    by_read : (b : Bool) → b ≡ true → MatchBool b (HearsPiece May before told pid bytes core up x core' up' y heard) (HearsNothing before told core up x core' up' y heard) → HearsPiece May before told pid bytes core up x core' up' y heard
+    by_read true t h = h
+    by_read false t h = absurd (cc)
+
+-- the client was lost by its piece, and there was no memory to note that
+pub cut-noted : {A E : Type 0} {a : A} (May : HouseReply → Type 0) {asks asks' : List Asked} {old new : HouseState} (pid : ℕ) (bytes : List ℕ) (core core' : CoreState) (up up' : QueueState) (heard : Heard) (k i : ℕ) (x y : ClientState) (cs : List ClientState)
+    → Found k i x cs → (stands.is_lost x.seat.standing ≡ false) × (stands.is_lost y.seat.standing ≡ true) → HearsIn May (Some asks) (Some asks') pid bytes core core' up up' heard x y → Heeds {A = A} {E = E} (Ok a) asks asks' old new
+    → OneIs k (HearsSome May old.told new.told pid bytes core up) cs
+cut-noted May {asks} {asks'} {old} {new} pid bytes core core' up up' heard k i x y cs f lost h a =
+    one-is k i P x cs f.place f.within (subst P f.is (by_read (stands.is_read x.seat.standing) refl h))
+  where
+    P : ClientState → Type 0
+    P = HearsSome May old.told new.told pid bytes core up
+
+    by_read : (b : Bool) → stands.is_read x.seat.standing ≡ b → MatchBool b (HearsPiece May (Some asks) (Some asks') pid bytes core up x core' up' y heard) (HearsNothing (Some asks) (Some asks') core up x core' up' y heard) → P x
+    by_read true e h = hears-all May pid bytes core core' up up' x y heard e h a
+    by_read false e h = absurd (let d : true ≡ false = sym lost.1 ∙ (ap (λ (z : ClientState). stands.is_lost z.seat.standing) h.same ∙ lost.0) in cc)
