@@ -1,12 +1,14 @@
 -- The next answer, and what it leaves of the asks.
-use Rattle.std.proofs.Common.{◌≡◌, ◌∙◌, refl, sym, ap, ℕ, zero, suc, ◌<◌, Bool, true, false, List, [], ◌∷◌, length, get_or, Option, Some, None, arith}
+use Rattle.std.proofs.Common.{◌≡◌, ◌∙◌, refl, sym, ap, subst, ℕ, zero, suc, ◌+◌, ◌<◌, Bool, true, false, List, [], ◌∷◌, length, get_or, Option, Some, None, arith}
 use Rattle.std.specs.Prelude.{◌||◌, ◌&&◌, nat_lt, not, is_some, IsTrue, if◌then◌else◌}
 use Rattle.std.specs.List.{list_any, fold, position, remove}
 use Rattle.std.proofs.lemmas.Bool.{or_left, or_right, both_ways, and_from, eq-eqb}
+use Rattle.std.proofs.lemmas.List.Edits.{length-remove}
 use Rattle.std.proofs.lemmas.List.Quantifiers.{position-Some}
-use Rattle.mux_outside.specs.House.{ReplyFits, is_ask, has_ask, without_ask, OpenAsk}
-use Rattle.house_forward.specs.Asks.{has_outcome, is_settled, earlier, earlier_at, earliest, reply_of, reply_in, stamp_of}
-use Rattle.house_forward.specs.Known.{open_ask, open_asks}
+use Rattle.mux_outside.specs.House.{AnswerFits, gives_none, ReplyFits, is_ask, has_ask, without_ask, OpenAsk}
+use Rattle.mux_outside.specs.declared.house.HouseReply.{HouseReply}
+use Rattle.house_forward.specs.Asks.{has_outcome, is_settled, earlier, earlier_at, earliest, reply_of, reply_in, stamp_of, is_waiting, taken_at, answer_in, answer_of, after_answer, answers_in}
+use Rattle.house_forward.specs.Known.{open_ask, open_asks, asks_after_answer}
 use Rattle.house_forward.specs.Quiet.{answers_none}
 use Rattle.house_forward.specs.declared.asks.Outcome.{Outcome}
 use Rattle.house_forward.specs.declared.asks.Outcome.TheVariants.{Done, Port, Refused}
@@ -114,3 +116,33 @@ pub is-there : (ws : List Waiting) (w : Waiting) → earliest ws ≡ Some w
 is-there ws w e none = both_ways (list_any (λ v. is_ask w.client w.id (open_ask v)) ws)
     (none-passes (λ v. is_ask w.client w.id (open_ask v)) ws none)
     (among-them ws w (λ v. is_ask w.client w.id (open_ask v)) e (is-own w))
+
+-- ---- the next answer
+
+-- what is known of an answer, and of the asks that it leaves
+pub record IsAnswer (ws : List Waiting) (o : Option (ℕ × ℕ × HouseReply)) (new : List Waiting) : Type 0 where
+  pub fits : AnswerFits o (open_asks ws)
+  pub silent : gives_none o ≡ answers_none ws
+  pub asks : open_asks new ≡ asks_after_answer o (open_asks ws)
+  pub count : length new + answers_in o ≡ length ws
+
+taken-out : (ws : List Waiting) (w : Waiting) (o : Option ℕ) → earliest ws ≡ Some w → position (is_waiting w.client w.id) ws ≡ o
+    → IsAnswer ws (Some (w.client, w.id, reply_of w)) (taken_at o ws)
+taken-out ws w None e at = absurd (is-there ws w e at)
+taken-out ws w (Some i) e at = record {
+  fits = reply-fits ws w e;
+  silent = some-earliest ws w e;
+  asks = without-first ws w.client w.id i w at;
+  count =
+      let one = length-remove ws i (position-Some (is_waiting w.client w.id) ws i w at).0 in
+      omega (arith, one);
+}
+
+is-known : (ws : List Waiting) (o : Option Waiting) → earliest ws ≡ o → IsAnswer ws (answer_in o) (after_answer (answer_in o) ws)
+is-known ws None e = record { fits = tt; silent = none-earliest ws e; asks = refl; count = omega arith }
+is-known ws (Some w) e = taken-out ws w (position (is_waiting w.client w.id) ws) e refl
+
+pub is-answer : (ws : List Waiting) (o : Option (ℕ × ℕ × HouseReply)) (new : List Waiting) → o ≡ answer_of ws
+    → new ≡ after_answer o ws → IsAnswer ws o new
+is-answer ws o new exact taken = subst (IsAnswer ws o) (sym taken)
+    (subst (λ (a : Option (ℕ × ℕ × HouseReply)). IsAnswer ws a (after_answer a ws)) (sym exact) (is-known ws (earliest ws) refl))

@@ -43,7 +43,7 @@ use Rattle.house_forward.specs.declared.rules.Kind.{Kind}
 use Rattle.house_forward.specs.declared.rules.Kind.TheVariants.{Local, Remote, Dynamic}
 use Rattle.house_forward.proofs.Directing.{its-after}
 use Rattle.house_forward.proofs.Keeping.{is-reading, stays-heard, stays-after}
-use Rattle.house_forward.proofs.Opening.{data-same, line-step}
+use Rattle.house_forward.proofs.Settling.{data-same, line-step}
 use Rattle.house_forward.proofs.Sound.{Each, All, Sound, KeptSound, Both, with-sound, all-reach, each-back, joined_life}
 
 -- ---- what stays as more happens

@@ -2,7 +2,6 @@
 use Rattle.std.proofs.Common.{◌≡◌, ◌∙◌, refl, sym, ap, subst, ◌⊎◌, inl, inr, ℕ, Bool, true, false, List, [], ◌∷◌, ◌++◌, append_assoc, Option, Some, None}
 use Rattle.std.specs.Prelude.{◌||◌, not, find, is_some}
 use Rattle.std.proofs.lemmas.Bool.{both_ways, eqb-true}
-use Rattle.conn_messages.specs.declared.message.Message.{Message}
 use Rattle.conn_messages.specs.declared.message.Message.TheVariants as message
 use Rattle.mux_outside.specs.HouseCalls.{HouseCall, Happening, Marks, Turns, Writable, Failed}
 use Rattle.mux_outside.specs.declared.house_mark.HouseMark.TheVariants.{HouseSaid, HouseOrder}
@@ -11,10 +10,9 @@ use Rattle.mux_outside.specs.declared.own_streams.OwnStream.{OwnStream}
 use Rattle.socks_dialog.specs.declared.outcome.Outcome.{Outcome}
 use Rattle.socks_dialog.specs.declared.outcome.Outcome.TheVariants.{Wants, Connects, Breaks}
 use Rattle.house_relay.specs.Acts.{Act, outcome_in}
-use Rattle.house_relay.specs.Line.{in_live, over_if, hears_close}
 use Rattle.house_relay.specs.Next.{says_of, says_offered}
-use Rattle.house_relay.specs.Relay.{LineStands, IsDialing, stream_of, delivers, is_broken, is_done}
-use Rattle.house_relay.specs.Steps.{made_as, confirmed_in, refused_in, connected, failing, ComesOf, DialsIn, IsToDial, IsAskedFor}
+use Rattle.house_relay.specs.Relay.{LineStands, IsDialing, stream_of, is_broken, is_done}
+use Rattle.house_relay.specs.Steps.{made_as, connected, failing, ComesOf, DialsIn, IsToDial, IsAskedFor}
 use Rattle.house_relay.specs.declared.line.Live.{Live as LiveState}
 use Rattle.house_relay.specs.declared.line.Line.{Line}
 use Rattle.house_relay.specs.declared.line.Line.TheVariants.{Dialing, Asked, Opened, Offered, Live, Over}
@@ -27,7 +25,6 @@ use Rattle.house_forward.specs.Closing.{IsStream}
 use Rattle.house_forward.specs.Confirming.{ConfirmsConnected, RefusesUnconnected, is_confirmation, is_failure, HasHappened, HasNoNumber, HasFailedSince, IsConfirmationOf, IsFailureOf}
 use Rattle.house_forward.specs.Connects.{Place}
 use Rattle.house_forward.specs.Forwardings.{has_request}
-use Rattle.house_forward.specs.Heard.{heard_of}
 use Rattle.house_forward.specs.Links.{IsJoined, IsJoinedAt, after_saying, relay_after}
 use Rattle.house_forward.specs.Lives.{Life, Course, GoesBy, Reaches, Follows, SaysBy, first_course}
 use Rattle.house_forward.specs.Lives.{has_stream, is_stream, are_full}
@@ -41,8 +38,8 @@ use Rattle.house_forward.specs.declared.rules.Kind.TheVariants.{Local, Remote, D
 use Rattle.house_forward.proofs.Closing.{live-says}
 use Rattle.house_forward.proofs.Differing.{Apart}
 use Rattle.house_forward.proofs.Keeping.{is-reading, stays-heard, stays-after}
-use Rattle.house_forward.proofs.Opening.{line-step, data-same}
 use Rattle.house_forward.proofs.Passing.{Passes, Orders, MayStep, pass-all}
+use Rattle.house_forward.proofs.Settling.{SettlesBy, FailsLater, settles-hears, settles-takes, settled-said, with-line, line-step}
 use Rattle.house_forward.proofs.Sound.{Each, Sound, each-back, all-sound}
 
 -- ---- a channel is offered from the first, or never
@@ -56,66 +53,14 @@ offer (Live live) = false
 offer Over = false
 
 abbrev Sets : Line → Line → Type 0
-Sets old new = (offer new ≡ false) ⊎ (new ≡ old)
+Sets old new = SettlesBy offer old new
 
-in-live : (step : LiveState → Line) (line : Line) → ((live : LiveState) → offer (step live) ≡ false) → Sets line (in_live step line)
-in-live step (Dialing dialog) none = inr refl
-in-live step (Asked host port version) none = inr refl
-in-live step (Opened version) none = inr refl
-in-live step (Offered remote window maximum) none = inr refl
-in-live step (Live live) none = inl (none live)
-in-live step Over none = inr refl
-
-over-none : (b : Bool) (live : LiveState) → offer (over_if b live) ≡ false
-over-none true live = refl
-over-none false live = refl
-
-confirms : (line : Line) (remote window maximum : ℕ) (r : Relay) → Sets r.line (confirmed_in line remote window maximum r).line
-confirms (Dialing dialog) remote window maximum r = inr refl
-confirms (Asked host port version) remote window maximum r = inr refl
-confirms (Opened version) remote window maximum r = inl refl
-confirms (Offered theirs room most) remote window maximum r = inr refl
-confirms (Live live) remote window maximum r = inr refl
-confirms Over remote window maximum r = inr refl
-
-refuses : (line : Line) (reason : ℕ) (r : Relay) → Sets r.line (refused_in line reason r).line
-refuses (Dialing dialog) reason r = inr refl
-refuses (Asked host port version) reason r = inr refl
-refuses (Opened version) reason r = inl refl
-refuses (Offered theirs room most) reason r = inr refl
-refuses (Live live) reason r = inr refl
-refuses Over reason r = inr refl
-
-heard : (m : Message) (r : Relay) → Sets r.line (heard_of m r).line
-heard (message.Transport number rest) r = inr refl
-heard (message.GlobalRequest name want rest what) r = inr refl
-heard (message.RequestSuccess rest) r = inr refl
-heard message.RequestFailure r = inr refl
-heard (message.Open kind sender window maximum rest what) r = inr refl
-heard (message.Confirmation recipient sender window maximum rest) r = confirms r.line sender window maximum r
-heard (message.OpenFailure recipient reason text language) r = refuses r.line reason r
-heard (message.Adjust recipient add) r = in-live _ r.line (λ live. refl)
-heard (message.Data recipient bytes) r = inr (data-same (delivers r) bytes.now r)
-heard (message.Extended recipient code bytes) r = inr refl
-heard (message.Eof recipient) r = in-live _ r.line (λ live. refl)
-heard (message.Close recipient) r = in-live hears_close r.line (λ live. over-none live.close_said _)
-heard (message.Request recipient kind want rest) r = in-live _ r.line (λ live. refl)
-heard (message.Success recipient) r = inr refl
-heard (message.Failure recipient) r = inr refl
-
-abbrev with-line : Line → Relay → Relay
-with-line line r = record r { line = line }
+later : FailsLater offer
+later = record { live = λ live. refl; over = refl }
 
 live-said : (o : Option Saying) (live : LiveState) (r : Relay) → offer (after_saying o (with-line (Live live) r)).line ≡ false
 live-said None live r = refl
-live-said (Some saying.Open) live r = refl
-live-said (Some saying.Confirmation) live r = refl
-live-said (Some saying.OpenFailure) live r = refl
-live-said (Some saying.Close) live r = over-none live.close_heard _
-live-said (Some saying.Failure) live r = refl
-live-said (Some (saying.Data n)) live r = refl
-live-said (Some saying.Eof) live r = refl
-live-said (Some (saying.Adjust n)) live r = refl
+live-said (Some s) live r = settled-said offer later s live r
 
 offered-said : (s : Socket) (remote window maximum : ℕ) (r : Relay) → is_some (says_offered s) ≡ true
     → offer (after_saying (says_offered s) (with-line (Offered remote window maximum) r)).line ≡ false
@@ -456,7 +401,7 @@ wired : (before : List HouseCall) (call : HouseCall) (old : Course) → Apart (o
 wired before call old apart = record {
   stays = λ a p u. wired-more before call a.to a.dials a.relay.line a.relay.socket p;
   hears = λ m a b s p h. wired-on before _ _ a b h
-      (subst (λ (r : Relay). Sets a.relay.line r.line) (sym h.relay.0) (heard m a.relay))
+      (settles-hears offer later m a b h)
       (ap (λ (r : Relay). r.socket) h.relay.0 ∙ (stays-heard m a.relay).socket_is) p;
   offers = λ f number remote window maximum. (refl, tt);
   says = λ bytes e a b s p is h. wired-more before call b.to b.dials b.relay.line b.relay.socket (wired-on before _ _ a b h.1
@@ -467,7 +412,7 @@ wired before call old apart = record {
       (subst (λ (d : Bool). WiredTo a.to before d b.relay.line b.relay.socket) (sym h.dials)
       (gets-wired before (not (are_full old.lives)) bytes a.to a b s h.relay.0 p)));
   takes = λ t n e a b s p is h. wired-more before call b.to b.dials b.relay.line b.relay.socket (wired-on before _ _ a b h
-      (subst (λ (r : Relay). Sets a.relay.line r.line) (sym h.relay.0) (in-live _ a.relay.line (λ live. refl)))
+      (settles-takes offer later n a b h)
       (ap (λ (r : Relay). r.socket) h.relay.0) p);
   steps = λ s t ord a sa may p is.
       subst (λ (line : Line). WiredTo a.to (before ++ call ∷ []) a.dials line (relay_after s a.relay).socket) (sym (line-step s a.relay))

@@ -1,6 +1,6 @@
 -- How what the house has besides its relays goes on.
-use Rattle.std.proofs.Common.{◌≡◌, ◌∙◌, refl, sym, ap, subst, ℕ, Bool, true, false, List, [], ◌∷◌, ◌++◌, Option, Some, None}
-use Rattle.std.specs.Prelude.{not, filter, find, is_some, IfSome}
+use Rattle.std.proofs.Common.{◌≡◌, ◌∙◌, refl, sym, ap, subst, ℕ, Bool, true, false, List, [], ◌∷◌, ◌++◌, drop, Option, Some, None}
+use Rattle.std.specs.Prelude.{not, filter, find, is_some, IfSome, IsSomeAnd}
 use Rattle.std.specs.List.{position}
 use Rattle.std.proofs.lemmas.Bool.{false≢true}
 use Rattle.proxy_frames.specs.State.{FramerState}
@@ -8,9 +8,10 @@ use Rattle.mux_outside.specs.House.{Known, NumberFits}
 use Rattle.mux_outside.specs.Streams.{among}
 use Rattle.mux_outside.specs.declared.house.HouseReply.{HouseReply}
 use Rattle.house_forward.specs.Asks.{answer_of, after_answer, settled, counted}
-use Rattle.house_forward.specs.Desk.{Desk, desk_of, Answers, greeting_said, request_said, OrdersListener, MakesListener, EndsListener}
-use Rattle.house_forward.specs.Forwardings.{is_first_to_listen, is_ordered_first, ListensFor, Orders, Leaves, has_request, request_of, after_saying}
-use Rattle.house_forward.specs.Forwardings.{next_of, to_listen, listeners_of, OrderedAt, MadeAt, has_listener, made_refused, order_asks, order_done, ordered_asks, ordered_done, serial_of}
+use Rattle.house_forward.specs.Desk.{Desk, desk_of, Answers, greeting_said, request_said, reply_heard, OrdersListener, MakesListener, EndsListener, OrdersBy, ForwardingsGo, ChangesList}
+use Rattle.house_forward.specs.Forwardings.{is_first_to_listen, is_ordered_first, ListensFor, has_request, request_of, after_saying}
+use Rattle.house_forward.specs.Forwardings.{next_of, to_listen, OrderedAt, MadeAt, has_listener, made_refused, ordered_asks, ordered_done, serial_of}
+use Rattle.house_forward.specs.Forwardings.{first_of, replied_all, replied_asks, replied_done, replied_refused}
 use Rattle.house_forward.specs.Lives.{Held, DeskGoes, GoesFurther, SaysIn, held, held_of}
 use Rattle.house_forward.specs.Said.{framed, request_payload}
 use Rattle.house_forward.specs.declared.asks.Asks.{Asks}
@@ -18,8 +19,8 @@ use Rattle.house_forward.specs.declared.asks.Outcome.TheVariants.{Done}
 use Rattle.house_forward.specs.declared.forwarding.Forwarding.{Forwarding}
 use Rattle.house_forward.specs.declared.forwarding.Request.{Request}
 use Rattle.house_forward.specs.declared.forwardings.Forwardings.{Forwardings}
+use Rattle.house_forward.specs.declared.forwardings.ListenerOrder.{ListenerOrder}
 use Rattle.house_forward.specs.declared.forwardings.ListenerOrder.TheVariants.{Listen as ListensAt, Unlisten as Unlistens}
-use Rattle.house_forward.specs.declared.forwardings.Want.{Want}
 use Rattle.house_forward.specs.declared.forwardings.Want.TheVariants as want
 use Rattle.house_forward.specs.declared.holdings.Stage.{Stage}
 use Rattle.house_forward.specs.declared.relays.Relays.{Relays}
@@ -28,6 +29,7 @@ use Rattle.house_forward.specs.declared.two_texts.TwoTexts.{TwoTexts}
 use Rattle.house_forward.proofs.Courses.{greets, requests}
 use Rattle.house_forward.proofs.InOrder.{none-waits, listens-first}
 use Rattle.house_forward.proofs.Lists.{none-passes, none-found}
+use Rattle.house_forward.proofs.Placed.{listens-first as listens-there}
 
 -- two are the same whose parts are
 pub same-desks : (a b : Desk) → a.gateway ≡ b.gateway → a.greeted ≡ b.greeted → a.all ≡ b.all → a.serials ≡ b.serials
@@ -55,118 +57,93 @@ same-desks a b gateway greeted all serials refused requests waiting done =
 -- ---- listeners
 
 -- one that is next to be closed is closed
-pub ends-listener : (l : ℕ) (relays : Relays) (framer : FramerState) (stage : Stage) (gateway greeted : Bool) (fs : Forwardings) (asks : Asks)
-    (fs' : Forwardings) (asks' : Asks) → Orders (Unlistens l) asks.waiting.items fs.all.items fs'.all.items
-    → Leaves (Unlistens l) fs.all.items fs'.all.items
-    → asks'.waiting.items ≡ order_asks (next_of asks.waiting.items fs.all.items) asks.done asks.waiting.items
-    → asks'.done ≡ order_done (next_of asks.waiting.items fs.all.items) asks.done
-    → fs'.serials ≡ fs.serials → fs'.requests ≡ fs.requests → fs'.refused ≡ fs.refused
-    → DeskGoes (EndsListener l) (held_of relays framer stage gateway greeted fs asks) (held_of relays framer stage gateway greeted fs' asks')
-ends-listener l relays framer stage gateway greeted fs asks fs' asks' orders leaves waiting done serials requests refused =
-    let next = orders.2.1 in
-    let old = desk_of gateway greeted fs asks in (
-      refl,
-      record {
-        serial = orders.2.0;
-        next = next;
-        others = same-desks (desk_of gateway greeted fs' asks') (record old {
-          all = filter (λ f. not (has_listener l f)) old.all;
-          waiting = settled orders.2.0 false old.done Done old.waiting;
-          done = counted old.done;
-        }) refl refl leaves serials refused (ap (λ q. q.items) requests)
-            (waiting ∙ ap (λ (o : Option Want). order_asks o asks.done asks.waiting.items) next)
-            (done ∙ ap (λ (o : Option Want). order_done o asks.done) next);
-      },
-    )
+pub ends-listener : (l serial : ℕ) (fs : Forwardings) (asks : Asks) (fs' : Forwardings) (asks' : Asks)
+    → next_of asks.waiting.items fs.all.items ≡ Some (want.Unlisten serial l)
+    → fs'.all.items ≡ filter (λ f. not (has_listener l f)) fs.all.items → ChangesList fs fs'
+    → asks'.waiting.items ≡ settled serial false asks.done Done asks.waiting.items → asks'.done ≡ counted asks.done
+    → ForwardingsGo (EndsListener l) fs asks fs' asks'
+ends-listener l serial fs asks fs' asks' next all others waiting done gateway greeted =
+    let old = desk_of gateway greeted fs asks in record {
+      serial = serial;
+      next = next;
+      others = same-desks (desk_of gateway greeted fs' asks') (record old {
+        all = filter (λ f. not (has_listener l f)) old.all;
+        waiting = settled serial false old.done Done old.waiting;
+        done = counted old.done;
+      }) refl refl all others.serials others.refused (ap (λ q. q.items) others.requests) waiting done;
+    }
 
-listens-by : (texts : TwoTexts) (port : ℕ) (o : Option Forwarding) → ListensFor (ListensAt texts port) o
-    → IfSome o (λ f. (texts.other ≡ f.listen_host) × (port ≡ f.listen_port))
-listens-by texts port None h = tt
-listens-by texts port (Some f) h = (sym texts.same ∙ h.0, h.1)
+never-ends : (l : ℕ) (first : Option Forwarding) → ListensFor (Unlistens l) first → ⊥
+never-ends l None h = h
+never-ends l (Some f) h = h
 
-orders-by : (o : Option ℕ) (texts : TwoTexts) (port : ℕ) (relays : Relays) (framer : FramerState) (stage : Stage) (gateway greeted : Bool)
-    (fs : Forwardings) (asks : Asks) (fs' : Forwardings) (asks' : Asks) → position to_listen fs.all.items ≡ o
+orders-at : (o : Option ℕ) (texts : TwoTexts) (port : ℕ) (fs : Forwardings) (asks : Asks) (fs' : Forwardings) → position to_listen fs.all.items ≡ o
     → next_of asks.waiting.items fs.all.items ≡ Some want.Listen → ListensFor (ListensAt texts port) (find to_listen fs.all.items)
-    → IfSome o (λ i. OrderedAt i fs.all.items fs'.all.items)
-    → asks'.waiting.items ≡ order_asks (next_of asks.waiting.items fs.all.items) asks.done asks.waiting.items
-    → asks'.done ≡ order_done (next_of asks.waiting.items fs.all.items) asks.done
-    → fs'.serials ≡ fs.serials → fs'.requests ≡ fs.requests → fs'.refused ≡ fs.refused
-    → DeskGoes (OrdersListener texts.other port) (held_of relays framer stage gateway greeted fs asks)
-    (held_of relays framer stage gateway greeted fs' asks')
-orders-by None texts port relays framer stage gateway greeted fs asks fs' asks' e next place leaves waiting done serials requests refused =
+    → IfSome o (λ i. OrderedAt i fs.all.items fs'.all.items) → ChangesList fs fs'
+    → ForwardingsGo (OrdersListener texts.one port) fs asks fs' asks
+orders-at None texts port fs asks fs' e next there ordered others gateway greeted =
     let none = none-found to_listen fs.all.items (none-passes to_listen fs.all.items e) in
     absurd (false≢true (ap is_first_to_listen (sym none) ∙ listens-first asks.waiting.items fs.all.items next))
-orders-by (Some i) texts port relays framer stage gateway greeted fs asks fs' asks' e next place leaves waiting done serials requests refused =
-    let old = desk_of gateway greeted fs asks in (
-      refl,
-      record {
-        place = i;
-        first = e;
-        next = next;
-        there = listens-by texts port (find to_listen fs.all.items) place;
-        ordered = leaves;
-        others = same-desks (desk_of gateway greeted fs' asks') (record old { all = fs'.all.items }) refl refl refl serials refused
-            (ap (λ q. q.items) requests) (waiting ∙ ap (λ (o : Option Want). order_asks o asks.done asks.waiting.items) next)
-            (done ∙ ap (λ (o : Option Want). order_done o asks.done) next);
-      },
-    )
+orders-at (Some i) texts port fs asks fs' e next there ordered others gateway greeted =
+    let old = desk_of gateway greeted fs asks in record {
+      place = i;
+      first = e;
+      next = next;
+      there = listens-there texts port (find to_listen fs.all.items) there;
+      ordered = ordered;
+      others = same-desks (desk_of gateway greeted fs' asks) (record old { all = fs'.all.items }) refl refl refl others.serials others.refused
+          (ap (λ q. q.items) others.requests) refl refl;
+    }
 
 -- the first that has none yet is ordered
-pub orders-listener : (texts : TwoTexts) (port : ℕ) (relays : Relays) (framer : FramerState) (stage : Stage) (gateway greeted : Bool)
-    (fs : Forwardings) (asks : Asks) (fs' : Forwardings) (asks' : Asks)
-    → next_of asks.waiting.items fs.all.items ≡ Some want.Listen → ListensFor (ListensAt texts port) (find to_listen fs.all.items)
-    → Leaves (ListensAt texts port) fs.all.items fs'.all.items
-    → asks'.waiting.items ≡ order_asks (next_of asks.waiting.items fs.all.items) asks.done asks.waiting.items
-    → asks'.done ≡ order_done (next_of asks.waiting.items fs.all.items) asks.done
-    → fs'.serials ≡ fs.serials → fs'.requests ≡ fs.requests → fs'.refused ≡ fs.refused
-    → DeskGoes (OrdersListener texts.other port) (held_of relays framer stage gateway greeted fs asks)
-    (held_of relays framer stage gateway greeted fs' asks')
-orders-listener texts port relays framer stage gateway greeted fs asks fs' asks' next place leaves waiting done serials requests refused =
-    orders-by (position to_listen fs.all.items) texts port relays framer stage gateway greeted fs asks fs' asks' refl next place leaves waiting done
-    serials requests refused
+pub orders-listener : (o : Option ListenerOrder) (fs : Forwardings) (asks : Asks) (fs' : Forwardings)
+    → next_of asks.waiting.items fs.all.items ≡ Some want.Listen → IsSomeAnd o (λ x. ListensFor x (find to_listen fs.all.items))
+    → IfSome (position to_listen fs.all.items) (λ i. OrderedAt i fs.all.items fs'.all.items) → ChangesList fs fs'
+    → IfSome o (λ x. ForwardingsGo (OrdersBy x) fs asks fs' asks)
+orders-listener None fs asks fs' next there ordered others = tt
+orders-listener (Some (ListensAt texts port)) fs asks fs' next there ordered others =
+    orders-at (position to_listen fs.all.items) texts port fs asks fs' refl next there ordered others
+orders-listener (Some (Unlistens l)) fs asks fs' next there ordered others = absurd (never-ends l (find to_listen fs.all.items) there)
 
-makes-by : (o : Option ℕ) (number : Option ℕ) (relays : Relays) (framer : FramerState) (stage : Stage) (gateway greeted : Bool) (fs : Forwardings) (asks : Asks)
-    (fs' : Forwardings) (asks' : Asks) → position to_listen fs.all.items ≡ o → is_ordered_first (find to_listen fs.all.items) ≡ true
-    → IfSome number (λ l. among l (listeners_of fs.all.items) ≡ false) → IfSome o (λ i. MadeAt number i fs.all.items fs'.all.items)
-    → asks'.waiting.items ≡ ordered_asks number (serial_of (find to_listen fs.all.items)) asks.done asks.waiting.items
-    → asks'.done ≡ ordered_done number asks.done → fs'.serials ≡ fs.serials → fs'.requests ≡ fs.requests
-    → fs'.refused ≡ made_refused number (find to_listen fs.all.items) fs.refused
-    → DeskGoes (MakesListener number) (held_of relays framer stage gateway greeted fs asks) (held_of relays framer stage gateway greeted fs' asks')
-makes-by None number relays framer stage gateway greeted fs asks fs' asks' e is new leaves waiting done serials requests refused =
-    absurd (none-waits fs.all.items e is)
-makes-by (Some i) number relays framer stage gateway greeted fs asks fs' asks' e is new leaves waiting done serials requests refused =
-    let old = desk_of gateway greeted fs asks in (
-      refl,
-      record {
-        place = i;
-        first = e;
-        fresh = new;
-        made = leaves;
-        others = same-desks (desk_of gateway greeted fs' asks') (record old {
-          all = fs'.all.items;
-          refused = made_refused number (find to_listen old.all) old.refused;
-          waiting = ordered_asks number (serial_of (find to_listen old.all)) old.done old.waiting;
-          done = ordered_done number old.done;
-        }) refl refl refl serials refused (ap (λ q. q.items) requests) waiting done;
-      },
-    )
+makes-at : (o : Option ℕ) (number : Option ℕ) (old new : Desk) → position to_listen old.all ≡ o
+    → is_ordered_first (find to_listen old.all) ≡ true → IfSome o (λ i. MadeAt number i old.all new.all)
+    → new ≡ record old {
+      all = new.all;
+      refused = made_refused number (find to_listen old.all) old.refused;
+      waiting = ordered_asks number (serial_of (find to_listen old.all)) old.done old.waiting;
+      done = ordered_done number old.done;
+    } → MakesListener number old new
+makes-at None number old new e is made others = absurd (none-waits old.all e is)
+makes-at (Some i) number old new e is made others = record { place = i; first = e; made = made; others = others }
+
+-- it is made, or couldn't be
+pub makes-listener : (number : Option ℕ) (old new : Desk) → is_ordered_first (find to_listen old.all) ≡ true
+    → IfSome (position to_listen old.all) (λ i. MadeAt number i old.all new.all)
+    → new ≡ record old {
+      all = new.all;
+      refused = made_refused number (find to_listen old.all) old.refused;
+      waiting = ordered_asks number (serial_of (find to_listen old.all)) old.done old.waiting;
+      done = ordered_done number old.done;
+    } → MakesListener number old new
+makes-listener number old new is made others = makes-at (position to_listen old.all) number old new refl is made others
 
 -- a number that fits is that of no other listener
 pub fits-fresh : (number : Option ℕ) (known : Known) → NumberFits number known → IfSome number (λ l. among l known.listeners ≡ false)
 fits-fresh None known h = tt
 fits-fresh (Some l) known h = h.no_listener
 
--- it is made, or couldn't be
-pub makes-listener : (number : Option ℕ) (relays : Relays) (framer : FramerState) (stage : Stage) (gateway greeted : Bool) (fs : Forwardings) (asks : Asks)
-    (fs' : Forwardings) (asks' : Asks) → is_ordered_first (find to_listen fs.all.items) ≡ true
-    → IfSome number (λ l. among l (listeners_of fs.all.items) ≡ false)
-    → IfSome (position to_listen fs.all.items) (λ i. MadeAt number i fs.all.items fs'.all.items)
-    → asks'.waiting.items ≡ ordered_asks number (serial_of (find to_listen fs.all.items)) asks.done asks.waiting.items
-    → asks'.done ≡ ordered_done number asks.done → fs'.serials ≡ fs.serials → fs'.requests ≡ fs.requests
-    → fs'.refused ≡ made_refused number (find to_listen fs.all.items) fs.refused
-    → DeskGoes (MakesListener number) (held_of relays framer stage gateway greeted fs asks) (held_of relays framer stage gateway greeted fs' asks')
-makes-listener number relays framer stage gateway greeted fs asks fs' asks' is new leaves waiting done serials requests refused =
-    makes-by (position to_listen fs.all.items) number relays framer stage gateway greeted fs asks fs' asks' refl is new leaves waiting done serials requests refused
+-- ---- a reply of the server
+
+pub hears-reply : (success : Bool) (port : Option ℕ) (fs : Forwardings) (asks : Asks) (fs' : Forwardings) (asks' : Asks)
+    → fs'.all.items ≡ replied_all success port (first_of fs.requests.items) fs.all.items → fs'.serials ≡ fs.serials
+    → fs'.refused ≡ replied_refused success (first_of fs.requests.items) fs.all.items fs.refused
+    → fs'.requests.items ≡ drop 1 fs.requests.items
+    → asks'.waiting.items ≡ replied_asks success port (first_of fs.requests.items) fs.all.items asks.done asks.waiting.items
+    → asks'.done ≡ replied_done success port (first_of fs.requests.items) fs.all.items asks.done
+    → ForwardingsGo (λ old new. new ≡ reply_heard success port old) fs asks fs' asks'
+hears-reply success port fs asks fs' asks' all serials refused requests waiting done gateway greeted =
+    same-desks (desk_of gateway greeted fs' asks') (reply_heard success port (desk_of gateway greeted fs asks))
+    refl refl all serials refused requests waiting done
 
 -- ---- asks
 

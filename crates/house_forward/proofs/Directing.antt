@@ -26,7 +26,8 @@ use Rattle.house_forward.specs.declared.rules.Kind.TheVariants.{Local, Remote, D
 use Rattle.house_forward.proofs.Connecting.{streamed, owned, step-made}
 use Rattle.house_forward.proofs.Fresh.{joined}
 use Rattle.house_forward.proofs.Keeping.{stays-heard}
-use Rattle.house_forward.proofs.Opening.{Settles, settles-hears, settles-takes, line-step, SaysOpen, spoken}
+use Rattle.house_forward.proofs.Opening.{Settles, may-later, SaysOpen, spoken}
+use Rattle.house_forward.proofs.Settling.{settles-hears, settles-takes, line-step}
 use Rattle.house_forward.proofs.Sound.{Each, All, Sound, KeptSound, Both, with-sound, all-reach, each-back, joined_life, step_of}
 
 -- ---- where an OPEN is to be said, it is for what was joined
@@ -206,7 +207,7 @@ aimed calls = record {
       let none = ap (λ (r : Relay). may_open r.line) h.1.relay.0 ∙ (spoken a.relay is).settled in
       record { right = none-right calls b.own b.joined b.relay.line none; unmade_none = λ e. none }
       );
-  hears = λ m a b s p h. aimed-on calls _ _ a b h (settles-hears m a b h)
+  hears = λ m a b s p h. aimed-on calls _ _ a b h (settles-hears may_open may-later m a b h)
       (ap (λ (r : Relay). r.socket) h.relay.0 ∙ (stays-heard m a.relay).socket_is) p;
   gets = λ t bytes old now a b s s' p is h. record {
     right = subst (λ (own : Option OwnStream). Right calls own b.joined b.relay.line) (sym h.own)
@@ -214,7 +215,7 @@ aimed calls = record {
         (gets-right calls a.relay.line (not (are_full old.lives)) bytes a b refl h.relay.0 s s' h.dials p.right));
     unmade_none = not-unmade b (owned t b.own b.relay.socket (ap (is_stream t) h.own ∙ is) s'.stream);
   };
-  takes = λ t n a b s p is h. aimed-on calls _ _ a b h (settles-takes n a b h) (ap (λ (r : Relay). r.socket) h.relay.0) p;
+  takes = λ t n a b s p is h. aimed-on calls _ _ a b h (settles-takes may_open may-later n a b h) (ap (λ (r : Relay). r.socket) h.relay.0) p;
   steps = λ s t call old now causes a sounds p is. record {
     right = subst (Right calls (own_after s a.own) a.joined) (sym (line-step s a.relay)) (right-after calls s a.own a.joined a.relay.line p.right);
     unmade_none = not-unmade (step_of s a) (step-made s a.relay (owned t a.own a.relay.socket is sounds.stream));

@@ -15,20 +15,8 @@ use Rattle.house_forward.specs.declared.forwarding.Forwarding.{Forwarding}
 use Rattle.house_forward.specs.declared.rules.Kind.{Kind}
 use Rattle.house_forward.specs.declared.rules.Kind.TheVariants.{Local, Remote, Dynamic}
 
-nothing-plain : NothingYet false []
-nothing-plain = record {
-  no_answer = refl;
-  no_data = refl;
-  no_take = omega arith;
-  no_room = refl;
-  no_eof = refl;
-  no_close = refl;
-  none_heard = refl;
-  none_closed = refl;
-}
-
-nothing-dialed : NothingYet true []
-nothing-dialed = record {
+nothing-yet : (dials : Bool) → NothingYet dials []
+nothing-yet dials = record {
   no_answer = refl;
   no_data = refl;
   no_take = omega arith;
@@ -53,10 +41,10 @@ plain number line s h = record {
 pub offered : (number remote window maximum : ℕ) (s : Socket)
     → Stands false [] (fresh_relay number (Offered remote window maximum) s)
 offered number remote window maximum s =
-    plain number (Offered remote window maximum) s (record { plain = refl; nothing = nothing-plain })
+    plain number (Offered remote window maximum) s (record { plain = refl; nothing = nothing-yet false })
 
 asked : (number : ℕ) (host : List ℕ) (port : ℕ) (s : Socket) → Stands false [] (fresh_relay number (Asked host port None) s)
-asked number host port s = plain number (Asked host port None) s (record { waits = refl; nothing = nothing-plain })
+asked number host port s = plain number (Asked host port None) s (record { waits = refl; nothing = nothing-yet false })
 
 over : (number : ℕ) (s : Socket) → Stands false [] (fresh_relay number Over s)
 over number s = plain number Over s (record { most = omega arith; settled = tt })
@@ -69,7 +57,7 @@ dialed number s = record {
   ends = refl;
   last = λ said. absurd (false≢true said);
   few = omega arith;
-  line = record { socks = refl; bytes = refl; given = refl; wants = refl; nothing = nothing-dialed };
+  line = record { socks = refl; bytes = refl; given = refl; wants = refl; nothing = nothing-yet true };
 }
 
 -- one with this stream, in which nothing happened yet

@@ -393,7 +393,7 @@ asked-remove serial fs i d e =
     let at = position-Some (is_asked serial) fs i d e in
     kept-remove listener_of fs i d at.0 (asked-none (get_or fs i d).stage (and_parts ((get_or fs i d).serial == serial) _ at.1).1)
 
-pub cancelled-remove : (serial : ℕ) (fs : List Forwarding) (i : ℕ) (d : Forwarding) → position (is_cancelled serial) fs ≡ Some i
+cancelled-remove : (serial : ℕ) (fs : List Forwarding) (i : ℕ) (d : Forwarding) → position (is_cancelled serial) fs ≡ Some i
     → listeners_of (remove fs i) ≡ listeners_of fs
 cancelled-remove serial fs i d e =
     let at = position-Some (is_cancelled serial) fs i d e in
@@ -482,6 +482,11 @@ pub asked-there : (serial : ℕ) (fs : List Forwarding) (i : ℕ) → position (
     → listeners_of (remove fs i) ≡ listeners_of fs
 asked-there serial [] i e = cc
 asked-there serial (f ∷ fs) i e = asked-remove serial (f ∷ fs) i f e
+
+pub cancelled-there : (serial : ℕ) (fs : List Forwarding) (i : ℕ) → position (is_cancelled serial) fs ≡ Some i
+    → listeners_of (remove fs i) ≡ listeners_of fs
+cancelled-there serial [] i e = cc
+cancelled-there serial (f ∷ fs) i e = cancelled-remove serial (f ∷ fs) i f e
 
 -- ---- the first is ordered
 

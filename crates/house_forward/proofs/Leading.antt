@@ -1,6 +1,6 @@
 -- How what the calls do of their own leads a course on: what is read of the wire, what is given, and what
 -- is heard frame by frame.
-use Rattle.std.proofs.Common.{◌≡◌, ◌∙◌, refl, sym, ap, subst, inl, inr, ◌⊎◌, Bor, ℕ, Bool, true, false, List, [], ◌∷◌, drop, Option, Some, None}
+use Rattle.std.proofs.Common.{◌≡◌, ◌∙◌, refl, sym, ap, subst, inl, inr, ◌⊎◌, Bor, ℕ, Bool, true, false, List, [], ◌∷◌, Option, Some, None}
 use Rattle.std.specs.Prelude.{◌≢◌, ◌==◌, not, find, IfSome, IfNone, OnOk, IfOk, Result, Ok, Err}
 use Rattle.std.specs.List.{list_any, position}
 use Rattle.std.proofs.lemmas.Bool.{false≢true}
@@ -22,10 +22,10 @@ use Rattle.proxy_frames.specs.declared.next.Next.{Next}
 use Rattle.proxy_frames.specs.declared.next.Next.TheVariants as next
 use Rattle.mux_outside.specs.House.{says_nothing}
 use Rattle.mux_outside.specs.HouseCalls.{Hears as HearsBytes}
-use Rattle.house_forward.specs.Desk.{Desk, desk_of, reply_heard, OrdersListener, MakesListener, GetsListener}
-use Rattle.house_forward.specs.Forwardings.{has_request, to_listen, is_ordered_first, served_at, first_of, replied_all, replied_refused, replied_asks, replied_done}
+use Rattle.mux_outside.specs.Streams.{among}
+use Rattle.house_forward.specs.Desk.{Desk, desk_of, reply_heard, ForwardingsGo, OrdersListener, MakesListener, GetsListener}
+use Rattle.house_forward.specs.Forwardings.{has_request, listeners_of, served_at}
 use Rattle.house_forward.specs.Going.{LeavesAt, HearsOn, SaysOn, MakesAt}
-use Rattle.house_forward.specs.Known.{is_there}
 use Rattle.house_forward.specs.Links.{Offers, has_saying, is_awaited}
 use Rattle.house_forward.specs.Lives.{Course, Held, IsCourse, GoesFurther, LinksGo, HouseGoes, DeskGoes, GetsNumber, held, held_of, Follows, with_heard, cut_off, SaysIn}
 use Rattle.house_forward.specs.Said.{framed, said_by}
@@ -118,21 +118,14 @@ a-forwarded reading m kind rest address remote window maximum port what o relays
     (λ framer stage gateway greeted.
     an-open address.now port remote window maximum o relays.all.items relays'.all.items framer stage (desk_of gateway greeted fs asks) found none some)))
 
--- what a reply of the server leaves
-pub record Replied (success : Bool) (port : Option ℕ) (fs : Forwardings) (asks : Asks) (fs' : Forwardings) (asks' : Asks) : Type 0 where
-  pub all : fs'.all.items ≡ replied_all success port (first_of fs.requests.items) fs.all.items
-  pub serials : fs'.serials ≡ fs.serials
-  pub refused : fs'.refused ≡ replied_refused success (first_of fs.requests.items) fs.all.items fs.refused
-  pub requests : fs'.requests.items ≡ drop 1 fs.requests.items
-  pub waiting : asks'.waiting.items ≡ replied_asks success port (first_of fs.requests.items) fs.all.items asks.done asks.waiting.items
-  pub done : asks'.done ≡ replied_done success port (first_of fs.requests.items) fs.all.items asks.done
-
+-- a reply of the server
 replies : (success : Bool) (port : Option ℕ) (relays : Relays) (fs : Forwardings) (asks : Asks) (fs' : Forwardings) (asks' : Asks)
-    → Replied success port fs asks fs' asks' → HouseGoes (HearsReply success port) relays fs asks relays fs' asks'
-replies success port relays fs asks fs' asks' r framer stage gateway greeted =
+    → ForwardingsGo (λ old new. new ≡ reply_heard success port old) fs asks fs' asks'
+    → HouseGoes (HearsReply success port) relays fs asks relays fs' asks'
+replies success port relays fs asks fs' asks' goes framer stage gateway greeted =
     desk-becomes (reply_heard success port) (held_of relays framer stage gateway greeted fs asks)
     (held_of relays framer stage gateway greeted fs' asks')
-    (rw (r.all, r.serials, r.refused, r.requests, r.waiting, r.done) refl)
+    (ap (λ (d : Desk). held relays.all.items framer stage d) (goes gateway greeted))
 
 -- the port that a success carries
 pub port-read : (o : Option ℕ) (bytes rest : List ℕ) → IfSome o (λ n. take_u32 bytes ≡ Some (n, rest))
@@ -142,7 +135,7 @@ port-read (Some n) bytes rest some none = sym (ap port_in some)
 
 pub a-success : (reading : Result Said Bad) (m : Message) (rest : Bor (List ℕ)) (port : Option ℕ) (relays : Relays) (fs : Forwardings) (asks : Asks)
     (fs' : Forwardings) (asks' : Asks) → reading ≡ Ok (message_of m) → m ≡ message.RequestSuccess rest → port ≡ port_in (take_u32 rest.now)
-    → Replied true port fs asks fs' asks' → HouseGoes (HearsReading reading) relays fs asks relays fs' asks'
+    → ForwardingsGo (λ old new. new ≡ reply_heard true port old) fs asks fs' asks' → HouseGoes (HearsReading reading) relays fs asks relays fs' asks'
 a-success reading m rest port relays fs asks fs' asks' e is its r =
     a-message reading m relays fs asks relays fs' asks' e
     (subst (λ (x : Message). HouseGoes (HearsMessage x) relays fs asks relays fs' asks') (sym is)
@@ -150,7 +143,7 @@ a-success reading m rest port relays fs asks fs' asks' e is its r =
 
 pub a-failure : (reading : Result Said Bad) (m : Message) (relays : Relays) (fs : Forwardings) (asks : Asks)
     (fs' : Forwardings) (asks' : Asks) → reading ≡ Ok (message_of m) → m ≡ message.RequestFailure
-    → Replied false None fs asks fs' asks' → HouseGoes (HearsReading reading) relays fs asks relays fs' asks'
+    → ForwardingsGo (λ old new. new ≡ reply_heard false None old) fs asks fs' asks' → HouseGoes (HearsReading reading) relays fs asks relays fs' asks'
 a-failure reading m relays fs asks fs' asks' e is r =
     a-message reading m relays fs asks relays fs' asks' e
     (subst (λ (x : Message). HouseGoes (HearsMessage x) relays fs asks relays fs' asks') (sym is)
@@ -441,28 +434,31 @@ made-so o number old new is others goes =
     let c = connect-of o is in
     subst (λ (x : Option Ordering). GetsNumber x number old new) (sym c.2) (made-number c.0 c.1 number old new others goes)
 
+-- what goes on of the forwardings does so of the house
+pub desk-by : (so : Desk → Desk → Type 0) (relays : Relays) (framer : FramerState) (stage : Stage) (gateway greeted : Bool)
+    (fs : Forwardings) (asks : Asks) (fs' : Forwardings) (asks' : Asks) → ForwardingsGo so fs asks fs' asks'
+    → DeskGoes so (held_of relays framer stage gateway greeted fs asks) (held_of relays framer stage gateway greeted fs' asks')
+desk-by so relays framer stage gateway greeted fs asks fs' asks' goes = (refl, goes gateway greeted)
+
+-- no other listener has this number
+abbrev pub IsFresh : Option ℕ → Desk → Type 0
+IsFresh number d = IfSome number (λ l. among l (listeners_of d.all) ≡ false)
+
 -- what was ordered of the desk, and what came of it
 both-desks : (host : List ℕ) (port : ℕ) (number : Option ℕ) (before old new : Held) → DeskGoes (OrdersListener host port) before old
-    → DeskGoes (MakesListener number) old new → DeskGoes (GetsListener host port number) before new
-both-desks host port number before old new a b = (
+    → IsFresh number old.desk → DeskGoes (MakesListener number) old new → DeskGoes (GetsListener host port number) before new
+both-desks host port number before old new a fresh b = (
   b.0 ∙ ap (λ (h : Held). record h { desk = new.desk }) a.0,
-  record { between = old.desk; orders = a.1; makes = b.1 },
+  record { between = old.desk; orders = a.1; fresh = fresh; makes = b.1 },
 )
 
-listened-number : (host : List ℕ) (port : ℕ) (number : Option ℕ) (old new : Held) → DeskGoes (MakesListener number) old new
-    → GetsNumber (Some (ordering.Listen host port)) number old new
-listened-number host port number old new goes = λ before awaits.
-    desk-goes (GetsListener host port number) before new (both-desks host port number before old new awaits goes)
+listened-number : (host : List ℕ) (port : ℕ) (number : Option ℕ) (old new : Held) → IsFresh number old.desk
+    → DeskGoes (MakesListener number) old new → GetsNumber (Some (ordering.Listen host port)) number old new
+listened-number host port number old new fresh goes = λ before awaits.
+    desk-goes (GetsListener host port number) before new (both-desks host port number before old new awaits fresh goes)
 
-pub listened-so : (o : Option Ordering) (number : Option ℕ) (old new : Held) → listens o ≡ true
+pub listened-so : (o : Option Ordering) (number : Option ℕ) (old new : Held) → listens o ≡ true → IsFresh number old.desk
     → DeskGoes (MakesListener number) old new → GetsNumber o number old new
-listened-so o number old new is goes =
+listened-so o number old new is fresh goes =
     let l = listen-of o is in
-    subst (λ (x : Option Ordering). GetsNumber x number old new) (sym l.2) (listened-number l.0 l.1 number old new goes)
-
--- that is there
-pub listened-first : (o : Option Ordering) (fs : List Forwarding) (links : List Link) → listens o ≡ true → is_there o fs links ≡ true
-    → is_ordered_first (find to_listen fs) ≡ true
-listened-first None fs links is there = cc
-listened-first (Some (ordering.Listen host port)) fs links is there = there
-listened-first (Some (ordering.Connect host port)) fs links is there = cc
+    subst (λ (x : Option Ordering). GetsNumber x number old new) (sym l.2) (listened-number l.0 l.1 number old new fresh goes)

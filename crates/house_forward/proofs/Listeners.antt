@@ -1,29 +1,23 @@
 -- No two forwardings have one listener, since each came with a number that none had.
-use Rattle.std.proofs.Common.{◌≡◌, ◌∙◌, refl, sym, ap, subst, arith, ℕ, zero, suc, ◌+◌, ◌≤◌, Bool, true, false, List, [], ◌∷◌, ◌++◌, length, set, map, filter, Option, Some, None, inl, inr}
-use Rattle.std.specs.Prelude.{◌==◌, ◌||◌, not, nat_le, slice_get, IfSome}
+use Rattle.std.proofs.Common.{◌≡◌, ◌∙◌, refl, sym, ap, subst, arith, ℕ, ◌+◌, Bool, true, false, List, [], ◌∷◌, ◌++◌, length, set, map, filter, Option, Some, None, inl, inr}
+use Rattle.std.specs.Prelude.{◌==◌, ◌||◌, not, nat_le, IfSome}
 use Rattle.std.specs.List.{cons_option, remove}
 use Rattle.std.proofs.lemmas.Bool.{and_parts, both_ways, cases_Bool, eqb-true}
 use Rattle.mux_outside.specs.Streams.{among}
-use Rattle.mux_outside.specs.declared.start_ask.StartAsk.{StartAsk}
 use Rattle.house_forward.specs.Asks.{turns_away}
 use Rattle.house_forward.specs.Deeds.{Deed, Does, Leave}
 use Rattle.house_forward.specs.Deeds.{Begins, Asks, Answers, Greets, Requests, Replies, Listens, Unlistens}
 use Rattle.house_forward.specs.Desk.{Desk, GetsListener, standing_at}
-use Rattle.house_forward.specs.Forwardings.{is_numbered, Begins as BeginsAt, StartsIf, Standing, Opens, changed, after_saying, request_of, standing, closes_of, after_close, EndsLeave, ComesIf, ComesUnless, replied_all, first_of, removed_at, MadeAt, listener_of, listeners_of, has_listener}
-use Rattle.house_forward.specs.Rules.{is_refused_alone}
-use Rattle.house_forward.specs.declared.asks.Asked.{Asked as Comes}
-use Rattle.house_forward.specs.declared.asks.Asked.TheVariants.{Now, Later}
+use Rattle.house_forward.specs.Forwardings.{is_numbered, changed, request_of, first_of, MadeAt, listener_of, listeners_of, has_listener}
 use Rattle.house_forward.specs.declared.forwarding.Change.{Change}
 use Rattle.house_forward.specs.declared.forwarding.Change.TheVariants as change
 use Rattle.house_forward.specs.declared.forwarding.Forwarding.{Forwarding}
-use Rattle.house_forward.specs.declared.forwarding.Request.{Request}
-use Rattle.house_forward.specs.declared.forwarding.Request.TheVariants.{Listen, Cancel}
 use Rattle.house_forward.specs.declared.forwarding.Stage.TheVariants.{Listening}
-use Rattle.house_forward.specs.declared.rules.Ends.{Ends}
-use Rattle.house_forward.proofs.Causing.{in-range, there-is}
+use Rattle.house_forward.proofs.Adding.{HoldsOnAsk, on-starts, on-ask}
 use Rattle.house_forward.proofs.Differing.{Apart}
 use Rattle.house_forward.proofs.InOrder.{changed-listener, first_listens, among-first, among-more}
 use Rattle.house_forward.proofs.Members.{In, out-map, out-filter, out-remove, out-set, out-last}
+use Rattle.house_forward.proofs.Replying.{HoldsOnReply, on-saying, on-reply}
 use Rattle.house_forward.proofs.Tracking.{changed-serial, numbered-above}
 
 abbrev OneEach : List Forwarding → Type 0
@@ -40,8 +34,8 @@ kept old new from one l f g here there is its =
     let b = from l g there its in
     sym a.2 ∙ one l a.0 b.0 a.1 b.1 a.3 b.3 ∙ b.2
 
-from-same : (old new : List Forwarding) → new ≡ old → From old new
-from-same old new e l g here is = (g, subst (In g) e here, refl, is)
+from-same : (fs : List Forwarding) → From fs fs
+from-same fs l g here is = (g, here, refl, is)
 
 from-both : (a b c : List Forwarding) → From a b → From b c → From a c
 from-both a b c first second l g here is =
@@ -60,10 +54,6 @@ from-changed c serial fs l g here is =
 
 from-remove : (fs : List Forwarding) (i : ℕ) → From fs (remove fs i)
 from-remove fs i l g here is = (g, out-remove g fs i here, refl, is)
-
-from-removed : (o : Option ℕ) (fs : List Forwarding) → From fs (removed_at o fs)
-from-removed None fs = from-same fs fs refl
-from-removed (Some i) fs = from-remove fs i
 
 from-filter : (p : Forwarding → Bool) (fs : List Forwarding) → From fs (filter p fs)
 from-filter p fs l g here is = (g, (out-filter p g fs here).0, refl, is)
@@ -84,59 +74,21 @@ from-set fs i f none l g here is = elim (out-set g fs i f here) [
   | inr new ↦ no-listener (listener_of g) l _ (ap listener_of (sym new) ∙ none) is
 ]
 
--- ---- the start
+on-ask-from : HoldsOnAsk From
+on-ask-from = record {
+  same = from-same;
+  both = from-both;
+  more = λ fs f first. from-more fs f (first_listens f first);
+  closes = from-changed change.Close;
+}
 
-from-opens : (b : Bool) (ends : Ends) (serials : ℕ) (start : Option ℕ) (old new : List Forwarding) → Opens b ends serials start old new → From old new
-from-opens false ends serials start old new o = from-same old new o
-from-opens true ends serials start old new o =
-    subst (From old) (sym o.2) (from-more old o.0 (first_listens o.0 o.1.first))
-
-from-start : (b gateway : Bool) (ask : StartAsk) (i : ℕ) (old new : Standing) → StartsIf b gateway ask i old new → From old.all new.all
-from-start true gateway ask i old new s = from-same old.all new.all (ap (λ (t : Standing). t.all) s)
-from-start false gateway ask i old new s = from-opens _ s.0 old.serials (Some i) old.all new.all s.2.all
-
-from-starts : (gateway : Bool) (asks : List StartAsk) (i : ℕ) (old new : Standing) → i ≤ length asks → BeginsAt gateway asks i old new
-    → From old.all new.all
-from-starts gateway asks zero old new l b = from-same old.all new.all (ap (λ (t : Standing). t.all) b)
-from-starts gateway asks (suc i) old new l b =
-    let at = in-range asks i (omega arith) in
-    let starts = there-is (λ (ask : StartAsk). StartsIf (is_refused_alone ask) gateway ask i b.0 new) (slice_get asks i) at.0 at.1 b.2 in
-    from-both old.all b.0.all new.all (from-starts gateway asks i old b.0 (omega arith) b.1)
-    (from-start (is_refused_alone at.0) gateway at.0 i b.0 new starts)
-
--- ---- an ask
-
-from-closed : (comes : Comes) (old new : List Forwarding) → new ≡ after_close comes old → From old new
-from-closed (Now o) old new e = from-same old new e
-from-closed (Later serial) old new e = subst (From old) (sym e) (from-changed change.Close serial old)
-
-from-ends : (opening : Bool) (serial : ℕ) (ends : Ends) (old new : List Forwarding) → EndsLeave opening serial ends old new → From old new
-from-ends true serial ends old new h = from-opens _ ends serial None old new h
-from-ends false serial ends old new h = from-closed (closes_of (standing ends old)) old new h
-
-from-if : (alone gateway opening : Bool) (ask : StartAsk) (serial : ℕ) (old new : List Forwarding) (comes : Comes)
-    → ComesIf alone gateway opening ask serial old new comes → From old new
-from-if true gateway opening ask serial old new comes h = from-same old new h.1
-from-if false gateway opening ask serial old new comes h = from-ends opening serial h.0 old new h.3
-
-from-ask : (away gateway opening : Bool) (ask : StartAsk) (serial : ℕ) (old new : List Forwarding) (comes : Comes)
-    → ComesUnless away gateway opening ask serial old new comes → From old new
-from-ask true gateway opening ask serial old new comes h = from-same old new h.1
-from-ask false gateway opening ask serial old new comes h = from-if (is_refused_alone ask) gateway opening ask serial old new comes h
-
--- ---- requests and replies
-
-from-saying : (r : Request) (fs : List Forwarding) → From fs (after_saying r fs)
-from-saying (Listen serial) fs = from-changed change.Request serial fs
-from-saying (Cancel serial) fs = from-changed change.Cancel serial fs
-
-from-reply : (success : Bool) (port : Option ℕ) (o : Option Request) (fs : List Forwarding) → From fs (replied_all success port o fs)
-from-reply true port None fs = from-same fs fs refl
-from-reply false port None fs = from-same fs fs refl
-from-reply true port (Some (Listen serial)) fs = from-changed (change.Live port) serial fs
-from-reply false port (Some (Listen serial)) fs = from-removed _ fs
-from-reply true port (Some (Cancel serial)) fs = from-removed _ fs
-from-reply false port (Some (Cancel serial)) fs = from-changed change.Stay serial fs
+on-reply-from : HoldsOnReply From
+on-reply-from = record {
+  same = from-same;
+  changes = from-changed;
+  refused = λ serial fs i e. from-remove fs i;
+  granted = λ serial fs i e. from-remove fs i;
+}
 
 -- ---- a listener is made
 
@@ -177,22 +129,22 @@ one-listened : (host : List ℕ) (port : ℕ) (number : Option ℕ) (old new : D
     → OneEach old.all → OneEach new.all
 one-listened host port number old new h one =
     let b = h.between in
-    one-made number h.makes.place b.all new.all h.makes.fresh h.makes.made
+    one-made number h.makes.place b.all new.all h.fresh h.makes.made
     (kept old.all b.all (subst (From old.all) (sym h.orders.ordered.2) (from-set old.all h.orders.place _ refl)) one)
 
 -- ---- by all that happened
 
 after : (deed : Deed) (old new : Desk) → Does deed old new → OneEach old.all → OneEach new.all
 after (Begins starts) old new d one =
-    kept old.all new.all (from-starts starts.gateway starts.asks (length starts.asks) (standing_at old) (standing_at new) (omega arith) d.begins) one
+    kept old.all new.all (on-starts From on-ask-from starts.gateway starts.asks (length starts.asks) (standing_at old) (standing_at new) (omega arith) d.begins) one
 after (Asks client id opening ask answer) old new d one =
-    kept old.all new.all (from-ask (turns_away client id old.waiting) old.gateway opening ask old.serials old.all new.all d.came_to d.comes) one
+    kept old.all new.all (on-ask From on-ask-from (turns_away client id old.waiting) old.gateway opening ask old.serials old.all new.all d.came_to d.comes) one
 after (Answers client id answer) old new d one = subst OneEach (sym (ap (λ (x : Desk). x.all) d.others)) one
 after Greets old new d one = subst OneEach (sym (ap (λ (x : Desk). x.all) d.1)) one
 after (Requests f) old new d one =
-    kept old.all new.all (subst (From old.all) (sym (ap (λ (x : Desk). x.all) d.2)) (from-saying (request_of f) old.all)) one
+    kept old.all new.all (subst (From old.all) (sym (ap (λ (x : Desk). x.all) d.2)) (on-saying From on-reply-from (request_of f) old.all)) one
 after (Replies success port) old new d one =
-    kept old.all new.all (subst (From old.all) (sym (ap (λ (x : Desk). x.all) d)) (from-reply success port (first_of old.requests) old.all)) one
+    kept old.all new.all (subst (From old.all) (sym (ap (λ (x : Desk). x.all) d)) (on-reply From on-reply-from success port (first_of old.requests) old.all)) one
 after (Listens host port number) old new d one = one-listened host port number old new d one
 after (Unlistens l) old new d one =
     kept old.all new.all (subst (From old.all) (sym (ap (λ (x : Desk). x.all) d.others))

@@ -39,7 +39,8 @@ use Rattle.house_forward.specs.declared.link.Step.TheVariants as step
 use Rattle.house_forward.proofs.Courses.{reaches-more}
 use Rattle.house_forward.proofs.Directing.{Aimed, Right, all-aimed}
 use Rattle.house_forward.proofs.Frames.{Heeds, frames}
-use Rattle.house_forward.proofs.Opening.{one, opening, hears-one, takes-one, gets-one, says-one, line-step}
+use Rattle.house_forward.proofs.Opening.{one, opening, hears-one, takes-one, gets-one, says-one}
+use Rattle.house_forward.proofs.Settling.{line-step}
 use Rattle.house_forward.proofs.Sound.{Each, All as OfAll, Sound, Both, each-back, follow-sound, offered_life, joined_life, step_of}
 
 -- ---- how often a socket is in a list

@@ -1,5 +1,5 @@
 -- The OPENs that the house says.
-use Rattle.std.proofs.Common.{◌≡◌, ◌∙◌, refl, sym, ap, subst, ◌⊎◌, inl, inr, arith, ℕ, ◌+◌, ◌≤◌, Bool, true, false, cond, List, [], ◌∷◌, ◌++◌, length, map, filter, Option, Some, None}
+use Rattle.std.proofs.Common.{◌≡◌, ◌∙◌, refl, ap, ◌⊎◌, inl, inr, arith, ℕ, ◌+◌, ◌≤◌, Bool, true, false, cond, List, [], ◌∷◌, ◌++◌, length, map, filter, Option, Some, None}
 use Rattle.std.specs.Prelude.{not, if◌then◌else◌, find, is_some}
 use Rattle.conn_messages.specs.declared.message.Message.{Message}
 use Rattle.conn_messages.specs.declared.message.Message.TheVariants as message
@@ -10,10 +10,8 @@ use Rattle.mux_outside.specs.declared.house_mark.HouseMark.TheVariants.{HouseIn,
 use Rattle.mux_outside.specs.declared.order.Order.{Order}
 use Rattle.mux_outside.specs.declared.order.Order.TheVariants as order
 use Rattle.house_relay.specs.Acts.{Reads, Takes}
-use Rattle.house_relay.specs.Line.{in_live, over_if, hears_close}
 use Rattle.house_relay.specs.Next.{says_of, says_offered}
-use Rattle.house_relay.specs.Relay.{delivers}
-use Rattle.house_relay.specs.Steps.{is_gone, said_of, confirmed_in, refused_in, data_heard, DialsIn}
+use Rattle.house_relay.specs.Steps.{is_gone, said_of, DialsIn}
 use Rattle.house_relay.specs.declared.line.Live.{Live as LiveState}
 use Rattle.house_relay.specs.declared.line.Line.{Line}
 use Rattle.house_relay.specs.declared.line.Line.TheVariants.{Dialing, Asked, Opened, Offered, Live, Over}
@@ -22,8 +20,7 @@ use Rattle.house_relay.specs.declared.relay.Saying.{Saying}
 use Rattle.house_relay.specs.declared.relay.Saying.TheVariants as saying
 use Rattle.house_forward.specs.Forwardings.{has_request}
 use Rattle.house_forward.specs.Going.{GetsOn, TakesOn}
-use Rattle.house_forward.specs.Heard.{heard_of}
-use Rattle.house_forward.specs.Links.{after_saying, relay_after}
+use Rattle.house_forward.specs.Links.{after_saying}
 use Rattle.house_forward.specs.Lives.{Life, Course, GoesBy, One, OneAtMost, Speaks, Listens, StepsBy, MakesOne, Reaches, Follows, SaysBy, MarksIn, OrdersIn, TurnsTo, first_course, with_heard}
 use Rattle.house_forward.specs.Lives.{has_channel, has_stream, has_words, are_full, stepped, made_life, kept_in}
 use Rattle.house_forward.specs.Opening.{OneOpenAtMost, is_open, opens_by, opens_by_mark, opens_in, joins_by, joins_by_turn, joins_in, may_open, still_to_open}
@@ -32,6 +29,7 @@ use Rattle.house_forward.specs.declared.forwarding.Forwarding.{Forwarding}
 use Rattle.house_forward.specs.declared.link.Step.{Step}
 use Rattle.house_forward.specs.declared.link.Step.TheVariants as step
 use Rattle.house_forward.proofs.Frames.{Heeds, frames}
+use Rattle.house_forward.proofs.Settling.{SettlesBy, FailsLater, settles-hears, settles-takes, settled-said, with-line, line-step}
 use Rattle.house_forward.proofs.Sound.{All, Sound, follow-sound, offered_life, joined_life, step_of}
 
 -- ---- where an OPEN is to be said, as the channel goes on
@@ -45,75 +43,14 @@ one-most false = omega arith
 
 -- it isn't to be from now on, or the channel stays
 abbrev pub Settles : Line → Line → Type 0
-Settles old new = (may_open new ≡ false) ⊎ (new ≡ old)
+Settles old new = SettlesBy may_open old new
+
+pub may-later : FailsLater may_open
+may-later = record { live = λ live. refl; over = refl }
 
 settled-most : (old new : Line) → Settles old new → opens new ≤ opens old
 settled-most old new (inl e) = let none = ap {B = ℕ} (λ (b : Bool). cond b 1 0) e in omega (arith, none)
 settled-most old new (inr e) = let same = ap opens e in omega (arith, same)
-
-in-live : (step : LiveState → Line) (line : Line) → ((live : LiveState) → may_open (step live) ≡ false) → Settles line (in_live step line)
-in-live step (Dialing dialog) none = inr refl
-in-live step (Asked host port version) none = inr refl
-in-live step (Opened version) none = inr refl
-in-live step (Offered remote window maximum) none = inr refl
-in-live step (Live live) none = inl (none live)
-in-live step Over none = inr refl
-
-over-none : (b : Bool) (live : LiveState) → may_open (over_if b live) ≡ false
-over-none true live = refl
-over-none false live = refl
-
-confirmed : (line : Line) (remote window maximum : ℕ) (r : Relay) → Settles r.line (confirmed_in line remote window maximum r).line
-confirmed (Dialing dialog) remote window maximum r = inr refl
-confirmed (Asked host port version) remote window maximum r = inr refl
-confirmed (Opened version) remote window maximum r = inl refl
-confirmed (Offered theirs room most) remote window maximum r = inr refl
-confirmed (Live live) remote window maximum r = inr refl
-confirmed Over remote window maximum r = inr refl
-
-refused : (line : Line) (reason : ℕ) (r : Relay) → Settles r.line (refused_in line reason r).line
-refused (Dialing dialog) reason r = inr refl
-refused (Asked host port version) reason r = inr refl
-refused (Opened version) reason r = inl refl
-refused (Offered theirs room most) reason r = inr refl
-refused (Live live) reason r = inr refl
-refused Over reason r = inr refl
-
-pub data-same : (b : Bool) (bytes : List ℕ) (r : Relay) → (data_heard b bytes r).line ≡ r.line
-data-same true bytes r = refl
-data-same false bytes r = refl
-
-heard : (m : Message) (r : Relay) → Settles r.line (heard_of m r).line
-heard (message.Transport number rest) r = inr refl
-heard (message.GlobalRequest name want rest what) r = inr refl
-heard (message.RequestSuccess rest) r = inr refl
-heard message.RequestFailure r = inr refl
-heard (message.Open kind sender window maximum rest what) r = inr refl
-heard (message.Confirmation recipient sender window maximum rest) r = confirmed r.line sender window maximum r
-heard (message.OpenFailure recipient reason text language) r = refused r.line reason r
-heard (message.Adjust recipient add) r = in-live _ r.line (λ live. refl)
-heard (message.Data recipient bytes) r = inr (data-same (delivers r) bytes.now r)
-heard (message.Extended recipient code bytes) r = inr refl
-heard (message.Eof recipient) r = in-live _ r.line (λ live. refl)
-heard (message.Close recipient) r = in-live hears_close r.line (λ live. over-none live.close_said _)
-heard (message.Request recipient kind want rest) r = in-live _ r.line (λ live. refl)
-heard (message.Success recipient) r = inr refl
-heard (message.Failure recipient) r = inr refl
-
-pub settles-hears : (m : Message) (a b : Life) → Listens m a b → Settles a.relay.line b.relay.line
-settles-hears m a b h = subst (λ (r : Relay). Settles a.relay.line r.line) (sym h.relay.0) (heard m a.relay)
-
-pub settles-takes : (n : ℕ) (a b : Life) → GoesBy (TakesOn n) (Takes n) a b → Settles a.relay.line b.relay.line
-settles-takes n a b h =
-    subst (λ (r : Relay). Settles a.relay.line r.line) (sym h.relay.0) (in-live _ a.relay.line (λ live. refl))
-
-pub line-step : (s : Step) (r : Relay) → (relay_after s r).line ≡ r.line
-line-step (step.Pause b) r = refl
-line-step step.Finish r = refl
-line-step step.End r = refl
-line-step step.Close r = refl
-line-step step.Writable r = refl
-line-step step.Failed r = refl
 
 -- what isn't dialing keeps its channel as its socket gives bytes
 gets-line : (line : Line) (free : Bool) (bytes : List ℕ) (old new : Relay) → old.line ≡ line → DialsIn line free bytes old new
@@ -129,9 +66,6 @@ gets-line Over free bytes old new e h = let same = ap opens (h.0 ∙ e) in omega
 
 abbrev pub opening : List ℕ → ℕ
 opening bytes = if is_open bytes then 1 else 0
-
-abbrev with-line : Line → Relay → Relay
-with-line line r = record r { line = line }
 
 -- in a channel that is confirmed, or offered, no OPEN is said
 live-none : (s : Saying) (live : LiveState) (r : Relay) → is_open (framed (payload_of (with-line (Live live) r) s)) ≡ false
@@ -154,16 +88,6 @@ offered-none saying.Failure remote window maximum r = refl
 offered-none (saying.Data n) remote window maximum r = refl
 offered-none saying.Eof remote window maximum r = refl
 offered-none (saying.Adjust n) remote window maximum r = refl
-
-live-said : (s : Saying) (live : LiveState) (r : Relay) → may_open (said_of s (with-line (Live live) r)).line ≡ false
-live-said saying.Open live r = refl
-live-said saying.Confirmation live r = refl
-live-said saying.OpenFailure live r = refl
-live-said saying.Close live r = over-none live.close_heard _
-live-said saying.Failure live r = refl
-live-said (saying.Data n) live r = refl
-live-said saying.Eof live r = refl
-live-said (saying.Adjust n) live r = refl
 
 offered-said : (s : Saying) (remote window maximum : ℕ) (r : Relay)
     → may_open (said_of s (with-line (Offered remote window maximum) r)).line ≡ false
@@ -190,7 +114,7 @@ live-spoken : (live : LiveState) (r : Relay) (o : Option Saying) → is_some o �
     → (may_open (after_saying o (with-line (Live live) r)).line ≡ false)
     × (is_open (framed (payload_if (with-line (Live live) r) o)) ≡ false)
 live-spoken live r None e = cc
-live-spoken live r (Some s) e = (live-said s live r, live-none s live r)
+live-spoken live r (Some s) e = (settled-said may_open may-later s live r, live-none s live r)
 
 offered-spoken : (remote window maximum : ℕ) (r : Relay) (o : Option Saying) → is_some o ≡ true
     → (may_open (after_saying o (with-line (Offered remote window maximum) r)).line ≡ false)
@@ -273,10 +197,10 @@ count-stepped s t (l ∷ ls) =
     omega (arith, its, rest)
 
 pub hears-one : (m : Message) (a b : Life) → Listens m a b → one b ≤ one a
-hears-one m a b h = settled-most a.relay.line b.relay.line (settles-hears m a b h)
+hears-one m a b h = settled-most a.relay.line b.relay.line (settles-hears may_open may-later m a b h)
 
 pub takes-one : (n : ℕ) (a b : Life) → GoesBy (TakesOn n) (Takes n) a b → one b ≤ one a
-takes-one n a b h = settled-most a.relay.line b.relay.line (settles-takes n a b h)
+takes-one n a b h = settled-most a.relay.line b.relay.line (settles-takes may_open may-later n a b h)
 
 pub gets-one : (free : Bool) (bytes : List ℕ) (a b : Life) → GoesBy (GetsOn free bytes) (Reads bytes) a b → one b ≤ one a
 gets-one free bytes a b h = gets-line a.relay.line free bytes a.relay b.relay refl h.relay.0

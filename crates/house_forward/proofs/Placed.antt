@@ -1,6 +1,6 @@
 -- A listener is ordered where its forwarding is to listen.
 use Rattle.std.proofs.Common.{◌≡◌, ◌∙◌, refl, sym, ap, subst, ℕ, suc, Bool, true, false, List, [], ◌∷◌, ◌++◌, get_or, set, take, drop, map, filter, Option, Some, None}
-use Rattle.std.specs.Prelude.{if◌then◌else◌, find, IfSome}
+use Rattle.std.specs.Prelude.{if◌then◌else◌, find, is_some, IfSome, IsSomeAnd}
 use Rattle.std.specs.List.{All, position, remove}
 use Rattle.std.proofs.lemmas.List.Elements.{All-set, All-append, All-take, All-drop, All-filter, All-map, All-push}
 use Rattle.std.proofs.lemmas.List.Quantifiers.{position-Some}
@@ -75,10 +75,10 @@ first-placed fs i x e at h =
     )
 
 pub listens-there : (o : Option (TwoTexts × ℕ)) (first : Option Forwarding) (f : Forwarding) → first ≡ Some f → IsAt f.stage f.listen_host
-    → IfSome o (λ r. r.1 ≡ f.listen_port) → IfSome o (λ r. IsAt f.stage f.listen_host → r.0.one ≡ f.listen_host)
-    → IfSome o (λ r. ListensFor (ListensAt r.0 r.1) first)
-listens-there None first f e h port host = tt
-listens-there (Some r) first f e h port host = rw e (host h, port)
+    → is_some o ≡ true → IfSome o (λ r. r.1 ≡ f.listen_port) → IfSome o (λ r. IsAt f.stage f.listen_host → r.0.one ≡ f.listen_host)
+    → IsSomeAnd o (λ r. ListensFor (ListensAt r.0 r.1) first)
+listens-there None first f e h some port host = cc
+listens-there (Some r) first f e h some port host = rw e (host h, port)
 
 pub listens-first : (texts : TwoTexts) (port : ℕ) (first : Option Forwarding) → ListensFor (ListensAt texts port) first
     → IfSome first (λ f. (texts.one ≡ f.listen_host) × (port ≡ f.listen_port))

@@ -17,6 +17,8 @@ use Rattle.house_forward.specs.declared.asks.Waiting.{Waiting}
 use Rattle.house_forward.specs.declared.forwarding.Forwarding.{Forwarding}
 use Rattle.house_forward.specs.declared.forwarding.Request.{Request}
 use Rattle.house_forward.specs.declared.forwardings.Forwardings.{Forwardings}
+use Rattle.house_forward.specs.declared.forwardings.ListenerOrder.{ListenerOrder}
+use Rattle.house_forward.specs.declared.forwardings.ListenerOrder.TheVariants.{Listen as ListensAt, Unlisten as Unlistens}
 use Rattle.house_forward.specs.declared.forwardings.Want.TheVariants as want
 
 -- whether a listen host of none means all addresses, and whether the house greeted; the forwardings,
@@ -132,12 +134,10 @@ pub record OrdersListener (host : List ℕ) (port : ℕ) (old new : Desk) : Type
   pub ordered : OrderedAt place old.all new.all
   pub others : new ≡ record old { all = new.all }
 
--- it is made, with a number that no other listener has, or couldn't be: those that asked for it come to
--- that
+-- it is made, with this number, or couldn't be: those that asked for it come to that
 pub record MakesListener (number : Option ℕ) (old new : Desk) : Type 0 where
   pub place : ℕ
   pub first : position to_listen old.all ≡ Some place
-  pub fresh : IfSome number (λ l. among l (listeners_of old.all) ≡ false)
   pub made : MadeAt number place old.all new.all
   pub others : new ≡ record old {
     all = new.all;
@@ -146,11 +146,12 @@ pub record MakesListener (number : Option ℕ) (old new : Desk) : Type 0 where
     done = ordered_done number old.done;
   }
 
--- both, one behind the other
+-- both, one behind the other; no other listener has the number
 pub record GetsListener (host : List ℕ) (port : ℕ) (number : Option ℕ)
     (old new : Desk) : Type 0 where
   pub between : Desk
   pub orders : OrdersListener host port old between
+  pub fresh : IfSome number (λ l. among l (listeners_of between.all) ≡ false)
   pub makes : MakesListener number between new
 
 -- a listener that is next to be closed is closed: its forwarding is gone, and those that asked to
@@ -163,3 +164,21 @@ pub record EndsListener (l : ℕ) (old new : Desk) : Type 0 where
     waiting = settled serial false old.done Done old.waiting;
     done = counted old.done;
   }
+
+-- an order about a listener is given
+abbrev pub OrdersBy : ListenerOrder → Desk → Desk → Type 0
+OrdersBy (ListensAt host port) old new = OrdersListener host.one port old new
+OrdersBy (Unlistens l) old new = EndsListener l old new
+
+-- ---- by what the house has
+
+-- all but the list of its forwardings stays
+pub record ChangesList (old new : Forwardings) : Type 0 where
+  pub serials : new.serials ≡ old.serials
+  pub requests : new.requests ≡ old.requests
+  pub refused : new.refused ≡ old.refused
+
+-- its forwardings and asks go on so, whatever else it has
+abbrev pub ForwardingsGo : (Desk → Desk → Type 0) → Forwardings → Asks → Forwardings → Asks → Type 0
+ForwardingsGo so forwardings asks forwardings' asks' = (gateway greeted : Bool)
+    → so (desk_of gateway greeted forwardings asks) (desk_of gateway greeted forwardings' asks')

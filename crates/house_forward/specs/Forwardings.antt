@@ -1,8 +1,7 @@
 -- The forwardings of the house, and what comes of an ask by those that stand.
-use Rattle.std.specs.Prelude.{◌≡◌, ◌+◌, ℕ, zero, suc, Bool, true, false, not, ◌&&◌, ◌||◌, if◌then◌else◌, ◌==◌, nat_lt, nat_le, List, [], ◌∷◌, ◌++◌, length, map, filter, find, get_or, set, slice_get, is_some, IfSome, IsTrue, Option, Some, None}
+use Rattle.std.specs.Prelude.{◌≡◌, ◌+◌, ℕ, zero, suc, Bool, true, false, not, ◌&&◌, ◌||◌, if◌then◌else◌, ◌==◌, nat_lt, nat_le, List, [], ◌∷◌, ◌++◌, length, map, filter, find, get_or, set, slice_get, is_some, IfSome, Option, Some, None}
 use Rattle.std.specs.List.{list_any, filter_map, position, remove}
 use Rattle.std.specs.Str.{bytes_eq}
-use Rattle.mux_outside.specs.Streams.{among, without}
 use Rattle.house_forward.specs.Asks.{owes_opening, settled, refused, waiting_for, counted}
 use Rattle.mux_outside.specs.declared.order.Order.{Order}
 use Rattle.mux_outside.specs.declared.order.Order.TheVariants as order
@@ -290,24 +289,11 @@ abbrev pub is_first_to_listen : Option Forwarding → Bool
 is_first_to_listen None = false
 is_first_to_listen (Some f) = is_to_listen f.stage
 
-abbrev pub IsListen : ListenerOrder → Type 0
-IsListen (ListensAt host port) = Unit {0}
-IsListen (Unlistens l) = ⊥
-
--- what an order about a listener leaves: the first that has no listener is the one that is ordered; and
--- the one that was to be closed is gone
-abbrev pub Orders : ListenerOrder → List Waiting → List Forwarding → List Forwarding → Type 0
-Orders (ListensAt host port) waiting old new = (listeners_of new ≡ listeners_of old)
-    × (is_ordered_first (find to_listen new) ≡ true)
-Orders (Unlistens l) waiting old new = IsTrue (among l (listeners_of old))
-    × (listeners_of new ≡ without l (listeners_of old))
-    × ((serial : ℕ) × (next_of waiting old ≡ Some (want.Unlisten serial l)))
-
--- a Listen is where the first that has no listener yet is to listen
+-- the order is to listen, where the first that has no listener yet is to
 abbrev pub ListensFor : ListenerOrder → Option Forwarding → Type 0
 ListensFor (ListensAt host port) None = ⊥
 ListensFor (ListensAt host port) (Some f) = (host.one ≡ f.listen_host) × (port ≡ f.listen_port)
-ListensFor (Unlistens l) first = Unit {0}
+ListensFor (Unlistens l) first = ⊥
 
 abbrev pub ListensFirst : Option Order → List Forwarding → Type 0
 ListensFirst None fs = Unit {0}
@@ -319,12 +305,6 @@ ListensFirst (Some (order.Pause t)) fs = Unit {0}
 ListensFirst (Some (order.Resume t)) fs = Unit {0}
 ListensFirst (Some (order.Finish t)) fs = Unit {0}
 ListensFirst (Some (order.Close t)) fs = Unit {0}
-
--- for how many marks an order about a listener needs room at once
-abbrev pub marks_in : Option ListenerOrder → ℕ
-marks_in None = 0
-marks_in (Some (ListensAt host port)) = 0
-marks_in (Some (Unlistens l)) = 1
 
 abbrev pub listeners_made : Option ℕ → List ℕ
 listeners_made None = []
@@ -497,24 +477,6 @@ Begins gateway asks (suc i) old new = (one : Standing) × Begins gateway asks i 
 abbrev pub OrderedAt : ℕ → List Forwarding → List Forwarding → Type 0
 OrderedAt i old new =
     (f : Forwarding) × (f ≡ get_or old i f) × (new ≡ set old i (record f { stage = Ordered }))
-
--- an order about a listener leaves the first that has none yet as ordered, or none with that listener
-abbrev pub Leaves : ListenerOrder → List Forwarding → List Forwarding → Type 0
-Leaves (ListensAt host port) old new =
-    IfSome (position to_listen old) (λ i. OrderedAt i old new)
-Leaves (Unlistens l) old new = new ≡ filter (λ f. not (has_listener l f)) old
-
--- those that asked to close one get their answer as it is closed
-abbrev pub order_asks : Option Want → ℕ → List Waiting → List Waiting
-order_asks None at waiting = waiting
-order_asks (Some want.Listen) at waiting = waiting
-order_asks (Some (want.Unlisten serial l)) at waiting = settled serial false at Done waiting
-
--- how many asks came to something then
-abbrev pub order_done : Option Want → ℕ → ℕ
-order_done None at = at
-order_done (Some want.Listen) at = at
-order_done (Some (want.Unlisten serial l)) at = counted at
 
 -- the one at a place has this listener, or is gone where none could be made
 abbrev pub MadeAt : Option ℕ → ℕ → List Forwarding → List Forwarding → Type 0

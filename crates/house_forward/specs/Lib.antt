@@ -16,6 +16,7 @@ pub mod Links
 pub mod Lives
 pub mod Numbers
 pub mod Opening
+pub mod Places
 pub mod Quiet
 pub mod Rules
 pub mod Said

@@ -1,5 +1,5 @@
 -- What is known of the house, by all that it has but its notes.
-use Rattle.std.specs.Prelude.{◌≡◌, ◌+◌, ℕ, Bool, true, false, List, [], ◌∷◌, length, Option}
+use Rattle.std.specs.Prelude.{◌≡◌, ◌≤◌, ◌+◌, ℕ, Bool, true, false, List, [], ◌∷◌, length, Option}
 use Rattle.mux_outside.specs.House.{HouseState, Known, Quiet}
 use Rattle.mux_outside.specs.HouseCalls.{HouseCall}
 use Rattle.mux_outside.specs.declared.greeting.TheConstants.{GREETING}
@@ -60,6 +60,15 @@ pub record KnowsSame (old new : Holdings) : Type 0 where
 pub record KeepsWord (old new : Holdings) : Type 0 where
   pub greeted : new.greeted ≡ old.greeted
   pub must : new.must ≡ old.must
+
+-- what it hears leaves what is known of it, whether it has greeted, no more forwardings, one relay more
+-- at most, and as many asks
+pub record StaysKnown (old new : Holdings) : Type 0 where
+  pub same : KnowsSame old new
+  pub greeted : new.greeted ≡ old.greeted
+  pub forwardings : length new.forwardings.all.items ≤ length old.forwardings.all.items
+  pub relays : length new.relays.all.items ≤ length old.relays.all.items + 1
+  pub asks : length new.asks.waiting.items ≡ length old.asks.waiting.items
 
 -- all but its forwardings
 pub record ChangesForwardings (old new : Holdings) : Type 0 where

@@ -1,10 +1,7 @@
 //! The asks of clients that are to be answered later.
-ghost use Rattle.std.specs.Prelude.{◌≡◌, ◌≤◌, ◌<◌, ◌+◌, ◌++◌, ◌∷◌, [], length, OnOk, None};
+ghost use Rattle.std.specs.Prelude.{◌≡◌, ◌≤◌, ◌<◌, ◌+◌, ◌++◌, ◌∷◌, [], length, OnOk, OnErr, None};
 ghost use Rattle.std.specs.List.{position};
-ghost use Rattle.mux_outside.specs.House.{AnswerFits, gives_none};
-ghost use Rattle.house_forward.specs.Asks.{has_open, turns_away, waiting_for, settle_one, settled, refused, counted, owes_opening, earlier, earliest, stamp_of, reply_of, answer_of, answers_in, after_answer, is_waiting};
-ghost use Rattle.house_forward.specs.Known.{open_asks, open_ask, asks_after_answer};
-ghost use Rattle.house_forward.specs.Quiet.{answers_none};
+ghost use Rattle.house_forward.specs.Asks.{has_open, turns_away, waiting_for, settle_one, settled, refused, counted, owes_opening, earlier, earliest, stamp_of, reply_of, answer_of, after_answer, is_waiting};
 ghost use Rattle.house_forward.specs.declared.rules.TheConstants.{MOST_ASKS};
 
 use crate::rules::MOST_ASKS;
@@ -96,11 +93,8 @@ impl Asks {
         requires { length self.old.waiting.items < MOST_ASKS }
         ensures waits { OnOk result (self.new.waiting.items ≡ self.old.waiting.items
             ++ waiting_for client id opening forwarding ∷ []) }
-        ensures ok { OnOk result (open_asks self.new.waiting.items
-            ≡ open_asks self.old.waiting.items
-            ++ record { client = client; id = id; opening = opening } ∷ []) }
-        ensures count { length self.new.waiting.items ≤ length self.old.waiting.items + 1 }
         ensures done { self.new.done ≡ self.old.done }
+        ensures err { OnErr result (self.new.waiting.items ≡ self.old.waiting.items) }
     {
         self.waiting.push(Waiting {
             client,
@@ -117,8 +111,6 @@ impl Asks {
         ensures waiting { self.new.waiting.items
             ≡ settled forwarding opening self.old.done outcome self.old.waiting.items }
         ensures done { self.new.done ≡ counted self.old.done }
-        ensures open { open_asks self.new.waiting.items ≡ open_asks self.old.waiting.items }
-        ensures count { length self.new.waiting.items ≡ length self.old.waiting.items }
     {
         let at = self.done;
         for w in self.waiting.iter_mut() {
@@ -132,8 +124,6 @@ impl Asks {
         ensures waiting { self.new.waiting.items
             ≡ refused forwarding self.old.done self.old.waiting.items }
         ensures done { self.new.done ≡ counted (counted self.old.done) }
-        ensures open { open_asks self.new.waiting.items ≡ open_asks self.old.waiting.items }
-        ensures count { length self.new.waiting.items ≡ length self.old.waiting.items }
     {
         self.settle(forwarding, true, Outcome::Refused);
         self.settle(forwarding, false, Outcome::Refused);
@@ -152,14 +142,8 @@ impl Asks {
     pub fn answer(&mut self) -> Option<(u64, u32, HouseReply)>
         ensures exact { result ≡ answer_of self.old.waiting.items }
         ensures taken { self.new.waiting.items ≡ after_answer result self.old.waiting.items }
-        ensures fits { AnswerFits result (open_asks self.old.waiting.items) }
-        ensures silent { gives_none result ≡ answers_none self.old.waiting.items }
-        ensures same { result ≡ None → self.new ≡ self.old }
-        ensures open { open_asks self.new.waiting.items
-            ≡ asks_after_answer result (open_asks self.old.waiting.items) }
-        ensures count { length self.new.waiting.items + answers_in result
-            ≡ length self.old.waiting.items }
         ensures done { self.new.done ≡ self.old.done }
+        ensures silent { result ≡ None → self.new ≡ self.old }
     {
         let w = self.earliest()?;
         let i = self.place_of(w.client, w.id)?;
@@ -230,8 +214,7 @@ fn earlier(first: Option<Waiting>, w: Waiting) -> Option<Waiting>
 
 /// An ask, which came to this where it is one of these and came to nothing yet.
 fn settled(w: Waiting, forwarding: u64, opening: bool, at: u64, outcome: Outcome) -> Waiting
-    ensures exact { result ≡ settle_one forwarding opening at outcome w }
-    ensures open { open_ask result ≡ open_ask w }
+    ensures { result ≡ settle_one forwarding opening at outcome w }
 {
     if w.forwarding == forwarding && w.opening == opening && w.outcome.is_none() {
         Waiting {

@@ -36,7 +36,9 @@ impl<N: Notes + Drop> Forwarder<N> {
     }
 
     /// Its notes.
-    pub fn notes(&self) -> &N {
+    pub fn notes(&self) -> &N
+        ensures { result.now ≡ self.now.notes.notes }
+    {
         &self.notes.notes
     }
 

@@ -1,18 +1,15 @@
 //! The forwardings of the house, in order of asking.
-ghost use Rattle.std.specs.Prelude.{◌≡◌, ◌≤◌, ◌<◌, ◌+◌, ◌++◌, ◌∷◌, [], None, true, false, not, drop, length, map, IfOk, IfSome, OnOk, Some, find, filter, is_some};
-ghost use Rattle.std.specs.List.{All, position, remove, sum_by};
+ghost use Rattle.std.specs.Prelude.{◌≡◌, ◌≤◌, ◌<◌, ◌+◌, ◌++◌, ◌∷◌, [], None, true, false, not, length, map, IfOk, IfSome, OnOk, OnErr, IsSomeAnd, Some, find, filter, is_some};
+ghost use Rattle.std.specs.List.{All, position, remove};
 ghost use Rattle.std.specs.Option.{option_copied};
 ghost use Rattle.mux_outside.specs.House.{gives_none};
-ghost use Rattle.mux_outside.specs.Streams.{among, without};
 ghost use Rattle.house_forward.specs.Asks.{refused};
-ghost use Rattle.house_forward.specs.Due.{forwarding_due};
-ghost use Rattle.house_forward.specs.Known.{open_asks};
-ghost use Rattle.house_forward.specs.Forwardings.{standing, how_many, opens_of, closes_of, has_request, is_first};
+ghost use Rattle.house_forward.specs.Forwardings.{standing, how_many, opens_of, closes_of, has_request};
 ghost use Rattle.house_forward.specs.Forwardings.{first_refused, FailsAt, IsAt, is_numbered, ListensFor};
-ghost use Rattle.house_forward.specs.Forwardings.{Begins, StartsIf, Leaves, OrderedAt, MadeAt, made_refused, order_asks, removed_at, replied_all, replied_refused, serials_after, start_of, what_stands};
+ghost use Rattle.house_forward.specs.Forwardings.{Begins, StartsIf, OrderedAt, removed_at, serials_after, start_of, what_stands};
 ghost use Rattle.house_forward.specs.Rules.{is_refused_alone};
-ghost use Rattle.house_forward.specs.Forwardings.{listeners_of, is_pending, to_listen, is_first_to_listen, IsListen, is_ordered_first, is_in_order, next_of, changed, after_close, is_new, Opens};
-ghost use Rattle.house_forward.specs.Forwardings.{is_asked, is_cancelled, live_in, replied_asks, replied_done, after_saying, first_of, ordered_asks, order_done, ordered_done, served_at, serial_of, Orders, marks_in, listeners_made, has_listener};
+ghost use Rattle.house_forward.specs.Forwardings.{listeners_of, is_pending, to_listen, is_first_to_listen, is_ordered_first, is_in_order, next_of, changed, after_close, is_new, Opens};
+ghost use Rattle.house_forward.specs.Forwardings.{is_asked, is_cancelled, live_in, after_saying, served_at, has_listener};
 
 use crate::asks::{Asked, Asks, Outcome};
 use crate::forwarding::{Change, Forwarding, Request, Stage};
@@ -58,6 +55,8 @@ pub struct Forwardings {
 }
 
 impl Forwardings {
+    ghost use Rattle.house_forward.specs.Desk.{ChangesList, ForwardingsGo, MakesListener, OrdersBy, reply_heard};
+
     pub fn new(alloc: Global) -> Forwardings
         ensures refused { result.refused ≡ None }
         ensures none { result.all.items ≡ [] }
@@ -82,10 +81,9 @@ impl Forwardings {
 
     /// One of those asked for at the start is refused, if one is meant.
     fn refuse_start(&mut self, start: Option<usize>)
-        ensures all { self.new.all ≡ self.old.all }
-        ensures serials { self.new.serials ≡ self.old.serials }
-        ensures requests { self.new.requests ≡ self.old.requests }
-        ensures refused { self.new.refused ≡ first_refused self.old.refused start }
+        ensures { self.new ≡ record self.old {
+          refused = first_refused self.old.refused start;
+        } }
     {
         if self.refused.is_none() {
             self.refused = start;
@@ -137,13 +135,11 @@ impl Forwardings {
         ensures all { OnOk result (Opens (is_new ends.entry self.old.all.items
             (standing ends.entry self.old.all.items)) ends.entry self.old.serials start
             self.old.all.items self.new.all.items) }
-        ensures listeners { listeners_of self.new.all.items
-            ≡ listeners_of self.old.all.items }
-        ensures count { length self.new.all.items ≤ length self.old.all.items + 1 }
         ensures serials { OnOk result (self.new.serials ≡ serials_after (is_new ends.entry
             self.old.all.items (standing ends.entry self.old.all.items)) self.old.serials) }
         ensures requests { self.new.requests.items ≡ self.old.requests.items }
         ensures refused { self.new.refused ≡ self.old.refused }
+        ensures err { OnErr result (self.new.all.items ≡ self.old.all.items) }
     {
         let asked = self.may_open(ends);
         if self.standing(ends).is_none() && self.how_many() < MOST_FORWARDINGS {
@@ -202,12 +198,7 @@ impl Forwardings {
     pub fn close(&mut self, ends: Ends<'_>) -> Asked
         ensures exact { result ≡ closes_of (standing ends.entry self.old.all.items) }
         ensures all { self.new.all.items ≡ after_close result self.old.all.items }
-        ensures listeners { listeners_of self.new.all.items
-            ≡ listeners_of self.old.all.items }
-        ensures count { length self.new.all.items ≡ length self.old.all.items }
-        ensures serials { self.new.serials ≡ self.old.serials }
-        ensures requests { self.new.requests ≡ self.old.requests }
-        ensures refused { self.new.refused ≡ self.old.refused }
+        ensures others { ChangesList self.old self.new }
     {
         let asked = self.may_close(ends);
         if let Asked::Later(serial) = asked {
@@ -219,12 +210,7 @@ impl Forwardings {
     /// The forwarding with this serial changes.
     fn change(&mut self, serial: u64, change: Change)
         ensures all { self.new.all.items ≡ map (changed change serial) self.old.all.items }
-        ensures listeners { listeners_of self.new.all.items
-            ≡ listeners_of self.old.all.items }
-        ensures count { length self.new.all.items ≡ length self.old.all.items }
-        ensures serials { self.new.serials ≡ self.old.serials }
-        ensures requests { self.new.requests ≡ self.old.requests }
-        ensures refused { self.new.refused ≡ self.old.refused }
+        ensures others { ChangesList self.old self.new }
     {
         change_all(&mut self.all, serial, change);
     }
@@ -266,27 +252,10 @@ impl Forwardings {
     pub fn order(&mut self, asks: &mut Asks) -> Option<ListenerOrder>
         ensures exact { gives_none result
             ≡ not (is_some (next_of asks.old.waiting.items self.old.all.items)) }
-        ensures orders { IfSome result (λ o. Orders o asks.old.waiting.items self.old.all.items
-            self.new.all.items) }
-        ensures place { IfSome result
-            (λ o. ListensFor o (find to_listen self.old.all.items)) }
-        ensures due { sum_by forwarding_due self.new.all.items + marks_in result
-            ≤ sum_by forwarding_due self.old.all.items }
-        ensures open { open_asks asks.new.waiting.items ≡ open_asks asks.old.waiting.items }
-        ensures count { length asks.new.waiting.items ≡ length asks.old.waiting.items }
-        ensures silent { result ≡ None → (self.new ≡ self.old) × (asks.new ≡ asks.old) }
-        ensures leaves { IfSome result
-            (λ o. Leaves o self.old.all.items self.new.all.items) }
-        ensures asks { asks.new.waiting.items ≡ order_asks
-            (next_of asks.old.waiting.items self.old.all.items) asks.old.done
-            asks.old.waiting.items }
-        ensures listens { IfSome result (λ o. IsListen o
-            → next_of asks.old.waiting.items self.old.all.items ≡ Some Want.Listen) }
-        ensures done { asks.new.done ≡ order_done
-            (next_of asks.old.waiting.items self.old.all.items) asks.old.done }
-        ensures serials { self.new.serials ≡ self.old.serials }
+        ensures orders { IfSome result
+            (λ o. ForwardingsGo (OrdersBy o) self.old asks.old self.new asks.new) }
         ensures requests { self.new.requests ≡ self.old.requests }
-        ensures refused { self.new.refused ≡ self.old.refused }
+        ensures silent { result ≡ None → (self.new ≡ self.old) × (asks.new ≡ asks.old) }
     {
         match self.next(asks)? {
             Want::Listen => self.order_listen(),
@@ -301,20 +270,11 @@ impl Forwardings {
     /// The listener of the first forwarding that has none yet is ordered.
     fn order_listen(&mut self) -> Option<ListenerOrder>
         requires { is_first_to_listen (find to_listen self.old.all.items) ≡ true }
-        ensures some { gives_none result ≡ false }
-        ensures listen { IfSome result (λ o. IsListen o) }
-        ensures place { IfSome result
+        ensures listens { IsSomeAnd result
             (λ o. ListensFor o (find to_listen self.old.all.items)) }
-        ensures listeners { listeners_of self.new.all.items
-            ≡ listeners_of self.old.all.items }
-        ensures first { is_ordered_first (find to_listen self.new.all.items) ≡ true }
-        ensures due { sum_by forwarding_due self.new.all.items
-            ≡ sum_by forwarding_due self.old.all.items }
-        ensures leaves { IfSome result
-            (λ o. Leaves o self.old.all.items self.new.all.items) }
-        ensures serials { self.new.serials ≡ self.old.serials }
-        ensures requests { self.new.requests ≡ self.old.requests }
-        ensures refused { self.new.refused ≡ self.old.refused }
+        ensures ordered { IfSome (position to_listen self.old.all.items)
+            (λ i. OrderedAt i self.old.all.items self.new.all.items) }
+        ensures others { ChangesList self.old self.new }
     {
         let i = self.waits()?;
         let texts = self.ordered_at(i);
@@ -326,18 +286,10 @@ impl Forwardings {
     fn ordered_at(&mut self, i: usize) -> Option<(TwoTexts, u32)>
         requires place { position to_listen self.old.all.items ≡ Some i }
         requires first { is_first_to_listen (find to_listen self.old.all.items) ≡ true }
-        ensures some { is_some result ≡ true }
-        ensures place { IfSome result (λ r. ListensFor (ListenerOrder.Listen r.0 r.1)
+        ensures listens { IsSomeAnd result (λ r. ListensFor (ListenerOrder.Listen r.0 r.1)
             (find to_listen self.old.all.items)) }
-        ensures listeners { listeners_of self.new.all.items
-            ≡ listeners_of self.old.all.items }
-        ensures first { is_ordered_first (find to_listen self.new.all.items) ≡ true }
-        ensures due { sum_by forwarding_due self.new.all.items
-            ≡ sum_by forwarding_due self.old.all.items }
-        ensures leaves { OrderedAt i self.old.all.items self.new.all.items }
-        ensures serials { self.new.serials ≡ self.old.serials }
-        ensures requests { self.new.requests ≡ self.old.requests }
-        ensures refused { self.new.refused ≡ self.old.refused }
+        ensures ordered { OrderedAt i self.old.all.items self.new.all.items }
+        ensures others { ChangesList self.old self.new }
     {
         self.all[i].ordered()
     }
@@ -346,9 +298,7 @@ impl Forwardings {
     fn unlisten(&mut self, listener: u64)
         ensures all { self.new.all.items
             ≡ filter (λ f. not (has_listener listener f)) self.old.all.items }
-        ensures serials { self.new.serials ≡ self.old.serials }
-        ensures requests { self.new.requests ≡ self.old.requests }
-        ensures refused { self.new.refused ≡ self.old.refused }
+        ensures others { ChangesList self.old self.new }
     {
         self.all.retain(|f| f.lacks_listener(listener));
     }
@@ -357,22 +307,9 @@ impl Forwardings {
     /// none where that failed.
     pub fn ordered(&mut self, listener: Option<u64>, asks: &mut Asks)
         requires { is_ordered_first (find to_listen self.old.all.items) ≡ true }
-        ensures listeners { listeners_of self.new.all.items
-            ≡ listeners_of self.old.all.items ++ listeners_made listener }
-        ensures due { sum_by forwarding_due self.new.all.items + 1
-            ≤ sum_by forwarding_due self.old.all.items }
-        ensures asks { asks.new.waiting.items ≡ ordered_asks listener
-            (serial_of (find to_listen self.old.all.items)) asks.old.done
-            asks.old.waiting.items }
-        ensures done { asks.new.done ≡ ordered_done listener asks.old.done }
-        ensures open { open_asks asks.new.waiting.items ≡ open_asks asks.old.waiting.items }
-        ensures count { length asks.new.waiting.items ≡ length asks.old.waiting.items }
-        ensures leaves { IfSome (position to_listen self.old.all.items)
-            (λ i. MadeAt listener i self.old.all.items self.new.all.items) }
-        ensures serials { self.new.serials ≡ self.old.serials }
+        ensures makes { ForwardingsGo (MakesListener listener)
+            self.old asks.old self.new asks.new }
         ensures requests { self.new.requests ≡ self.old.requests }
-        ensures refused { self.new.refused ≡ made_refused listener
-            (find to_listen self.old.all.items) self.old.refused }
     {
         let Some(i) = self.waits() else {
             return;
@@ -416,11 +353,9 @@ impl Forwardings {
             (self.new.all.items ≡ after_saying request self.old.all.items) }
         ensures requests { OnOk result
             (self.new.requests.items ≡ self.old.requests.items ++ request ∷ []) }
-        ensures listeners { listeners_of self.new.all.items
-            ≡ listeners_of self.old.all.items }
-        ensures count { length self.new.all.items ≡ length self.old.all.items }
         ensures serials { self.new.serials ≡ self.old.serials }
         ensures refused { self.new.refused ≡ self.old.refused }
+        ensures err { OnErr result (self.new.all ≡ self.old.all) }
     {
         self.requests.push_back(request)?;
         match request {
@@ -433,22 +368,8 @@ impl Forwardings {
     /// The server's reply to the earliest request that has none. A success to a request of port 0
     /// carries the port that it chose.
     pub fn replied(&mut self, success: bool, port: Option<u32>, asks: &mut Asks)
-        ensures asks { asks.new.waiting.items ≡ replied_asks success port
-            (first_of self.old.requests.items) self.old.all.items asks.old.done
-            asks.old.waiting.items }
-        ensures done { asks.new.done ≡ replied_done success port
-            (first_of self.old.requests.items) self.old.all.items asks.old.done }
-        ensures open { open_asks asks.new.waiting.items ≡ open_asks asks.old.waiting.items }
-        ensures asked { length asks.new.waiting.items ≡ length asks.old.waiting.items }
-        ensures listeners { listeners_of self.new.all.items
-            ≡ listeners_of self.old.all.items }
-        ensures count { length self.new.all.items ≤ length self.old.all.items }
-        ensures all { self.new.all.items ≡ replied_all success port
-            (first_of self.old.requests.items) self.old.all.items }
-        ensures serials { self.new.serials ≡ self.old.serials }
-        ensures requests { self.new.requests.items ≡ drop 1 self.old.requests.items }
-        ensures refused { self.new.refused ≡ replied_refused success
-            (first_of self.old.requests.items) self.old.all.items self.old.refused }
+        ensures { ForwardingsGo (λ old new. new ≡ reply_heard success port old)
+            self.old asks.old self.new asks.new }
     {
         match self.requests.pop_front() {
             None => {}
@@ -506,9 +427,6 @@ impl Forwardings {
 
     /// The server refused the request to listen for a forwarding.
     fn refuse(&mut self, serial: u64)
-        ensures listeners { listeners_of self.new.all.items
-            ≡ listeners_of self.old.all.items }
-        ensures count { length self.new.all.items ≤ length self.old.all.items }
         ensures all { self.new.all.items
             ≡ removed_at (position (is_asked serial) self.old.all.items) self.old.all.items }
         ensures serials { self.new.serials ≡ self.old.serials }
@@ -523,14 +441,9 @@ impl Forwardings {
 
     /// The server listens for a forwarding no longer.
     fn forget(&mut self, serial: u64)
-        ensures listeners { listeners_of self.new.all.items
-            ≡ listeners_of self.old.all.items }
-        ensures count { length self.new.all.items ≤ length self.old.all.items }
         ensures all { self.new.all.items ≡ removed_at
             (position (is_cancelled serial) self.old.all.items) self.old.all.items }
-        ensures serials { self.new.serials ≡ self.old.serials }
-        ensures requests { self.new.requests ≡ self.old.requests }
-        ensures refused { self.new.refused ≡ self.old.refused }
+        ensures others { ChangesList self.old self.new }
     {
         if let Some(i) = self.cancelled(serial) {
             self.all.remove(i);

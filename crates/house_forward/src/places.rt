@@ -1,4 +1,8 @@
 //! Where the streams of the relays are in their list.
+ghost use Rattle.std.specs.Prelude.{ℕ, ◌≡◌, nat_eq};
+ghost use Rattle.std.specs.HashMap.{get, IsEmpty};
+ghost use Rattle.house_forward.specs.Places.{AreNotedAt};
+
 use crate::link::Link;
 use ssh_fields::OutOfMemory;
 use std::alloc::Global;
@@ -12,21 +16,29 @@ pub struct Places {
 }
 
 impl Places {
-    pub fn new(alloc: Global) -> Places {
+    /// None is noted.
+    pub fn new(alloc: Global) -> Places
+        ensures { IsEmpty result.noted }
+    {
         Places {
             noted: HashMap::new(alloc),
         }
     }
 
     /// Room for so many streams.
-    pub fn room(&mut self, streams: usize) -> Result<(), OutOfMemory> {
+    pub fn room(&mut self, streams: usize) -> Result<(), OutOfMemory>
+        ensures { (stream : ℕ) → get nat_eq self.new.noted stream
+            ≡ get nat_eq self.old.noted stream }
+    {
         self.noted
             .reserve(streams.saturating_sub(self.noted.len()))?;
         Ok(())
     }
 
     /// Notes where they are now, as far as there is room.
-    pub fn note(&mut self, links: &[Link]) {
+    pub fn note(&mut self, links: &[Link])
+        ensures { AreNotedAt self.new links.now }
+    {
         self.noted.clear();
         for i in 0..links.len() {
             if let Some(stream) = links[i].number() {
@@ -38,7 +50,9 @@ impl Places {
     }
 
     /// The place that is noted for a stream.
-    pub fn of(&self, stream: u64) -> Option<usize> {
+    pub fn of(&self, stream: u64) -> Option<usize>
+        ensures { result ≡ get nat_eq self.now.noted stream }
+    {
         self.noted.get(&stream).copied()
     }
 }

@@ -1,5 +1,5 @@
 //! What the house says and hears.
-ghost use Rattle.std.specs.Prelude.{◌≡◌, ◌≤◌, ◌<◌, ◌+◌, true, false, length, find, is_some, OnOk, IfOk, IfSome, IsSome, None, Some, Ok};
+ghost use Rattle.std.specs.Prelude.{◌≡◌, ◌≤◌, ◌<◌, true, false, length, find, is_some, OnOk, IfOk, IfSome, IsSome, None, Some, Ok};
 ghost use Rattle.mux_outside.specs.House.{SaysFits, says_nothing};
 ghost use Rattle.mux_outside.specs.declared.piece.TheConstants.{LONGEST_PIECE};
 ghost use Rattle.house_forward.specs.Forwardings.{has_request, request_of};
@@ -8,7 +8,7 @@ ghost use Rattle.house_forward.specs.Said.{framed, request_payload};
 ghost use Rattle.house_forward.specs.Lives.{is_grant, GoesFurther, HearsNext, HearsFrame};
 ghost use Rattle.proxy_frames.specs.Steps.{pushed};
 ghost use Rattle.ssh_fields.specs.Fields.{take_u32};
-ghost use Rattle.house_forward.specs.State.{held_in, HasSaid, KnowsSame};
+ghost use Rattle.house_forward.specs.State.{held_in, HasSaid, KnowsSame, StaysKnown};
 
 use super::{Holdings, Stage};
 use crate::forwarding::Request;
@@ -89,14 +89,7 @@ impl Holdings {
         requires { self.old.ordering ≡ None }
         ensures fewer { IfOk result (λ heard. heard ≡ true
             → length self.new.framer.rest < length self.old.framer.rest) }
-        ensures same { KnowsSame self.old self.new }
-        ensures greeted { self.new.greeted ≡ self.old.greeted }
-        ensures forwardings { length self.new.forwardings.all.items
-            ≤ length self.old.forwardings.all.items }
-        ensures relays { length self.new.relays.all.items
-            ≤ length self.old.relays.all.items + 1 }
-        ensures asks { length self.new.asks.waiting.items
-            ≡ length self.old.asks.waiting.items }
+        ensures stays { StaysKnown self.old self.new }
         ensures none { result ≡ Ok false → self.new
             ≡ record self.old { framer = self.new.framer } }
         ensures hears { IfOk result (λ heard. GoesFurther (HearsNext heard)
@@ -116,14 +109,7 @@ impl Holdings {
         requires current { IsSome self.old.framer.current }
         requires ordering { self.old.ordering ≡ None }
         ensures rest { self.new.framer.rest ≡ self.old.framer.rest }
-        ensures same { KnowsSame self.old self.new }
-        ensures greeted { self.new.greeted ≡ self.old.greeted }
-        ensures forwardings { length self.new.forwardings.all.items
-            ≤ length self.old.forwardings.all.items }
-        ensures relays { length self.new.relays.all.items
-            ≤ length self.old.relays.all.items + 1 }
-        ensures asks { length self.new.asks.waiting.items
-            ≡ length self.old.asks.waiting.items }
+        ensures stays { StaysKnown self.old self.new }
         ensures hears { OnOk result (IfSome self.old.framer.current
             (λ content. GoesFurther (HearsFrame self.old.stage content)
             (held_in self.old) (held_in self.new))) }

@@ -1,4 +1,4 @@
-use Rattle.std.proofs.Common.{◌≡◌, ◌∙◌, sym, ap, ℕ, List, Some}
+use Rattle.std.proofs.Common.{◌≡◌, ◌∙◌, sym, ap, ℕ, List, true, false, Some, None}
 use Rattle.std.specs.Option.{option_copied}
 use Rattle.ssh_grammar.specs.ReadMessage.{read_message as reading}
 use Rattle.ssh_fields.specs.Fields.{take_u32}
@@ -7,6 +7,7 @@ use Rattle.conn_messages.specs.declared.key.Key.TheVariants as keys
 use Rattle.house_forward.specs.Lives.{port_in}
 use Rattle.house_forward.proofs.Going.{on-ok}
 use Rattle.house_forward.proofs.Leading.{channel_of, its-channel, a-forwarded, a-channel-message, a-success, a-failure, port-read}
+use Rattle.house_forward.proofs.Leaving.{replied-more}
 use Rattle.house_forward.proofs.hearing.hear.Goals as goal
 use Rattle.house_forward.proofs.hearing.hear.Goals.{in-Confirmation, in-Confirmation-2, in-Confirmation-3, in-Confirmation-4, in-Confirmation-5, in-Confirmation-6, in-Confirmation-7, in-Confirmation-8, in-Confirmation-9, in-Confirmation-10}
 
@@ -44,20 +45,54 @@ returns-in-Confirmation-clause-goes c =
 pub returns-in-RequestSuccess-clause-goes : goal.returns-in-RequestSuccess-clause-goes
 returns-in-RequestSuccess-clause-goes c =
     let m = c.in-RequestSuccess in
-    let fs = c.args.forwardings.now in
-    let asks = c.args.asks.now in
-    let r = c.replied.ensures in
     let read = c.take_u32-port in
-    a-success (reading c.args.payload.now) c.in-Ok.message m.rest read.result c.args.relays.now fs asks c.replied.new.self c.replied.new.asks
-    c.in-Ok.ensures.exact m.is
+    a-success (reading c.args.payload.now) c.in-Ok.message m.rest read.result c.args.relays.now c.args.forwardings.now c.args.asks.now
+    c.replied.new.self c.replied.new.asks c.in-Ok.ensures.exact m.is
     (port-read read.result c.new.result read.new.self read.ensures.ok read.ensures.short ∙ ap (λ (b : List ℕ). port_in (take_u32 b)) c.new.ensures)
-    (record { all = r.all; serials = r.serials; refused = r.refused; requests = r.requests; waiting = r.asks; done = r.done })
+    c.replied.ensures
 
 pub returns-in-RequestFailure-clause-goes : goal.returns-in-RequestFailure-clause-goes
 returns-in-RequestFailure-clause-goes c =
-    let fs = c.args.forwardings.now in
-    let asks = c.args.asks.now in
-    let r = c.replied-in-RequestFailure.ensures in
-    a-failure (reading c.args.payload.now) c.in-Ok.message c.args.relays.now fs asks c.replied-in-RequestFailure.new.self c.replied-in-RequestFailure.new.asks
-    c.in-Ok.ensures.exact c.in-RequestFailure.is
-    (record { all = r.all; serials = r.serials; refused = r.refused; requests = r.requests; waiting = r.asks; done = r.done })
+    let r = c.replied-in-RequestFailure in
+    a-failure (reading c.args.payload.now) c.in-Ok.message c.args.relays.now c.args.forwardings.now c.args.asks.now r.new.self r.new.asks
+    c.in-Ok.ensures.exact c.in-RequestFailure.is r.ensures
+
+pub returns-in-RequestSuccess-clause-open : goal.returns-in-RequestSuccess-clause-open
+returns-in-RequestSuccess-clause-open c =
+    let r = c.replied in
+    (replied-more true c.take_u32-port.result c.args.forwardings.now c.args.asks.now r.new.self r.new.asks r.ensures).same.asks
+
+pub returns-in-RequestSuccess-clause-asked : goal.returns-in-RequestSuccess-clause-asked
+returns-in-RequestSuccess-clause-asked c =
+    let r = c.replied in
+    (replied-more true c.take_u32-port.result c.args.forwardings.now c.args.asks.now r.new.self r.new.asks r.ensures).same.count
+
+pub returns-in-RequestSuccess-clause-listeners : goal.returns-in-RequestSuccess-clause-listeners
+returns-in-RequestSuccess-clause-listeners c =
+    let r = c.replied in
+    (replied-more true c.take_u32-port.result c.args.forwardings.now c.args.asks.now r.new.self r.new.asks r.ensures).listeners
+
+pub returns-in-RequestSuccess-clause-fewer : goal.returns-in-RequestSuccess-clause-fewer
+returns-in-RequestSuccess-clause-fewer c =
+    let r = c.replied in
+    (replied-more true c.take_u32-port.result c.args.forwardings.now c.args.asks.now r.new.self r.new.asks r.ensures).fewer
+
+pub returns-in-RequestFailure-clause-open : goal.returns-in-RequestFailure-clause-open
+returns-in-RequestFailure-clause-open c =
+    let r = c.replied-in-RequestFailure in
+    (replied-more false None c.args.forwardings.now c.args.asks.now r.new.self r.new.asks r.ensures).same.asks
+
+pub returns-in-RequestFailure-clause-asked : goal.returns-in-RequestFailure-clause-asked
+returns-in-RequestFailure-clause-asked c =
+    let r = c.replied-in-RequestFailure in
+    (replied-more false None c.args.forwardings.now c.args.asks.now r.new.self r.new.asks r.ensures).same.count
+
+pub returns-in-RequestFailure-clause-listeners : goal.returns-in-RequestFailure-clause-listeners
+returns-in-RequestFailure-clause-listeners c =
+    let r = c.replied-in-RequestFailure in
+    (replied-more false None c.args.forwardings.now c.args.asks.now r.new.self r.new.asks r.ensures).listeners
+
+pub returns-in-RequestFailure-clause-fewer : goal.returns-in-RequestFailure-clause-fewer
+returns-in-RequestFailure-clause-fewer c =
+    let r = c.replied-in-RequestFailure in
+    (replied-more false None c.args.forwardings.now c.args.asks.now r.new.self r.new.asks r.ensures).fewer

@@ -38,10 +38,10 @@ returns-clause-stands g c =
     let reserved = c.reserve.ensures.has in
     λ calls h. record {
       since = since-on has.ordering new.ordering calls (Hears c.args.bytes.now) (held_in has) (held_in new) (no-ordering has.ordering c.requires)
-          (c.hear.ensures.same.ordering ∙ ap (λ (x : Holdings). x.ordering) reserved ∙ on.ordering) refl
+          (c.hear.ensures.stays.same.ordering ∙ ap (λ (x : Holdings). x.ordering) reserved ∙ on.ordering) refl
           (takes-in c.args.bytes.now has taken c.loop-self.self.has c.reserve.new.self.has c.in_ok-hear.field-0 (held_in new)
           c.take.ensures.others c.in_ok-take.ensures.heard on.leads reserved none c.in_ok-hear.ensures.hears) h.since;
       greeting = greeted-on has.greeted new.greeted calls (Hears c.args.bytes.now ∷ [])
-          (c.hear.ensures.greeted ∙ ap (λ (x : Holdings). x.greeted) reserved ∙ on.greeted ∙ ap (λ (x : Holdings). x.greeted) c.take.ensures.others)
+          (c.hear.ensures.stays.greeted ∙ ap (λ (x : Holdings). x.greeted) reserved ∙ on.greeted ∙ ap (λ (x : Holdings). x.greeted) c.take.ensures.others)
           refl h.greeting;
     }

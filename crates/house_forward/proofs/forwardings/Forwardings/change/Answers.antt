@@ -1,5 +1,5 @@
 use Rattle.std.proofs.Common.{◌∙◌}
-use Rattle.house_forward.proofs.InOrder.{changed-order, changed-listeners}
+use Rattle.house_forward.proofs.InOrder.{changed-order}
 use Rattle.house_forward.proofs.Numbered.{numbered-changed}
 use Rattle.house_forward.proofs.Placed.{placed-changed}
 use Rattle.house_forward.proofs.forwardings.Forwardings.change.Goals as goal
@@ -10,6 +10,3 @@ invariant_of-self c = record {
   placed = rw c.change_all.ensures (placed-changed c.args.change c.args.serial c.args.self.now.all.items c.args.self.now.placed);
   numbered = rw c.change_all.ensures (numbered-changed c.args.change c.args.serial c.args.self.now.all.items c.args.self.now.serials c.args.self.now.numbered);
 }
-
-pub returns-clause-listeners : goal.returns-clause-listeners
-returns-clause-listeners c = rw c.change_all.ensures (changed-listeners c.args.change c.args.serial c.args.self.now.all.items)

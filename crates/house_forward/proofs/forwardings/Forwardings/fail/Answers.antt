@@ -1,3 +1,5 @@
+use Rattle.std.proofs.Common.{ap}
+use Rattle.house_forward.specs.declared.forwardings.Forwardings.{Forwardings}
 use Rattle.house_forward.proofs.InOrder.{order-remove}
 use Rattle.house_forward.proofs.Numbered.{numbered-remove}
 use Rattle.house_forward.proofs.Placed.{placed-remove}
@@ -11,4 +13,4 @@ invariant_of-self c = record {
 }
 
 pub returns-clause-refused : goal.returns-clause-refused
-returns-clause-refused c = (c.remove-f.result, c.remove-f.ensures.value, c.refuse_start.ensures.refused)
+returns-clause-refused c = (c.remove-f.result, c.remove-f.ensures.value, ap (λ (x : Forwardings). x.refused) c.refuse_start.ensures)

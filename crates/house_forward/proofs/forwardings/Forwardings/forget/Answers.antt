@@ -1,5 +1,4 @@
-use Rattle.std.proofs.Common.{sym}
-use Rattle.house_forward.proofs.InOrder.{order-remove, cancelled-remove}
+use Rattle.house_forward.proofs.InOrder.{order-remove}
 use Rattle.house_forward.proofs.Numbered.{numbered-remove}
 use Rattle.house_forward.proofs.Placed.{placed-remove}
 use Rattle.house_forward.proofs.forwardings.Forwardings.forget.Goals as goal
@@ -10,7 +9,3 @@ invariant_of-self c = record {
   placed = rw c.remove.ensures.items (placed-remove c.args.self.now.all.items c.in-Some.i c.args.self.now.placed);
   numbered = rw c.remove.ensures.items (numbered-remove c.args.self.now.all.items c.in-Some.i c.args.self.now.serials c.args.self.now.numbered);
 }
-
-pub returns-in-Some-clause-listeners : goal.returns-in-Some-clause-listeners
-returns-in-Some-clause-listeners c =
-    rw c.remove.ensures.items (cancelled-remove c.args.serial c.args.self.now.all.items c.in-Some.i c.remove.result (sym c.in-Some.ensures))

@@ -17,36 +17,14 @@ invariant_of-self c =
           (ap (λ (f : Forwarding). f.serial) (c.ordered.ensures.ordered is)) c.args.self.now.numbered;
     }
 
-pub returns-clause-some : goal.returns-clause-some
-returns-clause-some c =
-    let is = to-listen-at c.args.self.now.all.items c.args.i c.index_mut.result.now c.requires.place c.index_mut.ensures.value c.requires.first in
-    c.ordered.ensures.some ∙ is
-
-pub returns-clause-listeners : goal.returns-clause-listeners
-returns-clause-listeners c =
-    let is = to-listen-at c.args.self.now.all.items c.args.i c.index_mut.result.now c.requires.place c.index_mut.ensures.value c.requires.first in
-    let o = orders c.args.self.now.all.items c.args.i c.index_mut.result.now c.ordered.new.self c.requires.place c.index_mut.ensures.value c.args.self.now.in_order (c.ordered.ensures.ordered is) in
-    o.listeners
-
-pub returns-clause-first : goal.returns-clause-first
-returns-clause-first c =
-    let is = to-listen-at c.args.self.now.all.items c.args.i c.index_mut.result.now c.requires.place c.index_mut.ensures.value c.requires.first in
-    let o = orders c.args.self.now.all.items c.args.i c.index_mut.result.now c.ordered.new.self c.requires.place c.index_mut.ensures.value c.args.self.now.in_order (c.ordered.ensures.ordered is) in
-    o.first
-
-pub returns-clause-due : goal.returns-clause-due
-returns-clause-due c =
-    let is = to-listen-at c.args.self.now.all.items c.args.i c.index_mut.result.now c.requires.place c.index_mut.ensures.value c.requires.first in
-    let o = orders c.args.self.now.all.items c.args.i c.index_mut.result.now c.ordered.new.self c.requires.place c.index_mut.ensures.value c.args.self.now.in_order (c.ordered.ensures.ordered is) in
-    o.due
-
-pub returns-clause-place : goal.returns-clause-place
-returns-clause-place c =
+pub returns-clause-listens : goal.returns-clause-listens
+returns-clause-listens c =
     let x = c.index_mut.result.now in
+    let is = to-listen-at c.args.self.now.all.items c.args.i x c.requires.place c.index_mut.ensures.value c.requires.first in
     let first = first-placed c.args.self.now.all.items c.args.i x c.requires.place c.index_mut.ensures.value c.args.self.now.placed in
-    listens-there c.ordered.result _ x first.0 first.1 c.ordered.ensures.port c.ordered.ensures.host
+    listens-there c.ordered.result _ x first.0 first.1 (c.ordered.ensures.some ∙ is) c.ordered.ensures.port c.ordered.ensures.host
 
-pub returns-clause-leaves : goal.returns-clause-leaves
-returns-clause-leaves c =
+pub returns-clause-ordered : goal.returns-clause-ordered
+returns-clause-ordered c =
     let is = to-listen-at c.args.self.now.all.items c.args.i c.index_mut.result.now c.requires.place c.index_mut.ensures.value c.requires.first in
     (c.index_mut.result.now, c.index_mut.ensures.value, ap (λ (f : Forwarding). set c.args.self.now.all.items c.args.i f) (c.ordered.ensures.ordered is))

@@ -1,9 +1,10 @@
-use Rattle.std.proofs.Common.{◌≡◌, ◌∙◌, sym, None}
+use Rattle.std.proofs.Common.{◌≡◌, ◌∙◌, sym, None, arith}
 use Rattle.mux_outside.specs.House.{ask_of}
 use Rattle.house_forward.specs.Asks.{turns_away}
 use Rattle.house_forward.specs.Forwardings.{ComesUnless, Opens, is_new, standing, opens_of}
 use Rattle.house_forward.specs.declared.asks.Asked.{Asked}
 use Rattle.house_forward.proofs.Coming.{turned-away, refused-alone, by-ends, opens-there, opens-leaves, closes-there, closes-leaves, if-ok}
+use Rattle.house_forward.proofs.Leaving.{closes-same, opens-most}
 use Rattle.house_forward.proofs.holdings.Holdings.asked.Goals as goal
 
 pub returns-then-turns_away-clause-comes : goal.returns-then-turns_away-clause-comes
@@ -45,3 +46,28 @@ returns-else-opening-clause-comes c =
     (c.in-Some.ensures.exact ask c.of_client.ensures) c.in-Some.ends (c.in-Some.ensures.ends ask c.of_client.ensures) c.close.result
     (closes-there c.args.opening now.forwardings.serials c.in-Some.ends fs c.close.result c.if-opening.false c.close.ensures.exact)
     (closes-leaves c.args.opening now.forwardings.serials c.in-Some.ends fs new c.close.result c.if-opening.false c.close.ensures.exact c.close.ensures.all)
+
+pub returns-else-opening-clause-listeners : goal.returns-else-opening-clause-listeners
+returns-else-opening-clause-listeners c =
+    rw c.close.ensures.all (closes-same c.close.result c.args.self.now.forwardings.all.items).listeners
+
+pub returns-else-opening-clause-count : goal.returns-else-opening-clause-count
+returns-else-opening-clause-count c =
+    let same = (closes-same c.close.result c.args.self.now.forwardings.all.items).count in
+    rw c.close.ensures.all (omega (arith, same))
+
+pub returns-else-opening-clause-serials : goal.returns-else-opening-clause-serials
+returns-else-opening-clause-serials c =
+    let same = (closes-same c.close.result c.args.self.now.forwardings.all.items).count in
+    let serials = c.close.ensures.others.serials in
+    rw c.close.ensures.all (omega (arith, same, serials))
+
+pub returns-then-opening-clause-listeners : goal.returns-then-opening-clause-listeners
+returns-then-opening-clause-listeners c =
+    let o = c.«open» in
+    (opens-most o.result _ _ _ _ c.args.self.now.forwardings.all.items o.new.self.all.items o.ensures.all o.ensures.err).listeners
+
+pub returns-then-opening-clause-count : goal.returns-then-opening-clause-count
+returns-then-opening-clause-count c =
+    let o = c.«open» in
+    (opens-most o.result _ _ _ _ c.args.self.now.forwardings.all.items o.new.self.all.items o.ensures.all o.ensures.err).count

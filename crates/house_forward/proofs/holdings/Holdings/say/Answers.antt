@@ -1,11 +1,12 @@
-use Rattle.std.proofs.Common.{rules, ◌≡◌, ◌∙◌, refl, sym, true, false, arith}
+use Rattle.std.proofs.Common.{rules, ◌≡◌, ◌∙◌, refl, sym, ap, true, false, arith}
 use Rattle.std.proofs.lemmas.Bool.{false≢true}
 use Rattle.std.specs.Prelude.{find}
 use Rattle.house_forward.specs.Desk.{desk_of}
-use Rattle.house_forward.specs.Forwardings.{has_request}
-use Rattle.house_forward.specs.State.{held_in}
+use Rattle.house_forward.specs.Forwardings.{has_request, listeners_of}
+use Rattle.house_forward.specs.State.{held_in, known_in}
 use Rattle.house_forward.proofs.Desks.{requests-one, no-request, greets-first}
 use Rattle.house_forward.proofs.Leading.{says-one}
+use Rattle.house_forward.proofs.Leaving.{says-same}
 use Rattle.house_forward.proofs.States.{says-so}
 use Rattle.house_forward.proofs.holdings.Holdings.say.Goals as goal
 
@@ -40,3 +41,14 @@ returns-clause-says c =
     (desk_of now.gateway now.greeted now.forwardings now.asks) greeted
     (no-request (find has_request now.forwardings.all.items) c.in_ok-request.field-0 c.in_default.is c.in_ok-request.ensures.exact)
     c.say.ensures.exact c.say.ensures.spelled c.say.ensures.says)
+
+pub returns-in-Some-clause-same : goal.returns-in-Some-clause-same
+returns-in-Some-clause-same c =
+    let now = c.args.self.now in
+    let listeners = ap listeners_of c.in_ok-said.ensures.all ∙ (says-same c.in-Some.request now.forwardings.all.items).listeners in
+    record { known = ap (λ ls. record (known_in now) { listeners = ls }) listeners; ordering = refl; must = refl }
+
+pub returns-in-Some-clause-forwardings : goal.returns-in-Some-clause-forwardings
+returns-in-Some-clause-forwardings c =
+    let same = (says-same c.in-Some.request c.args.self.now.forwardings.all.items).count in
+    rw c.in_ok-said.ensures.all (omega (arith, same))

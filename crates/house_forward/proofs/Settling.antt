@@ -1,0 +1,112 @@
+-- How the channel of a relay settles: a test of it fails from now on, or the channel stays.
+use Rattle.std.proofs.Common.{◌≡◌, refl, sym, subst, ◌⊎◌, inl, inr, ℕ, Bool, true, false, List}
+use Rattle.conn_messages.specs.declared.message.Message.{Message}
+use Rattle.conn_messages.specs.declared.message.Message.TheVariants as message
+use Rattle.house_relay.specs.Acts.{Takes}
+use Rattle.house_relay.specs.Line.{in_live, over_if, hears_close}
+use Rattle.house_relay.specs.Relay.{delivers}
+use Rattle.house_relay.specs.Steps.{said_of, confirmed_in, refused_in, data_heard}
+use Rattle.house_relay.specs.declared.line.Live.{Live as LiveState}
+use Rattle.house_relay.specs.declared.line.Line.{Line}
+use Rattle.house_relay.specs.declared.line.Line.TheVariants.{Dialing, Asked, Opened, Offered, Live, Over}
+use Rattle.house_relay.specs.declared.relay.Relay.{Relay}
+use Rattle.house_relay.specs.declared.relay.Saying.{Saying}
+use Rattle.house_relay.specs.declared.relay.Saying.TheVariants as saying
+use Rattle.house_forward.specs.Going.{TakesOn}
+use Rattle.house_forward.specs.Heard.{heard_of}
+use Rattle.house_forward.specs.Links.{relay_after}
+use Rattle.house_forward.specs.Lives.{Life, GoesBy, Listens}
+use Rattle.house_forward.specs.declared.link.Step.{Step}
+use Rattle.house_forward.specs.declared.link.Step.TheVariants as step
+
+-- the test fails from now on, or the channel stays
+abbrev pub SettlesBy : (Line → Bool) → Line → Line → Type 0
+SettlesBy q old new = (q new ≡ false) ⊎ (new ≡ old)
+
+-- it fails in a channel that is confirmed, and in one that is over
+pub record FailsLater (q : Line → Bool) : Type 0 where
+  pub live : (live : LiveState) → q (Live live) ≡ false
+  pub over : q Over ≡ false
+
+over-none : (q : Line → Bool) → FailsLater q → (b : Bool) (live : LiveState) → q (over_if b live) ≡ false
+over-none q fails true live = fails.over
+over-none q fails false live = fails.live live
+
+in-live : (q : Line → Bool) (step : LiveState → Line) (line : Line) → ((live : LiveState) → q (step live) ≡ false)
+    → SettlesBy q line (in_live step line)
+in-live q step (Dialing dialog) none = inr refl
+in-live q step (Asked host port version) none = inr refl
+in-live q step (Opened version) none = inr refl
+in-live q step (Offered remote window maximum) none = inr refl
+in-live q step (Live live) none = inl (none live)
+in-live q step Over none = inr refl
+
+confirms : (q : Line → Bool) → FailsLater q → (line : Line) (remote window maximum : ℕ) (r : Relay) → r.line ≡ line
+    → SettlesBy q line (confirmed_in line remote window maximum r).line
+confirms q fails (Dialing dialog) remote window maximum r is = inr is
+confirms q fails (Asked host port version) remote window maximum r is = inr is
+confirms q fails (Opened version) remote window maximum r is = inl (fails.live _)
+confirms q fails (Offered theirs room most) remote window maximum r is = inr is
+confirms q fails (Live live) remote window maximum r is = inr is
+confirms q fails Over remote window maximum r is = inr is
+
+refuses : (q : Line → Bool) → FailsLater q → (line : Line) (reason : ℕ) (r : Relay) → r.line ≡ line
+    → SettlesBy q line (refused_in line reason r).line
+refuses q fails (Dialing dialog) reason r is = inr is
+refuses q fails (Asked host port version) reason r is = inr is
+refuses q fails (Opened version) reason r is = inl fails.over
+refuses q fails (Offered theirs room most) reason r is = inr is
+refuses q fails (Live live) reason r is = inr is
+refuses q fails Over reason r is = inr is
+
+pub data-same : (b : Bool) (bytes : List ℕ) (r : Relay) → (data_heard b bytes r).line ≡ r.line
+data-same true bytes r = refl
+data-same false bytes r = refl
+
+settles-heard : (q : Line → Bool) → FailsLater q → (m : Message) (r : Relay) → SettlesBy q r.line (heard_of m r).line
+settles-heard q fails (message.Transport number rest) r = inr refl
+settles-heard q fails (message.GlobalRequest name want rest what) r = inr refl
+settles-heard q fails (message.RequestSuccess rest) r = inr refl
+settles-heard q fails message.RequestFailure r = inr refl
+settles-heard q fails (message.Open kind sender window maximum rest what) r = inr refl
+settles-heard q fails (message.Confirmation recipient sender window maximum rest) r = confirms q fails r.line sender window maximum r refl
+settles-heard q fails (message.OpenFailure recipient reason text language) r = refuses q fails r.line reason r refl
+settles-heard q fails (message.Adjust recipient add) r = in-live q _ r.line (λ live. fails.live _)
+settles-heard q fails (message.Data recipient bytes) r = inr (data-same (delivers r) bytes.now r)
+settles-heard q fails (message.Extended recipient code bytes) r = inr refl
+settles-heard q fails (message.Eof recipient) r = in-live q _ r.line (λ live. fails.live _)
+settles-heard q fails (message.Close recipient) r = in-live q hears_close r.line (λ live. over-none q fails live.close_said _)
+settles-heard q fails (message.Request recipient kind want rest) r = in-live q _ r.line (λ live. fails.live _)
+settles-heard q fails (message.Success recipient) r = inr refl
+settles-heard q fails (message.Failure recipient) r = inr refl
+
+pub settles-hears : (q : Line → Bool) → FailsLater q → (m : Message) (a b : Life) → Listens m a b → SettlesBy q a.relay.line b.relay.line
+settles-hears q fails m a b h =
+    subst (λ (r : Relay). SettlesBy q a.relay.line r.line) (sym h.relay.0) (settles-heard q fails m a.relay)
+
+pub settles-takes : (q : Line → Bool) → FailsLater q → (n : ℕ) (a b : Life) → GoesBy (TakesOn n) (Takes n) a b
+    → SettlesBy q a.relay.line b.relay.line
+settles-takes q fails n a b h =
+    subst (λ (r : Relay). SettlesBy q a.relay.line r.line) (sym h.relay.0) (in-live q _ a.relay.line (λ live. fails.live _))
+
+abbrev pub with-line : Line → Relay → Relay
+with-line line r = record r { line = line }
+
+pub settled-said : (q : Line → Bool) → FailsLater q → (s : Saying) (live : LiveState) (r : Relay)
+    → q (said_of s (with-line (Live live) r)).line ≡ false
+settled-said q fails saying.Open live r = fails.live _
+settled-said q fails saying.Confirmation live r = fails.live _
+settled-said q fails saying.OpenFailure live r = fails.over
+settled-said q fails saying.Close live r = over-none q fails live.close_heard _
+settled-said q fails saying.Failure live r = fails.live _
+settled-said q fails (saying.Data n) live r = fails.live _
+settled-said q fails saying.Eof live r = fails.live _
+settled-said q fails (saying.Adjust n) live r = fails.live _
+
+pub line-step : (s : Step) (r : Relay) → (relay_after s r).line ≡ r.line
+line-step (step.Pause b) r = refl
+line-step step.Finish r = refl
+line-step step.End r = refl
+line-step step.Close r = refl
+line-step step.Writable r = refl
+line-step step.Failed r = refl
