@@ -3,7 +3,7 @@ use Rattle.std.proofs.Common.{◌≡◌, ◌+◌, ℕ, Bool, true, false, not, �
 use Rattle.std.specs.Prelude.{◌==◌}
 use Rattle.std.proofs.lemmas.List.{length-append}
 use Rattle.std.proofs.lemmas.Bool.Decides.{eqb_tells}
-use Rattle.mux_outside.specs.HouseCalls.{End, Failed, Got, Hears, HouseCall, Joined, Marks, Turns, Writable}
+use Rattle.mux_outside.specs.HouseCalls.{End, Failed, Got, HouseCall, Turns, Writable}
 use Rattle.mux_outside.specs.HouseCalls as call
 use Rattle.mux_outside.specs.OwnStreams.{is_own}
 use Rattle.mux_outside.specs.declared.house_mark.HouseMark.{HouseMark}

@@ -30,6 +30,7 @@ use Rattle.mux_engine.specs.Serving.{IsLeft, Kept, Promised, Serving}
 use Rattle.mux_engine.specs.Sides.{Resting, Side, asks_in, house_mark, house_marks}
 use Rattle.mux_engine.proofs.Marks.{PromiseAt, kept-more, log-is, noted-more}
 use Rattle.mux_engine.proofs.Owns.{keeps-more}
+use Rattle.mux_engine.proofs.Staying.{serve-as}
 use Rattle.mux_engine.proofs.Told.{tells-more, tells-none, tells-then}
 
 pub of-streams : (streams blocked : List ℕ) (last : ℕ) (journal : List Mark) → OfWire streams blocked last journal → IsOfWire journal
@@ -127,15 +128,7 @@ cut-still {now = now} {given = given} v told' e = cut-here v now.told told' give
 pub serve-told : {May : HouseReply → Type 0} {Rest : Resting} {before : Option (List HouseMark)} {now : Side} {policy : Policy} {pid : ℕ} {start : Option (List Mark)} {seen : Seen} {held failed : List ℕ} {given : ℕ} {todo : List ℕ} {s : State} (v : Serving May Rest before now policy pid start seen held failed given todo s) (now' : Side) (more : List HouseMark) → TellsAsks now.told now'.told more → now'.unnoted ≡ now.unnoted ++ more → asks_in more ≡ [] → now'.asks ≡ now.asks → now'.let_in ≡ now.let_in → now'.calls ≡ now.calls ++ calls_of more → Serving May Rest before now' policy pid start seen held failed given todo s
 serve-told {May} {Rest} {before} {now} {policy} {pid} {start} {seen} {held} {failed} {given} {todo} {s} v now' more h is none asks within calls =
     let same : (house_marks v.journal ++ now.unnoted) ++ more ≡ house_marks v.journal ++ now'.unnoted = append_assoc (house_marks v.journal) now.unnoted more ∙ ap (λ l. house_marks v.journal ++ l) (sym is) in
-    record {
-      journal = v.journal;
-      closed = v.closed;
-      picked = v.picked;
-      replies = v.replies;
-      policy_is = v.policy_is;
-      pid_is = v.pid_is;
-      may = v.may;
-      stands = v.stands;
+    serve-as v now' seen.listens todo record {
       house = subst (TellsAsks before now'.told) same (tells-then before now.told now'.told (house_marks v.journal ++ now.unnoted) more v.house h);
       asked = ap asks_in (sym same) ∙ (asks-left (house_marks v.journal ++ now.unnoted) more v.stands.asks v.asked ∙ (ap (λ l. v.stands.asks ++ l) none ∙ append-nil v.stands.asks));
       called = λ picks later.
@@ -144,20 +137,4 @@ serve-told {May} {Rest} {before} {now} {policy} {pid} {start} {seen} {held} {fai
       askers = subst (λ (l : List OpenAsk). All (λ (a : OpenAsk). IsTrue (is_accepted a.client v.journal)) l) (sym asks) v.askers;
       house_in = v.house_in ∙ sym within;
       house_there = λ e. v.house_there (sym within ∙ e);
-      rested = v.rested;
-      absent = v.absent;
-      tells = v.tells;
-      of_wire = v.of_wire;
-      places = v.places;
-      own_streams = v.own_streams;
-      turns = v.turns;
-      open_are = v.open_are;
-      apart = v.apart;
-      held_is = v.held_is;
-      blocked_is = v.blocked_is;
-      unseen = v.unseen;
-      unused = v.unused;
-      failed_are = v.failed_are;
-      hears = v.hears;
-      sound = v.sound;
-    }
+    } v.hears (λ t a. inl a)

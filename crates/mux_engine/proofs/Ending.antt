@@ -1,15 +1,17 @@
 -- How a run ends behind its turns.
 use Rattle.std.proofs.Common.{◌≡◌, ◌≢◌, ℕ, Bool, true, false, List, Option, Some, None, refl, sym, ap, ◌∙◌, inl, inr, subst}
-use Rattle.std.specs.Prelude.{◌≤◌, IsErr, Result, Ok, Err}
+use Rattle.std.specs.Prelude.{◌≤◌, IsErr, IsOk, Result, Ok, Err}
 use Rattle.mux_outside.specs.Counts.{Rose}
 use Rattle.mux_outside.specs.Faults.{Faults}
+use Rattle.mux_outside.specs.House.{HouseState}
+use Rattle.mux_outside.specs.Seen.{Seen}
 use Rattle.mux_outside.specs.WireState.{WireState}
 use Rattle.mux_outside.specs.declared.mark.Mark.{Mark}
 use Rattle.mux_history.specs.declared.ended.Ended.{Ended}
 use Rattle.mux_history.specs.declared.ended.Ended.TheVariants as ended
 use Rattle.mux_history.specs.Promises.{EndsAs, turns_in}
 use Rattle.mux_engine.specs.Came.{Came}
-use Rattle.mux_engine.specs.Rests.{EndsSo, HasEnded, IsByRow, ended_as, refused_if}
+use Rattle.mux_engine.specs.Rests.{EndsSo, HasEnded, IsByRow, LeavesPlaces, ended_as, refused_if}
 use Rattle.mux_engine.specs.Serving.{StaysOrFails}
 use Rattle.mux_engine.specs.Wires.{Untouched}
 use Rattle.mux_engine.proofs.Comes.{over-later, over-live, over-present, over-same}
@@ -95,3 +97,8 @@ ended-starved p refused a b f g = record {
   failed = λ e. let z : ended.OutOfMemory ≡ ended.ServerFailed = e in absurd (let h = z in cc);
   by_count = tt;
 }
+
+-- the listeners and streams that it leaves
+pub places-cut : {A E : Type 0} (r : Result A E) (house house' : HouseState) {seen seen' : Seen} → IsErr r → (house.known.present ≡ false → seen'.last_own ≡ seen.last_own) → LeavesPlaces (IsOk r) house house' seen seen'
+places-cut (Ok x) house house' e still = absurd (let z : false ≡ true = e in cc)
+places-cut (Err x) house house' e still = record { known = λ ok. absurd (let z : false ≡ true = ok in cc); unopened = still }

@@ -36,7 +36,7 @@ use Rattle.mux_history.specs.Pending.{pending}
 use Rattle.mux_history.specs.Policy.{Policy}
 use Rattle.mux_history.specs.Promises.{Throughout}
 use Rattle.mux_history.specs.Promises.{EndsAs as AnswersAs}
-use Rattle.mux_history.specs.Rows.{Row, rows_of, Item, Admit, Says, Gone, Fate, Goes, Refused, Drop, End}
+use Rattle.mux_history.specs.Rows.{Row, rows_of, Item, Admit, Gone, Fate, Goes, Refused, Drop, End}
 use Rattle.mux_history.specs.Rows as row
 use Rattle.mux_history.specs.Said.{Outcome, silent, tells}
 use Rattle.mux_history.specs.Settings.{by_lists}

@@ -1,5 +1,5 @@
 -- The house is let in, is handed what waits for it, and answers.
-use Rattle.std.proofs.Common.{◌≡◌, ◌≢◌, ◌≤◌, ◌<◌, ◌+◌, ℕ, Bool, true, false, ◌||◌, List, [], ◌∷◌, ◌++◌, length, Option, None, refl, sym, ap, ◌∙◌, subst, arith, append-nil}
+use Rattle.std.proofs.Common.{◌≡◌, ◌≢◌, ◌≤◌, ◌<◌, ◌+◌, ℕ, Bool, true, false, ◌||◌, List, [], ◌∷◌, ◌++◌, length, Option, None, refl, sym, ap, ◌∙◌, subst, inl, arith, append-nil}
 use Rattle.std.specs.Prelude.{◌==◌, All, IsTrue, Result, Ok, Err}
 use Rattle.std.proofs.lemmas.List.Folds.{list_any-append}
 use Rattle.mux_outside.specs.House.{Known, OpenAsk, ReplyFits, without_ask}
@@ -30,6 +30,7 @@ use Rattle.mux_engine.proofs.HouseTurns.{accepted-zero, cut-answers, house-answe
 use Rattle.mux_engine.proofs.Lists.{among-less, true-false, without-other}
 use Rattle.mux_engine.proofs.Noted.{seen-with}
 use Rattle.mux_engine.proofs.Offers.{Waiting}
+use Rattle.mux_engine.proofs.Staying.{serve-as}
 use Rattle.mux_engine.proofs.Taken.{queue-present, took-run}
 use Rattle.mux_engine.proofs.Turned.{came, stayed}
 
@@ -117,38 +118,14 @@ same-noted {May} {Rest} {before} {policy} {pid} {start} {seen} {held} {failed} {
 
 module _ {May : HouseReply → Type 0} {Rest : Resting} {before : Option (List HouseMark)} {policy : Policy} {pid : ℕ} {start : Option (List Mark)} {seen : Seen} {held failed : List ℕ} {given : ℕ} {todo : List ℕ} {s : State} where
   serve-asks : {now : Side} (v : Serving May Rest before now policy pid start seen held failed given todo s) (asks : List OpenAsk) → All (λ (a : OpenAsk). IsTrue (is_accepted a.client v.journal)) asks → Serving May Rest before (record now { asks = asks }) policy pid start seen held failed given todo s
-  serve-asks v asks all = record {
-    journal = v.journal;
-    closed = v.closed;
-    picked = v.picked;
-    replies = v.replies;
-    policy_is = v.policy_is;
-    pid_is = v.pid_is;
-    may = v.may;
-    stands = v.stands;
+  serve-asks {now} v asks all = serve-as v (record now { asks = asks }) seen.listens todo record {
     house = v.house;
     asked = v.asked;
     called = v.called;
     askers = all;
     house_in = v.house_in;
     house_there = v.house_there;
-    rested = v.rested;
-    absent = v.absent;
-    tells = v.tells;
-    of_wire = v.of_wire;
-    places = v.places;
-    own_streams = v.own_streams;
-    turns = v.turns;
-    open_are = v.open_are;
-    apart = v.apart;
-    held_is = v.held_is;
-    blocked_is = v.blocked_is;
-    unseen = v.unseen;
-    unused = v.unused;
-    failed_are = v.failed_are;
-    hears = v.hears;
-    sound = v.sound;
-  }
+  } v.hears (λ t a. inl a)
 
   -- ---- it was told something
 
@@ -178,7 +155,7 @@ module _ {May : HouseReply → Type 0} {Rest : Resting} {before : Option (List H
 
   -- to a client that was accepted
   pub answer-asked : {told told' : Option (List HouseMark)} {calls : List HouseCall} (known : Known) (client id : ℕ) (reply : HouseReply) (v : Serving May Rest before (noted told known calls) policy pid start seen held failed given todo s) (h : TellsAsks told told' (HouseAnswer client id reply ∷ [])) → ReplyFits reply client id known.asks → is_accepted client (answer-told known client id reply v h).journal ≡ true
-  unfolding answer-told serve-asks
+  unfolding answer-told serve-asks serve-as
   answer-asked {told} {told'} {calls} known client id reply v h fits =
       let w = serve-told v (noting (HouseAnswer client id reply ∷ []) told' known (calls ++ calls_of (HouseAnswer client id reply ∷ []))) (HouseAnswer client id reply ∷ []) h refl refl refl refl refl in
       reply-asked w.journal reply client id known.asks fits w.askers

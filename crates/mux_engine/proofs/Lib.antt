@@ -12,6 +12,7 @@ mod Ending
 mod Fates
 mod First
 mod Following
+mod Going
 mod Greeted
 mod Handed
 mod Happened
@@ -46,6 +47,7 @@ mod Runs
 mod Silent
 mod Spending
 mod Spoken
+mod Staying
 mod Stepping
 mod Taken
 mod Todo

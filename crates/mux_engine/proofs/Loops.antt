@@ -25,7 +25,8 @@ use Rattle.mux_engine.specs.Sides.{Resting, Side}
 use Rattle.mux_engine.proofs.Lists.{among-here, among-less, apart-or-left, either, here-open, none-without, or-true, test-other, true-false, without-other}
 use Rattle.mux_engine.proofs.Marks.{log-is}
 use Rattle.mux_engine.proofs.Places.{AtStream, at-stream}
-use Rattle.mux_engine.proofs.Todo.{narrower, serve-todo, serve-with}
+use Rattle.mux_engine.proofs.Staying.{serve-as, still-noted}
+use Rattle.mux_engine.proofs.Todo.{narrower, serve-todo}
 
 -- ---- offers of one stream
 
@@ -160,7 +161,7 @@ todo-is {May} {Rest} {before} {now} {policy} {pid} {start} {seen} {held} {failed
 
 pub serve-hushed : {May : HouseReply → Type 0} {Rest : Resting} {before : Option (List HouseMark)} {now : Side} {policy : Policy} {pid : ℕ} {start : Option (List Mark)} {seen : Seen} {held failed : List ℕ} {given : ℕ} {todo : List ℕ} {s : State} (v : Serving May Rest before now policy pid start seen held failed given todo s)
     → (s.ended ≡ None → s.listening ≡ false) → Serving May Rest before now policy pid start (record seen { listens = false }) held failed given todo s
-serve-hushed {todo = todo} v none = serve-with v false todo (λ live l. true-false (sym l ∙ none live)) (λ t a. inl a)
+serve-hushed {now = now} {todo = todo} v none = serve-as v now false todo (still-noted v) (λ live l. true-false (sym l ∙ none live)) (λ t a. inl a)
 
 -- ---- where nothing waits
 

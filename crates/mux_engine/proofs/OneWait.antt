@@ -1,5 +1,5 @@
 -- What one call of wait makes of a run, by what it told.
-use Rattle.std.proofs.Common.{◌≡◌, ◌+◌, ℕ, Bool, true, false, List, [], ◌∷◌, ◌++◌, Option, None, refl, sym, ap, ◌∙◌, subst, arith, MatchResult, OnOk}
+use Rattle.std.proofs.Common.{◌≡◌, ◌+◌, ℕ, Bool, true, false, List, [], ◌∷◌, ◌++◌, Option, refl, sym, ap, ◌∙◌, subst, arith, MatchResult, OnOk}
 use Rattle.std.specs.Prelude.{IsErr, Result, Ok, Err, filter}
 use Rattle.mux_outside.specs.CallCounts.{CallCounts, calls_after_wait, is_starved}
 use Rattle.mux_outside.specs.Counts.{Rose}
@@ -109,7 +109,7 @@ own-fed (told.Failed k) t bytes next = ap is_starved next.1
 pub works-own-turn : {A E : Type 0} (r : Result A E) {old new : WireState} {f g : Faults} (o : OwnTurn) (t : Turn) (waiting : List ℕ) (want : Want) (bytes : List ℕ) → IsOwnOf o t bytes → new ≡ state_after_wait t waiting want bytes new.tally old → TurnFaults t f g → Works 1 r old new f g
 works-own-turn r o t waiting want bytes next after cause = works-wait r t waiting want bytes (own-fed o t bytes next) after cause
 
-module _ {T : Type 0} (May : HouseReply → Type 0) (state : T → HouseState) (house : T) (wire wire1 : WireState) (faults faults1 : Faults) (lists : Lists) (s : State) {t : Turn} {bytes : List ℕ}
+module _ {T : Type 0} {May : HouseReply → Type 0} {state : T → HouseState} {house : T} {wire : WireState} {lists : Lists} {s : State} {t : Turn} {bytes : List ℕ} (wire1 : WireState) (faults faults1 : Faults)
     (served : ServedWith May state house (scene wire lists s) []) (b : BeginsTurn (state house) wire lists s) (w : HasWaited wire.seen wire1.seen lists.own lists.failed (state house).queue s t bytes) where
   at : (first : T) (calls : List HouseCall) → HandsOn (state first).stands (state house).stands calls → AtWait (RestsOf state (state house).known.present first) (noted (state house).told (state house).known calls) wire.seen lists.own lists.held lists.failed (state house).queue s
   at first calls hands = at-wait state first house calls wire lists s b hands

@@ -4,7 +4,7 @@ use Rattle.std.specs.Prelude.{nat_lt, Result, Ok, Err}
 use Rattle.std.specs.Option.{option_map}
 use Rattle.std.proofs.lemmas.Bool.Decides.{nat_tests}
 use Rattle.ssh_fields.specs.Fields.{AreBytes}
-use Rattle.mux_outside.specs.House.{Known, SaysFits, says_marks}
+use Rattle.mux_outside.specs.House.{HouseState, Known, SaysFits, says_marks}
 use Rattle.mux_outside.specs.HouseCalls.{HandsOn, HouseCall, calls_of}
 use Rattle.mux_outside.specs.Seen.{Seen}
 use Rattle.mux_outside.specs.declared.house.HouseReply.{HouseReply}
@@ -22,7 +22,7 @@ use Rattle.mux_machine.specs.State.{State, queue_in}
 use Rattle.mux_machine.specs.Events.{Tells, here}
 use Rattle.mux_machine.specs.declared.event.Event.{Event}
 use Rattle.mux_machine.specs.declared.event.Event.TheVariants.{Accepted, FromClient, ClientEnd, ClientFailed, HouseSays, FromServer, ServerEnd, ServerFailed}
-use Rattle.mux_engine.specs.Asking.{Heeded}
+use Rattle.mux_engine.specs.Asking.{HeedsEvent}
 use Rattle.mux_engine.specs.Came.{EndsFor}
 use Rattle.mux_engine.specs.Rests.{EndsByAsk, IsByRow}
 use Rattle.mux_engine.specs.Serving.{Promised, Serving}
@@ -80,40 +80,55 @@ asks-ends ServerFailed bytes o t h = absurd (elim t [ inl z ↦ cc | inr z ↦ c
 pub told-nothing : {E : Type 0} (r : Result Bool E) (bytes : List ℕ) (told told' : Option (List HouseMark)) → r ≡ Ok false → told' ≡ option_map (λ marks. marks ++ says_marks r bytes) told → TellsAsks told told' []
 told-nothing r bytes told told' is e = e ∙ ap (λ (x : Result Bool _). option_map (λ marks. marks ++ says_marks x bytes) told) is
 
-pub told-said : {E : Type 0} (r : Result Bool E) (bytes : List ℕ) (told told' : Option (List HouseMark)) → r ≡ Ok true → told' ≡ option_map (λ marks. marks ++ says_marks r bytes) told → TellsAsks told told' (HouseSaid bytes ∷ [])
+told-said : {E : Type 0} (r : Result Bool E) (bytes : List ℕ) (told told' : Option (List HouseMark)) → r ≡ Ok true → told' ≡ option_map (λ marks. marks ++ says_marks r bytes) told → TellsAsks told told' (HouseSaid bytes ∷ [])
 told-said r bytes told told' is e = e ∙ ap (λ (x : Result Bool _). option_map (λ marks. marks ++ says_marks x bytes) told) is
 
-pub hands-said : {E : Type 0} (stands stands' : List HouseCall → Type 0) (r : Result Bool E) (bytes : List ℕ) → r ≡ Ok true → OnOk r (HandsOn stands stands' (calls_of (says_marks r bytes))) → HandsOn stands stands' (calls_of (HouseSaid bytes ∷ []))
+hands-said : {E : Type 0} (stands stands' : List HouseCall → Type 0) (r : Result Bool E) (bytes : List ℕ) → r ≡ Ok true → OnOk r (HandsOn stands stands' (calls_of (says_marks r bytes))) → HandsOn stands stands' (calls_of (HouseSaid bytes ∷ []))
 hands-said {E} stands stands' r bytes is h = subst (λ (x : Result Bool E). OnOk x (HandsOn stands stands' (calls_of (says_marks x bytes)))) is h
 
 pub hands-nothing : {E : Type 0} (stands stands' : List HouseCall → Type 0) (r : Result Bool E) (bytes : List ℕ) → r ≡ Ok false → OnOk r (HandsOn stands stands' (calls_of (says_marks r bytes))) → HandsOn stands stands' []
 hands-nothing {E} stands stands' r bytes is h = subst (λ (x : Result Bool E). OnOk x (HandsOn stands stands' (calls_of (says_marks x bytes)))) is h
 
-pub some-said : {E : Type 0} (r : Result Bool E) (bytes : List ℕ) → r ≡ Ok true → SaysFits r bytes → 0 < length bytes
+some-said : {E : Type 0} (r : Result Bool E) (bytes : List ℕ) → r ≡ Ok true → SaysFits r bytes → 0 < length bytes
 some-said {E} r bytes is fits = let f : SaysFits {E = E} (Ok true) bytes = subst (λ (x : Result Bool E). SaysFits {E = E} x bytes) is fits in f.0
 
-module _ {May : HouseReply → Type 0} {Rest : Resting} {before : Option (List HouseMark)} {policy : Policy} {pid : ℕ} {start : Option (List Mark)} {seen : Seen} {held failed : List ℕ} {given : ℕ} {s : State} {calls : List HouseCall}
-    (told : Option (List HouseMark)) (known : Known) (v : Serving May Rest before (noted told known calls) policy pid start seen held failed given [] s) (live : s.ended ≡ None) (within : known.present ≡ true) (room : want_of s ≡ Read)
-    (told' : Option (List HouseMark)) (known' : Known) (bytes : List ℕ) (tells : TellsAsks told told' (HouseSaid bytes ∷ [])) (same : known' ≡ known) where
+-- it said these bytes, which it tells
+pub record Said (old new : HouseState) (bytes : List ℕ) : Type 0 where
+  pub tells : TellsAsks old.told new.told (HouseSaid bytes ∷ [])
+  pub same : new.known ≡ old.known
+  pub hands : HandsOn old.stands new.stands (calls_of (HouseSaid bytes ∷ []))
+  pub some : 0 < length bytes
+
+pub said-so : {E : Type 0} (r : Result Bool E) (old new : HouseState) (bytes : List ℕ) → r ≡ Ok true → new.told ≡ option_map (λ marks. marks ++ says_marks r bytes) old.told → new.known ≡ old.known → OnOk r (HandsOn old.stands new.stands (calls_of (says_marks r bytes))) → SaysFits r bytes → Said old new bytes
+said-so r old new bytes is told known hands fits = record { tells = told-said r bytes old.told new.told is told; same = known; hands = hands-said old.stands new.stands r bytes is hands; some = some-said r bytes is fits }
+
+-- as a client this is an event
+pub record IsPiece (e : Event) (bytes : List ℕ) : Type 0 where
+  pub is : Tells e (Gets HOUSE bytes)
+  pub few : length bytes ≤ 65536
+  pub are : AreBytes bytes
+
+module _ {May : HouseReply → Type 0} {Rest : Resting} {before : Option (List HouseMark)} {policy : Policy} {pid : ℕ} {start : Option (List Mark)} {seen : Seen} {held failed : List ℕ} {given : ℕ} {s : State} {calls : List HouseCall} {house house' : HouseState} {bytes : List ℕ}
+    (said : Said house house' bytes) (v : Serving May Rest before (noted house.told house.known calls) policy pid start seen held failed given [] s) (live : s.ended ≡ None) (within : house.known.present ≡ true) (room : want_of s ≡ Read) where
   -- what it said is not noted yet
   abbrev unnoted-yet : Side
-  unnoted-yet = record { told = told'; asks = known'.asks; unnoted = HouseSaid bytes ∷ []; let_in = known'.present; calls = calls ++ calls_of (HouseSaid bytes ∷ []) }
+  unnoted-yet = record { told = house'.told; asks = house'.known.asks; unnoted = HouseSaid bytes ∷ []; let_in = house'.known.present; calls = calls ++ calls_of (HouseSaid bytes ∷ []) }
 
   saying : Serving May Rest before unnoted-yet policy pid start seen held failed given [] s
-  saying = serve-told v unnoted-yet (HouseSaid bytes ∷ []) tells refl refl (ap (λ (k : Known). k.asks) same) (ap (λ (k : Known). k.present) same) refl
+  saying = serve-told v unnoted-yet (HouseSaid bytes ∷ []) said.tells refl refl (ap (λ (k : Known). k.asks) said.same) (ap (λ (k : Known). k.present) said.same) refl
 
   -- there was no memory to note it
-  pub cut-said : (now : Option (List Mark)) → now ≡ seen.told → Promised May Rest before told' policy pid start now (given + 1)
-  cut-said now e = cut-here v told' now (given + 1) (HouseSaid bytes ∷ []) e tells refl (omega arith)
+  pub cut-said : (now : Option (List Mark)) → now ≡ seen.told → Promised May Rest before house'.told policy pid start now (given + 1)
+  cut-said now e = cut-here v house'.told now (given + 1) (HouseSaid bytes ∷ []) e said.tells refl (omega arith)
 
-  module _ (e : Event) (is : Tells e (Gets HOUSE bytes)) (some : 0 < length bytes) (few : length bytes ≤ 65536) (are : AreBytes bytes) where
+  module _ {e : Event} (piece : IsPiece e bytes) where
     said-at : EventAt saying live e (seen-with (HouseSaid bytes ∷ []) seen) (given + 1)
-    said-at = house-said saying live e bytes refl (ap (λ (k : Known). k.present) same ∙ within) is some few are (room-of (length (queue_in s 0)) READING_STOPS_AT room)
+    said-at = house-said saying live e bytes refl (ap (λ (k : Known). k.present) said.same ∙ within) piece.is said.some piece.few piece.are (room-of (length (queue_in s 0)) READING_STOPS_AT room)
 
-    pub said-heeds : {A E : Type 0} (r : Result A E) (s' : State) (asks : List HouseMark) (told'' : Option (List HouseMark)) (known'' : Known) (seen0 seen'' : Seen) → seen0 ≡ seen-with (HouseSaid bytes ∷ []) seen
-        → Heeded r May e s s' asks told' told'' known' known'' seen0 seen'' → MatchResult r (λ x. Serving May Rest before (noted told'' known'' ((calls ++ calls_of (HouseSaid bytes ∷ [])) ++ calls_of asks)) policy pid start seen'' held failed (given + 1) (0 ∷ here s') s') (λ x. Promised May Rest before told'' policy pid start seen''.told (given + 1))
-    said-heeds r s' asks told'' known'' seen0 seen'' after h = event-heeds saying live e (seen-with (HouseSaid bytes ∷ []) seen) (given + 1) said-at r s' asks told' told'' known' known'' seen0 seen'' after refl refl refl h
+    pub said-heeds : {A E : Type 0} (r : Result A E) (s' : State) (asks : List HouseMark) (house'' : HouseState) (seen0 seen'' : Seen) → seen0 ≡ seen-with (HouseSaid bytes ∷ []) seen
+        → HeedsEvent r May e s s' asks house' house'' seen0 seen'' → MatchResult r (λ x. Serving May Rest before (noted house''.told house''.known ((calls ++ calls_of (HouseSaid bytes ∷ [])) ++ calls_of asks)) policy pid start seen'' held failed (given + 1) (0 ∷ here s') s') (λ x. Promised May Rest before house''.told policy pid start seen''.told (given + 1))
+    said-heeds r s' asks house'' seen0 seen'' after h = event-heeds saying live e (seen-with (HouseSaid bytes ∷ []) seen) (given + 1) said-at r s' asks house'.told house''.told house'.known house''.known seen0 seen'' after refl refl refl h
 
-    pub said-ends : {A E : Type 0} (r : Result A E) (s' : State) (asks : List HouseMark) (told'' : Option (List HouseMark)) (known'' : Known) (seen0 seen'' : Seen) → Heeded r May e s s' asks told' told'' known' known'' seen0 seen'' → OnOk r (EndsSo e s'.ended)
-    said-ends (Ok x) s' asks told'' known'' seen0 seen'' h = event-ends saying live e (seen-with (HouseSaid bytes ∷ []) seen) (given + 1) said-at s' asks told' told'' known' known'' seen0 seen'' (length asks) h
-    said-ends (Err x) s' asks told'' known'' seen0 seen'' h = tt
+    pub said-ends : {A E : Type 0} (r : Result A E) (s' : State) (asks : List HouseMark) (house'' : HouseState) (seen0 seen'' : Seen) → HeedsEvent r May e s s' asks house' house'' seen0 seen'' → OnOk r (EndsSo e s'.ended)
+    said-ends (Ok x) s' asks house'' seen0 seen'' h = event-ends saying live e (seen-with (HouseSaid bytes ∷ []) seen) (given + 1) said-at s' asks house'.told house''.told house'.known house''.known seen0 seen'' (length asks) h
+    said-ends (Err x) s' asks house'' seen0 seen'' h = tt

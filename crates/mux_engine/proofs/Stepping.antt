@@ -113,8 +113,8 @@ no-more-said old new seen seen' s s' held failed own known there h said = record
 
 -- ---- all of it together
 
-pub together-still : (old new : HouseState) (wire wire' : WireState) (lists lists' : Lists) → Together old wire lists → SameHouse old.known new.known → SamePlaces wire.seen wire'.seen → lists'.own ≡ lists.own → lists'.held ≡ wire'.seen.blocked → Together new wire' lists'
-together-still old new wire wire' lists lists' t known places own held_is = record {
+pub together-still : {old new : HouseState} {wire wire' : WireState} {lists lists' : Lists} → Together old wire lists → SameHouse old.known new.known → SamePlaces wire.seen wire'.seen → lists'.own ≡ lists.own → lists'.held ≡ wire'.seen.blocked → Together new wire' lists'
+together-still {old} {new} {wire} {wire'} {lists} t known places own held_is = record {
   housed = subst (λ (l : List ℕ). Housed new.known wire'.seen l) (sym own) (housed-still old.known new.known wire.seen wire'.seen lists.own known places t.housed);
   alone = record { listeners = λ out. known.listeners ∙ t.alone.listeners (sym known.present ∙ out); streams = λ out. known.streams ∙ t.alone.streams (sym known.present ∙ out) };
   held_is = held_is;

@@ -1,5 +1,5 @@
 -- The streams that are left to be offered what waits for them.
-use Rattle.std.proofs.Common.{◌≡◌, ◌≢◌, ℕ, Bool, true, false, ◌||◌, List, [], ◌∷◌, ◌++◌, Option, None, sym, ap, ◌∙◌, inl, inr, ◌⊎◌}
+use Rattle.std.proofs.Common.{◌≡◌, ◌≢◌, ℕ, true, ◌||◌, List, [], ◌∷◌, ◌++◌, Option, sym, ap, ◌∙◌, inl, inr}
 use Rattle.std.proofs.lemmas.Bool.Decides.{eqb_tells}
 use Rattle.mux_outside.specs.Seen.{Seen}
 use Rattle.mux_outside.specs.Streams.{among, without}
@@ -11,59 +11,21 @@ use Rattle.mux_history.specs.Policy.{Policy}
 use Rattle.mux_history.specs.Pending.{pending}
 use Rattle.mux_history.specs.Settings.{by_lists}
 use Rattle.mux_history.specs.Journal.{is_blocked, log_of_journal}
-use Rattle.mux_history.specs.Promises.{IsSettled}
 use Rattle.mux_machine.specs.State.{State}
-use Rattle.mux_engine.specs.Serving.{IsSound, IsUnused, Serving, is_open}
+use Rattle.mux_engine.specs.Serving.{Serving, is_open}
 use Rattle.mux_engine.specs.Sides.{Resting, Side}
 use Rattle.mux_engine.proofs.Lists.{apart-or-left, none-without, without-other}
 use Rattle.mux_engine.proofs.Marks.{log-is}
 use Rattle.mux_engine.proofs.Offers.{Waiting}
 use Rattle.mux_engine.proofs.Places.{stream-open}
+use Rattle.mux_engine.proofs.Staying.{Covers, serve-as, still-noted}
 
--- clients may be accepted no more where the engine wants none; and other streams are to be offered
--- what waits for them, where those that are not were so before or are settled
-pub serve-with : {May : HouseReply → Type 0} {Rest : Resting} {before : Option (List HouseMark)} {now : Side} {policy : Policy} {pid : ℕ} {start : Option (List Mark)} {seen : Seen} {held failed : List ℕ} {given : ℕ} {todo : List ℕ} {s : State} (v : Serving May Rest before now policy pid start seen held failed given todo s) (listens : Bool) (todo' : List ℕ)
-    → (s.ended ≡ None → s.listening ≡ true → listens ≡ true)
-    → ((t : ℕ) → among t todo' ≡ false → (among t todo ≡ false) ⊎ ((picks : List ℕ) (later : List HouseReply) → IsSettled (by_lists policy pid (v.picked ++ picks) (v.replies ++ later)) v.journal t))
-    → Serving May Rest before now policy pid start (record seen { listens = listens }) held failed given todo' s
-serve-with {May} {Rest} {before} {now} {policy} {pid} {start} {seen} {held} {failed} {given} {todo} {s} v listens todo' hears h = record {
-  journal = v.journal;
-  closed = v.closed;
-  picked = v.picked;
-  replies = v.replies;
-  policy_is = v.policy_is;
-  pid_is = v.pid_is;
-  may = v.may;
-  stands = v.stands;
-  house = v.house;
-  asked = v.asked;
-  called = v.called;
-  askers = v.askers;
-  house_in = v.house_in;
-  house_there = v.house_there;
-  rested = v.rested;
-  absent = v.absent;
-  tells = v.tells;
-  of_wire = v.of_wire;
-  places = record { own = v.places.own; listeners = v.places.listeners; streams = v.places.streams };
-  own_streams = v.own_streams;
-  turns = v.turns;
-  open_are = v.open_are;
-  apart = v.apart;
-  held_is = v.held_is;
-  blocked_is = v.blocked_is;
-  unseen = v.unseen;
-  unused = λ k free. let u : IsUnused v.journal seen k = v.unused k free in record { not_open = u.not_open; never_blocked = u.never_blocked; not_blocked = u.not_blocked; never_failed = u.never_failed };
-  failed_are = v.failed_are;
-  hears = hears;
-  sound = λ picks later. let old : IsSound (by_lists policy pid (v.picked ++ picks) (v.replies ++ later)) v.journal todo s = v.sound picks later in
-      record { kept = old.kept; failed_out = old.failed_out; settled = λ t client a. elim (h t a) [ inl b ↦ old.settled t client b | inr d ↦ d picks later ] };
-}
-
+-- other streams are to be offered what waits for them, where those that are not were so before or are
+-- settled
 pub serve-todo : {May : HouseReply → Type 0} {Rest : Resting} {before : Option (List HouseMark)} {now : Side} {policy : Policy} {pid : ℕ} {start : Option (List Mark)} {seen : Seen} {held failed : List ℕ} {given : ℕ} {todo : List ℕ} {s : State} (v : Serving May Rest before now policy pid start seen held failed given todo s) (todo' : List ℕ)
-    → ((t : ℕ) → among t todo' ≡ false → (among t todo ≡ false) ⊎ ((picks : List ℕ) (later : List HouseReply) → IsSettled (by_lists policy pid (v.picked ++ picks) (v.replies ++ later)) v.journal t))
+    → Covers v todo'
     → Serving May Rest before now policy pid start seen held failed given todo' s
-serve-todo {seen = seen} v todo' h = serve-with v seen.listens todo' v.hears h
+serve-todo {now = now} {seen = seen} v todo' h = serve-as v now seen.listens todo' (still-noted v) v.hears h
 
 -- nothing waits for it
 pub nothing-left : {May : HouseReply → Type 0} {Rest : Resting} {before : Option (List HouseMark)} {now : Side} {policy : Policy} {pid : ℕ} {start : Option (List Mark)} {seen : Seen} {held failed : List ℕ} {given : ℕ} {todo : List ℕ} {s : State} (v : Serving May Rest before now policy pid start seen held failed given todo s) (k : ℕ) (bytes : List ℕ)

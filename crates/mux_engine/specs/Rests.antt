@@ -131,3 +131,9 @@ pub record HasCalled (present : Bool) (turns : ℕ) (answer : Ended) (old new : 
 pub record KnowsPlaces (house : HouseState) (seen : Seen) : Type 0 where
   pub listeners : seen.listeners ≡ house.known.listeners
   pub own : seen.own ≡ house.known.streams
+
+-- the same behind a run that found all the memory that it wanted; without a house none was opened
+pub record LeavesPlaces (found : Type 0) (house house' : HouseState) (seen seen' : Seen) : Type 0
+  where
+    pub known : found → KnowsPlaces house' seen'
+    pub unopened : house.known.present ≡ false → seen'.last_own ≡ seen.last_own

@@ -6,7 +6,7 @@ use Rattle.mux_outside.specs.House.{HouseState, OpenAsk}
 use Rattle.mux_outside.specs.HouseCalls.{HandsOn, HouseCall, calls_of}
 use Rattle.mux_outside.specs.OwnStreams.{is_own}
 use Rattle.mux_outside.specs.Seen.{Seen}
-use Rattle.mux_outside.specs.Streams.{among}
+use Rattle.mux_outside.specs.Streams.{among, without}
 use Rattle.mux_outside.specs.WireState.{WireState}
 use Rattle.mux_outside.specs.declared.house.HouseReply.{HouseReply}
 use Rattle.mux_outside.specs.declared.house_mark.HouseMark.{HouseMark}
@@ -33,12 +33,17 @@ use Rattle.mux_engine.specs.Called.{Handed, calls_in}
 use Rattle.mux_engine.specs.Places.{HasPlaces, KeepsOwn}
 use Rattle.mux_engine.specs.Rests.{refusal_after}
 use Rattle.mux_engine.specs.Run.{AsksOn, IsOfWire, IsRun, Rested, is_by_house}
-use Rattle.mux_engine.specs.Sides.{Resting, RestsOf, Side, asks_in, house_marks, noted, outside}
+use Rattle.mux_engine.specs.Sides.{Resting, RestsOf, Side, Together, asks_in, house_marks, noted, outside}
 use Rattle.mux_engine.specs.declared.room.Lists.{Lists}
 
 -- a stream that is open: the server's, and that of a client that is here
 abbrev pub is_open : State → ℕ → Bool
 is_open s t = (t == 0) || is_here s t
+
+-- a stream that is open and is none of the house
+pub record CanBeOffered (stream : ℕ) (s : State) : Type 0 where
+  pub opened : is_open s stream ≡ true
+  pub no_house : stream ≢ HOUSE
 
 -- what was promised of each mark
 pub record Kept (setting : Setting) (journal : List Mark) : Type 0 where
@@ -180,6 +185,14 @@ abbrev pub ServedWith : {T : Type 0} → (HouseReply → Type 0) → (T → Hous
 ServedWith May state house now todo =
     ServedAs (λ house calls. noted house.told house.known calls) May state house now todo
 
+-- a run goes on with this house: it was served so far, and the server's stream and those of the
+-- clients that are here are to be offered what waits for them
+pub record IsOngoing {T : Type 0} (May : HouseReply → Type 0) (state : T → HouseState) (house : T)
+    (wire : WireState) (lists : Lists) (s : State) : Type 0 where
+  pub served : ServedWith May state house (scene wire lists s) (0 ∷ here s)
+  pub together : Together (state house) wire lists
+  pub on : s.ended ≡ None
+
 -- it was not let in yet
 abbrev pub ServedOutside : {T : Type 0} → (HouseReply → Type 0) → (T → HouseState) → T → Scene
     → List ℕ → Type 0
@@ -243,6 +256,15 @@ ServesOn {T = T} result May state seen seen' held held' todo rest s s' =
     given (rest x) s')
     (λ e. Promised May (RestsOf state present first) before now.told policy pid start seen'.told
     given)
+
+-- the server's stream and those of the clients were to be offered what waits for them, and more
+-- streams perhaps
+abbrev pub OffersOn : {A E T : Type 0} → Result A E → (HouseReply → Type 0) → (T → HouseState) → Seen
+    → Seen → List ℕ → List ℕ → State → State → (List ℕ → List ℕ) → Type 0
+OffersOn result May state seen seen' held held' s s' rest =
+    (left : List ℕ)
+    → ServesOn result May state seen seen' held held' (0 ∷ (without HOUSE (here s) ++ left))
+    (λ x. rest left) s s'
 
 -- whatever came before, whatever is noted, and whichever streams are still to be offered what waits
 -- for them: a run that was served is served on

@@ -9,7 +9,7 @@ ghost use Rattle.mux_machine.specs.Events.{here};
 ghost use Rattle.mux_machine.specs.Stands.{Stands};
 ghost use Rattle.mux_engine.specs.OwnFaults.{OwnCounted};
 ghost use Rattle.mux_engine.specs.Rests.{EndsByAsk, EndsSo, HasAnswered, HasNoMoreFor, IsReadyFor, WaitsAlone};
-ghost use Rattle.mux_engine.specs.Serving.{LetsIn, RunsOn, ServedWith, scene, scene_of};
+ghost use Rattle.mux_engine.specs.Serving.{IsOngoing, LetsIn, RunsOn, ServedWith, scene, scene_of};
 ghost use Rattle.mux_engine.specs.Sides.{AnsweredOr, OnlyAsked, SaidNothing, SameKnown, SamePlaces, SameStreams, StaysHouse, Together};
 ghost use Rattle.mux_engine.specs.Turns.{want_of};
 ghost use Rattle.mux_engine.specs.Wires.{IsIdle, Untouched, Works, WorksOwn};
@@ -121,11 +121,8 @@ pub fn reply_all<W: Wire, H: House>(
     house: &mut H,
     lists: &mut Lists,
 ) -> Result<(), OutOfMemory>
-    requires served { ServedWith H.may H.state house.old
-        (scene (W.state wire.old) lists.old engine.old) (0 ∷ here engine.old) }
-    requires together { Together (H.state house.old) (W.state wire.old) lists.old }
+    requires ongoing { IsOngoing H.may H.state house.old (W.state wire.old) lists.old engine.old }
     requires present { (H.state house.old).known.present ≡ true }
-    requires on { engine.old.ended ≡ None }
     ensures serving { RunsOn result H.may H.state house.old house.new
         (scene (W.state wire.old) lists.old engine.old)
         (scene (W.state wire.new) lists.new engine.new) 0 (λ done. 0) (0 ∷ here engine.old)
@@ -218,10 +215,7 @@ fn ask_house<W: Wire, H: House>(
     house: &mut H,
     lists: &mut Lists,
 ) -> Result<bool, OutOfMemory>
-    requires served { ServedWith H.may H.state house.old
-        (scene (W.state wire.old) lists.old engine.old) (0 ∷ here engine.old) }
-    requires together { Together (H.state house.old) (W.state wire.old) lists.old }
-    requires on { engine.old.ended ≡ None }
+    requires ongoing { IsOngoing H.may H.state house.old (W.state wire.old) lists.old engine.old }
     ensures serving { RunsOn result H.may H.state house.old house.new
         (scene (W.state wire.old) lists.old engine.old)
         (scene (W.state wire.new) lists.new engine.new) 1 (λ more. if more then 1 else 0)
@@ -255,10 +249,7 @@ pub fn step_house<W: Wire, H: House>(
     lists: &mut Lists,
     piece: &mut Piece,
 ) -> Result<bool, OutOfMemory>
-    requires served { ServedWith H.may H.state house.old
-        (scene (W.state wire.old) lists.old engine.old) (0 ∷ here engine.old) }
-    requires together { Together (H.state house.old) (W.state wire.old) lists.old }
-    requires on { engine.old.ended ≡ None }
+    requires ongoing { IsOngoing H.may H.state house.old (W.state wire.old) lists.old engine.old }
     ensures serving { RunsOn result H.may H.state house.old house.new
         (scene (W.state wire.old) lists.old engine.old)
         (scene (W.state wire.new) lists.new engine.new) 1 (λ more. if more then 1 else 0)

@@ -1,4 +1,4 @@
-ghost use Rattle.std.specs.Prelude.{[], ◌∷◌, ◌≡◌, ◌≢◌, true, false, OnOk, IfOk, MatchResult, None};
+ghost use Rattle.std.specs.Prelude.{[], ◌∷◌, ◌≡◌, ◌≢◌, true, false, IsOk, OnOk, IfOk, MatchResult, None};
 ghost use Rattle.std.specs.Result.{result_unwrap_or};
 ghost use Rattle.mux_outside.specs.House.{OwnTurnFits, known_after_own_turn, nothing_known};
 ghost use Rattle.mux_outside.specs.HouseCalls.{HandsOn, Turns, happening_of};
@@ -9,9 +9,9 @@ ghost use Rattle.mux_engine.specs.Called.{HasSaidNothing, StandsGreeting};
 ghost use Rattle.mux_engine.specs.Came.{EndedBy};
 ghost use Rattle.mux_engine.specs.Counted.{Cut, Spent, Turned, Well};
 ghost use Rattle.mux_engine.specs.Rests.{EndsSo, GoesOnSo, HasCalled, HasEnded, HasNoneToClose};
-ghost use Rattle.mux_engine.specs.Rests.{IsReadyFor, KnowsPlaces, ended_as, refusal_after, refusal_of};
+ghost use Rattle.mux_engine.specs.Rests.{IsReadyFor, LeavesPlaces, ended_as, refusal_after, refusal_of};
 ghost use Rattle.mux_engine.specs.Run.{RunKept};
-ghost use Rattle.mux_engine.specs.Serving.{Enters, RunsOn, RunsWhole, ServedOutside, ServedWith};
+ghost use Rattle.mux_engine.specs.Serving.{Enters, IsOngoing, RunsOn, RunsWhole, ServedOutside, ServedWith};
 ghost use Rattle.mux_engine.specs.Serving.{SpendsTurns, StaysOrFails, TurnsOn, scene, scene_of, to_offer};
 ghost use Rattle.mux_engine.specs.Sides.{HeardBy, Housed, IsAlone, OnlyAsked, SamePlaces, StaysHouse, Together};
 ghost use Rattle.mux_engine.specs.Wires.{IsIdle, IsOpened, KeepsWire, NoFault, Works, WorksOwn};
@@ -136,10 +136,7 @@ fn one_turn<W: Wire, H: House>(
     lists: &mut Lists,
     piece: &mut Piece,
 ) -> Result<bool, OutOfMemory>
-    requires served { ServedWith H.may H.state house.old
-        (scene (W.state wire.old) lists.old engine.old) (0 ∷ here engine.old) }
-    requires together { Together (H.state house.old) (W.state wire.old) lists.old }
-    requires on { engine.old.ended ≡ None }
+    requires ongoing { IsOngoing H.may H.state house.old (W.state wire.old) lists.old engine.old }
     ensures serving { TurnsOn result H.may H.state house.old house.new
         (scene (W.state wire.old) lists.old engine.old)
         (scene (W.state wire.new) lists.new engine.new) lists.new.settled }
@@ -182,10 +179,7 @@ fn turns_of<W: Wire, H: House>(
     lists: &mut Lists,
     turns: u64,
 ) -> Result<bool, OutOfMemory>
-    requires served { ServedWith H.may H.state house.old
-        (scene (W.state wire.old) lists.old engine.old) (0 ∷ here engine.old) }
-    requires together { Together (H.state house.old) (W.state wire.old) lists.old }
-    requires on { engine.old.ended ≡ None }
+    requires ongoing { IsOngoing H.may H.state house.old (W.state wire.old) lists.old engine.old }
     requires unsettled { lists.old.settled ≡ false }
     requires quiet { (H.state house.old).known.present ≡ false → engine.old.waiting ≡ [] }
     ensures serving { SpendsTurns result turns H.may H.state house.old house.new
@@ -355,9 +349,8 @@ fn run<W: Wire, H: House>(
         (H.state house.new).stands) }
     ensures calls { HasCalled (H.state house.old).known.present turns
         (result_unwrap_or result WantOfMemory) (W.state wire.old) (W.state wire.new) }
-    ensures unopened { (H.state house.old).known.present ≡ false
-        → (W.state wire.new).seen.last_own ≡ (W.state wire.old).seen.last_own }
-    ensures places { OnOk result (KnowsPlaces (H.state house.new) (W.state wire.new).seen) }
+    ensures places { LeavesPlaces (IsOk result) (H.state house.old) (H.state house.new)
+        (W.state wire.old).seen (W.state wire.new).seen }
     ensures idle { turns ≡ 0 → (H.state house.old).known.present ≡ false
         → NoFault (W.faults wire.old) (W.faults wire.new) }
     ensures wire { KeepsWire (W.state wire.old) (W.state wire.new) (W.faults wire.old)
@@ -390,7 +383,7 @@ fn run<W: Wire, H: House>(
 /// what came: the run ends as the server disconnects or breaks the protocol only where a piece of it
 /// came, or its end inside a frame, as it ends only where its end came, and as a client says only
 /// where a piece of a client came: a house that has said nothing before greets first, and behind its
-/// greeting it ends no run.
+/// greeting it ends no run; one that has said something before may end it, by what it says.
 pub fn serve<W: Wire, H: House>(
     alloc: Global,
     policy: Policy,
@@ -411,10 +404,8 @@ pub fn serve<W: Wire, H: House>(
         (W.state wire.new).calls }
     ensures calls { HasCalled (H.state house.old).known.present turns result (W.state wire.old)
         (W.state wire.new) }
-    ensures unopened { (H.state house.old).known.present ≡ false
-        → (W.state wire.new).seen.last_own ≡ (W.state wire.old).seen.last_own }
-    ensures places { result ≢ WantOfMemory
-        → KnowsPlaces (H.state house.new) (W.state wire.new).seen }
+    ensures places { LeavesPlaces (result ≢ WantOfMemory) (H.state house.old) (H.state house.new)
+        (W.state wire.old).seen (W.state wire.new).seen }
     ensures idle { turns ≡ 0 → (H.state house.old).known.present ≡ false
         → NoFault (W.faults wire.old) (W.faults wire.new) }
     ensures wire { KeepsWire (W.state wire.old) (W.state wire.new) (W.faults wire.old)

@@ -1,11 +1,9 @@
-ghost use Rattle.std.specs.Prelude.{[], ◌∷◌, ◌++◌, ◌≡◌, ◌≢◌, List, ℕ, true, false, None, OnOk, IfOk, IsTrue, if◌then◌else◌};
-ghost use Rattle.mux_outside.specs.OwnStreams.{is_one, is_own};
+ghost use Rattle.std.specs.Prelude.{[], ◌∷◌, ◌≡◌, List, ℕ, true, false, None, OnOk, IfOk, if◌then◌else◌};
 ghost use Rattle.mux_outside.specs.Streams.{among, without};
-ghost use Rattle.mux_history.specs.declared.limits.TheConstants.{HOUSE as TheHouse};
 ghost use Rattle.mux_machine.specs.Events.{here};
 ghost use Rattle.mux_machine.specs.State.{queue_in};
 ghost use Rattle.mux_engine.specs.Rests.{HasNoneToClose, StaysReady};
-ghost use Rattle.mux_engine.specs.Serving.{CanTakeMore, IsOfferedTo, IsServed, ServesOn, StaysOrFails, StaysServed, is_open};
+ghost use Rattle.mux_engine.specs.Serving.{CanBeOffered, CanTakeMore, IsOfferedTo, IsServed, OffersOn, ServesOn, StaysOrFails, StaysServed};
 ghost use Rattle.mux_engine.specs.Sides.{SamePlaces};
 ghost use Rattle.mux_engine.specs.Wires.{IsIdle, NoFault, Works};
 
@@ -27,11 +25,8 @@ fn offer_once<W: Wire, H: House>(
     stream: u64,
 ) -> Result<bool, OutOfMemory>
     requires served { IsServed H.may H.state (W.state wire.old).seen held.old engine.old }
-    requires stream_open { is_open engine.old stream ≡ true }
-    requires no_house { stream ≢ TheHouse }
+    requires stream { CanBeOffered stream engine.old }
     requires free { among stream (W.state wire.old).seen.blocked ≡ false }
-    requires numbered { (t : ℕ) → IsTrue (is_one t (W.state wire.old).seen.own)
-        → IsTrue (is_own t) }
     ensures serving { (todo : List ℕ) → among 0 (stream ∷ todo) ≡ true →
         ServesOn result H.may H.state (W.state wire.old).seen (W.state wire.new).seen held.old
         held.new todo (λ more. if more then stream ∷ todo else without stream todo) engine.old
@@ -77,10 +72,7 @@ fn offer<W: Wire, H: House>(
     stream: u64,
 ) -> Result<(), OutOfMemory>
     requires served { IsServed H.may H.state (W.state wire.old).seen held.old engine.old }
-    requires stream_open { is_open engine.old stream ≡ true }
-    requires no_house { stream ≢ TheHouse }
-    requires numbered { (t : ℕ) → IsTrue (is_one t (W.state wire.old).seen.own)
-        → IsTrue (is_own t) }
+    requires stream { CanBeOffered stream engine.old }
     ensures serving { (todo : List ℕ) → among 0 (stream ∷ todo) ≡ true →
         ServesOn result H.may H.state (W.state wire.old).seen (W.state wire.new).seen held.old
         held.new (stream ∷ todo) (λ done. todo) engine.old engine.new }
@@ -109,12 +101,8 @@ fn offer_clients<W: Wire, H: House>(
     asks: &mut AskLog,
 ) -> Result<(), OutOfMemory>
     requires served { IsServed H.may H.state (W.state wire.old).seen held.old engine.old }
-    requires numbered { (t : ℕ) → IsTrue (is_one t (W.state wire.old).seen.own)
-        → IsTrue (is_own t) }
-    ensures serving { (left : List ℕ) → ServesOn result H.may H.state (W.state wire.old).seen
-        (W.state wire.new).seen held.old held.new
-        (0 ∷ (without TheHouse (here engine.old) ++ left)) (λ done. 0 ∷ left) engine.old
-        engine.new }
+    ensures serving { OffersOn result H.may H.state (W.state wire.old).seen (W.state wire.new).seen
+        held.old held.new engine.old engine.new (λ left. 0 ∷ left) }
     ensures streams { OnOk result (here engine.new ≡ here engine.old) }
     ensures ended { OnOk result (engine.new.ended ≡ engine.old.ended) }
     ensures holds { OnOk result ((t : ℕ) → among t held.old ≡ true → among t held.new ≡ true) }
@@ -161,11 +149,8 @@ pub fn flush<W: Wire, H: House>(
     asks: &mut AskLog,
 ) -> Result<(), OutOfMemory>
     requires served { IsServed H.may H.state (W.state wire.old).seen held.old engine.old }
-    requires numbered { (t : ℕ) → IsTrue (is_one t (W.state wire.old).seen.own)
-        → IsTrue (is_own t) }
-    ensures serving { (left : List ℕ) → ServesOn result H.may H.state (W.state wire.old).seen
-        (W.state wire.new).seen held.old held.new
-        (0 ∷ (without TheHouse (here engine.old) ++ left)) (λ done. left) engine.old engine.new }
+    ensures serving { OffersOn result H.may H.state (W.state wire.old).seen (W.state wire.new).seen
+        held.old held.new engine.old engine.new (λ left. left) }
     ensures streams { OnOk result (here engine.new ≡ here engine.old) }
     ensures ended { OnOk result (StaysOrFails engine.old.ended engine.new.ended
         (W.faults wire.old) (W.faults wire.new)) }

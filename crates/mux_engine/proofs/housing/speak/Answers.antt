@@ -1,16 +1,9 @@
-use Rattle.std.proofs.Common.{◌≡◌, ◌≤◌, ◌+◌, ◌∙◌, ◌∷◌, [], refl, ap, subst, ℕ, Bool, true, false, List, Option, length, arith}
+use Rattle.std.proofs.Common.{◌≡◌, ◌+◌, ◌∙◌, ◌∷◌, [], refl, ap, subst, ℕ, Bool, true, false, List, arith}
 use Rattle.std.specs.Prelude.{Ok}
-use Rattle.ssh_fields.specs.Fields.{AreBytes}
 use Rattle.mux_outside.specs.House.{Known}
 use Rattle.mux_outside.specs.HouseCalls.{calls_of}
 use Rattle.mux_outside.specs.WireState.{WireState}
-use Rattle.mux_outside.specs.declared.house_mark.HouseMark.{HouseMark}
 use Rattle.mux_outside.specs.declared.house_mark.HouseMark.TheVariants.{HouseSaid}
-use Rattle.mux_outside.specs.declared.mark.Mark.TheVariants.{Gets}
-use Rattle.mux_history.specs.declared.limits.TheConstants.{HOUSE}
-use Rattle.mux_clients.specs.Asked.{TellsAsks}
-use Rattle.mux_machine.specs.Events.{Tells}
-use Rattle.mux_machine.specs.declared.event.Event.{Event}
 use Rattle.mux_outside.proofs.HouseCalls.{hands-then}
 use Rattle.mux_engine.proofs.OwnAsks.{heeded-counted, house-comes}
 use Rattle.mux_engine.proofs.OwnFaults.{own-same, own-then}
@@ -22,78 +15,48 @@ use Rattle.mux_engine.proofs.Handed.{turn-house}
 use Rattle.mux_engine.proofs.Heeding.{heeded-streams}
 use Rattle.mux_engine.proofs.HouseCalls.{still-handed, streams-note, streams-then}
 use Rattle.mux_engine.proofs.Noted.{seen-with}
-use Rattle.mux_engine.proofs.Spoken.{asks-ends, cut-said, err-serves, hands-nothing, hands-said, ok-serves, said-ends, said-heeds, some-said, told-nothing, told-said}
+use Rattle.mux_engine.proofs.Spoken.{IsPiece, Said, asks-ends, cut-said, err-serves, hands-nothing, ok-serves, said-ends, said-heeds, said-so, told-nothing}
 use Rattle.mux_engine.proofs.Wired.{idle-note, untouched-none, untouched-note, untouched-then}
+use Rattle.mux_engine.proofs.housing.speak.Given.{Over}
+use Rattle.mux_engine.proofs.housing.speak.Goals.{After-event_of_bytes-said, In_ok-note, In_ok-says}
 use Rattle.mux_engine.proofs.housing.speak.Goals as goal
 
 pub returns-in_err-says-clause-serving : goal.returns-in_err-says-clause-serving
 returns-in_err-says-clause-serving g c held failed first calls before policy pid start given hands v = on-err c.from_residual.result _ _ c.from_residual.ensures.0
     (cut-here v (g.H.Asks.state c.says.new.self).told _ (given + 1) [] refl c.in_err-says.ensures.gave.told refl (omega arith))
 
+-- ---- it said something
+
+said : (g : Over) (c : In_ok-says g) → c.in_ok-says.field-0 ≡ true → Said (g.H.Asks.state c.args.house.now) (g.H.Asks.state c.says.new.self) c.says.new.into
+said g c more = let o = c.says.ensures in said-so c.says.result (g.H.Asks.state c.args.house.now) (g.H.Asks.state c.says.new.self) c.says.new.into (c.in_ok-says.was ∙ ap (λ (b : Bool). Ok b) more) o.gave.told c.in_ok-says.ensures.gave.known o.gave.stands o.fits
+
+-- it was noted, and is an event
+noted-so : (g : Over) (c : In_ok-note g) → (g.W.Wire.state c.note.new.self).seen ≡ seen-with (HouseSaid c.says.new.into ∷ []) (g.W.Wire.state c.args.wire.now).seen
+noted-so g c = ap (λ (x : WireState). x.seen) c.in_ok-note.ensures.state ∙ ap (λ (l : List ℕ). seen-with (HouseSaid l ∷ []) (g.W.Wire.state c.args.wire.now).seen) (c.in_ok-bytes.ensures ∙ c.as_bytes.ensures.bytes)
+
+piece : (g : Over) (c : After-event_of_bytes-said g) → IsPiece c.event_of_bytes-said.result c.says.new.into
+piece g c = let o = c.event_of_bytes-said.ensures in subst (λ (l : List ℕ). IsPiece c.event_of_bytes-said.result l) c.as_bytes-2.ensures.bytes record { is = o.tells; few = c.as_bytes-2.ensures.room; are = o.bytes }
+
 pub returns-in_err-bytes-clause-serving : goal.returns-in_err-bytes-clause-serving
-returns-in_err-bytes-clause-serving g c held failed first calls before policy pid start given hands v =
-    let H = g.H.Asks in
-    let W = g.W.Wire in
-    let told : Option (List HouseMark) = (H.state c.args.house.now).told in
-    let known : Known = (H.state c.args.house.now).known in
-    let bytes : List ℕ = c.says.new.into in
-    let is : c.says.result ≡ Ok true = c.in_ok-says.was ∙ ap (λ (b : Bool). Ok b) c.if-not-branch.false in
-    let tells : TellsAsks told (H.state c.says.new.self).told (HouseSaid bytes ∷ []) = told-said c.says.result bytes told (H.state c.says.new.self).told is c.says.ensures.gave.told in
-    let same : (H.state c.says.new.self).known ≡ known = c.in_ok-says.ensures.gave.known in
-    on-err c.from_residual-in_err-bytes.result _ _ c.from_residual-in_err-bytes.ensures.0
-    (cut-said told known v c.requires.on c.requires.present c.requires.room (H.state c.says.new.self).told (H.state c.says.new.self).known bytes tells same _ refl)
+returns-in_err-bytes-clause-serving g c held failed first calls before policy pid start given hands v = on-err c.from_residual-in_err-bytes.result _ _ c.from_residual-in_err-bytes.ensures.0
+    (cut-said (said g (goal.at.returns-in_err-bytes-clause-serving g c).In_ok-says c.if-not-branch.false) v c.requires.on c.requires.present c.requires.room _ refl)
 
 pub returns-in_err-note-clause-serving : goal.returns-in_err-note-clause-serving
-returns-in_err-note-clause-serving g c held failed first calls before policy pid start given hands v =
-    let H = g.H.Asks in
-    let W = g.W.Wire in
-    let told : Option (List HouseMark) = (H.state c.args.house.now).told in
-    let known : Known = (H.state c.args.house.now).known in
-    let bytes : List ℕ = c.says.new.into in
-    let is : c.says.result ≡ Ok true = c.in_ok-says.was ∙ ap (λ (b : Bool). Ok b) c.if-not-branch.false in
-    let tells : TellsAsks told (H.state c.says.new.self).told (HouseSaid bytes ∷ []) = told-said c.says.result bytes told (H.state c.says.new.self).told is c.says.ensures.gave.told in
-    let same : (H.state c.says.new.self).known ≡ known = c.in_ok-says.ensures.gave.known in
-    on-err c.from_residual-in_err-note.result _ _ c.from_residual-in_err-note.ensures.0
-    (cut-said told known v c.requires.on c.requires.present c.requires.room (H.state c.says.new.self).told (H.state c.says.new.self).known bytes tells same _ (ap (λ (x : WireState). x.seen.told) c.in_err-note.ensures.state))
+returns-in_err-note-clause-serving g c held failed first calls before policy pid start given hands v = on-err c.from_residual-in_err-note.result _ _ c.from_residual-in_err-note.ensures.0
+    (cut-said (said g (goal.at.returns-in_err-note-clause-serving g c).In_ok-says c.if-not-branch.false) v c.requires.on c.requires.present c.requires.room _ (ap (λ (x : WireState). x.seen.told) c.in_err-note.ensures.state))
 
 pub returns-in_err-heed-clause-serving : goal.returns-in_err-heed-clause-serving
 returns-in_err-heed-clause-serving g c held failed first calls before policy pid start given hands v =
-    let H = g.H.Asks in
-    let W = g.W.Wire in
-    let told : Option (List HouseMark) = (H.state c.args.house.now).told in
-    let known : Known = (H.state c.args.house.now).known in
-    let bytes : List ℕ = c.says.new.into in
-    let is : c.says.result ≡ Ok true = c.in_ok-says.was ∙ ap (λ (b : Bool). Ok b) c.if-not-branch.false in
-    let tells : TellsAsks told (H.state c.says.new.self).told (HouseSaid bytes ∷ []) = told-said c.says.result bytes told (H.state c.says.new.self).told is c.says.ensures.gave.told in
-    let same : (H.state c.says.new.self).known ≡ known = c.in_ok-says.ensures.gave.known in
-    let e : c.as_bytes-2.result.now ≡ bytes = c.as_bytes-2.ensures.bytes in
-    let event : Event = c.event_of_bytes-said.result in
-    let there : Tells event (Gets HOUSE bytes) = subst (λ (l : List ℕ). Tells event (Gets HOUSE l)) e c.event_of_bytes-said.ensures.tells in
-    let few : length bytes ≤ 65536 = subst (λ (l : List ℕ). length l ≤ 65536) e c.as_bytes-2.ensures.room in
-    let are : AreBytes c.as_bytes-2.result.now = c.event_of_bytes-said.ensures.bytes in
-    let after : (W.state c.note.new.self).seen ≡ seen-with (HouseSaid bytes ∷ []) (W.state c.args.wire.now).seen = ap (λ (x : WireState). x.seen) c.in_ok-note.ensures.state ∙ ap (λ (l : List ℕ). seen-with (HouseSaid l ∷ []) (W.state c.args.wire.now).seen) (c.in_ok-bytes.ensures ∙ c.as_bytes.ensures.bytes) in
+    let p = goal.at.returns-in_err-heed-clause-serving g c in
     on-err c.from_residual-in_err-heed.result _ _ c.from_residual-in_err-heed.ensures.0
-    (err-serves c.heed.result _ _ c.in_err-heed.was (said-heeds told known v c.requires.on c.requires.present c.requires.room (H.state c.says.new.self).told (H.state c.says.new.self).known bytes tells same event there (some-said c.says.result bytes is c.says.ensures.fits) few (subst AreBytes e are) c.heed.result c.heed.new.engine c.heed.new.asks (H.state c.heed.new.house).told (H.state c.heed.new.house).known (W.state c.note.new.self).seen (W.state c.heed.new.wire).seen after c.heed.ensures.heeded))
+    (err-serves c.heed.result _ _ c.in_err-heed.was (said-heeds (said g p.In_ok-says c.if-not-branch.false) v c.requires.on c.requires.present c.requires.room (piece g p.After-event_of_bytes-said) c.heed.result c.heed.new.engine c.heed.new.asks (g.H.Asks.state c.heed.new.house) _ (g.W.Wire.state c.heed.new.wire).seen (noted-so g p.In_ok-note) c.heed.ensures.heeded))
 
 pub returns-clause-serving : goal.returns-clause-serving
 returns-clause-serving g c held failed first calls before policy pid start given hands v =
-    let H = g.H.Asks in
-    let W = g.W.Wire in
-    let told : Option (List HouseMark) = (H.state c.args.house.now).told in
-    let known : Known = (H.state c.args.house.now).known in
-    let bytes : List ℕ = c.says.new.into in
-    let is : c.says.result ≡ Ok true = c.in_ok-says.was ∙ ap (λ (b : Bool). Ok b) c.if-not-branch.false in
-    let tells : TellsAsks told (H.state c.says.new.self).told (HouseSaid bytes ∷ []) = told-said c.says.result bytes told (H.state c.says.new.self).told is c.says.ensures.gave.told in
-    let same : (H.state c.says.new.self).known ≡ known = c.in_ok-says.ensures.gave.known in
-    let e : c.as_bytes-2.result.now ≡ bytes = c.as_bytes-2.ensures.bytes in
-    let event : Event = c.event_of_bytes-said.result in
-    let there : Tells event (Gets HOUSE bytes) = subst (λ (l : List ℕ). Tells event (Gets HOUSE l)) e c.event_of_bytes-said.ensures.tells in
-    let few : length bytes ≤ 65536 = subst (λ (l : List ℕ). length l ≤ 65536) e c.as_bytes-2.ensures.room in
-    let are : AreBytes c.as_bytes-2.result.now = c.event_of_bytes-said.ensures.bytes in
-    let after : (W.state c.note.new.self).seen ≡ seen-with (HouseSaid bytes ∷ []) (W.state c.args.wire.now).seen = ap (λ (x : WireState). x.seen) c.in_ok-note.ensures.state ∙ ap (λ (l : List ℕ). seen-with (HouseSaid l ∷ []) (W.state c.args.wire.now).seen) (c.in_ok-bytes.ensures ∙ c.as_bytes.ensures.bytes) in
-    let said = hands-said (H.state c.args.house.now).stands (H.state c.says.new.self).stands c.says.result bytes is c.says.ensures.gave.stands in
-    let served = ok-serves c.heed.result _ _ c.in_ok-heed.was (said-heeds told known v c.requires.on c.requires.present c.requires.room (H.state c.says.new.self).told (H.state c.says.new.self).known bytes tells same event there (some-said c.says.result bytes is c.says.ensures.fits) few (subst AreBytes e are) c.heed.result c.heed.new.engine c.heed.new.asks (H.state c.heed.new.house).told (H.state c.heed.new.house).known (W.state c.note.new.self).seen (W.state c.heed.new.wire).seen after c.heed.ensures.heeded) in
-    handed-more _ (calls_of c.heed.new.asks) (hands-then (H.state first).stands (H.state c.args.house.now).stands (H.state c.says.new.self).stands calls (calls_of (HouseSaid bytes ∷ [])) hands said) c.in_ok-heed.ensures.handed served
+    let p = goal.at.returns-clause-serving g c in
+    let d = said g p.In_ok-says c.if-not-branch.false in
+    let served = ok-serves c.heed.result _ _ c.in_ok-heed.was (said-heeds d v c.requires.on c.requires.present c.requires.room (piece g p.After-event_of_bytes-said) c.heed.result c.heed.new.engine c.heed.new.asks (g.H.Asks.state c.heed.new.house) _ (g.W.Wire.state c.heed.new.wire).seen (noted-so g p.In_ok-note) c.heed.ensures.heeded) in
+    handed-more _ (calls_of c.heed.new.asks) (hands-then (g.H.Asks.state first).stands (g.H.Asks.state c.args.house.now).stands (g.H.Asks.state c.says.new.self).stands calls (calls_of (HouseSaid c.says.new.into ∷ [])) hands d.hands) c.in_ok-heed.ensures.handed served
 
 pub returns-clause-house : goal.returns-clause-house
 returns-clause-house g c =
@@ -106,22 +69,9 @@ returns-clause-house g c =
 
 pub returns-clause-ends : goal.returns-clause-ends
 returns-clause-ends g c held failed served =
-    let v = served.serving in
-    let H = g.H.Asks in
-    let W = g.W.Wire in
-    let told : Option (List HouseMark) = (H.state c.args.house.now).told in
-    let known : Known = (H.state c.args.house.now).known in
-    let bytes : List ℕ = c.says.new.into in
-    let is : c.says.result ≡ Ok true = c.in_ok-says.was ∙ ap (λ (b : Bool). Ok b) c.if-not-branch.false in
-    let tells : TellsAsks told (H.state c.says.new.self).told (HouseSaid bytes ∷ []) = told-said c.says.result bytes told (H.state c.says.new.self).told is c.says.ensures.gave.told in
-    let same : (H.state c.says.new.self).known ≡ known = c.in_ok-says.ensures.gave.known in
-    let e : c.as_bytes-2.result.now ≡ bytes = c.as_bytes-2.ensures.bytes in
-    let event : Event = c.event_of_bytes-said.result in
-    let there : Tells event (Gets HOUSE bytes) = subst (λ (l : List ℕ). Tells event (Gets HOUSE l)) e c.event_of_bytes-said.ensures.tells in
-    let few : length bytes ≤ 65536 = subst (λ (l : List ℕ). length l ≤ 65536) e c.as_bytes-2.ensures.room in
-    let are : AreBytes c.as_bytes-2.result.now = c.event_of_bytes-said.ensures.bytes in
-    let after : (W.state c.note.new.self).seen ≡ seen-with (HouseSaid bytes ∷ []) (W.state c.args.wire.now).seen = ap (λ (x : WireState). x.seen) c.in_ok-note.ensures.state ∙ ap (λ (l : List ℕ). seen-with (HouseSaid l ∷ []) (W.state c.args.wire.now).seen) (c.in_ok-bytes.ensures ∙ c.as_bytes.ensures.bytes) in
-    asks-ends event bytes _ there (ok-serves c.heed.result _ _ c.in_ok-heed.was (said-ends told known v c.requires.on c.requires.present c.requires.room (H.state c.says.new.self).told (H.state c.says.new.self).known bytes tells same event there (some-said c.says.result bytes is c.says.ensures.fits) few (subst AreBytes e are) c.heed.result c.heed.new.engine c.heed.new.asks (H.state c.heed.new.house).told (H.state c.heed.new.house).known (W.state c.note.new.self).seen (W.state c.heed.new.wire).seen c.heed.ensures.heeded))
+    let p = goal.at.returns-clause-ends g c in
+    let e = piece g p.After-event_of_bytes-said in
+    asks-ends c.event_of_bytes-said.result c.says.new.into _ e.is (ok-serves c.heed.result _ _ c.in_ok-heed.was (said-ends (said g p.In_ok-says c.if-not-branch.false) served.serving c.requires.on c.requires.present c.requires.room e c.heed.result c.heed.new.engine c.heed.new.asks (g.H.Asks.state c.heed.new.house) _ (g.W.Wire.state c.heed.new.wire).seen c.heed.ensures.heeded))
 
 -- ---- nothing is said
 

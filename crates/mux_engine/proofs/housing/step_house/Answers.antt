@@ -1,193 +1,82 @@
-use Rattle.std.proofs.Common.{◌≡◌, ◌∙◌, ◌∷◌, ◌++◌, [], sym, ap, refl, cond, ℕ, Bool, true, false, List, arith}
+use Rattle.std.proofs.Common.{◌≡◌, ◌∙◌, ◌∷◌, ◌++◌, [], sym, ap, refl, cond, Bool, true, false, arith}
 use Rattle.std.specs.Prelude.{Ok}
 use Rattle.mux_outside.specs.Streams.{without}
 use Rattle.mux_history.specs.declared.limits.TheConstants.{HOUSE}
 use Rattle.mux_machine.specs.Events.{here}
 use Rattle.mux_machine.specs.State.{State}
-use Rattle.mux_engine.specs.Serving.{Scene, scene, scene_of}
+use Rattle.mux_engine.specs.Serving.{scene, scene_of}
 use Rattle.mux_engine.specs.Sides.{SameHouse}
-use Rattle.mux_engine.proofs.Arms.{on-ok}
-use Rattle.mux_engine.proofs.Following.{RanOn, cut-then, is-served, ran-again, ran-then, ran-to-flush, runs-as, runs-cut, runs-then, served-then, serves-cut, serves-ran}
+use Rattle.mux_engine.proofs.Arms.{on-err, on-ok}
+use Rattle.mux_engine.proofs.Following.{Ran, cut-then, is-served, ran-again, ran-as, ran-then, ran-to-flush, runs-cut, runs-then, served-then, serves-cut, serves-ran}
 use Rattle.mux_engine.proofs.HouseCalls.{same-house}
 use Rattle.mux_engine.proofs.Lists.{true-false}
 use Rattle.mux_engine.proofs.Places.{places-then}
 use Rattle.mux_engine.proofs.Stepping.{both-ways, ends-err, ends-live, ends-offered, ends-said, no-more-held, on-said, together-still, waits-err, works-again}
 use Rattle.mux_engine.proofs.Wired.{works-err, works-idle, works-then}
+use Rattle.mux_engine.proofs.housing.step_house.Given.{Over}
+use Rattle.mux_engine.proofs.housing.step_house.Goals.{In_ok-ask_house, In_ok-flush}
 use Rattle.mux_engine.proofs.housing.step_house.Goals as goal
+
+-- ---- the house was asked, and the streams were offered what waits for them
+
+-- whether it gave an order
+asked : (g : Over) (c : In_ok-ask_house g) (more : Bool) → c.in_ok-ask_house.field-0 ≡ more → Ran g.H.Asks.may g.H.Asks.state c.args.house.now c.ask_house.new.house (scene (g.W.Wire.state c.args.wire.now) c.args.lists.now c.args.engine.now) (scene (g.W.Wire.state c.ask_house.new.wire) c.ask_house.new.lists c.ask_house.new.engine)
+    (cond more 1 0) (0 ∷ here c.args.engine.now) (0 ∷ without HOUSE (here c.ask_house.new.engine))
+asked g c more is = ran-as c.ask_house.result 1 (λ (b : Bool). cond b 1 0) (λ (b : Bool). 0 ∷ without HOUSE (here c.ask_house.new.engine)) more (c.in_ok-ask_house.was ∙ ap (λ (b : Bool). Ok b) is) c.ask_house.ensures.serving
+
+-- it gave none: the other streams are left to be offered what waits for them
+unasked : (g : Over) (c : In_ok-ask_house g) → c.in_ok-ask_house.field-0 ≡ false → Ran g.H.Asks.may g.H.Asks.state c.args.house.now c.ask_house.new.house (scene (g.W.Wire.state c.args.wire.now) c.args.lists.now c.args.engine.now) (scene (g.W.Wire.state c.ask_house.new.wire) c.ask_house.new.lists c.ask_house.new.engine)
+    0 (0 ∷ here c.args.engine.now) (0 ∷ (without HOUSE (here c.ask_house.new.engine) ++ []))
+unasked g c is = ran-to-flush (asked g c false is)
+
+-- they were offered it
+offered : (g : Over) (c : In_ok-flush g) → Ran g.H.Asks.may g.H.Asks.state c.args.house.now c.ask_house.new.house (scene (g.W.Wire.state c.args.wire.now) c.args.lists.now c.args.engine.now) (scene (g.W.Wire.state c.ask_house.new.wire) c.ask_house.new.lists c.ask_house.new.engine) 0 (0 ∷ here c.args.engine.now) (0 ∷ (without HOUSE (here c.ask_house.new.engine) ++ []))
+    → Ran g.H.Asks.may g.H.Asks.state c.args.house.now c.ask_house.new.house (scene (g.W.Wire.state c.args.wire.now) c.args.lists.now c.args.engine.now) (scene_of (g.W.Wire.state c.flush.new.wire) c.flush.new.held c.ask_house.new.lists.failed c.flush.new.engine) 0 (0 ∷ here c.args.engine.now) []
+offered g c before = ran-then c.in_ok-ask_house.ensures.house.present before (serves-ran (c.in_ok-flush.ensures.serving []))
 
 -- ---- an order
 
 pub returns-then-branch-clause-serving : goal.returns-then-branch-clause-serving
-returns-then-branch-clause-serving g c =
-    let H = g.H.Asks in
-    let W = g.W.Wire in
-    let first = c.args.house.now in
-    let s0 : Scene = scene (W.state c.args.wire.now) c.args.lists.now c.args.engine.now in
-    let at0 : List ℕ = 0 ∷ here c.args.engine.now in
-    let h1 = c.ask_house.new.house in
-    let e1 = c.ask_house.new.engine in
-    let lists = c.ask_house.new.lists in
-    let s1 : Scene = scene (W.state c.ask_house.new.wire) lists e1 in
-    let at1 : List ℕ = 0 ∷ without HOUSE (here e1) in
-    let is : c.ask_house.result ≡ Ok true = c.in_ok-ask_house.was ∙ ap (λ (b : Bool). Ok b) c.if-branch.true in
-    let ran1 : RanOn H.may H.state first h1 s0 s1 1 at0 at1 = runs-as H.may H.state c.ask_house.result (Ok true) first h1 s0 s1 1 (λ (more : Bool). cond more 1 0) at0 (λ (more : Bool). at1) is c.ask_house.ensures.serving in
-    ran-again H.may H.state first h1 s0 s1 1 at0 ran1
+returns-then-branch-clause-serving g c = (ran-again (asked g (goal.at.returns-then-branch-clause-serving g c).In_ok-ask_house true c.if-branch.true)).runs
 
 pub returns-in_err-ask_house-clause-serving : goal.returns-in_err-ask_house-clause-serving
-returns-in_err-ask_house-clause-serving g c =
-    let H = g.H.Asks in
-    let W = g.W.Wire in
-    let first = c.args.house.now in
-    let s0 : Scene = scene (W.state c.args.wire.now) c.args.lists.now c.args.engine.now in
-    let at0 : List ℕ = 0 ∷ here c.args.engine.now in
-    let h1 = c.ask_house.new.house in
-    let e1 = c.ask_house.new.engine in
-    let lists = c.ask_house.new.lists in
-    let s1 : Scene = scene (W.state c.ask_house.new.wire) lists e1 in
-    let at1 : List ℕ = 0 ∷ without HOUSE (here e1) in
-    runs-cut H.may H.state c.from_residual.result first h1 s0 s1 1 1 (λ (more : Bool). cond more 1 0) at0 (λ (more : Bool). cond more (0 ∷ here e1) []) c.from_residual.ensures.0 (omega arith) c.in_err-ask_house.ensures.serving
+returns-in_err-ask_house-clause-serving g c first calls before policy pid start given hands v = on-err c.from_residual.result _ _ c.from_residual.ensures.0 (c.in_err-ask_house.ensures.serving first calls before policy pid start given hands v)
 
 -- ---- what waits is offered
 
 pub flush-requires : goal.flush-requires
-flush-requires g c =
-    let H = g.H.Asks in
-    let W = g.W.Wire in
-    let first = c.args.house.now in
-    let s0 : Scene = scene (W.state c.args.wire.now) c.args.lists.now c.args.engine.now in
-    let at0 : List ℕ = 0 ∷ here c.args.engine.now in
-    let h1 = c.ask_house.new.house in
-    let e1 = c.ask_house.new.engine in
-    let lists = c.ask_house.new.lists in
-    let s1 : Scene = scene (W.state c.ask_house.new.wire) lists e1 in
-    let at1 : List ℕ = 0 ∷ without HOUSE (here e1) in
-    let is : c.ask_house.result ≡ Ok false = c.in_ok-ask_house.was ∙ ap (λ (b : Bool). Ok b) c.if-branch.false in
-    let ran1 : RanOn H.may H.state first h1 s0 s1 0 at0 at1 = runs-as H.may H.state c.ask_house.result (Ok false) first h1 s0 s1 1 (λ (more : Bool). cond more 1 0) at0 (λ (more : Bool). at1) is c.ask_house.ensures.serving in
-    let present1 = c.in_ok-ask_house.ensures.house.present in
-    let at_flush : List ℕ = 0 ∷ (without HOUSE (here e1) ++ []) in
-    let before : RanOn H.may H.state first h1 s0 s1 0 at0 at_flush = ran-to-flush H.may H.state first h1 s0 s1 at0 ran1 in
-    record {
-      served = is-served H.may H.state h1 s1 at_flush (served-then H.may H.state first h1 s0 s1 0 at0 at_flush present1 c.requires.served before);
-      numbered = c.in_ok-ask_house.ensures.together.housed.places.numbered;
-    }
+flush-requires g c = record { served = is-served (served-then c.in_ok-ask_house.ensures.house.present c.requires.ongoing.served (unasked g (goal.at.flush-requires g c).In_ok-ask_house c.if-branch.false)) }
 
 pub returns-in_err-flush-clause-serving : goal.returns-in_err-flush-clause-serving
 returns-in_err-flush-clause-serving g c =
-    let H = g.H.Asks in
-    let W = g.W.Wire in
-    let first = c.args.house.now in
-    let s0 : Scene = scene (W.state c.args.wire.now) c.args.lists.now c.args.engine.now in
-    let at0 : List ℕ = 0 ∷ here c.args.engine.now in
-    let h1 = c.ask_house.new.house in
-    let e1 = c.ask_house.new.engine in
-    let lists = c.ask_house.new.lists in
-    let s1 : Scene = scene (W.state c.ask_house.new.wire) lists e1 in
-    let at1 : List ℕ = 0 ∷ without HOUSE (here e1) in
-    let is : c.ask_house.result ≡ Ok false = c.in_ok-ask_house.was ∙ ap (λ (b : Bool). Ok b) c.if-branch.false in
-    let ran1 : RanOn H.may H.state first h1 s0 s1 0 at0 at1 = runs-as H.may H.state c.ask_house.result (Ok false) first h1 s0 s1 1 (λ (more : Bool). cond more 1 0) at0 (λ (more : Bool). at1) is c.ask_house.ensures.serving in
-    let present1 = c.in_ok-ask_house.ensures.house.present in
-    let at_flush : List ℕ = 0 ∷ (without HOUSE (here e1) ++ []) in
-    let before : RanOn H.may H.state first h1 s0 s1 0 at0 at_flush = ran-to-flush H.may H.state first h1 s0 s1 at0 ran1 in
-    let s2 : Scene = scene_of (W.state c.flush.new.wire) c.flush.new.held lists.failed c.flush.new.engine in
-    runs-cut H.may H.state c.from_residual-in_err-flush.result first h1 s0 s2 0 1 (λ (more : Bool). cond more 1 0) at0 (λ (more : Bool). cond more (0 ∷ here c.flush.new.engine) []) c.from_residual-in_err-flush.ensures.0 (omega arith)
-    (cut-then H.may H.state first h1 h1 s0 s1 s2 0 at0 at_flush present1 before
-    (serves-cut H.may H.state h1 s1.seen s2.seen s1.held s2.held lists.failed at_flush e1 c.flush.new.engine (c.in_err-flush.ensures.serving [])))
+    runs-cut c.from_residual-in_err-flush.result 1 (λ (more : Bool). cond more 1 0) (λ (more : Bool). cond more (0 ∷ here c.flush.new.engine) []) c.from_residual-in_err-flush.ensures.0
+    (cut-then c.in_ok-ask_house.ensures.house.present (unasked g (goal.at.returns-in_err-flush-clause-serving g c).In_ok-ask_house c.if-branch.false) (serves-cut (c.in_err-flush.ensures.serving []))) (omega arith)
 
 -- ---- nothing is said
 
 pub returns-then-not-present-clause-serving : goal.returns-then-not-present-clause-serving
-returns-then-not-present-clause-serving g c =
-    let H = g.H.Asks in
-    let W = g.W.Wire in
-    let first = c.args.house.now in
-    let s0 : Scene = scene (W.state c.args.wire.now) c.args.lists.now c.args.engine.now in
-    let at0 : List ℕ = 0 ∷ here c.args.engine.now in
-    let h1 = c.ask_house.new.house in
-    let e1 = c.ask_house.new.engine in
-    let lists = c.ask_house.new.lists in
-    let s1 : Scene = scene (W.state c.ask_house.new.wire) lists e1 in
-    let at1 : List ℕ = 0 ∷ without HOUSE (here e1) in
-    let is : c.ask_house.result ≡ Ok false = c.in_ok-ask_house.was ∙ ap (λ (b : Bool). Ok b) c.if-branch.false in
-    let ran1 : RanOn H.may H.state first h1 s0 s1 0 at0 at1 = runs-as H.may H.state c.ask_house.result (Ok false) first h1 s0 s1 1 (λ (more : Bool). cond more 1 0) at0 (λ (more : Bool). at1) is c.ask_house.ensures.serving in
-    let present1 = c.in_ok-ask_house.ensures.house.present in
-    let at_flush : List ℕ = 0 ∷ (without HOUSE (here e1) ++ []) in
-    let before : RanOn H.may H.state first h1 s0 s1 0 at0 at_flush = ran-to-flush H.may H.state first h1 s0 s1 at0 ran1 in
-    let s2 : Scene = scene_of (W.state c.flush.new.wire) c.flush.new.held lists.failed c.flush.new.engine in
-    let ran2 : RanOn H.may H.state first h1 s0 s2 0 at0 [] = ran-then H.may H.state first h1 h1 s0 s1 s2 0 at0 at_flush [] present1 before
-    (serves-ran H.may H.state h1 s1.seen s2.seen s1.held s2.held lists.failed at_flush [] e1 c.flush.new.engine (c.in_ok-flush.ensures.serving [])) in
-    ran2
+returns-then-not-present-clause-serving g c = let p = goal.at.returns-then-not-present-clause-serving g c in (offered g p.In_ok-flush (unasked g p.In_ok-ask_house c.if-branch.false)).runs
 
 pub returns-then-not-present-clause-together : goal.returns-then-not-present-clause-together
 returns-then-not-present-clause-together g c =
-    let H = g.H.Asks in
-    let W = g.W.Wire in
-    let first = c.args.house.now in
-    let s0 : Scene = scene (W.state c.args.wire.now) c.args.lists.now c.args.engine.now in
-    let at0 : List ℕ = 0 ∷ here c.args.engine.now in
-    let h1 = c.ask_house.new.house in
-    let e1 = c.ask_house.new.engine in
-    let lists = c.ask_house.new.lists in
-    let s1 : Scene = scene (W.state c.ask_house.new.wire) lists e1 in
-    let at1 : List ℕ = 0 ∷ without HOUSE (here e1) in
-    let is : c.ask_house.result ≡ Ok false = c.in_ok-ask_house.was ∙ ap (λ (b : Bool). Ok b) c.if-branch.false in
-    let ran1 : RanOn H.may H.state first h1 s0 s1 0 at0 at1 = runs-as H.may H.state c.ask_house.result (Ok false) first h1 s0 s1 1 (λ (more : Bool). cond more 1 0) at0 (λ (more : Bool). at1) is c.ask_house.ensures.serving in
-    let present1 = c.in_ok-ask_house.ensures.house.present in
-    let at_flush : List ℕ = 0 ∷ (without HOUSE (here e1) ++ []) in
-    let before : RanOn H.may H.state first h1 s0 s1 0 at0 at_flush = ran-to-flush H.may H.state first h1 s0 s1 at0 ran1 in
-    let s2 : Scene = scene_of (W.state c.flush.new.wire) c.flush.new.held lists.failed c.flush.new.engine in
-    let ran2 : RanOn H.may H.state first h1 s0 s2 0 at0 [] = ran-then H.may H.state first h1 h1 s0 s1 s2 0 at0 at_flush [] present1 before
-    (serves-ran H.may H.state h1 s1.seen s2.seen s1.held s2.held lists.failed at_flush [] e1 c.flush.new.engine (c.in_ok-flush.ensures.serving [])) in
-    let w2 = served-then H.may H.state first h1 s0 s2 0 at0 [] present1 c.requires.served ran2 in
-    together-still (H.state h1) (H.state h1) (W.state c.ask_house.new.wire) (W.state c.flush.new.wire) lists (record lists { held = c.flush.new.held; todo = c.flush.new.todo; asks = c.flush.new.asks }) c.in_ok-ask_house.ensures.together (same-house _ _ refl) c.flush.ensures.places refl w2.serving.held_is
+    let p = goal.at.returns-then-not-present-clause-together g c in
+    let served = served-then c.in_ok-ask_house.ensures.house.present c.requires.ongoing.served (offered g p.In_ok-flush (unasked g p.In_ok-ask_house c.if-branch.false)) in
+    together-still c.in_ok-ask_house.ensures.together (same-house _ _ refl) c.flush.ensures.places refl served.serving.held_is
 
 -- ---- what it says
 
 pub returns-clause-serving : goal.returns-clause-serving
 returns-clause-serving g c =
-    let H = g.H.Asks in
-    let W = g.W.Wire in
-    let first = c.args.house.now in
-    let s0 : Scene = scene (W.state c.args.wire.now) c.args.lists.now c.args.engine.now in
-    let at0 : List ℕ = 0 ∷ here c.args.engine.now in
-    let h1 = c.ask_house.new.house in
-    let e1 = c.ask_house.new.engine in
-    let lists = c.ask_house.new.lists in
-    let s1 : Scene = scene (W.state c.ask_house.new.wire) lists e1 in
-    let at1 : List ℕ = 0 ∷ without HOUSE (here e1) in
-    let is : c.ask_house.result ≡ Ok false = c.in_ok-ask_house.was ∙ ap (λ (b : Bool). Ok b) c.if-branch.false in
-    let ran1 : RanOn H.may H.state first h1 s0 s1 0 at0 at1 = runs-as H.may H.state c.ask_house.result (Ok false) first h1 s0 s1 1 (λ (more : Bool). cond more 1 0) at0 (λ (more : Bool). at1) is c.ask_house.ensures.serving in
-    let present1 = c.in_ok-ask_house.ensures.house.present in
-    let at_flush : List ℕ = 0 ∷ (without HOUSE (here e1) ++ []) in
-    let before : RanOn H.may H.state first h1 s0 s1 0 at0 at_flush = ran-to-flush H.may H.state first h1 s0 s1 at0 ran1 in
-    let s2 : Scene = scene_of (W.state c.flush.new.wire) c.flush.new.held lists.failed c.flush.new.engine in
-    let ran2 : RanOn H.may H.state first h1 s0 s2 0 at0 [] = ran-then H.may H.state first h1 h1 s0 s1 s2 0 at0 at_flush [] present1 before
-    (serves-ran H.may H.state h1 s1.seen s2.seen s1.held s2.held lists.failed at_flush [] e1 c.flush.new.engine (c.in_ok-flush.ensures.serving [])) in
-    let s3 : Scene = scene_of (W.state c.speak.new.wire) c.flush.new.held lists.failed c.speak.new.engine in
-    runs-then H.may H.state c.speak.result first h1 c.speak.new.house s0 s2 s3 1 (λ (more : Bool). cond more 1 0) at0 [] (λ (more : Bool). cond more (0 ∷ here c.speak.new.engine) []) present1 ran2 (c.speak.ensures.serving s2.held s2.failed)
+    let p = goal.at.returns-clause-serving g c in
+    runs-then c.speak.result c.speak.new.house (scene_of (g.W.Wire.state c.speak.new.wire) c.flush.new.held c.ask_house.new.lists.failed c.speak.new.engine) 1 (λ (more : Bool). cond more 1 0) (λ (more : Bool). cond more (0 ∷ here c.speak.new.engine) []) c.in_ok-ask_house.ensures.house.present
+    (offered g p.In_ok-flush (unasked g p.In_ok-ask_house c.if-branch.false)) (c.speak.ensures.serving c.flush.new.held c.ask_house.new.lists.failed)
 
 pub returns-clause-together : goal.returns-clause-together
 returns-clause-together g c =
     let H = g.H.Asks in
-    let W = g.W.Wire in
-    let first = c.args.house.now in
-    let s0 : Scene = scene (W.state c.args.wire.now) c.args.lists.now c.args.engine.now in
-    let at0 : List ℕ = 0 ∷ here c.args.engine.now in
-    let h1 = c.ask_house.new.house in
-    let e1 = c.ask_house.new.engine in
-    let lists = c.ask_house.new.lists in
-    let s1 : Scene = scene (W.state c.ask_house.new.wire) lists e1 in
-    let at1 : List ℕ = 0 ∷ without HOUSE (here e1) in
-    let is : c.ask_house.result ≡ Ok false = c.in_ok-ask_house.was ∙ ap (λ (b : Bool). Ok b) c.if-branch.false in
-    let ran1 : RanOn H.may H.state first h1 s0 s1 0 at0 at1 = runs-as H.may H.state c.ask_house.result (Ok false) first h1 s0 s1 1 (λ (more : Bool). cond more 1 0) at0 (λ (more : Bool). at1) is c.ask_house.ensures.serving in
-    let present1 = c.in_ok-ask_house.ensures.house.present in
-    let at_flush : List ℕ = 0 ∷ (without HOUSE (here e1) ++ []) in
-    let before : RanOn H.may H.state first h1 s0 s1 0 at0 at_flush = ran-to-flush H.may H.state first h1 s0 s1 at0 ran1 in
-    let s2 : Scene = scene_of (W.state c.flush.new.wire) c.flush.new.held lists.failed c.flush.new.engine in
-    let ran2 : RanOn H.may H.state first h1 s0 s2 0 at0 [] = ran-then H.may H.state first h1 h1 s0 s1 s2 0 at0 at_flush [] present1 before
-    (serves-ran H.may H.state h1 s1.seen s2.seen s1.held s2.held lists.failed at_flush [] e1 c.flush.new.engine (c.in_ok-flush.ensures.serving [])) in
-    let w2 = served-then H.may H.state first h1 s0 s2 0 at0 [] present1 c.requires.served ran2 in
-    let f = c.flush.ensures.places in
-    on-ok c.speak.result (λ (known : SameHouse (H.state h1).known (H.state c.speak.new.house).known). together-still (H.state h1) (H.state c.speak.new.house) (W.state c.ask_house.new.wire) (W.state c.speak.new.wire) lists (record lists { held = c.flush.new.held; todo = c.flush.new.todo; asks = c.speak.new.asks }) c.in_ok-ask_house.ensures.together known (places-then _ _ _ f c.speak.ensures.streams.places) refl (w2.serving.held_is ∙ sym c.speak.ensures.streams.blocked)) c.speak.ensures.house.known
+    let p = goal.at.returns-clause-together g c in
+    let served = served-then c.in_ok-ask_house.ensures.house.present c.requires.ongoing.served (offered g p.In_ok-flush (unasked g p.In_ok-ask_house c.if-branch.false)) in
+    on-ok c.speak.result (λ (known : SameHouse (H.state c.ask_house.new.house).known (H.state c.speak.new.house).known). together-still c.in_ok-ask_house.ensures.together known (places-then _ _ _ c.flush.ensures.places c.speak.ensures.streams.places) refl (served.serving.held_is ∙ sym c.speak.ensures.streams.blocked)) c.speak.ensures.house.known
 
 pub returns-clause-house : goal.returns-clause-house
 returns-clause-house g c =
@@ -207,27 +96,9 @@ returns-clause-alone g c out =
 
 pub returns-clause-ended : goal.returns-clause-ended
 returns-clause-ended g c =
-    let H = g.H.Asks in
-    let W = g.W.Wire in
-    let first = c.args.house.now in
-    let s0 : Scene = scene (W.state c.args.wire.now) c.args.lists.now c.args.engine.now in
-    let at0 : List ℕ = 0 ∷ here c.args.engine.now in
-    let h1 = c.ask_house.new.house in
-    let e1 = c.ask_house.new.engine in
-    let lists = c.ask_house.new.lists in
-    let s1 : Scene = scene (W.state c.ask_house.new.wire) lists e1 in
-    let at1 : List ℕ = 0 ∷ without HOUSE (here e1) in
-    let is : c.ask_house.result ≡ Ok false = c.in_ok-ask_house.was ∙ ap (λ (b : Bool). Ok b) c.if-branch.false in
-    let ran1 : RanOn H.may H.state first h1 s0 s1 0 at0 at1 = runs-as H.may H.state c.ask_house.result (Ok false) first h1 s0 s1 1 (λ (more : Bool). cond more 1 0) at0 (λ (more : Bool). at1) is c.ask_house.ensures.serving in
-    let present1 = c.in_ok-ask_house.ensures.house.present in
-    let at_flush : List ℕ = 0 ∷ (without HOUSE (here e1) ++ []) in
-    let before : RanOn H.may H.state first h1 s0 s1 0 at0 at_flush = ran-to-flush H.may H.state first h1 s0 s1 at0 ran1 in
-    let s2 : Scene = scene_of (W.state c.flush.new.wire) c.flush.new.held lists.failed c.flush.new.engine in
-    let ran2 : RanOn H.may H.state first h1 s0 s2 0 at0 [] = ran-then H.may H.state first h1 h1 s0 s1 s2 0 at0 at_flush [] present1 before
-    (serves-ran H.may H.state h1 s1.seen s2.seen s1.held s2.held lists.failed at_flush [] e1 c.flush.new.engine (c.in_ok-flush.ensures.serving [])) in
-    let w2 = served-then H.may H.state first h1 s0 s2 0 at0 [] present1 c.requires.served ran2 in
-    let there : (H.state h1).known.present ≡ true = sym c.present.ensures.present ∙ c.if-not-present.false in
-    ends-said c.speak.result (H.state first).known.present c.speak.new.engine.ended (W.state c.args.wire.now) (W.state c.speak.new.wire) (W.faults c.args.wire.now) (W.faults c.speak.new.wire) (sym present1 ∙ there) (c.speak.ensures.ends s2.held s2.failed w2)
+    let p = goal.at.returns-clause-ended g c in
+    let served = served-then c.in_ok-ask_house.ensures.house.present c.requires.ongoing.served (offered g p.In_ok-flush (unasked g p.In_ok-ask_house c.if-branch.false)) in
+    ends-said c.speak.result _ _ _ _ _ _ (sym c.in_ok-ask_house.ensures.house.present ∙ (sym c.present.ensures.present ∙ c.if-not-present.false)) (c.speak.ensures.ends c.flush.new.held c.ask_house.new.lists.failed served)
 
 pub returns-clause-ready : goal.returns-clause-ready
 returns-clause-ready g c =
@@ -285,26 +156,8 @@ returns-then-not-present-clause-wire g c = works-then c.in_ok-ask_house.ensures.
 
 pub returns-clause-wire : goal.returns-clause-wire
 returns-clause-wire g c =
-    let H = g.H.Asks in
-    let W = g.W.Wire in
-    let first = c.args.house.now in
-    let s0 : Scene = scene (W.state c.args.wire.now) c.args.lists.now c.args.engine.now in
-    let at0 : List ℕ = 0 ∷ here c.args.engine.now in
-    let h1 = c.ask_house.new.house in
-    let e1 = c.ask_house.new.engine in
-    let lists = c.ask_house.new.lists in
-    let s1 : Scene = scene (W.state c.ask_house.new.wire) lists e1 in
-    let at1 : List ℕ = 0 ∷ without HOUSE (here e1) in
-    let is : c.ask_house.result ≡ Ok false = c.in_ok-ask_house.was ∙ ap (λ (b : Bool). Ok b) c.if-branch.false in
-    let ran1 : RanOn H.may H.state first h1 s0 s1 0 at0 at1 = runs-as H.may H.state c.ask_house.result (Ok false) first h1 s0 s1 1 (λ (more : Bool). cond more 1 0) at0 (λ (more : Bool). at1) is c.ask_house.ensures.serving in
-    let present1 = c.in_ok-ask_house.ensures.house.present in
-    let at_flush : List ℕ = 0 ∷ (without HOUSE (here e1) ++ []) in
-    let before : RanOn H.may H.state first h1 s0 s1 0 at0 at_flush = ran-to-flush H.may H.state first h1 s0 s1 at0 ran1 in
-    let s2 : Scene = scene_of (W.state c.flush.new.wire) c.flush.new.held lists.failed c.flush.new.engine in
-    let ran2 : RanOn H.may H.state first h1 s0 s2 0 at0 [] = ran-then H.may H.state first h1 h1 s0 s1 s2 0 at0 at_flush [] present1 before
-    (serves-ran H.may H.state h1 s1.seen s2.seen s1.held s2.held lists.failed at_flush [] e1 c.flush.new.engine (c.in_ok-flush.ensures.serving [])) in
-    let w2 = served-then H.may H.state first h1 s0 s2 0 at0 [] present1 c.requires.served ran2 in
-    let x = w2.serving in
+    let p = goal.at.returns-clause-wire g c in
+    let x = (served-then c.in_ok-ask_house.ensures.house.present c.requires.ongoing.served (offered g p.In_ok-flush (unasked g p.In_ok-ask_house c.if-branch.false))).serving in
     works-then c.in_ok-ask_house.ensures.wire.works (works-then c.in_ok-flush.ensures.wire (works-idle c.speak.result (record {
       untouched = c.speak.ensures.wire;
       own_faults = c.speak.ensures.counted x.picked x.replies x.journal x.closed x.stands (x.house_in ∙ (sym c.present.ensures.present ∙ c.if-not-present.false));

@@ -1,5 +1,4 @@
-use Rattle.std.proofs.Common.{[], ◌+◌, ◌∷◌, ◌∙◌, refl, sym, ap}
-use Rattle.mux_outside.specs.OwnStreams.{is_one}
+use Rattle.std.proofs.Common.{[], ◌+◌, ◌∷◌, ◌∙◌, refl, ap}
 use Rattle.mux_history.specs.declared.limits.TheConstants.{HOUSE}
 use Rattle.mux_machine.specs.Events.{here}
 use Rattle.mux_machine.specs.State.{State}
@@ -46,7 +45,6 @@ flush-requires g c = let H = g.H.Asks in let w = c.requires.served in
         todo = 0 ∷ here c.last_replies.new.engine;
         serving = h.so;
       };
-      numbered = λ t one. c.requires.together.housed.places.numbered t (ap (is_one t) (sym c.last_replies.ensures.places.own) ∙ one);
     }
 
 pub returns-in_err-last_replies : goal.returns-in_err-last_replies

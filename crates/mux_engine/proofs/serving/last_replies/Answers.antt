@@ -33,7 +33,7 @@ returns-then-not-present g c = record {
 }
 
 pub reply_all-requires : goal.reply_all-requires
-reply_all-requires g c = record { served = c.requires.served; together = c.requires.together; present = sym c.present.ensures.present ∙ c.if-not-present.false; on = c.requires.on c.if-not-all.false }
+reply_all-requires g c = record { ongoing = record { served = c.requires.served; together = c.requires.together; on = c.requires.on c.if-not-all.false }; present = sym c.present.ensures.present ∙ c.if-not-present.false }
 
 pub returns : goal.returns
 returns g c = let o = c.reply_all.ensures in record {

@@ -1,18 +1,56 @@
-use Rattle.std.proofs.Common.{◌∷◌, [], refl, sym, ap, inl, inr, ◌∙◌, true}
+use Rattle.std.proofs.Common.{◌≡◌, ◌∷◌, [], refl, sym, ap, cond, inl, inr, ◌∙◌, Bool, true, false}
 use Rattle.std.specs.Prelude.{Ok}
 use Rattle.mux_history.specs.declared.limits.TheConstants.{HOUSE}
 use Rattle.mux_machine.specs.Events.{here}
-use Rattle.mux_engine.specs.Counted.{Well}
-use Rattle.mux_engine.specs.Sides.{Housed, RestsOf, Together, noted}
-use Rattle.mux_engine.specs.Wires.{IsIdle, Works}
+use Rattle.mux_engine.specs.Serving.{scene, scene_of}
+use Rattle.mux_engine.specs.Sides.{Together}
 use Rattle.mux_engine.proofs.Arms.{on-err}
 use Rattle.mux_engine.proofs.Called.{handed-so}
 use Rattle.mux_engine.proofs.Ending.{ends-closed, ends-cut, ends-later, refused-none}
-use Rattle.mux_engine.proofs.HouseCalls.{housed-still, same-house}
-use Rattle.mux_engine.proofs.Running.{all-left, present-is, promised-is, step-took, step-waits}
+use Rattle.mux_engine.proofs.Following.{Ran, WasCut, cut-then, is-served, ran-as, ran-then, served-then, stays-ran}
+use Rattle.mux_engine.proofs.HouseCalls.{housed-still, none-given, same-house}
+use Rattle.mux_engine.proofs.Running.{all-left, step-took}
 use Rattle.mux_engine.proofs.Spending.{cut-one-more, turned-stepped}
-use Rattle.mux_engine.proofs.Wired.{idle-then, keeps-then, works-then, works-told}
+use Rattle.mux_engine.proofs.Wired.{idle-then, works-then, works-told}
+use Rattle.mux_engine.proofs.serving.one_turn.Given.{Over}
+use Rattle.mux_engine.proofs.serving.one_turn.Goals.{After-close_lost, After-hush, In_err-went, In_ok-step_house, In_ok-went}
 use Rattle.mux_engine.proofs.serving.one_turn.Goals as goal
+
+-- ---- the house's turn, and what is done before a wait
+
+-- whether the house took a turn
+stepped : (g : Over) (c : In_ok-step_house g) (more : Bool) → c.in_ok-step_house.field-0 ≡ more → Ran g.H.Asks.may g.H.Asks.state c.args.house.now c.step_house.new.house (scene (g.W.Wire.state c.args.wire.now) c.args.lists.now c.args.engine.now) (scene (g.W.Wire.state c.step_house.new.wire) c.step_house.new.lists c.step_house.new.engine)
+    (cond more 1 0) (0 ∷ here c.args.engine.now) (cond more (0 ∷ here c.step_house.new.engine) [])
+stepped g c more is = ran-as c.step_house.result 1 (λ (b : Bool). cond b 1 0) (λ (b : Bool). cond b (0 ∷ here c.step_house.new.engine) []) more (c.in_ok-step_house.was ∙ ap (λ (b : Bool). Ok b) is) c.step_house.ensures.serving
+
+-- the streams of clients that are lost were closed
+closed : (g : Over) (c : After-close_lost g) → Ran g.H.Asks.may g.H.Asks.state c.args.house.now c.step_house.new.house (scene (g.W.Wire.state c.args.wire.now) c.args.lists.now c.args.engine.now) (scene (g.W.Wire.state c.step_house.new.wire) c.step_house.new.lists c.step_house.new.engine) 0 (0 ∷ here c.args.engine.now) []
+    → Ran g.H.Asks.may g.H.Asks.state c.args.house.now c.step_house.new.house (scene (g.W.Wire.state c.args.wire.now) c.args.lists.now c.args.engine.now) (scene_of (g.W.Wire.state c.close_lost.new.wire) c.close_lost.new.held c.step_house.new.lists.failed c.close_lost.new.engine) 0 (0 ∷ here c.args.engine.now) []
+closed g c before = ran-then c.in_ok-step_house.ensures.house.present before (stays-ran c.close_lost.ensures.serving)
+
+-- and no more clients are accepted where none is wanted
+hushed : (g : Over) (c : After-hush g) → Ran g.H.Asks.may g.H.Asks.state c.args.house.now c.step_house.new.house (scene (g.W.Wire.state c.args.wire.now) c.args.lists.now c.args.engine.now) (scene_of (g.W.Wire.state c.close_lost.new.wire) c.close_lost.new.held c.step_house.new.lists.failed c.close_lost.new.engine) 0 (0 ∷ here c.args.engine.now) []
+    → Ran g.H.Asks.may g.H.Asks.state c.args.house.now c.step_house.new.house (scene (g.W.Wire.state c.args.wire.now) c.args.lists.now c.args.engine.now) (scene_of (g.W.Wire.state c.hush.new.wire) c.close_lost.new.held c.step_house.new.lists.failed c.close_lost.new.engine) 0 (0 ∷ here c.args.engine.now) []
+hushed g c before = ran-then c.in_ok-step_house.ensures.house.present before (stays-ran (c.hush.ensures.serving c.close_lost.new.held))
+
+hushed-together : (g : Over) (c : After-hush g) → Ran g.H.Asks.may g.H.Asks.state c.args.house.now c.step_house.new.house (scene (g.W.Wire.state c.args.wire.now) c.args.lists.now c.args.engine.now) (scene_of (g.W.Wire.state c.close_lost.new.wire) c.close_lost.new.held c.step_house.new.lists.failed c.close_lost.new.engine) 0 (0 ∷ here c.args.engine.now) []
+    → Together (g.H.Asks.state c.step_house.new.house) (g.W.Wire.state c.hush.new.wire) (record c.step_house.new.lists { held = c.close_lost.new.held })
+hushed-together g c before =
+    let house = g.H.Asks.state c.step_house.new.house in
+    let lists = c.step_house.new.lists in
+    let t = c.in_ok-step_house.ensures.together in
+    record {
+      housed = housed-still house.known house.known _ _ lists.own (c.close_lost.ensures.ready house.known house.quiet house.queue lists.failed lists.own t.housed).0 (same-house house.known house.known refl) c.hush.ensures.places;
+      alone = t.alone;
+      held_is = (served-then c.in_ok-step_house.ensures.house.present c.requires.ongoing.served (hushed g c before)).serving.held_is;
+    }
+
+-- the wait
+waited : (g : Over) (c : In_ok-went g) → Ran g.H.Asks.may g.H.Asks.state c.step_house.new.house c.turn.new.house (scene_of (g.W.Wire.state c.hush.new.wire) c.close_lost.new.held c.step_house.new.lists.failed c.close_lost.new.engine) (scene (g.W.Wire.state c.turn.new.wire) c.turn.new.lists c.turn.new.engine) 1 [] (0 ∷ here c.turn.new.engine)
+waited g c = record { runs = c.in_ok-went.ensures.serving }
+
+wanting : (g : Over) (c : In_err-went g) → WasCut g.H.Asks.may g.H.Asks.state c.step_house.new.house c.turn.new.house (scene_of (g.W.Wire.state c.hush.new.wire) c.close_lost.new.held c.step_house.new.lists.failed c.close_lost.new.engine) (scene (g.W.Wire.state c.turn.new.wire) c.turn.new.lists c.turn.new.engine) 1 []
+wanting g c = record { runs = c.in_err-went.ensures.serving }
 
 -- ---- the house took a turn
 
@@ -55,65 +93,25 @@ returns-in_err-step_house g c = let W = g.W.Wire in let r = c.from_residual in l
 -- ---- before a wait
 
 pub close_lost-requires : goal.close_lost-requires
-close_lost-requires g c =
-    let H = g.H.Asks in
-    let house = c.step_house.new.house in
-    let s = c.requires.served in
-    let h = c.in_ok-step_house.ensures.serving s.first s.calls s.before s.policy s.pid s.start s.given s.hands s.serving in
-    record {
-      served = record {
-        present = (H.state c.args.house.now).known.present;
-        first = s.first;
-        before = s.before;
-        now = noted (H.state house).told (H.state house).known h.all;
-        policy = s.policy;
-        pid = s.pid;
-        start = s.start;
-        failed = c.step_house.new.lists.failed;
-        given = s.given;
-        todo = [];
-        serving = step-waits s.given (0 ∷ here c.step_house.new.engine) c.in_ok-step_house.field-0 c.if-branch.false h.so;
-      };
-    }
+close_lost-requires g c = record { served = is-served (served-then c.in_ok-step_house.ensures.house.present c.requires.ongoing.served (stepped g (goal.at.close_lost-requires g c).In_ok-step_house false c.if-branch.false)) }
 
 pub hush-requires : goal.hush-requires
 hush-requires g c =
-    let H = g.H.Asks in
-    let house = c.step_house.new.house in
-    let s = c.requires.served in
-    let h = c.in_ok-step_house.ensures.serving s.first s.calls s.before s.policy s.pid s.start s.given s.hands s.serving in
-    let v = c.close_lost.ensures.serving (H.state c.args.house.now).known.present s.first s.before (noted (H.state house).told (H.state house).known h.all) s.policy s.pid s.start c.step_house.new.lists.failed s.given []
-    (step-waits s.given (0 ∷ here c.step_house.new.engine) c.in_ok-step_house.field-0 c.if-branch.false h.so) in
-    record { hears = v.hears }
+    let p = goal.at.hush-requires g c in
+    record { hears = (served-then c.in_ok-step_house.ensures.house.present c.requires.ongoing.served (closed g p.After-close_lost (stepped g p.In_ok-step_house false c.if-branch.false))).serving.hears }
 
 -- ---- the run is over
 
 pub returns-then-is_over-clause-serving : goal.returns-then-is_over-clause-serving
 returns-then-is_over-clause-serving g c first calls before policy pid start given hands v =
-    let H = g.H.Asks in
-    let h = c.in_ok-step_house.ensures.serving first calls before policy pid start given hands v in
-    let house = c.step_house.new.house in
-    let lists = c.step_house.new.lists in
-    let stepped = step-waits given (0 ∷ here c.step_house.new.engine) c.in_ok-step_house.field-0 c.if-branch.false h.so in
-    let closed = c.close_lost.ensures.serving (H.state c.args.house.now).known.present first before (noted (H.state house).told (H.state house).known h.all) policy pid start lists.failed given [] stepped in
-    handed-so h (inr (refl, all-left (HOUSE ∷ []) (c.hush.ensures.serving c.close_lost.new.held (H.state c.args.house.now).known.present first before (noted (H.state house).told (H.state house).known h.all) policy pid start lists.failed given [] closed)))
+    let p = goal.at.returns-then-is_over-clause-serving g c in
+    let h = (hushed g p.After-hush (closed g p.After-close_lost (stepped g p.In_ok-step_house false c.if-branch.false))).runs first calls before policy pid start given hands v in
+    handed-so h (inr (refl, all-left (HOUSE ∷ []) (none-given h.so)))
 
 pub returns-then-is_over-clause-together : goal.returns-then-is_over-clause-together
 returns-then-is_over-clause-together g c =
-    let H = g.H.Asks in
-    let house = H.state c.step_house.new.house in
-    let lists = c.step_house.new.lists in
-    let s = c.requires.served in
-    let t = c.in_ok-step_house.ensures.together in
-    let h = c.in_ok-step_house.ensures.serving s.first s.calls s.before s.policy s.pid s.start s.given s.hands s.serving in
-    let stepped = step-waits s.given (0 ∷ here c.step_house.new.engine) c.in_ok-step_house.field-0 c.if-branch.false h.so in
-    let closed = c.close_lost.ensures.serving (H.state c.args.house.now).known.present s.first s.before (noted house.told house.known h.all) s.policy s.pid s.start lists.failed s.given [] stepped in
-    let hushed = c.hush.ensures.serving c.close_lost.new.held (H.state c.args.house.now).known.present s.first s.before (noted house.told house.known h.all) s.policy s.pid s.start lists.failed s.given [] closed in
-    record {
-      housed = housed-still house.known house.known _ _ lists.own (c.close_lost.ensures.ready house.known house.quiet house.queue lists.failed lists.own t.housed).0 (same-house house.known house.known refl) c.hush.ensures.places;
-      alone = t.alone;
-      held_is = hushed.held_is;
-    }
+    let p = goal.at.returns-then-is_over-clause-together g c in
+    hushed-together g p.After-hush (closed g p.After-close_lost (stepped g p.In_ok-step_house false c.if-branch.false))
 
 pub returns-then-is_over-clause-house : goal.returns-then-is_over-clause-house
 returns-then-is_over-clause-house g c = let h = c.in_ok-step_house.ensures.house in record { present = h.present; must = h.must }
@@ -138,60 +136,24 @@ returns-then-is_over-clause-wire g c = let w = works-told _ (c.in_ok-step_house.
 
 pub turn-requires-clause-served : goal.turn-requires-clause-served
 turn-requires-clause-served g c =
-    let H = g.H.Asks in
-    let house = c.step_house.new.house in
-    let lists = c.step_house.new.lists in
-    let s = c.requires.served in
-    let h = c.in_ok-step_house.ensures.serving s.first s.calls s.before s.policy s.pid s.start s.given s.hands s.serving in
-    let stepped = step-waits s.given (0 ∷ here c.step_house.new.engine) c.in_ok-step_house.field-0 c.if-branch.false h.so in
-    let closed = c.close_lost.ensures.serving (H.state c.args.house.now).known.present s.first s.before (noted (H.state house).told (H.state house).known h.all) s.policy s.pid s.start lists.failed s.given [] stepped in
-    let hushed = c.hush.ensures.serving c.close_lost.new.held (H.state c.args.house.now).known.present s.first s.before (noted (H.state house).told (H.state house).known h.all) s.policy s.pid s.start lists.failed s.given [] closed in
-    record {
-      first = s.first;
-      calls = h.all;
-      hands = h.hands;
-      before = s.before;
-      policy = s.policy;
-      pid = s.pid;
-      start = s.start;
-      given = s.given;
-      serving = present-is (λ b. RestsOf H.state b s.first) _ _ (sym c.in_ok-step_house.ensures.house.present) hushed;
-    }
+    let p = goal.at.turn-requires-clause-served g c in
+    served-then c.in_ok-step_house.ensures.house.present c.requires.ongoing.served (hushed g p.After-hush (closed g p.After-close_lost (stepped g p.In_ok-step_house false c.if-branch.false)))
 
 pub turn-requires-clause-together : goal.turn-requires-clause-together
 turn-requires-clause-together g c =
-    let H = g.H.Asks in
-    let house = H.state c.step_house.new.house in
-    let lists = c.step_house.new.lists in
-    let s = c.requires.served in
-    let t = c.in_ok-step_house.ensures.together in
-    let h = c.in_ok-step_house.ensures.serving s.first s.calls s.before s.policy s.pid s.start s.given s.hands s.serving in
-    let stepped = step-waits s.given (0 ∷ here c.step_house.new.engine) c.in_ok-step_house.field-0 c.if-branch.false h.so in
-    let closed = c.close_lost.ensures.serving (H.state c.args.house.now).known.present s.first s.before (noted house.told house.known h.all) s.policy s.pid s.start lists.failed s.given [] stepped in
-    let hushed = c.hush.ensures.serving c.close_lost.new.held (H.state c.args.house.now).known.present s.first s.before (noted house.told house.known h.all) s.policy s.pid s.start lists.failed s.given [] closed in
-    record {
-      housed = housed-still house.known house.known _ _ lists.own (c.close_lost.ensures.ready house.known house.quiet house.queue lists.failed lists.own t.housed).0 (same-house house.known house.known refl) c.hush.ensures.places;
-      alone = t.alone;
-      held_is = hushed.held_is;
-    }
+    let p = goal.at.turn-requires-clause-together g c in
+    hushed-together g p.After-hush (closed g p.After-close_lost (stepped g p.In_ok-step_house false c.if-branch.false))
 
 pub turn-requires-clause-ready : goal.turn-requires-clause-ready
 turn-requires-clause-ready g c = let house = g.H.Asks.state c.step_house.new.house in let lists = c.step_house.new.lists in let o = c.in_ok-step_house.ensures in
     (c.close_lost.ensures.ready house.known house.quiet house.queue lists.failed lists.own o.together.housed).1 (o.ready c.if-branch.false (sym c.close_lost.ensures.ended ∙ c.is_over.ensures.on c.if-is_over.false))
 
 pub returns-in_err-went : goal.returns-in_err-went
-returns-in_err-went g c = let H = g.H.Asks in let W = g.W.Wire in let r = c.from_residual-in_err-went in let o = c.in_ok-step_house.ensures in let t = c.in_err-went.ensures in
+returns-in_err-went g c = let H = g.H.Asks in let W = g.W.Wire in let p = goal.at.returns-in_err-went g c in let r = c.from_residual-in_err-went in let o = c.in_ok-step_house.ensures in let t = c.in_err-went.ensures in
     let before = works-told _ o.wire (idle-then c.close_lost.ensures.wire c.hush.ensures.wire) in
     let both = works-then before t.wire in record {
-      serving = λ first calls before policy pid start given hands v.
-          let h = o.serving first calls before policy pid start given hands v in
-          let house = c.step_house.new.house in
-          let lists = c.step_house.new.lists in
-          let stepped = step-waits given (0 ∷ here c.step_house.new.engine) c.in_ok-step_house.field-0 c.if-branch.false h.so in
-          let closed = c.close_lost.ensures.serving (H.state c.args.house.now).known.present first before (noted (H.state house).told (H.state house).known h.all) policy pid start lists.failed given [] stepped in
-          let hushed = c.hush.ensures.serving c.close_lost.new.held (H.state c.args.house.now).known.present first before (noted (H.state house).told (H.state house).known h.all) policy pid start lists.failed given [] closed in
-          on-err r.result _ _ r.ensures.0 (promised-is (λ b. RestsOf H.state b first) _ _ o.house.present
-          (t.serving first h.all before policy pid start given h.hands (present-is (λ b. RestsOf H.state b first) _ _ (sym o.house.present) hushed)));
+      serving = λ first calls before policy pid start given hands v. on-err r.result _ _ r.ensures.0
+          ((cut-then o.house.present (hushed g p.After-hush (closed g p.After-close_lost (stepped g p.In_ok-step_house false c.if-branch.false))) (wanting g p.In_err-went)).runs first calls before policy pid start given hands v);
       together = on-err r.result _ _ r.ensures.0 tt;
       house = record { present = on-err r.result _ _ r.ensures.0 tt; must = t.house.must ∙ o.house.must };
       goes = on-err r.result _ _ r.ensures.0 tt;
@@ -204,16 +166,10 @@ returns-in_err-went g c = let H = g.H.Asks in let W = g.W.Wire in let r = c.from
 
 pub returns-clause-serving : goal.returns-clause-serving
 returns-clause-serving g c first calls before policy pid start given hands v =
-    let H = g.H.Asks in
-    let h = c.in_ok-step_house.ensures.serving first calls before policy pid start given hands v in
-    let house = c.step_house.new.house in
-    let lists = c.step_house.new.lists in
-    let present = c.in_ok-step_house.ensures.house.present in
-    let stepped = step-waits given (0 ∷ here c.step_house.new.engine) c.in_ok-step_house.field-0 c.if-branch.false h.so in
-    let closed = c.close_lost.ensures.serving (H.state c.args.house.now).known.present first before (noted (H.state house).told (H.state house).known h.all) policy pid start lists.failed given [] stepped in
-    let hushed = c.hush.ensures.serving c.close_lost.new.held (H.state c.args.house.now).known.present first before (noted (H.state house).told (H.state house).known h.all) policy pid start lists.failed given [] closed in
-    let t = c.in_ok-went.ensures.serving first h.all before policy pid start given h.hands (present-is (λ b. RestsOf H.state b first) _ _ (sym present) hushed) in
-    handed-so t (inl (present-is (λ b. RestsOf H.state b first) _ _ present t.so))
+    let p = goal.at.returns-clause-serving g c in
+    let before_wait = hushed g p.After-hush (closed g p.After-close_lost (stepped g p.In_ok-step_house false c.if-branch.false)) in
+    let h = (ran-then c.in_ok-step_house.ensures.house.present before_wait (waited g p.In_ok-went)).runs first calls before policy pid start given hands v in
+    handed-so h (inl h.so)
 
 pub returns-clause-together : goal.returns-clause-together
 returns-clause-together g c = let t = c.in_ok-went.ensures.together in record { housed = t.housed; alone = t.alone; held_is = t.held_is }

@@ -6,6 +6,7 @@ use Rattle.mux_engine.proofs.Answering.{answer-is, failed-whole, none-given, non
 use Rattle.mux_engine.proofs.Arms.{on-err}
 use Rattle.mux_engine.proofs.Comes.{came-same, came-then, over-answer, over-later, over-offered}
 use Rattle.mux_engine.proofs.Counting.{none-more}
+use Rattle.mux_engine.proofs.Ending.{places-cut}
 use Rattle.mux_engine.proofs.HouseCalls.{housed-still, same-house}
 use Rattle.mux_engine.proofs.Running.{given-is, present-is, promised-is}
 use Rattle.mux_engine.proofs.Spending.{cut-from, cut-idle, spent-cuts, stops-starved}
@@ -24,37 +25,33 @@ returns-in_err-enter g c = let r = c.from_residual in let i = c.enter.ensures.wi
     came = came-same _ _ i.untouched.calls;
     stops = stops-starved r.result _ c.args.turns _ _ r.ensures.0 (cut-idle c.args.turns _ _ i.untouched.calls);
   };
-  unopened = λ p. c.enter.ensures.places.last_own;
-  places = on-err r.result _ _ r.ensures.0 tt;
+  places = places-cut r.result _ _ r.ensures.0 (λ p. c.enter.ensures.places.last_own);
   idle = λ z p. i.untouched.no_fault;
   wire = keeps-idle i;
 }
 
 -- ---- the turns
 
-pub turns_of-requires-clause-served : goal.turns_of-requires-clause-served
-turns_of-requires-clause-served g c = let w = c.requires.running.0 in record {
-  first = w.first;
-  calls = w.calls;
-  hands = w.hands;
-  before = w.before;
-  policy = w.policy;
-  pid = w.pid;
-  start = w.start;
-  given = w.given;
-  serving = none-held _ _ c.new-lists.ensures.held c.new-lists.ensures.failed (c.in_ok-enter.ensures.serving w.first w.calls w.before w.policy w.pid w.start [] [] w.given w.serving c.requires.running.1).0;
-}
-
-pub turns_of-requires-clause-on : goal.turns_of-requires-clause-on
-turns_of-requires-clause-on g c = let w = c.requires.running.0 in
-    (c.in_ok-enter.ensures.serving w.first w.calls w.before w.policy w.pid w.start [] [] w.given w.serving c.requires.running.1).1
-
-pub turns_of-requires-clause-together : goal.turns_of-requires-clause-together
-turns_of-requires-clause-together g c = let H = g.H.Asks in let W = g.W.Wire in let w = c.requires.running.0 in let known = (H.state c.args.house.now).known in
-    let entered = (c.in_ok-enter.ensures.serving w.first w.calls w.before w.policy w.pid w.start [] [] w.given w.serving c.requires.running.1).0 in record {
-      housed = subst (λ (l : List ℕ). Housed known (W.state c.enter.new.wire).seen l) (sym c.new-lists.ensures.own) (housed-still known known _ _ [] c.requires.housed (same-house known known refl) c.enter.ensures.places);
-      alone = c.requires.alone;
-      held_is = c.new-lists.ensures.held ∙ entered.held_is;
+pub turns_of-requires-clause-ongoing : goal.turns_of-requires-clause-ongoing
+turns_of-requires-clause-ongoing g c = let H = g.H.Asks in let W = g.W.Wire in let w = c.requires.running.0 in let known = (H.state c.args.house.now).known in
+    let entered = c.in_ok-enter.ensures.serving w.first w.calls w.before w.policy w.pid w.start [] [] w.given w.serving c.requires.running.1 in record {
+      served = record {
+        first = w.first;
+        calls = w.calls;
+        hands = w.hands;
+        before = w.before;
+        policy = w.policy;
+        pid = w.pid;
+        start = w.start;
+        given = w.given;
+        serving = none-held _ _ c.new-lists.ensures.held c.new-lists.ensures.failed entered.0;
+      };
+      together = record {
+        housed = subst (λ (l : List ℕ). Housed known (W.state c.enter.new.wire).seen l) (sym c.new-lists.ensures.own) (housed-still known known _ _ [] c.requires.housed (same-house known known refl) c.enter.ensures.places);
+        alone = c.requires.alone;
+        held_is = c.new-lists.ensures.held ∙ entered.0.held_is;
+      };
+      on = entered.1;
     }
 
 pub returns-in_err-all : goal.returns-in_err-all
@@ -68,8 +65,7 @@ returns-in_err-all g c = let r = c.from_residual-in_err-all in let i = c.enter.e
     came = came-then _ _ _ (came-same _ _ i.untouched.calls) t.calls.came;
     stops = stops-starved r.result _ c.args.turns _ _ r.ensures.0 (cut-from c.args.turns _ _ _ i.untouched.calls t.calls);
   };
-  unopened = λ p. t.ended.unopened p ∙ c.enter.ensures.places.last_own;
-  places = on-err r.result _ _ r.ensures.0 tt;
+  places = places-cut r.result _ _ r.ensures.0 (λ p. t.ended.unopened p ∙ c.enter.ensures.places.last_own);
   idle = λ z p. no-fault-then i.untouched.no_fault (t.idle z).2;
   wire = keeps-then (keeps-idle i) t.wire;
 }
@@ -106,8 +102,7 @@ returns-in_err-finish g c = let H = g.H.Asks in let r = c.from_residual-in_err-f
     came = came-then _ _ _ (came-then _ _ _ (came-same _ _ i.untouched.calls) t.calls.came) f.wire.calls.came;
     stops = stops-starved r.result _ c.args.turns _ _ r.ensures.0 (spent-cuts _ _ c.args.turns _ _ _ (spent-from _ _ c.args.turns _ _ _ i.untouched.calls t.calls) f.wire.calls);
   };
-  unopened = λ p. f.places.last_own ∙ (t.ended.unopened p ∙ c.enter.ensures.places.last_own);
-  places = on-err r.result _ _ r.ensures.0 tt;
+  places = places-cut r.result _ _ r.ensures.0 (λ p. f.places.last_own ∙ (t.ended.unopened p ∙ c.enter.ensures.places.last_own));
   idle = λ z p. let a = c.enter.ensures.alone p in let j = t.idle z in
       no-fault-then (no-fault-then i.untouched.no_fault j.2) (f.idle (ap (λ (s : State). s.waiting) (j.1 ∙ a.0) ∙ c.requires.quiet) (t.house.present ∙ p)).1;
   wire = keeps-then (keeps-then (keeps-idle i) t.wire) f.wire.keeps;
@@ -142,10 +137,12 @@ returns g c = let H = g.H.Asks in let W = g.W.Wire in let p = (H.state c.args.ho
             ap (λ (s : State). s.ended) ((f.idle (ap (λ (s : State). s.waiting) (j.1 ∙ a.0) ∙ c.requires.quiet) (t.house.present ∙ out)).0 ∙ (j.1 ∙ a.0)) ∙ c.requires.on)
             is;
       };
-      unopened = λ out. f.places.last_own ∙ (t.ended.unopened out ∙ c.enter.ensures.places.last_own);
       places = record {
-        listeners = f.places.listeners ∙ (sym t.together.housed.listeners ∙ sym f.house.known.listeners);
-        own = f.places.own ∙ (sym t.together.housed.streams ∙ sym f.house.known.streams);
+        known = λ well. record {
+          listeners = f.places.listeners ∙ (sym t.together.housed.listeners ∙ sym f.house.known.listeners);
+          own = f.places.own ∙ (sym t.together.housed.streams ∙ sym f.house.known.streams);
+        };
+        unopened = λ out. f.places.last_own ∙ (t.ended.unopened out ∙ c.enter.ensures.places.last_own);
       };
       idle = λ z out. let a = c.enter.ensures.alone out in let j = t.idle z in
           no-fault-then (no-fault-then i.untouched.no_fault j.2) (f.idle (ap (λ (s : State). s.waiting) (j.1 ∙ a.0) ∙ c.requires.quiet) (t.house.present ∙ out)).1;

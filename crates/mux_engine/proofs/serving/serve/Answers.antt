@@ -26,8 +26,7 @@ returns-in_default g c =
       ended = ended-starved _ _ _ _ _ _;
       came = λ silent. tt;
       calls = record { came = came-none _; stops = stops-cut _ c.args.turns _ _ (cut-none c.args.turns _) };
-      unopened = λ p. refl;
-      places = λ some. absurd (some refl);
+      places = record { known = λ some. absurd (some refl); unopened = λ p. refl };
       idle = λ z p. no-fault-none _;
       wire = keeps-none _ _;
     }
@@ -79,3 +78,9 @@ returns-clause-came g c = λ silent. tt
 
 pub returns-clause-ended : goal.returns-clause-ended
 returns-clause-ended g c = ended-starved _ _ _ _ _ _
+
+pub returns-in-Ok-run-clause-places : goal.returns-in-Ok-run-clause-places
+returns-in-Ok-run-clause-places g c = let o = c.in-Ok-run.ensures.places in record { known = λ some. o.known refl; unopened = o.unopened }
+
+pub returns-clause-places : goal.returns-clause-places
+returns-clause-places g c = record { known = λ some. absurd (some refl); unopened = c.in-Err.ensures.places.unopened }

@@ -17,7 +17,28 @@ use Rattle.mux_engine.proofs.OwnAsks.{heeded-counted, turn-comes}
 use Rattle.mux_engine.proofs.Places.{server-open}
 use Rattle.mux_engine.proofs.Waits.{some-waits, waiting-blocked, waiting-open}
 use Rattle.mux_engine.proofs.Wired.{works-wait, works-wait-err}
+use Rattle.mux_engine.proofs.serving.turn.Given.{Over}
+use Rattle.mux_engine.proofs.serving.turn.Goals.{After-next_of, In-Own, In_ok-list_waiting, Start}
 use Rattle.mux_engine.proofs.serving.turn.Goals as goal
+
+-- ---- what the turn begins with, and what was waited for
+
+begins : (g : Over) (c : Start g) → BeginsTurn (g.H.Asks.state c.args.house.now) (g.W.Wire.state c.args.wire.now) c.args.lists.now c.args.engine.now
+begins g c = let q = c.requires in record { together = q.together; ready = q.ready; permitted = q.permitted; closed = q.closed; on = q.on; hears = q.hears }
+
+-- the streams that wait
+todo-is : (g : Over) (c : In_ok-list_waiting g) → c.list_waiting.new.todo ≡ c.args.engine.now.waiting ++ filter (waits_for (g.H.Asks.state c.args.house.now).queue c.args.lists.now.failed) c.args.lists.now.own
+todo-is g c = c.in_ok-list_waiting.ensures ∙ ap (λ (l : List ℕ). l ++ filter (waits_for (g.H.Asks.state c.args.house.now).queue c.args.lists.now.failed) c.args.lists.now.own) c.waiting.ensures.exact
+
+waited : (g : Over) (c : After-next_of g) → HasWaited (g.W.Wire.state c.args.wire.now).seen (g.W.Wire.state c.wait-told.new.self).seen c.args.lists.now.own c.args.lists.now.failed (g.H.Asks.state c.args.house.now).queue c.args.engine.now c.wait-told.result c.wait-told.new.into
+waited g c =
+    let k = c.wait-told in
+    let lists = c.args.lists.now in
+    has-waited (g.W.Wire.state c.args.wire.now) (g.W.Wire.state k.new.self) lists.own lists.failed (g.H.Asks.state c.args.house.now).queue c.args.engine.now k.result k.new.into c.as_bytes.result.now c.list_waiting.new.todo c.waiting.result.now c.wanted.result (g.W.Wire.state k.new.self).tally
+    k.ensures.state c.in_ok-list_waiting.ensures c.waiting.ensures.exact c.wanted.ensures c.next_of.ensures.bytes c.as_bytes.ensures.bytes k.ensures.turn k.ensures.own_turn
+
+told-own : (g : Over) (c : In-Own g) → IsOwnOf c.in-Own.told c.wait-told.result c.wait-told.new.into
+told-own g c = subst (λ (x : List ℕ). IsOwnOf c.in-Own.told c.wait-told.result x) c.as_bytes.ensures.bytes c.in-Own.ensures.next
 
 -- ---- before the wait
 
@@ -36,42 +57,30 @@ returns-in_err-list_waiting g c =
 
 pub wait-told-requires-clause-may : goal.wait-told-requires-clause-may
 wait-told-requires-clause-may g c =
-    let H = g.H.Asks in
-    let q = c.requires in
-    let lists = c.args.lists.now in
-    let wire : WireState = g.W.Wire.state c.args.wire.now in
-    let b : BeginsTurn (H.state c.args.house.now) wire lists c.args.engine.now = record { together = q.together; ready = q.ready; permitted = q.permitted; closed = q.closed; on = q.on; hears = q.hears } in
-    let a = at-wait H.state q.served.first c.args.house.now q.served.calls wire lists c.args.engine.now b q.served.hands in
-    let todo : c.list_waiting.new.todo ≡ c.args.engine.now.waiting ++ filter (waits_for (H.state c.args.house.now).queue lists.failed) lists.own =
-    c.in_ok-list_waiting.ensures ∙ ap (λ (l : List ℕ). l ++ filter (waits_for (H.state c.args.house.now).queue lists.failed) lists.own) c.waiting.ensures.exact in record {
-      are_blocked = subst (λ (l : List ℕ). All (λ t. IsTrue (among t wire.seen.blocked)) l) (sym todo) (waiting-blocked q.served.serving a.none a.admitted a.live a.offered);
-      are_open = subst (λ (l : List ℕ). All (λ t. IsTrue (among t wire.seen.streams)) l) (sym todo) (waiting-open q.served.serving a.none a.admitted a.live a.offered);
-      server = server-open q.served.serving;
-      some = λ write. subst (λ (l : List ℕ). 0 < length l) (sym todo) (some-waits q.served.serving a.none a.admitted a.live a.offered (sym c.wanted.ensures ∙ write));
+    let p = goal.at.wait-told-requires-clause-may g c in
+    let a = at-wait g.H.Asks.state c.requires.served.first c.args.house.now c.requires.served.calls (g.W.Wire.state c.args.wire.now) c.args.lists.now c.args.engine.now (begins g p.Start) c.requires.served.hands in
+    let seen = (g.W.Wire.state c.args.wire.now).seen in
+    let todo = sym (todo-is g p.In_ok-list_waiting) in record {
+      are_blocked = subst (λ (l : List ℕ). All (λ t. IsTrue (among t seen.blocked)) l) todo (waiting-blocked c.requires.served.serving a.none a.admitted a.live a.offered);
+      are_open = subst (λ (l : List ℕ). All (λ t. IsTrue (among t seen.streams)) l) todo (waiting-open c.requires.served.serving a.none a.admitted a.live a.offered);
+      server = server-open c.requires.served.serving;
+      some = λ write. subst (λ (l : List ℕ). 0 < length l) todo (some-waits c.requires.served.serving a.none a.admitted a.live a.offered (sym c.wanted.ensures ∙ write));
     }
 
 -- ---- an event
 
 pub returns-in-Event : goal.returns-in-Event
 returns-in-Event g c =
-    let H = g.H.Asks in
-    let W = g.W.Wire in
-    let q = c.requires in
+    let p = goal.at.returns-in-Event g c in
     let k = c.wait-told in
-    let lists = c.args.lists.now in
-    let wire : WireState = W.state c.args.wire.now in
-    let b : BeginsTurn (H.state c.args.house.now) wire lists c.args.engine.now = record { together = q.together; ready = q.ready; permitted = q.permitted; closed = q.closed; on = q.on; hears = q.hears } in
-    let w : HasWaited wire.seen (W.state k.new.self).seen lists.own lists.failed (H.state c.args.house.now).queue c.args.engine.now k.result k.new.into =
-    has-waited wire (W.state k.new.self) lists.own lists.failed (H.state c.args.house.now).queue c.args.engine.now k.result k.new.into c.as_bytes.result.now c.list_waiting.new.todo c.waiting.result.now c.wanted.result (W.state k.new.self).tally
-    k.ensures.state c.in_ok-list_waiting.ensures c.waiting.ensures.exact c.wanted.ensures c.next_of.ensures.bytes c.as_bytes.ensures.bytes k.ensures.turn k.ensures.own_turn in
     let next : IsEventOf c.in-Event.e k.result k.new.into = subst (λ (x : List ℕ). IsEventOf c.in-Event.e k.result x) c.as_bytes.ensures.bytes c.in-Event.ensures.next in
-    let heeded : IsIdle (W.state k.new.self) (W.state c.heed.new.wire) (W.faults k.new.self) (W.faults c.heed.new.wire) = record {
+    let heeded : IsIdle (g.W.Wire.state k.new.self) (g.W.Wire.state c.heed.new.wire) (g.W.Wire.faults k.new.self) (g.W.Wire.faults c.heed.new.wire) = record {
       untouched = c.heed.ensures.wire;
-      own_faults = heeded-counted q.served.serving.stands (turn-comes q.served.serving c.in-Event.e k.result c.wanted.result k.new.into c.as_bytes.result.now c.next_of.ensures.bytes k.ensures.turn c.in-Event.ensures.next)
-          c.heed.result H.may c.heed.new.engine c.heed.new.asks _ _ _ _ _ _ _ _ c.heed.ensures.own_faults c.heed.ensures.heeded;
+      own_faults = heeded-counted c.requires.served.serving.stands (turn-comes c.requires.served.serving c.in-Event.e k.result c.wanted.result k.new.into c.as_bytes.result.now c.next_of.ensures.bytes k.ensures.turn c.in-Event.ensures.next)
+          c.heed.result g.H.Asks.may c.heed.new.engine c.heed.new.asks _ _ _ _ _ _ _ _ c.heed.ensures.own_faults c.heed.ensures.heeded;
     } in
-    let d = turn-event H.may H.state c.args.house.now wire (W.state k.new.self) (W.faults c.args.wire.now) (W.faults k.new.self) lists c.args.engine.now q.served b w
-    c.heed.result c.heed.new.house (W.state c.heed.new.wire) (W.faults c.heed.new.wire) c.heed.new.engine c.heed.new.asks c.in-Event.e next c.heed.ensures.heeded c.heed.ensures.handed c.heed.ensures.must k.ensures.cause
+    let d = turn-event (g.W.Wire.state k.new.self) (g.W.Wire.faults c.args.wire.now) (g.W.Wire.faults k.new.self) c.requires.served (begins g p.Start) (waited g p.After-next_of)
+    c.heed.result c.heed.new.house (g.W.Wire.state c.heed.new.wire) (g.W.Wire.faults c.heed.new.wire) c.heed.new.engine c.heed.new.asks c.in-Event.e next c.heed.ensures.heeded c.heed.ensures.handed c.heed.ensures.must k.ensures.cause
     (ap (λ (x : WireState). x.calls) k.ensures.state) c.heed.ensures.wire in record {
       serving = d.serving;
       together = d.together _ refl refl;
@@ -85,86 +94,52 @@ returns-in-Event g c =
 
 pub hear-requires-clause-fits : goal.hear-requires-clause-fits
 hear-requires-clause-fits g c =
-    let H = g.H.Asks in
-    let W = g.W.Wire in
-    let q = c.requires in
+    let p = goal.at.hear-requires-clause-fits g c in
     let k = c.wait-told in
-    let lists = c.args.lists.now in
-    let wire : WireState = W.state c.args.wire.now in
-    let w : HasWaited wire.seen (W.state k.new.self).seen lists.own lists.failed (H.state c.args.house.now).queue c.args.engine.now k.result k.new.into =
-    has-waited wire (W.state k.new.self) lists.own lists.failed (H.state c.args.house.now).queue c.args.engine.now k.result k.new.into c.as_bytes.result.now c.list_waiting.new.todo c.waiting.result.now c.wanted.result (W.state k.new.self).tally
-    k.ensures.state c.in_ok-list_waiting.ensures c.waiting.ensures.exact c.wanted.ensures c.next_of.ensures.bytes c.as_bytes.ensures.bytes k.ensures.turn k.ensures.own_turn in
-    let next : IsOwnOf c.in-Own.told k.result k.new.into = subst (λ (x : List ℕ). IsOwnOf c.in-Own.told k.result x) c.as_bytes.ensures.bytes c.in-Own.ensures.next in
-    turn-fits w c.in-Own.told next (H.state c.args.house.now).known (H.state c.args.house.now).quiet q.together.housed q.together.alone q.ready
+    turn-fits (waited g p.After-next_of) c.in-Own.told (told-own g p.In-Own) (g.H.Asks.state c.args.house.now).known (g.H.Asks.state c.args.house.now).quiet c.requires.together.housed c.requires.together.alone c.requires.ready
 
 pub returns-in_err-hear-in-Own : goal.returns-in_err-hear-in-Own
 returns-in_err-hear-in-Own g c =
-    let H = g.H.Asks in
-    let W = g.W.Wire in
-    let q = c.requires in
+    let p = goal.at.returns-in_err-hear-in-Own g c in
     let k = c.wait-told in
     let r = c.from_residual-in_err-hear-in-Own in
-    let lists = c.args.lists.now in
-    let wire : WireState = W.state c.args.wire.now in
-    let b : BeginsTurn (H.state c.args.house.now) wire lists c.args.engine.now = record { together = q.together; ready = q.ready; permitted = q.permitted; closed = q.closed; on = q.on; hears = q.hears } in
-    let w : HasWaited wire.seen (W.state k.new.self).seen lists.own lists.failed (H.state c.args.house.now).queue c.args.engine.now k.result k.new.into =
-    has-waited wire (W.state k.new.self) lists.own lists.failed (H.state c.args.house.now).queue c.args.engine.now k.result k.new.into c.as_bytes.result.now c.list_waiting.new.todo c.waiting.result.now c.wanted.result (W.state k.new.self).tally
-    k.ensures.state c.in_ok-list_waiting.ensures c.waiting.ensures.exact c.wanted.ensures c.next_of.ensures.bytes c.as_bytes.ensures.bytes k.ensures.turn k.ensures.own_turn in
-    let next : IsOwnOf c.in-Own.told k.result k.new.into = subst (λ (x : List ℕ). IsOwnOf c.in-Own.told k.result x) c.as_bytes.ensures.bytes c.in-Own.ensures.next in
-    let d = turn-unheard H.may H.state c.args.house.now wire (W.state k.new.self) (W.faults c.args.wire.now) (W.faults k.new.self) lists c.args.engine.now q.served b w
-    c.hear.new.house c.in-Own.told next c.hear.ensures.told c.hear.ensures.must r.result c.hear.new.lists.held c.hear.new.lists.own c.hear.new.lists.failed r.ensures.0 in record {
+    let d = turn-unheard (g.W.Wire.state k.new.self) (g.W.Wire.faults c.args.wire.now) (g.W.Wire.faults k.new.self) c.requires.served (begins g p.Start) (waited g p.After-next_of)
+    c.hear.new.house c.in-Own.told (told-own g p.In-Own) c.hear.ensures.told c.hear.ensures.must r.result c.hear.new.lists.held c.hear.new.lists.own c.hear.new.lists.failed r.ensures.0 in record {
       serving = d.serving;
       together = d.together _ refl refl;
       house = d.stays;
       went = on-err r.result _ _ r.ensures.0 tt;
       ended = d.ended;
-      wire = works-own-turn r.result c.in-Own.told k.result c.list_waiting.new.todo c.wanted.result k.new.into next k.ensures.state k.ensures.cause;
+      wire = works-own-turn r.result c.in-Own.told k.result c.list_waiting.new.todo c.wanted.result k.new.into (told-own g p.In-Own) k.ensures.state k.ensures.cause;
     }
 
 pub returns-in_ok-hear-in-Own : goal.returns-in_ok-hear-in-Own
 returns-in_ok-hear-in-Own g c =
-    let H = g.H.Asks in
-    let W = g.W.Wire in
-    let q = c.requires in
+    let p = goal.at.returns-in_ok-hear-in-Own g c in
     let k = c.wait-told in
     let heard = c.in_ok-hear-in-Own.ensures in
-    let lists = c.args.lists.now in
-    let wire : WireState = W.state c.args.wire.now in
-    let b : BeginsTurn (H.state c.args.house.now) wire lists c.args.engine.now = record { together = q.together; ready = q.ready; permitted = q.permitted; closed = q.closed; on = q.on; hears = q.hears } in
-    let w : HasWaited wire.seen (W.state k.new.self).seen lists.own lists.failed (H.state c.args.house.now).queue c.args.engine.now k.result k.new.into =
-    has-waited wire (W.state k.new.self) lists.own lists.failed (H.state c.args.house.now).queue c.args.engine.now k.result k.new.into c.as_bytes.result.now c.list_waiting.new.todo c.waiting.result.now c.wanted.result (W.state k.new.self).tally
-    k.ensures.state c.in_ok-list_waiting.ensures c.waiting.ensures.exact c.wanted.ensures c.next_of.ensures.bytes c.as_bytes.ensures.bytes k.ensures.turn k.ensures.own_turn in
-    let next : IsOwnOf c.in-Own.told k.result k.new.into = subst (λ (x : List ℕ). IsOwnOf c.in-Own.told k.result x) c.as_bytes.ensures.bytes c.in-Own.ensures.next in
-    let d = turn-heard H.may H.state c.args.house.now wire (W.state k.new.self) (W.faults c.args.wire.now) (W.faults k.new.self) lists c.args.engine.now q.served b w
-    c.hear.new.house c.in-Own.told next c.hear.ensures.told c.hear.ensures.must {E = OutOfMemory} On c.hear.new.lists.held c.hear.new.lists.own c.hear.new.lists.failed heard.known heard.lists.held heard.lists.own heard.lists.failed heard.stands in record {
+    let d = turn-heard (g.W.Wire.state k.new.self) (g.W.Wire.faults c.args.wire.now) (g.W.Wire.faults k.new.self) c.requires.served (begins g p.Start) (waited g p.After-next_of)
+    c.hear.new.house c.in-Own.told (told-own g p.In-Own) c.hear.ensures.told c.hear.ensures.must {E = OutOfMemory} On c.hear.new.lists.held c.hear.new.lists.own c.hear.new.lists.failed heard.known heard.lists.held heard.lists.own heard.lists.failed heard.stands in record {
       serving = d.serving;
       together = d.together _ refl refl;
       house = d.stays;
-      went = sym (ap went_of q.on);
+      went = sym (ap went_of c.requires.on);
       ended = d.ended;
-      wire = works-own-turn _ c.in-Own.told k.result c.list_waiting.new.todo c.wanted.result k.new.into next k.ensures.state k.ensures.cause;
+      wire = works-own-turn _ c.in-Own.told k.result c.list_waiting.new.todo c.wanted.result k.new.into (told-own g p.In-Own) k.ensures.state k.ensures.cause;
     }
 
 -- ---- a stream takes bytes again
 
 pub returns-in-Freed : goal.returns-in-Freed
 returns-in-Freed g c =
-    let H = g.H.Asks in
-    let W = g.W.Wire in
-    let q = c.requires in
+    let p = goal.at.returns-in-Freed g c in
     let k = c.wait-told in
-    let lists = c.args.lists.now in
-    let wire : WireState = W.state c.args.wire.now in
-    let b : BeginsTurn (H.state c.args.house.now) wire lists c.args.engine.now = record { together = q.together; ready = q.ready; permitted = q.permitted; closed = q.closed; on = q.on; hears = q.hears } in
-    let w : HasWaited wire.seen (W.state k.new.self).seen lists.own lists.failed (H.state c.args.house.now).queue c.args.engine.now k.result k.new.into =
-    has-waited wire (W.state k.new.self) lists.own lists.failed (H.state c.args.house.now).queue c.args.engine.now k.result k.new.into c.as_bytes.result.now c.list_waiting.new.todo c.waiting.result.now c.wanted.result (W.state k.new.self).tally
-    k.ensures.state c.in_ok-list_waiting.ensures c.waiting.ensures.exact c.wanted.ensures c.next_of.ensures.bytes c.as_bytes.ensures.bytes k.ensures.turn k.ensures.own_turn in
-    let d = turn-freed H.may H.state c.args.house.now wire (W.state k.new.self) (W.faults c.args.wire.now) (W.faults k.new.self) lists c.args.engine.now q.served b w
+    let d = turn-freed (g.W.Wire.state k.new.self) (g.W.Wire.faults c.args.wire.now) (g.W.Wire.faults k.new.self) c.requires.served (begins g p.Start) (waited g p.After-next_of)
     {E = OutOfMemory} On c.in-Freed.stream c.remove.new.self c.in-Freed.ensures.next.0 c.in-Freed.ensures.next.1 c.remove.ensures in record {
       serving = d.serving;
       together = d.together _ refl refl;
       house = d.stays;
-      went = sym (ap went_of q.on);
+      went = sym (ap went_of c.requires.on);
       ended = d.ended;
       wire = works-wait _ k.result c.list_waiting.new.todo c.wanted.result k.new.into (ap is_starved c.in-Freed.ensures.next.1) k.ensures.state k.ensures.cause;
     }
@@ -173,17 +148,9 @@ returns-in-Freed g c =
 
 pub returns-in-NoMemory : goal.returns-in-NoMemory
 returns-in-NoMemory g c =
-    let H = g.H.Asks in
-    let W = g.W.Wire in
-    let q = c.requires in
+    let p = goal.at.returns-in-NoMemory g c in
     let k = c.wait-told in
-    let lists = c.args.lists.now in
-    let wire : WireState = W.state c.args.wire.now in
-    let b : BeginsTurn (H.state c.args.house.now) wire lists c.args.engine.now = record { together = q.together; ready = q.ready; permitted = q.permitted; closed = q.closed; on = q.on; hears = q.hears } in
-    let w : HasWaited wire.seen (W.state k.new.self).seen lists.own lists.failed (H.state c.args.house.now).queue c.args.engine.now k.result k.new.into =
-    has-waited wire (W.state k.new.self) lists.own lists.failed (H.state c.args.house.now).queue c.args.engine.now k.result k.new.into c.as_bytes.result.now c.list_waiting.new.todo c.waiting.result.now c.wanted.result (W.state k.new.self).tally
-    k.ensures.state c.in_ok-list_waiting.ensures c.waiting.ensures.exact c.wanted.ensures c.next_of.ensures.bytes c.as_bytes.ensures.bytes k.ensures.turn k.ensures.own_turn in
-    let d = turn-wanting H.may H.state c.args.house.now wire (W.state k.new.self) (W.faults c.args.wire.now) (W.faults k.new.self) lists c.args.engine.now q.served b w {A = Went} {E = OutOfMemory} (record {}) c.in-NoMemory.ensures.next lists.held lists.own lists.failed in record {
+    let d = turn-wanting (g.W.Wire.state k.new.self) (g.W.Wire.faults c.args.wire.now) (g.W.Wire.faults k.new.self) c.requires.served (begins g p.Start) (waited g p.After-next_of) {A = Went} {E = OutOfMemory} (record {}) c.in-NoMemory.ensures.next c.args.lists.now.held c.args.lists.now.own c.args.lists.now.failed in record {
       serving = d.serving;
       together = tt;
       house = d.stays;

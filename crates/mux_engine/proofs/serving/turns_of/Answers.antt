@@ -1,4 +1,4 @@
-use Rattle.std.proofs.Common.{◌≡◌, ◌+◌, ◌∙◌, refl, sym, ap, arith}
+use Rattle.std.proofs.Common.{◌+◌, ◌∙◌, refl, sym, ap, arith}
 use Rattle.mux_machine.specs.State.{State}
 use Rattle.mux_engine.specs.Sides.{RestsOf}
 use Rattle.mux_engine.proofs.Arms.{on-err}
@@ -16,10 +16,10 @@ use Rattle.mux_engine.proofs.serving.turns_of.Goals as goal
 pub loop-init : goal.loop-init
 loop-init g c = record {
   serving = λ first calls before policy pid start given hands v. handed-none _ hands (given-is given (given + 0) (omega arith) v);
-  together = c.requires.together;
+  together = c.requires.ongoing.together;
   present = refl;
   must = refl;
-  on = c.requires.on;
+  on = c.requires.ongoing.on;
   settled = c.requires.unsettled;
   first = λ z. (refl, refl, refl);
   unopened = λ p. refl;
@@ -28,21 +28,23 @@ loop-init g c = record {
 }
 
 pub one_turn-requires : goal.one_turn-requires
-one_turn-requires g c = let H = g.H.Asks in let w = c.requires.served in let i = c.loop.invariant in
+one_turn-requires g c = let H = g.H.Asks in let w = c.requires.ongoing.served in let i = c.loop.invariant in
     let h = i.serving w.first w.calls w.before w.policy w.pid w.start w.given w.hands w.serving in record {
-      served = record {
-        first = w.first;
-        calls = h.all;
-        hands = h.hands;
-        before = w.before;
-        policy = w.policy;
-        pid = w.pid;
-        start = w.start;
-        given = w.given + c.loop.counter;
-        serving = present-is (λ b. RestsOf H.state b w.first) _ _ (sym i.present) h.so;
+      ongoing = record {
+        served = record {
+          first = w.first;
+          calls = h.all;
+          hands = h.hands;
+          before = w.before;
+          policy = w.policy;
+          pid = w.pid;
+          start = w.start;
+          given = w.given + c.loop.counter;
+          serving = present-is (λ b. RestsOf H.state b w.first) _ _ (sym i.present) h.so;
+        };
+        together = i.together;
+        on = i.on;
       };
-      together = i.together;
-      on = i.on;
     }
 
 pub loop-preserved : goal.loop-preserved

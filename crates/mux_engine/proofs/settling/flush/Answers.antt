@@ -1,8 +1,8 @@
-use Rattle.std.proofs.Common.{◌∷◌, ◌∙◌, refl, sym, ap, inl}
-use Rattle.mux_outside.specs.OwnStreams.{is_one}
+use Rattle.std.proofs.Common.{◌∙◌, refl, ap, inl}
 use Rattle.mux_machine.specs.State.{State, queue_in}
-use Rattle.mux_engine.proofs.Arms.{on-err, on-ok, stays, then-stays-or-fails}
 use Rattle.mux_engine.specs.Serving.{IsOfferedTo}
+use Rattle.mux_engine.proofs.Arms.{on-err, on-ok, stays, then-stays-or-fails}
+use Rattle.mux_engine.proofs.Following.{served-on}
 use Rattle.mux_engine.proofs.Loops.{more-left, no-zero, server-idle}
 use Rattle.mux_engine.proofs.Places.{places-then}
 use Rattle.mux_engine.proofs.Wired.{no-fault-same, no-fault-then, works-behind, works-err, works-then}
@@ -13,43 +13,16 @@ hush-requires g c = record { hears = c.requires.served.serving.hears }
 
 pub offer_clients-requires : goal.offer_clients-requires
 offer_clients-requires g c = let w = c.requires.served in record {
-  served = record {
-    present = w.present;
-    first = w.first;
-    before = w.before;
-    now = w.now;
-    policy = w.policy;
-    pid = w.pid;
-    start = w.start;
-    failed = w.failed;
-    given = w.given;
-    todo = w.todo;
-    serving = c.hush.ensures.serving _ w.present w.first w.before w.now w.policy w.pid w.start w.failed w.given w.todo w.serving;
-  };
-  numbered = λ t one. c.requires.numbered t (ap (is_one t) (sym c.hush.ensures.places.own) ∙ one);
+  served = served-on w (c.hush.ensures.serving _ w.present w.first w.before w.now w.policy w.pid w.start w.failed w.given w.todo w.serving);
 }
 
 pub offer-requires-clause-served : goal.offer-requires-clause-served
-offer-requires-clause-served g c = let w = c.requires.served in record {
-  present = w.present;
-  first = w.first;
-  before = w.before;
-  now = w.now;
-  policy = w.policy;
-  pid = w.pid;
-  start = w.start;
-  failed = w.failed;
-  given = w.given;
-  todo = 0 ∷ w.todo;
-  serving = c.in_ok-offer_clients.ensures.serving w.todo w.present w.first w.before w.now w.policy w.pid w.start w.failed w.given
-      (more-left w.todo (c.hush.ensures.serving _ w.present w.first w.before w.now w.policy w.pid w.start w.failed w.given w.todo w.serving));
-}
+offer-requires-clause-served g c = let w = c.requires.served in
+    served-on w (c.in_ok-offer_clients.ensures.serving w.todo w.present w.first w.before w.now w.policy w.pid w.start w.failed w.given
+    (more-left w.todo (c.hush.ensures.serving _ w.present w.first w.before w.now w.policy w.pid w.start w.failed w.given w.todo w.serving)))
 
-pub offer-requires-clause-numbered : goal.offer-requires-clause-numbered
-offer-requires-clause-numbered g c = λ t one. c.requires.numbered t (ap (is_one t) (sym (c.offer_clients.ensures.places.own ∙ c.hush.ensures.places.own)) ∙ one)
-
-pub offer-requires-clause-no_house : goal.offer-requires-clause-no_house
-offer-requires-clause-no_house g c = no-zero
+pub offer-requires-clause-stream : goal.offer-requires-clause-stream
+offer-requires-clause-stream g c = record { opened = refl; no_house = no-zero }
 
 pub returns-in_err-offer_clients-clause-serving : goal.returns-in_err-offer_clients-clause-serving
 returns-in_err-offer_clients-clause-serving g c left present first before now policy pid start failed given v = on-err c.from_residual.result _ _ c.from_residual.ensures.0

@@ -1,7 +1,7 @@
 use Rattle.std.proofs.Common.{◌∷◌, ◌∙◌, sym, ap, refl}
-use Rattle.mux_outside.specs.OwnStreams.{is_one}
 use Rattle.mux_outside.specs.Streams.{among}
 use Rattle.mux_engine.proofs.Arms.{offered-none, offered-then, on-err, unchanged-then}
+use Rattle.mux_engine.proofs.Following.{served-on}
 use Rattle.mux_engine.proofs.Lists.{same-open}
 use Rattle.mux_engine.proofs.Loops.{on-done, on-more, twice-among, zero-among}
 use Rattle.mux_engine.proofs.Places.{places-same, places-then}
@@ -21,25 +21,11 @@ loop-init g c = let w = c.requires.served in record {
 }
 
 pub offer_once-requires-clause-served : goal.offer_once-requires-clause-served
-offer_once-requires-clause-served g c = let w = c.requires.served in record {
-  present = w.present;
-  first = w.first;
-  before = w.before;
-  now = w.now;
-  policy = w.policy;
-  pid = w.pid;
-  start = w.start;
-  failed = w.failed;
-  given = w.given;
-  todo = c.args.stream ∷ (0 ∷ w.todo);
-  serving = c.loop.invariant.serving (0 ∷ w.todo) (zero-among c.args.stream w.todo) w.present w.first w.before w.now w.policy w.pid w.start w.failed w.given (wider c.args.stream (wider 0 w.serving));
-}
+offer_once-requires-clause-served g c = let w = c.requires.served in
+    served-on w (c.loop.invariant.serving (0 ∷ w.todo) (zero-among c.args.stream w.todo) w.present w.first w.before w.now w.policy w.pid w.start w.failed w.given (wider c.args.stream (wider 0 w.serving)))
 
-pub offer_once-requires-clause-stream_open : goal.offer_once-requires-clause-stream_open
-offer_once-requires-clause-stream_open g c = same-open c.args.engine.now c.loop.engine c.args.stream c.loop.invariant.engine.streams ∙ c.requires.stream_open
-
-pub offer_once-requires-clause-numbered : goal.offer_once-requires-clause-numbered
-offer_once-requires-clause-numbered g c = λ t one. c.requires.numbered t (ap (is_one t) (sym c.loop.invariant.places.own) ∙ one)
+pub offer_once-requires-clause-stream : goal.offer_once-requires-clause-stream
+offer_once-requires-clause-stream g c = record { opened = same-open c.args.engine.now c.loop.engine c.args.stream c.loop.invariant.engine.streams ∙ c.requires.stream.opened; no_house = c.requires.stream.no_house }
 
 -- ---- want of memory
 
@@ -71,7 +57,7 @@ returns-clause-holds g c = λ t a. c.in_ok-offer_once.ensures.holds t (c.loop.in
 -- ---- the stream is blocked
 
 pub returns-then-contains-clause-serving : goal.returns-then-contains-clause-serving
-returns-then-contains-clause-serving g c todo zero present first before now policy pid start failed given v = held-back c.args.stream v c.requires.stream_open c.requires.no_house (sym c.if-contains.ensures)
+returns-then-contains-clause-serving g c todo zero present first before now policy pid start failed given v = held-back c.args.stream v c.requires.stream.opened c.requires.stream.no_house (sym c.if-contains.ensures)
 
 -- ---- where nothing waits
 

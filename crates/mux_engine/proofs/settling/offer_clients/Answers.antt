@@ -1,10 +1,10 @@
 use Rattle.std.proofs.Common.{◌≡◌, ◌+◌, ◌∷◌, ◌++◌, ◌∙◌, sym, ap, subst, refl, ℕ, List, get_or, drop, true, arith}
-use Rattle.mux_outside.specs.OwnStreams.{is_one}
 use Rattle.mux_outside.specs.Streams.{among, without}
 use Rattle.mux_history.specs.declared.limits.TheConstants.{HOUSE}
 use Rattle.mux_machine.specs.State.{State, waiting_in}
 use Rattle.mux_engine.proofs.Arms.{none-there, on-err}
 use Rattle.mux_engine.proofs.Cuts.{cut-still}
+use Rattle.mux_engine.proofs.Following.{served-on}
 use Rattle.mux_engine.proofs.Lists.{drop-next, element-among, same-open}
 use Rattle.mux_engine.proofs.Loops.{clients-of, more-left, only-waiting, server-behind, todo-is, waits-open}
 use Rattle.mux_engine.proofs.Places.{places-same, places-then}
@@ -30,32 +30,14 @@ loop-stream-init g c =
     }
 
 pub offer-requires-clause-served : goal.offer-requires-clause-served
-offer-requires-clause-served g c = let w = c.requires.served in record {
-  present = w.present;
-  first = w.first;
-  before = w.before;
-  now = w.now;
-  policy = w.policy;
-  pid = w.pid;
-  start = w.start;
-  failed = w.failed;
-  given = w.given;
-  todo = drop c.loop-stream.stream-index c.as_slice-stream-items.result.now ++ (0 ∷ w.todo);
-  serving = c.loop-stream.invariant.serving w.todo w.present w.first w.before w.now w.policy w.pid w.start w.failed w.given (more-left w.todo w.serving);
-}
+offer-requires-clause-served g c = let w = c.requires.served in
+    served-on w (c.loop-stream.invariant.serving w.todo w.present w.first w.before w.now w.policy w.pid w.start w.failed w.given (more-left w.todo w.serving))
 
-pub offer-requires-clause-stream_open : goal.offer-requires-clause-stream_open
-offer-requires-clause-stream_open g c =
+pub offer-requires-clause-stream : goal.offer-requires-clause-stream
+offer-requires-clause-stream g c =
     let items : List ℕ = c.as_slice-stream-items.result.now in let i : ℕ = c.loop-stream.stream-index in
-    same-open c.args.engine.now c.loop-stream.engine (get_or items i 0) c.loop-stream.invariant.streams ∙ (c.loop-stream.invariant.clients (get_or items i 0) (element-among i items (omega arith))).opened
-
-pub offer-requires-clause-no_house : goal.offer-requires-clause-no_house
-offer-requires-clause-no_house g c =
-    let items : List ℕ = c.as_slice-stream-items.result.now in let i : ℕ = c.loop-stream.stream-index in
-    (c.loop-stream.invariant.clients (get_or items i 0) (element-among i items (omega arith))).no_house
-
-pub offer-requires-clause-numbered : goal.offer-requires-clause-numbered
-offer-requires-clause-numbered g c = λ t one. c.requires.numbered t (ap (is_one t) (sym c.loop-stream.invariant.places.own) ∙ one)
+    let client = c.loop-stream.invariant.clients (get_or items i 0) (element-among i items (omega arith)) in
+    record { opened = same-open c.args.engine.now c.loop-stream.engine (get_or items i 0) c.loop-stream.invariant.streams ∙ client.opened; no_house = client.no_house }
 
 pub returns-in_err-offer-clause-serving : goal.returns-in_err-offer-clause-serving
 returns-in_err-offer-clause-serving g c left present first before now policy pid start failed given v =

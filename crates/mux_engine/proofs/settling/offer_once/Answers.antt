@@ -9,11 +9,11 @@ use Rattle.mux_engine.specs.Serving.{Serving}
 use Rattle.mux_engine.specs.Sides.{RestsOf}
 use Rattle.mux_engine.proofs.Arms.{Failing, empty-is, failing, offered-fails, offered-none, offered-same, on-err, some-bytes, unless-empty}
 use Rattle.mux_engine.proofs.Asks.{goes-asked, goes-unasked, none-asked, unasked-none}
-use Rattle.mux_engine.proofs.Holding.{client-unfinished, held-more}
+use Rattle.mux_engine.proofs.Holding.{held-more, none-finished}
 use Rattle.mux_engine.proofs.Lists.{not-own-stream}
 use Rattle.mux_engine.proofs.Marks.{serve-alone, serve-next}
 use Rattle.mux_engine.proofs.Offers.{SameRun, cut-fails, cut-holds, cut-starved, next-fails, next-holds, next-takes}
-use Rattle.mux_engine.proofs.Owns.{writes-client}
+use Rattle.mux_engine.proofs.Owns.{client-apart, writes-client}
 use Rattle.mux_engine.proofs.Places.{AtStream, at-stream, open-own, places-same, places-write, stream-open}
 use Rattle.mux_engine.proofs.Silent.{holds-alike}
 use Rattle.mux_engine.proofs.Taken.{queue-present, took-asks, took-less, took-run}
@@ -25,13 +25,13 @@ use Rattle.mux_engine.proofs.settling.offer_once.Goals as goal
 
 pub returns-then-is_empty-clause-serving : goal.returns-then-is_empty-clause-serving
 returns-then-is_empty-clause-serving g c todo zero present first before now policy pid start failed given v =
-    nothing-left v c.args.stream c.queue_of-bytes.result.now (c.queue_of-bytes.ensures.waits v.picked v.replies v.journal v.closed v.stands (at-stream v.stands c.args.stream c.requires.stream_open).not_closed) (empty-is c.queue_of-bytes.result.now (sym c.if-is_empty.ensures))
+    nothing-left v c.args.stream c.queue_of-bytes.result.now (c.queue_of-bytes.ensures.waits v.picked v.replies v.journal v.closed v.stands (at-stream v.stands c.args.stream c.requires.stream.opened).not_closed) (empty-is c.queue_of-bytes.result.now (sym c.if-is_empty.ensures))
 
 pub write-requires-clause-may : goal.write-requires-clause-may
 write-requires-clause-may g c = let w = c.requires.served in record {
-  is_open = stream-open w.serving c.args.stream c.requires.stream_open c.requires.no_house;
+  is_open = stream-open w.serving c.args.stream c.requires.stream.opened c.requires.stream.no_house;
   unblocked = c.requires.free;
-  unfinished = client-unfinished c.args.stream (g.W.Wire.state c.args.wire.now).seen.own c.requires.numbered (open-own w.serving c.args.stream c.requires.stream_open c.requires.no_house);
+  unfinished = none-finished c.args.stream (g.W.Wire.state c.args.wire.now).seen.own (client-apart _ _ w.serving.places c.args.stream (open-own w.serving c.args.stream c.requires.stream.opened c.requires.stream.no_house));
   some = some-bytes c.queue_of-bytes.result.now (sym c.if-is_empty.ensures);
 }
 
@@ -46,12 +46,12 @@ returns-in-Took-clause-serving g c todo zero present first before now policy pid
     let fits : n ≤ length bytes = c.in-Took.ensures.wrote.1 in
     let some : 0 < length bytes = some-bytes bytes (sym c.if-is_empty.ensures) in
     let same : SameRun s c.took.new.self = took-run s c.took.new.self k n c.took.ensures.exact in
-    let at : AtStream s v.journal v.closed k = at-stream v.stands k c.requires.stream_open in
+    let at : AtStream s v.journal v.closed k = at-stream v.stands k c.requires.stream.opened in
     subst (λ (x : Seen). Serving g.H.Asks.may (RestsOf g.H.Asks.state present first) before now policy pid start x c.args.held.now failed given (k ∷ todo) c.took.new.self) (sym (seen-is c.in-Took.ensures.state))
     (serve-alone v now (seen_after_write (wrote.Took n) k bytes (g.W.Wire.state c.args.wire.now).seen) c.args.held.now failed given (k ∷ todo) c.took.new.self (Takes k (take n bytes))
-    (c.took.ensures.stands (take n bytes) (length-take-le n bytes fits) v.picked v.replies v.journal v.closed v.stands ((λ nz. queue-present s k bytes c.queue_of-bytes.ensures.exact some nz), not-own-stream k (open-own v k c.requires.stream_open c.requires.no_house)))
+    (c.took.ensures.stands (take n bytes) (length-take-le n bytes fits) v.picked v.replies v.journal v.closed v.stands ((λ nz. queue-present s k bytes c.queue_of-bytes.ensures.exact some nz), not-own-stream k (open-own v k c.requires.stream.opened c.requires.stream.no_house)))
     (took-asks s c.took.new.self k (take n bytes) v.journal same)
-    (next-takes v c.took.new.self k n bytes c.requires.stream_open c.requires.no_house same c.queue_of-bytes.ensures.bytes c.in-Took.ensures.wrote.0 fits (c.queue_of-bytes.ensures.waits v.picked v.replies v.journal v.closed v.stands at.not_closed)))
+    (next-takes v c.took.new.self k n bytes c.requires.stream.opened c.requires.stream.no_house same c.queue_of-bytes.ensures.bytes c.in-Took.ensures.wrote.0 fits (c.queue_of-bytes.ensures.waits v.picked v.replies v.journal v.closed v.stands at.not_closed)))
 
 pub took-requires : goal.took-requires
 took-requires g c = subst (λ (b : List ℕ). c.in-Took.n ≤ length b) c.queue_of-bytes.ensures.exact c.in-Took.ensures.wrote.1
@@ -67,14 +67,14 @@ returns-in_ok-push-in-Later-clause-serving g c todo zero present first before no
     (subst (λ (h : List ℕ). Serving g.H.Asks.may (RestsOf g.H.Asks.state present first) before now policy pid start (seen_after_write wrote.Later k bytes (g.W.Wire.state c.args.wire.now).seen) h failed given (without k todo) s) (sym c.in_ok-push-in-Later.ensures.ok)
     (serve-alone v now (seen_after_write wrote.Later k bytes (g.W.Wire.state c.args.wire.now).seen) (c.args.held.now ++ k ∷ []) failed given (without k todo) s (Holds k)
     (stands-alike v.journal (Holds k ∷ v.journal) v.picked v.replies s v.closed (holds-alike k v.journal) v.stands) (λ picks replies. refl)
-    (next-holds v k bytes c.requires.stream_open c.requires.no_house c.queue_of-bytes.ensures.bytes (some-bytes c.queue_of-bytes.result.now (sym c.if-is_empty.ensures)))))
+    (next-holds v k bytes c.requires.stream.opened c.requires.stream.no_house c.queue_of-bytes.ensures.bytes (some-bytes c.queue_of-bytes.result.now (sym c.if-is_empty.ensures)))))
 
 pub returns-in_ok-push-in-Later-clause-holds : goal.returns-in_ok-push-in-Later-clause-holds
 returns-in_ok-push-in-Later-clause-holds g c = λ t a. ap (among t) c.in_ok-push-in-Later.ensures.ok ∙ held-more c.args.stream t c.args.held.now a
 
 pub returns-in_err-push-in-Later-clause-serving : goal.returns-in_err-push-in-Later-clause-serving
 returns-in_err-push-in-Later-clause-serving g c todo zero present first before now policy pid start failed given v = on-err c.from_residual.result _ _ c.from_residual.ensures.0
-    (cut-holds v _ c.args.stream c.queue_of-bytes.result.now (writes-client v.journal c.args.stream (open-own v c.args.stream c.requires.stream_open c.requires.no_house)) (stream-open v c.args.stream c.requires.stream_open c.requires.no_house) c.queue_of-bytes.ensures.bytes (some-bytes c.queue_of-bytes.result.now (sym c.if-is_empty.ensures)) (seen-is c.in-Later.ensures.state))
+    (cut-holds v _ c.args.stream c.queue_of-bytes.result.now (writes-client v.journal c.args.stream (open-own v c.args.stream c.requires.stream.opened c.requires.stream.no_house)) (stream-open v c.args.stream c.requires.stream.opened c.requires.stream.no_house) c.queue_of-bytes.ensures.bytes (some-bytes c.queue_of-bytes.result.now (sym c.if-is_empty.ensures)) (seen-is c.in-Later.ensures.state))
 
 -- ---- a stream that failed
 
@@ -82,25 +82,25 @@ lost : (g : given_to.Over) (c : goal.In_ok-event-in-Failed g) → Failing c.args
 lost g c =
     let w = c.requires.served.serving in
     failing c.event_of_fault.result c.args.stream c.args.engine.now c.event.new.self c.event_of_fault.ensures.write c.in_ok-event-in-Failed.ensures.keeps
-    (c.in_ok-event-in-Failed.ensures.ends (WriteFails c.args.stream) c.event_of_fault.ensures.write w.picked w.replies w.journal w.closed w.stands ((at-stream w.stands c.args.stream c.requires.stream_open).accepted, not-own-stream c.args.stream (open-own w c.args.stream c.requires.stream_open c.requires.no_house)))
+    (c.in_ok-event-in-Failed.ensures.ends (WriteFails c.args.stream) c.event_of_fault.ensures.write w.picked w.replies w.journal w.closed w.stands ((at-stream w.stands c.args.stream c.requires.stream.opened).accepted, not-own-stream c.args.stream (open-own w c.args.stream c.requires.stream.opened c.requires.stream.no_house)))
 
 pub returns-in_ok-event-in-Failed-clause-serving : goal.returns-in_ok-event-in-Failed-clause-serving
 returns-in_ok-event-in-Failed-clause-serving g c todo zero present first before now policy pid start failed given v =
     let s : State = c.args.engine.now in
     let k : ℕ = c.args.stream in
     let bytes : List ℕ = c.queue_of-bytes.result.now in
-    let at : AtStream s v.journal v.closed k = at-stream v.stands k c.requires.stream_open in
+    let at : AtStream s v.journal v.closed k = at-stream v.stands k c.requires.stream.opened in
     let f : Failing k s c.event.new.self = lost g c in
-    let said = c.in_ok-event-in-Failed.ensures.stands (WriteFails k) c.event_of_fault.ensures.write v.picked v.replies v.journal v.closed v.stands (at.accepted, not-own-stream k (open-own v k c.requires.stream_open c.requires.no_house)) in
+    let said = c.in_ok-event-in-Failed.ensures.stands (WriteFails k) c.event_of_fault.ensures.write v.picked v.replies v.journal v.closed v.stands (at.accepted, not-own-stream k (open-own v k c.requires.stream.opened c.requires.stream.no_house)) in
     let none = none-asked said.asks (goes-asked (λ j. ⊥) said f.policy f.pid tt) in
     let on = goes-unasked {May = g.H.Asks.may} v.stands said none in
     subst (λ (x : Seen). Serving g.H.Asks.may (RestsOf g.H.Asks.state present first) before now policy pid start x c.args.held.now failed given (without k todo) c.event.new.self) (sym (seen-is c.in-Failed.ensures.state))
     (serve-next v now (seen_after_write wrote.Failed k bytes (g.W.Wire.state c.args.wire.now).seen) c.args.held.now failed given (without k todo) c.event.new.self (WriteFails k) on
-    (next-fails v k bytes on (unasked-none g.H.Asks.may v.stands said none) c.requires.stream_open c.requires.no_house c.queue_of-bytes.ensures.bytes (some-bytes c.queue_of-bytes.result.now (sym c.if-is_empty.ensures)) zero f.policy f.pid f.streams f.live f.over))
+    (next-fails v k bytes on (unasked-none g.H.Asks.may v.stands said none) c.requires.stream.opened c.requires.stream.no_house c.queue_of-bytes.ensures.bytes (some-bytes c.queue_of-bytes.result.now (sym c.if-is_empty.ensures)) zero f.policy f.pid f.streams f.live f.over))
 
 pub returns-in_err-event-in-Failed-clause-serving : goal.returns-in_err-event-in-Failed-clause-serving
 returns-in_err-event-in-Failed-clause-serving g c todo zero present first before now policy pid start failed given v = on-err c.from_residual-in_err-event-in-Failed.result _ _ c.from_residual-in_err-event-in-Failed.ensures.0
-    (cut-fails v _ c.args.stream c.queue_of-bytes.result.now (writes-client v.journal c.args.stream (open-own v c.args.stream c.requires.stream_open c.requires.no_house)) (stream-open v c.args.stream c.requires.stream_open c.requires.no_house) c.queue_of-bytes.ensures.bytes (some-bytes c.queue_of-bytes.result.now (sym c.if-is_empty.ensures)) (seen-is c.in-Failed.ensures.state))
+    (cut-fails v _ c.args.stream c.queue_of-bytes.result.now (writes-client v.journal c.args.stream (open-own v c.args.stream c.requires.stream.opened c.requires.stream.no_house)) (stream-open v c.args.stream c.requires.stream.opened c.requires.stream.no_house) c.queue_of-bytes.ensures.bytes (some-bytes c.queue_of-bytes.result.now (sym c.if-is_empty.ensures)) (seen-is c.in-Failed.ensures.state))
 
 -- ---- no memory for the write
 
