@@ -1,15 +1,17 @@
 -- What the calls of a drill's wire leave.
-use Rattle.std.specs.Prelude.{◌≡◌, ℕ, List, length, Option, Some, None, Result, Ok, Err}
+use Rattle.std.specs.Prelude.{◌≡◌, ◌≢◌, ℕ, List, length, Option, Some, None, Result, Ok, Err}
 use Rattle.mux_outside.specs.Tally.{no_tally}
 use Rattle.mux_outside.specs.WireLog.{nothing_logged}
 use Rattle.mux_outside.specs.declared.file_error.FileError.{FileError}
 use Rattle.mux_outside.specs.declared.file_error.FileError.TheVariants.{Failed as FailedFile, OutOfMemory}
 use Rattle.mux_outside.specs.declared.turn.Tally.{Tally}
 use Rattle.mux_outside.specs.declared.turn.Turn.{Turn}
-use Rattle.mux_outside.specs.declared.turn.Turn.TheVariants.{Got}
+use Rattle.mux_outside.specs.declared.turn.Turn.TheVariants.{End, Got, NoMemory}
+use Rattle.mux_outside.specs.declared.turn.Want.{Want}
+use Rattle.mux_outside.specs.declared.turn.Want.TheVariants.{Read, WriteOnly}
 use Rattle.mux_outside.specs.declared.turn.Wrote.{Wrote}
 use Rattle.mux_outside.specs.declared.turn.Wrote.TheVariants.{Took}
-use Rattle.mux_drill.specs.Course.{tally_at}
+use Rattle.mux_drill.specs.Course.{full_tally, tally_at}
 use Rattle.mux_drill.specs.Inboxes.{with_more}
 use Rattle.mux_drill.specs.Play.{next_turn, next_piece, next_play, IsNothing, Starts}
 use Rattle.mux_drill.specs.declared.plan.Plan.{Plan}
@@ -55,6 +57,20 @@ pub record PlaysNext (old new : DrillWire) (turn : Turn) (bytes : List ℕ) : Ty
   pub turn_is : turn ≡ next_turn old.play old.log.state.seen
   pub piece_is : (t : ℕ) → turn ≡ Got t → bytes ≡ next_piece old.play
   pub play_is : new.play ≡ next_play old.play old.log.state.seen
+
+-- what a wait plays: the next turn where streams are read, and nothing where none is or for want of
+-- memory
+pub record Plays (want : Want) (turn : Turn) (bytes : List ℕ) (old new : DrillWire) : Type 0 where
+  pub given : want ≡ Read → turn ≢ NoMemory → PlaysNext old new turn bytes
+  pub idle : want ≡ WriteOnly → SamePlay old new
+  pub starved : turn ≡ NoMemory → SamePlay old new
+
+-- where the server's stream ends the drill is over and all of the plan is counted, and where it is
+-- over nothing more is
+pub record CountsToTheEnd (turn : Turn) (old new : DrillWire) : Type 0 where
+  pub drilled : turn ≡ End 0 → tally_of new ≡ full_tally old.play.course.plan
+  pub ends : turn ≡ End 0 → IsOver new
+  pub over : IsOver old → tally_of new ≡ tally_of old
 
 -- a write took all bytes, and they wait to be read
 pub record TakesAll (stream : ℕ) (bytes : List ℕ) (old new : DrillWire) (wrote : Wrote) :

@@ -1,13 +1,10 @@
-ghost use Rattle.std.specs.Prelude.{◌≡◌, ◌≢◌, ◌<◌, [], false, IsErr, IsTrue, All, length};
-ghost use Rattle.mux_outside.specs.OwnStreams.{is_finished};
+ghost use Rattle.std.specs.Prelude.{◌≡◌, ◌≢◌, [], false, IsErr, length};
 ghost use Rattle.mux_outside.specs.Seen.{seen_after_close, seen_after_note, seen_after_silence};
-ghost use Rattle.mux_outside.specs.Streams.{among};
-ghost use Rattle.mux_outside.specs.Wire.{JoinFaults, MakeFaults, OpenFaults, OwnFits, TurnFaults, TurnFits, WroteFaults, WroteFits};
+ghost use Rattle.mux_outside.specs.Wire.{JoinFaults, MakeFaults, MayWait, MayWrite, OpenFaults, OwnFits, TurnFaults, TurnFits, WroteFaults, WroteFits};
 ghost use Rattle.mux_outside.specs.WireState.{seeing, state_after_join, state_after_open, state_after_wait, state_after_write};
 ghost use Rattle.mux_outside.specs.declared.turn.Turn.TheVariants.{End, NoMemory};
 ghost use Rattle.mux_outside.specs.declared.turn.Want.TheVariants.{Read, WriteOnly};
 ghost use Rattle.mux_outside.specs.declared.turn.Wrote.TheVariants.{NoMemory as NoMemoryToWrite};
-ghost use Rattle.mux_drill.specs.Course.{full_tally};
 ghost use Rattle.mux_drill.specs.Plan.{plan_of};
 ghost use Rattle.mux_drill.specs.Play.{GivesNext, piece_of};
 ghost use Rattle.mux_drill.specs.declared.play.Change.TheVariants.{Nothing};
@@ -53,7 +50,7 @@ impl DrillWire {
 }
 
 impl Wire for DrillWire {
-    ghost use Rattle.mux_drill.specs.DrillWire.{tally_of, IsOver, SamePlay, Opens, PlaysNext, TakesAll};
+    ghost use Rattle.mux_drill.specs.DrillWire.{CountsToTheEnd, Opens, Plays, SamePlay, TakesAll, tally_of};
 
     ghost state = { λ w. record w.log.state { tally = tally_of w } };
 
@@ -85,25 +82,14 @@ impl Wire for DrillWire {
     }
 
     fn wait(&mut self, waiting: &Streams, want: Want, into: &mut Piece) -> Turn
-        requires waiting_blocked { All (λ t. IsTrue (among t self.old.log.state.seen.blocked))
-            waiting.now }
-        requires waiting_open { All (λ t. IsTrue (among t self.old.log.state.seen.streams))
-            waiting.now }
-        requires server { IsTrue (among 0 self.old.log.state.seen.streams) }
-        requires some { want ≡ WriteOnly → 0 < length waiting.now }
+        requires may { MayWait waiting.now want self.old.log.state.seen }
         ensures turn { TurnFits result want self.old.log.state.seen into.new }
         ensures own_turn { OwnFits result self.old.log.state.seen }
         ensures state { self.new.log.state ≡ state_after_wait result waiting.now want into.new
             self.old.log.state.tally self.old.log.state }
         ensures cause { TurnFaults result self.old.log.faults self.new.log.faults }
-        ensures drilled { result ≡ End 0
-            → tally_of self.new ≡ full_tally self.old.play.course.plan }
-        ensures ends { result ≡ End 0 → IsOver self.new }
-        ensures over { IsOver self.old → tally_of self.new ≡ tally_of self.old }
-        ensures given { want ≡ Read → result ≢ NoMemory
-            → PlaysNext self.old self.new result into.new }
-        ensures idle { want ≡ WriteOnly → SamePlay self.old self.new }
-        ensures err { result ≡ NoMemory → SamePlay self.old self.new }
+        ensures counts { CountsToTheEnd result self.old self.new }
+        ensures plays { Plays want result into.new self.old self.new }
         ensures kept { result ≡ NoMemory → into.new ≡ into.old }
     {
         let given = self.given(waiting, want);
@@ -117,10 +103,7 @@ impl Wire for DrillWire {
     }
 
     fn write(&mut self, stream: u64, bytes: &[u8]) -> Wrote
-        requires stream_open { IsTrue (among stream self.old.log.state.seen.streams) }
-        requires not_blocked { among stream self.old.log.state.seen.blocked ≡ false }
-        requires not_finished { is_finished stream self.old.log.state.seen.own ≡ false }
-        requires some { 0 < length bytes.now }
+        requires may { MayWrite stream bytes.now self.old.log.state.seen }
         ensures wrote { WroteFits result (length bytes.now) }
         ensures state { self.new.log.state ≡ state_after_write result stream bytes.now
             self.old.log.state.tally self.old.log.state }
@@ -212,12 +195,7 @@ impl Wire for DrillWire {
 impl DrillWire {
     // The turn of a wait, and what it leaves.
     fn given(&self, waiting: &Streams, want: Want) -> Given
-        requires waiting_blocked { All (λ t. IsTrue (among t self.now.log.state.seen.blocked))
-            waiting.now }
-        requires waiting_open { All (λ t. IsTrue (among t self.now.log.state.seen.streams))
-            waiting.now }
-        requires server { IsTrue (among 0 self.now.log.state.seen.streams) }
-        requires some { want ≡ WriteOnly → 0 < length waiting.now }
+        requires may { MayWait waiting.now want self.now.log.state.seen }
         ensures turn { TurnFits result.turn want self.now.log.state.seen
             (piece_of result.change self.now.play) }
         ensures own_turn { OwnFits result.turn self.now.log.state.seen }

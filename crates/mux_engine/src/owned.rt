@@ -1,8 +1,7 @@
 ghost use Rattle.std.specs.Prelude.{◌≡◌, ◌<◌, ◌++◌, ◌∷◌, [], ℕ, true, false, filter, length, OnOk, IfOk, IsTrue};
 ghost use Rattle.ssh_fields.specs.Fields.{AreBytes};
-ghost use Rattle.mux_outside.specs.OwnStreams.{is_finished};
 ghost use Rattle.mux_outside.specs.Streams.{among};
-ghost use Rattle.mux_outside.specs.Wire.{WroteFaults, WroteFits};
+ghost use Rattle.mux_outside.specs.Wire.{MayWrite, WroteFaults, WroteFits};
 ghost use Rattle.mux_outside.specs.WireState.{state_after_write};
 ghost use Rattle.mux_engine.specs.Owned.{FailsFurther, IsOffered, IsOpenOwn, OwnsStreams, StayOffered, TookOrOffered, waits_for};
 ghost use Rattle.mux_engine.specs.Serving.{OwnOn};
@@ -14,10 +13,7 @@ use ssh_fields::OutOfMemory;
 
 // Hands bytes to a stream.
 fn hand<W: Wire>(wire: &mut W, stream: u64, bytes: &[u8]) -> Wrote
-    requires stream_open { IsTrue (among stream (W.state wire.old).seen.streams) }
-    requires not_blocked { among stream (W.state wire.old).seen.blocked ≡ false }
-    requires not_finished { is_finished stream (W.state wire.old).seen.own ≡ false }
-    requires some { 0 < length bytes.now }
+    requires may { MayWrite stream bytes.now (W.state wire.old).seen }
     ensures bytes { AreBytes bytes.now }
     ensures wrote { WroteFits result (length bytes.now) }
     ensures state { W.state wire.new ≡ state_after_write result stream bytes.now

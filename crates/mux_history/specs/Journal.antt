@@ -1,5 +1,6 @@
 -- What a wire was seen to do, the newest mark first, and the items that it gives.
 use Rattle.std.specs.Prelude.{ℕ, ◌==◌, ◌≡◌, ◌<◌, ◌≤◌, ◌&&◌, not, List, [], ◌∷◌, ◌++◌, Some, None, Option, Bool, true, ◌||◌, if◌then◌else◌, option_map, false, length, drop, map, reverse, All, IsTrue}
+use Rattle.mux_outside.specs.Whose.{is_server}
 use Rattle.mux_outside.specs.declared.mark.Mark.{Mark}
 use Rattle.mux_outside.specs.declared.mark.Mark.TheVariants.{Waits, Accepts, Gets, Ends, Frees, Fails, Takes, Holds, WriteFails, House}
 use Rattle.mux_outside.specs.OwnStreams.{is_own}
@@ -105,20 +106,20 @@ unless_own stream items = elim (is_own_stream stream) [ true ↦ [] | false ↦ 
 -- the items of one mark after those before it, in order
 abbrev pub items_in : List Mark → Mark → List Item
 items_in before (Accepts k) = Admit k ∷ []
-items_in before (Gets stream bytes) = elim (stream == 0) [
+items_in before (Gets stream bytes) = elim (is_server stream) [
   | true ↦ new_heard (bytes_of 0 before) (bytes_of 0 before ++ bytes)
   | false ↦ unless_own stream
       (new_sayings stream (bytes_of stream before) (bytes_of stream before ++ bytes))
 ]
-items_in before (Ends stream) = elim (stream == 0) [
+items_in before (Ends stream) = elim (is_server stream) [
   | true ↦ server_end (parse InProxy (bytes_of 0 before)).rest ∷ []
   | false ↦ unless_own stream (Gone stream ∷ [])
 ]
-items_in before (Fails stream) = elim (stream == 0) [
+items_in before (Fails stream) = elim (is_server stream) [
   | true ↦ ServerFailed ∷ []
   | false ↦ unless_own stream (Gone stream ∷ [])
 ]
-items_in before (WriteFails stream) = elim (stream == 0) [
+items_in before (WriteFails stream) = elim (is_server stream) [
   | true ↦ ServerFailed ∷ []
   | false ↦ unless_own stream (Gone stream ∷ [])
 ]
@@ -164,7 +165,7 @@ is_accepted k (mark ∷ before) = is_accepted k before
 
 -- the stream is the server's, one of the master's own, or that of a client that was accepted
 abbrev pub is_known : ℕ → List Mark → Bool
-is_known stream before = (stream == 0) || (is_own_stream stream || is_accepted stream before)
+is_known stream before = is_server stream || (is_own_stream stream || is_accepted stream before)
 
 -- the house is let in before all else, and as a client it says some bytes and takes only then; it
 -- replies to clients that were accepted

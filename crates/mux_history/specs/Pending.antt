@@ -1,6 +1,7 @@
 -- What waits of what each stream is to be given.
 use Rattle.std.specs.Prelude.{ℕ, ◌==◌, List, [], ◌∷◌, ◌++◌, length, true, false, drop, map}
 use Rattle.ssh_grammar.specs.Frames.{frame_payload}
+use Rattle.mux_outside.specs.Whose.{is_server}
 use Rattle.mux_history.specs.Rows.{Row, rows_of, sent_by, Item, Took}
 
 -- texts one after another
@@ -28,7 +29,7 @@ waiting_down own = length (pending_down own)
 
 -- the same where the server took them
 abbrev pub took_up : Item → ℕ
-took_up (Took stream size) = elim (stream == 0) [ true ↦ size | false ↦ 0 ]
+took_up (Took stream size) = elim (is_server stream) [ true ↦ size | false ↦ 0 ]
 took_up _ = 0
 
 -- the bytes that wait for the server
@@ -41,14 +42,14 @@ pending_up (row ∷ before) =
 
 -- the bytes that wait for a stream
 abbrev pub pending : ℕ → List Row → List ℕ
-pending stream rows = elim (stream == 0) [
+pending stream rows = elim (is_server stream) [
   | true ↦ pending_up rows
   | false ↦ pending_down (rows_of stream rows)
 ]
 
 -- the bytes that one row gives a stream
 abbrev pub given_by : ℕ → Row → List ℕ
-given_by stream row = elim (stream == 0) [
+given_by stream row = elim (is_server stream) [
   | true ↦ joined (map frame_payload (sent_by row))
   | false ↦ elim (row.client == stream) [ true ↦ joined row.down | false ↦ [] ]
 ]

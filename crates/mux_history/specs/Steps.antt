@@ -1,5 +1,6 @@
 -- Laws of one more row: what is looked up after a row is known from what was looked up before it.
 use Rattle.std.specs.Prelude.{ℕ, ◌≡◌, ◌≤◌, ◌+◌, ◌==◌, ◌&&◌, not, Bool, List, ◌∷◌, ◌++◌, true, false, filter, length, drop, slice_get}
+use Rattle.mux_outside.specs.Whose.{is_server}
 use Rattle.mux_history.specs.Rows.{Row, rows_of, any_of, is_admit, is_ended, Took}
 use Rattle.mux_history.specs.Requests.{Ask, asks, asks_of, asker, is_sent, replies, reply_in, wanted_by}
 use Rattle.mux_history.specs.Forwardings.{Forwarding, current, dropped, forwarded}
@@ -89,7 +90,7 @@ UnrepliedAreLocal = OverRight (λ setting rows. AtEach UnrepliedOfEach rows)
 
 -- how many bytes a row takes from a stream
 abbrev pub taken_from : ℕ → Row → ℕ
-taken_from stream row = elim (stream == 0) [
+taken_from stream row = elim (is_server stream) [
   | true ↦ took_up row.item
   | false ↦ elim (row.client == stream) [ true ↦ took_by row.item | false ↦ 0 ]
 ]

@@ -1,7 +1,7 @@
 -- What the calls of a wire may answer.
-use Rattle.std.specs.Prelude.{◌≡◌, ◌<◌, ◌≤◌, ◌+◌, ℕ, true, false, List, [], ◌∷◌, length, IsTrue, Result, Ok, Err}
+use Rattle.std.specs.Prelude.{◌≡◌, ◌<◌, ◌≤◌, ◌+◌, ℕ, true, false, List, [], ◌∷◌, length, All, IsTrue, Result, Ok, Err}
 use Rattle.mux_outside.specs.Faults.{Faults, FaultOf, OpeningFault, OwnFault, ServerFault}
-use Rattle.mux_outside.specs.OwnStreams.{is_own, is_silent}
+use Rattle.mux_outside.specs.OwnStreams.{is_finished, is_own, is_silent}
 use Rattle.mux_outside.specs.Seen.{Seen}
 use Rattle.mux_outside.specs.Streams.{among}
 use Rattle.mux_outside.specs.Whose.{whose}
@@ -13,7 +13,7 @@ use Rattle.mux_outside.specs.declared.piece.TheConstants.{LONGEST_PIECE}
 use Rattle.mux_outside.specs.declared.turn.Turn.{Turn}
 use Rattle.mux_outside.specs.declared.turn.Turn.TheVariants.{Accepted, Got, End, Writable, Failed, Joined, NoMemory}
 use Rattle.mux_outside.specs.declared.turn.Want.{Want}
-use Rattle.mux_outside.specs.declared.turn.Want.TheVariants.{Read}
+use Rattle.mux_outside.specs.declared.turn.Want.TheVariants.{Read, WriteOnly}
 use Rattle.mux_outside.specs.declared.turn.Wrote.{Wrote}
 use Rattle.mux_outside.specs.declared.turn.Wrote.TheVariants.{Took, Later, Failed as FailedWrite, NoMemory as NoMemoryToWrite}
 
@@ -47,6 +47,14 @@ JoinFaults (Err FailedFile) old new = ServerFault old new
 JoinFaults (Err OutOfMemory) old new = new ≡ old
 
 -- ---- wait
+
+-- when it may be called: each stream that is waited for is open and blocked, the server's is open,
+-- and some stream is waited for where no other is
+pub record MayWait (waiting : List ℕ) (want : Want) (seen : Seen) : Type 0 where
+  pub are_blocked : All (λ t. IsTrue (among t seen.blocked)) waiting
+  pub are_open : All (λ t. IsTrue (among t seen.streams)) waiting
+  pub server : IsTrue (among 0 seen.streams)
+  pub some : want ≡ WriteOnly → 0 < length waiting
 
 -- which turns may be given
 abbrev pub TurnFits : Turn → Want → Seen → List ℕ → Type 0
@@ -90,6 +98,13 @@ TurnFaults (Joined l t) old new = new ≡ old
 TurnFaults NoMemory old new = new ≡ old
 
 -- ---- write
+
+-- when bytes may be handed to a stream: it is open, not blocked and not finished, and there are some
+pub record MayWrite (stream : ℕ) (bytes : List ℕ) (seen : Seen) : Type 0 where
+  pub is_open : IsTrue (among stream seen.streams)
+  pub unblocked : among stream seen.blocked ≡ false
+  pub unfinished : is_finished stream seen.own ≡ false
+  pub some : 0 < length bytes
 
 -- how many bytes may be taken
 abbrev pub WroteFits : Wrote → ℕ → Type 0

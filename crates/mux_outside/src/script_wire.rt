@@ -1,14 +1,11 @@
-ghost use Rattle.std.specs.Prelude.{◌≡◌, ◌≢◌, ◌<◌, ◌≤◌, ◌++◌, ℕ, List, true, false, Some, IsTrue, All, IfSome, length, unwrap_or};
-ghost use Rattle.mux_outside.specs.OwnStreams.{is_finished};
+ghost use Rattle.std.specs.Prelude.{◌≡◌, ◌≢◌, ◌≤◌, ◌++◌, ℕ, List, true, false, Some, IfSome, length, unwrap_or};
 ghost use Rattle.mux_outside.specs.Script.{bytes_in};
 ghost use Rattle.mux_outside.specs.ScriptWire.{FollowsEntry, GivesAt, GivesNext, KeepsOpens, KeepsSteps, KeepsWrites, MakesByNumber, OpensByNumber, SameScript, Starts};
 ghost use Rattle.mux_outside.specs.Seen.{seen_after_close, seen_after_connect, seen_after_finish, seen_after_listen, seen_after_note, seen_after_pause, seen_after_silence, seen_after_unlisten};
-ghost use Rattle.mux_outside.specs.Streams.{among};
 ghost use Rattle.mux_outside.specs.Tally.{no_tally};
-ghost use Rattle.mux_outside.specs.Wire.{JoinFaults, MakeFaults, NumberFits, OpenFaults, OwnFits, TurnFaults, TurnFits, WroteFaults, WroteFits};
+ghost use Rattle.mux_outside.specs.Wire.{JoinFaults, MakeFaults, MayWait, MayWrite, NumberFits, OpenFaults, OwnFits, TurnFaults, TurnFits, WroteFaults, WroteFits};
 ghost use Rattle.mux_outside.specs.WireState.{seeing, state_after_join, state_after_open, state_after_wait, state_after_write};
 ghost use Rattle.mux_outside.specs.declared.turn.Turn.TheVariants.{NoMemory};
-ghost use Rattle.mux_outside.specs.declared.turn.Want.TheVariants.{WriteOnly};
 ghost use Rattle.mux_outside.specs.declared.turn.Wrote.TheVariants.{NoMemory as NoMemoryToWrite};
 
 use crate::calls::Calls;
@@ -74,10 +71,7 @@ fn given<'a>(
     waiting: &Streams,
     want: Want,
 ) -> Given<'a>
-    requires waiting_blocked { All (λ t. IsTrue (among t log.now.state.seen.blocked)) waiting.now }
-    requires waiting_open { All (λ t. IsTrue (among t log.now.state.seen.streams)) waiting.now }
-    requires server { IsTrue (among 0 log.now.state.seen.streams) }
-    requires some { want ≡ WriteOnly → 0 < length waiting.now }
+    requires may { MayWait waiting.now want log.now.state.seen }
     ensures turn { (piece : List ℕ) → TurnFits result.turn want log.now.state.seen
         (unwrap_or (bytes_in result) piece) }
     ensures own_turn { OwnFits result.turn log.now.state.seen }
@@ -136,12 +130,7 @@ impl Wire for ScriptWire {
     }
 
     fn wait(&mut self, waiting: &Streams, want: Want, into: &mut Piece) -> Turn
-        requires waiting_blocked { All (λ t. IsTrue (among t self.old.log.state.seen.blocked))
-            waiting.now }
-        requires waiting_open { All (λ t. IsTrue (among t self.old.log.state.seen.streams))
-            waiting.now }
-        requires server { IsTrue (among 0 self.old.log.state.seen.streams) }
-        requires some { want ≡ WriteOnly → 0 < length waiting.now }
+        requires may { MayWait waiting.now want self.old.log.state.seen }
         ensures turn { TurnFits result want self.old.log.state.seen into.new }
         ensures own_turn { OwnFits result self.old.log.state.seen }
         ensures state { self.new.log.state ≡ state_after_wait result waiting.now want into.new
@@ -165,10 +154,7 @@ impl Wire for ScriptWire {
     }
 
     fn write(&mut self, stream: u64, bytes: &[u8]) -> Wrote
-        requires stream_open { IsTrue (among stream self.old.log.state.seen.streams) }
-        requires not_blocked { among stream self.old.log.state.seen.blocked ≡ false }
-        requires not_finished { is_finished stream self.old.log.state.seen.own ≡ false }
-        requires some { 0 < length bytes.now }
+        requires may { MayWrite stream bytes.now self.old.log.state.seen }
         ensures wrote { WroteFits result (length bytes.now) }
         ensures state { self.new.log.state ≡ state_after_write result stream bytes.now
             self.old.log.state.tally self.old.log.state }

@@ -1,12 +1,9 @@
-ghost use Rattle.std.specs.Prelude.{◌≡◌, ◌<◌, false, true, length, IsTrue, All};
-ghost use Rattle.mux_outside.specs.declared.turn.Want.TheVariants.{WriteOnly};
+ghost use Rattle.std.specs.Prelude.{◌≡◌, false, true, length};
 ghost use Rattle.mux_outside.specs.declared.turn.Turn.TheVariants.{NoMemory};
 ghost use Rattle.mux_outside.specs.declared.turn.Wrote.TheVariants.{NoMemory as NoMemoryToWrite};
 ghost use Rattle.mux_outside.specs.Faults.{Faults as TheFaults};
-ghost use Rattle.mux_outside.specs.OwnStreams.{is_finished};
 ghost use Rattle.mux_outside.specs.Seen.{seen_after_close, seen_after_connect, seen_after_finish, seen_after_listen, seen_after_note, seen_after_pause, seen_after_silence, seen_after_unlisten};
-ghost use Rattle.mux_outside.specs.Streams.{among};
-ghost use Rattle.mux_outside.specs.Wire.{JoinFaults, MakeFaults, NumberFits, OpenFaults, OwnFits, TurnFaults, TurnFits, WroteFaults, WroteFits};
+ghost use Rattle.mux_outside.specs.Wire.{JoinFaults, MakeFaults, MayWait, MayWrite, NumberFits, OpenFaults, OwnFits, TurnFaults, TurnFits, WroteFaults, WroteFits};
 ghost use Rattle.mux_outside.specs.WireState.{WireState as TheState, seeing, state_after_join, state_after_open, state_after_wait, state_after_write};
 
 use crate::file_error::FileError;
@@ -41,12 +38,7 @@ pub trait Wire {
     /// Waits for what happens next: of all streams with `Want::Read`, of the waiting ones alone
     /// with `Want::WriteOnly`, which reads and accepts nothing.
     fn wait(&mut self, waiting: &Streams, want: Want, into: &mut Piece) -> Turn
-        requires waiting_blocked { All (λ t. IsTrue (among t (state self.old).seen.blocked))
-            waiting.now }
-        requires waiting_open { All (λ t. IsTrue (among t (state self.old).seen.streams))
-            waiting.now }
-        requires server { IsTrue (among 0 (state self.old).seen.streams) }
-        requires some { want ≡ WriteOnly → 0 < length waiting.now }
+        requires may { MayWait waiting.now want (state self.old).seen }
         ensures turn { TurnFits result want (state self.old).seen into.new }
         ensures own_turn { OwnFits result (state self.old).seen }
         ensures state { state self.new ≡ state_after_wait result waiting.now want into.new
@@ -57,10 +49,7 @@ pub trait Wire {
 
     /// Hands bytes to a stream, which takes one of them at least, or none for now.
     fn write(&mut self, stream: u64, bytes: &[u8]) -> Wrote
-        requires stream_open { IsTrue (among stream (state self.old).seen.streams) }
-        requires not_blocked { among stream (state self.old).seen.blocked ≡ false }
-        requires not_finished { is_finished stream (state self.old).seen.own ≡ false }
-        requires some { 0 < length bytes.now }
+        requires may { MayWrite stream bytes.now (state self.old).seen }
         ensures wrote { WroteFits result (length bytes.now) }
         ensures state { state self.new ≡ state_after_write result stream bytes.now
             (state self.new).tally (state self.old) }

@@ -34,8 +34,8 @@ returns-in_err-list_waiting g c =
       wire = works-unlisted r.result (g.W.Wire.state c.args.wire.now) (g.W.Wire.faults c.args.wire.now) r.ensures.0;
     }
 
-pub wait-told-requires-clause-waiting_blocked : goal.wait-told-requires-clause-waiting_blocked
-wait-told-requires-clause-waiting_blocked g c =
+pub wait-told-requires-clause-may : goal.wait-told-requires-clause-may
+wait-told-requires-clause-may g c =
     let H = g.H.Asks in
     let q = c.requires in
     let lists = c.args.lists.now in
@@ -43,35 +43,12 @@ wait-told-requires-clause-waiting_blocked g c =
     let b : BeginsTurn (H.state c.args.house.now) wire lists c.args.engine.now = record { together = q.together; ready = q.ready; permitted = q.permitted; closed = q.closed; on = q.on; hears = q.hears } in
     let a = at-wait H.state q.served.first c.args.house.now q.served.calls wire lists c.args.engine.now b q.served.hands in
     let todo : c.list_waiting.new.todo ≡ c.args.engine.now.waiting ++ filter (waits_for (H.state c.args.house.now).queue lists.failed) lists.own =
-    c.in_ok-list_waiting.ensures ∙ ap (λ (l : List ℕ). l ++ filter (waits_for (H.state c.args.house.now).queue lists.failed) lists.own) c.waiting.ensures.exact in
-    subst (λ (l : List ℕ). All (λ t. IsTrue (among t wire.seen.blocked)) l) (sym todo) (waiting-blocked q.served.serving a.none a.admitted a.live a.offered)
-
-pub wait-told-requires-clause-waiting_open : goal.wait-told-requires-clause-waiting_open
-wait-told-requires-clause-waiting_open g c =
-    let H = g.H.Asks in
-    let q = c.requires in
-    let lists = c.args.lists.now in
-    let wire : WireState = g.W.Wire.state c.args.wire.now in
-    let b : BeginsTurn (H.state c.args.house.now) wire lists c.args.engine.now = record { together = q.together; ready = q.ready; permitted = q.permitted; closed = q.closed; on = q.on; hears = q.hears } in
-    let a = at-wait H.state q.served.first c.args.house.now q.served.calls wire lists c.args.engine.now b q.served.hands in
-    let todo : c.list_waiting.new.todo ≡ c.args.engine.now.waiting ++ filter (waits_for (H.state c.args.house.now).queue lists.failed) lists.own =
-    c.in_ok-list_waiting.ensures ∙ ap (λ (l : List ℕ). l ++ filter (waits_for (H.state c.args.house.now).queue lists.failed) lists.own) c.waiting.ensures.exact in
-    subst (λ (l : List ℕ). All (λ t. IsTrue (among t wire.seen.streams)) l) (sym todo) (waiting-open q.served.serving a.none a.admitted a.live a.offered)
-
-pub wait-told-requires-clause-server : goal.wait-told-requires-clause-server
-wait-told-requires-clause-server g c = server-open c.requires.served.serving
-
-pub wait-told-requires-clause-some : goal.wait-told-requires-clause-some
-wait-told-requires-clause-some g c write =
-    let H = g.H.Asks in
-    let q = c.requires in
-    let lists = c.args.lists.now in
-    let wire : WireState = g.W.Wire.state c.args.wire.now in
-    let b : BeginsTurn (H.state c.args.house.now) wire lists c.args.engine.now = record { together = q.together; ready = q.ready; permitted = q.permitted; closed = q.closed; on = q.on; hears = q.hears } in
-    let a = at-wait H.state q.served.first c.args.house.now q.served.calls wire lists c.args.engine.now b q.served.hands in
-    let todo : c.list_waiting.new.todo ≡ c.args.engine.now.waiting ++ filter (waits_for (H.state c.args.house.now).queue lists.failed) lists.own =
-    c.in_ok-list_waiting.ensures ∙ ap (λ (l : List ℕ). l ++ filter (waits_for (H.state c.args.house.now).queue lists.failed) lists.own) c.waiting.ensures.exact in
-    subst (λ (l : List ℕ). 0 < length l) (sym todo) (some-waits q.served.serving a.none a.admitted a.live a.offered (sym c.wanted.ensures ∙ write))
+    c.in_ok-list_waiting.ensures ∙ ap (λ (l : List ℕ). l ++ filter (waits_for (H.state c.args.house.now).queue lists.failed) lists.own) c.waiting.ensures.exact in record {
+      are_blocked = subst (λ (l : List ℕ). All (λ t. IsTrue (among t wire.seen.blocked)) l) (sym todo) (waiting-blocked q.served.serving a.none a.admitted a.live a.offered);
+      are_open = subst (λ (l : List ℕ). All (λ t. IsTrue (among t wire.seen.streams)) l) (sym todo) (waiting-open q.served.serving a.none a.admitted a.live a.offered);
+      server = server-open q.served.serving;
+      some = λ write. subst (λ (l : List ℕ). 0 < length l) (sym todo) (some-waits q.served.serving a.none a.admitted a.live a.offered (sym c.wanted.ensures ∙ write));
+    }
 
 -- ---- an event
 

@@ -27,12 +27,13 @@ pub returns-then-is_empty-clause-serving : goal.returns-then-is_empty-clause-ser
 returns-then-is_empty-clause-serving g c todo zero present first before now policy pid start failed given v =
     nothing-left v c.args.stream c.queue_of-bytes.result.now (c.queue_of-bytes.ensures.waits v.picked v.replies v.journal v.closed v.stands (at-stream v.stands c.args.stream c.requires.stream_open).not_closed) (empty-is c.queue_of-bytes.result.now (sym c.if-is_empty.ensures))
 
-pub write-requires-clause-stream_open : goal.write-requires-clause-stream_open
-write-requires-clause-stream_open g c = let w = c.requires.served in stream-open w.serving c.args.stream c.requires.stream_open c.requires.no_house
-
-pub write-requires-clause-not_finished : goal.write-requires-clause-not_finished
-write-requires-clause-not_finished g c = let w = c.requires.served in
-    client-unfinished c.args.stream (g.W.Wire.state c.args.wire.now).seen.own c.requires.numbered (open-own w.serving c.args.stream c.requires.stream_open c.requires.no_house)
+pub write-requires-clause-may : goal.write-requires-clause-may
+write-requires-clause-may g c = let w = c.requires.served in record {
+  is_open = stream-open w.serving c.args.stream c.requires.stream_open c.requires.no_house;
+  unblocked = c.requires.free;
+  unfinished = client-unfinished c.args.stream (g.W.Wire.state c.args.wire.now).seen.own c.requires.numbered (open-own w.serving c.args.stream c.requires.stream_open c.requires.no_house);
+  some = some-bytes c.queue_of-bytes.result.now (sym c.if-is_empty.ensures);
+}
 
 -- ---- bytes that were taken
 

@@ -22,7 +22,7 @@ returns-in-Read-clause-turn c = λ piece.
     let gives = c.give.ensures.turn
     ∙ ap (λ last. turn_of last (steps_from c.args.steps.now c.find-place.result)) c.last.ensures.value in
     let fills = ap (λ (b : Option (List ℕ)). unwrap_or b piece) c.give.ensures.bytes in
-    given_fits seen all _ piece _ _ _ c.in-Read.is found gives fills c.requires.server
+    given_fits seen all _ piece _ _ _ c.in-Read.is found gives fills c.requires.may.server
 
 pub returns-in-Read-clause-own_turn : goal.returns-in-Read-clause-own_turn
 returns-in-Read-clause-own_turn c =
