@@ -101,7 +101,10 @@ impl<R: Files + Net + Processes + Clone + Drop> Sockets<R> {
     {
         let unnamed = listen_beside(rt, alloc, path).map_err(|e| fault_of(&e, Fault::Control))?;
         let table = connected(rt, alloc, transport).map_err(|e| fault_of(&e, Fault::Transport))?;
-        Sockets::publish(rt, alloc, path, unnamed, table).map_err(|e| fault_of(&e, Fault::Control))
+        match Sockets::publish(rt, alloc, path, unnamed, table) {
+            Ok(sockets) => Ok(sockets),
+            Err(e) => Err(fault_of(&e, Fault::Control)),
+        }
     }
 
     // Gives the control socket its name, and takes it in.
