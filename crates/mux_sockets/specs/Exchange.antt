@@ -37,6 +37,22 @@ heard_turn Nothing number = None
 heard_turn Interrupted number = None
 heard_turn Failed number = Some (turn.Failed number)
 
+-- how many bytes were heard
+abbrev pub heard_len : Heard → ℕ
+heard_len (Bytes n) = n
+heard_len End = 0
+heard_len Nothing = 0
+heard_len Interrupted = 0
+heard_len Failed = 0
+
+-- nothing more can be heard
+abbrev pub heard_last : Heard → Bool
+heard_last (Bytes n) = false
+heard_last End = true
+heard_last Nothing = false
+heard_last Interrupted = false
+heard_last Failed = true
+
 -- a stream is read again untold: after the most that a read takes, where reads stop short, and
 -- after a signal
 abbrev pub heard_again : Heard → Bool → ℕ → Bool

@@ -1,5 +1,6 @@
 //! The control socket and its name in the file system.
-ghost use Rattle.std.specs.Prelude.{◌≡◌};
+ghost use Rattle.std.specs.Prelude.{◌≡◌, IfOk};
+ghost use Rattle.std.specs.String.{string_bytes};
 ghost use Rattle.std.specs.Fs.{permissions_mode};
 ghost use Rattle.mux_sockets.specs.Control.{owner_reads_and_writes};
 
@@ -172,7 +173,12 @@ impl<R: Files + Net + Clone + Drop> Unnamed<R> {
         rt: &R,
         alloc: Global,
         path: &str,
-    ) -> io::Result<(UnixListener, Control<R>)> {
+    ) -> io::Result<(UnixListener, Control<R>)>
+        ensures listener { IfOk result (λ named. named.0 ≡ self.listener) }
+        ensures path { IfOk result (λ named. string_bytes named.1.path ≡ path.now) }
+        ensures dev { IfOk result (λ named. named.1.dev ≡ self.dev) }
+        ensures ino { IfOk result (λ named. named.1.ino ≡ self.ino) }
+    {
         let Unnamed {
             listener,
             temporary,

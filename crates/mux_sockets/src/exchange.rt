@@ -1,7 +1,7 @@
 //! What one read of a stream and one write to it come to.
 ghost use Rattle.std.specs.Prelude.{◌≡◌, ◌≢◌, ◌<◌, length, IfErr, IfOk};
 ghost use Rattle.std.specs.IoError.{error_kind};
-ghost use Rattle.mux_sockets.specs.Exchange.{Hears, Sends, heard_again, heard_turn, most_read, sent_wrote};
+ghost use Rattle.mux_sockets.specs.Exchange.{Hears, Sends, heard_again, heard_last, heard_len, heard_turn, most_read, sent_wrote};
 
 use mux_outside::{LONGEST_PIECE, Piece, Turn, Wrote, is_own};
 use std::io::{ErrorKind, Read, Write};
@@ -51,7 +51,9 @@ impl Heard {
     }
 
     /// How many bytes were heard.
-    pub fn len(self) -> usize {
+    pub fn len(self) -> usize
+        ensures { result ≡ heard_len self }
+    {
         match self {
             Heard::Bytes(count) => count,
             Heard::End | Heard::Nothing | Heard::Interrupted | Heard::Failed => 0,
@@ -59,7 +61,9 @@ impl Heard {
     }
 
     /// Whether nothing more can be heard.
-    pub fn is_last(self) -> bool {
+    pub fn is_last(self) -> bool
+        ensures { result ≡ heard_last self }
+    {
         matches!(self, Heard::End | Heard::Failed)
     }
 

@@ -237,8 +237,8 @@ impl<R: Files + Net + Processes + Clock + Clone + Drop> Wire for RealWire<R> {
 
     fn pause(&mut self, stream: u64)
         ensures paused { IfSome self.old.sockets (λ old. is_own stream ≡ true
-            → HasEntry stream old.entries
-            → IsSomeAnd self.new.sockets (λ new. IsPaused true stream new.entries)) }
+            → HasEntry stream old.table.entries
+            → IsSomeAnd self.new.sockets (λ new. IsPaused true stream new.table.entries)) }
         ensures state { self.new.state ≡ seeing (seen_after_pause true stream) self.old.state }
         ensures faults { self.new.faults ≡ self.old.faults }
     {
@@ -248,8 +248,8 @@ impl<R: Files + Net + Processes + Clock + Clone + Drop> Wire for RealWire<R> {
 
     fn resume(&mut self, stream: u64)
         ensures resumed { IfSome self.old.sockets (λ old. is_own stream ≡ true
-            → HasEntry stream old.entries
-            → IsSomeAnd self.new.sockets (λ new. IsPaused false stream new.entries)) }
+            → HasEntry stream old.table.entries
+            → IsSomeAnd self.new.sockets (λ new. IsPaused false stream new.table.entries)) }
         ensures state { self.new.state ≡ seeing (seen_after_pause false stream) self.old.state }
         ensures faults { self.new.faults ≡ self.old.faults }
     {
@@ -259,8 +259,8 @@ impl<R: Files + Net + Processes + Clock + Clone + Drop> Wire for RealWire<R> {
 
     fn finish(&mut self, stream: u64)
         ensures finished { IfSome self.old.sockets (λ old. is_own stream ≡ true
-            → HasEntry stream old.entries
-            → IsSomeAnd self.new.sockets (λ new. IsFinished stream new.entries)) }
+            → HasEntry stream old.table.entries
+            → IsSomeAnd self.new.sockets (λ new. IsFinished stream new.table.entries)) }
         ensures state { self.new.state ≡ seeing (seen_after_finish stream) self.old.state }
         ensures faults { self.new.faults ≡ self.old.faults }
     {
@@ -379,9 +379,9 @@ fn found_next<R: Files + Net + Processes + Clock + Drop>(
     into: &mut Piece,
 ) -> Turn
     ensures fits { FoundFits result numbers into.old into.new }
-    ensures stands { IfSome sockets.new (λ s. Stands result s.entries) }
+    ensures stands { IfSome sockets.new (λ s. Stands result s.table.entries) }
     ensures passes { IfSome sockets.old (λ s.
-        holds_own waiting.now s.shares ≡ true → PassesOwn result) }
+        holds_own waiting.now s.table.shares ≡ true → PassesOwn result) }
     ensures listening { option_map (λ s. s.listening) sockets.new
         ≡ option_map (λ s. s.listening) sockets.old }
 {
@@ -401,14 +401,14 @@ fn write<R: Files + Processes + Drop>(
     ensures fits { WroteFits result (length bytes.now) }
 {
     match sockets {
-        Some(sockets) => sockets.write(stream, bytes),
+        Some(sockets) => sockets.table.write(stream, bytes),
         None => Wrote::Failed,
     }
 }
 
 // Lets go of a stream's socket.
 fn drop_socket<R: Files + Processes + Drop>(sockets: &mut Option<Sockets<R>>, stream: u64)
-    ensures gone { IfSome sockets.new (λ s. get nat_eq s.entries stream ≡ None) }
+    ensures gone { IfSome sockets.new (λ s. get nat_eq s.table.entries stream ≡ None) }
     ensures listening { option_map (λ s. s.listening) sockets.new
         ≡ option_map (λ s. s.listening) sockets.old }
 {
@@ -419,33 +419,33 @@ fn drop_socket<R: Files + Processes + Drop>(sockets: &mut Option<Sockets<R>>, st
 
 // Reads nothing of a stream of the master's own for now.
 fn pause<R: Files + Processes + Drop>(sockets: &mut Option<Sockets<R>>, stream: u64)
-    ensures { IfSome sockets.old (λ old. is_own stream ≡ true → HasEntry stream old.entries
-        → IsSomeAnd sockets.new (λ new. IsPaused true stream new.entries)) }
+    ensures { IfSome sockets.old (λ old. is_own stream ≡ true → HasEntry stream old.table.entries
+        → IsSomeAnd sockets.new (λ new. IsPaused true stream new.table.entries)) }
 {
     match sockets {
-        Some(sockets) if is_own(stream) => sockets.pause(stream),
+        Some(sockets) if is_own(stream) => sockets.table.pause(stream),
         _ => {}
     }
 }
 
 // Reads a stream of the master's own again.
 fn resume<R: Files + Processes + Drop>(sockets: &mut Option<Sockets<R>>, stream: u64)
-    ensures { IfSome sockets.old (λ old. is_own stream ≡ true → HasEntry stream old.entries
-        → IsSomeAnd sockets.new (λ new. IsPaused false stream new.entries)) }
+    ensures { IfSome sockets.old (λ old. is_own stream ≡ true → HasEntry stream old.table.entries
+        → IsSomeAnd sockets.new (λ new. IsPaused false stream new.table.entries)) }
 {
     match sockets {
-        Some(sockets) if is_own(stream) => sockets.resume(stream),
+        Some(sockets) if is_own(stream) => sockets.table.resume(stream),
         _ => {}
     }
 }
 
 // Says the end of a stream of the master's own to the other side.
 fn finish<R: Files + Processes + Drop>(sockets: &mut Option<Sockets<R>>, stream: u64)
-    ensures { IfSome sockets.old (λ old. is_own stream ≡ true → HasEntry stream old.entries
-        → IsSomeAnd sockets.new (λ new. IsFinished stream new.entries)) }
+    ensures { IfSome sockets.old (λ old. is_own stream ≡ true → HasEntry stream old.table.entries
+        → IsSomeAnd sockets.new (λ new. IsFinished stream new.table.entries)) }
 {
     match sockets {
-        Some(sockets) if is_own(stream) => sockets.finish(stream),
+        Some(sockets) if is_own(stream) => sockets.table.finish(stream),
         _ => {}
     }
 }
@@ -461,10 +461,10 @@ fn stop_listening<R: Files + Processes + Drop>(sockets: &mut Option<Sockets<R>>)
 
 // Closes a listener of the master's own.
 fn unlisten<R: Files + Processes + Drop>(sockets: &mut Option<Sockets<R>>, listener: u64)
-    ensures { IfSome sockets.new (λ s. get nat_eq s.doors listener ≡ None) }
+    ensures { IfSome sockets.new (λ s. get nat_eq s.table.doors listener ≡ None) }
 {
     if let Some(sockets) = sockets {
-        sockets.unlisten(listener);
+        sockets.table.unlisten(listener);
     }
 }
 
@@ -477,7 +477,7 @@ fn listen<R: Files + Net + Processes + Clock + Drop>(
     port: u32,
 ) -> Result<(), FileError>
     ensures there { OnOk result
-        (IfSome sockets.new (λ s. IsSome (get nat_eq s.doors number))) }
+        (IfSome sockets.new (λ s. IsSome (get nat_eq s.table.doors number))) }
     ensures listening { option_map (λ s. s.listening) sockets.new
         ≡ option_map (λ s. s.listening) sockets.old }
 {
@@ -485,6 +485,7 @@ fn listen<R: Files + Net + Processes + Clock + Drop>(
     let address = address_of(host, port).ok_or(FileError::Failed)?;
     match sockets {
         Some(sockets) => sockets
+            .table
             .listen(rt, number, address)
             .map_err(|e| file_error(&e)),
         None => Err(FileError::Failed),
@@ -499,14 +500,14 @@ fn connect<R: Files + Net + Processes + Clock + Drop>(
     host: &[u8],
     port: u32,
 ) -> Result<(), FileError>
-    ensures there { OnOk result (IfSome sockets.new (λ s. HasEntry number s.entries)) }
+    ensures there { OnOk result (IfSome sockets.new (λ s. HasEntry number s.table.entries)) }
     ensures listening { option_map (λ s. s.listening) sockets.new
         ≡ option_map (λ s. s.listening) sockets.old }
 {
     let sockets = sockets.as_mut().ok_or(FileError::Failed)?;
     let port = u16::try_from(port).map_err(|_| FileError::Failed)?;
     let begun = match address_of(host, port) {
-        Some(address) => sockets.connect(rt, number, address),
+        Some(address) => sockets.table.connect(rt, number, address),
         None if is_name(host) => sockets.connect_by_name(rt, number, host, port),
         None => return Err(FileError::Failed),
     };

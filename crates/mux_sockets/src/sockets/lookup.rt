@@ -74,6 +74,11 @@ impl<P: Net + Processes> Lookup<P> {
         since: Instant,
     ) -> io::Result<Lookup<P>>
         requires { is_name name.now ≡ true }
+        ensures name { IfOk result (λ lookup. lookup.name.items ≡ name.now) }
+        ensures heard { IfOk result (λ lookup. lookup.heard.items ≡ []) }
+        ensures noted { IfOk result (λ lookup. lookup.noted ≡ false) }
+        ensures over { IfOk result (λ lookup. lookup.over ≡ false) }
+        ensures since { IfOk result (λ lookup. lookup.since ≡ since) }
     {
         let (ours, theirs) = net::UnixStream::pair(rt)?;
         ours.set_nonblocking(true)?;

@@ -7,6 +7,8 @@ ghost use Rattle.mux_sockets.specs.Ready.{IsFull};
 
 use super::Sockets;
 use super::ready::Door;
+use super::resolver::Resolver;
+use super::table::Table;
 use crate::stream::Stream;
 use mio::net::{TcpListener, TcpStream};
 use mio::{Interest, Token};
@@ -20,11 +22,36 @@ use std::process::Processes;
 use std::time::Clock;
 
 impl<R: Files + Net + Processes + Clock + Drop> Sockets<R> {
+    /// Begins to look up a name, to connect to it with a stream of this number.
+    pub fn connect_by_name(&mut self, rt: &R, number: u64, name: &[u8], port: u16) -> io::Result<()>
+        requires { is_name name.now ≡ true }
+        ensures there { OnOk result (HasEntry number self.new.table.entries) }
+        ensures waits { OnOk result (IsBlocked number self.new.table.entries) }
+        ensures others { OthersStay number self.old.table.entries self.new.table.entries }
+        ensures listening { self.new.listening ≡ self.old.listening }
+    {
+        self.table.add(number, Stream::Begun, true)?;
+        let registry = self.table.poll.registry();
+        match self.resolver.begin(rt, registry, number, name, port) {
+            Ok(is_known) => {
+                if is_known {
+                    self.table.meet_soon(number);
+                }
+                Ok(())
+            }
+            Err(e) => {
+                self.remove(number);
+                Err(e)
+            }
+        }
+    }
+}
+
+impl Table {
     /// Listens at an address, with a listener of this number.
-    pub fn listen(&mut self, rt: &R, number: u64, address: SocketAddr) -> io::Result<()>
+    pub fn listen<N: Net>(&mut self, rt: &N, number: u64, address: SocketAddr) -> io::Result<()>
         ensures there { OnOk result (IsSome (get nat_eq self.new.doors number)) }
         ensures entries { self.new.entries ≡ self.old.entries }
-        ensures listening { self.new.listening ≡ self.old.listening }
     {
         self.make_room()?;
         self.doors.reserve(1)?;
@@ -39,43 +66,23 @@ impl<R: Files + Net + Processes + Clock + Drop> Sockets<R> {
     }
 
     /// Begins to connect to an address, with a stream of this number.
-    pub fn connect(&mut self, rt: &R, number: u64, address: SocketAddr) -> io::Result<()>
+    pub fn connect<N: Net>(&mut self, rt: &N, number: u64, address: SocketAddr) -> io::Result<()>
         ensures there { OnOk result (HasEntry number self.new.entries) }
         ensures waits { OnOk result (IsBlocked number self.new.entries) }
         ensures others { OthersStay number self.old.entries self.new.entries }
-        ensures listening { self.new.listening ≡ self.old.listening }
     {
         let stream = Stream::connect(rt, address)?;
         self.add(number, stream, true)
     }
 
-    /// Begins to look up a name, to connect to it with a stream of this number.
-    pub fn connect_by_name(&mut self, rt: &R, number: u64, name: &[u8], port: u16) -> io::Result<()>
-        requires { is_name name.now ≡ true }
-        ensures there { OnOk result (HasEntry number self.new.entries) }
-        ensures waits { OnOk result (IsBlocked number self.new.entries) }
-        ensures others { OthersStay number self.old.entries self.new.entries }
-        ensures listening { self.new.listening ≡ self.old.listening }
-    {
-        self.add(number, Stream::Begun, true)?;
-        let registry = self.poll.registry();
-        match self.resolver.begin(rt, registry, number, name, port) {
-            Ok(is_known) => {
-                if is_known {
-                    self.meet_soon(number);
-                }
-                Ok(())
-            }
-            Err(e) => {
-                self.remove(number);
-                Err(e)
-            }
-        }
-    }
-
     // Looks whether a connection is made. What may be read of it is noted then. Where it isn't
     // made, the next of its addresses is tried, if the host is a name.
-    pub(super) fn meet(&mut self, rt: &R, number: u64) -> Option<Turn>
+    pub(super) fn meet<P: Net + Processes + Clock>(
+        &mut self,
+        rt: &P,
+        resolver: &mut Resolver<P>,
+        number: u64,
+    ) -> Option<Turn>
         ensures turn { IfSome result (λ turn.
             (turn ≡ Turn.Writable number) ⊎ (turn ≡ Turn.Failed number)) }
         ensures connected { result ≡ Some (Turn.Writable number)
@@ -83,14 +90,12 @@ impl<R: Files + Net + Processes + Clock + Drop> Sockets<R> {
         ensures noted { result ≡ Some (Turn.Writable number) → IsAwaited number self.old.entries
             → IsNoted number self.new.entries ⊎ IsFull self.old.ready }
         ensures others { OthersStay number self.old.entries self.new.entries }
-        ensures listening { self.new.listening ≡ self.old.listening }
     {
         let entry = self.entries.get_mut(&number)?;
         entry.writes = false;
         let mut made = entry.stream.is_made();
         if made.is_err() || entry.stream.is_begun() {
-            made = self
-                .resolver
+            made = resolver
                 .connect(rt, self.poll.registry(), number, &mut entry.stream)
                 .map(|()| false);
         }
@@ -100,12 +105,11 @@ impl<R: Files + Net + Processes + Clock + Drop> Sockets<R> {
     }
 }
 
-impl<R: Files + Processes + Drop> Sockets<R> {
+impl Table {
     /// Lets go of a listener.
     pub fn unlisten(&mut self, number: u64)
         ensures gone { get nat_eq self.new.doors number ≡ None }
         ensures entries { self.new.entries ≡ self.old.entries }
-        ensures listening { self.new.listening ≡ self.old.listening }
     {
         let Some(door) = self.doors.swap_remove(&number) else {
             return;
@@ -114,10 +118,9 @@ impl<R: Files + Processes + Drop> Sockets<R> {
     }
 
     // Notes that the addresses of a stream are known.
-    fn meet_soon(&mut self, number: u64)
+    pub(super) fn meet_soon(&mut self, number: u64)
         ensures waits { IsBlocked number self.old.entries → IsBlocked number self.new.entries }
         ensures others { OthersStay number self.old.entries self.new.entries }
-        ensures listening { self.new.listening ≡ self.old.listening }
     {
         if let Some(entry) = self.entries.get_mut(&number) {
             let _ = self.ready.note_connect(number, entry);
@@ -129,7 +132,6 @@ impl<R: Files + Processes + Drop> Sockets<R> {
         ensures turn { IfSome result (λ turn. turn ≡ Turn.Joined listener number) }
         ensures there { OnSome result (HasEntry number self.new.entries) }
         ensures others { OthersStay number self.old.entries self.new.entries }
-        ensures listening { self.new.listening ≡ self.old.listening }
     {
         let door = self.doors.get_mut(&listener)?;
         door.joins = false;
@@ -147,7 +149,6 @@ impl<R: Files + Processes + Drop> Sockets<R> {
         ensures turn { IfSome result (λ turn. turn ≡ Turn.Joined listener number) }
         ensures there { OnSome result (HasEntry number self.new.entries) }
         ensures others { OthersStay number self.old.entries self.new.entries }
-        ensures listening { self.new.listening ≡ self.old.listening }
     {
         let _ = stream.set_nodelay(true);
         if let Err(e) = self.add(number, Stream::Tcp(stream), false) {
@@ -162,7 +163,6 @@ impl<R: Files + Processes + Drop> Sockets<R> {
     // A socket that could not be accepted is no fault of the run.
     fn not_joined(&mut self, listener: u64, e: &io::Error)
         ensures entries { self.new.entries ≡ self.old.entries }
-        ensures listening { self.new.listening ≡ self.old.listening }
     {
         match e.kind() {
             ErrorKind::WouldBlock => {}
@@ -177,7 +177,6 @@ impl<R: Files + Processes + Drop> Sockets<R> {
     // Tries to accept again at a listener.
     fn join_again(&mut self, listener: u64)
         ensures entries { self.new.entries ≡ self.old.entries }
-        ensures listening { self.new.listening ≡ self.old.listening }
     {
         if let Some(door) = self.doors.get_mut(&listener) {
             let _ = self.ready.note_join(listener, door);
@@ -188,7 +187,6 @@ impl<R: Files + Processes + Drop> Sockets<R> {
     pub fn pause(&mut self, number: u64)
         ensures paused { HasEntry number self.old.entries → IsPaused true number self.new.entries }
         ensures others { OthersStay number self.old.entries self.new.entries }
-        ensures listening { self.new.listening ≡ self.old.listening }
     {
         if let Some(entry) = self.entries.get_mut(&number) {
             entry.paused = true;
@@ -202,7 +200,6 @@ impl<R: Files + Processes + Drop> Sockets<R> {
         ensures noted { IsKeptBack number self.old.entries
             → IsNoted number self.new.entries ⊎ IsFull self.old.ready }
         ensures others { OthersStay number self.old.entries self.new.entries }
-        ensures listening { self.new.listening ≡ self.old.listening }
     {
         if let Some(entry) = self.entries.get_mut(&number) {
             entry.paused = false;
@@ -215,7 +212,6 @@ impl<R: Files + Processes + Drop> Sockets<R> {
         ensures finished { HasEntry number self.old.entries
             → IsFinished number self.new.entries }
         ensures others { OthersStay number self.old.entries self.new.entries }
-        ensures listening { self.new.listening ≡ self.old.listening }
     {
         if let Some(entry) = self.entries.get_mut(&number) {
             entry.finish();

@@ -1,6 +1,7 @@
 //! What is ready, in the order in which it became so.
-ghost use Rattle.std.specs.Prelude.{◌≡◌, ◌++◌, ◌∷◌, [], false, true, IfSome, IsNone, IsSomeAnd, Some, OnErr, OnOk, slice_get};
-ghost use Rattle.mux_sockets.specs.Ready.{IsFull, IsLookedFor};
+ghost use Rattle.std.specs.Prelude.{◌≡◌, ◌≤◌, ◌+◌, ◌-◌, ◌*◌, ◌^◌, ◌||◌, not, ◌++◌, ◌∷◌, [], false, true, filter, min, IfSome, IsNone, IsSomeAnd, Some, OnErr, OnOk, slice_get};
+ghost use Rattle.std.specs.VecDeque.{deque_capacity, deque_len};
+ghost use Rattle.mux_sockets.specs.Ready.{IsFull, IsLookedFor, is_accept, is_join, is_of, is_round_over};
 
 use crate::stream::Stream;
 use mio::net::TcpListener;
@@ -138,7 +139,11 @@ impl Entry {
 }
 
 impl Door {
-    pub fn new(listener: TcpListener) -> Door {
+    /// A listener at which no socket waits, as far as is known.
+    pub fn new(listener: TcpListener) -> Door
+        ensures listener { result.listener ≡ listener }
+        ensures joins { result.joins ≡ false }
+    {
         Door {
             listener,
             joins: false,
@@ -147,17 +152,39 @@ impl Door {
 }
 
 // Whether this is of a stream.
-fn is_of(number: u64, ready: Ready) -> bool {
+fn is_of(number: u64, ready: Ready) -> bool
+    ensures { result ≡ is_of number ready }
+{
     match ready {
         Ready::Read(n) | Ready::Write(n) | Ready::Connect(n) => n == number,
         Ready::Accept | Ready::Join(_) => false,
     }
 }
 
+// Whether this is of clients.
+fn is_accept(ready: Ready) -> bool
+    ensures { result ≡ is_accept ready }
+{
+    matches!(ready, Ready::Accept)
+}
+
+// Whether this is of a listener of the master's own.
+fn is_join(number: u64, ready: Ready) -> bool
+    ensures { result ≡ is_join number ready }
+{
+    matches!(ready, Ready::Join(n) if n == number)
+}
+
 impl Queue {
     ghost use Rattle.mux_sockets.specs.Entries.{is_silent};
 
-    pub fn new(alloc: Global) -> Queue {
+    /// Nothing is ready so far, and no round is begun.
+    pub fn new(alloc: Global) -> Queue
+        ensures items { result.items.items ≡ [] }
+        ensures accepts { result.accepts ≡ false }
+        ensures front { result.front ≡ 0 }
+        ensures again { result.again ≡ false }
+    {
         Queue {
             items: VecDeque::new(alloc),
             accepts: false,
@@ -167,7 +194,12 @@ impl Queue {
     }
 
     /// Makes room for all that can be ready of so many streams and listeners.
-    pub fn reserve(&mut self, streams: usize) -> Result<(), AllocError> {
+    pub fn reserve(&mut self, streams: usize) -> Result<(), AllocError>
+        ensures items { self.new.items.items ≡ self.old.items.items }
+        ensures rest { self.new ≡ record self.old { items = self.new.items } }
+        ensures room { OnOk result (deque_len self.new.items
+            + min (2 * streams + 1) (2 ^ 64 - 1) ≤ deque_capacity self.new.items) }
+    {
         self.items
             .reserve(streams.saturating_mul(2).saturating_add(1))
     }
@@ -282,33 +314,55 @@ impl Queue {
     }
 
     /// Forgets the clients that may wait.
-    pub fn drop_accept(&mut self) {
-        self.items.retain(|r| *r != Ready::Accept);
+    pub fn drop_accept(&mut self)
+        ensures items { self.new.items.items
+            ≡ filter (λ ready. not (is_accept ready)) self.old.items.items }
+        ensures rest { self.new
+            ≡ record self.old { items = self.new.items; accepts = false } }
+    {
+        self.items.retain(|r| !is_accept(*r));
         self.accepts = false;
     }
 
     /// Forgets a stream.
-    pub fn drop_stream(&mut self, number: u64, entry: &Entry) {
+    pub fn drop_stream(&mut self, number: u64, entry: &Entry)
+        ensures gone { (entry.now.reads || entry.now.writes) ≡ true → self.new.items.items
+            ≡ filter (λ ready. not (is_of number ready)) self.old.items.items }
+        ensures kept { (entry.now.reads || entry.now.writes) ≡ false
+            → self.new.items.items ≡ self.old.items.items }
+        ensures rest { self.new ≡ record self.old { items = self.new.items } }
+    {
         if entry.reads || entry.writes {
             self.items.retain(|r| !is_of(number, *r));
         }
     }
 
     /// Forgets a listener of the master's own.
-    pub fn drop_door(&mut self, number: u64, door: &Door) {
+    pub fn drop_door(&mut self, number: u64, door: &Door)
+        ensures gone { door.now.joins ≡ true → self.new.items.items
+            ≡ filter (λ ready. not (is_join number ready)) self.old.items.items }
+        ensures kept { door.now.joins ≡ false
+            → self.new.items.items ≡ self.old.items.items }
+        ensures rest { self.new ≡ record self.old { items = self.new.items } }
+    {
         if door.joins {
-            self.items.retain(|r| *r != Ready::Join(number));
+            self.items.retain(|r| !is_join(number, *r));
         }
     }
 
     /// Begins a round over all that is ready.
-    pub fn begin_round(&mut self) {
+    pub fn begin_round(&mut self)
+        ensures { self.new
+            ≡ record self.old { front = deque_len self.old.items; again = true } }
+    {
         self.front = self.items.len();
         self.again = true;
     }
 
     /// Whether the round is over, where this is the first place that may be served.
-    pub fn is_round_over(&self, at: Option<usize>) -> bool {
+    pub fn is_round_over(&self, at: Option<usize>) -> bool
+        ensures { result ≡ is_round_over at self.now }
+    {
         match at {
             Some(at) => at >= self.front && !self.again,
             None => true,

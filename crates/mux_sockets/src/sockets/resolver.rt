@@ -1,6 +1,6 @@
 //! Names that are looked up, and the streams that connect to them.
-ghost use Rattle.std.specs.Prelude.{◌≡◌, ◌<◌, ◌≤◌, ◌+◌, length, max, Some, true, IfSome, IfNone, OnErr, OnOk, OnSome, slice_get};
-ghost use Rattle.indexmap.specs.IndexMap.{index_map_len};
+ghost use Rattle.std.specs.Prelude.{◌≡◌, ◌<◌, ◌≤◌, ◌+◌, ◌↔◌, length, max, None, Some, is_some, true, IfSome, IfNone, IsSomeAnd, IsTrue, OnErr, OnOk, OnSome, nat_eq, slice_get};
+ghost use Rattle.indexmap.specs.IndexMap.{get, index_map_len};
 ghost use Rattle.std.specs.Net.Socket.{socket_ip, socket_port};
 ghost use Rattle.mux_sockets.specs.Names.{is_name};
 
@@ -93,7 +93,13 @@ impl Target {
 }
 
 impl<P: Processes> Resolver<P> {
-    pub fn new(alloc: Global) -> Resolver<P> {
+    /// Nothing is looked up, and nothing is known.
+    pub fn new(alloc: Global) -> Resolver<P>
+        ensures lookups { index_map_len result.lookups ≡ 0 }
+        ensures leaving { length result.leaving.items ≡ 0 }
+        ensures cache { length result.cache.items ≡ 0 }
+        ensures targets { index_map_len result.targets ≡ 0 }
+    {
         Resolver {
             alloc,
             lookups: IndexMap::new(alloc),
@@ -104,12 +110,19 @@ impl<P: Processes> Resolver<P> {
     }
 
     /// Whether the system is to be asked again soon.
-    pub fn is_busy(&self) -> bool {
+    pub fn is_busy(&self) -> bool
+        ensures { IsTrue result
+            ↔ (0 < index_map_len self.now.lookups + length self.now.leaving.items) }
+    {
         !(self.lookups.is_empty() && self.leaving.is_empty())
     }
 
     /// Notes that a look-up wrote something, where the number is that of one.
-    pub fn note(&mut self, number: u64) -> bool {
+    pub fn note(&mut self, number: u64) -> bool
+        ensures found { result ≡ is_some (get nat_eq self.old.lookups number) }
+        ensures noted { result ≡ true
+            → IsSomeAnd (get nat_eq self.new.lookups number) (λ lookup. lookup.noted ≡ true) }
+    {
         match self.lookups.get_mut(&number) {
             Some(lookup) => {
                 lookup.noted = true;
@@ -258,7 +271,9 @@ impl<P: Processes> Resolver<P> {
     }
 
     // Takes out a look-up, and ends its child: the name, and what was heard of it.
-    fn end(&mut self, number: u64) -> Option<(Vec<u8>, Vec<u8>)> {
+    fn end(&mut self, number: u64) -> Option<(Vec<u8>, Vec<u8>)>
+        ensures { self.new.targets ≡ self.old.targets }
+    {
         let Lookup {
             name,
             heard,
@@ -311,7 +326,9 @@ impl<P: Processes> Resolver<P> {
     }
 
     /// Forgets where a stream connects to. A look-up that no other waits for ends.
-    pub fn forget(&mut self, number: u64) {
+    pub fn forget(&mut self, number: u64)
+        ensures { get nat_eq self.new.targets number ≡ None }
+    {
         let Some(target) = self.targets.swap_remove(&number) else {
             return;
         };

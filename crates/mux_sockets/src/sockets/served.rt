@@ -9,9 +9,11 @@ ghost use Rattle.mux_sockets.specs.Ready.{IsFull};
 
 use super::Sockets;
 use super::ready::Ready;
+use super::table::Table;
 use crate::exchange::{Sent, hear, most_read, send};
 use crate::numbers::Numbers;
 use crate::stream::Stream;
+use mio::net::UnixListener;
 use mux_outside::{Piece, Turn, Wrote};
 use std::fs::Files;
 use std::io;
@@ -32,15 +34,15 @@ impl<R: Files + Net + Processes + Clock + Drop> Sockets<R> {
         ensures serves { IfSome result (Serves ready numbers) }
         ensures fits { IfSome result (λ turn. FoundFits turn numbers into.old into.new) }
         ensures kept { IfNone result (into.new ≡ into.old) }
-        ensures stands { IfSome result (λ turn. Stands turn self.new.entries) }
+        ensures stands { IfSome result (λ turn. Stands turn self.new.table.entries) }
         ensures listening { self.new.listening ≡ self.old.listening }
     {
         match ready {
             Ready::Accept => self.accept(numbers.client?),
-            Ready::Join(listener) => self.join_at(listener, numbers.own?),
-            Ready::Read(number) => self.read(number, into),
-            Ready::Write(number) => self.free(number),
-            Ready::Connect(number) => self.meet(rt, number),
+            Ready::Join(listener) => self.table.join_at(listener, numbers.own?),
+            Ready::Read(number) => self.table.read(number, into),
+            Ready::Write(number) => self.table.free(number),
+            Ready::Connect(number) => self.table.meet(rt, &mut self.resolver, number),
         }
     }
 }
@@ -49,12 +51,23 @@ impl<R: Files + Processes + Drop> Sockets<R> {
     // Accepts a client under this number.
     fn accept(&mut self, number: u64) -> Option<Turn>
         ensures turn { IfSome result (λ turn. turn ≡ Turn.Accepted number) }
-        ensures there { OnSome result (HasEntry number self.new.entries) }
-        ensures others { OthersStay number self.old.entries self.new.entries }
+        ensures there { OnSome result (HasEntry number self.new.table.entries) }
+        ensures others { OthersStay number self.old.table.entries self.new.table.entries }
         ensures listening { self.new.listening ≡ self.old.listening }
     {
         let listening = self.listening.as_ref()?;
-        match listening.listener.accept() {
+        self.table.accept(&listening.listener, number)
+    }
+}
+
+impl Table {
+    // Accepts a client at the listener of clients, under this number.
+    fn accept(&mut self, listener: &UnixListener, number: u64) -> Option<Turn>
+        ensures turn { IfSome result (λ turn. turn ≡ Turn.Accepted number) }
+        ensures there { OnSome result (HasEntry number self.new.entries) }
+        ensures others { OthersStay number self.old.entries self.new.entries }
+    {
+        match listener.accept() {
             Ok((stream, _)) => {
                 if let Err(e) = self.add(number, Stream::Unix(stream), false) {
                     self.not_accepted(&e);
@@ -74,7 +87,6 @@ impl<R: Files + Processes + Drop> Sockets<R> {
     // A client that could not be accepted is no fault of the run.
     fn not_accepted(&mut self, e: &io::Error)
         ensures entries { self.new.entries ≡ self.old.entries }
-        ensures listening { self.new.listening ≡ self.old.listening }
     {
         match e.kind() {
             ErrorKind::WouldBlock => {}
@@ -102,7 +114,6 @@ impl<R: Files + Processes + Drop> Sockets<R> {
             (numbers : Numbers) → FoundFits turn numbers into.old into.new) }
         ensures kept { IfNone result (into.new ≡ into.old) }
         ensures others { OthersStay number self.old.entries self.new.entries }
-        ensures listening { self.new.listening ≡ self.old.listening }
     {
         let entry = self.entries.get_mut(&number)?;
         entry.reads = false;
@@ -125,7 +136,6 @@ impl<R: Files + Processes + Drop> Sockets<R> {
         ensures turn { IfSome result (λ turn. turn ≡ Turn.Writable number) }
         ensures connected { OnSome result (IsConnected number self.new.entries) }
         ensures others { OthersStay number self.old.entries self.new.entries }
-        ensures listening { self.new.listening ≡ self.old.listening }
     {
         let entry = self.entries.get_mut(&number)?;
         entry.writes = false;
@@ -142,7 +152,6 @@ impl<R: Files + Processes + Drop> Sockets<R> {
         ensures fits { WroteFits result (length bytes.now) }
         ensures waits { result ≡ Wrote.Later → IsBlocked number self.new.entries }
         ensures others { OthersStay number self.old.entries self.new.entries }
-        ensures listening { self.new.listening ≡ self.old.listening }
     {
         let Some(entry) = self.entries.get_mut(&number) else {
             return Wrote::Failed;
