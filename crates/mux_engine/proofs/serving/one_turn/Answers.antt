@@ -111,7 +111,7 @@ returns-then-is_over-clause-serving g c first calls before policy pid start give
 pub returns-then-is_over-clause-together : goal.returns-then-is_over-clause-together
 returns-then-is_over-clause-together g c =
     let p = goal.at.returns-then-is_over-clause-together g c in
-    hushed-together g p.After-hush (closed g p.After-close_lost (stepped g p.In_ok-step_house false c.if-branch.false))
+    let t = hushed-together g p.After-hush (closed g p.After-close_lost (stepped g p.In_ok-step_house false c.if-branch.false)) in record { housed = t.housed; alone = t.alone; held_is = t.held_is }
 
 pub returns-then-is_over-clause-house : goal.returns-then-is_over-clause-house
 returns-then-is_over-clause-house g c = let h = c.in_ok-step_house.ensures.house in record { present = h.present; must = h.must }

@@ -55,16 +55,18 @@ returns-in_err-list_waiting g c =
       wire = works-unlisted r.result (g.W.Wire.state c.args.wire.now) (g.W.Wire.faults c.args.wire.now) r.ensures.0;
     }
 
-pub wait-told-requires-clause-may : goal.wait-told-requires-clause-may
-wait-told-requires-clause-may g c =
-    let p = goal.at.wait-told-requires-clause-may g c in
+pub wait-told-requires : goal.wait-told-requires
+wait-told-requires g c =
+    let p = goal.at.wait-told-requires g c in
     let a = at-wait g.H.Asks.state c.requires.served.first c.args.house.now c.requires.served.calls (g.W.Wire.state c.args.wire.now) c.args.lists.now c.args.engine.now (begins g p.Start) c.requires.served.hands in
     let seen = (g.W.Wire.state c.args.wire.now).seen in
     let todo = sym (todo-is g p.In_ok-list_waiting) in record {
-      are_blocked = subst (λ (l : List ℕ). All (λ t. IsTrue (among t seen.blocked)) l) todo (waiting-blocked c.requires.served.serving a.none a.admitted a.live a.offered);
-      are_open = subst (λ (l : List ℕ). All (λ t. IsTrue (among t seen.streams)) l) todo (waiting-open c.requires.served.serving a.none a.admitted a.live a.offered);
-      server = server-open c.requires.served.serving;
-      some = λ write. subst (λ (l : List ℕ). 0 < length l) todo (some-waits c.requires.served.serving a.none a.admitted a.live a.offered (sym c.wanted.ensures ∙ write));
+      may = record {
+        are_blocked = subst (λ (l : List ℕ). All (λ t. IsTrue (among t seen.blocked)) l) todo (waiting-blocked c.requires.served.serving a.none a.admitted a.live a.offered);
+        are_open = subst (λ (l : List ℕ). All (λ t. IsTrue (among t seen.streams)) l) todo (waiting-open c.requires.served.serving a.none a.admitted a.live a.offered);
+        server = server-open c.requires.served.serving;
+        some = λ write. subst (λ (l : List ℕ). 0 < length l) todo (some-waits c.requires.served.serving a.none a.admitted a.live a.offered (sym c.wanted.ensures ∙ write));
+      };
     }
 
 -- ---- an event

@@ -27,12 +27,14 @@ pub returns-then-is_empty-clause-serving : goal.returns-then-is_empty-clause-ser
 returns-then-is_empty-clause-serving g c todo zero present first before now policy pid start failed given v =
     nothing-left v c.args.stream c.queue_of-bytes.result.now (c.queue_of-bytes.ensures.waits v.picked v.replies v.journal v.closed v.stands (at-stream v.stands c.args.stream c.requires.stream.opened).not_closed) (empty-is c.queue_of-bytes.result.now (sym c.if-is_empty.ensures))
 
-pub write-requires-clause-may : goal.write-requires-clause-may
-write-requires-clause-may g c = let w = c.requires.served in record {
-  is_open = stream-open w.serving c.args.stream c.requires.stream.opened c.requires.stream.no_house;
-  unblocked = c.requires.free;
-  unfinished = none-finished c.args.stream (g.W.Wire.state c.args.wire.now).seen.own (client-apart _ _ w.serving.places c.args.stream (open-own w.serving c.args.stream c.requires.stream.opened c.requires.stream.no_house));
-  some = some-bytes c.queue_of-bytes.result.now (sym c.if-is_empty.ensures);
+pub write-requires : goal.write-requires
+write-requires g c = let w = c.requires.served in record {
+  may = record {
+    is_open = stream-open w.serving c.args.stream c.requires.stream.opened c.requires.stream.no_house;
+    unblocked = c.requires.free;
+    unfinished = none-finished c.args.stream (g.W.Wire.state c.args.wire.now).seen.own (client-apart _ _ w.serving.places c.args.stream (open-own w.serving c.args.stream c.requires.stream.opened c.requires.stream.no_house));
+    some = some-bytes c.queue_of-bytes.result.now (sym c.if-is_empty.ensures);
+  };
 }
 
 -- ---- bytes that were taken
