@@ -7,7 +7,7 @@ use thiserror::Error;
 
 /// A channel as its look-ups show it: its client, and the numbers that the two sides gave it (RFC
 /// 4254, section 5.1).
-#[derive(Clone, Copy, Debug, PartialEq, Eq)]
+#[derive(Clone, Copy, PartialEq, Eq)]
 pub struct Channel {
     pub client: u64,
     /// The client's own number. A server's open lacks it until the client confirms.

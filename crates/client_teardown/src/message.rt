@@ -1,7 +1,7 @@
 use conn_messages::Key;
 
 /// What the server says for a client that is lost already, and that the master has to undo.
-#[derive(Clone, Copy, Debug)]
+#[derive(Clone, Copy)]
 pub enum Late<'a> {
     /// The open of this channel is confirmed under the server's number, which the table has taken
     /// in.

@@ -2,7 +2,7 @@ use conf_rules::{AskedLine, ConfigFrom, Control, Usage};
 use ssh_fields::Text;
 
 /// What is to be done.
-#[derive(Clone, Copy, Debug, Drop)]
+#[derive(Clone, Copy, Drop)]
 pub enum Mode {
     Listing,
     Master,
@@ -11,7 +11,7 @@ pub enum Mode {
 }
 
 /// What a word does.
-#[derive(Debug, Drop)]
+#[derive(Drop)]
 pub enum Act {
     Chooses(Mode),
     Reads(ConfigFrom),

@@ -6,7 +6,7 @@ ghost use Rattle.conf_command.specs.Shown.{destination_of};
 use conf_lexer::split_at_last;
 
 /// A host, and the user if one is named.
-#[derive(Clone, Copy, Debug)]
+#[derive(Clone, Copy)]
 pub struct Destination<'a> {
     pub user: Option<&'a [u8]>,
     pub host: &'a [u8],

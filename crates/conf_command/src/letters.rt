@@ -28,7 +28,7 @@ pub enum Takes {
 }
 
 /// What a letter is.
-#[derive(Clone, Copy, Debug, Drop)]
+#[derive(Clone, Copy, Drop)]
 pub enum Letter {
     Names(Mode),
     /// It sets a key to a value of its own.

@@ -10,7 +10,7 @@ use std::alloc::Global;
 use std::marker::Model;
 
 /// An entry of the master's permissions, and its word.
-#[derive(Debug, Drop)]
+#[derive(Drop)]
 pub struct Permit {
     word: u64,
     text: Text,

@@ -22,7 +22,7 @@ use ssh_fields::{OutOfMemory, Text, Texts};
 use std::alloc::Global;
 
 /// Why words say no command.
-#[derive(Clone, Copy, Debug, Drop, PartialEq, Eq)]
+#[derive(Clone, Copy, Drop, PartialEq, Eq)]
 pub enum WordsError {
     /// The first bad word.
     Refused(UsageError),

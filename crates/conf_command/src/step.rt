@@ -7,7 +7,7 @@ use ssh_fields::ListOf;
 use std::marker::Model;
 
 /// An act and its word, counted from 1.
-#[derive(Debug, Drop)]
+#[derive(Drop)]
 pub struct Step {
     word: u64,
     act: Act,

@@ -10,7 +10,7 @@ use crate::step::Step;
 use conf_rules::{Usage, UsageError};
 
 /// The steps before the first bad one, and its refusal if there is one.
-#[derive(Clone, Copy, Debug)]
+#[derive(Clone, Copy)]
 pub struct Walk<'a> {
     pub sound: &'a [Step],
     pub fault: Option<UsageError>,

@@ -7,7 +7,7 @@ ghost use Rattle.conf_lexer.specs.Shown.{heading};
 use conf_rules::LexError;
 
 /// What a line is: nothing or a comment, or a keyword and what follows it.
-#[derive(Clone, Copy, Debug)]
+#[derive(Clone, Copy)]
 pub enum Head<'a> {
     Blank,
     Line { keyword: &'a [u8], rest: &'a [u8] },

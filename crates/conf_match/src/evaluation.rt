@@ -14,7 +14,7 @@ use mux_outside::{FileError, Runner};
 use std::alloc::Global;
 
 /// Why criteria have no answer.
-#[derive(Debug, Drop)]
+#[derive(Drop)]
 pub enum EvalError {
     /// The runner failed.
     RunFault,

@@ -7,7 +7,7 @@ use crate::pieces::{Syntax, is_any, next_piece, takes};
 use conf_lexer::first;
 
 /// How a pattern's pieces before its first star fare.
-#[derive(Clone, Copy, Debug)]
+#[derive(Clone, Copy)]
 pub enum Segment<'p, 't> {
     /// There is no star, and the name is matched.
     Yes,

@@ -13,7 +13,7 @@ use ssh_fields::{OutOfMemory, Text};
 use std::alloc::Global;
 
 /// How a key is listed.
-#[derive(Clone, Copy, Debug, Drop)]
+#[derive(Clone, Copy, Drop)]
 enum Manner {
     /// Or else the local user.
     User,

@@ -9,7 +9,7 @@ use ssh_fields::{OutOfMemory, Text};
 use std::alloc::Global;
 
 /// Why a line has no reading.
-#[derive(Debug, Drop)]
+#[derive(Drop)]
 pub enum LineError {
     Refused(Cause),
     OutOfMemory,

@@ -1,7 +1,7 @@
 use ssh_fields::Text;
 
 /// A line of a file that says something.
-#[derive(Debug, Drop)]
+#[derive(Drop)]
 pub struct ConfLine {
     /// The file's path.
     pub file: Text,

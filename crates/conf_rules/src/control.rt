@@ -1,5 +1,5 @@
 /// What a running master is asked.
-#[derive(Clone, Copy, Debug, Drop, PartialEq, Eq)]
+#[derive(Clone, Copy, Drop, PartialEq, Eq)]
 pub enum Control {
     /// Whether it is there.
     Check,

@@ -1,7 +1,7 @@
 use ssh_fields::{ListOf, Text};
 
 /// What a list of patterns says of a name.
-#[derive(Clone, Copy, Debug, Drop, PartialEq, Eq)]
+#[derive(Clone, Copy, Drop, PartialEq, Eq)]
 pub enum ListAnswer {
     Yes,
     No,
@@ -10,7 +10,7 @@ pub enum ListAnswer {
 }
 
 /// A criterion's name.
-#[derive(Clone, Copy, Debug, Drop, PartialEq, Eq)]
+#[derive(Clone, Copy, Drop, PartialEq, Eq)]
 pub enum Kind {
     All,
     Canonical,
@@ -24,7 +24,7 @@ pub enum Kind {
 }
 
 /// What a criterion's name is.
-#[derive(Clone, Copy, Debug, Drop, PartialEq, Eq)]
+#[derive(Clone, Copy, Drop, PartialEq, Eq)]
 pub enum Named {
     /// It takes a value.
     Valued(Kind),
@@ -37,7 +37,7 @@ pub enum Named {
 }
 
 /// A criterion of `Match`. The value is empty where the criterion takes none.
-#[derive(Debug, Drop)]
+#[derive(Drop)]
 pub struct Criterion {
     pub negated: bool,
     pub kind: Kind,

@@ -1,7 +1,7 @@
 use crate::key::Key;
 
 /// What a keyword of ssh_config(5) is.
-#[derive(Clone, Copy, Debug, Drop, PartialEq, Eq)]
+#[derive(Clone, Copy, Drop, PartialEq, Eq)]
 pub enum KeyKind {
     /// It sets a key.
     Key(Key),

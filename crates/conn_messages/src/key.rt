@@ -7,7 +7,7 @@ use ssh_fields::Small;
 
 /// What is listened on: an address with a port (RFC 4254, section 7.1), or the path of a Unix
 /// socket (OpenSSH's PROTOCOL, section 2.4). The two are never the same.
-#[derive(Clone, Copy, Debug)]
+#[derive(Clone, Copy)]
 pub enum Key<'a> {
     Tcp { address: &'a [u8], port: u32 },
     Path(&'a [u8]),

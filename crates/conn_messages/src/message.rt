@@ -2,7 +2,7 @@ use crate::key::Key;
 
 /// What a global request is about: its data, read further for these names alone (RFC 4254, sections
 /// 4 and 7.1; OpenSSH's PROTOCOL, section 2.4).
-#[derive(Clone, Copy, Debug)]
+#[derive(Clone, Copy)]
 pub enum Request<'a> {
     /// `tcpip-forward` or `streamlocal-forward@openssh.com`
     Forward(Key<'a>),
@@ -16,7 +16,7 @@ pub enum Request<'a> {
 
 /// What an open is about: its data, read further for these types alone (RFC 4254, sections 6.1 and
 /// 7.2; OpenSSH's PROTOCOL, section 2.4).
-#[derive(Clone, Copy, Debug)]
+#[derive(Clone, Copy)]
 pub enum Opening<'a> {
     /// `session`
     Session,
@@ -30,7 +30,7 @@ pub enum Opening<'a> {
 
 /// A message of RFC 4254 with its fields in their order. Strings and data are parts of the payload;
 /// `rest` is data as it came, and `what` is that data read further.
-#[derive(Clone, Copy, Debug)]
+#[derive(Clone, Copy)]
 pub enum Message<'a> {
     /// A message of the transport, 1 to 4, whose fields aren't read.
     Transport {

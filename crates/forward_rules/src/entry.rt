@@ -9,7 +9,7 @@ use ssh_fields::{OutOfMemory, Text};
 use std::alloc::Global;
 
 /// An entry as its text has it, where `None` stands for each host and each port.
-#[derive(Clone, Copy, Debug)]
+#[derive(Clone, Copy)]
 pub enum Parts<'a> {
     /// `host:port`, `[address]:port` or `port`.
     Ports {

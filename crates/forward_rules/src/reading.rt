@@ -22,7 +22,7 @@ const ANY: &[u8] = b"any";
 const NONE: &[u8] = b"none";
 
 /// Why a list isn't read.
-#[derive(Clone, Copy, Debug, Drop, PartialEq, Eq)]
+#[derive(Clone, Copy, Drop, PartialEq, Eq)]
 pub enum ListFault {
     /// The first text that is no entry.
     Bad { at: usize },

@@ -10,7 +10,7 @@ use ssh_fields::OutOfMemory;
 use std::alloc::Global;
 
 /// What an ask came to.
-#[derive(Clone, Copy, Debug, PartialEq, Eq)]
+#[derive(Clone, Copy, PartialEq, Eq)]
 pub enum Outcome {
     Done,
     Port(u32),
@@ -18,7 +18,7 @@ pub enum Outcome {
 }
 
 /// What comes of an ask at once.
-#[derive(Clone, Copy, Debug)]
+#[derive(Clone, Copy)]
 pub enum Asked {
     /// It came to this.
     Now(Outcome),
@@ -27,7 +27,7 @@ pub enum Asked {
 }
 
 /// An ask that has no answer yet.
-#[derive(Clone, Copy, Debug)]
+#[derive(Clone, Copy)]
 pub struct Waiting {
     pub client: u64,
     pub id: u32,

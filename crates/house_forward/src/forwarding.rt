@@ -14,7 +14,7 @@ use std::alloc::Global;
 use std::mem;
 
 /// A request to the server that has no reply yet.
-#[derive(Clone, Copy, Debug)]
+#[derive(Clone, Copy)]
 pub enum Request {
     /// To listen for this forwarding.
     Listen(u64),
@@ -42,7 +42,7 @@ pub enum Stage {
 }
 
 /// How a forwarding changes by what is asked, said and heard.
-#[derive(Clone, Copy, Debug)]
+#[derive(Clone, Copy)]
 pub enum Change {
     /// It is asked to close.
     Close,

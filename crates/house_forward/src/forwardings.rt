@@ -22,7 +22,7 @@ use std::collections::VecDeque;
 use std::mem;
 
 /// Which order about a listener is next.
-#[derive(Clone, Copy, Debug)]
+#[derive(Clone, Copy)]
 pub enum Want {
     /// To listen for the first forwarding that has no listener yet.
     Listen,

@@ -15,7 +15,7 @@ use proxy_frames::Framer;
 use std::alloc::Global;
 
 /// How what is written to the house is read.
-#[derive(Clone, Copy, Debug, PartialEq, Eq)]
+#[derive(Clone, Copy, PartialEq, Eq)]
 enum Stage {
     /// Control messages, until PROXY is granted.
     Control,

@@ -26,7 +26,7 @@ pub enum Stream {
 }
 
 /// What a stream is ordered, or what happens to it.
-#[derive(Clone, Copy, Debug)]
+#[derive(Clone, Copy)]
 pub enum Step {
     /// It is paused from now on, or isn't.
     Pause(bool),

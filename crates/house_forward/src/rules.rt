@@ -29,7 +29,7 @@ const ANY: &[u8] = b"*";
 const THIS_HOST: &[u8] = b"localhost";
 
 /// How a forwarding works.
-#[derive(Clone, Copy, Debug, PartialEq, Eq)]
+#[derive(Clone, Copy, PartialEq, Eq)]
 pub enum Kind {
     /// The house listens, and the server connects.
     Local,

@@ -7,7 +7,7 @@ use socks_dialog::Dialog;
 use ssh_fields::Text;
 
 /// A channel that is confirmed and hasn't ended.
-#[derive(Clone, Copy, Debug)]
+#[derive(Clone, Copy)]
 pub struct Live {
     /// The server's number.
     pub remote: u32,

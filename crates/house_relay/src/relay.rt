@@ -18,7 +18,7 @@ use ssh_fields::{OutOfMemory, Text};
 use std::alloc::Global;
 
 /// How a socket stands.
-#[derive(Clone, Copy, Debug, PartialEq, Eq)]
+#[derive(Clone, Copy, PartialEq, Eq)]
 pub enum Socket {
     /// It is to be connected, and has no number yet.
     Unmade,
@@ -35,7 +35,7 @@ pub enum Socket {
 }
 
 /// What a relay says next.
-#[derive(Clone, Copy, Debug, PartialEq, Eq)]
+#[derive(Clone, Copy, PartialEq, Eq)]
 pub enum Saying {
     Open,
     Confirmation,

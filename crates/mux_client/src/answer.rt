@@ -13,7 +13,7 @@ use ssh_grammar::numbers::{
 };
 
 /// An answer of a master.
-#[derive(Clone, Copy, Debug, PartialEq, Eq)]
+#[derive(Clone, Copy, PartialEq, Eq)]
 pub enum Answer {
     Okay { id: u32 },
     /// S_PERMISSION_DENIED or S_FAILURE, whose reason is skipped.

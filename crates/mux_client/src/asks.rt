@@ -1,7 +1,7 @@
 use mux_outside::StartAsks;
 
 /// What a master is asked.
-#[derive(Debug, Drop)]
+#[derive(Drop)]
 pub enum Asks {
     /// Whether it is there.
     Check,

@@ -1,5 +1,5 @@
 /// How far a talk is.
-#[derive(Clone, Copy, Debug, PartialEq, Eq)]
+#[derive(Clone, Copy, PartialEq, Eq)]
 pub enum Stage {
     /// The master's hello is awaited.
     Greets,

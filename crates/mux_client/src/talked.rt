@@ -4,7 +4,7 @@ ghost use Rattle.mux_client.specs.declared.talked.Talked.TheVariants.{OutOfMemor
 use ssh_fields::OutOfMemory;
 
 /// How a talk ended.
-#[derive(Clone, Copy, Debug, PartialEq, Eq)]
+#[derive(Clone, Copy, PartialEq, Eq)]
 pub enum Talked {
     /// Each request was granted.
     Done,

@@ -10,7 +10,7 @@ use ssh_fields::{OutOfMemory, Text};
 use std::alloc::Global;
 
 /// What is shown where a request was granted.
-#[derive(Clone, Copy, Debug, PartialEq, Eq)]
+#[derive(Clone, Copy, PartialEq, Eq)]
 pub enum Line {
     /// The master runs with this process id.
     Running { pid: u32 },
@@ -24,7 +24,7 @@ pub enum Line {
 }
 
 /// What a reply means.
-#[derive(Clone, Copy, Debug, PartialEq, Eq)]
+#[derive(Clone, Copy, PartialEq, Eq)]
 pub enum Verdict {
     /// The request is done.
     Grants(Line),

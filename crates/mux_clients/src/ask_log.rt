@@ -7,7 +7,7 @@ use std::alloc::Global;
 use std::marker::Model;
 
 /// What the house was asked, in order, each with its reply.
-#[derive(Debug, Drop)]
+#[derive(Drop)]
 pub struct AskLog {
     alloc: Global,
     marks: Vec<HouseMark>,

@@ -26,7 +26,7 @@ use ssh_fields::{Cursor, OutOfMemory, Small};
 use ssh_grammar::numbers::*;
 
 /// Where what the server said goes.
-#[derive(Clone, Copy, Debug, PartialEq, Eq)]
+#[derive(Clone, Copy, PartialEq, Eq)]
 pub enum Heard {
     /// Nothing goes to a client.
     Master,

@@ -1,7 +1,7 @@
 use crate::Break;
 
 /// How a run ended.
-#[derive(Clone, Copy, Debug, PartialEq, Eq)]
+#[derive(Clone, Copy, PartialEq, Eq)]
 pub enum Ended {
     /// The server's stream ended.
     ServerEnd,

@@ -23,7 +23,7 @@ pub enum Event<'a> {
 }
 
 /// Whether the run goes on.
-#[derive(Clone, Copy, Debug, PartialEq, Eq)]
+#[derive(Clone, Copy, PartialEq, Eq)]
 pub enum Went {
     /// It goes on.
     On,

@@ -8,7 +8,7 @@ use crate::whose::Whose;
 use std::marker::Model;
 
 /// How often a wire was called, how often it found no memory, and how often it gave what.
-#[derive(Debug, Drop)]
+#[derive(Drop)]
 pub struct CallCounts {
     opens: u64,
     waits: u64,

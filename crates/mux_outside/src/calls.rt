@@ -6,7 +6,7 @@ use std::alloc::Global;
 use std::marker::Model;
 
 /// The numbers of the calls that fail, counted from 1.
-#[derive(Debug, Drop)]
+#[derive(Drop)]
 pub struct Calls {
     numbers: Vec<u64>,
 }

@@ -2,7 +2,7 @@ use crate::pairs::Pairs;
 use ssh_fields::Text;
 
 /// What is known of the machine and of its user. What is unknown is `None`.
-#[derive(Debug, Drop)]
+#[derive(Drop)]
 pub struct Facts {
     /// The user's home directory.
     pub home: Option<Text>,

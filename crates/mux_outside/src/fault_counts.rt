@@ -8,7 +8,7 @@ use crate::whose::Whose;
 use std::marker::Model;
 
 /// How often something failed at a wire.
-#[derive(Debug, Drop)]
+#[derive(Drop)]
 pub struct FaultCounts {
     server: u64,
     client: u64,

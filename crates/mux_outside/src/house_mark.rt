@@ -7,7 +7,7 @@ use ssh_fields::{OutOfMemory, Text};
 use std::alloc::Global;
 
 /// What happens between the master and a house, in the order in which it happens.
-#[derive(Debug, Drop)]
+#[derive(Drop)]
 pub enum HouseMark {
     /// The house is let in as a client.
     HouseIn,

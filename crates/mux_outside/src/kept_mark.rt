@@ -6,7 +6,7 @@ use std::alloc::Global;
 use std::marker::Model;
 
 /// A mark of a house, in a place of its own, so that the other marks take no more room for it.
-#[derive(Debug, Drop)]
+#[derive(Drop)]
 pub struct KeptMark {
     place: Box<HouseMark>,
 }

@@ -6,7 +6,7 @@ use ssh_fields::OutOfMemory;
 use std::alloc::Global;
 
 /// Notes that keep every mark.
-#[derive(Debug, Drop)]
+#[derive(Drop)]
 pub struct KeptNotes {
     marks: Vec<HouseMark>,
 }
@@ -49,7 +49,7 @@ impl Notes for KeptNotes {
 }
 
 /// Notes that keep nothing.
-#[derive(Clone, Copy, Debug)]
+#[derive(Clone, Copy)]
 pub struct NoNotes;
 
 impl Notes for NoNotes {

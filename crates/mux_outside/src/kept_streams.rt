@@ -7,7 +7,7 @@ use std::marker::Model;
 use std::rc::Rc;
 
 /// Numbers of streams as they were at one time. Several marks may share them.
-#[derive(Debug, Drop)]
+#[derive(Drop)]
 pub struct KeptStreams {
     shared: Rc<Streams>,
 }

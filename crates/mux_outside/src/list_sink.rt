@@ -11,7 +11,7 @@ use ssh_fields::Text;
 use std::alloc::Global;
 
 /// A sink that keeps what it takes.
-#[derive(Debug, Drop)]
+#[derive(Drop)]
 pub struct ListSink {
     taken: Text,
     fails: Calls,

@@ -17,7 +17,7 @@ use std::alloc::Global;
 
 /// Files in memory: paths and contents, of equal paths the first. The directories are `/` and each
 /// prefix of a path that isn't empty and is followed by a slash.
-#[derive(Debug, Drop)]
+#[derive(Drop)]
 pub struct MapFiles {
     alloc: Global,
     files: Pairs,

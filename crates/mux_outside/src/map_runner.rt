@@ -13,7 +13,7 @@ use ssh_fields::{Text, Texts};
 use std::alloc::Global;
 
 /// Commands in memory: of equal commands the first status counts, and an unknown command gives 127.
-#[derive(Debug, Drop)]
+#[derive(Drop)]
 pub struct MapRunner {
     alloc: Global,
     statuses: Statuses,

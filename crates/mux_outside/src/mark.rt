@@ -8,7 +8,7 @@ use ssh_fields::{OutOfMemory, Text};
 use std::alloc::Global;
 
 /// The arguments of a call of `open`.
-#[derive(Debug, Drop)]
+#[derive(Drop)]
 pub struct Opening {
     pub control: Text,
     pub transport: Text,
@@ -16,7 +16,7 @@ pub struct Opening {
 
 /// What a wire that tells has recorded: each call of `wait` and the turn that it gave, and each
 /// answer to a write.
-#[derive(Debug, Drop)]
+#[derive(Drop)]
 pub enum Mark {
     /// A call of `wait`: the waiting streams, what was wanted, the streams open then, and whether
     /// clients were accepted then.

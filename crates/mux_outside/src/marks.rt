@@ -11,7 +11,7 @@ use std::alloc::Global;
 
 /// The marks so far, and the waiting streams of the last call of `wait`, which the next one shares
 /// where they are the same.
-#[derive(Debug, Drop)]
+#[derive(Drop)]
 pub struct Marks {
     pub told: Vec<Mark>,
     waiting: Option<KeptStreams>,

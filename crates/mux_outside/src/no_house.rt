@@ -10,7 +10,7 @@ use crate::starts::Starts;
 use ssh_fields::OutOfMemory;
 
 /// A master with no forwardings of its own: it refuses every ask.
-#[derive(Clone, Copy, Debug)]
+#[derive(Clone, Copy)]
 pub struct NoHouse;
 
 impl Asks for NoHouse {

@@ -8,7 +8,7 @@ use std::alloc::Global;
 use std::marker::Model;
 
 /// The open streams, and what marks share of them until they change.
-#[derive(Debug, Drop)]
+#[derive(Drop)]
 pub struct OpenStreams {
     streams: Streams,
     kept: Option<KeptStreams>,

@@ -4,7 +4,7 @@ use ssh_fields::{OutOfMemory, Text};
 use std::alloc::Global;
 
 /// What a house orders of the wire.
-#[derive(Debug, Drop)]
+#[derive(Drop)]
 pub enum Order {
     /// Listen there.
     Listen { host: Text, port: u32 },

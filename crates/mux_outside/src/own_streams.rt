@@ -20,7 +20,7 @@ pub fn is_own(number: u64) -> bool
 }
 
 /// One of the master's own streams that is open, and how it stands.
-#[derive(Clone, Copy, Debug, PartialEq, Eq)]
+#[derive(Clone, Copy, PartialEq, Eq)]
 pub struct OwnStream {
     pub number: u64,
     /// It gives neither bytes nor its end for now.
@@ -46,7 +46,7 @@ impl OwnStream {
 }
 
 /// The master's own streams that are open, in the order in which they were made.
-#[derive(Debug, Drop)]
+#[derive(Drop)]
 pub struct OwnStreams {
     streams: Vec<OwnStream>,
 }

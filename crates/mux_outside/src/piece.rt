@@ -12,7 +12,7 @@ use std::marker::Model;
 pub const LONGEST_PIECE: usize = 65_536;
 
 /// A buffer for the bytes of one turn, with room for 65,536 and never more in it.
-#[derive(Debug, Drop)]
+#[derive(Drop)]
 pub struct Piece {
     room: Vec<u8>,
     // how many of its bytes count

@@ -12,7 +12,7 @@ use crate::turn::{Turn, Wrote};
 use crate::wire_state::WireState;
 
 /// A place in a script: a step, and how many of its bytes were given.
-#[derive(Clone, Copy, Debug, PartialEq, Eq)]
+#[derive(Clone, Copy, PartialEq, Eq)]
 pub struct Place {
     pub step: usize,
     pub offset: usize,

@@ -1,7 +1,7 @@
 use ssh_fields::{ListOf, Text};
 
 /// A call of `read`: the path and how many bytes it asked for.
-#[derive(Debug, Drop)]
+#[derive(Drop)]
 pub struct Reading {
     pub path: Text,
     pub most: usize,

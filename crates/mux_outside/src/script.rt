@@ -1,7 +1,7 @@
 use ssh_fields::{ListOf, Text};
 
 /// What happens next at a wire in memory.
-#[derive(Debug, Drop)]
+#[derive(Drop)]
 pub enum Step {
     /// A client comes. It is skipped where the wire doesn't listen.
     Accept,
@@ -25,7 +25,7 @@ pub enum Step {
 pub type Steps = ListOf<Step>;
 
 /// How a write goes.
-#[derive(Clone, Copy, Debug, PartialEq, Eq)]
+#[derive(Clone, Copy, PartialEq, Eq)]
 pub enum WriteEntry {
     /// All bytes are taken.
     All,

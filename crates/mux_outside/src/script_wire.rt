@@ -24,7 +24,7 @@ use std::alloc::Global;
 
 /// A wire in memory, which gives the turns of its steps, answers writes by its entries, and tells
 /// everything. After the last step the server ends; after the last entry all bytes are taken.
-#[derive(Debug, Drop)]
+#[derive(Drop)]
 pub struct ScriptWire {
     steps: Steps,
     // the next step

@@ -5,7 +5,7 @@ use std::alloc::Global;
 
 /// A forwarding that is asked for by the configuration, by words or by a client: its kind, and both
 /// ends. An absent end has an empty host and port 0.
-#[derive(Debug, Drop)]
+#[derive(Drop)]
 pub struct StartAsk {
     /// 1 for a local forwarding, 2 for a remote and 3 for a dynamic one.
     pub kind: u32,

@@ -1,7 +1,7 @@
 use crate::start_ask::StartAsks;
 
 /// What the configuration asks of the master's own forwardings.
-#[derive(Debug, Drop)]
+#[derive(Drop)]
 pub struct Starts {
     pub asks: StartAsks,
     /// Whether a listener without a host takes connections from other machines.

@@ -1,7 +1,7 @@
 use ssh_fields::{ListOf, Text};
 
 /// A command and the status with which it ends.
-#[derive(Debug, Drop)]
+#[derive(Drop)]
 pub struct CommandStatus {
     pub command: Text,
     pub status: u8,

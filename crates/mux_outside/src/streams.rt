@@ -6,7 +6,7 @@ use std::alloc::Global;
 use std::marker::Model;
 
 /// Numbers of streams, in order. Stream 0 is the server's, the others are those of the clients.
-#[derive(Debug, Drop)]
+#[derive(Drop)]
 pub struct Streams {
     numbers: Vec<u64>,
 }

@@ -2,7 +2,7 @@ ghost use Rattle.std.specs.Prelude.{◌≡◌};
 ghost use Rattle.mux_outside.specs.Tally.{no_tally};
 
 /// Which turns are wanted.
-#[derive(Clone, Copy, Debug, PartialEq, Eq)]
+#[derive(Clone, Copy, PartialEq, Eq)]
 pub enum Want {
     /// Any.
     Read,
@@ -11,7 +11,7 @@ pub enum Want {
 }
 
 /// What happened next.
-#[derive(Clone, Copy, Debug, PartialEq, Eq)]
+#[derive(Clone, Copy, PartialEq, Eq)]
 pub enum Turn {
     /// A client came, with the number above that of the last one.
     Accepted(u64),
@@ -30,7 +30,7 @@ pub enum Turn {
 }
 
 /// How a write went.
-#[derive(Clone, Copy, Debug, PartialEq, Eq)]
+#[derive(Clone, Copy, PartialEq, Eq)]
 pub enum Wrote {
     /// So many bytes were taken, from the front.
     Took(usize),
@@ -43,7 +43,7 @@ pub enum Wrote {
 }
 
 /// What a wire has counted of the clients and of their data.
-#[derive(Clone, Copy, Debug, PartialEq, Eq)]
+#[derive(Clone, Copy, PartialEq, Eq)]
 pub struct Tally {
     /// Clients accepted.
     pub clients: u64,

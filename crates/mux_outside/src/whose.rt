@@ -4,7 +4,7 @@ ghost use Rattle.mux_outside.specs.Whose.{whose};
 use crate::own_streams::is_own;
 
 /// Whose a stream is.
-#[derive(Clone, Copy, Debug, PartialEq, Eq)]
+#[derive(Clone, Copy, PartialEq, Eq)]
 pub enum Whose {
     /// The server's, which is stream 0.
     Server,

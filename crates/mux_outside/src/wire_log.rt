@@ -25,7 +25,7 @@ use std::alloc::{AllocError, Global};
 use std::marker::Model;
 
 /// What a wire in memory keeps of its calls: all that a wire may tell, and what it counts.
-#[derive(Debug, Drop)]
+#[derive(Drop)]
 pub struct WireLog {
     alloc: Global,
     openings: Vec<Opening>,

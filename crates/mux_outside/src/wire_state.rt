@@ -21,7 +21,7 @@ use std::marker::Model;
 
 /// What is always known of a wire: its streams, clients and listeners, and how often it was called.
 /// It tells nothing of the calls themselves.
-#[derive(Debug, Drop)]
+#[derive(Drop)]
 pub struct WireState {
     alloc: Global,
     streams: OpenStreams,

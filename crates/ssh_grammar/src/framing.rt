@@ -1,5 +1,5 @@
 /// How a stream is cut into frames (PROTOCOL.mux).
-#[derive(Clone, Copy, Debug, PartialEq, Eq)]
+#[derive(Clone, Copy, PartialEq, Eq)]
 pub enum Framing {
     /// Control messages: a length, and so many bytes.
     Control,

@@ -14,7 +14,7 @@ use ssh_fields::{OutOfMemory, Text};
 use std::alloc::Global;
 
 /// How a run ends of which a line is written.
-#[derive(Debug, Drop)]
+#[derive(Drop)]
 pub enum Ending {
     /// The words have no reading.
     BadWords(UsageError),

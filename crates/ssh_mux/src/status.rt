@@ -2,7 +2,7 @@ ghost use Rattle.std.specs.Prelude.{◌≡◌};
 ghost use Rattle.ssh_mux.specs.Status.{code_of};
 
 /// How a run ended. The program's exit status is its `code`.
-#[derive(Clone, Copy, Debug, PartialEq, Eq)]
+#[derive(Clone, Copy, PartialEq, Eq)]
 pub enum Status {
     /// The listing, or the summary of a drill, was written, the server or a client ended the
     /// connection, or a running master granted all that it was asked.

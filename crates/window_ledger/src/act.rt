@@ -1,5 +1,5 @@
 /// What a message does in a confirmed channel.
-#[derive(Clone, Copy, Debug, PartialEq, Eq)]
+#[derive(Clone, Copy, PartialEq, Eq)]
 pub enum Act {
     /// DATA or EXTENDED_DATA of so many bytes.
     Data(u32),
