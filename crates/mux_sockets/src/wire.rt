@@ -25,7 +25,7 @@ use mux_outside::{
     Wrote,
 };
 use ssh_fields::OutOfMemory;
-use std::alloc::{AllocError, Global};
+use std::alloc::Global;
 use std::fs::Files;
 use std::net::Net;
 use std::process::Processes;
@@ -65,8 +65,11 @@ impl<R: Files + Net + Processes + Clock + Clone + Drop> RealWire<R> {
     }
 
     // The children that will look up names.
-    fn workers(&self) -> Result<Workers<R>, AllocError> {
-        Ok(Workers::new(self.rt.clone()?, self.alloc))
+    fn workers(&self) -> Result<Workers<R>, OutOfMemory> {
+        match self.rt.clone() {
+            Ok(rt) => Ok(Workers::new(rt, self.alloc)),
+            Err(_) => Err(OutOfMemory),
+        }
     }
 
     // Counts that nothing was opened.
