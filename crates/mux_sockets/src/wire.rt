@@ -72,6 +72,20 @@ impl<R: Files + Net + Processes + Clock + Clone + Drop> RealWire<R> {
         }
     }
 
+    // Takes in what was opened or joined.
+    fn take_in(&mut self, control: Option<Control<R>>, table: Table, workers: Workers<R>)
+        ensures control { self.new.control ≡ control }
+        ensures listens { IsSome table.listener
+            → IsSomeAnd self.new.sockets (λ sockets. IsSome sockets.table.listener) }
+        ensures deaf { IsNone table.listener
+            → IsSomeAnd self.new.sockets (λ sockets. IsNone sockets.table.listener) }
+        ensures rest { self.new
+            ≡ record self.old { control = self.new.control; sockets = self.new.sockets } }
+    {
+        self.control = control;
+        self.sockets = Some(Sockets::new(self.alloc, table, workers));
+    }
+
     // Counts that nothing was opened.
     fn not_opened(&mut self, fault: Fault) -> FileError
         ensures sockets { self.new.sockets ≡ self.old.sockets }
@@ -173,8 +187,7 @@ impl<R: Files + Net + Processes + Clock + Clone + Drop> Wire for RealWire<R> {
         let workers = self.workers()?;
         match open(&self.rt, self.alloc, control, transport) {
             Ok((control, table)) => {
-                self.control = Some(control);
-                self.sockets = Some(Sockets::new(self.alloc, table, workers));
+                self.take_in(Some(control), table, workers);
                 self.state.opened(server);
                 Ok(())
             }
@@ -184,6 +197,7 @@ impl<R: Files + Net + Processes + Clock + Clone + Drop> Wire for RealWire<R> {
 
     fn join(&mut self, control: &[u8]) -> Result<(), FileError>
         ensures not_text { ¬ (IsUtf8 control.now) → IsErr result }
+        ensures unnamed { OnOk result (IsNone self.new.control) }
         ensures deaf { OnOk result
             (IsSomeAnd self.new.sockets (λ sockets. IsNone sockets.table.listener)) }
         ensures state { self.new.state ≡ seeing (seen_after_join result) self.old.state }
@@ -193,7 +207,7 @@ impl<R: Files + Net + Processes + Clock + Clone + Drop> Wire for RealWire<R> {
         let workers = self.workers()?;
         match join(&self.rt, self.alloc, control) {
             Ok(table) => {
-                self.sockets = Some(Sockets::new(self.alloc, table, workers));
+                self.take_in(None, table, workers);
                 self.state.joined(server);
                 Ok(())
             }

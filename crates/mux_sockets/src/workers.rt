@@ -81,6 +81,7 @@ impl<P: Processes + Drop> Children for Workers<P> {
     }
 
     fn start(&mut self, number: u64, name: &[u8], output: net::UnixStream) -> io::Result<()>
+        requires { is_name name.now ≡ true }
         ensures few { OnOk result (index_map_len self.new.running + length self.new.leaving.items
             ≤ MOST_CHILDREN) }
     {
