@@ -1,16 +1,15 @@
 //! The control socket and its name in the file system.
 ghost use Rattle.std.specs.Prelude.{◌≡◌, IfOk};
 ghost use Rattle.std.specs.String.{string_bytes};
-ghost use Rattle.std.specs.Fs.{permissions_mode};
-ghost use Rattle.mux_sockets.specs.Control.{owner_reads_and_writes};
 
 use libc::net::listen;
 use mio::net::UnixListener;
+use mux_edge::owner_only;
 use std::alloc::Global;
-use std::fs::{Files, Permissions};
+use std::fs::Files;
 use std::net::Net;
 use std::os::fd::{AsFd, AsRawFd, OwnedFd};
-use std::os::unix::fs::{MetadataExt, PermissionsExt};
+use std::os::unix::fs::MetadataExt;
 use std::os::unix::net;
 use std::os::unix::net::SocketAddr;
 use std::{fs, io};
@@ -20,16 +19,6 @@ const BACKLOG: i32 = 128;
 
 // How many temporary names are tried, each with a digit of its own.
 const TRIES: u32 = 16;
-
-// Who may use the socket: its owner alone.
-const OWNER_ONLY: u32 = 0o600;
-
-// Who may use the socket.
-fn owner_only() -> Permissions
-    ensures { permissions_mode result ≡ owner_reads_and_writes }
-{
-    Permissions::from_mode(OWNER_ONLY)
-}
 
 // A name that is removed when this is dropped.
 struct Temporary<R: Files + Drop> {

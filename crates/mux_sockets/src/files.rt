@@ -2,7 +2,7 @@ ghost use Rattle.std.specs.Prelude.{◌≡◌, ◌≤◌, ◌↔◌, ◌⊎◌, 
 ghost use Rattle.mux_outside.specs.Counts.{HasCause};
 ghost use Rattle.std.specs.IoError.{error_kind};
 
-use crate::faults::{count_failed, file_error};
+use mux_edge::{count_failed, file_error};
 use mux_outside::{FileError, Files};
 use ssh_fields::{OutOfMemory, Text, Texts};
 use std::alloc::{AllocError, Global};

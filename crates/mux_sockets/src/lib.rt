@@ -2,21 +2,15 @@
 //! holds no clause can say, so these objects tell nothing; each `Failed` raises their count.
 #![tactic(auto)]
 
-mod address;
 mod control;
-mod exchange;
-mod faults;
 mod files;
-mod names;
-mod numbers;
+mod opening;
 mod runner;
-mod sink;
-mod sockets;
-mod stream;
 mod transport;
 mod wire;
+mod workers;
 
 pub use files::RealFiles;
+pub use mux_edge::RealSink;
 pub use runner::RealRunner;
-pub use sink::RealSink;
 pub use wire::RealWire;

@@ -1,7 +1,7 @@
 ghost use Rattle.std.specs.Prelude.{◌≡◌, None, Err, IsUtf8};
 ghost use Rattle.mux_outside.specs.Counts.{HasCause};
 
-use crate::faults::{count_failed, file_error};
+use mux_edge::{count_failed, file_error};
 use mux_outside::{FileError, Runner};
 use std::alloc::Global;
 use std::process::{Command, ExitStatus, Processes, Stdio};

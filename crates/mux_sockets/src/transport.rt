@@ -1,8 +1,8 @@
 //! The connection to the server.
 ghost use Rattle.std.specs.Prelude.{IfOk, IsErr, IsUtf8};
-ghost use Rattle.mux_sockets.specs.Transport.{IsOver, IsOverUnix};
+ghost use Rattle.mux_edge.specs.Transport.{IsOver, IsOverUnix};
 
-use crate::stream::Stream;
+use mux_edge::Stream;
 use mio::net::TcpStream;
 use mio::{Events, Interest, Poll, Token};
 use std::alloc::Global;

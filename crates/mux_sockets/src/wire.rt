@@ -8,18 +8,21 @@ ghost use Rattle.mux_outside.specs.Wire.{IsNewOwn, JoinFaults, MakeFaults, Numbe
 ghost use Rattle.mux_outside.specs.WireState.{nothing_called, opens_stream, seeing, state_opened, state_waited, state_written, untelling};
 ghost use Rattle.mux_outside.specs.declared.turn.Turn.TheVariants.{NoMemory};
 ghost use Rattle.mux_outside.specs.declared.turn.Want.{Want as TheWant};
-ghost use Rattle.mux_sockets.specs.Entries.{HasEntry, IsFinished, IsPaused, Stands};
-ghost use Rattle.mux_sockets.specs.Shares.{PassesOwn, holds_own};
-ghost use Rattle.mux_sockets.specs.Sockets.{FoundFits, MayBeGiven, Tells};
+ghost use Rattle.mux_edge.specs.Entries.{HasEntry, IsFinished, IsPaused};
+ghost use Rattle.mux_edge.specs.Sockets.{Tells};
 
-use crate::address::address_of;
-use crate::faults::file_error;
-use crate::names::is_name;
-use crate::numbers::Numbers;
-use crate::sockets::{Fault, Sockets};
+use crate::control::Control;
+use crate::opening::{Fault, join, open};
+use crate::workers::Workers;
+use mux_edge::opened::{
+    connect, drop_socket, finish, found_next, listen, pause, resume, stop_listening, unlisten, write,
+};
+use mux_edge::{
+    Sockets, Table, count_made, keep_listener, keep_stream, next_number, numbers_to_give, turn_of,
+};
 use mux_outside::{
     FaultCounts, FileError, HouseMark, Piece, Streams, Tally, Turn, Want, Whose, Wire, WireState,
-    Wrote, is_own,
+    Wrote,
 };
 use ssh_fields::OutOfMemory;
 use std::alloc::Global;
@@ -37,7 +40,10 @@ use std::time::Clock;
 pub struct RealWire<R: Files + Net + Processes + Clock + Clone + Drop> {
     rt: R,
     alloc: Global,
-    sockets: Option<Sockets<R>>,
+    // it stands before the sockets, so that the name goes before its listener: as long as that
+    // stands, no other file has the same number
+    control: Option<Control<R>>,
+    sockets: Option<Sockets<Workers<R>>>,
     state: WireState,
     faults: FaultCounts,
 }
@@ -51,10 +57,33 @@ impl<R: Files + Net + Processes + Clock + Clone + Drop> RealWire<R> {
         RealWire {
             rt,
             alloc,
+            control: None,
             sockets: None,
             state: WireState::new(alloc),
             faults: FaultCounts::new(),
         }
+    }
+
+    // The children that will look up names.
+    fn workers(&self) -> Result<Workers<R>, OutOfMemory> {
+        match self.rt.clone() {
+            Ok(rt) => Ok(Workers::new(rt, self.alloc)),
+            Err(_) => Err(OutOfMemory),
+        }
+    }
+
+    // Takes in what was opened or joined.
+    fn take_in(&mut self, control: Option<Control<R>>, table: Table, workers: Workers<R>)
+        ensures control { self.new.control ≡ control }
+        ensures listens { IsSome table.listener
+            → IsSomeAnd self.new.sockets (λ sockets. IsSome sockets.table.listener) }
+        ensures deaf { IsNone table.listener
+            → IsSomeAnd self.new.sockets (λ sockets. IsNone sockets.table.listener) }
+        ensures rest { self.new
+            ≡ record self.old { control = self.new.control; sockets = self.new.sockets } }
+    {
+        self.control = control;
+        self.sockets = Some(Sockets::new(self.alloc, table, workers));
     }
 
     // Counts that nothing was opened.
@@ -148,15 +177,17 @@ impl<R: Files + Net + Processes + Clock + Clone + Drop> Wire for RealWire<R> {
 
     fn open(&mut self, control: &[u8], transport: &[u8]) -> Result<(), FileError>
         ensures not_text { ¬ (IsUtf8 control.now) → IsErr result }
+        ensures named { OnOk result (IsSome self.new.control) }
         ensures listens { OnOk result
-            (IsSomeAnd self.new.sockets (λ sockets. IsSome sockets.listening)) }
+            (IsSomeAnd self.new.sockets (λ sockets. IsSome sockets.table.listener)) }
         ensures state { self.new.state ≡ state_opened result self.old.state }
         ensures cause { OpenFaults result self.old.faults self.new.faults }
     {
         let server = Streams::one(self.alloc, 0)?;
-        match Sockets::open(&self.rt, self.alloc, control, transport) {
-            Ok(sockets) => {
-                self.sockets = Some(sockets);
+        let workers = self.workers()?;
+        match open(&self.rt, self.alloc, control, transport) {
+            Ok((control, table)) => {
+                self.take_in(Some(control), table, workers);
                 self.state.opened(server);
                 Ok(())
             }
@@ -166,15 +197,17 @@ impl<R: Files + Net + Processes + Clock + Clone + Drop> Wire for RealWire<R> {
 
     fn join(&mut self, control: &[u8]) -> Result<(), FileError>
         ensures not_text { ¬ (IsUtf8 control.now) → IsErr result }
+        ensures unnamed { OnOk result (IsNone self.new.control) }
         ensures deaf { OnOk result
-            (IsSomeAnd self.new.sockets (λ sockets. IsNone sockets.listening)) }
+            (IsSomeAnd self.new.sockets (λ sockets. IsNone sockets.table.listener)) }
         ensures state { self.new.state ≡ seeing (seen_after_join result) self.old.state }
         ensures cause { JoinFaults result self.old.faults self.new.faults }
     {
         let server = Streams::one(self.alloc, 0)?;
-        match Sockets::join(&self.rt, self.alloc, control) {
-            Ok(sockets) => {
-                self.sockets = Some(sockets);
+        let workers = self.workers()?;
+        match join(&self.rt, self.alloc, control) {
+            Ok(table) => {
+                self.take_in(None, table, workers);
                 self.state.joined(server);
                 Ok(())
             }
@@ -183,7 +216,7 @@ impl<R: Files + Net + Processes + Clock + Clone + Drop> Wire for RealWire<R> {
     }
 
     fn wait(&mut self, waiting: &Streams, want: Want, into: &mut Piece) -> Turn {
-        let numbers = numbers(&self.state, want);
+        let numbers = numbers_to_give(&self.state, want);
         let found = found_next(&mut self.sockets, &self.rt, waiting, want, numbers, into);
         let turn = turn_of(&self.state, found, want, numbers);
         self.keep(turn)
@@ -201,11 +234,13 @@ impl<R: Files + Net + Processes + Clock + Clone + Drop> Wire for RealWire<R> {
     }
 
     fn stop_listening(&mut self)
-        ensures deaf { IfSome self.new.sockets (λ sockets. IsNone sockets.listening) }
+        ensures unnamed { IsNone self.new.control }
+        ensures deaf { IfSome self.new.sockets (λ sockets. IsNone sockets.table.listener) }
         ensures state { self.new.state ≡ seeing seen_after_silence self.old.state }
         ensures faults { self.new.faults ≡ self.old.faults }
     {
         self.state.stop_listening();
+        self.control = None;
         stop_listening(&mut self.sockets);
     }
 
@@ -271,245 +306,4 @@ impl<R: Files + Net + Processes + Clock + Clone + Drop> Wire for RealWire<R> {
     fn tally(&self) -> Tally {
         Tally::zero()
     }
-}
-
-// The numbers that may be given now.
-fn numbers(state: &WireState, want: Want) -> Numbers
-    ensures { MayBeGiven result want state.now.seen }
-{
-    match want {
-        Want::Read => Numbers {
-            client: state.next_client(),
-            own: state.next_own(),
-        },
-        Want::WriteOnly => Numbers {
-            client: None,
-            own: None,
-        },
-    }
-}
-
-// The turn of what the sockets found. What they may not find is a fault of the server's stream.
-fn turn_of(state: &WireState, found: Turn, want: Want, numbers: Numbers) -> Turn
-    requires numbers { MayBeGiven numbers want state.now.seen }
-    requires server { IsTrue (among 0 state.now.seen.streams) }
-    ensures turn { (before now : List ℕ) → FoundFits found numbers before now
-        → TurnFits result want state.now.seen now }
-    ensures own_turn { OwnFits result state.now.seen }
-    ensures told { (before now : List ℕ) → FoundFits found numbers before now
-        → TurnFits found want state.now.seen now → OwnFits found state.now.seen
-        → result ≡ found }
-    ensures kept { (before now : List ℕ) → FoundFits found numbers before now
-        → (opens_stream result ≡ true) ⊎ (result ≡ NoMemory) → now ≡ before }
-{
-    match found {
-        Turn::Accepted(k) if numbers.client == Some(k) => Turn::Accepted(k),
-        Turn::Joined(l, t) if numbers.own == Some(t) && state.listeners().contains(l) => {
-            Turn::Joined(l, t)
-        }
-        Turn::Got(t) if want == Want::Read && gives(state, t) => Turn::Got(t),
-        Turn::End(t) if want == Want::Read && gives(state, t) => Turn::End(t),
-        Turn::Writable(t) if state.streams().contains(t) && state.blocked().contains(t) => {
-            Turn::Writable(t)
-        }
-        Turn::Failed(t) if state.streams().contains(t) => Turn::Failed(t),
-        Turn::NoMemory => Turn::NoMemory,
-        _ => Turn::Failed(0),
-    }
-}
-
-// Whether a stream is open and may give something.
-fn gives(state: &WireState, stream: u64) -> bool
-    ensures { result ≡ among stream state.now.seen.streams
-        && not (is_own stream && is_silent stream state.now.seen.own) }
-{
-    state.streams().contains(stream) && !(is_own(stream) && state.own().is_silent(stream))
-}
-
-// The next number of a listener or stream of the master's own.
-fn next_number(state: &WireState) -> Result<u64, FileError>
-    ensures { NumberFits result state.now.seen.last_own }
-{
-    match state.next_own() {
-        Some(number) => Ok(number),
-        None => Err(FileError::Failed),
-    }
-}
-
-// Keeps a listener with this number, if there is memory.
-fn keep_listener(state: &mut WireState, number: u64) -> Result<u64, FileError>
-    requires { IsNewOwn state.old.seen.last_own number }
-    ensures fits { NumberFits result state.old.seen.last_own }
-    ensures state { state.new ≡ seeing (seen_after_listen result) state.old }
-{
-    match state.listened(number) {
-        Ok(()) => Ok(number),
-        Err(_) => Err(FileError::OutOfMemory),
-    }
-}
-
-// Keeps a stream of the master's own with this number, if there is memory.
-fn keep_stream(state: &mut WireState, number: u64) -> Result<u64, FileError>
-    requires { IsNewOwn state.old.seen.last_own number }
-    ensures fits { NumberFits result state.old.seen.last_own }
-    ensures state { state.new ≡ seeing (seen_after_connect result) state.old }
-{
-    match state.connected(number) {
-        Ok(()) => Ok(number),
-        Err(_) => Err(FileError::OutOfMemory),
-    }
-}
-
-// Counts what was to be made and failed: it is a fault of the master's own.
-fn count_made(answer: &Result<u64, FileError>, faults: &mut FaultCounts)
-    ensures { MakeFaults answer.now faults.old faults.new }
-{
-    if let Err(FileError::Failed) = answer {
-        faults.of(Whose::Own);
-    }
-}
-
-// What the sockets find next.
-fn found_next<R: Files + Net + Processes + Clock + Drop>(
-    sockets: &mut Option<Sockets<R>>,
-    rt: &R,
-    waiting: &Streams,
-    want: Want,
-    numbers: Numbers,
-    into: &mut Piece,
-) -> Turn
-    ensures fits { FoundFits result numbers into.old into.new }
-    ensures stands { IfSome sockets.new (λ s. Stands result s.table.entries) }
-    ensures passes { IfSome sockets.old (λ s.
-        holds_own waiting.now s.table.shares ≡ true → PassesOwn result) }
-    ensures listening { option_map (λ s. s.listening) sockets.new
-        ≡ option_map (λ s. s.listening) sockets.old }
-{
-    match sockets {
-        Some(sockets) => sockets.next(rt, waiting.as_slice(), want, numbers, into),
-        None => Turn::Failed(0),
-    }
-}
-
-// Hands bytes to a stream's socket.
-fn write<R: Files + Processes + Drop>(
-    sockets: &mut Option<Sockets<R>>,
-    stream: u64,
-    bytes: &[u8],
-) -> Wrote
-    requires { 0 < length bytes.now }
-    ensures fits { WroteFits result (length bytes.now) }
-{
-    match sockets {
-        Some(sockets) => sockets.table.write(stream, bytes),
-        None => Wrote::Failed,
-    }
-}
-
-// Lets go of a stream's socket.
-fn drop_socket<R: Files + Processes + Drop>(sockets: &mut Option<Sockets<R>>, stream: u64)
-    ensures gone { IfSome sockets.new (λ s. get nat_eq s.table.entries stream ≡ None) }
-    ensures listening { option_map (λ s. s.listening) sockets.new
-        ≡ option_map (λ s. s.listening) sockets.old }
-{
-    if let Some(sockets) = sockets {
-        sockets.remove(stream);
-    }
-}
-
-// Reads nothing of a stream of the master's own for now.
-fn pause<R: Files + Processes + Drop>(sockets: &mut Option<Sockets<R>>, stream: u64)
-    ensures { IfSome sockets.old (λ old. is_own stream ≡ true → HasEntry stream old.table.entries
-        → IsSomeAnd sockets.new (λ new. IsPaused true stream new.table.entries)) }
-{
-    match sockets {
-        Some(sockets) if is_own(stream) => sockets.table.pause(stream),
-        _ => {}
-    }
-}
-
-// Reads a stream of the master's own again.
-fn resume<R: Files + Processes + Drop>(sockets: &mut Option<Sockets<R>>, stream: u64)
-    ensures { IfSome sockets.old (λ old. is_own stream ≡ true → HasEntry stream old.table.entries
-        → IsSomeAnd sockets.new (λ new. IsPaused false stream new.table.entries)) }
-{
-    match sockets {
-        Some(sockets) if is_own(stream) => sockets.table.resume(stream),
-        _ => {}
-    }
-}
-
-// Says the end of a stream of the master's own to the other side.
-fn finish<R: Files + Processes + Drop>(sockets: &mut Option<Sockets<R>>, stream: u64)
-    ensures { IfSome sockets.old (λ old. is_own stream ≡ true → HasEntry stream old.table.entries
-        → IsSomeAnd sockets.new (λ new. IsFinished stream new.table.entries)) }
-{
-    match sockets {
-        Some(sockets) if is_own(stream) => sockets.table.finish(stream),
-        _ => {}
-    }
-}
-
-// Accepts no more clients.
-fn stop_listening<R: Files + Processes + Drop>(sockets: &mut Option<Sockets<R>>)
-    ensures { IfSome sockets.new (λ sockets. IsNone sockets.listening) }
-{
-    if let Some(sockets) = sockets {
-        sockets.stop_listening();
-    }
-}
-
-// Closes a listener of the master's own.
-fn unlisten<R: Files + Processes + Drop>(sockets: &mut Option<Sockets<R>>, listener: u64)
-    ensures { IfSome sockets.new (λ s. get nat_eq s.table.doors listener ≡ None) }
-{
-    if let Some(sockets) = sockets {
-        sockets.table.unlisten(listener);
-    }
-}
-
-// Listens at an address with this number.
-fn listen<R: Files + Net + Processes + Clock + Drop>(
-    sockets: &mut Option<Sockets<R>>,
-    rt: &R,
-    number: u64,
-    host: &[u8],
-    port: u32,
-) -> Result<(), FileError>
-    ensures there { OnOk result
-        (IfSome sockets.new (λ s. IsSome (get nat_eq s.table.doors number))) }
-    ensures listening { option_map (λ s. s.listening) sockets.new
-        ≡ option_map (λ s. s.listening) sockets.old }
-{
-    let port = u16::try_from(port).map_err(|_| FileError::Failed)?;
-    let address = address_of(host, port).ok_or(FileError::Failed)?;
-    match sockets {
-        Some(sockets) => sockets
-            .table
-            .listen(rt, number, address)
-            .map_err(|e| file_error(&e)),
-        None => Err(FileError::Failed),
-    }
-}
-
-// Begins to connect to an address, or to look up a name, with this number.
-fn connect<R: Files + Net + Processes + Clock + Drop>(
-    sockets: &mut Option<Sockets<R>>,
-    rt: &R,
-    number: u64,
-    host: &[u8],
-    port: u32,
-) -> Result<(), FileError>
-    ensures there { OnOk result (IfSome sockets.new (λ s. HasEntry number s.table.entries)) }
-    ensures listening { option_map (λ s. s.listening) sockets.new
-        ≡ option_map (λ s. s.listening) sockets.old }
-{
-    let sockets = sockets.as_mut().ok_or(FileError::Failed)?;
-    let port = u16::try_from(port).map_err(|_| FileError::Failed)?;
-    let begun = match address_of(host, port) {
-        Some(address) => sockets.table.connect(rt, number, address),
-        None if is_name(host) => sockets.connect_by_name(rt, number, host, port),
-        None => return Err(FileError::Failed),
-    };
-    begun.map_err(|e| file_error(&e))
 }

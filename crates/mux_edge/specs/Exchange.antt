@@ -1,0 +1,80 @@
+-- What one read of a stream and one write to it come to.
+use Rattle.std.specs.Prelude.{◌≡◌, ◌<◌, ◌≤◌, ◌||◌, if◌then◌else◌, ℕ, Bool, true, false, List, [], length, take, nat_le, Option, Some, None}
+use Rattle.std.specs.Io.KnownBytes.{Appends, Consumes, IsAtEnd, Keeps}
+use Rattle.mux_outside.specs.OwnStreams.{is_own}
+use Rattle.mux_outside.specs.declared.piece.TheConstants.{LONGEST_PIECE}
+use Rattle.mux_outside.specs.declared.turn.Turn.{Turn}
+use Rattle.mux_outside.specs.declared.turn.Turn.TheVariants as turn
+use Rattle.mux_outside.specs.declared.turn.Wrote.{Wrote}
+use Rattle.mux_outside.specs.declared.turn.Wrote.TheVariants as wrote
+use Rattle.mux_edge.specs.declared.exchange.TheConstants.{LONGEST_OWN_READ}
+use Rattle.mux_edge.specs.declared.exchange.Heard.{Heard}
+use Rattle.mux_edge.specs.declared.exchange.Heard.TheVariants.{Bytes, End, Nothing, Interrupted, Failed}
+use Rattle.mux_edge.specs.declared.exchange.Sent.{Sent}
+use Rattle.mux_edge.specs.declared.exchange.Sent.TheVariants.{Took, Waits, Interrupted as SentInterrupted, Failed as SentFailed}
+
+-- ---- a read
+
+-- the most bytes that a read of a stream of this number takes
+abbrev pub most_read : ℕ → ℕ
+most_read number = if is_own number then LONGEST_OWN_READ else LONGEST_PIECE
+
+-- over a reader that tells its bytes, the new piece has the first of them, so many at most, and all
+-- that are gone; without bytes the piece stays
+abbrev pub Hears : Heard → ℕ → Option (List ℕ) → Option (List ℕ) → List ℕ → List ℕ → Type 0
+Hears (Bytes n) most before now old new =
+    (0 < n) × (n ≡ length new) × (n ≤ LONGEST_PIECE) × (n ≤ most) × Consumes before now new
+Hears End most before now old new = (new ≡ old) × Consumes before now [] × IsAtEnd now
+Hears Nothing most before now old new = (new ≡ old) × Keeps before now
+Hears Interrupted most before now old new = (new ≡ old) × Keeps before now
+Hears Failed most before now old new = (new ≡ old) × Keeps before now
+
+-- the turn that a stream of this number gives
+abbrev pub heard_turn : Heard → ℕ → Option Turn
+heard_turn (Bytes n) number = Some (turn.Got number)
+heard_turn End number = Some (turn.End number)
+heard_turn Nothing number = None
+heard_turn Interrupted number = None
+heard_turn Failed number = Some (turn.Failed number)
+
+-- how many bytes were heard
+abbrev pub heard_len : Heard → ℕ
+heard_len (Bytes n) = n
+heard_len End = 0
+heard_len Nothing = 0
+heard_len Interrupted = 0
+heard_len Failed = 0
+
+-- nothing more can be heard
+abbrev pub heard_last : Heard → Bool
+heard_last (Bytes n) = false
+heard_last End = true
+heard_last Nothing = false
+heard_last Interrupted = false
+heard_last Failed = true
+
+-- a stream is read again untold: after the most that a read takes, where reads stop short, and
+-- after a signal
+abbrev pub heard_again : Heard → Bool → ℕ → Bool
+heard_again (Bytes n) stops_short most = stops_short || nat_le most n
+heard_again End stops_short most = false
+heard_again Nothing stops_short most = false
+heard_again Interrupted stops_short most = true
+heard_again Failed stops_short most = false
+
+-- ---- a write
+
+-- over a writer that tells what it holds, so many of the bytes were added, and else none
+abbrev pub Sends : Sent → Option (List ℕ) → Option (List ℕ) → List ℕ → Type 0
+Sends (Took n) before now bytes =
+    (0 < n) × (n ≤ length bytes) × Appends before now (take n bytes)
+Sends Waits before now bytes = Keeps before now
+Sends SentInterrupted before now bytes = Keeps before now
+Sends SentFailed before now bytes = Keeps before now
+
+-- what the caller is told
+abbrev pub sent_wrote : Sent → Wrote
+sent_wrote (Took n) = wrote.Took n
+sent_wrote Waits = wrote.Later
+sent_wrote SentInterrupted = wrote.Later
+sent_wrote SentFailed = wrote.Failed

@@ -1,0 +1,12 @@
+pub mod Connections
+pub mod Entries
+pub mod Exchange
+pub mod Names
+pub mod Permissions
+pub mod Ready
+pub mod Shares
+pub mod Sockets
+pub mod Table
+pub mod Targets
+pub mod Transport
+pub mod Whole

@@ -1,0 +1,29 @@
+-- Over which kind of socket a transport is reached.
+use Rattle.std.specs.Prelude.{◌≡◌, ℕ, Bool, List, true, false, ◌==◌}
+use Rattle.std.specs.List.{list_any}
+use Rattle.mux_edge.specs.declared.stream.Stream.{Stream}
+use Rattle.mux_edge.specs.declared.stream.Stream.TheVariants.{Unix, Tcp, Begun}
+
+-- a stream over a Unix socket
+abbrev pub IsOverUnix : Stream → Type 0
+IsOverUnix (Unix s) = Unit {0}
+IsOverUnix (Tcp s) = ⊥
+IsOverUnix Begun = ⊥
+
+-- a stream over TCP
+abbrev pub IsOverTcp : Stream → Type 0
+IsOverTcp (Unix s) = ⊥
+IsOverTcp (Tcp s) = Unit {0}
+IsOverTcp Begun = ⊥
+
+-- a stream without a socket so far
+abbrev pub is_begun : Stream → Bool
+is_begun (Unix s) = false
+is_begun (Tcp s) = false
+is_begun Begun = true
+
+-- a transport that has a slash is a Unix socket's path, and any other an address and port for TCP
+abbrev pub IsOver : Stream → List ℕ → Type 0
+IsOver (Unix s) transport = list_any (λ byte. byte == 47) transport ≡ true
+IsOver (Tcp s) transport = list_any (λ byte. byte == 47) transport ≡ false
+IsOver Begun transport = ⊥

@@ -1,0 +1,30 @@
+//! What is made of what a system gives and takes, whichever system it is: which streams are ready,
+//! what a read and a write of one come to, the turn that it makes, and the names of hosts.
+#![tactic(auto)]
+
+mod address;
+mod children;
+mod exchange;
+mod faults;
+mod lookup;
+mod lookups;
+mod names;
+mod numbers;
+pub mod opened;
+mod permissions;
+mod sink;
+mod sockets;
+mod stream;
+mod table;
+mod targets;
+mod turns;
+
+pub use children::Children;
+pub use faults::{count_failed, count_made, file_error};
+pub use numbers::{Numbers, keep_listener, keep_stream, next_number, numbers_to_give};
+pub use permissions::owner_only;
+pub use sink::RealSink;
+pub use stream::Stream;
+pub use sockets::Sockets;
+pub use table::{Door, Entry, Queue, Ready, Shares, Table};
+pub use turns::turn_of;

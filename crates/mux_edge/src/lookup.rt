@@ -1,0 +1,109 @@
+//! A look-up of a name, by a child that writes its addresses, so that nobody waits for it.
+ghost use Rattle.std.specs.Prelude.{◌≡◌, [], IfOk, IsNone, false};
+
+use mio::net::UnixStream;
+use mio::{Interest, Registry, Token};
+use std::alloc::{AllocError, Global};
+use std::io;
+use std::io::{ErrorKind, Read};
+use std::os::unix::net;
+use std::time::{Duration, Instant};
+
+// How many seconds a look-up may take.
+const LOOKUP_SECONDS: u64 = 10;
+
+// How many bytes of a look-up are read at once, how often at a look, and how many are kept.
+const READ_BYTES: usize = 4096;
+
+const MOST_READS: u32 = 16;
+
+const MOST_BYTES: usize = 65_536;
+
+/// A look-up under way.
+#[derive(Drop)]
+pub struct Lookup {
+    pub name: Vec<u8>,
+    /// what the child wrote
+    pub heard: Vec<u8>,
+    /// the system told of what it wrote
+    pub noted: bool,
+    pub over: bool,
+    since: Instant,
+    output: UnixStream,
+}
+
+impl Lookup {
+    /// A look-up of a name, of which nothing is heard so far. The system tells of what its child
+    /// writes under this number.
+    pub fn new(
+        alloc: Global,
+        registry: &Registry,
+        number: u64,
+        name: &[u8],
+        since: Instant,
+        output: net::UnixStream,
+    ) -> io::Result<Lookup>
+        ensures name { IfOk result (λ lookup. lookup.name.items ≡ name.now) }
+        ensures heard { IfOk result (λ lookup. lookup.heard.items ≡ []) }
+        ensures noted { IfOk result (λ lookup. lookup.noted ≡ false) }
+        ensures over { IfOk result (λ lookup. lookup.over ≡ false) }
+        ensures since { IfOk result (λ lookup. lookup.since ≡ since) }
+    {
+        output.set_nonblocking(true)?;
+        let mut output = UnixStream::from_std(output);
+        registry.register(&mut output, Token(number as usize), Interest::READABLE)?;
+        Ok(Lookup {
+            name: Vec::from_slice(alloc, name)?,
+            heard: Vec::new(alloc),
+            noted: false,
+            over: false,
+            since,
+            output,
+        })
+    }
+
+    /// Goes on with it: it is over where it takes too long, and then nothing that was heard counts.
+    pub fn go_on(&mut self, now: Option<Instant>) -> Result<(), AllocError> {
+        if self.noted {
+            self.hear()?;
+        }
+        if !(self.over || is_within(LOOKUP_SECONDS, self.since, now)) {
+            self.heard.clear();
+            self.over = true;
+        }
+        Ok(())
+    }
+
+    // Reads what the child has written so far. It is over at its end, and where it writes too much.
+    fn hear(&mut self) -> Result<(), AllocError> {
+        let mut room = [0; READ_BYTES];
+        for _ in 0..MOST_READS {
+            match self.output.read(&mut room) {
+                Ok(count) if count > 0 && self.heard.len() < MOST_BYTES => {
+                    self.heard.extend_from_slice(&room[..count])?;
+                }
+                Err(e) if e.kind() == ErrorKind::WouldBlock => {
+                    self.noted = false;
+                    return Ok(());
+                }
+                Err(e) if e.kind() == ErrorKind::Interrupted => {}
+                _ => {
+                    self.over = true;
+                    return Ok(());
+                }
+            }
+        }
+        // More may wait, for the next look.
+        Ok(())
+    }
+}
+
+/// Whether so many seconds aren't over. Without a clock they are.
+pub fn is_within(seconds: u64, since: Instant, now: Option<Instant>) -> bool
+    ensures { IsNone now → result ≡ false }
+{
+    match now {
+        Some(now) => now.duration_since(since) < Duration::from_secs(seconds),
+        None => false,
+    }
+}

@@ -1,0 +1,182 @@
+//! The sockets of a run, with the look-ups of names.
+ghost use Rattle.std.specs.Prelude.{◌≡◌, None, OnOk, nat_eq, true};
+ghost use Rattle.indexmap.specs.IndexMap.{get};
+ghost use Rattle.mux_edge.specs.Entries.{HasEntry, IsBlocked, Stands};
+ghost use Rattle.mux_edge.specs.Names.{is_name};
+ghost use Rattle.mux_edge.specs.Shares.{PassesOwn, holds_own};
+ghost use Rattle.mux_edge.specs.Sockets.{FoundFits};
+ghost use Rattle.mux_edge.specs.Table.{Touches};
+ghost use Rattle.mux_edge.specs.declared.numbers.Numbers.{Numbers};
+
+use crate::children::Children;
+use crate::lookups::{Known, Lookups};
+use crate::numbers::Numbers;
+use crate::stream::Stream;
+use crate::table::Table;
+use crate::turns::failure_of;
+use mux_outside::{Piece, Turn, Want};
+use std::alloc::{AllocError, Global};
+use std::io;
+use std::net::Net;
+use std::time::{Clock, Instant};
+
+/// The sockets of a run, the names that are looked up to connect to them, and the children that
+/// look these up.
+#[derive(Drop)]
+pub struct Sockets<C: Children + Drop> {
+    pub table: Table,
+    lookups: Lookups,
+    children: C,
+}
+
+impl<C: Children + Drop> Sockets<C> {
+    /// These sockets. Nothing is looked up.
+    pub fn new(alloc: Global, table: Table, children: C) -> Sockets<C>
+        ensures table { result.table ≡ table }
+        ensures children { result.children ≡ children }
+    {
+        Sockets {
+            table,
+            lookups: Lookups::new(alloc),
+            children,
+        }
+    }
+
+    /// Lets go of a stream.
+    pub fn remove(&mut self, number: u64)
+        ensures gone { get nat_eq self.new.table.entries number ≡ None }
+        ensures rest { Touches number self.old.table self.new.table }
+    {
+        if let Some(lookup) = self.lookups.forget(number) {
+            self.children.end(lookup);
+        }
+        self.table.remove(number);
+    }
+
+    /// What happens next. A turn is given for the writes of the waiting streams alone, or for all
+    /// that can be read too; and for what was written, whatever is waited for. A client and a
+    /// stream that is joined get the given number; without one none is accepted.
+    pub fn next<N: Net + Clock>(
+        &mut self,
+        rt: &N,
+        waiting: &[u64],
+        want: Want,
+        numbers: Numbers,
+        into: &mut Piece,
+    ) -> Turn
+        ensures fits { FoundFits result numbers into.old into.new }
+        ensures stands { Stands result self.new.table.entries }
+        ensures passes { holds_own waiting.now self.old.table.shares ≡ true → PassesOwn result }
+        ensures listener { self.new.table.listener ≡ self.old.table.listener }
+    {
+        let holds_own = self.table.shares.holds_own(waiting);
+        for _ in 0..u64::MAX {
+            let joins = numbers.own.is_some() && !self.table.joins_pause;
+            let at = self
+                .table
+                .ready
+                .first(waiting, want, numbers.client.is_some(), joins, holds_own);
+            if self.table.ready.is_round_over(at) {
+                if let Err(e) = self.look(rt, at.is_some()) {
+                    return failure_of(&e);
+                }
+                continue;
+            }
+            let Some(ready) = self.table.ready.take(at) else {
+                continue;
+            };
+            let lookups = &mut self.lookups;
+            if let Some(turn) = self.table.go_on(rt, lookups, ready, numbers, into) {
+                return turn;
+            }
+        }
+        Turn::Failed(0)
+    }
+
+    // Notes what became ready, and waits for it where nothing is. A round begins.
+    fn look<N: Clock>(&mut self, rt: &N, some: bool) -> io::Result<()>
+        ensures { self.new.table.listener ≡ self.old.table.listener }
+    {
+        let is_busy = self.lookups.is_busy() || self.children.is_busy();
+        let timeout = self.table.timeout(some, is_busy);
+        self.table.look(&mut self.lookups, timeout)?;
+        if self.look_up(rt)? {
+            self.table.note_begun();
+        }
+        self.table.begin_round();
+        Ok(())
+    }
+
+    // Goes on with the look-ups: whether one is over.
+    fn look_up<N: Clock>(&mut self, rt: &N) -> Result<bool, AllocError>
+        ensures { self.new.table ≡ self.old.table }
+    {
+        self.children.reap();
+        if !self.lookups.is_busy() {
+            return Ok(false);
+        }
+        let now = Instant::now(rt).ok();
+        self.lookups.go_on(now)?;
+        let mut ended = false;
+        for _ in 0..u64::MAX {
+            let Some(number) = self.lookups.end_one(now)? else {
+                break;
+            };
+            self.children.end(number);
+            ended = true;
+        }
+        Ok(ended)
+    }
+}
+
+impl<C: Children + Drop> Sockets<C> {
+    /// Begins to look up a name, to connect to it with a stream of this number.
+    pub fn connect_by_name<N: Net + Clock>(
+        &mut self,
+        rt: &N,
+        number: u64,
+        name: &[u8],
+        port: u16,
+    ) -> io::Result<()>
+        requires { is_name name.now ≡ true }
+        ensures there { OnOk result (HasEntry number self.new.table.entries) }
+        ensures waits { OnOk result (IsBlocked number self.new.table.entries) }
+        ensures rest { Touches number self.old.table self.new.table }
+    {
+        self.table.add(number, Stream::Begun, true)?;
+        match self.begin(rt, number, name, port) {
+            Ok(is_known) => {
+                if is_known {
+                    self.table.meet_soon(number);
+                }
+                Ok(())
+            }
+            Err(e) => {
+                self.remove(number);
+                Err(e)
+            }
+        }
+    }
+
+    // Notes where a stream connects to, and looks the name up where nobody does: whether its
+    // addresses are known already. After an `Err` the caller lets go of the stream.
+    fn begin<N: Net + Clock>(
+        &mut self,
+        rt: &N,
+        number: u64,
+        name: &[u8],
+        port: u16,
+    ) -> io::Result<bool>
+        requires { is_name name.now ≡ true }
+        ensures { self.new.table ≡ self.old.table }
+    {
+        let now = Instant::now(rt)?;
+        let known = self.lookups.begin(number, name, port, now)?;
+        if known == Known::Nothing {
+            let registry = self.table.registry();
+            let output = self.lookups.start(rt, registry, number, name, now)?;
+            self.children.start(number, name, output)?;
+        }
+        Ok(known == Known::Addresses)
+    }
+}

@@ -1,0 +1,193 @@
+//! The master's own listeners and streams.
+ghost use Rattle.std.specs.Prelude.{◌≡◌, ◌⊎◌, false, true, IfSome, IsSome, None, OnOk, OnSome, Some, nat_eq};
+ghost use Rattle.indexmap.specs.IndexMap.{get};
+ghost use Rattle.mux_edge.specs.Entries.{HasEntry, IsAwaited, IsBlocked, IsConnected, IsFinished, IsKeptBack, IsNoted, IsPaused};
+ghost use Rattle.mux_edge.specs.Table.{Touches};
+ghost use Rattle.mux_edge.specs.Ready.{IsFull};
+
+use super::Table;
+use super::ready::Door;
+use crate::lookups::Lookups;
+use crate::stream::Stream;
+use mio::net::{TcpListener, TcpStream};
+use mio::{Interest, Token};
+use mux_outside::Turn;
+use std::alloc::AllocError;
+use std::io;
+use std::io::ErrorKind;
+use std::net::{Net, SocketAddr};
+
+impl Table {
+    /// Listens at an address, with a listener of this number.
+    pub fn listen<N: Net>(&mut self, rt: &N, number: u64, address: SocketAddr) -> io::Result<()>
+        ensures there { OnOk result (IsSome (get nat_eq self.new.doors number)) }
+        ensures entries { self.new.entries ≡ self.old.entries }
+        ensures listener { self.new.listener ≡ self.old.listener }
+    {
+        self.make_room()?;
+        self.doors.reserve(1)?;
+        let mut listener = TcpListener::bind(rt, address)?;
+        self.poll
+            .registry()
+            .register(&mut listener, Token(number as usize), Interest::READABLE)?;
+        self.doors
+            .insert(number, Door::new(listener))
+            .map_err(|_| AllocError)?;
+        Ok(())
+    }
+
+    /// Begins to connect to an address, with a stream of this number.
+    pub fn connect<N: Net>(&mut self, rt: &N, number: u64, address: SocketAddr) -> io::Result<()>
+        ensures there { OnOk result (HasEntry number self.new.entries) }
+        ensures waits { OnOk result (IsBlocked number self.new.entries) }
+        ensures rest { Touches number self.old self.new }
+    {
+        let stream = Stream::connect(rt, address)?;
+        self.add(number, stream, true)
+    }
+
+    // Looks whether a connection is made. What may be read of it is noted then. Where it isn't
+    // made, the next of its addresses is tried, if the host is a name.
+    pub(super) fn meet<N: Net>(
+        &mut self,
+        rt: &N,
+        lookups: &mut Lookups,
+        number: u64,
+    ) -> Option<Turn>
+        ensures turn { IfSome result (λ turn.
+            (turn ≡ Turn.Writable number) ⊎ (turn ≡ Turn.Failed number)) }
+        ensures connected { result ≡ Some (Turn.Writable number)
+            → IsConnected number self.new.entries }
+        ensures noted { result ≡ Some (Turn.Writable number) → IsAwaited number self.old.entries
+            → IsNoted number self.new.entries ⊎ IsFull self.old.ready }
+        ensures rest { Touches number self.old self.new }
+    {
+        let entry = self.entries.get_mut(&number)?;
+        entry.writes = false;
+        let mut made = entry.stream.is_made();
+        if made.is_err() || entry.stream.is_begun() {
+            made = lookups
+                .connect(rt, self.poll.registry(), number, &mut entry.stream)
+                .map(|()| false);
+        }
+        let turn = entry.meet(number, &made);
+        let _ = self.ready.note_held(number, entry);
+        turn
+    }
+}
+
+impl Table {
+    /// Lets go of a listener.
+    pub fn unlisten(&mut self, number: u64)
+        ensures gone { get nat_eq self.new.doors number ≡ None }
+        ensures entries { self.new.entries ≡ self.old.entries }
+        ensures listener { self.new.listener ≡ self.old.listener }
+    {
+        let Some(door) = self.doors.swap_remove(&number) else {
+            return;
+        };
+        self.ready.drop_door(number, &door);
+    }
+
+    /// Notes that the addresses of a stream are known.
+    pub fn meet_soon(&mut self, number: u64)
+        ensures waits { IsBlocked number self.old.entries → IsBlocked number self.new.entries }
+        ensures rest { Touches number self.old self.new }
+    {
+        if let Some(entry) = self.entries.get_mut(&number) {
+            let _ = self.ready.note_connect(number, entry);
+        }
+    }
+
+    // Accepts a socket at a listener, as a stream of this number.
+    pub(super) fn join_at(&mut self, listener: u64, number: u64) -> Option<Turn>
+        ensures turn { IfSome result (λ turn. turn ≡ Turn.Joined listener number) }
+        ensures there { OnSome result (HasEntry number self.new.entries) }
+        ensures rest { Touches number self.old self.new }
+    {
+        let door = self.doors.get_mut(&listener)?;
+        door.joins = false;
+        match door.listener.accept() {
+            Ok((stream, _)) => self.take_in(listener, number, stream),
+            Err(e) => {
+                self.not_joined(listener, &e);
+                None
+            }
+        }
+    }
+
+    // Takes in what was accepted.
+    fn take_in(&mut self, listener: u64, number: u64, stream: TcpStream) -> Option<Turn>
+        ensures turn { IfSome result (λ turn. turn ≡ Turn.Joined listener number) }
+        ensures there { OnSome result (HasEntry number self.new.entries) }
+        ensures rest { Touches number self.old self.new }
+    {
+        let _ = stream.set_nodelay(true);
+        if let Err(e) = self.add(number, Stream::Tcp(stream), false) {
+            self.not_joined(listener, &e);
+            return None;
+        }
+        // More may wait.
+        self.join_again(listener);
+        Some(Turn::Joined(listener, number))
+    }
+
+    // A socket that could not be accepted is no fault of the run.
+    fn not_joined(&mut self, listener: u64, e: &io::Error)
+        ensures { self.new ≡ record self.old { doors = self.new.doors; ready = self.new.ready;
+            joins_pause = self.new.joins_pause } }
+    {
+        match e.kind() {
+            ErrorKind::WouldBlock => {}
+            ErrorKind::Interrupted | ErrorKind::ConnectionAborted => self.join_again(listener),
+            _ => {
+                self.join_again(listener);
+                self.joins_pause = true;
+            }
+        }
+    }
+
+    // Tries to accept again at a listener.
+    fn join_again(&mut self, listener: u64)
+        ensures { self.new ≡ record self.old { doors = self.new.doors; ready = self.new.ready } }
+    {
+        if let Some(door) = self.doors.get_mut(&listener) {
+            let _ = self.ready.note_join(listener, door);
+        }
+    }
+
+    /// Reads nothing of a stream for now.
+    pub fn pause(&mut self, number: u64)
+        ensures paused { HasEntry number self.old.entries → IsPaused true number self.new.entries }
+        ensures rest { Touches number self.old self.new }
+    {
+        if let Some(entry) = self.entries.get_mut(&number) {
+            entry.paused = true;
+        }
+    }
+
+    /// Reads a stream again, and first what came meanwhile.
+    pub fn resume(&mut self, number: u64)
+        ensures resumed { HasEntry number self.old.entries
+            → IsPaused false number self.new.entries }
+        ensures noted { IsKeptBack number self.old.entries
+            → IsNoted number self.new.entries ⊎ IsFull self.old.ready }
+        ensures rest { Touches number self.old self.new }
+    {
+        if let Some(entry) = self.entries.get_mut(&number) {
+            entry.paused = false;
+            let _ = self.ready.note_held(number, entry);
+        }
+    }
+
+    /// Says the end of a stream to the other side.
+    pub fn finish(&mut self, number: u64)
+        ensures finished { HasEntry number self.old.entries
+            → IsFinished number self.new.entries }
+        ensures rest { Touches number self.old self.new }
+    {
+        if let Some(entry) = self.entries.get_mut(&number) {
+            entry.finish();
+        }
+    }
+}

@@ -1,0 +1,71 @@
+//! Where a stream connects to by a name: the addresses of the name, tried in turn.
+ghost use Rattle.std.specs.Prelude.{◌≡◌, ◌<◌, ◌+◌, Some, OnErr, OnSome, IfSome, IfNone, slice_get};
+ghost use Rattle.std.specs.Net.Socket.{socket_ip, socket_port};
+
+use crate::stream::Stream;
+use mio::{Registry, Token};
+use std::io;
+use std::io::ErrorKind;
+use std::net::{IpAddr, Net, SocketAddr};
+
+/// Where a stream connects to: a name and a port, and the addresses that are tried in turn.
+#[derive(Drop)]
+pub struct Target {
+    pub name: Vec<u8>,
+    pub port: u16,
+    /// `None`: the look-up isn't over
+    pub addresses: Option<Vec<IpAddr>>,
+    pub tried: usize,
+}
+
+impl Target {
+    ghost use Rattle.mux_edge.specs.Targets.{left_of};
+
+    // The address that is tried next.
+    fn next(&mut self) -> Option<SocketAddr>
+        ensures port { IfSome result (λ address. socket_port address ≡ self.old.port) }
+        ensures in_turn { IfSome result (λ address. IfSome self.old.addresses (λ addresses.
+            slice_get addresses.items self.old.tried ≡ Some (socket_ip address))) }
+        ensures moved { OnSome result (self.new ≡ record self.old { tried = self.old.tried + 1 }) }
+        ensures fewer { OnSome result (left_of self.new < left_of self.old) }
+        ensures none_left { IfNone result (left_of self.new ≡ 0) }
+    {
+        let address = *self.addresses.as_ref()?.get(self.tried)?;
+        self.tried = self.tried.saturating_add(1);
+        Some(SocketAddr::new(address, self.port))
+    }
+
+    /// Begins to connect to the next address that takes it, under this number. `Err`: none is left.
+    pub fn connect<N: Net>(
+        &mut self,
+        rt: &N,
+        registry: &Registry,
+        number: u64,
+    ) -> io::Result<Stream>
+        ensures none_left { OnErr result (left_of self.new ≡ 0) }
+    {
+        while let Some(address) = self.next() {
+            if let Ok(stream) = connected(rt, registry, number, address) {
+                return Ok(stream);
+            }
+        }
+        Err(io::Error::from(ErrorKind::NotFound))
+    }
+
+    /// Whether it waits for the look-up of this name.
+    pub fn awaits(&self, name: &[u8]) -> bool {
+        self.addresses.is_none() && self.name.as_slice() == name
+    }
+}
+
+// Begins to connect to an address, under this number.
+fn connected<N: Net>(
+    rt: &N,
+    registry: &Registry,
+    number: u64,
+    address: SocketAddr,
+) -> io::Result<Stream> {
+    let mut stream = Stream::connect(rt, address)?;
+    stream.register(registry, Token(number as usize))?;
+    Ok(stream)
+}

@@ -1,0 +1,64 @@
+//! The turn that a wire gives for what its sockets found.
+ghost use Rattle.std.specs.Prelude.{◌≡◌, ◌≢◌, ◌⊎◌, ◌&&◌, not, ℕ, List, true, IsTrue};
+ghost use Rattle.std.specs.IoError.{error_kind};
+ghost use Rattle.mux_outside.specs.OwnStreams.{is_own, is_silent};
+ghost use Rattle.mux_outside.specs.Streams.{among};
+ghost use Rattle.mux_outside.specs.Wire.{OwnFits, TurnFits};
+ghost use Rattle.mux_outside.specs.WireState.{opens_stream};
+ghost use Rattle.mux_outside.specs.declared.turn.Turn.TheVariants.{NoMemory};
+ghost use Rattle.mux_edge.specs.Sockets.{FoundFits, MayBeGiven};
+ghost use Rattle.mux_edge.specs.declared.numbers.Numbers.{Numbers};
+
+use crate::numbers::Numbers;
+use mux_outside::{Turn, Want, WireState, is_own};
+use std::io;
+use std::io::ErrorKind;
+
+/// The turn of what the sockets found. What they may not find is a fault of the server's stream.
+pub fn turn_of(state: &WireState, found: Turn, want: Want, numbers: Numbers) -> Turn
+    requires numbers { MayBeGiven numbers want state.now.seen }
+    requires server { IsTrue (among 0 state.now.seen.streams) }
+    ensures turn { (before now : List ℕ) → FoundFits found numbers before now
+        → TurnFits result want state.now.seen now }
+    ensures own_turn { OwnFits result state.now.seen }
+    ensures told { (before now : List ℕ) → FoundFits found numbers before now
+        → TurnFits found want state.now.seen now → OwnFits found state.now.seen
+        → result ≡ found }
+    ensures kept { (before now : List ℕ) → FoundFits found numbers before now
+        → (opens_stream result ≡ true) ⊎ (result ≡ NoMemory) → now ≡ before }
+{
+    match found {
+        Turn::Accepted(k) if numbers.client == Some(k) => Turn::Accepted(k),
+        Turn::Joined(l, t) if numbers.own == Some(t) && state.listeners().contains(l) => {
+            Turn::Joined(l, t)
+        }
+        Turn::Got(t) if want == Want::Read && gives(state, t) => Turn::Got(t),
+        Turn::End(t) if want == Want::Read && gives(state, t) => Turn::End(t),
+        Turn::Writable(t) if state.streams().contains(t) && state.blocked().contains(t) => {
+            Turn::Writable(t)
+        }
+        Turn::Failed(t) if state.streams().contains(t) => Turn::Failed(t),
+        Turn::NoMemory => Turn::NoMemory,
+        _ => Turn::Failed(0),
+    }
+}
+
+// Whether a stream is open and may give something.
+fn gives(state: &WireState, stream: u64) -> bool
+    ensures { result ≡ among stream state.now.seen.streams
+        && not (is_own stream && is_silent stream state.now.seen.own) }
+{
+    state.streams().contains(stream) && !(is_own(stream) && state.own().is_silent(stream))
+}
+
+/// The turn of an error at a wait: a fault of the server's stream, or want of memory.
+pub fn failure_of(e: &io::Error) -> Turn
+    ensures memory { error_kind e.now ≡ ErrorKind.OutOfMemory → result ≡ Turn.NoMemory }
+    ensures other { error_kind e.now ≢ ErrorKind.OutOfMemory → result ≡ Turn.Failed 0 }
+    ensures fits { (numbers : Numbers) (piece : List ℕ) → FoundFits result numbers piece piece }
+{
+    match e.kind() {
+        ErrorKind::OutOfMemory => Turn::NoMemory,
+        _ => Turn::Failed(0),
+    }
+}

@@ -1,8 +1,0 @@
-use Rattle.mux_sockets.specs.Targets.{left_of}
-use Rattle.mux_sockets.proofs.sockets.resolver.Target.connect.Given as goal
-
-abbrev pub invariant-loop-address : goal.invariant-loop-address
-invariant-loop-address g l = Unit {0}
-
-abbrev pub decreases-loop-address : goal.decreases-loop-address
-decreases-loop-address g l = left_of l.self
