@@ -145,6 +145,10 @@ held-state xs slots n e some =
     let h = held-slot slots n (subst (λ ys. IsSome (entry_at ys n)) (sym e) some) in
     record { opened = h.0; held = h.1; within = slice_get_within slots n (Held h.0) h.1 }
 
+-- so its number is below how many slots there are
+pub held-below : (xs : List Entry) (slots : List Slot) (n size : ℕ) → entries_of slots ≡ xs → IsSome (entry_at xs n) → size ≡ length slots → n < size
+held-below xs slots n size e some all = omega (arith, (held-state xs slots n e some).within, all)
+
 pub held-read : (slots : List Slot) (n : ℕ) (x : Slot) (h : IsHeld slots n) → x ≡ get_or slots n x → x ≡ Held h.opened
 held-read slots n x h read = same_Some x (Held h.opened) (sym (slice_get_read slots (length slots) n x refl h.within read) ∙ h.held)
 

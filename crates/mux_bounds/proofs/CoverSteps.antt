@@ -126,37 +126,32 @@ pub sound-append : (fs gs : List Forwarding) → EachOf Sound fs → EachOf Soun
 sound-append [] gs a b = b
 sound-append (f ∷ fs) gs a b = (a.0, sound-append fs gs a.1 b)
 
+-- what waits at one place waits at no other
+waits-once : (n j : ℕ) (f : Forwarding) → (n == j) ≡ false → Sound f → covers j f ≡ true → (is_request f n || is_number f.cancel n) ≡ true → ⊥
+waits-once n j f apart sound waits some = by_place (covers n f) refl
+  where
+    apart-is : (a b : ℕ) → (a == b) ≡ false → a ≡ b → ⊥
+    apart-is a b e same = grind (arith, nat_tests)
+
+    by_place : (b : Bool) → covers n f ≡ b → ⊥
+    by_place true e = let same : n ≡ j = covers-once f n j sound e waits in absurd (apart-is n j apart same)
+    by_place false e =
+        let yes : covers n f ≡ true = ap (λ b. b && (is_request f n || is_number f.cancel n)) (and-left (not f.over) (is_request f j || is_number f.cancel j) waits) ∙ some in
+        let bad : true ≡ false = sym yes ∙ e in absurd (let h = bad in cc)
+
 -- a reply at a place leaves what waits at another
 pub replied-other : (n j : ℕ) (m : Gist) (f : Forwarding) → (n == j) ≡ false → Sound f → covers j f ≡ true → replied n m f ≡ f
 replied-other n j (Succeeds rest) f apart sound waits = by_case (is_request f n) refl (is_number f.cancel n) refl
   where
-    never : (b : Bool) → covers n f ≡ b → (is_request f n || is_number f.cancel n) ≡ true → ⊥
-    never true e some = let same : n ≡ j = covers-once f n j sound e waits in absurd (apart-is n j apart same)
-      where
-        apart-is : (a b : ℕ) → (a == b) ≡ false → a ≡ b → ⊥
-        apart-is a b e same = grind (arith, nat_tests)
-    never false e some =
-        let yes : covers n f ≡ true = ap (λ b. b && (is_request f n || is_number f.cancel n)) (and-left (not f.over) (is_request f j || is_number f.cancel j) waits) ∙ some in
-        let bad : true ≡ false = sym yes ∙ e in absurd (let h = bad in cc)
-
     by_case : (a : Bool) → is_request f n ≡ a → (b : Bool) → is_number f.cancel n ≡ b → (elim a as (λ _. Forwarding) [ true ↦ record f { live = Some (bound f.key rest) } | false ↦ elim b as (λ _. Forwarding) [ true ↦ record f { over = true } | false ↦ f ] ]) ≡ f
-    by_case true a b be = absurd (never (covers n f) refl (ap (λ x. x || is_number f.cancel n) a))
-    by_case false a true be = absurd (never (covers n f) refl (or-yes (is_request f n) (is_number f.cancel n) be))
+    by_case true a b be = absurd (waits-once n j f apart sound waits (ap (λ x. x || is_number f.cancel n) a))
+    by_case false a true be = absurd (waits-once n j f apart sound waits (or-yes (is_request f n) (is_number f.cancel n) be))
     by_case false a false be = refl
 replied-other n j Refuses f apart sound waits = by_case (is_request f n) refl (is_number f.cancel n) refl
   where
-    never : (b : Bool) → covers n f ≡ b → (is_request f n || is_number f.cancel n) ≡ true → ⊥
-    never true e some = let same : n ≡ j = covers-once f n j sound e waits in absurd (apart-is n j apart same)
-      where
-        apart-is : (a b : ℕ) → (a == b) ≡ false → a ≡ b → ⊥
-        apart-is a b e same = grind (arith, nat_tests)
-    never false e some =
-        let yes : covers n f ≡ true = ap (λ b. b && (is_request f n || is_number f.cancel n)) (and-left (not f.over) (is_request f j || is_number f.cancel j) waits) ∙ some in
-        let bad : true ≡ false = sym yes ∙ e in absurd (let h = bad in cc)
-
     by_case : (a : Bool) → is_request f n ≡ a → (b : Bool) → is_number f.cancel n ≡ b → (elim a as (λ _. Forwarding) [ true ↦ record f { over = true } | false ↦ elim b as (λ _. Forwarding) [ true ↦ record f { cancel = None } | false ↦ f ] ]) ≡ f
-    by_case true a b be = absurd (never (covers n f) refl (ap (λ x. x || is_number f.cancel n) a))
-    by_case false a true be = absurd (never (covers n f) refl (or-yes (is_request f n) (is_number f.cancel n) be))
+    by_case true a b be = absurd (waits-once n j f apart sound waits (ap (λ x. x || is_number f.cancel n) a))
+    by_case false a true be = absurd (waits-once n j f apart sound waits (or-yes (is_request f n) (is_number f.cancel n) be))
     by_case false a false be = refl
 replied-other n j m f apart sound waits = refl
 

@@ -1,6 +1,6 @@
 -- A client that was found by its number, and what follows where it goes on.
-use Rattle.std.proofs.Common.{◌≡◌, ◌≤◌, ◌<◌, ℕ, Bool, true, false, not, List, [], ◌∷◌, length, get_or, set, Option, Some, None, Ok, refl, sym, ap, ◌∙◌, subst, arith, append-nil, cond}
-use Rattle.std.specs.Prelude.{MatchBool}
+use Rattle.std.proofs.Common.{◌≡◌, ◌≤◌, ◌<◌, ℕ, Bool, true, false, not, List, [], ◌∷◌, length, get_or, set, Option, Some, None, Result, Ok, refl, sym, ap, ◌∙◌, ◌++◌, subst, arith, append-nil, cond}
+use Rattle.std.specs.Prelude.{MatchBool, OnOk}
 use Rattle.mux_outside.specs.House.{HouseState}
 use Rattle.mux_outside.specs.declared.house_mark.HouseMark.{HouseMark as Asked}
 use Rattle.mux_outside.specs.declared.house.HouseReply.{HouseReply}
@@ -10,15 +10,15 @@ use Rattle.mux_history.specs.declared.why.Why.{Why}
 use Rattle.mux_core.specs.State.{CoreState}
 use Rattle.mux_clients.specs.declared.heard.Heard.{Heard}
 use Rattle.mux_clients.specs.declared.standing.Standing.{Standing}
-use Rattle.mux_clients.specs.State.{ClientState, part}
+use Rattle.mux_clients.specs.State.{ClientState, ClientsState, clients_of, crowd, part}
 use Rattle.mux_clients.specs.Stands as stands
-use Rattle.mux_clients.specs.Among.{ChangesOne, KeepReading, at_client, client_index, in_client, is_present}
+use Rattle.mux_clients.specs.Among.{ChangesOne, GoesAt, KeepReading, at_client, client_index, in_client, is_present}
 use Rattle.mux_clients.specs.Losing.{Loses, LosesIn, LosesNothing, NotesMore, loss_between, loss_in}
 use Rattle.mux_clients.specs.Asked.{Heeds}
 use Rattle.mux_clients.specs.Pieces.{HearsIn, HearsNothing, HearsPiece}
 use Rattle.mux_clients.specs.Starved.{HearsSome, OneIs}
-use Rattle.mux_clients.specs.Room.{HasRoom, KeepsAll, LeavesRoom}
-use Rattle.mux_clients.proofs.Keeping.{keep-set}
+use Rattle.mux_clients.specs.Room.{HasRoom, KeepsAll, LeavesRest, LeavesRoom}
+use Rattle.mux_clients.proofs.Keeping.{among-loss, keep-same, keep-set}
 use Rattle.mux_clients.proofs.Placed.{numbers-set, placed-absent, placed-here, placed-present, present-set, set-changes}
 use Rattle.mux_clients.proofs.Places.{at_client_set, look_at}
 use Rattle.mux_clients.proofs.Rooms.{room-at, room-set}
@@ -67,6 +67,23 @@ found-look none look k i x cs f = look_at none look k i x cs f.place f.within �
 pub found-at : (k i : ℕ) (f : ClientState → ClientState) (x y : ClientState) (cs : List ClientState) → Found k i x cs → y ≡ f x → set cs i y ≡ at_client k f cs
 found-at k i f x y cs fd e = at_client_set k i f x y cs fd.place (e ∙ ap f fd.is)
 
+-- it goes on so, and its loss is noted
+pub found-goes : (k i : ℕ) (R : List (ℕ × Option Why) → ClientState → ClientState → Type 0) (before now : Standing) (x y : ClientState) (cs : List ClientState) (leaving leaving' : List (ℕ × Option Why)) (core core' : CoreState) (up up' : QueueState)
+    → Found k i x cs → leaving' ≡ leaving ++ loss_between before now k → R (loss_between before now k) x y → y.seat.number ≡ x.seat.number → (stands.is_lost y.seat.standing ≡ false → (y.seat.standing ≡ x.seat.standing) × (y.rest ≡ x.rest))
+    → GoesAt k R (crowd (clients_of cs leaving) core up) (crowd (clients_of (set cs i y) leaving') core' up')
+found-goes k i R before now x y cs leaving leaving' core core' up up' f leaves goes same reads = record {
+  noted = loss_between before now k;
+  leaves = leaves;
+  changes = λ here. found-changes k i (R (loss_between before now k)) x y cs f goes;
+  among = among-loss cs before now k (found-present k i x cs f);
+  reading = found-reading k i x y cs f same reads;
+}
+
+pub found-rest : {A E : Type 0} (result : Result A E) (k i : ℕ) (x y : ClientState) (cs : List ClientState) (leaving leaving' : List (ℕ × Option Why)) (core core' : CoreState) (up up' : QueueState)
+    → Found k i x cs → NotesMore leaving leaving' → OnOk result (KeepsAll cs (set cs i y) up up') → core'.policy ≡ core.policy
+    → LeavesRest result k (crowd (clients_of cs leaving) core up) (crowd (clients_of (set cs i y) leaving') core' up')
+found-rest result k i x y cs leaving leaving' core core' up up' f more keeps policy = record { absent = λ gone. found-here k i x cs f gone; more = more; keeps = keeps; policy = policy }
+
 -- ---- none was found
 
 pub none-found : (k i n m : ℕ) (lent cs : List ClientState) → i ≡ client_index k lent → lent ≡ cs → n ≤ i → n ≡ m → m ≡ length cs → length cs ≤ client_index k cs
@@ -75,6 +92,10 @@ none-found k i n m lent cs place same le len all = omega (arith, place ∙ ap (c
 pub none-here : {A : Type 0} (k : ℕ) (cs : List ClientState) → length cs ≤ client_index k cs → is_present cs k ≡ true → A
 none-here k cs le here = absurd (let gone : is_present cs k ≡ false = placed-absent k cs le in let d : false ≡ true = sym gone ∙ here in cc)
 
+-- with the clients as they are shown
+pub none-present : (k i n m : ℕ) (lent cs : List ClientState) (leaving : List (ℕ × Option Why)) (s : ClientsState) → clients_of cs leaving ≡ s → i ≡ client_index k lent → lent ≡ cs → n ≤ i → n ≡ m → m ≡ length cs → is_present s.all k ≡ false
+none-present k i n m lent cs leaving s view place same le len all = sym (ap (λ (c : ClientsState). is_present c.all k) view) ∙ placed-absent k cs (none-found k i n m lent cs place same le len all)
+
 pub keeps-same : (cs : List ClientState) (up : QueueState) → KeepsAll cs cs up up
 keeps-same cs up = record { present = λ j. refl; numbers_same = refl; room = λ h. h }
 
@@ -82,6 +103,18 @@ keeps-same cs up = record { present = λ j. refl; numbers_same = refl; room = λ
 
 pub none-noted : (l : List (ℕ × Option Why)) → NotesMore l l
 none-noted l = record { more = []; longer = sym (append-nil l) }
+
+pub none-goes : (k : ℕ) (R : List (ℕ × Option Why) → ClientState → ClientState → Type 0) (s : ClientsState) (core : CoreState) (up : QueueState) → is_present s.all k ≡ false → GoesAt k R (crowd s core up) (crowd s core up)
+none-goes k R s core up gone = record {
+  noted = [];
+  leaves = sym (append-nil s.leaving);
+  changes = λ here. absurd (let d : false ≡ true = sym gone ∙ here in cc);
+  among = tt;
+  reading = keep-same s.all;
+}
+
+pub none-rest : {A E : Type 0} (a : A) (k : ℕ) (s : ClientsState) (core : CoreState) (up : QueueState) → LeavesRest {A = A} {E = E} (Ok a) k (crowd s core up) (crowd s core up)
+none-rest a k s core up = record { absent = λ gone. refl; more = none-noted s.leaving; keeps = keeps-same s.all up; policy = refl }
 
 -- one that is lost by its stream
 pub loss-lost : (k : ℕ) (old new : CoreState) (up up' : QueueState) (x y : ClientState) → LosesIn old new up up' x y → loss_between x.seat.standing y.seat.standing k ≡ cond (stands.not_lost x.seat.standing) ((k, None) ∷ []) []

@@ -31,7 +31,7 @@ on-any : {A E P : Type 0} (r : Result A E) → P → OnOk r P
 on-any (Ok x) p = p
 on-any (Err e) p = tt
 
-on-none : {A E : Type 0} (r : Result A E) (P : Type 0) → IsErr r → OnOk r P
+pub on-none : {A E : Type 0} (r : Result A E) (P : Type 0) → IsErr r → OnOk r P
 on-none (Ok x) P bad = absurd (let no : false ≡ true = bad in cc)
 on-none (Err e) P bad = tt
 

@@ -1,6 +1,6 @@
 -- A reply of the house that comes later than its ask, from every list of rows that the part stood
 -- for.
-use Rattle.std.specs.Prelude.{◌≡◌, ℕ, List, [], ◌∷◌, ◌++◌, true, false, Option}
+use Rattle.std.specs.Prelude.{◌≡◌, ℕ, List, [], ◌∷◌, false, Option}
 use Rattle.mux_outside.specs.declared.house.HouseReply.{HouseReply}
 use Rattle.proxy_frames.specs.State.{QueueState}
 use Rattle.mux_history.specs.declared.why.Why.{Why}
@@ -12,7 +12,7 @@ use Rattle.mux_core.specs.State.{CoreState}
 use Rattle.mux_clients.specs.State.{ClientState, Crowd, Part, part}
 use Rattle.mux_clients.specs.Stands.{Fits, is_lost}
 use Rattle.mux_clients.specs.Losing.{loss_between}
-use Rattle.mux_clients.specs.Among.{AreAmong, ChangesOne, KeepReading, is_present}
+use Rattle.mux_clients.specs.Among.{GoesAt}
 
 -- the row of it, with which the part stands for the longer log: the run goes on, nothing is sent, and
 -- the client stays or is dropped
@@ -45,12 +45,7 @@ pub record AnswersNoting (k id : ℕ) (given : HouseReply) (noted : List (ℕ ×
   pub answers : AnswersIn id given old new up up' x y
   pub noted_is : noted ≡ loss_between x.seat.standing y.seat.standing k
 
--- the reply to the client of a number, where it is here; the losses are noted behind those of before
-pub record AnswersAt (k id : ℕ) (given : HouseReply) (old new : Crowd) : Type 0 where
-  pub noted : List (ℕ × Option Why)
-  pub leaves : new.clients.leaving ≡ old.clients.leaving ++ noted
-  pub changes : is_present old.clients.all k ≡ true
-      → ChangesOne k (AnswersNoting k id given noted old.core new.core old.up new.up)
-      old.clients.all new.clients.all
-  pub among : AreAmong old.clients.all noted
-  pub reading : KeepReading old.clients.all new.clients.all
+-- the reply to the client of a number
+abbrev pub AnswersAt : ℕ → ℕ → HouseReply → Crowd → Crowd → Type 0
+AnswersAt k id given old new =
+    GoesAt k (λ noted. AnswersNoting k id given noted old.core new.core old.up new.up) old new

@@ -1,9 +1,10 @@
 -- The room that lasts in the server's queue for what is said of clients that leave.
-use Rattle.std.specs.Prelude.{◌≡◌, ◌≤◌, ◌+◌, ◌*◌, ℕ, List, [], ◌∷◌, length, if◌then◌else◌}
+use Rattle.std.specs.Prelude.{◌≡◌, ◌≤◌, ◌+◌, ◌*◌, ℕ, List, [], ◌∷◌, length, false, if◌then◌else◌, OnOk, Result}
 use Rattle.proxy_frames.specs.State.{QueueState}
 use Rattle.client_teardown.specs.declared.farewell.TheConstants.{FAREWELL_ROOM}
-use Rattle.mux_clients.specs.State.{ClientState}
+use Rattle.mux_clients.specs.State.{ClientState, Crowd, IsUntouched}
 use Rattle.mux_clients.specs.Stands.{is_lost}
+use Rattle.mux_clients.specs.Losing.{NotesMore}
 use Rattle.mux_clients.specs.Among.{is_present, numbers}
 
 -- the clients that are not lost
@@ -28,3 +29,13 @@ farewell_of c = if is_lost c.seat.standing then 0 else FAREWELL_ROOM
 -- where a client goes on so, the room for all others stays
 abbrev pub LeavesRoom : QueueState → QueueState → ClientState → ClientState → Type 0
 LeavesRoom up up' x y = up.spare + farewell_of y ≤ up'.spare + farewell_of x
+
+-- ---- what a call to one client leaves of the others
+
+-- nothing is touched where the client of the number isn't here; what was noted stays noted; the same
+-- clients are here, with the room for them; and the policy stays
+pub record LeavesRest {A E : Type 0} (result : Result A E) (k : ℕ) (old new : Crowd) : Type 0 where
+  pub absent : is_present old.clients.all k ≡ false → IsUntouched old new
+  pub more : NotesMore old.clients.leaving new.clients.leaving
+  pub keeps : OnOk result (KeepsAll old.clients.all new.clients.all old.up new.up)
+  pub policy : new.core.policy ≡ old.core.policy

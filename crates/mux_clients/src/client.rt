@@ -8,7 +8,7 @@ ghost use Rattle.mux_clients.specs.Hears.{HearsTold};
 ghost use Rattle.ssh_grammar.specs.Said.{first_in};
 ghost use Rattle.mux_clients.specs.Stands.{is_lost, is_read, mode_of};
 ghost use Rattle.mux_clients.specs.Room.{LeavesRoom};
-ghost use Rattle.mux_clients.specs.Nexts.{SaysNext};
+ghost use Rattle.mux_clients.specs.Nexts.{MaySay, SaysNext};
 ghost use Rattle.mux_clients.specs.Pieces.{HearsIn, HearsPiece};
 ghost use Rattle.mux_clients.specs.Starved.{AsksNext, HearsSome};
 ghost use Rattle.mux_clients.specs.Losing.{LosesIn};
@@ -219,9 +219,7 @@ impl Client {
         core: &mut Core,
         up: &mut Queue,
     ) -> Result<bool, OutOfMemory>
-        requires read { is_read self.old.seat.standing ≡ true }
-        requires room { FAREWELL_ROOM ≤ up.old.spare }
-        requires ordering { (H.state house.old).known.ordering ≡ None }
+        requires { MaySay self.old.seat.standing up.old (H.state house.old) }
         ensures heeds { Heeds result asks.old asks.new (H.state house.old) (H.state house.new) }
         ensures next { IfOk result (λ more.
             SaysNext H.may (Some asks.old) (Some asks.new) pid more
@@ -272,9 +270,7 @@ impl Client {
         core: &mut Core,
         up: &mut Queue,
     ) -> Result<Heard, OutOfMemory>
-        requires read { is_read self.old.seat.standing ≡ true }
-        requires room { FAREWELL_ROOM ≤ up.old.spare }
-        requires ordering { (H.state house.old).known.ordering ≡ None }
+        requires { MaySay self.old.seat.standing up.old (H.state house.old) }
         ensures heeds { Heeds result asks.old asks.new (H.state house.old) (H.state house.new) }
         ensures hears { IfOk result (λ heard.
             HearsPiece H.may (Some asks.old) (Some asks.new) pid bytes.now core.old up.old

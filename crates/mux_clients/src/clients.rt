@@ -13,7 +13,7 @@ ghost use Rattle.mux_clients.specs.Pieces.{HearsIn, unheard};
 ghost use Rattle.mux_clients.specs.Starved.{HearsSome, OneIs};
 ghost use Rattle.mux_clients.specs.Stands.{is_lost};
 ghost use Rattle.mux_clients.specs.Losing.{LosesIn, NotesMore, loss_between};
-ghost use Rattle.mux_clients.specs.Room.{HasRoom, KeepsAll, served_in};
+ghost use Rattle.mux_clients.specs.Room.{HasRoom, KeepsAll, LeavesRest, served_in};
 ghost use Rattle.mux_clients.specs.Answering.{AnswersAt};
 ghost use Rattle.mux_clients.specs.Entering.{Enters, new_client};
 
@@ -199,11 +199,8 @@ impl Clients {
         ensures hears { OnOk result
             (HearsAt number (frame_payload payload.now ∷ refusals_of refusals)
             (crowd self.old core.old up.old) (crowd self.new core.new up.new)) }
-        ensures absent { is_present self.old.all number ≡ false
-            → IsUntouched (crowd self.old core.old up.old) (crowd self.new core.new up.new) }
-        ensures more { NotesMore self.old.leaving self.new.leaving }
-        ensures keeps { OnOk result (KeepsAll self.old.all self.new.all up.old up.new) }
-        ensures policy { core.new.policy ≡ core.old.policy }
+        ensures rest { LeavesRest result number (crowd self.old core.old up.old)
+            (crowd self.new core.new up.new) }
     {
         let i = index_of(&self.all, number);
         if i < self.all.len() {
@@ -228,11 +225,8 @@ impl Clients {
         requires room { HasRoom self.old.all up.old }
         ensures answers { OnOk result (AnswersAt number id reply
             (crowd self.old core.old up.old) (crowd self.new core.new up.new)) }
-        ensures absent { is_present self.old.all number ≡ false
-            → IsUntouched (crowd self.old core.old up.old) (crowd self.new core.new up.new) }
-        ensures more { NotesMore self.old.leaving self.new.leaving }
-        ensures keeps { OnOk result (KeepsAll self.old.all self.new.all up.old up.new) }
-        ensures policy { core.new.policy ≡ core.old.policy }
+        ensures rest { LeavesRest result number (crowd self.old core.old up.old)
+            (crowd self.new core.new up.new) }
     {
         let i = index_of(&self.all, number);
         if i < self.all.len() {

@@ -1,5 +1,5 @@
 -- What was offered to the master's own streams.
-use Rattle.std.specs.Prelude.{◌≡◌, ◌<◌, ◌≤◌, ◌+◌, ◌⊎◌, ◌&&◌, ℕ, Bool, true, false, not, List, [], filter, length, IsTrue, None}
+use Rattle.std.specs.Prelude.{◌≡◌, ◌<◌, ◌≤◌, ◌+◌, ◌⊎◌, ◌&&◌, ℕ, Bool, true, false, not, List, [], ◌∷◌, filter, length, IsTrue, None}
 use Rattle.mux_history.specs.Promises.{is_empty}
 use Rattle.mux_outside.specs.House.{HouseState}
 use Rattle.mux_outside.specs.OwnStreams.{is_one, is_own}
@@ -30,6 +30,11 @@ pub record IsOpenOwn (house : HouseState) (seen : Seen) (t : ℕ) : Type 0 where
   pub own : IsTrue (is_own t)
   pub stream_open : IsTrue (among t seen.streams)
 
+-- an open stream of the master's own, of a house and a wire that know the same streams
+pub record CanOfferOwn (house : HouseState) (seen : Seen) (held : List ℕ) (t : ℕ) : Type 0 where
+  pub knows : OwnsStreams house seen held
+  pub stream : IsOpenOwn house seen t
+
 -- a stream took some of what waits for it, or it was offered that
 abbrev pub TookOrOffered : Bool → (queue queue' : ℕ → List ℕ) → List ℕ → List ℕ → ℕ → Type 0
 TookOrOffered true queue queue' held failed t = length (queue' t) < length (queue t)
@@ -46,3 +51,11 @@ pub record FailsFurther (todo failed failed' : List ℕ) : Type 0 where
   pub grows : length failed ≤ length failed'
   pub fewer : (own : List ℕ) → ((t : ℕ) → among t todo ≡ true → among t own ≡ true)
       → left_of failed' own + length failed' ≤ left_of failed own + length failed
+
+-- what the lists of the blocked streams and of those that failed say once a stream was offered what
+-- waits for it
+pub record KeepsOffers (stream : ℕ) (old new : HouseState) (seen : Seen)
+    (held held' failed failed' : List ℕ) : Type 0 where
+  pub held_is : held' ≡ seen.blocked
+  pub keeps : StayOffered old.queue new.queue held held' failed failed'
+  pub fails : FailsFurther (stream ∷ []) failed failed'

@@ -1,9 +1,9 @@
-ghost use Rattle.std.specs.Prelude.{◌≡◌, ◌<◌, ◌++◌, ◌∷◌, [], ℕ, true, false, filter, length, OnOk, IfOk, IsTrue};
+ghost use Rattle.std.specs.Prelude.{◌≡◌, ◌<◌, ◌++◌, ℕ, true, false, filter, length, OnOk, IfOk, IsTrue};
 ghost use Rattle.ssh_fields.specs.Fields.{AreBytes};
 ghost use Rattle.mux_outside.specs.Streams.{among};
 ghost use Rattle.mux_outside.specs.Wire.{MayWrite, WroteFaults, WroteFits};
 ghost use Rattle.mux_outside.specs.WireState.{state_after_write};
-ghost use Rattle.mux_engine.specs.Owned.{FailsFurther, IsOffered, IsOpenOwn, OwnsStreams, StayOffered, TookOrOffered, waits_for};
+ghost use Rattle.mux_engine.specs.Owned.{CanOfferOwn, FailsFurther, IsOffered, IsOpenOwn, KeepsOffers, OwnsStreams, TookOrOffered, waits_for};
 ghost use Rattle.mux_engine.specs.Serving.{OwnOn};
 ghost use Rattle.mux_engine.specs.Sides.{Housed, OnlyTook, SamePlaces};
 ghost use Rattle.mux_engine.specs.Wires.{WorksOwn};
@@ -32,18 +32,15 @@ fn own_once<W: Wire, H: House>(
     failed: &mut Streams,
     stream: u64,
 ) -> Result<bool, OutOfMemory>
-    requires knows { OwnsStreams (H.state house.old) (W.state wire.old).seen held.old }
-    requires stream { IsOpenOwn (H.state house.old) (W.state wire.old).seen stream }
-    ensures serving { OwnOn result H.may H.state house.old house.new (W.state wire.old).seen
-        (W.state wire.new).seen held.old held.new failed.old failed.new }
+    requires { CanOfferOwn (H.state house.old) (W.state wire.old).seen held.old stream }
+    ensures house { OnlyTook result (H.state house.old) (H.state house.new) }
     ensures offered { IfOk result (λ more. TookOrOffered more (H.state house.old).queue
         (H.state house.new).queue held.new failed.new stream) }
-    ensures house { OnlyTook result (H.state house.old) (H.state house.new) }
+    ensures serving { OwnOn result H.may H.state house.old house.new (W.state wire.old).seen
+        (W.state wire.new).seen held.old held.new failed.old failed.new }
     ensures places { SamePlaces (W.state wire.old).seen (W.state wire.new).seen }
-    ensures held_is { OnOk result (held.new ≡ (W.state wire.new).seen.blocked) }
-    ensures keeps { OnOk result (StayOffered (H.state house.old).queue (H.state house.new).queue
-        held.old held.new failed.old failed.new) }
-    ensures fails { OnOk result (FailsFurther (stream ∷ []) failed.old failed.new) }
+    ensures lists { OnOk result (KeepsOffers stream (H.state house.old) (H.state house.new)
+        (W.state wire.new).seen held.old held.new failed.old failed.new) }
     ensures wire { WorksOwn result (W.state wire.old) (W.state wire.new) (W.faults wire.old)
         (W.faults wire.new) }
 {
@@ -81,18 +78,15 @@ fn offer_own<W: Wire, H: House>(
     failed: &mut Streams,
     stream: u64,
 ) -> Result<(), OutOfMemory>
-    requires knows { OwnsStreams (H.state house.old) (W.state wire.old).seen held.old }
-    requires stream { IsOpenOwn (H.state house.old) (W.state wire.old).seen stream }
-    ensures serving { OwnOn result H.may H.state house.old house.new (W.state wire.old).seen
-        (W.state wire.new).seen held.old held.new failed.old failed.new }
+    requires { CanOfferOwn (H.state house.old) (W.state wire.old).seen held.old stream }
+    ensures house { OnlyTook result (H.state house.old) (H.state house.new) }
     ensures offered { OnOk result (IsOffered ((H.state house.new).queue stream) held.new failed.new
         stream) }
-    ensures house { OnlyTook result (H.state house.old) (H.state house.new) }
+    ensures serving { OwnOn result H.may H.state house.old house.new (W.state wire.old).seen
+        (W.state wire.new).seen held.old held.new failed.old failed.new }
     ensures places { SamePlaces (W.state wire.old).seen (W.state wire.new).seen }
-    ensures held_is { OnOk result (held.new ≡ (W.state wire.new).seen.blocked) }
-    ensures keeps { OnOk result (StayOffered (H.state house.old).queue (H.state house.new).queue
-        held.old held.new failed.old failed.new) }
-    ensures fails { OnOk result (FailsFurther (stream ∷ []) failed.old failed.new) }
+    ensures lists { OnOk result (KeepsOffers stream (H.state house.old) (H.state house.new)
+        (W.state wire.new).seen held.old held.new failed.old failed.new) }
     ensures wire { WorksOwn result (W.state wire.old) (W.state wire.new) (W.faults wire.old)
         (W.faults wire.new) }
 {

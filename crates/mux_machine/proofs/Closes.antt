@@ -9,34 +9,16 @@ use Rattle.mux_outside.specs.Streams.{among, without}
 use Rattle.mux_outside.specs.declared.house_mark.HouseMark.{HouseMark as Asked}
 use Rattle.mux_outside.specs.declared.mark.Mark.{Mark}
 use Rattle.mux_history.specs.declared.why.Why.{Why}
-use Rattle.mux_history.specs.Rows.{Row, rows_of, is_out, is_refusal, loses, losses, loss_by, Item, Gone, Fate, Goes, Refused, Drop, End}
+use Rattle.mux_history.specs.Rows.{Row, rows_of, is_out, losses, loss_by, Item, Gone, Fate, Goes, Refused, Drop, End}
 use Rattle.mux_history.specs.Promises.{is_empty}
 use Rattle.mux_clients.specs.Among.{is_present}
 use Rattle.mux_clients.specs.State.{ClientState}
-use Rattle.mux_clients.proofs.Stood.{out_is, or_true, own_row}
+use Rattle.mux_clients.proofs.Stood.{out_is, out_row, or_true, own_row, puts_out}
 use Rattle.mux_machine.specs.State.{State, closed_by, is_here, waiting_clients, waiting_in, without_client}
 use Rattle.mux_machine.specs.Stands.{BytesFit, Closes, EachReads, IsFirst, IsStrange, RowsFit, is_accepted, log, not_closed}
 use Rattle.mux_machine.proofs.Lists.{apart_less, each_less, gone_less, lost_less, present_less, test_other, true_false, waiting_less, among-gone, among-less, among-was}
 
 -- ---- who is out
-
--- whether a row puts its client out
-abbrev pub puts_out : Fate → Item → Bool
-puts_out (Drop cause) item = true
-puts_out Refused item = true
-puts_out Goes (Gone k) = true
-puts_out Goes item = false
-puts_out (End cause) item = false
-
-puts_at : (f : Fate) (item : Item) (row : Row) → row.fate ≡ f → row.item ≡ item → (loses row || is_refusal row.fate) ≡ puts_out f item
-puts_at (Drop cause) item row e i = rw e refl
-puts_at Refused item row e i = rw e refl
-puts_at (End cause) item row e i = rw e refl
-puts_at Goes (Gone k) row e i = rw (e, i) refl
-puts_at Goes item row e i = rw (e, i) refl
-
-pub out_row : (item : Item) (f : Fate) (row : Row) (own : List Row) → row.item ≡ item → row.fate ≡ f → is_out (row ∷ own) ≡ (puts_out f item || is_out own)
-out_row item f row own i e = ap (λ b. b || is_out own) (puts_at f item row e i)
 
 pub other_row : (k j : ℕ) (row : Row) (rows : List Row) → row.client ≡ k → k ≢ j → rows_of j (row ∷ rows) ≡ rows_of j rows
 other_row k j row rows e ne = let t : (row.client == j) ≡ false = ap (λ c. c == j) e ∙ test_other k j ne in rw t refl

@@ -29,6 +29,7 @@ mod Stepped
 mod Still
 mod Taken
 mod Takes
+mod TakingIn
 mod Unfailed
 mod Waits
 mod Written

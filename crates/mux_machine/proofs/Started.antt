@@ -5,26 +5,22 @@ use Rattle.mux_history.specs.Promises.{is_empty}
 use Rattle.mux_core.specs.Stands as core
 use Rattle.mux_clients.specs.Among.{AreApart, EachFits, is_present}
 use Rattle.mux_clients.specs.Server.{ServerState, new_server}
-use Rattle.mux_machine.specs.State.{State, is_here, served_in, waiting_clients, waiting_in}
+use Rattle.mux_machine.specs.State.{HasNobody, State, is_here, served_in, waiting_clients, waiting_in}
 use Rattle.mux_machine.specs.Stands.{BytesFit, EachReads, RowsFit, ServerReads, Stands}
 use Rattle.mux_machine.proofs.Lists.{true_false}
 
 pub record IsStarted (s : State) : Type 0 where
   pub core_stands : core.Stands s.core []
   pub server_is : s.server ≡ new_server
-  pub silent : s.up.waiting ≡ []
-  pub nobody : s.clients ≡ []
-  pub none_refused : s.refused ≡ []
-  pub none_leaving : s.leaving ≡ []
-  pub none_waiting : s.waiting ≡ []
+  pub nobody : HasNobody s
   pub listens_yet : s.listening ≡ true
   pub goes : s.ended ≡ None
 
 not-here : (s : State) (k : ℕ) → IsStarted s → is_here s k ≡ false
-not-here s k h = ap (λ cs. is_present cs k || among k s.refused) h.nobody ∙ ap (among k) h.none_refused
+not-here s k h = ap (λ cs. is_present cs k || among k s.refused) h.nobody.clients ∙ ap (among k) h.nobody.refused
 
 no-waiting : (s : State) → IsStarted s → waiting_in s ≡ []
-no-waiting s h = ap (λ q. cond (is_empty q) (waiting_clients s.clients) (0 ∷ waiting_clients s.clients)) h.silent ∙ ap waiting_clients h.nobody
+no-waiting s h = ap (λ q. cond (is_empty q) (waiting_clients s.clients) (0 ∷ waiting_clients s.clients)) h.nobody.silent ∙ ap waiting_clients h.nobody.clients
 
 rows-started : (s : State) → IsStarted s → RowsFit 0 [] s [] []
 rows-started s h = record {
@@ -32,16 +28,16 @@ rows-started s h = record {
   drawn_is = refl;
   asked_is = refl;
   fresh = tt;
-  fit = record { core = λ l. h.core_stands; each = subst (EachFits []) (sym h.nobody) tt; apart = subst AreApart (sym h.nobody) tt; up = h.silent };
+  fit = record { core = λ l. h.core_stands; each = subst (EachFits []) (sym h.nobody.clients) tt; apart = subst AreApart (sym h.nobody.clients) tt; up = h.nobody.silent };
   ended_is = h.goes;
   listening_is = h.listens_yet;
-  waiting_is = h.none_waiting ∙ sym (no-waiting s h);
-  leaving_are = h.none_leaving;
-  served_are = ap served_in h.nobody;
+  waiting_is = h.nobody.waiting ∙ sym (no-waiting s h);
+  leaving_are = h.nobody.leaving;
+  served_are = ap served_in h.nobody.clients;
   place_is = λ l. ap (λ (v : ServerState). v.index) h.server_is;
   absent = λ k nz p q. refl;
   closed_gone = λ k q. true_false (sym q);
-  refused_only = λ k q. true_false (sym q ∙ ap (among k) h.none_refused);
+  refused_only = λ k q. true_false (sym q ∙ ap (among k) h.nobody.refused);
   closed_out = λ k q. true_false (sym q);
   known = λ k a. true_false (sym a);
   unentered = refl;
@@ -51,7 +47,7 @@ rows-started s h = record {
 bytes-started : (s : State) → IsStarted s → BytesFit s [] [] []
 bytes-started s h = record {
   are_bytes = λ t. tt;
-  clients = λ l. subst (EachReads []) (sym h.nobody) tt;
+  clients = λ l. subst (EachReads []) (sym h.nobody.clients) tt;
   server = λ l. subst (ServerReads []) (sym h.server_is) record { mode_is = refl; rest_is = refl };
   there = λ l k a p. true_false (sym a);
   strange = λ k a. record { not_here = not-here s k h; not_closed_yet = refl; no_bytes = λ nz. refl };

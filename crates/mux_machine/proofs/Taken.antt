@@ -1,16 +1,19 @@
 -- The parts of an engine after bytes were taken or a stream was closed.
-use Rattle.std.proofs.Common.{◌≡◌, ℕ, Bool, true, false, not, List, [], Option, sym, ap, ◌∙◌, subst, cond}
+use Rattle.std.proofs.Common.{◌≡◌, ℕ, Bool, true, false, not, List, [], Option, length, sym, ap, ◌∙◌, subst, cond}
 use Rattle.std.specs.Prelude.{◌==◌, filter}
 use Rattle.proxy_frames.specs.Queued.{without_first}
 use Rattle.proxy_frames.specs.State.{QueueState}
 use Rattle.mux_outside.specs.Streams.{without}
+use Rattle.mux_outside.specs.declared.mark.Mark.TheVariants.{Takes}
 use Rattle.mux_history.specs.Promises.{is_empty}
 use Rattle.mux_history.specs.declared.why.Why.{Why}
 use Rattle.mux_clients.specs.State.{ClientState, ClientsState}
 use Rattle.mux_machine.specs.Ready.{IsSound}
+use Rattle.mux_machine.specs.Stands.{GoesAlone}
 use Rattle.mux_machine.specs.State.{State, at_client, client_took, closed_by, in_client, taken, without_client}
 use Rattle.mux_machine.specs.Steps.{waiting_for}
 use Rattle.mux_machine.proofs.Sound.{sound-taken}
+use Rattle.mux_machine.proofs.Takes.{goes-took}
 
 pub record TakeParts (parts : State) (t n : ℕ) (cs : ClientsState) (up : QueueState) (empty : Bool) (ws : List ℕ) : Type 0 where
   pub up_is : up ≡ cond (t == 0) (without_first n parts.up) parts.up
@@ -18,6 +21,17 @@ pub record TakeParts (parts : State) (t n : ℕ) (cs : ClientsState) (up : Queue
   pub leaving_is : cs.leaving ≡ parts.leaving
   pub empty_is : empty ≡ is_empty (waiting_for up cs.all t)
   pub waits : ws ≡ cond empty (without t parts.waiting) parts.waiting
+
+-- where nothing waits for the stream any more it is taken off the list of those that wait
+pub take-parts : (parts : State) (t n : ℕ) (cs : ClientsState) (up : QueueState) (empty left : Bool) (ws : List ℕ) → up ≡ cond (t == 0) (without_first n parts.up) parts.up → cs.all ≡ cond (t == 0) parts.clients (at_client t (client_took n) parts.clients) → cs.leaving ≡ parts.leaving → empty ≡ is_empty (waiting_for up cs.all t)
+    → empty ≡ left → ws ≡ cond left (without t parts.waiting) parts.waiting → TakeParts parts t n cs up empty ws
+take-parts parts t n cs up empty left ws up_is clients_are leaving_is empty_is is waits = record {
+  up_is = up_is;
+  clients_are = clients_are;
+  leaving_is = leaving_is;
+  empty_is = empty_is;
+  waits = waits ∙ sym (ap (λ b. cond b (without t parts.waiting) parts.waiting) is);
+}
 
 abbrev pub take_new : State → ClientsState → QueueState → List ℕ → State
 take_new parts cs up ws = record parts { up = up; clients = cs.all; leaving = cs.leaving; waiting = ws }
@@ -51,6 +65,9 @@ take-written parts t n cs up empty ws p =
 
 pub sound-take : (parts : State) (t n : ℕ) (cs : ClientsState) (up : QueueState) (empty : Bool) (ws : List ℕ) → IsSound parts → TakeParts parts t n cs up empty ws → IsSound (take_new parts cs up ws)
 sound-take parts t n cs up empty ws h p = subst IsSound (sym (take-written parts t n cs up empty ws p)) (sound-taken parts t n h)
+
+pub goes-take : (now parts : State) (t n : ℕ) (cs : ClientsState) (up : QueueState) (empty : Bool) (ws : List ℕ) → parts ≡ now → TakeParts parts t n cs up empty ws → (bytes : List ℕ) → length bytes ≡ n → GoesAlone now (take_new parts cs up ws) (Takes t bytes)
+goes-take now parts t n cs up empty ws view p bytes size = subst (λ (x : State). GoesAlone now x (Takes t bytes)) (sym (take-written parts t n cs up empty ws p ∙ ap (λ (x : State). taken x t n) view)) (goes-took now t n bytes size)
 
 -- ---- a stream that was closed
 

@@ -7,13 +7,15 @@ use Rattle.mux_history.specs.declared.why.Why.{Why}
 use Rattle.mux_outside.specs.declared.house.HouseReply.{HouseReply}
 use Rattle.mux_outside.specs.declared.mark.Mark.{Mark}
 use Rattle.mux_outside.specs.declared.mark.Mark.TheVariants.{Accepts, Gets, Ends, Fails, WriteFails, House}
+use Rattle.mux_outside.specs.declared.house_mark.HouseMark.{HouseMark as Asked}
 use Rattle.mux_outside.specs.declared.house_mark.HouseMark.TheVariants.{HouseAnswer}
 use Rattle.mux_machine.specs.declared.event.Event.{Event}
 use Rattle.mux_machine.specs.declared.event.Event.TheVariants.{Accepted, FromClient, ClientEnd, ClientFailed, HouseSays, FromServer, ServerEnd, ServerFailed}
 use Rattle.mux_machine.specs.declared.event.Went.{Went}
 use Rattle.mux_machine.specs.declared.event.Went.TheVariants.{On, Ended as Over}
+use Rattle.mux_machine.specs.Others.{ServerLeavesIdle}
 use Rattle.mux_machine.specs.State.{State, SameClient, numbers}
-use Rattle.mux_machine.specs.Stands.{IsAllowed, Stands}
+use Rattle.mux_machine.specs.Stands.{GoesOn, IsAllowed, Stands}
 
 -- a mark tells this event; a stream fails at a wait or at a write
 abbrev pub Tells : Event → Mark → Type 0
@@ -86,6 +88,14 @@ EndsBy event old new mark =
     (picked : List ℕ) (given : List HouseReply) (marks : List Mark) (closed : List ℕ)
     → Stands picked given old marks closed → IsAllowed old marks mark → old.ended ≡ None
     → MayEnd event new.ended
+
+-- an event was taken in: the engine goes on by each mark that tells it, the server's piece leaves the
+-- clients as they were for which it makes no row, and the run may end so
+pub record TakesIn (May : HouseReply → Type 0) (before now : Option (List Asked)) (event : Event)
+    (old new : State) : Type 0 where
+  pub stands : (mark : Mark) → Tells event mark → GoesOn May before now old new mark
+  pub others : ServerLeavesIdle event old new
+  pub ends : (mark : Mark) → Tells event mark → EndsBy event old new mark
 
 pub record Keeps (event : Event) (old new : State) : Type 0 where
   pub pid : new.pid ≡ old.pid

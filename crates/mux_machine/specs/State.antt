@@ -36,6 +36,14 @@ pub record State : Type 0 where
   pub ended : Option Ended
   pub starved : Bool
 
+-- nobody is here, and nothing waits
+pub record HasNobody (s : State) : Type 0 where
+  pub clients : s.clients ≡ []
+  pub refused : s.refused ≡ []
+  pub leaving : s.leaving ≡ []
+  pub waiting : s.waiting ≡ []
+  pub silent : s.up.waiting ≡ []
+
 -- ---- the clients
 
 -- the clients, the shared connection, and what waits for the server

@@ -5,12 +5,12 @@ ghost use Rattle.mux_history.specs.declared.limits.TheConstants.{MAX_CLIENTS as 
 ghost use Rattle.mux_clients.specs.Asked.{Heeds};
 ghost use Rattle.mux_clients.specs.Starved.{HearsSome, OneIs};
 ghost use Rattle.mux_machine.specs.Bounds.{QueuesShort};
-ghost use Rattle.mux_machine.specs.Events.{AnswersSo, EndsBy, Keeps, Tells, went_of};
+ghost use Rattle.mux_machine.specs.Events.{AnswersSo, Keeps, TakesIn, Tells, went_of};
 ghost use Rattle.mux_machine.specs.Moves.{AnsweredAt, HeardAt, LosesAt};
-ghost use Rattle.mux_machine.specs.Others.{LeavesIdle, ServerLeavesIdle};
+ghost use Rattle.mux_machine.specs.Others.{LeavesIdle};
 ghost use Rattle.mux_machine.specs.Ready.{IsReady};
-ghost use Rattle.mux_machine.specs.Stands.{CutsShort, GoesOn, Stands};
-ghost use Rattle.mux_machine.specs.State.{numbers, over};
+ghost use Rattle.mux_machine.specs.Stands.{CutsShort, Stands};
+ghost use Rattle.mux_machine.specs.State.{HasNobody, numbers, over};
 ghost use Rattle.mux_machine.specs.Steps.{EntersAt, GainsFrom, is_heard, is_served};
 
 mod views;
@@ -76,11 +76,7 @@ impl Engine {
         ensures policy { IfOk result (λ engine. engine.core.policy ≡ policy) }
         ensures pid { IfOk result (λ engine. engine.pid ≡ pid) }
         ensures goes { IfOk result (λ engine. engine.ended ≡ None) }
-        ensures clients { IfOk result (λ engine. engine.clients ≡ []) }
-        ensures refused { IfOk result (λ engine. engine.refused ≡ []) }
-        ensures leaving { IfOk result (λ engine. engine.leaving ≡ []) }
-        ensures waiting { IfOk result (λ engine. engine.waiting ≡ []) }
-        ensures silent { IfOk result (λ engine. engine.up.waiting ≡ []) }
+        ensures nobody { IfOk result HasNobody }
         ensures listening { IfOk result (λ engine. engine.listening ≡ true) }
         ensures room { IfOk result (λ engine. TheMost * TheRoom ≤ engine.up.spare) }
         ensures stands { IfOk result (λ engine. Stands [] [] engine [] []) }
@@ -113,15 +109,12 @@ impl Engine {
         asks: &mut AskLog,
     ) -> Result<Went, OutOfMemory>
         requires ordering { (H.state house.old).known.ordering ≡ None }
-        ensures stands { OnOk result ((mark : TheMark) → Tells e.entry mark
-            → GoesOn H.may (Some asks.old) (Some asks.new) self.old self.new mark) }
+        ensures takes { OnOk result (TakesIn H.may (Some asks.old) (Some asks.new) e.entry self.old
+            self.new) }
         ensures heeds { Heeds result asks.old asks.new (H.state house.old) (H.state house.new) }
         ensures cut { OnErr result ((mark : TheMark) → Tells e.entry mark
             → CutsShort H.may (H.state house.old).told (H.state house.new).told self.old mark) }
         ensures keeps { OnOk result (Keeps e.entry self.old self.new) }
-        ensures others { OnOk result (ServerLeavesIdle e.entry self.old self.new) }
-        ensures ends { OnOk result ((mark : TheMark) → Tells e.entry mark
-            → EndsBy e.entry self.old self.new mark) }
         ensures bounded { OnOk result (QueuesShort self.new) }
         ensures answers { AnswersSo result self.old self.new }
     {
@@ -151,15 +144,12 @@ impl Engine {
         requires goes { self.old.ended ≡ None }
         requires starved { self.old.starved ≡ true }
         requires ready { IsReady self.old }
-        ensures stands { OnOk result ((mark : TheMark) → Tells e.entry mark
-            → GoesOn H.may (Some asks.old) (Some asks.new) self.old self.new mark) }
+        ensures takes { OnOk result (TakesIn H.may (Some asks.old) (Some asks.new) e.entry self.old
+            self.new) }
         ensures heeds { Heeds result asks.old asks.new (H.state house.old) (H.state house.new) }
         ensures cut { OnErr result ((mark : TheMark) → Tells e.entry mark
             → CutsShort H.may (H.state house.old).told (H.state house.new).told self.old mark) }
         ensures keeps { OnOk result (Keeps e.entry self.old self.new) }
-        ensures others { OnOk result (ServerLeavesIdle e.entry self.old self.new) }
-        ensures ends { OnOk result ((mark : TheMark) → Tells e.entry mark
-            → EndsBy e.entry self.old self.new mark) }
         ensures ready { OnOk result (self.new.ended ≡ None → IsReady self.new) }
         ensures starved { self.new.starved ≡ true }
     {

@@ -11,7 +11,7 @@ returns-in_err-note-clause-heeded g c =
     let o = c.in_ok-went.ensures in
     let W = g.W.Wire in
     heeded-some c.from_residual-in_err-note.result c.args.e c.args.engine.now c.event.new.self c.event.new.asks _ _ _ _ (W.state c.args.wire.now).seen (W.state c.note.new.self).seen c.loop-mark.mark-index c.from_residual-in_err-note.ensures.0
-    (heeds-so c.args.e c.args.engine.now c.event.new.self c.clear.new.self c.event.new.asks _ _ (W.state c.args.wire.now).seen (W.state c.note.new.self).seen c.loop-mark.mark-index c.clear.ensures o.stands o.heeds o.keeps o.ends
+    (heeds-so c.args.e c.args.engine.now c.event.new.self c.clear.new.self c.event.new.asks _ _ (W.state c.args.wire.now).seen (W.state c.note.new.self).seen c.loop-mark.mark-index c.clear.ensures o.takes.stands o.heeds o.keeps o.takes.ends
     (ap (λ (x : WireState). x.seen) c.in_err-note.ensures.state ∙ (c.loop-mark.invariant.seen ∙ ap (λ l. seen-with (take c.loop-mark.mark-index l) (W.state c.args.wire.now).seen) c.as_slice-mark-items.ensures)))
 
 pub loop-mark-preserved : goal.loop-mark-preserved

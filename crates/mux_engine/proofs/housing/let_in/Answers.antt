@@ -26,8 +26,8 @@ pub returns-clause-serving : goal.returns-clause-serving
 returns-clause-serving g c present first before now policy pid start held failed given v none there =
     let m = c.in_ok-event.ensures in (
       subst (λ (x : Seen). Serving g.H.Asks.may (RestsOf g.H.Asks.state present first) before (record now { let_in = true }) policy pid start x held failed given (0 ∷ here c.event.new.self) c.event.new.self) (sym (ap (λ (x : WireState). x.seen) c.in_ok-note.ensures.state))
-          (let-in v c.event.new.self none there c.requires.on c.requires.refused (m.stands (Accepts HOUSE) refl) m.keeps),
-      let-in-live v c.event.new.self none c.requires.on (m.ends (Accepts HOUSE) refl),
+          (let-in v c.event.new.self none there c.requires.on c.requires.refused (m.takes.stands (Accepts HOUSE) refl) m.keeps),
+      let-in-live v c.event.new.self none c.requires.on (m.takes.ends (Accepts HOUSE) refl),
     )
 
 -- ---- the wire

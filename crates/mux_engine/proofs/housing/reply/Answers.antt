@@ -32,10 +32,10 @@ returns-clause-serving g c held failed first calls before policy pid start given
     let more : List HouseCall = calls_of (HouseAnswer c.in-Some.client c.in-Some.id c.in-Some.given ∷ []) in
     handed-more _ more hands c.in-Some.ensures.gave.stands
     (subst (λ (x : Seen). Serving H.may (RestsOf H.state (H.state c.args.house.now).known.present first) before (noted (H.state c.answer.new.self).told (H.state c.answer.new.self).known (calls ++ more)) policy pid start x held failed (given + 0) (0 ∷ here c.event.new.self) c.event.new.self) (sym (ap (λ (x : WireState). x.seen) c.in_ok-note.ensures.state))
-    (no-turns (answered (H.state c.args.house.now).known (H.state c.answer.new.self).known v c.event.new.self c.in-Some.client c.in-Some.id c.in-Some.given c.requires.present c.requires.on c.in-Some.ensures.fits c.in-Some.ensures.gave.told c.in-Some.ensures.gave.known c.in_ok-event.ensures.stands c.in_ok-event.ensures.keeps)))
+    (no-turns (answered (H.state c.args.house.now).known (H.state c.answer.new.self).known v c.event.new.self c.in-Some.client c.in-Some.id c.in-Some.given c.requires.present c.requires.on c.in-Some.ensures.fits c.in-Some.ensures.gave.told c.in-Some.ensures.gave.known c.in_ok-event.ensures.takes.stands c.in_ok-event.ensures.keeps)))
 
 pub returns-clause-on : goal.returns-clause-on
-returns-clause-on g c held failed todo w = answered-live (g.H.Asks.state c.args.house.now).known w.serving c.event.new.self c.in-Some.client c.in-Some.id c.in-Some.given c.requires.on c.in-Some.ensures.fits c.in_ok-event.ensures.ends
+returns-clause-on g c held failed todo w = answered-live (g.H.Asks.state c.args.house.now).known w.serving c.event.new.self c.in-Some.client c.in-Some.id c.in-Some.given c.requires.on c.in-Some.ensures.fits c.in_ok-event.ensures.takes.ends
 
 pub returns-clause-answered : goal.returns-clause-answered
 returns-clause-answered g c = subst (λ (k : Known). length k.asks < length (g.H.Asks.state c.args.house.now).known.asks) (sym c.in-Some.ensures.gave.known) (reply-fewer c.in-Some.given c.in-Some.client c.in-Some.id (g.H.Asks.state c.args.house.now).known.asks c.in-Some.ensures.fits)

@@ -30,9 +30,9 @@ loop-preserved g c = let v = c.loop.invariant in let o = c.in_ok-own_once.ensure
       o.serving present first before (record now { calls = h.all }) policy pid start given todo s none h.hands h.so;
   house = took-then v.house (took o.house);
   places = places-then _ _ _ v.places c.own_once.ensures.places;
-  held_is = o.held_is;
-  keeps = λ same t q. o.keeps (omega (arith, v.fails.grows, o.fails.grows, same)) t (v.keeps (omega (arith, v.fails.grows, o.fails.grows, same)) t q);
-  fails = fails-then v.fails o.fails;
+  held_is = o.lists.held_is;
+  keeps = λ same t q. o.lists.keeps (omega (arith, v.fails.grows, o.lists.fails.grows, same)) t (v.keeps (omega (arith, v.fails.grows, o.lists.fails.grows, same)) t q);
+  fails = fails-then v.fails o.lists.fails;
   wire = works-own-then v.wire (worked-own o.wire);
 }
 
@@ -71,12 +71,12 @@ returns-clause-house g c = took-any _ (took-then c.loop.invariant.house (took c.
 pub returns-clause-places : goal.returns-clause-places
 returns-clause-places g c = places-then _ _ _ c.loop.invariant.places c.own_once.ensures.places
 
-pub returns-clause-keeps : goal.returns-clause-keeps
-returns-clause-keeps g c = let v = c.loop.invariant in let o = c.in_ok-own_once.ensures in
-    λ same t q. o.keeps (omega (arith, v.fails.grows, o.fails.grows, same)) t (v.keeps (omega (arith, v.fails.grows, o.fails.grows, same)) t q)
-
-pub returns-clause-fails : goal.returns-clause-fails
-returns-clause-fails g c = fails-then c.loop.invariant.fails c.in_ok-own_once.ensures.fails
+pub returns-clause-lists : goal.returns-clause-lists
+returns-clause-lists g c = let v = c.loop.invariant in let o = c.in_ok-own_once.ensures.lists in record {
+  held_is = o.held_is;
+  keeps = λ same t q. o.keeps (omega (arith, v.fails.grows, o.fails.grows, same)) t (v.keeps (omega (arith, v.fails.grows, o.fails.grows, same)) t q);
+  fails = fails-then v.fails o.fails;
+}
 
 pub returns-clause-wire : goal.returns-clause-wire
 returns-clause-wire g c = works-own-any _ (works-own-then c.loop.invariant.wire (worked-own c.in_ok-own_once.ensures.wire))

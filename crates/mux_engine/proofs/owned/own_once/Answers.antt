@@ -1,5 +1,6 @@
-use Rattle.std.proofs.Common.{◌≡◌, ◌<◌, ◌∙◌, ℕ, Bool, true, false, List, [], ◌∷◌, length, ap, refl, sym, arith}
+use Rattle.std.proofs.Common.{◌≡◌, ◌<◌, ◌∙◌, ℕ, Bool, true, false, List, [], ◌∷◌, length, ap, refl, sym, arith, rules}
 use Rattle.std.specs.Prelude.{IsTrue}
+use Rattle.std.proofs.lemmas.Grind.{common_steps}
 use Rattle.mux_outside.specs.OwnStreams.{is_finished}
 use Rattle.mux_outside.specs.declared.own_streams.OwnStream.{OwnStream}
 use Rattle.mux_outside.specs.HouseCalls.{Failed, Turns}
@@ -51,22 +52,42 @@ returns-in_err-turn-in-Failed-clause-serving g c present first before now policy
 pub returns-in-NoMemory-clause-serving : goal.returns-in-NoMemory-clause-serving
 returns-in-NoMemory-clause-serving g c present first before now policy pid start given todo s none hands v = cut-starved v _ c.args.stream c.queue_of-bytes.result.now (seen-is c.in-NoMemory.ensures.state)
 
--- ---- which failed
+-- ---- the lists
 
-pub returns-then-contains-clause-fails : goal.returns-then-contains-clause-fails
-returns-then-contains-clause-fails g c = fails-none _ _
+pub returns-then-contains-clause-lists : goal.returns-then-contains-clause-lists
+returns-then-contains-clause-lists g c = record {
+  held_is = first_of (search rules, grind (arith, common_steps));
+  keeps = first_of (search rules, grind (arith, common_steps));
+  fails = fails-none _ _;
+}
 
-pub returns-then-is_empty-clause-fails : goal.returns-then-is_empty-clause-fails
-returns-then-is_empty-clause-fails g c = fails-none _ _
+pub returns-then-is_empty-clause-lists : goal.returns-then-is_empty-clause-lists
+returns-then-is_empty-clause-lists g c = record {
+  held_is = first_of (search rules, grind (arith, common_steps));
+  keeps = first_of (search rules, grind (arith, common_steps));
+  fails = fails-none _ _;
+}
 
-pub returns-in-Took-clause-fails : goal.returns-in-Took-clause-fails
-returns-in-Took-clause-fails g c = fails-none _ _
+pub returns-in-Took-clause-lists : goal.returns-in-Took-clause-lists
+returns-in-Took-clause-lists g c = record {
+  held_is = first_of (search rules, grind (arith, common_steps));
+  keeps = first_of (search rules, grind (arith, common_steps));
+  fails = fails-none _ _;
+}
 
-pub returns-in_ok-push-in-Later-clause-fails : goal.returns-in_ok-push-in-Later-clause-fails
-returns-in_ok-push-in-Later-clause-fails g c = fails-none _ _
+pub returns-in_ok-push-in-Later-clause-lists : goal.returns-in_ok-push-in-Later-clause-lists
+returns-in_ok-push-in-Later-clause-lists g c = record {
+  held_is = first_of (search rules, grind (arith, common_steps));
+  keeps = first_of (search rules, grind (arith, common_steps));
+  fails = fails-none _ _;
+}
 
-pub returns-in_ok-turn-in-Failed-clause-fails : goal.returns-in_ok-turn-in-Failed-clause-fails
-returns-in_ok-turn-in-Failed-clause-fails g c = fails-one c.args.stream c.args.failed.now _ c.in_ok-push-in-Failed.ensures.ok (sym c.if-contains-2.ensures)
+pub returns-in_ok-turn-in-Failed-clause-lists : goal.returns-in_ok-turn-in-Failed-clause-lists
+returns-in_ok-turn-in-Failed-clause-lists g c = record {
+  held_is = first_of (search rules, grind (arith, common_steps));
+  keeps = first_of (search rules, grind (arith, common_steps));
+  fails = fails-one c.args.stream c.args.failed.now _ c.in_ok-push-in-Failed.ensures.ok (sym c.if-contains-2.ensures);
+}
 
 -- ---- the wire
 

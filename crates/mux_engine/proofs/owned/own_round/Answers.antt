@@ -35,16 +35,16 @@ loop-stream-preserved g c = let v = c.loop-stream.invariant in let o = c.in_ok-o
           o.serving present first before (record now { calls = h.all }) policy pid start given todo s none h.hands h.so;
       house = took-then v.house (took o.house);
       places = places-then _ _ _ v.places c.offer_own.ensures.places;
-      held_is = o.held_is;
+      held_is = o.lists.held_is;
       within = λ t h. v.within t (was-among c.in-Some.stream t c.loop-stream.todo (ap (among t) (sym c.remove.ensures) ∙ h));
-      offered = λ same t h. elim (v.offered (omega (arith, v.fails.grows, o.fails.grows, same)) t h) [
+      offered = λ same t h. elim (v.offered (omega (arith, v.fails.grows, o.lists.fails.grows, same)) t h) [
         | inl a ↦ elim (rest-or c.in-Some.stream t c.loop-stream.todo a) [
           | inl r ↦ inl (ap (among t) c.remove.ensures ∙ r)
           | inr is ↦ inr (subst (λ (j : ℕ). IsOffered ((g.H.Asks.state c.offer_own.new.house).queue j) c.offer_own.new.held c.offer_own.new.failed j) is o.offered)
         ]
-        | inr q ↦ inr (o.keeps (omega (arith, v.fails.grows, o.fails.grows, same)) t q)
+        | inr q ↦ inr (o.lists.keeps (omega (arith, v.fails.grows, o.lists.fails.grows, same)) t q)
       ];
-      fails = fails-then v.fails (fails-within (v.within c.in-Some.stream listed) o.fails);
+      fails = fails-then v.fails (fails-within (v.within c.in-Some.stream listed) o.lists.fails);
       wire = works-own-then v.wire (worked-own o.wire);
     }
 

@@ -36,7 +36,7 @@ returns-in_default g c =
 pub run-requires-clause-running : goal.run-requires-clause-running
 run-requires-clause-running g c = let H = g.H.Asks in let r = c.requires in let o = r.opened in let e = c.in-Ok.ensures in
     let start = starts H.may (RestsOf H.state (H.state c.args.house.now).known.present c.args.house.now) (outside (H.state c.args.house.now).told (H.state c.args.house.now).known []) c.args.policy c.args.pid (g.W.Wire.state c.args.wire.now).seen c.in-Ok.engine
-    e.stands e.policy e.pid e.clients e.refused (ap (λ (k : Known). k.asks) r.blank) refl refl refl o.server_alone o.none_blocked o.listens o.own o.listeners in (
+    e.stands e.policy e.pid e.nobody.clients e.nobody.refused (ap (λ (k : Known). k.asks) r.blank) refl refl refl o.server_alone o.none_blocked o.listens o.own o.listeners in (
       record {
         first = c.args.house.now;
         calls = [];
@@ -60,13 +60,13 @@ run-requires-clause-alone g c = alone-blank _ c.requires.blank
 pub returns-in-Ok-run-clause-kept : goal.returns-in-Ok-run-clause-kept
 returns-in-Ok-run-clause-kept g c = let H = g.H.Asks in let r = c.requires in let o = r.opened in let e = c.in-Ok.ensures in
     let start = starts H.may (RestsOf H.state (H.state c.args.house.now).known.present c.args.house.now) (outside (H.state c.args.house.now).told (H.state c.args.house.now).known []) c.args.policy c.args.pid (g.W.Wire.state c.args.wire.now).seen c.in-Ok.engine
-    e.stands e.policy e.pid e.clients e.refused (ap (λ (k : Known). k.asks) r.blank) refl refl refl o.server_alone o.none_blocked o.listens o.own o.listeners in
+    e.stands e.policy e.pid e.nobody.clients e.nobody.refused (ap (λ (k : Known). k.asks) r.blank) refl refl refl o.server_alone o.none_blocked o.listens o.own o.listeners in
     c.in-Ok-run.ensures.ran (H.state c.args.house.now).told c.args.policy c.args.pid (g.W.Wire.state c.args.wire.now).seen.told start.0 start.1
 
 pub returns-clause-kept : goal.returns-clause-kept
 returns-clause-kept g c = let H = g.H.Asks in let r = c.requires in let o = r.opened in let e = c.in-Ok.ensures in
     let start = starts H.may (RestsOf H.state (H.state c.args.house.now).known.present c.args.house.now) (outside (H.state c.args.house.now).told (H.state c.args.house.now).known []) c.args.policy c.args.pid (g.W.Wire.state c.args.wire.now).seen c.in-Ok.engine
-    e.stands e.policy e.pid e.clients e.refused (ap (λ (k : Known). k.asks) r.blank) refl refl refl o.server_alone o.none_blocked o.listens o.own o.listeners in
+    e.stands e.policy e.pid e.nobody.clients e.nobody.refused (ap (λ (k : Known). k.asks) r.blank) refl refl refl o.server_alone o.none_blocked o.listens o.own o.listeners in
     c.in-Err.ensures.ran (H.state c.args.house.now).told c.args.policy c.args.pid (g.W.Wire.state c.args.wire.now).seen.told start.0 start.1
 
 pub returns-in-Ok-run-clause-came : goal.returns-in-Ok-run-clause-came

@@ -84,7 +84,7 @@ lost : (g : given_to.Over) (c : goal.In_ok-event-in-Failed g) → Failing c.args
 lost g c =
     let w = c.requires.served.serving in
     failing c.event_of_fault.result c.args.stream c.args.engine.now c.event.new.self c.event_of_fault.ensures.write c.in_ok-event-in-Failed.ensures.keeps
-    (c.in_ok-event-in-Failed.ensures.ends (WriteFails c.args.stream) c.event_of_fault.ensures.write w.picked w.replies w.journal w.closed w.stands ((at-stream w.stands c.args.stream c.requires.stream.opened).accepted, not-own-stream c.args.stream (open-own w c.args.stream c.requires.stream.opened c.requires.stream.no_house)))
+    (c.in_ok-event-in-Failed.ensures.takes.ends (WriteFails c.args.stream) c.event_of_fault.ensures.write w.picked w.replies w.journal w.closed w.stands ((at-stream w.stands c.args.stream c.requires.stream.opened).accepted, not-own-stream c.args.stream (open-own w c.args.stream c.requires.stream.opened c.requires.stream.no_house)))
 
 pub returns-in_ok-event-in-Failed-clause-serving : goal.returns-in_ok-event-in-Failed-clause-serving
 returns-in_ok-event-in-Failed-clause-serving g c todo zero present first before now policy pid start failed given v =
@@ -93,7 +93,7 @@ returns-in_ok-event-in-Failed-clause-serving g c todo zero present first before 
     let bytes : List ℕ = c.queue_of-bytes.result.now in
     let at : AtStream s v.journal v.closed k = at-stream v.stands k c.requires.stream.opened in
     let f : Failing k s c.event.new.self = lost g c in
-    let said = c.in_ok-event-in-Failed.ensures.stands (WriteFails k) c.event_of_fault.ensures.write v.picked v.replies v.journal v.closed v.stands (at.accepted, not-own-stream k (open-own v k c.requires.stream.opened c.requires.stream.no_house)) in
+    let said = c.in_ok-event-in-Failed.ensures.takes.stands (WriteFails k) c.event_of_fault.ensures.write v.picked v.replies v.journal v.closed v.stands (at.accepted, not-own-stream k (open-own v k c.requires.stream.opened c.requires.stream.no_house)) in
     let none = none-asked said.asks (goes-asked (λ j. ⊥) said f.policy f.pid tt) in
     let on = goes-unasked {May = g.H.Asks.may} v.stands said none in
     subst (λ (x : Seen). Serving g.H.Asks.may (RestsOf g.H.Asks.state present first) before now policy pid start x c.args.held.now failed given (without k todo) c.event.new.self) (sym (seen-is c.in-Failed.ensures.state))

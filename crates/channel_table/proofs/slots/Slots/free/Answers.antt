@@ -1,13 +1,11 @@
-use Rattle.std.proofs.Common.{ap, ◌∙◌, arith}
+use Rattle.std.proofs.Common.{ap, ◌∙◌}
 use Rattle.channel_table.specs.Entries.{freed}
 use Rattle.channel_table.specs.Slots.{SlotsState}
-use Rattle.channel_table.proofs.SlotSteps.{held-state, free-slots, free-entries}
+use Rattle.channel_table.proofs.SlotSteps.{held-below, held-state, free-slots, free-entries}
 use Rattle.channel_table.proofs.slots.Slots.free.Goals as goal
 
 pub index_mut-requires : goal.index_mut-requires
-index_mut-requires c =
-    let h = held-state _ c.self.inside.slots.items c.args.number (ap (λ (s : SlotsState). s.entries) c.self.view_is) c.requires in
-    omega (arith, h.within, c.self.inside.slots.ok.0)
+index_mut-requires c = held-below _ c.self.inside.slots.items c.args.number _ (ap (λ (s : SlotsState). s.entries) c.self.view_is) c.requires c.self.inside.slots.ok.0
 
 pub invariant_of-self : goal.invariant_of-self
 invariant_of-self c =

@@ -1,10 +1,10 @@
-use Rattle.std.proofs.Common.{◌≡◌, Ok, Some, sym, ap, ◌∙◌, ◌++◌, subst, Bool, true}
+use Rattle.std.proofs.Common.{◌≡◌, Ok, Some, sym, ap, ◌∙◌, ◌++◌, subst, Bool, true, arith}
 use Rattle.ssh_grammar.specs.Said.{first_in}
 use Rattle.mux_clients.specs.Stands.{is_read, mode_of}
 use Rattle.mux_clients.specs.State.{ClientState}
 use Rattle.mux_clients.specs.Nexts.{SaysNext}
 use Rattle.mux_clients.proofs.Heeding.{heeds_any, heeds_err, heeds_none, heeds_then, ordering_kept}
-use Rattle.mux_clients.proofs.Looped.{hearing_goes, hears_rest, loop_pushed, nothing, room-on}
+use Rattle.mux_clients.proofs.Looped.{hearing_goes, hears_rest, loop_pushed, nothing, room-on, room-read}
 use Rattle.mux_clients.proofs.Starved.{hears-none, hears-some, on-err}
 use Rattle.mux_clients.proofs.client.Client.read.Goals as goal
 
@@ -38,8 +38,12 @@ returns-in_err-say_next-clause-heeds g c = heeds_err c.from_residual-in_err-say_
 pub returns-in_err-push-clause-heeds : goal.returns-in_err-push-clause-heeds
 returns-in_err-push-clause-heeds g c = heeds_none c.from_residual.result c.args.asks.now (g.H.Asks.state c.args.house.now)
 
-pub say_next-requires-clause-ordering : goal.say_next-requires-clause-ordering
-say_next-requires-clause-ordering g c = ordering_kept c.loop-self.invariant.heeds ∙ c.requires.ordering
+pub say_next-requires : goal.say_next-requires
+say_next-requires g c = let read : is_read c.loop-self.self.seat.standing ≡ true = ap (λ (x : ClientState). is_read x.seat.standing) (sym c.self-in-loop-self.view_is) ∙ (sym c.is_read.ensures ∙ c.loop-self-test.true) in record {
+  read = read;
+  room = omega (arith, room-read c.args.up.now c.loop-self.up c.loop-self.self.seat.standing read c.loop-self.invariant.loop.room, c.requires.room);
+  ordering = ordering_kept c.loop-self.invariant.heeds ∙ c.requires.ordering;
+}
 
 pub returns-then-not-branch-clause-heeds : goal.returns-then-not-branch-clause-heeds
 returns-then-not-branch-clause-heeds g c = heeds_any _ (heeds_then c.loop-self.invariant.heeds c.in_ok-say_next.ensures.heeds)

@@ -1,11 +1,10 @@
-use Rattle.std.proofs.Common.{◌≤◌, ◌∷◌, [], sym, ap, ◌∙◌, append-nil, length, subst}
+use Rattle.std.proofs.Common.{◌∷◌, sym, subst}
 use Rattle.ssh_grammar.specs.Frames.{frame_payload}
 use Rattle.mux_clients.specs.State.{ClientsState, refusals_of}
-use Rattle.mux_clients.specs.Among.{HearsNoting, client_index, is_present}
-use Rattle.mux_clients.specs.Losing.{loss_between}
+use Rattle.mux_clients.specs.Among.{HearsNoting}
 use Rattle.mux_clients.specs.Room.{HasRoom}
-use Rattle.mux_clients.proofs.Found.{Found, found, found-changes, found-here, found-keeps, found-present, found-reading, found-room, keeps-same, none-found, none-here}
-use Rattle.mux_clients.proofs.Keeping.{among-loss, keep-same}
+use Rattle.mux_clients.proofs.Found.{Found, found, found-goes, found-keeps, found-rest, found-room, none-goes, none-noted, none-present, none-rest}
+use Rattle.mux_clients.proofs.Heeding.{on-none}
 use Rattle.mux_clients.proofs.Noted.{loss-same}
 use Rattle.mux_clients.proofs.clients.Clients.hears.Goals as goal
 
@@ -13,39 +12,16 @@ pub returns-in_ok-note_loss-clause-hears : goal.returns-in_ok-note_loss-clause-h
 returns-in_ok-note_loss-clause-hears c =
     let f : Found c.args.number c.index_of-i.result c.index_mut-client.result.now c.self.inside.all.items =
     found c.args.number c.index_of-i.result c.len.result c.self.inside.all.len c.index_mut-client.result.now c.deref.result.now c.self.inside.all.items c.index_of-i.ensures c.deref.ensures.value c.if-i-len.true c.len.ensures c.self.inside.all.ok.0 c.index_mut-client.ensures.value in
-    rw (← c.self.view_is) (record {
-      noted = loss_between c.standing-before.result c.standing.result c.args.number;
-      leaves = c.in_ok-note_loss.ensures.notes;
-      changes = λ here. found-changes c.args.number c.index_of-i.result
-          (HearsNoting c.args.number (frame_payload c.args.payload.now ∷ refusals_of c.args.refusals) (loss_between c.standing-before.result c.standing.result c.args.number) c.args.core.now c.hears.new.core c.args.up.now c.hears.new.up)
-          c.index_mut-client.result.now c.hears.new.self c.self.inside.all.items f (record {
-            hears = c.in_ok-hears.ensures.stands;
-            noted_is = loss-same c.standing-before.result c.standing.result _ _ c.args.number c.standing-before.ensures c.standing.ensures;
-          });
-      among = among-loss c.self.inside.all.items c.standing-before.result c.standing.result c.args.number (found-present c.args.number c.index_of-i.result c.index_mut-client.result.now c.self.inside.all.items f);
-      reading = found-reading c.args.number c.index_of-i.result c.index_mut-client.result.now c.hears.new.self c.self.inside.all.items f c.in_ok-hears.ensures.stands.number c.hears.ensures.reads;
-    })
+    rw (← c.self.view_is) (found-goes c.args.number c.index_of-i.result
+        (λ noted. HearsNoting c.args.number (frame_payload c.args.payload.now ∷ refusals_of c.args.refusals) noted c.args.core.now c.hears.new.core c.args.up.now c.hears.new.up)
+        c.standing-before.result c.standing.result c.index_mut-client.result.now c.hears.new.self c.self.inside.all.items _ _ _ _ _ _ f c.in_ok-note_loss.ensures.notes (record {
+          hears = c.in_ok-hears.ensures.stands;
+          noted_is = loss-same c.standing-before.result c.standing.result _ _ c.args.number c.standing-before.ensures c.standing.ensures;
+        }) c.in_ok-hears.ensures.stands.number c.hears.ensures.reads)
 
 pub returns-else-i-len-clause-hears : goal.returns-else-i-len-clause-hears
-returns-else-i-len-clause-hears c =
-    let away : length c.self.inside.all.items ≤ client_index c.args.number c.self.inside.all.items =
-    none-found c.args.number c.index_of-i.result c.len.result c.self.inside.all.len c.deref.result.now c.self.inside.all.items c.index_of-i.ensures c.deref.ensures.value c.if-i-len.false c.len.ensures c.self.inside.all.ok.0 in
-    record {
-      noted = [];
-      leaves = sym (append-nil c.args.self.now.leaving);
-      changes = λ here. none-here c.args.number c.self.inside.all.items away (ap (λ (s : ClientsState). is_present s.all c.args.number) c.self.view_is ∙ here);
-      among = tt;
-      reading = keep-same c.args.self.now.all;
-    }
-
-pub returns-else-i-len-clause-keeps : goal.returns-else-i-len-clause-keeps
-returns-else-i-len-clause-keeps c = keeps-same c.args.self.now.all c.args.up.now
-
-pub returns-in_ok-note_loss-clause-keeps : goal.returns-in_ok-note_loss-clause-keeps
-returns-in_ok-note_loss-clause-keeps c =
-    let f : Found c.args.number c.index_of-i.result c.index_mut-client.result.now c.self.inside.all.items =
-    found c.args.number c.index_of-i.result c.len.result c.self.inside.all.len c.index_mut-client.result.now c.deref.result.now c.self.inside.all.items c.index_of-i.ensures c.deref.ensures.value c.if-i-len.true c.len.ensures c.self.inside.all.ok.0 c.index_mut-client.ensures.value in
-    rw (← c.self.view_is) (found-keeps c.args.number c.index_of-i.result c.index_mut-client.result.now c.hears.new.self c.self.inside.all.items c.args.up.now c.hears.new.up f c.in_ok-hears.ensures.stands.number c.in_ok-hears.ensures.room)
+returns-else-i-len-clause-hears c = none-goes _ _ _ _ _
+    (none-present c.args.number c.index_of-i.result c.len.result c.self.inside.all.len c.deref.result.now c.self.inside.all.items c.self.inside.leaving.items c.args.self.now c.self.view_is c.index_of-i.ensures c.deref.ensures.value c.if-i-len.false c.len.ensures c.self.inside.all.ok.0)
 
 pub hears-requires-clause-room : goal.hears-requires-clause-room
 hears-requires-clause-room c =
@@ -53,20 +29,28 @@ hears-requires-clause-room c =
     found c.args.number c.index_of-i.result c.len.result c.self.inside.all.len c.index_mut-client.result.now c.deref.result.now c.self.inside.all.items c.index_of-i.ensures c.deref.ensures.value c.if-i-len.true c.len.ensures c.self.inside.all.ok.0 c.index_mut-client.ensures.value in
     λ here. found-room c.args.number c.index_of-i.result c.index_mut-client.result.now c.self.inside.all.items c.args.up.now f (subst (λ (s : ClientsState). HasRoom s.all c.args.up.now) (sym c.self.view_is) c.requires.room) here
 
-pub returns-in_ok-note_loss-clause-absent : goal.returns-in_ok-note_loss-clause-absent
-returns-in_ok-note_loss-clause-absent c =
-    let f : Found c.args.number c.index_of-i.result c.index_mut-client.result.now c.self.inside.all.items =
-    found c.args.number c.index_of-i.result c.len.result c.self.inside.all.len c.index_mut-client.result.now c.deref.result.now c.self.inside.all.items c.index_of-i.ensures c.deref.ensures.value c.if-i-len.true c.len.ensures c.self.inside.all.ok.0 c.index_mut-client.ensures.value in
-    λ gone. found-here c.args.number c.index_of-i.result c.index_mut-client.result.now c.self.inside.all.items f (ap (λ (s : ClientsState). is_present s.all c.args.number) c.self.view_is ∙ gone)
+-- ---- what stays
 
-pub returns-in_err-note_loss-clause-absent : goal.returns-in_err-note_loss-clause-absent
-returns-in_err-note_loss-clause-absent c =
-    let f : Found c.args.number c.index_of-i.result c.index_mut-client.result.now c.self.inside.all.items =
-    found c.args.number c.index_of-i.result c.len.result c.self.inside.all.len c.index_mut-client.result.now c.deref.result.now c.self.inside.all.items c.index_of-i.ensures c.deref.ensures.value c.if-i-len.true c.len.ensures c.self.inside.all.ok.0 c.index_mut-client.ensures.value in
-    λ gone. found-here c.args.number c.index_of-i.result c.index_mut-client.result.now c.self.inside.all.items f (ap (λ (s : ClientsState). is_present s.all c.args.number) c.self.view_is ∙ gone)
+pub returns-else-i-len-clause-rest : goal.returns-else-i-len-clause-rest
+returns-else-i-len-clause-rest c = none-rest _ _ _ _ _
 
-pub returns-in_err-hears-clause-absent : goal.returns-in_err-hears-clause-absent
-returns-in_err-hears-clause-absent c =
+pub returns-in_ok-note_loss-clause-rest : goal.returns-in_ok-note_loss-clause-rest
+returns-in_ok-note_loss-clause-rest c =
     let f : Found c.args.number c.index_of-i.result c.index_mut-client.result.now c.self.inside.all.items =
     found c.args.number c.index_of-i.result c.len.result c.self.inside.all.len c.index_mut-client.result.now c.deref.result.now c.self.inside.all.items c.index_of-i.ensures c.deref.ensures.value c.if-i-len.true c.len.ensures c.self.inside.all.ok.0 c.index_mut-client.ensures.value in
-    λ gone. found-here c.args.number c.index_of-i.result c.index_mut-client.result.now c.self.inside.all.items f (ap (λ (s : ClientsState). is_present s.all c.args.number) c.self.view_is ∙ gone)
+    rw (← c.self.view_is) (found-rest _ c.args.number c.index_of-i.result c.index_mut-client.result.now c.hears.new.self c.self.inside.all.items _ _ _ _ _ _ f c.note_loss.ensures.more
+    (found-keeps c.args.number c.index_of-i.result c.index_mut-client.result.now c.hears.new.self c.self.inside.all.items c.args.up.now c.hears.new.up f c.in_ok-hears.ensures.stands.number c.in_ok-hears.ensures.room) c.hears.ensures.policy)
+
+pub returns-in_err-note_loss-clause-rest : goal.returns-in_err-note_loss-clause-rest
+returns-in_err-note_loss-clause-rest c =
+    let f : Found c.args.number c.index_of-i.result c.index_mut-client.result.now c.self.inside.all.items =
+    found c.args.number c.index_of-i.result c.len.result c.self.inside.all.len c.index_mut-client.result.now c.deref.result.now c.self.inside.all.items c.index_of-i.ensures c.deref.ensures.value c.if-i-len.true c.len.ensures c.self.inside.all.ok.0 c.index_mut-client.ensures.value in
+    rw (← c.self.view_is) (found-rest _ c.args.number c.index_of-i.result c.index_mut-client.result.now c.hears.new.self c.self.inside.all.items _ _ _ _ _ _ f c.note_loss.ensures.more
+    (on-none c.from_residual-in_err-note_loss.result _ c.from_residual-in_err-note_loss.ensures.0) c.hears.ensures.policy)
+
+pub returns-in_err-hears-clause-rest : goal.returns-in_err-hears-clause-rest
+returns-in_err-hears-clause-rest c =
+    let f : Found c.args.number c.index_of-i.result c.index_mut-client.result.now c.self.inside.all.items =
+    found c.args.number c.index_of-i.result c.len.result c.self.inside.all.len c.index_mut-client.result.now c.deref.result.now c.self.inside.all.items c.index_of-i.ensures c.deref.ensures.value c.if-i-len.true c.len.ensures c.self.inside.all.ok.0 c.index_mut-client.ensures.value in
+    rw (← c.self.view_is) (found-rest _ c.args.number c.index_of-i.result c.index_mut-client.result.now c.hears.new.self c.self.inside.all.items _ _ _ _ _ _ f (none-noted _)
+    (on-none c.from_residual.result _ c.from_residual.ensures.0) c.hears.ensures.policy)

@@ -15,7 +15,7 @@ returns-clause-answers c =
     (λ waits served. answer-written c.args.self.now parts (gone_on parts c.answered.new.self c.answered.new.core c.answered.new.up c.list_waiting.new.list)
     c.args.client c.args.id c.args.reply c.answered.new.self c.answered.new.core c.answered.new.up c.list_waiting.new.list c.self.view_is refl record {
       served = ap (λ (x : State). is_served x.clients c.args.client) c.self.view_is ∙ served;
-      policy = c.answered.ensures.policy;
+      policy = c.answered.ensures.rest.policy;
       answers = c.in_ok-answered.ensures.answers;
       waits = waits;
     }) c.list_waiting.ensures
@@ -24,7 +24,7 @@ pub returns-clause-ready : goal.returns-clause-ready
 returns-clause-ready c =
     let was : IsReady (state_of c.self.inside) = subst IsReady (sym c.self.view_is) c.requires.ready in
     on_ok_weaker c.list_waiting.result
-    (λ waits. record { room = c.in_ok-answered.ensures.keeps.room was.room; cuts = was.cuts; well = was.well }) c.list_waiting.ensures
+    (λ waits. record { room = c.in_ok-answered.ensures.rest.keeps.room was.room; cuts = was.cuts; well = was.well }) c.list_waiting.ensures
 
 -- the client is served
 pub returns-clause-stays : goal.returns-clause-stays
@@ -36,4 +36,4 @@ returns-clause-stays c =
 
 pub returns-clause-numbers : goal.returns-clause-numbers
 returns-clause-numbers c = on_ok_weaker c.list_waiting.result
-    (λ waits. c.in_ok-answered.ensures.keeps.numbers_same ∙ ap (λ (x : State). numbers x.clients) c.self.view_is) c.list_waiting.ensures
+    (λ waits. c.in_ok-answered.ensures.rest.keeps.numbers_same ∙ ap (λ (x : State). numbers x.clients) c.self.view_is) c.list_waiting.ensures

@@ -6,17 +6,22 @@ use Rattle.mux_machine.specs.State.{State}
 use Rattle.mux_machine.proofs.Started.{stands-started}
 use Rattle.mux_machine.proofs.engine.Engine.new.Goals as goal
 
+pub returns-clause-nobody : goal.returns-clause-nobody
+returns-clause-nobody c = record {
+  clients = ap (λ (cs : ClientsState). cs.all) c.new-clients.ensures;
+  refused = c.new-3.ensures;
+  leaving = ap (λ (cs : ClientsState). cs.leaving) c.new-clients.ensures;
+  waiting = c.new-4.ensures;
+  silent = c.in_ok-reserve_farewells.ensures.waiting ∙ ap (λ (q : QueueState). q.waiting) c.new-up.ensures;
+}
+
 pub returns-clause-stands : goal.returns-clause-stands
 returns-clause-stands c =
     let s : State = record { pid = c.args.pid; core = c.in_ok-new.field-0; server = c.new-2.result; up = c.reserve_farewells.new.up; clients = c.new-clients.result.all; refused = c.new-3.result; leaving = c.new-clients.result.leaving; waiting = c.new-4.result; listening = true; ended = None; starved = false } in
     stands-started s record {
       core_stands = c.in_ok-new.ensures.stands;
       server_is = c.new-2.ensures;
-      silent = c.in_ok-reserve_farewells.ensures.waiting ∙ ap (λ (q : QueueState). q.waiting) c.new-up.ensures;
-      nobody = ap (λ (cs : ClientsState). cs.all) c.new-clients.ensures;
-      none_refused = c.new-3.ensures;
-      none_leaving = ap (λ (cs : ClientsState). cs.leaving) c.new-clients.ensures;
-      none_waiting = c.new-4.ensures;
+      nobody = returns-clause-nobody c;
       listens_yet = refl;
       goes = refl;
     }

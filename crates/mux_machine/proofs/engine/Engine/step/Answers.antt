@@ -4,61 +4,54 @@ use Rattle.mux_clients.specs.Server.{stream_end}
 use Rattle.mux_outside.specs.declared.house_mark.HouseMark.{HouseMark}
 use Rattle.mux_machine.specs.State.{State, over}
 use Rattle.mux_clients.proofs.Heeding.{heeds_none}
-use Rattle.mux_machine.proofs.Endings.{alone-ends, asking-ends}
 use Rattle.mux_machine.proofs.Kept.{asking-keeps, did-keeps}
-use Rattle.mux_machine.specs.Others.{ServerLeavesIdle}
-use Rattle.mux_machine.proofs.Stepped.{DidAlone, DidAsking, asking-goes, cause-as, did-goes, gained-on, lost-on, replied-on}
+use Rattle.mux_machine.proofs.Stepped.{DidAlone, DidAsking, cause-as, gained-on, lost-on, replied-on}
 use Rattle.mux_clients.proofs.Starved.{err-then, on-err}
 use Rattle.mux_machine.proofs.Starved.{CutsOne, cut-alone, cut-asking}
+use Rattle.mux_machine.proofs.TakingIn.{asking-takes, did-takes}
 use Rattle.mux_machine.proofs.engine.Engine.step.Goals as goal
 
-pub returns-in-Accepted-clause-stands : goal.returns-in-Accepted-clause-stands
-returns-in-Accepted-clause-stands g c = on_ok_weaker c.enter.result (λ d mark t. did-goes g.H.Asks.may (Some c.args.asks.now) c.args.self.now c.enter.new.self c.args.e mark c.requires.goes (subst (DidAlone c.args.self.now c.enter.new.self) (sym c.in-Accepted.is) d) t) c.enter.ensures.enters
+pub returns-in-Accepted-clause-takes : goal.returns-in-Accepted-clause-takes
+returns-in-Accepted-clause-takes g c = on_ok_weaker c.enter.result (λ d. did-takes g.H.Asks.may (Some c.args.asks.now) c.args.self.now c.enter.new.self c.args.e c.requires.goes (subst (DidAlone c.args.self.now c.enter.new.self) (sym c.in-Accepted.is) d)) c.enter.ensures.enters
 
 pub returns-in-Accepted-clause-keeps : goal.returns-in-Accepted-clause-keeps
 returns-in-Accepted-clause-keeps g c = on_ok_weaker c.enter.result (λ d. did-keeps c.args.self.now c.enter.new.self c.args.e c.requires.goes (subst (DidAlone c.args.self.now c.enter.new.self) (sym c.in-Accepted.is) d)) c.enter.ensures.enters
 
-pub returns-in-ClientEnd-clause-stands : goal.returns-in-ClientEnd-clause-stands
-returns-in-ClientEnd-clause-stands g c = on_ok_weaker c.lose.result (λ d mark t. did-goes g.H.Asks.may (Some c.args.asks.now) c.args.self.now c.lose.new.self c.args.e mark c.requires.goes (subst (DidAlone c.args.self.now c.lose.new.self) (sym c.in-ClientEnd.is) d) t) (lost-on c.lose.result c.args.self.now c.lose.new.self c.in-ClientEnd.client c.lose.ensures.loses c.lose.ensures.stays)
+pub returns-in-ClientEnd-clause-takes : goal.returns-in-ClientEnd-clause-takes
+returns-in-ClientEnd-clause-takes g c = on_ok_weaker c.lose.result (λ d. did-takes g.H.Asks.may (Some c.args.asks.now) c.args.self.now c.lose.new.self c.args.e c.requires.goes (subst (DidAlone c.args.self.now c.lose.new.self) (sym c.in-ClientEnd.is) d)) (lost-on c.lose.result c.args.self.now c.lose.new.self c.in-ClientEnd.client c.lose.ensures.loses c.lose.ensures.stays)
 
 pub returns-in-ClientEnd-clause-keeps : goal.returns-in-ClientEnd-clause-keeps
 returns-in-ClientEnd-clause-keeps g c = on_ok_weaker c.lose.result (λ d. did-keeps c.args.self.now c.lose.new.self c.args.e c.requires.goes (subst (DidAlone c.args.self.now c.lose.new.self) (sym c.in-ClientEnd.is) d)) (lost-on c.lose.result c.args.self.now c.lose.new.self c.in-ClientEnd.client c.lose.ensures.loses c.lose.ensures.stays)
 
-pub returns-in-ClientFailed-clause-stands : goal.returns-in-ClientFailed-clause-stands
-returns-in-ClientFailed-clause-stands g c = on_ok_weaker c.lose-in-ClientFailed.result (λ d mark t. did-goes g.H.Asks.may (Some c.args.asks.now) c.args.self.now c.lose-in-ClientFailed.new.self c.args.e mark c.requires.goes (subst (DidAlone c.args.self.now c.lose-in-ClientFailed.new.self) (sym c.in-ClientFailed.is) d) t) (lost-on c.lose-in-ClientFailed.result c.args.self.now c.lose-in-ClientFailed.new.self c.in-ClientFailed.client c.lose-in-ClientFailed.ensures.loses c.lose-in-ClientFailed.ensures.stays)
+pub returns-in-ClientFailed-clause-takes : goal.returns-in-ClientFailed-clause-takes
+returns-in-ClientFailed-clause-takes g c = on_ok_weaker c.lose-in-ClientFailed.result (λ d. did-takes g.H.Asks.may (Some c.args.asks.now) c.args.self.now c.lose-in-ClientFailed.new.self c.args.e c.requires.goes (subst (DidAlone c.args.self.now c.lose-in-ClientFailed.new.self) (sym c.in-ClientFailed.is) d)) (lost-on c.lose-in-ClientFailed.result c.args.self.now c.lose-in-ClientFailed.new.self c.in-ClientFailed.client c.lose-in-ClientFailed.ensures.loses c.lose-in-ClientFailed.ensures.stays)
 
 pub returns-in-ClientFailed-clause-keeps : goal.returns-in-ClientFailed-clause-keeps
 returns-in-ClientFailed-clause-keeps g c = on_ok_weaker c.lose-in-ClientFailed.result (λ d. did-keeps c.args.self.now c.lose-in-ClientFailed.new.self c.args.e c.requires.goes (subst (DidAlone c.args.self.now c.lose-in-ClientFailed.new.self) (sym c.in-ClientFailed.is) d)) (lost-on c.lose-in-ClientFailed.result c.args.self.now c.lose-in-ClientFailed.new.self c.in-ClientFailed.client c.lose-in-ClientFailed.ensures.loses c.lose-in-ClientFailed.ensures.stays)
 
-pub returns-in-HouseSays-clause-stands : goal.returns-in-HouseSays-clause-stands
-returns-in-HouseSays-clause-stands g c = on_ok_weaker c.answer.result (λ d mark t. did-goes g.H.Asks.may (Some c.args.asks.now) c.args.self.now c.answer.new.self c.args.e mark c.requires.goes (subst (DidAlone c.args.self.now c.answer.new.self) (sym c.in-HouseSays.is) d) t) (replied-on c.answer.result c.args.self.now c.answer.new.self c.in-HouseSays.client c.in-HouseSays.id c.in-HouseSays.reply c.answer.ensures.answers c.answer.ensures.stays)
+pub returns-in-HouseSays-clause-takes : goal.returns-in-HouseSays-clause-takes
+returns-in-HouseSays-clause-takes g c = on_ok_weaker c.answer.result (λ d. did-takes g.H.Asks.may (Some c.args.asks.now) c.args.self.now c.answer.new.self c.args.e c.requires.goes (subst (DidAlone c.args.self.now c.answer.new.self) (sym c.in-HouseSays.is) d)) (replied-on c.answer.result c.args.self.now c.answer.new.self c.in-HouseSays.client c.in-HouseSays.id c.in-HouseSays.reply c.answer.ensures.answers c.answer.ensures.stays)
 
 pub returns-in-HouseSays-clause-keeps : goal.returns-in-HouseSays-clause-keeps
 returns-in-HouseSays-clause-keeps g c = on_ok_weaker c.answer.result (λ d. did-keeps c.args.self.now c.answer.new.self c.args.e c.requires.goes (subst (DidAlone c.args.self.now c.answer.new.self) (sym c.in-HouseSays.is) d)) (replied-on c.answer.result c.args.self.now c.answer.new.self c.in-HouseSays.client c.in-HouseSays.id c.in-HouseSays.reply c.answer.ensures.answers c.answer.ensures.stays)
 
-pub returns-in-FromServer-clause-stands : goal.returns-in-FromServer-clause-stands
-returns-in-FromServer-clause-stands g c = on_ok_weaker c.got_from_server.result (λ d mark t. did-goes g.H.Asks.may (Some c.args.asks.now) c.args.self.now c.got_from_server.new.self c.args.e mark c.requires.goes (subst (DidAlone c.args.self.now c.got_from_server.new.self) (sym c.in-FromServer.is) d) t) c.got_from_server.ensures.heard
+pub returns-in-FromServer-clause-takes : goal.returns-in-FromServer-clause-takes
+returns-in-FromServer-clause-takes g c = on_ok_weaker c.got_from_server.result (λ d. did-takes g.H.Asks.may (Some c.args.asks.now) c.args.self.now c.got_from_server.new.self c.args.e c.requires.goes (subst (DidAlone c.args.self.now c.got_from_server.new.self) (sym c.in-FromServer.is) d)) c.got_from_server.ensures.heard
 
 pub returns-in-FromServer-clause-keeps : goal.returns-in-FromServer-clause-keeps
 returns-in-FromServer-clause-keeps g c = on_ok_weaker c.got_from_server.result (λ d. did-keeps c.args.self.now c.got_from_server.new.self c.args.e c.requires.goes (subst (DidAlone c.args.self.now c.got_from_server.new.self) (sym c.in-FromServer.is) d)) c.got_from_server.ensures.heard
 
-pub returns-in-FromServer-clause-ends : goal.returns-in-FromServer-clause-ends
-returns-in-FromServer-clause-ends g c = on_ok_weaker c.got_from_server.result (λ d mark t. alone-ends c.args.self.now c.got_from_server.new.self c.args.e mark (subst (DidAlone c.args.self.now c.got_from_server.new.self) (sym c.in-FromServer.is) d) t) c.got_from_server.ensures.heard
+pub returns-in-ServerEnd-clause-takes : goal.returns-in-ServerEnd-clause-takes
+returns-in-ServerEnd-clause-takes g c = did-takes g.H.Asks.may (Some c.args.asks.now) c.args.self.now c.end.new.self c.args.e c.requires.goes (subst (DidAlone c.args.self.now c.end.new.self) (sym c.in-ServerEnd.is) (c.end.ensures ∙ ap (over c.args.self.now) (c.end-cause.ensures ∙ (ap (λ (x : State). stream_end x.server.rest x.server.index) c.self.view_is ∙ cause-as c.args.self.now))))
 
-pub returns-in-ServerEnd-clause-stands : goal.returns-in-ServerEnd-clause-stands
-returns-in-ServerEnd-clause-stands g c = λ mark t. did-goes g.H.Asks.may (Some c.args.asks.now) c.args.self.now c.end.new.self c.args.e mark c.requires.goes (subst (DidAlone c.args.self.now c.end.new.self) (sym c.in-ServerEnd.is) (c.end.ensures ∙ ap (over c.args.self.now) (c.end-cause.ensures ∙ (ap (λ (x : State). stream_end x.server.rest x.server.index) c.self.view_is ∙ cause-as c.args.self.now)))) t
+pub returns-in-ServerFailed-clause-takes : goal.returns-in-ServerFailed-clause-takes
+returns-in-ServerFailed-clause-takes g c = did-takes g.H.Asks.may (Some c.args.asks.now) c.args.self.now c.end-in-ServerFailed.new.self c.args.e c.requires.goes (subst (DidAlone c.args.self.now c.end-in-ServerFailed.new.self) (sym c.in-ServerFailed.is) c.end-in-ServerFailed.ensures)
 
-pub returns-in-ServerFailed-clause-stands : goal.returns-in-ServerFailed-clause-stands
-returns-in-ServerFailed-clause-stands g c = λ mark t. did-goes g.H.Asks.may (Some c.args.asks.now) c.args.self.now c.end-in-ServerFailed.new.self c.args.e mark c.requires.goes (subst (DidAlone c.args.self.now c.end-in-ServerFailed.new.self) (sym c.in-ServerFailed.is) c.end-in-ServerFailed.ensures) t
-
-pub returns-in-FromClient-clause-stands : goal.returns-in-FromClient-clause-stands
-returns-in-FromClient-clause-stands g c = on_ok_weaker c.got_from_client.result (λ d mark t. asking-goes g.H.Asks.may (Some c.args.asks.now) (Some c.got_from_client.new.asks) c.args.self.now c.got_from_client.new.self c.args.e mark c.requires.goes (subst (DidAsking g.H.Asks.may (Some c.args.asks.now) (Some c.got_from_client.new.asks) c.args.self.now c.got_from_client.new.self) (sym c.in-FromClient.is) d) t) (gained-on c.got_from_client.result g.H.Asks.may (Some c.args.asks.now) (Some c.got_from_client.new.asks) c.args.self.now c.got_from_client.new.self c.in-FromClient.client c.in-FromClient.bytes.now c.got_from_client.ensures.gains (λ h. ap (λ (l : List HouseMark). Some l) (c.got_from_client.ensures.untold h)))
+pub returns-in-FromClient-clause-takes : goal.returns-in-FromClient-clause-takes
+returns-in-FromClient-clause-takes g c = on_ok_weaker c.got_from_client.result (λ d. asking-takes g.H.Asks.may (Some c.args.asks.now) (Some c.got_from_client.new.asks) c.args.self.now c.got_from_client.new.self c.args.e c.requires.goes (subst (DidAsking g.H.Asks.may (Some c.args.asks.now) (Some c.got_from_client.new.asks) c.args.self.now c.got_from_client.new.self) (sym c.in-FromClient.is) d)) (gained-on c.got_from_client.result g.H.Asks.may (Some c.args.asks.now) (Some c.got_from_client.new.asks) c.args.self.now c.got_from_client.new.self c.in-FromClient.client c.in-FromClient.bytes.now c.got_from_client.ensures.gains (λ h. ap (λ (l : List HouseMark). Some l) (c.got_from_client.ensures.untold h)))
 
 pub returns-in-FromClient-clause-keeps : goal.returns-in-FromClient-clause-keeps
 returns-in-FromClient-clause-keeps g c = on_ok_weaker c.got_from_client.result (λ d. asking-keeps g.H.Asks.may (Some c.args.asks.now) (Some c.got_from_client.new.asks) c.args.self.now c.got_from_client.new.self c.args.e c.requires.goes (subst (DidAsking g.H.Asks.may (Some c.args.asks.now) (Some c.got_from_client.new.asks) c.args.self.now c.got_from_client.new.self) (sym c.in-FromClient.is) d)) (gained-on c.got_from_client.result g.H.Asks.may (Some c.args.asks.now) (Some c.got_from_client.new.asks) c.args.self.now c.got_from_client.new.self c.in-FromClient.client c.in-FromClient.bytes.now c.got_from_client.ensures.gains (λ h. ap (λ (l : List HouseMark). Some l) (c.got_from_client.ensures.untold h)))
-
-pub returns-in-FromClient-clause-ends : goal.returns-in-FromClient-clause-ends
-returns-in-FromClient-clause-ends g c = on_ok_weaker c.got_from_client.result (λ d mark t. asking-ends g.H.Asks.may (Some c.args.asks.now) (Some c.got_from_client.new.asks) c.args.self.now c.got_from_client.new.self c.args.e mark (subst (DidAsking g.H.Asks.may (Some c.args.asks.now) (Some c.got_from_client.new.asks) c.args.self.now c.got_from_client.new.self) (sym c.in-FromClient.is) d) t) (gained-on c.got_from_client.result g.H.Asks.may (Some c.args.asks.now) (Some c.got_from_client.new.asks) c.args.self.now c.got_from_client.new.self c.in-FromClient.client c.in-FromClient.bytes.now c.got_from_client.ensures.gains (λ h. ap (λ (l : List HouseMark). Some l) (c.got_from_client.ensures.untold h)))
 
 pub returns-in-Accepted-clause-heeds : goal.returns-in-Accepted-clause-heeds
 returns-in-Accepted-clause-heeds g c = heeds_none c.enter.result c.args.asks.now (g.H.Asks.state c.args.house.now)
@@ -94,8 +87,3 @@ returns-in-FromServer-clause-cut g c = on-err c.got_from_server.result (λ mark 
 
 pub returns-in-FromClient-clause-cut : goal.returns-in-FromClient-clause-cut
 returns-in-FromClient-clause-cut g c = err-then c.got_from_client.result (λ one mark t. cut-asking g.H.Asks.may (g.H.Asks.state c.args.house.now).told (g.H.Asks.state c.got_from_client.new.house).told c.args.self.now c.args.e c.requires.goes (subst (CutsOne g.H.Asks.may (g.H.Asks.state c.args.house.now).told (g.H.Asks.state c.got_from_client.new.house).told c.args.self.now) (sym c.in-FromClient.is) one) mark t) c.got_from_client.ensures.cut
-
--- ---- whom the server's piece leaves as it was
-
-pub returns-in-FromServer-clause-others : goal.returns-in-FromServer-clause-others
-returns-in-FromServer-clause-others g c = on_ok_weaker c.got_from_server.result (λ h. subst (λ e. ServerLeavesIdle e c.args.self.now c.got_from_server.new.self) (sym c.in-FromServer.is) h) c.got_from_server.ensures.others
