@@ -81,21 +81,25 @@ impl Engine {
         ensures room { IfOk result (λ engine. TheMost * TheRoom ≤ engine.up.spare) }
         ensures stands { IfOk result (λ engine. Stands [] [] engine [] []) }
     {
-        let clients = Clients::new(alloc);
-        let mut up = Queue::new(alloc);
-        clients.reserve_farewells(&mut up)?;
-        Ok(Engine {
+        let mut engine = Engine {
             pid,
             core: Core::new(alloc, policy)?,
             server: Server::new(alloc),
-            up,
-            clients,
+            up: Queue::new(alloc),
+            clients: Clients::new(alloc),
             refused: Streams::new(alloc),
             waiting: Streams::new(alloc),
             listening: true,
             ended: None,
             starved: false,
-        })
+        };
+        match engine.clients.reserve_farewells(&mut engine.up) {
+            Ok(()) => Ok(engine),
+            Err(e) => {
+                drop(engine);
+                Err(e)
+            }
+        }
     }
 
     /// Takes in what happened at a stream, or a reply of the house. The house is told what the client

@@ -26,15 +26,30 @@ pub fn play(alloc: Global, mut row: Row) -> Result<Texts, OutOfMemory> {
     match row.script.take() {
         Some(script) => {
             let mut wire = ScriptWire::new(alloc, script.steps, script.writes, script.fails);
-            let played = play_scripted(alloc, row, &mut wire)?;
-            lines_of(alloc, &played, wire.log())
+            let lines = scripted_lines(alloc, row, &mut wire);
+            drop(wire);
+            lines
         }
-        None => {
-            let mut wire = DrillWire::new(alloc);
-            let played = play_over(alloc, row, &mut wire, &mut NoHouse);
-            summary_of(alloc, &played, wire.log())
-        }
+        None => drill_lines(alloc, row),
     }
+}
+
+// Plays a row over a wire in memory: the lines of what came of it.
+fn drill_lines(alloc: Global, row: Row) -> Result<Texts, OutOfMemory> {
+    let mut wire = DrillWire::new(alloc);
+    let played = play_over(alloc, row, &mut wire, &mut NoHouse);
+    let lines = summary_of(alloc, &played, wire.log());
+    drop(played);
+    drop(wire);
+    lines
+}
+
+// Plays a row over this wire: the lines of what came of it.
+fn scripted_lines(alloc: Global, row: Row, wire: &mut ScriptWire) -> Result<Texts, OutOfMemory> {
+    let played = play_scripted(alloc, row, wire)?;
+    let lines = lines_of(alloc, &played, wire.log());
+    drop(played);
+    lines
 }
 
 // Plays a row over this wire, with forwardings of the master's own where it asks for them.
@@ -42,8 +57,17 @@ fn play_scripted(alloc: Global, row: Row, wire: &mut ScriptWire) -> Result<Playe
     if !row.house {
         return Ok(play_over(alloc, row, wire, &mut NoHouse));
     }
-    let mut house = Forwarder::new(alloc, KeptNotes::new(alloc))?;
-    Ok(play_over(alloc, row, wire, &mut house))
+    match Forwarder::new(alloc, KeptNotes::new(alloc)) {
+        Ok(mut house) => {
+            let played = play_over(alloc, row, wire, &mut house);
+            drop(house);
+            Ok(played)
+        }
+        Err(e) => {
+            drop(row);
+            Err(e)
+        }
+    }
 }
 
 // Plays a row over this wire and this house.
@@ -70,6 +94,8 @@ fn play_over<W: Wire, H: House>(alloc: Global, row: Row, wire: &mut W, house: &m
         &mut err,
         house,
     );
+    drop(given);
+    drop(files);
     Played {
         status,
         runner,

@@ -6,7 +6,7 @@ use crate::trouble::Trouble;
 use mux_outside::{Pair, Pairs};
 use ssh_fields::{Text, Texts};
 use std::alloc::Global;
-use std::str;
+use std::{mem, str};
 
 /// A table that is being read.
 #[derive(Drop)]
@@ -90,28 +90,35 @@ impl Table {
 
     /// Plays the last row: what came of it, where it isn't what was written.
     pub fn finish(&mut self) -> Result<Option<String>, Trouble> {
-        let Some(row) = self.row.take() else {
+        let Some(mut row) = self.row.take() else {
             return Ok(None);
         };
-        let name = Text::copy(self.alloc, row.name.as_bytes())?;
-        let expected = copy_of(self.alloc, &row.expected)?;
+        let name = mem::replace(&mut row.name, Text::new(self.alloc));
+        let expected = mem::replace(&mut row.expected, Texts::new(self.alloc));
+        let told = self.compare(row, &name, &expected);
+        drop(name);
+        drop(expected);
+        told
+    }
+
+    // Plays a row of this name: what came of it, where it isn't what was expected.
+    fn compare(
+        &mut self,
+        row: Row,
+        name: &Text,
+        expected: &Texts,
+    ) -> Result<Option<String>, Trouble> {
         let lines = play(self.alloc, row)?;
         self.rows = self.rows.saturating_add(1);
-        if are_same(&lines, &expected) {
+        let told = if are_same(&lines, expected) {
             self.as_written = self.as_written.saturating_add(1);
-            return Ok(None);
-        }
-        Ok(Some(told_of(self.alloc, &name, &lines)?))
+            Ok(None)
+        } else {
+            told_of(self.alloc, name, &lines).map(Some)
+        };
+        drop(lines);
+        told
     }
-}
-
-// The same texts once more.
-fn copy_of(alloc: Global, texts: &Texts) -> Result<Texts, Trouble> {
-    let mut copy = Texts::new(alloc);
-    for text in texts.as_slice() {
-        copy.push(Text::copy(alloc, text.as_bytes())?)?;
-    }
-    Ok(copy)
 }
 
 // Whether two lists of lines are the same.

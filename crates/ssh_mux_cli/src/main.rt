@@ -40,12 +40,52 @@ fn start(rt: &HostRuntime, err: &mut RealSink<Standard>) -> Result<Status, OutOf
         fs::open(rt, NOTHING),
     ];
     let words = words_of(rt, alloc)?;
-    if is_drill(&words) {
-        return run_over(rt, &words, &mut DrillWire::new(alloc), &mut NoHouse, err);
-    }
-    let mut wire = RealWire::new(rt.clone()?, alloc);
-    let mut house = Forwarder::new(alloc, NoNotes)?;
-    run_over(rt, &words, &mut wire, &mut house, err)
+    let ended = if is_drill(&words) {
+        drill(rt, &words, err)
+    } else {
+        serve(rt, &words, err)
+    };
+    drop(words);
+    ended
+}
+
+// Runs over a wire in memory, with no house.
+fn drill(
+    rt: &HostRuntime,
+    words: &Texts,
+    err: &mut RealSink<Standard>,
+) -> Result<Status, OutOfMemory> {
+    let mut wire = DrillWire::new(rt.alloc());
+    let ended = run_over(rt, words, &mut wire, &mut NoHouse, err);
+    drop(wire);
+    ended
+}
+
+// Runs over the system's sockets, with forwardings of the master's own.
+fn serve(
+    rt: &HostRuntime,
+    words: &Texts,
+    err: &mut RealSink<Standard>,
+) -> Result<Status, OutOfMemory> {
+    let mut house = Forwarder::new(rt.alloc(), NoNotes)?;
+    let ended = serve_with(rt, words, &mut house, err);
+    drop(house);
+    ended
+}
+
+// The same, with this house.
+fn serve_with<H: House>(
+    rt: &HostRuntime,
+    words: &Texts,
+    house: &mut H,
+    err: &mut RealSink<Standard>,
+) -> Result<Status, OutOfMemory>
+    requires { H.fresh house.old }
+{
+    let mut wire = RealWire::new(rt.clone()?, rt.alloc());
+    let ended = run_over(rt, words, &mut wire, house, err);
+    drop(wire);
+    ended
 }
 
 // Whether the words ask for a drill, whose wire is in memory.
@@ -67,18 +107,22 @@ fn run_over<W: Wire, H: House>(
     requires { H.fresh house.old }
 {
     let alloc = rt.alloc();
+    let mut runner = RealRunner::new(rt.clone()?, alloc);
     let mut files = RealFiles::new(rt.clone()?, alloc);
     let facts = facts_of(rt, alloc, &mut files)?;
-    Ok(run(
+    let mut out = RealSink::new(Standard::Output(rt.stdout()));
+    let ended = run(
         alloc,
         words,
         &facts,
         wire,
         &mut files,
-        &mut RealRunner::new(rt.clone()?, alloc),
-        &mut RealSink::new(Standard::Output(rt.stdout())),
+        &mut runner,
+        &mut out,
         err,
         house,
         u64::MAX,
-    ))
+    );
+    drop(facts);
+    Ok(ended)
 }
