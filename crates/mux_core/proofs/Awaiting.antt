@@ -7,6 +7,7 @@ use Rattle.mux_history.specs.Rows.{Row, rows_of}
 use Rattle.mux_history.specs.Channels.{Channel, held_of, is_confirmed, is_number, is_up}
 use Rattle.mux_history.specs.Said.{waiting_at}
 use Rattle.mux_history.proofs.Local as local
+use Rattle.mux_history.proofs.Sends.{and-left, and-right}
 use Rattle.window_ledger.specs.declared.ledger.Ledger.{Ledger}
 use Rattle.window_ledger.specs.Stands.{confirmed}
 use Rattle.channel_table.specs.Entries.{Entry}
@@ -36,14 +37,6 @@ pub record WaitingEntry (es : List Entry) (k s n : ℕ) (l : Ledger) : Type 0 wh
   pub answered : awaits_answer entry.channel entry.ledger ≡ true
   pub only : find (is_waiting_at k s) es ≡ Some entry
   pub at : find (is_at n) es ≡ Some entry
-
-and-left : (a b : Bool) → (a && b) ≡ true → a ≡ true
-and-left true b h = refl
-and-left false b h = cc
-
-and-right : (a b : Bool) → (a && b) ≡ true → b ≡ true
-and-right true b h = h
-and-right false b h = cc
 
 narrow : (k s : ℕ) (e : Entry) → is_waiting_at k s e ≡ true → has_remote s e ≡ true
 narrow k s e h = and-left (has_remote s e) (awaits_answer e.channel e.ledger) (and-right (is_of k e) (has_remote s e && awaits_answer e.channel e.ledger) h)

@@ -14,12 +14,13 @@ use Rattle.mux_history.specs.Forwardings.{Forwarding, stopped}
 use Rattle.mux_history.specs.Forwardings as history
 use Rattle.mux_history.proofs.Bools.{is-of, same-number, self}
 use Rattle.mux_history.proofs.Finds.{filter-no, filter-yes}
+use Rattle.mux_history.proofs.Sends.{and-left, and-right}
 use Rattle.forward_rules.specs.State.{Forward}
 use Rattle.forward_rules.specs.Step.{cancelled, cancels, change_first, is_free_at, is_leaving, is_of, some_free}
 use Rattle.forward_rules.specs.Stands.{AreFit, AreListed, AreTwo, EachHas, EachTwo, HasAt, IsAwaited, IsRanked, Places, is_asked_at, is_leaving_at}
 use Rattle.mux_core.proofs.Answering.{asked_more}
 use Rattle.mux_core.proofs.CancelOrder.{Before, Earlier, kept-at, listed-changed, order-changed, placed_at, ranked_at, some-is, told-at}
-use Rattle.mux_core.proofs.Pairs.{IsFree, and-left, and-right, any-changed, any-first, find-any, free-is, free-same, or-found, some-same}
+use Rattle.mux_core.proofs.Pairs.{IsFree, any-changed, any-first, find-any, free-is, free-same, or-found, some-same}
 use Rattle.mux_core.proofs.Requested.{awaited-more}
 use Rattle.mux_core.proofs.Asked.{all-map, get-last, place-back}
 

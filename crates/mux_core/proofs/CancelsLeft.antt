@@ -8,11 +8,12 @@ use Rattle.mux_history.specs.Rows.{any_of}
 use Rattle.mux_history.specs.Forwardings.{Forwarding}
 use Rattle.mux_history.proofs.Bools.{same-number}
 use Rattle.mux_history.proofs.Finds.{filter-no, filter-yes}
+use Rattle.mux_history.proofs.Sends.{and-left, and-right}
 use Rattle.forward_rules.specs.State.{Forward}
 use Rattle.forward_rules.specs.Step.{cancels, count_of, is_leaving, is_of, moved_up, without_cancel_of}
 use Rattle.forward_rules.specs.Stands.{AreListed, AreTwo, EachTwo, IsRanked}
 use Rattle.mux_core.proofs.CancelAnswered.{Later, Meant, Other, Seen, moved-some, some-is, up, up-some}
-use Rattle.mux_core.proofs.Pairs.{and-left, and-right, or-found}
+use Rattle.mux_core.proofs.Pairs.{or-found}
 use Rattle.mux_core.proofs.Ranking.{AllPairs, leaves_at}
 use Rattle.mux_core.proofs.Replied.{never, number-is}
 

@@ -16,6 +16,7 @@ use Rattle.mux_history.proofs.Bools.{is-of, same-number, self}
 use Rattle.mux_history.proofs.Finds.{find-no, find-yes}
 use Rattle.mux_history.proofs.Local as local
 use Rattle.mux_history.proofs.Readings.{reading-ok}
+use Rattle.mux_history.proofs.Sends.{and-left, and-right}
 use Rattle.window_ledger.specs.declared.ledger.Ledger.{Ledger}
 use Rattle.channel_table.specs.declared.channel.Channel as table
 use Rattle.channel_table.specs.Entries.{Entry}
@@ -112,14 +113,6 @@ does k n a = record {
   others = λ e x fits h. by_other e x fits h (x.client == k) refl;
 }
   where
-    and-left : (b c : Bool) → (b && c) ≡ true → b ≡ true
-    and-left true c h = refl
-    and-left false c h = cc
-
-    and-right : (b c : Bool) → (b && c) ≡ true → c ≡ true
-    and-right true c h = h
-    and-right false c h = cc
-
     same : (e : Entry) (x : Channel) → Fits e x → shown_at n e ≡ is_number x.number n
     same e x fits = shown-number n e ∙ ap (λ o. is_number o n) fits.number
 
@@ -141,10 +134,6 @@ does k n a = record {
 pub shown-sole : (n : ℕ) → Sole (shown_at n)
 shown-sole n e f two h = by_number (f.number == n) refl
   where
-    and-left : (b c : Bool) → (b && c) ≡ true → b ≡ true
-    and-left true c h = refl
-    and-left false c h = cc
-
     by_number : (b : Bool) → (f.number == n) ≡ b → shown_at n f ≡ false
     by_number false g = ap (λ b. b && is_shown f.channel) g
     by_number true g =
@@ -155,10 +144,6 @@ shown-sole n e f two h = by_number (f.number == n) refl
 pub sole : (k n : ℕ) → Sole (is_theirs k n)
 sole k n e f two h = by_mine (is_of k f) refl
   where
-    and-right : (b c : Bool) → (b && c) ≡ true → c ≡ true
-    and-right true c h = h
-    and-right false c h = cc
-
     by_mine : (b : Bool) → is_of k f ≡ b → is_theirs k n f ≡ false
     by_mine true m = ap (λ b. b && shown_at n f) m ∙ shown-sole n e f two (and-right (is_of k e) (shown_at n e) h)
     by_mine false m = ap (λ b. b && shown_at n f) m

@@ -17,6 +17,7 @@ use Rattle.mux_history.specs.Said.{Outcome}
 use Rattle.mux_history.specs.Treat.{bare}
 use Rattle.mux_history.proofs.Bools.{self}
 use Rattle.mux_history.proofs.Readings.{reading-ok}
+use Rattle.mux_history.proofs.Sends.{and-left, and-right}
 use Rattle.window_ledger.specs.declared.ledger.Ledger.{Ledger}
 use Rattle.window_ledger.specs.declared.ledger.State.{State}
 use Rattle.window_ledger.specs.declared.ledger.State.TheVariants.{Opened, Confirmed}
@@ -113,14 +114,6 @@ closed-channels k n s w m p o rows e small sent =
 pub fresh-acts : (st : State) (x : Channel) → IsStateOf st x → is_answered st ≡ false → x.acts ≡ []
 fresh-acts (Opened by window maximum) x is h = is.fresh
 fresh-acts (Confirmed up down) x is h = absurd (cc)
-
-and-left : (b c : Bool) → (b && c) ≡ true → b ≡ true
-and-left true c h = refl
-and-left false c h = cc
-
-pub and-right : (b c : Bool) → (b && c) ≡ true → c ≡ true
-and-right true c h = h
-and-right false c h = cc
 
 up-is : (by : Side) → is_up by ≡ true → by ≡ Up
 up-is Up h = refl

@@ -10,13 +10,13 @@ use Rattle.mux_history.specs.Keys.{bound}
 use Rattle.mux_history.specs.Forwardings.{Forwarding, is_request}
 use Rattle.mux_history.proofs.CurrentSteps.{is_on}
 use Rattle.mux_history.proofs.Finds.{filter-no, filter-yes}
+use Rattle.mux_history.proofs.Sends.{and-right}
 use Rattle.forward_rules.specs.State.{Forward}
 use Rattle.forward_rules.specs.Step.{cancel_answered, is_cancelled_at, settled, settled_at, without_cancel_of}
 use Rattle.forward_rules.specs.Stands.{AreFit, IsAwaited, Places}
 use Rattle.mux_core.specs.Replying.{after_failure, after_success}
 use Rattle.mux_core.proofs.Dropped.{Drops, WaitsNot, drops-map, has-kept, kept-fit}
 use Rattle.mux_core.proofs.Granting.{granted-fit}
-use Rattle.mux_core.proofs.Pairs.{and-right}
 use Rattle.mux_core.proofs.Ranking.{AllPairs, Known, first-is, known-all, leaves_at, rank-of, same-cancelled}
 use Rattle.mux_core.proofs.Refusing.{refused-fit}
 use Rattle.mux_core.proofs.CancelAnswered.{released, released-at, seen-all}

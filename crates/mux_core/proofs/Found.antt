@@ -7,6 +7,7 @@ use Rattle.mux_history.specs.Channels.{Channel, any_act, channels_of, held_of, i
 use Rattle.mux_history.specs.Said.{confirmed_at}
 use Rattle.mux_history.proofs.Finds.{filter-no, filter-yes, find-no, find-yes}
 use Rattle.mux_history.proofs.Local as local
+use Rattle.mux_history.proofs.Sends.{and-left, and-right}
 use Rattle.window_ledger.specs.declared.ledger.Ledger.{Ledger}
 use Rattle.window_ledger.specs.declared.ledger.State.{State}
 use Rattle.window_ledger.specs.declared.ledger.State.TheVariants.{Opened, Confirmed}
@@ -124,14 +125,6 @@ pub record ConfirmedEntry (es : List Entry) (k s n : ℕ) (l : Ledger) : Type 0 
 
 some-same : (a b : ℕ × Ledger) → Some a ≡ Some b → a ≡ b
 some-same a b h = cc
-
-and-left : (a b : Bool) → (a && b) ≡ true → a ≡ true
-and-left true b h = refl
-and-left false b h = cc
-
-and-right : (a b : Bool) → (a && b) ≡ true → b ≡ true
-and-right true b h = h
-and-right false b h = cc
 
 narrow : (k s : ℕ) (e : Entry) → is_confirmed_at k s e ≡ true → has_remote s e ≡ true
 narrow k s e h = and-left (has_remote s e) (confirmed e.ledger) (and-right (is_of k e) (has_remote s e && confirmed e.ledger) h)

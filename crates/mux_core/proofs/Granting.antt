@@ -15,13 +15,14 @@ use Rattle.mux_history.proofs.Bools.{same-number}
 use Rattle.mux_history.specs.Rows.{any_of}
 use Rattle.mux_history.proofs.Finds.{find-no, find-yes}
 use Rattle.mux_history.proofs.CurrentSteps.{is_on}
+use Rattle.mux_history.proofs.Sends.{and-left, and-right}
 use Rattle.forward_rules.specs.State.{Forward}
 use Rattle.forward_rules.specs.Step.{answered, change_first, is_asked_at}
 use Rattle.forward_rules.specs.Stands.{AreFit, AreTwo, HasAt, IsAwaited, Places}
 use Rattle.forward_rules.specs.Stands as stands
 use Rattle.mux_core.proofs.Alike.{AreAlike, StaysAt, alike-first, few-alike, has-map, order-alike, ranked-alike, two-map}
 use Rattle.mux_core.proofs.Granted.{Waiting, asks_at, granted, granted-listed, is_granted}
-use Rattle.mux_core.proofs.Pairs.{and-left, and-right, find-any}
+use Rattle.mux_core.proofs.Pairs.{find-any}
 use Rattle.mux_core.proofs.Removed.{on-all, on-listed}
 use Rattle.mux_core.proofs.Replied.{Replies, after, awaited-next, cancel-is, each-next, never, own-of}
 

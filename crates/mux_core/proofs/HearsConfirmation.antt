@@ -12,13 +12,14 @@ use Rattle.mux_history.specs.Channels.{Channel, held_of, is_number, is_up, live_
 use Rattle.mux_history.specs.Heard.{Breaks, Dest, ToClient, dest, for_lost, pending_open}
 use Rattle.mux_history.specs.Said.{tells}
 use Rattle.mux_history.proofs.Dests.{dest-ok}
+use Rattle.mux_history.proofs.Sends.{and-right}
 use Rattle.window_ledger.specs.declared.ledger.Ledger.{Ledger}
 use Rattle.window_ledger.specs.Stands.{IsConfirmed, confirmed}
 use Rattle.window_ledger.specs.Leaving as account
 use Rattle.channel_table.specs.declared.channel.Channel as table
 use Rattle.channel_table.specs.Entries.{Entry}
 use Rattle.channel_table.specs.Entries.{changed_at, has_remote, number_of_remote}
-use Rattle.mux_core.proofs.ConfirmedTable.{and-right, close-it, close-others, closed-channels, closed-fits, closes, confirmed-channels, confirmed-table, given-fits, known-altered, not-false, plain, quiet-confirmed}
+use Rattle.mux_core.proofs.ConfirmedTable.{close-it, close-others, closed-channels, closed-fits, closes, confirmed-channels, confirmed-table, given-fits, known-altered, not-false, plain, quiet-confirmed}
 use Rattle.mux_core.proofs.Confirms.{confirm_remote}
 use Rattle.channel_table.specs.Stands.{Fits}
 use Rattle.mux_core.specs.declared.heard.Heard.TheVariants as heard

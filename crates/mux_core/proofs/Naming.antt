@@ -4,12 +4,12 @@ use Rattle.std.proofs.Common.{◌≡◌, ℕ, List, true, false, Bool, refl, ◌
 use Rattle.std.specs.Prelude.{◌==◌, ◌&&◌, not, is_some}
 use Rattle.window_ledger.specs.declared.ledger.Ledger.{Ledger}
 use Rattle.mux_history.proofs.Bools.{same-number}
+use Rattle.mux_history.proofs.Sends.{and-left}
 use Rattle.channel_table.specs.declared.channel.Channel.{Channel}
 use Rattle.channel_table.specs.Entries.{Entry, admitted_at, changed_at, ledger_at, number_of_own, number_of_remote, with_ledger, with_own, with_remote}
 use Rattle.mux_core.specs.State.{CoreState}
 use Rattle.mux_core.specs.Lookups.{awaits_answer, changed_if, if_waiting, own_is_used, uses_own, waiting_for, waiting_under}
 use Rattle.mux_core.proofs.Confirms.{confirm_own, confirm_remote, own-then, remote-then}
-use Rattle.mux_core.proofs.Pairs.{and-left}
 
 not-false : (b : Bool) → false ≡ not b → b ≡ true
 not-false true h = refl

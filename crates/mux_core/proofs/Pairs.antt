@@ -9,19 +9,12 @@ use Rattle.mux_history.specs.Forwardings as history
 use Rattle.mux_history.proofs.Bools.{same-number}
 use Rattle.mux_history.proofs.SameKeys.{key-is}
 use Rattle.mux_history.proofs.Finds.{filter-no, filter-yes, find-no, find-yes}
+use Rattle.mux_history.proofs.Sends.{and-left, and-right}
 use Rattle.forward_rules.specs.State.{Forward}
 use Rattle.forward_rules.specs.Step.{is_free_at, some_free}
 use Rattle.forward_rules.specs.Stands.{AreListed, Fits}
 
 -- ---- booleans
-
-pub and-left : (a b : Bool) → (a && b) ≡ true → a ≡ true
-and-left true b e = refl
-and-left false b e = cc
-
-pub and-right : (a b : Bool) → (a && b) ≡ true → b ≡ true
-and-right true b e = e
-and-right false b e = cc
 
 pub or-found : (a b : Bool) → (a || b) ≡ true → (a ≡ false → b ≡ true)
 or-found true b e n = absurd (cc)

@@ -12,10 +12,11 @@ use Rattle.mux_history.specs.Rows.{any_of}
 use Rattle.mux_history.specs.Forwardings.{Forwarding}
 use Rattle.mux_history.proofs.Bools.{same-number}
 use Rattle.mux_history.proofs.SameKeys.{is-key}
+use Rattle.mux_history.proofs.Sends.{and-left, and-right}
 use Rattle.forward_rules.specs.State.{Forward}
 use Rattle.forward_rules.specs.Step.{earlier, first_cancel, is_cancelled_at, is_leaving_at}
 use Rattle.forward_rules.specs.Stands.{AreInOrder, AreListed, AreTwo, EachTwo, Fits, InOrderWith, IsAwaited, Places}
-use Rattle.mux_core.proofs.Pairs.{and-left, and-right, or-found}
+use Rattle.mux_core.proofs.Pairs.{or-found}
 use Rattle.mux_core.proofs.Replied.{cancel-is, number-is, own-of}
 
 -- ---- pairs of the two lists

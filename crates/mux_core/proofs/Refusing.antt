@@ -12,6 +12,7 @@ use Rattle.mux_history.specs.Forwardings.{Forwarding, is_request}
 use Rattle.mux_history.proofs.Bools.{same-number}
 use Rattle.mux_history.proofs.CurrentSteps.{is_on}
 use Rattle.mux_history.proofs.Finds.{filter-no, filter-yes, find-no}
+use Rattle.mux_history.proofs.Sends.{and-left, and-right}
 use Rattle.forward_rules.specs.State.{Forward}
 use Rattle.forward_rules.specs.Step.{answered, is_asked_at, without_first}
 use Rattle.forward_rules.specs.Stands.{AreFit, AreListed, AreTwo, EachHas, EachTwo, IsAwaited, Places}
@@ -19,7 +20,6 @@ use Rattle.forward_rules.specs.Stands as stands
 use Rattle.mux_core.proofs.Dropped.{Drops, WaitsNot, drops-map, has-kept, kept-fit}
 use Rattle.mux_core.proofs.Granted.{Waiting, asked-key, asks_at, before, none-is}
 use Rattle.mux_core.proofs.Granting.{asked-there, asks-is, no-cancel-at, replied-sooner, waits-for}
-use Rattle.mux_core.proofs.Pairs.{and-left, and-right}
 use Rattle.mux_core.proofs.Removed.{all-by, first_out, kept_by, on-all, on-listed}
 use Rattle.mux_core.proofs.Replied.{IsBystander, Replies, after, awaited-all, each-next, idle-after, idle-all, never}
 

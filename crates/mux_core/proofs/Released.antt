@@ -10,6 +10,7 @@ use Rattle.mux_history.specs.Channels.{is_number}
 use Rattle.mux_history.specs.Rows.{any_of}
 use Rattle.mux_history.specs.Forwardings.{Forwarding, is_request}
 use Rattle.mux_history.proofs.Bools.{same-number}
+use Rattle.mux_history.proofs.Sends.{and-left, and-right}
 use Rattle.forward_rules.specs.State.{Forward}
 use Rattle.forward_rules.specs.Step.{without_cancel_of}
 use Rattle.forward_rules.specs.Stands.{AreFit, AreTwo, IsAwaited, Places}
@@ -17,7 +18,7 @@ use Rattle.forward_rules.specs.Stands as stands
 use Rattle.mux_core.proofs.Alike.{StaysAt, has-map, two-map}
 use Rattle.mux_core.proofs.CancelAnswered.{Seen, listed-after, order-after, released, released-at}
 use Rattle.mux_core.proofs.CancelsLeft.{cancels-other, count-after, one-fewer, rank-low, ranked-after}
-use Rattle.mux_core.proofs.Pairs.{and-left, and-right, find-any}
+use Rattle.mux_core.proofs.Pairs.{find-any}
 use Rattle.mux_core.proofs.Ranking.{AllPairs, leaves_at}
 use Rattle.mux_core.proofs.Replied.{Replies, awaited-next, each-next, never, own-of, request-is}
 

@@ -10,10 +10,11 @@ use Rattle.mux_history.specs.Forwardings.{Forwarding, stopped}
 use Rattle.mux_history.specs.Forwardings as history
 use Rattle.mux_history.proofs.CurrentSteps.{is_on}
 use Rattle.mux_history.proofs.Finds.{filter-no, filter-yes}
+use Rattle.mux_history.proofs.Sends.{and-left, and-right}
 use Rattle.forward_rules.specs.State.{Forward}
 use Rattle.forward_rules.specs.Step.{cancelled, cancels, is_free_at, is_leaving, is_of, without_first}
 use Rattle.forward_rules.specs.Stands.{AreFit, AreInOrder, AreListed, AreTwo, EachTwo, HasAt, InOrderWith, IsAwaited, IsRanked, Places, is_asked_at, is_leaving_at}
-use Rattle.mux_core.proofs.Pairs.{and-left, and-right, find-any, free-is, free-same, or-first, or-found, or-second}
+use Rattle.mux_core.proofs.Pairs.{find-any, free-is, free-same, or-first, or-found, or-second}
 use Rattle.mux_core.proofs.Asked.{all-map}
 
 -- those at whose places true stands

@@ -11,10 +11,10 @@ use Rattle.mux_history.specs.Keys.{bound}
 use Rattle.mux_history.specs.Requests.{Ask}
 use Rattle.mux_history.specs.Forwardings.{Forwarding, is_request, of_client, replied}
 use Rattle.mux_history.proofs.Bools.{same-number}
+use Rattle.mux_history.proofs.Sends.{and-left, and-right}
 use Rattle.forward_rules.specs.State.{Forward}
 use Rattle.forward_rules.specs.Stands.{AreFit, EachHas, IsAwaited, Places}
 use Rattle.mux_core.proofs.Answering.{replied_more}
-use Rattle.mux_core.proofs.Pairs.{and-left, and-right}
 
 -- a reply to a client's request at a place
 abbrev pub after : ℕ → ℕ → Gist → Forwarding → Forwarding

@@ -22,6 +22,7 @@ use Rattle.mux_history.specs.Said.{on_unused, on_waiting, said_payload, sends, s
 use Rattle.mux_history.proofs.Bools.{is-of, same-number}
 use Rattle.mux_history.proofs.Readings.{reading-ok}
 use Rattle.mux_history.proofs.Renumbered.{SenderIn, reads-sent, sender-in, spelled}
+use Rattle.mux_history.proofs.Sends.{and-left, and-right}
 use Rattle.window_ledger.specs.declared.ledger.Ledger.{Ledger}
 use Rattle.window_ledger.specs.Stands.{IsConfirmed, confirmed}
 use Rattle.window_ledger.specs.Stands as ledger
@@ -80,14 +81,6 @@ taken-channels k s c n w m p rows bytes small e =
         ∙ ap (λ y. elim (x.client == k) as (λ _. Channel) [ true ↦ y | false ↦ x ]) (reading-ok (with_sender p n) (Confirmation s n w m) (λ g. with_up (Some c) g x) x reads)
 
 -- ---- the entry
-
-and-left : (b c : Bool) → (b && c) ≡ true → b ≡ true
-and-left true c h = refl
-and-left false c h = cc
-
-and-right : (b c : Bool) → (b && c) ≡ true → c ≡ true
-and-right true c h = h
-and-right false c h = cc
 
 not-false : (b : Bool) → not b ≡ true → b ≡ false
 not-false true h = absurd (cc)

@@ -13,6 +13,7 @@ use Rattle.mux_history.specs.Requests.{asks, asks_of, sent_flags, wanted_in}
 use Rattle.mux_history.specs.Said.{sends}
 use Rattle.mux_history.specs.Treat.{bare}
 use Rattle.mux_history.proofs.Readings.{reading-ok}
+use Rattle.mux_history.proofs.Sends.{and-left, and-right}
 use Rattle.window_ledger.specs.declared.ledger.Ledger.{Ledger}
 use Rattle.channel_table.specs.Entries.{Entry}
 use Rattle.channel_table.specs.Entries.{at_number, changed_at, has_remote, is_of, with_ledger}
@@ -51,14 +52,6 @@ does k r a = record {
   others = λ e x fits h. by_other e x fits h (x.client == k) refl;
 }
   where
-    and-left : (b c : Bool) → (b && c) ≡ true → b ≡ true
-    and-left true c h = refl
-    and-left false c h = cc
-
-    and-right : (b c : Bool) → (b && c) ≡ true → c ≡ true
-    and-right true c h = h
-    and-right false c h = cc
-
     named : (x : Channel) (b c : Bool) → (x.client == k) ≡ b → (is_number x.remote r && is_held x) ≡ c → up_act k r a x ≡ elim b as (λ _. Channel) [ true ↦ elim c as (λ _. Channel) [ true ↦ with_act Up a x | false ↦ x ] | false ↦ x ]
     named x b c h h' = ap (λ (d : Bool). elim d as (λ _. Channel) [ true ↦ elim (is_number x.remote r && is_held x) as (λ _. Channel) [ true ↦ with_act Up a x | false ↦ x ] | false ↦ x ]) h ∙ ap (λ (d : Bool). elim b as (λ _. Channel) [ true ↦ elim d as (λ _. Channel) [ true ↦ with_act Up a x | false ↦ x ] | false ↦ x ]) h'
 
@@ -77,10 +70,6 @@ does k r a = record {
 pub sole : (k r : ℕ) → Sole (is_theirs k r)
 sole k r e f two h = by_mine (is_of k f) refl
   where
-    and-right : (b c : Bool) → (b && c) ≡ true → c ≡ true
-    and-right true c h = h
-    and-right false c h = cc
-
     by_mine : (b : Bool) → is_of k f ≡ b → is_theirs k r f ≡ false
     by_mine true m = ap (λ b. b && has_remote r f) m ∙ two.remote r (and-right (is_of k e) (has_remote r e) h)
     by_mine false m = ap (λ b. b && has_remote r f) m
