@@ -24,7 +24,7 @@ pub use faults::{count_failed, count_made, file_error};
 pub use numbers::{Numbers, keep_listener, keep_stream, next_number, numbers_to_give};
 pub use permissions::owner_only;
 pub use sink::RealSink;
-pub use stream::Stream;
 pub use sockets::Sockets;
+pub use stream::Stream;
 pub use table::{Door, Entry, Queue, Ready, Shares, Table};
 pub use turns::turn_of;

@@ -211,7 +211,12 @@ impl Lookups {
     }
 
     // Tells the addresses of a name, of which its look-up wrote this.
-    fn tell(&mut self, name: Vec<u8>, heard: &[u8], now: Option<Instant>) -> Result<(), AllocError> {
+    fn tell(
+        &mut self,
+        name: Vec<u8>,
+        heard: &[u8],
+        now: Option<Instant>,
+    ) -> Result<(), AllocError> {
         let addresses = addresses_of(self.alloc, heard)?;
         self.resolve(name.as_slice(), addresses.as_slice())?;
         match now {

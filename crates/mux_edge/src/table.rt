@@ -11,7 +11,6 @@ mod shares;
 
 pub use self::ready::{Door, Entry, Queue, Ready};
 pub use self::shares::Shares;
-
 use crate::lookups::Lookups;
 use crate::stream::Stream;
 use indexmap::IndexMap;

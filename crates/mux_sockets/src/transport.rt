@@ -2,9 +2,9 @@
 ghost use Rattle.std.specs.Prelude.{IfOk, IsErr, IsUtf8};
 ghost use Rattle.mux_edge.specs.Transport.{IsOver, IsOverUnix};
 
-use mux_edge::Stream;
 use mio::net::TcpStream;
 use mio::{Events, Interest, Poll, Token};
+use mux_edge::Stream;
 use std::alloc::Global;
 use std::fs::Files;
 use std::net::{Net, SocketAddr};

@@ -1,4 +1,4 @@
-ghost use Rattle.std.specs.Prelude.{◌≡◌, ◌≢◌, ◌<◌, ◌⊎◌, ◌&&◌, not, ℕ, List, length, true, Err, IfSome, IsErr, IsNone, IsSome, IsSomeAnd, IsTrue, IsUtf8, None, OnOk, Some, false, nat_eq, option_map};
+ghost use Rattle.std.specs.Prelude.{◌≡◌, ◌≢◌, ◌<◌, ◌⊎◌, ◌&&◌, not, ℕ, List, length, true, Err, IfSome, IsErr, OnErr, IsNone, IsSome, IsSomeAnd, IsTrue, IsUtf8, None, OnOk, Some, false, nat_eq, option_map};
 ghost use Rattle.indexmap.specs.IndexMap.{get};
 ghost use Rattle.mux_outside.specs.Faults.{no_faults};
 ghost use Rattle.mux_outside.specs.OwnStreams.{is_own, is_silent};
@@ -15,7 +15,8 @@ use crate::control::Control;
 use crate::opening::{Fault, join, open};
 use crate::workers::Workers;
 use mux_edge::opened::{
-    connect, drop_socket, finish, found_next, listen, pause, resume, stop_listening, unlisten, write,
+    connect, drop_socket, finish, found_next, listen, pause, resume, stop_listening, unlisten,
+    write,
 };
 use mux_edge::{
     Sockets, Table, count_made, keep_listener, keep_stream, next_number, numbers_to_give, turn_of,
@@ -27,6 +28,7 @@ use mux_outside::{
 use ssh_fields::OutOfMemory;
 use std::alloc::Global;
 use std::fs::Files;
+use std::mem;
 use std::net::Net;
 use std::process::Processes;
 use std::time::Clock;
@@ -82,8 +84,54 @@ impl<R: Files + Net + Processes + Clock + Clone + Drop> RealWire<R> {
         ensures rest { self.new
             ≡ record self.old { control = self.new.control; sockets = self.new.sockets } }
     {
-        self.control = control;
-        self.sockets = Some(Sockets::new(self.alloc, table, workers));
+        drop(mem::replace(&mut self.control, control));
+        let sockets = Sockets::new(self.alloc, table, workers);
+        drop(self.sockets.replace(sockets));
+    }
+
+    // Opens the sockets, and keeps them.
+    fn open_sockets(&mut self, control: &[u8], transport: &[u8]) -> Result<(), FileError>
+        ensures not_text { ¬ (IsUtf8 control.now) → IsErr result }
+        ensures named { OnOk result (IsSome self.new.control) }
+        ensures listens { OnOk result
+            (IsSomeAnd self.new.sockets (λ sockets. IsSome sockets.table.listener)) }
+        ensures state { OnOk result (self.new.state ≡ self.old.state) }
+        ensures failed { OnErr result (self.new.state ≡ state_opened result self.old.state) }
+        ensures cause { OpenFaults result self.old.faults self.new.faults }
+    {
+        let workers = self.workers()?;
+        match open(&self.rt, self.alloc, control, transport) {
+            Ok((control, table)) => {
+                self.take_in(Some(control), table, workers);
+                Ok(())
+            }
+            Err(fault) => {
+                drop(workers);
+                Err(self.not_opened(fault))
+            }
+        }
+    }
+
+    // Joins another master, and keeps the socket to it.
+    fn join_sockets(&mut self, control: &[u8]) -> Result<(), FileError>
+        ensures not_text { ¬ (IsUtf8 control.now) → IsErr result }
+        ensures unnamed { OnOk result (IsNone self.new.control) }
+        ensures deaf { OnOk result
+            (IsSomeAnd self.new.sockets (λ sockets. IsNone sockets.table.listener)) }
+        ensures state { self.new.state ≡ self.old.state }
+        ensures cause { JoinFaults result self.old.faults self.new.faults }
+    {
+        let workers = self.workers()?;
+        match join(&self.rt, self.alloc, control) {
+            Ok(table) => {
+                self.take_in(None, table, workers);
+                Ok(())
+            }
+            Err(fault) => {
+                drop(workers);
+                Err(self.not_joined(fault))
+            }
+        }
     }
 
     // Counts that nothing was opened.
@@ -184,14 +232,15 @@ impl<R: Files + Net + Processes + Clock + Clone + Drop> Wire for RealWire<R> {
         ensures cause { OpenFaults result self.old.faults self.new.faults }
     {
         let server = Streams::one(self.alloc, 0)?;
-        let workers = self.workers()?;
-        match open(&self.rt, self.alloc, control, transport) {
-            Ok((control, table)) => {
-                self.take_in(Some(control), table, workers);
+        match self.open_sockets(control, transport) {
+            Ok(()) => {
                 self.state.opened(server);
                 Ok(())
             }
-            Err(fault) => Err(self.not_opened(fault)),
+            Err(e) => {
+                drop(server);
+                Err(e)
+            }
         }
     }
 
@@ -204,14 +253,15 @@ impl<R: Files + Net + Processes + Clock + Clone + Drop> Wire for RealWire<R> {
         ensures cause { JoinFaults result self.old.faults self.new.faults }
     {
         let server = Streams::one(self.alloc, 0)?;
-        let workers = self.workers()?;
-        match join(&self.rt, self.alloc, control) {
-            Ok(table) => {
-                self.take_in(None, table, workers);
+        match self.join_sockets(control) {
+            Ok(()) => {
                 self.state.joined(server);
                 Ok(())
             }
-            Err(fault) => Err(self.not_joined(fault)),
+            Err(e) => {
+                drop(server);
+                Err(e)
+            }
         }
     }
 
@@ -240,7 +290,7 @@ impl<R: Files + Net + Processes + Clock + Clone + Drop> Wire for RealWire<R> {
         ensures faults { self.new.faults ≡ self.old.faults }
     {
         self.state.stop_listening();
-        self.control = None;
+        drop(self.control.take());
         stop_listening(&mut self.sockets);
     }
 

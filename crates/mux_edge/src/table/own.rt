@@ -134,8 +134,11 @@ impl Table {
 
     // A socket that could not be accepted is no fault of the run.
     fn not_joined(&mut self, listener: u64, e: &io::Error)
-        ensures { self.new ≡ record self.old { doors = self.new.doors; ready = self.new.ready;
-            joins_pause = self.new.joins_pause } }
+        ensures { self.new ≡ record self.old {
+          doors = self.new.doors;
+          ready = self.new.ready;
+          joins_pause = self.new.joins_pause;
+        } }
     {
         match e.kind() {
             ErrorKind::WouldBlock => {}
