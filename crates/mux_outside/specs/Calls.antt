@@ -1,5 +1,5 @@
 -- Which calls of an object in memory fail.
-use Rattle.std.specs.Prelude.{◌↔◌, ℕ, List, IsTrue, IsErrOf, Result, Ok, Err}
+use Rattle.std.specs.Prelude.{◌≡◌, ◌↔◌, ℕ, List, IsTrue, IsErrOf, Result, Ok, Err}
 use Rattle.mux_outside.specs.Counts.{counted}
 use Rattle.mux_outside.specs.declared.file_error.FileError.{FileError}
 use Rattle.mux_outside.specs.declared.file_error.FileError.TheVariants.{Failed, OutOfMemory}
@@ -20,3 +20,9 @@ calls_after (Err OutOfMemory) calls = calls
 abbrev pub FailsWhereNoted : {X : Type 0} → Result X FileError → ℕ → List ℕ → Type 0
 FailsWhereNoted (Err OutOfMemory) calls fails = Unit {0}
 FailsWhereNoted answer calls fails = FailsByNumber answer calls fails
+
+-- a call is counted, where there was memory for it, and which calls fail stays
+pub record CountsCall {X : Type 0} (answer : Result X FileError) (calls now : ℕ)
+    (fails fails_now : List ℕ) : Type 0 where
+  pub counted_so : now ≡ calls_after answer calls
+  pub same_fail : fails_now ≡ fails

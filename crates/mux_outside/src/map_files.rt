@@ -1,5 +1,5 @@
 ghost use Rattle.std.specs.Prelude.{◌≡◌, ◌≤◌, ◌++◌, ◌∷◌, [], length, Some, IfOk, IfErr, IfSome, OnOk};
-ghost use Rattle.mux_outside.specs.Calls.{FailsWhereNoted, calls_after};
+ghost use Rattle.mux_outside.specs.Calls.{CountsCall, FailsWhereNoted};
 ghost use Rattle.mux_outside.specs.Counts.{HasCause, Rose};
 ghost use Rattle.mux_outside.specs.Files.{Reads, Lists, ListsNames, NotesFailed, NotesReading, content_at};
 ghost use Rattle.std.specs.Prelude.{take};
@@ -132,8 +132,8 @@ impl Files for MapFiles {
         ensures noted { NotesReading result path.now most (Some self.old.readings)
             (Some self.new.readings) }
         ensures exact { FailsWhereNoted result self.old.calls self.old.fails }
-        ensures calls { self.new.calls ≡ calls_after result self.old.calls }
-        ensures fails { self.new.fails ≡ self.old.fails }
+        ensures counts { CountsCall result self.old.calls self.new.calls self.old.fails
+            self.new.fails }
     {
         let reading = Reading {
             path: Text::copy(self.alloc, path)?,
@@ -157,8 +157,8 @@ impl Files for MapFiles {
         ensures failed { NotesFailed result dir.now (Some self.old.failed) (Some self.new.failed) }
         ensures noted { Some self.new.readings ≡ Some self.old.readings }
         ensures exact { FailsWhereNoted result self.old.calls self.old.fails }
-        ensures calls { self.new.calls ≡ calls_after result self.old.calls }
-        ensures fails { self.new.fails ≡ self.old.fails }
+        ensures counts { CountsCall result self.old.calls self.new.calls self.old.fails
+            self.new.fails }
     {
         let call = counted(self.calls);
         if self.fails.contains(call) {
