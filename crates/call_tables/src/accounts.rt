@@ -106,25 +106,32 @@ fn follow(start: Ledger, rows: &[Row]) -> (Ledger, Option<usize>) {
     (ledger, None)
 }
 
+/// A ledger after an open by the server and its confirmation, each with a window and a maximum.
+fn confirmed(own: (u32, u32), other: (u32, u32)) -> Ledger {
+    let mut ledger = Ledger::opened(Down, own.0, own.1);
+    ledger.confirm(other.0, other.1);
+    ledger
+}
+
 #[test]
 fn an_account_is_kept_at_its_edges(rt: HostRuntime) {
     let mut ledger = Ledger::opened(Up, 2_097_152, 32_768);
     assert_eq!(rt; ledger.take(Up, Data(0)), Err(Breach::NotOpen));
     assert_eq!(rt; (ledger.room(Up), ledger.room(Down)), (0, 2_097_152));
     ledger.confirm(5, 32_768);
-    let (ledger, wrong) = follow(ledger, &EDGES);
-    assert_eq!(rt; wrong, None);
-    assert!(rt; ledger.closed());
-
-    let mut ledger = Ledger::opened(Down, 0, 0);
-    ledger.confirm(1, 0);
-    let (ledger, wrong) = follow(ledger, &NOTHING);
-    assert_eq!(rt; wrong, None);
-    assert!(rt; ledger.confirmed() && !ledger.closed());
-
-    let mut ledger = Ledger::opened(Down, 4_294_967_295, 4_294_967_295);
-    ledger.confirm(1, 2);
-    assert_eq!(rt; follow(ledger, &EVERYTHING).1, None);
+    for (ledger, rows, closed) in [
+        (ledger, EDGES.as_slice(), true),
+        (confirmed((0, 0), (1, 0)), NOTHING.as_slice(), false),
+        (
+            confirmed((FULL, FULL), (1, 2)),
+            EVERYTHING.as_slice(),
+            false,
+        ),
+    ] {
+        let (ledger, wrong) = follow(ledger, rows);
+        assert_eq!(rt; wrong, None);
+        assert!(rt; ledger.confirmed() && ledger.closed() == closed);
+    }
 }
 
 #[test]
@@ -134,14 +141,15 @@ fn at_most_1024_requests_of_a_direction_are_unanswered(rt: HostRuntime) {
     for _ in 0..1024 {
         assert_eq!(rt; ledger.take(Up, Request(true)), Ok(()));
     }
-    assert_eq!(rt;
-        ledger.take(Up, Request(true)),
-        Err(Breach::TooManyAsks { have: 1024 })
-    );
-    assert_eq!(rt; ledger.take(Up, Request(false)), Ok(()));
-    assert_eq!(rt; ledger.take(Down, Request(true)), Ok(()));
-    assert_eq!(rt; ledger.take(Down, Reply), Ok(()));
-    assert_eq!(rt; ledger.take(Up, Request(true)), Ok(()));
+    for (way, act, taken) in [
+        (Up, Request(true), Err(Breach::TooManyAsks { have: 1024 })),
+        (Up, Request(false), Ok(())),
+        (Down, Request(true), Ok(())),
+        (Down, Reply, Ok(())),
+        (Up, Request(true), Ok(())),
+    ] {
+        assert_eq!(rt; ledger.take(way, act), taken);
+    }
 }
 
 #[test]
