@@ -1,5 +1,5 @@
 use Act::{Close, Data, Eof, Grant, Reply, Request};
-use Breach::{AfterClose, AfterEof, Overflow, PastPacket, PastWindow, Unasked};
+use Breach::{AfterClose, AfterEof, Overflow, PastPacket, PastWindow, TooManyAsks, Unasked};
 use Side::{Down, Up};
 use window_ledger::{Act, Breach, Ledger, Side};
 
@@ -92,6 +92,15 @@ const EVERYTHING: [Row; 5] = [
     (Down, Data(1), None, FULL, 0),
 ];
 
+/// After an open by the client and a confirmation, all of nothing, and 1024 requests of the client.
+const ASKED: [Row; 5] = [
+    (Up, Request(true), Some(TooManyAsks { have: 1024 }), 0, 0),
+    (Up, Request(false), None, 0, 0),
+    (Down, Request(true), None, 0, 0),
+    (Down, Reply, None, 0, 0),
+    (Up, Request(true), None, 0, 0),
+];
+
 /// The ledger after all rows, and the place of the first that went otherwise.
 fn follow(start: Ledger, rows: &[Row]) -> (Ledger, Option<usize>) {
     let mut ledger = start;
@@ -106,25 +115,32 @@ fn follow(start: Ledger, rows: &[Row]) -> (Ledger, Option<usize>) {
     (ledger, None)
 }
 
+/// A ledger after an open by the server and its confirmation, each with a window and a maximum.
+fn confirmed(own: (u32, u32), other: (u32, u32)) -> Ledger {
+    let mut ledger = Ledger::opened(Down, own.0, own.1);
+    ledger.confirm(other.0, other.1);
+    ledger
+}
+
 #[test]
 fn an_account_is_kept_at_its_edges(rt: HostRuntime) {
     let mut ledger = Ledger::opened(Up, 2_097_152, 32_768);
     assert_eq!(rt; ledger.take(Up, Data(0)), Err(Breach::NotOpen));
     assert_eq!(rt; (ledger.room(Up), ledger.room(Down)), (0, 2_097_152));
     ledger.confirm(5, 32_768);
-    let (ledger, wrong) = follow(ledger, &EDGES);
-    assert_eq!(rt; wrong, None);
-    assert!(rt; ledger.closed());
-
-    let mut ledger = Ledger::opened(Down, 0, 0);
-    ledger.confirm(1, 0);
-    let (ledger, wrong) = follow(ledger, &NOTHING);
-    assert_eq!(rt; wrong, None);
-    assert!(rt; ledger.confirmed() && !ledger.closed());
-
-    let mut ledger = Ledger::opened(Down, 4_294_967_295, 4_294_967_295);
-    ledger.confirm(1, 2);
-    assert_eq!(rt; follow(ledger, &EVERYTHING).1, None);
+    for (ledger, rows, closed) in [
+        (ledger, EDGES.as_slice(), true),
+        (confirmed((0, 0), (1, 0)), NOTHING.as_slice(), false),
+        (
+            confirmed((FULL, FULL), (1, 2)),
+            EVERYTHING.as_slice(),
+            false,
+        ),
+    ] {
+        let (ledger, wrong) = follow(ledger, rows);
+        assert_eq!(rt; wrong, None);
+        assert!(rt; ledger.confirmed() && ledger.closed() == closed);
+    }
 }
 
 #[test]
@@ -134,14 +150,7 @@ fn at_most_1024_requests_of_a_direction_are_unanswered(rt: HostRuntime) {
     for _ in 0..1024 {
         assert_eq!(rt; ledger.take(Up, Request(true)), Ok(()));
     }
-    assert_eq!(rt;
-        ledger.take(Up, Request(true)),
-        Err(Breach::TooManyAsks { have: 1024 })
-    );
-    assert_eq!(rt; ledger.take(Up, Request(false)), Ok(()));
-    assert_eq!(rt; ledger.take(Down, Request(true)), Ok(()));
-    assert_eq!(rt; ledger.take(Down, Reply), Ok(()));
-    assert_eq!(rt; ledger.take(Up, Request(true)), Ok(()));
+    assert_eq!(rt; follow(ledger, &ASKED).1, None);
 }
 
 #[test]

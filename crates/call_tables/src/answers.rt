@@ -6,6 +6,7 @@ use conn_messages::{Key, OwnKey};
 use global_replies::{Ask, Askers, ClientAnswers};
 use mux_history::limits::MAX_ADDRESS;
 use ssh_fields::OutOfMemory;
+use std::process::Abort;
 
 /// A client, and what it asks: the request, its address or path, and its port.
 type Row = (u64, Kind, &'static [u8], u32);
@@ -88,30 +89,39 @@ fn answer_all(askers: &mut Askers, rows: &[Row]) -> Option<usize> {
     None
 }
 
+/// How many requests of the clients 7, 9, 3 and 1 wait.
+fn counts(askers: &Askers) -> [u32; 4] {
+    [
+        askers.count(7),
+        askers.count(9),
+        askers.count(3),
+        askers.count(1),
+    ]
+}
+
+fn no_one_waits(askers: &mut Askers) -> bool {
+    askers.answered().is_none()
+}
+
+/// Asks all rows, answers four, asks the first once more, and answers the rest.
+fn ask_and_answer(rt: &impl Abort, askers: &mut Askers) -> Result<(), OutOfMemory> {
+    assert!(rt; no_one_waits(askers));
+    ask_all(askers, &ASKED)?;
+    assert_eq!(rt; counts(askers), [3, 2, 2, 0]);
+    let wrong = answer_all(askers, &ASKED[..4]);
+    assert_eq!(rt; (wrong, counts(askers)), (None, [1, 1, 1, 0]));
+    ask_all(askers, &ASKED[..1])?;
+    let wrong = answer_all(askers, &ASKED[4..]).or(answer_all(askers, &ASKED[..1]));
+    assert!(rt; wrong.is_none() && no_one_waits(askers));
+    Ok(())
+}
+
 #[test]
 fn replies_answer_the_requests_in_their_order(rt: HostRuntime) -> Result<(), OutOfMemory> {
     let mut askers = Askers::new(rt.alloc());
-    assert!(rt; askers.answered().is_none());
-    ask_all(&mut askers, &ASKED)?;
-    assert_eq!(rt;
-        (
-            askers.count(7),
-            askers.count(9),
-            askers.count(3),
-            askers.count(1)
-        ),
-        (3, 2, 2, 0)
-    );
-    assert_eq!(rt; answer_all(&mut askers, &ASKED[..4]), None);
-    assert_eq!(rt;
-        (askers.count(7), askers.count(9), askers.count(3)),
-        (1, 1, 1)
-    );
-    ask_all(&mut askers, &ASKED[..1])?;
-    assert_eq!(rt; answer_all(&mut askers, &ASKED[4..]), None);
-    assert_eq!(rt; answer_all(&mut askers, &ASKED[..1]), None);
-    assert!(rt; askers.answered().is_none());
-    Ok(())
+    let done = ask_and_answer(&rt, &mut askers);
+    drop(askers);
+    done
 }
 
 /// What happens to a client's requests.
@@ -169,6 +179,8 @@ fn a_refusal_waits_until_the_requests_before_it_are_answered(
     rt: HostRuntime,
 ) -> Result<(), OutOfMemory> {
     let mut answers = ClientAnswers::new(rt.alloc());
-    assert_eq!(rt; follow(&mut answers, &STEPS)?, None);
+    let wrong = follow(&mut answers, &STEPS);
+    drop(answers);
+    assert_eq!(rt; wrong?, None);
     Ok(())
 }

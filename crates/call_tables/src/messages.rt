@@ -4,7 +4,9 @@ use conn_messages::{
 
 /// A payload with one byte too many behind it; the fault where its last byte is missing, and the
 /// fault with the byte too many. Where its last field is data, neither is a fault.
-const ROWS: [(&[u8], Option<Bad>, Option<Bad>); 27] = [
+type Row = (&'static [u8], Option<Bad>, Option<Bad>);
+
+const ROWS: [Row; 27] = [
     (b"\x01\x00\x00\x00\x0b\xff", None, None),
     (b"\x02\xff", Some(Bad::Empty), None),
     (b"\x03\x00\x00\x00\x05\xff", None, None),
@@ -118,33 +120,46 @@ const ROWS: [(&[u8], Option<Bad>, Option<Bad>); 27] = [
     ),
 ];
 
+/// All bytes but the last.
+fn cut(bytes: &[u8]) -> &[u8] {
+    bytes.split_last().map_or(bytes, |parts| parts.1)
+}
+
+fn fault(payload: &[u8]) -> Option<Bad> {
+    read_message(payload).err()
+}
+
+/// Whether a row's payload is read as the row says: short by a byte, whole, and long by one.
+fn is_read_so(row: &Row) -> bool {
+    let (long, short_by_one, long_by_one) = *row;
+    let payload = cut(long);
+    fault(cut(payload)) == short_by_one && fault(payload).is_none() && fault(long) == long_by_one
+}
+
 #[test]
 fn each_message_is_read_to_its_last_byte(rt: HostRuntime) {
-    for (long, short_by_one, long_by_one) in ROWS {
-        let payload = long.split_last().map_or(long, |parts| parts.1);
-        let short = payload.split_last().map_or(payload, |parts| parts.1);
-        assert_eq!(rt; read_message(payload).err(), None, "{payload:?}");
-        assert_eq!(rt; read_message(short).err(), short_by_one, "{short:?}");
-        assert_eq!(rt; read_message(long).err(), long_by_one, "{long:?}");
-    }
-    assert_eq!(rt; read_message(b"\x53").err(), Some(Bad::Kind(83)));
+    assert_eq!(rt; ROWS.iter().position(|row| !is_read_so(row)), None);
+    assert_eq!(rt; fault(b"\x53"), Some(Bad::Kind(83)));
 }
 
 #[test]
 fn own_messages_are_written_to_the_byte(rt: HostRuntime) {
-    let failure = open_failure(5, 1, b"not permitted");
-    assert_eq!(rt;
-        failure.as_bytes(),
-        b"\x5c\x00\x00\x00\x05\x00\x00\x00\x01\x00\x00\x00\x0dnot permitted\x00\x00\x00\x00".as_slice()
-    );
-    assert_eq!(rt; close(5).as_bytes(), b"\x61\x00\x00\x00\x05".as_slice());
-    assert_eq!(rt; request_failure().as_bytes(), b"\x52".as_slice());
-    assert_eq!(rt;
-        cancel_forward(b"", 8080).as_bytes(),
-        b"\x50\x00\x00\x00\x14cancel-tcpip-forward\x00\x00\x00\x00\x00\x00\x00\x1f\x90".as_slice()
-    );
-    assert_eq!(rt;
-        cancel_path(b"/s").as_bytes(),
-        b"\x50\x00\x00\x00\x26cancel-streamlocal-forward@openssh.com\x00\x00\x00\x00\x02/s".as_slice()
-    );
+    for (message, bytes) in &[
+        (
+            open_failure(5, 1, b"not permitted"),
+            b"\x5c\x00\x00\x00\x05\x00\x00\x00\x01\x00\x00\x00\x0dnot permitted\x00\x00\x00\x00".as_slice(),
+        ),
+        (close(5), b"\x61\x00\x00\x00\x05".as_slice()),
+        (request_failure(), b"\x52".as_slice()),
+        (
+            cancel_forward(b"", 8080),
+            b"\x50\x00\x00\x00\x14cancel-tcpip-forward\x00\x00\x00\x00\x00\x00\x00\x1f\x90".as_slice(),
+        ),
+        (
+            cancel_path(b"/s"),
+            b"\x50\x00\x00\x00\x26cancel-streamlocal-forward@openssh.com\x00\x00\x00\x00\x02/s".as_slice(),
+        ),
+    ] {
+        assert_eq!(rt; message.as_bytes(), *bytes);
+    }
 }

@@ -270,27 +270,28 @@ impl Bench {
         let Some(order) = self.relay.orders(&self.stream) else {
             return Ok(false);
         };
-        match order {
+        let word = match order {
             Order::Pause(_) => {
                 self.stream.paused = true;
-                self.word(b"pause", b"")?;
+                b"pause".as_slice()
             }
             Order::Resume(_) => {
                 self.stream.paused = false;
-                self.word(b"resume", b"")?;
+                b"resume".as_slice()
             }
             Order::Finish(_) => {
                 self.stream.finished = true;
-                self.word(b"finish", b"")?;
+                b"finish".as_slice()
             }
             Order::Close(_) => {
                 self.relay.closed();
-                self.word(b"shut", b"")?;
+                b"shut".as_slice()
             }
             Order::Listen { .. } | Order::Connect { .. } | Order::Unlisten(_) => {
-                self.word(b"no order of a relay", b"")?;
+                b"no order of a relay".as_slice()
             }
-        }
+        };
+        self.word(word, b"")?;
         Ok(true)
     }
 
@@ -334,6 +335,16 @@ impl Bench {
         }
         Ok(())
     }
+
+    fn plays(&mut self, events: &[Event], free: bool) -> Result<(), OutOfMemory> {
+        self.settle()?;
+        for event in events {
+            self.seen.add(b"|")?;
+            self.happens(*event, free)?;
+            self.settle()?;
+        }
+        Ok(())
+    }
 }
 
 /// Plays a row over a relay.
@@ -345,14 +356,12 @@ fn play(
     row: &Row,
 ) -> Result<(), OutOfMemory> {
     let mut bench = Bench::new(alloc, relay);
-    bench.settle()?;
-    for event in row.0 {
-        bench.seen.add(b"|")?;
-        bench.happens(*event, free)?;
-        bench.settle()?;
+    let played = bench.plays(row.0, free);
+    if played.is_ok() {
+        assert_eq!(rt; bench.seen.as_bytes(), row.1);
     }
-    assert_eq!(rt; bench.seen.as_bytes(), row.1);
-    Ok(())
+    drop(bench);
+    played
 }
 
 #[test]

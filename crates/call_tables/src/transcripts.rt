@@ -38,16 +38,26 @@ struct Bench {
 
 /// Plays a script to a core that permits everything.
 fn plays(alloc: Global, script: &str) -> Result<(), Fail> {
-    fresh(alloc)?.follow(script)
+    let mut bench = fresh(alloc)?;
+    let played = bench.follow(script);
+    drop(bench);
+    played
 }
 
 /// Plays each step of a script to a core of its own, behind the same beginning.
 fn plays_each(alloc: Global, beginning: &str, script: &str) -> Result<(), Fail> {
     for step in script.split(';') {
-        let steps = format!(in alloc; "{beginning};{step}")?;
-        plays(alloc, steps.as_str())?;
+        plays_behind(alloc, beginning, step)?;
     }
     Ok(())
+}
+
+/// Plays a step to a core of its own, behind a beginning.
+fn plays_behind(alloc: Global, beginning: &str, step: &str) -> Result<(), Fail> {
+    let steps = format!(in alloc; "{beginning};{step}")?;
+    let played = plays(alloc, steps.as_str());
+    drop(steps);
+    played
 }
 
 fn fresh(alloc: Global) -> Result<Bench, Fail> {
