@@ -1,17 +1,20 @@
-ghost use Rattle.std.specs.Prelude.{◌≡◌, ◌+◌, ℕ, false, None, length, bytes_eq, codes};
-ghost use Rattle.conf_rules.specs.CommandLine.{permitted, master_of, client_of, control_in, mode_command, host_command, command_with, command_of, walked, walk_from, steps_from, transport_in};
-ghost use Rattle.conf_rules.specs.Options.{Free};
+ghost use Rattle.std.specs.Prelude.{◌≡◌, ◌+◌, ℕ, List, IfOk, IfErr, true, false, None, length, bytes_eq, codes};
+ghost use Rattle.conf_rules.specs.CommandLine.{permitted, master_of, client_of, control_in, mode_command, host_command, command_with, command_of, walked, walk_from, steps_from, transport_in, permits, texts_of, asked_of};
+ghost use Rattle.conf_rules.specs.Options.{Free, Step};
+ghost use Rattle.conf_rules.specs.Permissions.{bad_entry, earlier};
+ghost use Rattle.conf_rules.specs.declared.command.Command.{Command};
+ghost use Rattle.conf_rules.specs.declared.command.Command.TheVariants as commands;
 ghost use Rattle.conf_rules.specs.declared.control.Control.TheVariants.{Check};
 ghost use Rattle.conf_rules.specs.Reading.{reading, drill_of};
 ghost use Rattle.conf_command.specs.declared.reader.WordsError.TheVariants as words_errors;
-ghost use Rattle.conf_command.specs.Results.{Gives};
+ghost use Rattle.conf_command.specs.Results.{Gives, Fails};
 ghost use Rattle.conf_command.specs.Shown.{mode_of};
 
 use crate::act::Mode;
 use crate::bytes::is_same;
 use crate::drill::drill_of;
 use crate::options::steps_of;
-use crate::permits::{bad_entry, earlier, permits_of, texts_of};
+use crate::permits::{Permits, bad_entry, earlier, permits_of, texts_of};
 use crate::sound::{
     asked_of, control_in, host_in, is_about_forwardings, names_forwarding, transport_in,
 };
@@ -44,6 +47,90 @@ fn refused(word: u64, cause: Usage) -> WordsError
     WordsError::Refused(UsageError { word, cause })
 }
 
+/// The texts of the master's permissions.
+#[derive(Drop)]
+struct Permitted {
+    opens: Texts,
+    listens: Texts,
+}
+
+/// The texts of permissions; bad ones are refused, the earlier word first.
+fn permitted_texts(
+    alloc: Global,
+    opens: &Permits,
+    listens: &Permits,
+) -> Result<Permitted, WordsError>
+    ensures sound { IfOk result (λ texts.
+        (earlier (bad_entry opens.now) (bad_entry listens.now) ≡ None)
+        × (texts.opens ≡ texts_of opens.now) × (texts.listens ≡ texts_of listens.now)) }
+    ensures bad { IfErr result (λ e. (steps : List Step) (command : Command)
+        → opens.now ≡ permits false steps → listens.now ≡ permits true steps
+        → Fails e (permitted steps command)) }
+{
+    if let Some(word) = earlier(bad_entry(opens), bad_entry(listens)) {
+        return Err(refused(word, Usage::BadEntry));
+    }
+    let opens = texts_of(alloc, opens)?;
+    match texts_of(alloc, listens) {
+        Ok(listens) => Ok(Permitted { opens, listens }),
+        Err(e) => {
+            drop(opens);
+            Err(WordsError::from(e))
+        }
+    }
+}
+
+/// The texts of the master's permissions; bad ones are refused, the earlier word first.
+fn permitted_of(alloc: Global, steps: &[Step]) -> Result<Permitted, WordsError>
+    ensures sound { IfOk result (λ texts.
+        (earlier (bad_entry (permits false steps.now)) (bad_entry (permits true steps.now)) ≡ None)
+        × (texts.opens ≡ texts_of (permits false steps.now))
+        × (texts.listens ≡ texts_of (permits true steps.now))) }
+    ensures bad { IfErr result (λ e. (command : Command)
+        → Fails e (permitted steps.now command)) }
+{
+    let opens = permits_of(alloc, false, steps)?;
+    match permits_of(alloc, true, steps) {
+        Ok(listens) => {
+            let permitted = permitted_texts(alloc, &opens, &listens);
+            drop(opens);
+            drop(listens);
+            permitted
+        }
+        Err(e) => {
+            drop(opens);
+            Err(WordsError::from(e))
+        }
+    }
+}
+
+/// The master over a transport, with its permissions.
+fn master_over(
+    alloc: Global,
+    host: &[u8],
+    steps: &[Step],
+    transport: Text,
+    permitted: Permitted,
+) -> Result<Command, WordsError>
+    ensures ok { IfOk result (λ command. command ≡ commands.Master (asked_of host.now steps.now) transport
+        permitted.opens permitted.listens) }
+    ensures err { IfErr result (λ e. e ≡ words_errors.OutOfMemory) }
+{
+    match asked_of(alloc, host, steps) {
+        Ok(asked) => Ok(Command::Master {
+            asked,
+            transport,
+            opens: permitted.opens,
+            listens: permitted.listens,
+        }),
+        Err(e) => {
+            drop(transport);
+            drop(permitted);
+            Err(WordsError::from(e))
+        }
+    }
+}
+
 /// The master over a transport, which must be named; bad permissions are refused last, the earlier
 /// word first.
 fn master_of(alloc: Global, end: u64, host: &[u8], steps: &[Step]) -> Result<Command, WordsError>
@@ -53,17 +140,13 @@ fn master_of(alloc: Global, end: u64, host: &[u8], steps: &[Step]) -> Result<Com
     let Some(transport) = transport_in(alloc, steps)? else {
         return Err(refused(end, Usage::NoTransport));
     };
-    let opens = permits_of(alloc, false, steps)?;
-    let listens = permits_of(alloc, true, steps)?;
-    if let Some(word) = earlier(bad_entry(&opens), bad_entry(&listens)) {
-        return Err(refused(word, Usage::BadEntry));
+    match permitted_of(alloc, steps) {
+        Ok(permitted) => master_over(alloc, host, steps, transport, permitted),
+        Err(e) => {
+            drop(transport);
+            Err(e)
+        }
     }
-    Ok(Command::Master {
-        asked: asked_of(alloc, host, steps)?,
-        transport,
-        opens: texts_of(alloc, &opens)?,
-        listens: texts_of(alloc, &listens)?,
-    })
 }
 
 /// The client of a running master; forwardings must be named where they are asked for.

@@ -23,32 +23,54 @@ fn copied(alloc: Global, text: &Option<Text>) -> Result<Option<Text>, OutOfMemor
     }
 }
 
+/// Adds a copy of a pair.
+fn put_copy(alloc: Global, pair: &Pair, pairs: &mut Pairs) -> Result<(), OutOfMemory>
+    ensures { OnOk result (pairs.new ≡ pairs.old ++ pair.now ∷ []) }
+{
+    let name = Text::copy(alloc, pair.name.as_bytes())?;
+    match Text::copy(alloc, pair.value.as_bytes()) {
+        Ok(value) => pairs.push(Pair { name, value }),
+        Err(e) => {
+            drop(name);
+            Err(e)
+        }
+    }
+}
+
 /// A copy of pairs.
 fn copied_pairs(alloc: Global, pairs: &Pairs) -> Result<Pairs, OutOfMemory>
     ensures { IfOk result (λ copy. copy ≡ pairs.now) }
 {
     let mut copy = Pairs::new(alloc);
     for pair in pairs.as_slice() {
-        copy.push(Pair {
-            name: Text::copy(alloc, pair.name.as_bytes())?,
-            value: Text::copy(alloc, pair.value.as_bytes())?,
-        })?;
+        put_copy(alloc, pair, &mut copy)?;
     }
     Ok(copy)
 }
 
-/// A copy of facts.
-fn copied_facts(alloc: Global, facts: &Facts) -> Result<Facts, OutOfMemory>
-    ensures { IfOk result (λ copy. known copy ≡ known facts.now) }
+/// Facts of which nothing is known.
+fn no_facts(alloc: Global) -> Facts {
+    Facts {
+        home: None,
+        local_user: None,
+        uid: None,
+        host_name: None,
+        vars: Pairs::new(alloc),
+        pid: None,
+    }
+}
+
+/// Copies facts over others.
+fn copy_facts(alloc: Global, facts: &Facts, copy: &mut Facts) -> Result<(), OutOfMemory>
+    ensures { OnOk result (known copy.new ≡ known facts.now) }
 {
-    Ok(Facts {
-        home: copied(alloc, &facts.home)?,
-        local_user: copied(alloc, &facts.local_user)?,
-        uid: copied(alloc, &facts.uid)?,
-        host_name: copied(alloc, &facts.host_name)?,
-        vars: copied_pairs(alloc, &facts.vars)?,
-        pid: facts.pid,
-    })
+    copy.home = copied(alloc, &facts.home)?;
+    copy.local_user = copied(alloc, &facts.local_user)?;
+    copy.uid = copied(alloc, &facts.uid)?;
+    copy.host_name = copied(alloc, &facts.host_name)?;
+    copy.vars = copied_pairs(alloc, &facts.vars)?;
+    copy.pid = facts.pid;
+    Ok(())
 }
 
 /// Adds a first file. It stands apart for its contract alone, which sees the items.
@@ -151,12 +173,31 @@ impl LineReader {
         ensures fresh { IfOk result (λ reader. is_spent reader ≡ false) }
     {
         let firsts = first_files(alloc, &asked.from, &facts.home)?;
-        Ok(LineReader {
+        let mut reader = LineReader {
             lines: Lines::new(alloc, firsts),
-            facts: copied_facts(alloc, facts)?,
-            original: Text::copy(alloc, asked.original.as_bytes())?,
+            facts: no_facts(alloc),
+            original: Text::new(alloc),
             over: false,
-        })
+        };
+        match reader.note(alloc, asked, facts) {
+            Ok(()) => Ok(reader),
+            Err(e) => {
+                drop(reader);
+                Err(e)
+            }
+        }
+    }
+
+    /// Notes what is asked for and what is known.
+    fn note(&mut self, alloc: Global, asked: &Asked, facts: &Facts) -> Result<(), OutOfMemory>
+        ensures noted { OnOk result ((known self.new.facts ≡ known facts.now)
+            × (self.new.original ≡ asked.now.original)) }
+        ensures lines { self.new.lines ≡ self.old.lines }
+        ensures over { self.new.over ≡ self.old.over }
+    {
+        copy_facts(alloc, facts, &mut self.facts)?;
+        self.original = Text::copy(alloc, asked.original.as_bytes())?;
+        Ok(())
     }
 
     /// The next line of the files that says something; `None` at the end, and behind every `Err`.

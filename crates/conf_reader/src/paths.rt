@@ -1,5 +1,5 @@
-ghost use Rattle.std.specs.Prelude.{◌≡◌, ◌≤◌, ◌∷◌, ◌++◌, [], ℕ, IfOk, OnOk, map, filter, flat_map, length, if◌then◌else◌};
-ghost use Rattle.conf_rules.specs.Results.{Gives};
+ghost use Rattle.std.specs.Prelude.{◌≡◌, ◌≤◌, ◌∷◌, ◌++◌, [], ℕ, codes, false, Ok, IfErr, IfOk, OnOk, map, filter, flat_map, length, if◌then◌else◌};
+ghost use Rattle.conf_rules.specs.Results.{Gives, Fails};
 ghost use Rattle.conf_rules.specs.Wants.{token_wants_memory};
 ghost use Rattle.conf_rules.specs.Told.{Told};
 ghost use Rattle.conf_rules.specs.Texts.{split_last};
@@ -55,6 +55,37 @@ fn starts_with_slash(path: &[u8]) -> bool
     }
 }
 
+/// A path in the folder of a user's own files.
+fn in_home(alloc: Global, home: &[u8], path: &[u8]) -> Result<Text, OutOfMemory>
+    ensures { IfOk result (λ whole. whole ≡ home.now ++ (codes "/.ssh/" ++ path.now)) }
+{
+    let mut whole = Text::copy(alloc, home)?;
+    whole.add(b"/.ssh/")?;
+    whole.add(path)?;
+    Ok(whole)
+}
+
+/// A path in the folder of the system's files.
+fn in_system(alloc: Global, path: &[u8]) -> Result<Text, OutOfMemory>
+    ensures { IfOk result (λ whole. whole ≡ codes "/etc/ssh/" ++ path.now) }
+{
+    let mut whole = Text::copy(alloc, b"/etc/ssh/")?;
+    whole.add(path)?;
+    Ok(whole)
+}
+
+/// A path in the folder of its source.
+fn in_folder(alloc: Global, facts: &Facts, system: bool, path: &[u8]) -> Result<Text, TokenError>
+    ensures { starts_with_slash path.now ≡ false → Gives token_wants_memory result
+        (absolute (source_of system) (known facts.now) path.now) }
+{
+    if system {
+        return Ok(in_system(alloc, path)?);
+    }
+    let home = fact(b'd', &facts.home)?;
+    Ok(in_home(alloc, home, path)?)
+}
+
 /// A path that isn't absolute is taken from the folder of its source.
 fn absolute(alloc: Global, facts: &Facts, system: bool, path: Text) -> Result<Text, TokenError>
     ensures { Gives token_wants_memory result (absolute (source_of system) (known facts.now) path) }
@@ -62,16 +93,9 @@ fn absolute(alloc: Global, facts: &Facts, system: bool, path: Text) -> Result<Te
     if starts_with_slash(path.as_bytes()) {
         return Ok(path);
     }
-    if system {
-        let mut whole = Text::copy(alloc, b"/etc/ssh/")?;
-        whole.add(path.as_bytes())?;
-        return Ok(whole);
-    }
-    let home = fact(b'd', &facts.home)?;
-    let mut whole = Text::copy(alloc, home)?;
-    whole.add(b"/.ssh/")?;
-    whole.add(path.as_bytes())?;
-    Ok(whole)
+    let whole = in_folder(alloc, facts, system, path.as_bytes());
+    drop(path);
+    whole
 }
 
 /// The path of a word.
@@ -90,6 +114,27 @@ fn path_of(
     absolute(alloc, facts, system, path)
 }
 
+/// Puts the paths of words into an empty list, up to the first refusal.
+fn put_paths(
+    alloc: Global,
+    facts: &Facts,
+    original: &[u8],
+    system: bool,
+    words: &Texts,
+    paths: &mut Texts,
+) -> Result<(), TokenError>
+    requires empty { paths.old ≡ [] }
+    ensures ok { OnOk result
+        (paths_from (source_of system) (known facts.now) original.now words.now ≡ Ok paths.new) }
+    ensures err { IfErr result (λ e. Fails token_wants_memory e
+        (paths_from (source_of system) (known facts.now) original.now words.now)) }
+{
+    for word in words.as_slice() {
+        paths.push(path_of(alloc, facts, original, system, word.as_bytes())?)?;
+    }
+    Ok(())
+}
+
 /// The paths of words, or the first refusal.
 fn paths_of(
     alloc: Global,
@@ -102,10 +147,13 @@ fn paths_of(
         (paths_from (source_of system) (known facts.now) original.now words.now) }
 {
     let mut paths = Texts::new(alloc);
-    for word in words.as_slice() {
-        paths.push(path_of(alloc, facts, original, system, word.as_bytes())?)?;
+    match put_paths(alloc, facts, original, system, words, &mut paths) {
+        Ok(()) => Ok(paths),
+        Err(e) => {
+            drop(paths);
+            Err(e)
+        }
     }
-    Ok(paths)
 }
 
 /// Whether a path has a star, a question mark or an open bracket.
@@ -263,6 +311,35 @@ fn add_all(texts: &mut Texts, more: Vec<Text>) -> Result<(), OutOfMemory>
     Ok(())
 }
 
+/// The path that one without globs stands for, alone.
+fn alone(alloc: Global, path: &[u8]) -> Result<Vec<Text>, OutOfMemory>
+    ensures { IfOk result (λ paths. paths.items ≡ path.now ∷ []) }
+{
+    let path = Text::copy(alloc, path)?;
+    let mut paths = Vec::new(alloc);
+    match put(&mut paths, path) {
+        Ok(()) => Ok(paths),
+        Err(e) => {
+            drop(paths);
+            Err(e)
+        }
+    }
+}
+
+/// Texts in the order of their bytes.
+fn in_order(texts: Vec<Text>) -> Result<Vec<Text>, OutOfMemory>
+    ensures { IfOk result (λ ordered. ordered.items ≡ sorted texts.items) }
+{
+    let mut ordered = texts;
+    match sort(&mut ordered) {
+        Ok(()) => Ok(ordered),
+        Err(e) => {
+            drop(ordered);
+            Err(e)
+        }
+    }
+}
+
 /// The paths that an absolute path stands for, in the order of their bytes.
 #[tactic(auto, unfolding(conf_rules::specs::Includes::globbed))]
 fn globbed<F: Files>(alloc: Global, path: &[u8], files: &mut F) -> Result<Vec<Text>, FileError>
@@ -275,16 +352,32 @@ fn globbed<F: Files>(alloc: Global, path: &[u8], files: &mut F) -> Result<Vec<Te
     ensures told { F.told files.new ≡ F.told files.old }
 {
     if !is_glob(path) {
-        let mut alone = Vec::new(alloc);
-        put(&mut alone, Text::copy(alloc, path)?)?;
-        return Ok(alone);
+        return Ok(alone(alloc, path)?);
     }
     if ends_with_slash(path) {
         return Ok(Vec::new(alloc));
     }
-    let mut paths = along(alloc, path, files)?;
-    sort(&mut paths)?;
-    Ok(paths)
+    let paths = along(alloc, path, files)?;
+    Ok(in_order(paths)?)
+}
+
+/// Adds the paths that an absolute path stands for.
+fn add_globbed<F: Files>(
+    alloc: Global,
+    all: &mut Texts,
+    path: &[u8],
+    files: &mut F,
+) -> Result<(), FileError>
+    ensures found { (told : Told) → TellsFiles (F.told files.old) told
+        → OnOk result (all.new ≡ all.old ++ globbed told path.now) }
+    ensures cause { HasCause result (F.faults files.old) (F.faults files.new) }
+    ensures failed { (told : Told) → TellsFiles (F.told files.old) told
+        → FileFails (folders_of told path.now) result (F.failed files.old) (F.failed files.new) }
+    ensures noted { F.readings files.new ≡ F.readings files.old }
+    ensures told { F.told files.new ≡ F.told files.old }
+{
+    let found = globbed(alloc, path, files)?;
+    Ok(add_all(all, found)?)
 }
 
 /// The paths that absolute paths stand for.
@@ -300,8 +393,7 @@ fn all_globbed<F: Files>(alloc: Global, paths: &Texts, files: &mut F) -> Result<
 {
     let mut all = Texts::new(alloc);
     for path in paths.as_slice() {
-        let found = globbed(alloc, path.as_bytes(), files)?;
-        add_all(&mut all, found)?;
+        add_globbed(alloc, &mut all, path.as_bytes(), files)?;
     }
     Ok(all)
 }
@@ -333,6 +425,10 @@ pub fn named_paths<F: Files>(
         Err(LexError::OutOfMemory) => return Err(LineError::OutOfMemory),
         Err(_) => return Ok(Texts::new(alloc)),
     };
-    let paths = paths_of(alloc, facts, original, system, &words)?;
-    Ok(all_globbed(alloc, &paths, files)?)
+    let named = paths_of(alloc, facts, original, system, &words);
+    drop(words);
+    let paths = named?;
+    let found = all_globbed(alloc, &paths, files);
+    drop(paths);
+    Ok(found?)
 }

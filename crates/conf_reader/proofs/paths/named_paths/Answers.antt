@@ -15,12 +15,12 @@ returns-in_err-paths-clause-found g c = λ told t f o.
 
 pub returns-clause-found : goal.returns-clause-found
 returns-clause-found g c = λ told t f o.
-    named-ok (source_of c.args.system) told (known c.args.facts.now) c.args.original.now c.args.rest.now c.in-Ok.words c.in_ok-paths.paths c.in_ok-all_globbed.field-0 f o c.in-Ok.ensures.exact c.in_ok-paths.ensures (c.in_ok-all_globbed.ensures.found told t)
+    named-ok (source_of c.args.system) told (known c.args.facts.now) c.args.original.now c.args.rest.now c.in-Ok.words c.in_ok-paths.paths c.in_ok-found.field-0 f o c.in-Ok.ensures.exact c.in_ok-paths.ensures (c.in_ok-found.ensures.found told t)
 
-pub returns-in_err-all_globbed-clause-failed : goal.returns-in_err-all_globbed-clause-failed
-returns-in_err-all_globbed-clause-failed g c = λ told t f o.
-    let p = err_from_is_err_and c.from_residual-in_err-all_globbed.result c.from_residual-in_err-all_globbed.ensures.1 in
+pub returns-in_err-found-clause-failed : goal.returns-in_err-found-clause-failed
+returns-in_err-found-clause-failed g c = λ told t f o.
+    let p = err_from_is_err_and c.from_residual-in_err-found.result c.from_residual-in_err-found.ensures.1 in
     let looks = looks-named (source_of c.args.system) told (known c.args.facts.now) c.args.original.now c.args.rest.now c.in-Ok.words c.in_ok-paths.paths f o c.in-Ok.ensures.exact c.in_ok-paths.ensures in
     rw looks
-    (line-fails (flat_map (folders_of told) c.in_ok-paths.paths) (looks_of told c.in_ok-paths.paths) c.in_err-all_globbed.field-0.0 c.all_globbed.result c.from_residual-in_err-all_globbed.result (g.F.Files.failed c.args.files.now) (g.F.Files.failed c.all_globbed.new.files)
-    c.in_err-all_globbed.was (p.1 ∙ ap Err p.2) (folders-looked told c.in_ok-paths.paths) (c.all_globbed.ensures.failed told t))
+    (line-fails (flat_map (folders_of told) c.in_ok-paths.paths) (looks_of told c.in_ok-paths.paths) c.in_err-found.field-0.0 c.all_globbed-found.result c.from_residual-in_err-found.result (g.F.Files.failed c.args.files.now) (g.F.Files.failed c.all_globbed-found.new.files)
+    c.in_err-found.was (p.1 ∙ ap Err p.2) (folders-looked told c.in_ok-paths.paths) (c.all_globbed-found.ensures.failed told t))

@@ -3,7 +3,8 @@ use Rattle.conf_rules.specs.Told.{Facts}
 use Rattle.conf_reader.proofs.ToReadLemmas.{begins-reads}
 use Rattle.conf_reader.proofs.line_reader.LineReader.new.Goals as goal
 
-pub returns-clause-reads : goal.returns-clause-reads
-returns-clause-reads c = λ told facts.
-    begins-reads told c.new.result c.args.facts.now.home c.args.asked.now.from c.new.ensures.none.0 c.new.ensures.none.1 c.new.ensures.counts.0
-    (ap (λ (v : _). v.items) c.new.ensures.firsts ∙ c.in_ok-firsts.ensures) (ap (λ (f : Facts). f.home) facts)
+pub returns-in-Ok-clause-reads : goal.returns-in-Ok-clause-reads
+returns-in-Ok-clause-reads c = λ told facts.
+    rw c.note.ensures.lines
+    (begins-reads told c.new.result c.args.facts.now.home c.args.asked.now.from c.new.ensures.none.0 c.new.ensures.none.1 c.new.ensures.counts.0
+    (ap (λ (v : _). v.items) c.new.ensures.firsts ∙ c.in_ok-firsts.ensures) (ap (λ (f : Facts). f.home) facts))
