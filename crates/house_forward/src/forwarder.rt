@@ -1,7 +1,7 @@
 //! The house.
 ghost use Rattle.std.specs.Prelude.{◌≡◌, ◌≤◌, ◌+◌, OnOk, IfOk, Some};
 ghost use Rattle.std.specs.Option.{option_to_list};
-ghost use Rattle.mux_outside.specs.House.{IsBlank, IsFresh, NoMark, order_marks};
+ghost use Rattle.mux_outside.specs.House.{IsBlank, IsFresh, NoMark, ask_of, order_marks};
 ghost use Rattle.house_forward.specs.State.{due_in, most_due_in, state_of};
 
 use crate::holdings::Holdings;
@@ -83,6 +83,27 @@ fn mark_of(order: &Order) -> Option<HouseMark>
     })
 }
 
+// An ask of a client, for its mark.
+fn copy_of(alloc: Global, what: &FwdAsk<'_>) -> Result<StartAsk, OutOfMemory>
+    ensures { IfOk result (λ ask. ask ≡ ask_of what.now) }
+{
+    let listen_host = Text::copy(alloc, what.listen_host)?;
+    match Text::copy(alloc, what.connect_host) {
+        Ok(connect_host) => Ok(StartAsk {
+            kind: what.kind,
+            listen_host,
+            listen_port: what.listen_port,
+            connect_host,
+            connect_port: what.connect_port,
+            path: false,
+        }),
+        Err(e) => {
+            drop(listen_host);
+            Err(e)
+        }
+    }
+}
+
 impl<N: Notes + Drop> Asks for Forwarder<N> {
     ghost may = { λ _. Unit {0} };
 
@@ -97,14 +118,7 @@ impl<N: Notes + Drop> Asks for Forwarder<N> {
         what: &FwdAsk<'_>,
     ) -> Result<HouseReply, OutOfMemory> {
         self.reserve(1, 0, 1, 1)?;
-        let ask = StartAsk {
-            kind: what.kind,
-            listen_host: Text::copy(self.alloc, what.listen_host)?,
-            listen_port: what.listen_port,
-            connect_host: Text::copy(self.alloc, what.connect_host)?,
-            connect_port: what.connect_port,
-            path: false,
-        };
+        let ask = copy_of(self.alloc, what)?;
         let reply = self.has.ask(client, id, opening, what)?;
         self.notes.note(HouseMark::HouseAsked {
             client,

@@ -1,5 +1,5 @@
 //! One forwarding of the house.
-ghost use Rattle.std.specs.Prelude.{◌≡◌, true, not, is_some, IfOk, IfSome, None, Some};
+ghost use Rattle.std.specs.Prelude.{◌≡◌, true, not, is_some, IfOk, OnOk, IfSome, None, Some};
 ghost use Rattle.house_forward.specs.Forwardings.{counts, listens_at, connects_to, outcome_of, bound_of, listener_of, is_first, as_first, has_request, request_of, IsAt, IsAskedFor};
 ghost use Rattle.house_forward.specs.Said.{request_name, request_port};
 ghost use Rattle.house_forward.specs.Rules.{listens_here};
@@ -84,20 +84,57 @@ impl Forwarding {
     ) -> Result<Forwarding, OutOfMemory>
         ensures { IfOk result (λ f. IsAskedFor ends.entry serial start f) }
     {
-        let listen_host = Text::copy(alloc, ends.listen_host)?;
-        let connect_host = Text::copy(alloc, ends.connect_host)?;
-        let stage = first_stage(alloc, ends)?;
-        Ok(Forwarding {
+        let mut forwarding = Forwarding {
             serial,
             kind: ends.kind,
-            listen_host,
+            listen_host: Text::new(alloc),
             listen_port: ends.listen_port,
-            connect_host,
+            connect_host: Text::new(alloc),
             connect_port: ends.connect_port,
-            stage,
+            stage: Stage::ToRequest,
             closing: false,
             start,
-        })
+        };
+        match forwarding.copy_hosts(alloc, ends) {
+            Ok(()) => Ok(forwarding),
+            Err(e) => {
+                drop(forwarding);
+                Err(e)
+            }
+        }
+    }
+
+    // The hosts and the first stage are copied from what is asked.
+    fn copy_hosts(&mut self, alloc: Global, ends: Ends<'_>) -> Result<(), OutOfMemory>
+        ensures listens { OnOk result (self.new.listen_host ≡ ends.entry.listen_host.now) }
+        ensures connects { OnOk result (self.new.connect_host ≡ ends.entry.connect_host.now) }
+        ensures first { OnOk result (is_first self.new.stage ≡ true) }
+        ensures here { OnOk result (waits_at self.new.stage ≡ listens_here ends.entry.kind) }
+        ensures place { OnOk result (IsAt self.new.stage ends.entry.listen_host.now) }
+        ensures others { self.new ≡ record self.old {
+          listen_host = self.new.listen_host;
+          connect_host = self.new.connect_host;
+          stage = self.new.stage;
+        } }
+    {
+        self.listen_at(Text::copy(alloc, ends.listen_host)?);
+        self.connect_to(Text::copy(alloc, ends.connect_host)?);
+        self.enter(first_stage(alloc, ends)?);
+        Ok(())
+    }
+
+    // It is to listen at this host.
+    fn listen_at(&mut self, host: Text)
+        ensures { self.new ≡ record self.old { listen_host = host } }
+    {
+        drop(mem::replace(&mut self.listen_host, host));
+    }
+
+    // It is to connect to this host.
+    fn connect_to(&mut self, host: Text)
+        ensures { self.new ≡ record self.old { connect_host = host } }
+    {
+        drop(mem::replace(&mut self.connect_host, host));
     }
 
     /// Whether it is to listen here, and has no listener yet.
@@ -246,13 +283,21 @@ impl Forwarding {
           stage = stage_after change self.old.listen_port self.old.stage;
         } }
     {
-        match (change, &self.stage) {
-            (Change::Request, Stage::ToRequest) => self.stage = Stage::Requested,
-            (Change::Cancel, Stage::Live(port)) => self.stage = Stage::Cancelling(*port),
-            (Change::Live(port), Stage::Requested) => self.stage = Stage::Live(self.bound_to(port)),
-            (Change::Stay, Stage::Cancelling(port)) => self.stage = Stage::Live(*port),
-            _ => {}
-        }
+        let next = match (change, &self.stage) {
+            (Change::Request, Stage::ToRequest) => Stage::Requested,
+            (Change::Cancel, Stage::Live(port)) => Stage::Cancelling(*port),
+            (Change::Live(port), Stage::Requested) => Stage::Live(self.bound_to(port)),
+            (Change::Stay, Stage::Cancelling(port)) => Stage::Live(*port),
+            _ => return,
+        };
+        self.enter(next);
+    }
+
+    // It is at this stage now.
+    fn enter(&mut self, stage: Stage)
+        ensures { self.new ≡ record self.old { stage = stage } }
+    {
+        drop(mem::replace(&mut self.stage, stage));
     }
 
     /// The port on which the server listens, if it chose this one where it was to choose.

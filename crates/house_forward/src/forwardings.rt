@@ -145,8 +145,8 @@ impl Forwardings {
         if self.standing(ends).is_none() && self.how_many() < MOST_FORWARDINGS {
             let serial = self.serials;
             let next = serial.checked_add(1).ok_or(OutOfMemory)?;
-            let forwarding = Forwarding::asked(self.alloc, serial, ends, start)?;
             self.requests.reserve(2)?;
+            let forwarding = Forwarding::asked(self.alloc, serial, ends, start)?;
             self.all.push(forwarding)?;
             self.serials = next;
         }
