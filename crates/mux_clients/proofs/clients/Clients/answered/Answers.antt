@@ -12,11 +12,11 @@ returns-in_ok-note_loss-clause-answers c =
     let f : Found c.args.number c.index_of-i.result c.index_mut-client.result.now c.self.inside.all.items =
     found c.args.number c.index_of-i.result c.len.result c.self.inside.all.len c.index_mut-client.result.now c.deref.result.now c.self.inside.all.items c.index_of-i.ensures c.deref.ensures.value c.if-i-len.true c.len.ensures c.self.inside.all.ok.0 c.index_mut-client.ensures.value in
     rw (← c.self.view_is) (found-goes c.args.number c.index_of-i.result
-        (λ noted. AnswersNoting c.args.number c.args.id c.args.reply noted c.args.core.now c.answered.new.core c.args.up.now c.answered.new.up)
-        c.standing-before.result c.standing.result c.index_mut-client.result.now c.answered.new.self c.self.inside.all.items _ _ _ _ _ _ f c.in_ok-note_loss.ensures.notes (record {
-          answers = c.in_ok-answered.ensures.answers;
-          noted_is = loss-same c.standing-before.result c.standing.result _ _ c.args.number c.standing-before.ensures c.standing.ensures;
-        }) c.in_ok-answered.ensures.answers.number c.answered.ensures.reads)
+    (λ noted. AnswersNoting c.args.number c.args.id c.args.reply noted c.args.core.now c.answered.new.core c.args.up.now c.answered.new.up)
+    c.standing-before.result c.standing.result c.index_mut-client.result.now c.answered.new.self c.self.inside.all.items _ _ _ _ _ _ f c.in_ok-note_loss.ensures.notes (record {
+      answers = c.in_ok-answered.ensures.answers;
+      noted_is = loss-same c.standing-before.result c.standing.result _ _ c.args.number c.standing-before.ensures c.standing.ensures;
+    }) c.in_ok-answered.ensures.answers.number c.answered.ensures.reads)
 
 pub returns-else-i-len-clause-answers : goal.returns-else-i-len-clause-answers
 returns-else-i-len-clause-answers c = none-goes _ _ _ _ _

@@ -13,11 +13,11 @@ returns-in_ok-note_loss-clause-hears c =
     let f : Found c.args.number c.index_of-i.result c.index_mut-client.result.now c.self.inside.all.items =
     found c.args.number c.index_of-i.result c.len.result c.self.inside.all.len c.index_mut-client.result.now c.deref.result.now c.self.inside.all.items c.index_of-i.ensures c.deref.ensures.value c.if-i-len.true c.len.ensures c.self.inside.all.ok.0 c.index_mut-client.ensures.value in
     rw (← c.self.view_is) (found-goes c.args.number c.index_of-i.result
-        (λ noted. HearsNoting c.args.number (frame_payload c.args.payload.now ∷ refusals_of c.args.refusals) noted c.args.core.now c.hears.new.core c.args.up.now c.hears.new.up)
-        c.standing-before.result c.standing.result c.index_mut-client.result.now c.hears.new.self c.self.inside.all.items _ _ _ _ _ _ f c.in_ok-note_loss.ensures.notes (record {
-          hears = c.in_ok-hears.ensures.stands;
-          noted_is = loss-same c.standing-before.result c.standing.result _ _ c.args.number c.standing-before.ensures c.standing.ensures;
-        }) c.in_ok-hears.ensures.stands.number c.hears.ensures.reads)
+    (λ noted. HearsNoting c.args.number (frame_payload c.args.payload.now ∷ refusals_of c.args.refusals) noted c.args.core.now c.hears.new.core c.args.up.now c.hears.new.up)
+    c.standing-before.result c.standing.result c.index_mut-client.result.now c.hears.new.self c.self.inside.all.items _ _ _ _ _ _ f c.in_ok-note_loss.ensures.notes (record {
+      hears = c.in_ok-hears.ensures.stands;
+      noted_is = loss-same c.standing-before.result c.standing.result _ _ c.args.number c.standing-before.ensures c.standing.ensures;
+    }) c.in_ok-hears.ensures.stands.number c.hears.ensures.reads)
 
 pub returns-else-i-len-clause-hears : goal.returns-else-i-len-clause-hears
 returns-else-i-len-clause-hears c = none-goes _ _ _ _ _
