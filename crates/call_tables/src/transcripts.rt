@@ -23,7 +23,7 @@ mod breaches;
 
 use client_teardown::FAREWELL_ROOM;
 use forward_rules::Policy;
-use mux_core::{Core, Heard, Verdict};
+use mux_core::{Core, Delivery, Verdict};
 use proxy_frames::Queue;
 use ssh_fields::Texts;
 use std::alloc::Global;
@@ -238,14 +238,14 @@ fn shown_verdict(alloc: Global, verdict: &Verdict) -> Result<String, Fail> {
     Ok(shown)
 }
 
-fn shown_heard(alloc: Global, heard: Heard, payload: &[u8]) -> Result<String, Fail> {
+fn shown_heard(alloc: Global, heard: Delivery, payload: &[u8]) -> Result<String, Fail> {
     let mut shown = String::new(alloc);
     match heard {
-        Heard::Master => shown.push_str("master")?,
-        Heard::Lost { client } => write!(shown, "{client} is lost")?,
-        Heard::Disconnect => shown.push_str("end")?,
-        Heard::Broke(why) => write!(shown, "broken {why:?}")?,
-        Heard::Client { client, refusals } => {
+        Delivery::Master => shown.push_str("master")?,
+        Delivery::Lost { client } => write!(shown, "{client} is lost")?,
+        Delivery::Disconnect => shown.push_str("end")?,
+        Delivery::Broke(why) => write!(shown, "broken {why:?}")?,
+        Delivery::Client { client, refusals } => {
             write!(shown, "{client} is told ")?;
             put_hex(&mut shown, payload)?;
             if refusals > 0 {

@@ -8,7 +8,7 @@ use Rattle.proxy_frames.specs.State.{QueueState}
 use Rattle.client_teardown.specs.declared.farewell.TheConstants.{FAREWELL_ROOM}
 use Rattle.mux_history.specs.declared.why.Why.{Why}
 use Rattle.mux_core.specs.State.{CoreState}
-use Rattle.mux_clients.specs.declared.heard.Heard.{Heard}
+use Rattle.mux_clients.specs.declared.run_change.RunChange.{RunChange}
 use Rattle.mux_clients.specs.declared.standing.Standing.{Standing}
 use Rattle.mux_clients.specs.State.{ClientState, ClientsState, clients_of, crowd, part}
 use Rattle.mux_clients.specs.Stands as stands
@@ -126,7 +126,7 @@ loss-lost k old new up up' x y h = by_lost (stands.is_lost x.seat.standing) h
 
 -- ---- what the house was asked
 
-pub hears-of : (May : HouseReply → Type 0) (before told : Option (List Asked)) (pid : ℕ) (bytes : List ℕ) (core core' : CoreState) (up up' : QueueState) (heard : Heard) (x y : ClientState) → stands.is_read x.seat.standing ≡ true → HearsIn May before told pid bytes core core' up up' heard x y → HearsPiece May before told pid bytes core up x core' up' y heard
+pub hears-of : (May : HouseReply → Type 0) (before told : Option (List Asked)) (pid : ℕ) (bytes : List ℕ) (core core' : CoreState) (up up' : QueueState) (heard : RunChange) (x y : ClientState) → stands.is_read x.seat.standing ≡ true → HearsIn May before told pid bytes core core' up up' heard x y → HearsPiece May before told pid bytes core up x core' up' y heard
 hears-of May before told pid bytes core core' up up' heard x y e h = by_read (stands.is_read x.seat.standing) e h
   where
     by_read : (b : Bool) → b ≡ true → MatchBool b (HearsPiece May before told pid bytes core up x core' up' y heard) (HearsNothing before told core up x core' up' y heard) → HearsPiece May before told pid bytes core up x core' up' y heard
@@ -134,7 +134,7 @@ hears-of May before told pid bytes core core' up up' heard x y e h = by_read (st
     by_read false t h = absurd (cc)
 
 -- the client was lost by its piece, and there was no memory to note that
-pub cut-noted : {A E : Type 0} {a : A} (May : HouseReply → Type 0) {asks asks' : List Asked} {old new : HouseState} (pid : ℕ) (bytes : List ℕ) (core core' : CoreState) (up up' : QueueState) (heard : Heard) (k i : ℕ) (x y : ClientState) (cs : List ClientState)
+pub cut-noted : {A E : Type 0} {a : A} (May : HouseReply → Type 0) {asks asks' : List Asked} {old new : HouseState} (pid : ℕ) (bytes : List ℕ) (core core' : CoreState) (up up' : QueueState) (heard : RunChange) (k i : ℕ) (x y : ClientState) (cs : List ClientState)
     → Found k i x cs → (stands.is_lost x.seat.standing ≡ false) × (stands.is_lost y.seat.standing ≡ true) → HearsIn May (Some asks) (Some asks') pid bytes core core' up up' heard x y → Heeds {A = A} {E = E} (Ok a) asks asks' old new
     → OneIs k (HearsSome May old.told new.told pid bytes core up) cs
 cut-noted May {asks} {asks'} {old} {new} pid bytes core core' up up' heard k i x y cs f lost h a =

@@ -23,7 +23,7 @@ use Rattle.mux_history.specs.Settings.{by_lists}
 use Rattle.mux_core.specs.State.{CoreState}
 use Rattle.mux_clients.specs.declared.standing.Standing.{Standing}
 use Rattle.mux_clients.specs.declared.decision.Decision.{Decision}
-use Rattle.mux_clients.specs.declared.heard.Heard.{Heard}
+use Rattle.mux_clients.specs.declared.run_change.RunChange.{RunChange}
 use Rattle.mux_clients.specs.State.{ClientState, SeatState}
 use Rattle.mux_clients.specs.Stands.{is_greeted, is_proxied, is_read, mode_of, standing_of}
 use Rattle.mux_clients.specs.Stands as stands
@@ -141,7 +141,7 @@ hears-none May told pid bytes core up first read = record {
 }
 
 -- the row of a body that asks
-asked-row : (policy : Policy) (pid : ℕ) (picks : List ℕ) (given : List HouseReply) (k : ℕ) (mode : Mode) (all picked : List ℕ) (used : List HouseReply) (asks : List Asked) (rows : List Row) (core : CoreState) (up : QueueState) (now : ClientState) (heard : Heard) (body : List ℕ) (reply : HouseReply) (x : Saying)
+asked-row : (policy : Policy) (pid : ℕ) (picks : List ℕ) (given : List HouseReply) (k : ℕ) (mode : Mode) (all picked : List ℕ) (used : List HouseReply) (asks : List Asked) (rows : List Row) (core : CoreState) (up : QueueState) (now : ClientState) (heard : RunChange) (body : List ℕ) (reply : HouseReply) (x : Saying)
     → is_read now.seat.standing ≡ true → x ≡ Body body → (is_greeted now.seat.standing && body_asks body) ≡ true → ReplyNext (used ++ reply ∷ []) rows given → (r : RunsTo policy pid picks given k mode all picked used asks rows core up now heard)
     → asked_of (rows_said policy pid picks given k rows (r.says ++ x ∷ [])) ≡ asked_of rows ++ (asks ++ saying_asks now.seat.number (Body body) (Some reply))
 asked-row policy pid picks given k mode all picked used asks rows core up now heard body reply x read is ask next r =
@@ -163,7 +163,7 @@ asked-row policy pid picks given k mode all picked used asks rows core up now he
     ∙ (ap (λ (l : List Asked). l ++ more) r.asked ∙ append_assoc (asked_of rows) asks more)))
 
 -- what was asked so far, and what the front asks
-pub hears-some : {A E : Type 0} {x : A} (May : HouseReply → Type 0) {asks asks' : List Asked} {old mid : HouseState} (told' : Option (List Asked)) (pid : ℕ) (bytes : List ℕ) (core0 core : CoreState) (up0 up : QueueState) (first now : ClientState) (heard : Heard) → is_read first.seat.standing ≡ true → is_read now.seat.standing ≡ true
+pub hears-some : {A E : Type 0} {x : A} (May : HouseReply → Type 0) {asks asks' : List Asked} {old mid : HouseState} (told' : Option (List Asked)) (pid : ℕ) (bytes : List ℕ) (core0 core : CoreState) (up0 up : QueueState) (first now : ClientState) (heard : RunChange) → is_read first.seat.standing ≡ true → is_read now.seat.standing ≡ true
     → Hearing May (Some asks) (Some asks') pid (first.rest ++ bytes) core0 up0 first core up now heard → Heeds {A = A} {E = E} (Ok x) asks asks' old mid → AsksNext May mid.told told' now.seat.number now.seat.standing (first_in (mode_of now.seat.standing) now.rest) → HearsSome May old.told told' pid bytes core0 up0 first
 hears-some May {asks} {asks'} {old} {mid} told' pid bytes core0 core up0 up first now heard read0 read h a next = by_next next
   where
@@ -206,7 +206,7 @@ hears-some May {asks} {asks'} {old} {mid} told' pid bytes core0 core up0 up firs
         }
 
 -- all of it was taken in, and then there was no memory
-pub hears-all : {A E : Type 0} {x : A} (May : HouseReply → Type 0) {asks asks' : List Asked} {old new : HouseState} (pid : ℕ) (bytes : List ℕ) (core0 core : CoreState) (up0 up : QueueState) (first now : ClientState) (heard : Heard)
+pub hears-all : {A E : Type 0} {x : A} (May : HouseReply → Type 0) {asks asks' : List Asked} {old new : HouseState} (pid : ℕ) (bytes : List ℕ) (core0 core : CoreState) (up0 up : QueueState) (first now : ClientState) (heard : RunChange)
     → is_read first.seat.standing ≡ true → HearsPiece May (Some asks) (Some asks') pid bytes core0 up0 first core up now heard → Heeds {A = A} {E = E} (Ok x) asks asks' old new → HearsSome May old.told new.told pid bytes core0 up0 first
 hears-all May {asks} {asks'} {old} {new} pid bytes core0 core up0 up first now heard read0 piece a =
     let h = piece.hearing in

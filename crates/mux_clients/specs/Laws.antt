@@ -18,7 +18,7 @@ use Rattle.mux_history.specs.Settings.{by_lists}
 use Rattle.mux_history.specs.Journal.{new_heard, new_sayings}
 use Rattle.mux_history.specs.Log.{more_all, next_row}
 use Rattle.mux_core.specs.State.{CoreState}
-use Rattle.mux_clients.specs.declared.heard.Heard.{Heard}
+use Rattle.mux_clients.specs.declared.run_change.RunChange.{RunChange}
 use Rattle.mux_clients.specs.State.{ClientState, part}
 use Rattle.mux_clients.specs.Stands.{Fits, is_lost, is_read, mode_of}
 use Rattle.mux_clients.specs.Asked.{asked_of}
@@ -43,7 +43,7 @@ rows_given policy pid picks given k before bytes rows =
 -- how a piece leaves its client, by these rows
 pub record IsReadTo (k : ℕ) (before bytes picked : List ℕ) (used : List HouseReply)
     (asks : List Asked) (rows rows' : List Row) (core : CoreState) (up : QueueState)
-    (now : ClientState) (heard : Heard) : Type 0 where
+    (now : ClientState) (heard : RunChange) : Type 0 where
   pub number : now.seat.number ≡ k
   pub adds : AddsFor k rows rows'
   pub fits : Fits rows' (part core now.seat up)
@@ -64,7 +64,7 @@ abbrev pub PiecesOfAClient : Type 0
 PiecesOfAClient =
     (policy : Policy) (pid : ℕ) (picks : List ℕ) (given : List HouseReply) (k : ℕ)
     (before bytes : List ℕ) (first now : ClientState) (picked : List ℕ) (used : List HouseReply)
-    (asks : List Asked) (rows : List Row) (core : CoreState) (up : QueueState) (heard : Heard)
+    (asks : List Asked) (rows : List Row) (core : CoreState) (up : QueueState) (heard : RunChange)
     → ReadsAs before first
     → (is_read now.seat.standing ≡ true → first_in (mode_of now.seat.standing) now.rest ≡ More)
     → RunsTo policy pid picks given k (mode_of first.seat.standing) (first.rest ++ bytes) picked

@@ -17,7 +17,7 @@ ghost use Rattle.mux_clients.specs.Entering.{new_client};
 
 use crate::ask_log::AskLog;
 use crate::decision::decide;
-use crate::heard::Heard;
+use crate::run_change::RunChange;
 use crate::seat::Seat;
 use crate::standing::Standing;
 use client_teardown::FAREWELL_ROOM;
@@ -92,7 +92,7 @@ impl Client {
         asks: &mut AskLog,
         core: &mut Core,
         up: &mut Queue,
-    ) -> Result<Heard, OutOfMemory>
+    ) -> Result<RunChange, OutOfMemory>
         requires room { is_read self.old.seat.standing ≡ true → FAREWELL_ROOM ≤ up.old.spare }
         requires ordering { (H.state house.old).known.ordering ≡ None }
         ensures number { OnOk result (self.new.seat.number ≡ self.old.seat.number) }
@@ -108,7 +108,7 @@ impl Client {
         if self.seat.is_read() {
             return self.read(pid, bytes, house, asks, core, up);
         }
-        Ok(Heard {
+        Ok(RunChange {
             stops: false,
             ended: None,
         })
@@ -164,7 +164,7 @@ impl Client {
 
     /// It hears a payload of the server, and then so many refusals, after the core has heard it.
     /// One that is lost hears nothing.
-    pub fn hears(
+    pub fn deliver(
         &mut self,
         payload: &[u8],
         refusals: u32,
@@ -183,7 +183,7 @@ impl Client {
         if self.is_lost() {
             return Ok(());
         }
-        self.seat.hears(payload, refusals, core, up)
+        self.seat.deliver(payload, refusals, core, up)
     }
 
     /// The house replies to an ask of it later than at once. One that is lost is told nothing.
@@ -213,7 +213,7 @@ impl Client {
     fn say_next<H: Asks>(
         &mut self,
         pid: u32,
-        heard: &mut Heard,
+        heard: &mut RunChange,
         house: &mut H,
         asks: &mut AskLog,
         core: &mut Core,
@@ -269,7 +269,7 @@ impl Client {
         asks: &mut AskLog,
         core: &mut Core,
         up: &mut Queue,
-    ) -> Result<Heard, OutOfMemory>
+    ) -> Result<RunChange, OutOfMemory>
         requires { MaySay self.old.seat.standing up.old (H.state house.old) }
         ensures heeds { Heeds result asks.old asks.new (H.state house.old) (H.state house.new) }
         ensures hears { IfOk result (λ heard.
@@ -280,7 +280,7 @@ impl Client {
         ensures policy { OnOk result (core.new.policy ≡ core.old.policy) }
         ensures keeps { OnOk result (KeepsSeat up.old up.new self.old.seat self.new.seat) }
     {
-        let mut heard = Heard {
+        let mut heard = RunChange {
             stops: false,
             ended: None,
         };

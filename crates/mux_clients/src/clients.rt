@@ -21,7 +21,7 @@ mod views;
 
 use crate::ask_log::AskLog;
 use crate::client::Client;
-use crate::heard::Heard;
+use crate::run_change::RunChange;
 use crate::standing::Standing;
 use client_teardown::FAREWELL_ROOM;
 use mux_core::Core;
@@ -153,7 +153,7 @@ impl Clients {
         asks: &mut AskLog,
         core: &mut Core,
         up: &mut Queue,
-    ) -> Result<Heard, OutOfMemory>
+    ) -> Result<RunChange, OutOfMemory>
         requires room { HasRoom self.old.all up.old }
         requires ordering { (H.state house.old).known.ordering ≡ None }
         ensures hears { IfOk result (λ heard. NotesOne number (HearsIn H.may (Some asks.old)
@@ -178,7 +178,7 @@ impl Clients {
             note_loss(&mut self.leaving, before, client.standing(), number)?;
             return Ok(heard);
         }
-        Ok(Heard {
+        Ok(RunChange {
             stops: false,
             ended: None,
         })
@@ -186,7 +186,7 @@ impl Clients {
 
     /// The client of a number hears a payload of the server, and then so many refusals, after the
     /// core has heard it. Where it is lost by that, it is to be closed.
-    pub fn hears(
+    pub fn deliver(
         &mut self,
         number: u64,
         payload: &[u8],
@@ -206,7 +206,7 @@ impl Clients {
         if i < self.all.len() {
             let client = &mut self.all[i];
             let before = client.standing();
-            client.hears(payload, refusals, core, up)?;
+            client.deliver(payload, refusals, core, up)?;
             note_loss(&mut self.leaving, before, client.standing(), number)?;
         }
         Ok(())

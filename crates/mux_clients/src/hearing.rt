@@ -8,7 +8,7 @@ ghost use Rattle.ssh_grammar.specs.IsFrame.{IsContent};
 ghost use Rattle.ssh_grammar.specs.declared.framing.Framing.TheVariants.{Proxy};
 
 use crate::clients::Clients;
-use mux_core::{Core, Heard};
+use mux_core::{Core, Delivery};
 use mux_history::Ended;
 use proxy_frames::Queue;
 use ssh_fields::OutOfMemory;
@@ -32,12 +32,12 @@ pub fn deliver(
     ensures policy { OnOk result (core.new.policy ≡ core.old.policy) }
 {
     match core.heard(payload, up)? {
-        Heard::Master | Heard::Lost { .. } => Ok(None),
-        Heard::Client { client, refusals } => {
-            clients.hears(client, payload, refusals, core, up)?;
+        Delivery::Master | Delivery::Lost { .. } => Ok(None),
+        Delivery::Client { client, refusals } => {
+            clients.deliver(client, payload, refusals, core, up)?;
             Ok(None)
         }
-        Heard::Disconnect => Ok(Some(Ended::Disconnected)),
-        Heard::Broke(why) => Ok(Some(Ended::Broke { index, why })),
+        Delivery::Disconnect => Ok(Some(Ended::Disconnected)),
+        Delivery::Broke(why) => Ok(Some(Ended::Broke { index, why })),
     }
 }

@@ -14,14 +14,14 @@ ghost use Rattle.mux_clients.specs.Entering.{new_client};
 ghost use Rattle.mux_clients.specs.declared.standing.Standing.{Standing as TheStanding};
 ghost use Rattle.mux_clients.specs.Decisions.{frames, is_stops, GoesOn, StandsAs};
 ghost use Rattle.mux_clients.specs.Bodies.{FollowsBy};
-ghost use Rattle.mux_clients.specs.declared.heard.Heard.{Heard as TheHeard};
+ghost use Rattle.mux_clients.specs.declared.run_change.RunChange.{RunChange as TheRunChange};
 ghost use Rattle.mux_clients.specs.Nexts.{FaultBy};
 ghost use Rattle.mux_clients.specs.Stands.{is_lost, is_read};
 
 mod views;
 
-use crate::decision::{Decision, Fate, answer_of};
-use crate::heard::Heard;
+use crate::decision::{Decision, Effect, answer_of};
+use crate::run_change::RunChange;
 use crate::standing::Standing;
 use client_teardown::FAREWELL_ROOM;
 use conn_messages::request_failure;
@@ -57,20 +57,20 @@ impl Model for Seat {
 }
 
 // How a client stands that goes on so.
-fn standing_by(fate: Fate) -> Standing
-    ensures { (s : TheStanding) → StandsAs fate s → GoesOn fate → result ≡ s }
+fn standing_by(effect: Effect) -> Standing
+    ensures { (s : TheStanding) → StandsAs effect s → GoesOn effect → result ≡ s }
 {
-    match fate {
-        Fate::Switches => Standing::Proxied,
-        Fate::Unreads => Standing::Unread,
-        Fate::Goes | Fate::Stops | Fate::Ends(_) | Fate::Drops(_) => Standing::Greeted,
+    match effect {
+        Effect::Switches => Standing::Proxied,
+        Effect::Unreads => Standing::Unread,
+        Effect::Goes | Effect::Stops | Effect::Ends(_) | Effect::Drops(_) => Standing::Greeted,
     }
 }
 
-fn stops(fate: Fate) -> bool
-    ensures { result ≡ is_stops fate }
+fn stops(effect: Effect) -> bool
+    ensures { result ≡ is_stops effect }
 {
-    matches!(fate, Fate::Stops)
+    matches!(effect, Effect::Stops)
 }
 
 impl Seat {
@@ -168,7 +168,7 @@ impl Seat {
     /// What it says is no frame.
     pub fn fails(&mut self, fault: BadFrame, core: &mut Core, up: &mut Queue)
         requires room { FAREWELL_ROOM ≤ up.old.spare }
-        ensures faults { (heard : TheHeard)
+        ensures faults { (heard : TheRunChange)
             → FaultBy fault (part core.old self.old up.old) heard
             (part core.new self.new up.new) heard }
         ensures out { is_read self.new.standing ≡ false }
@@ -213,7 +213,7 @@ impl Seat {
     }
 
     /// It hears a payload of the server, and then so many refusals, after the core has heard it.
-    pub fn hears(
+    pub fn deliver(
         &mut self,
         payload: &[u8],
         refusals: u32,
@@ -290,7 +290,7 @@ impl Seat {
     pub fn follows(
         &mut self,
         decision: &Decision,
-        heard: &mut Heard,
+        heard: &mut RunChange,
         core: &mut Core,
         up: &mut Queue,
     ) -> Result<(), OutOfMemory>
@@ -304,18 +304,18 @@ impl Seat {
         ensures policy { core.new.policy ≡ core.old.policy }
         ensures spare { OnOk result (KeepsRoom up.old up.new self.new.standing) }
     {
-        match decision.fate {
-            Fate::Drops(why) => {
+        match decision.effect {
+            Effect::Drops(why) => {
                 self.drop_for(why, core, up);
                 Ok(())
             }
-            Fate::Ends(cause) => {
+            Effect::Ends(cause) => {
                 self.tell_frame(&decision.told)?;
                 self.standing = Standing::Unread;
                 heard.ended = Some(cause);
                 Ok(())
             }
-            Fate::Goes | Fate::Switches | Fate::Unreads | Fate::Stops => match self.tell_frame(
+            Effect::Goes | Effect::Switches | Effect::Unreads | Effect::Stops => match self.tell_frame(
                 &decision.told,
             )? {
                 Some(why) => {
@@ -323,8 +323,8 @@ impl Seat {
                     Ok(())
                 }
                 None => {
-                    self.standing = standing_by(decision.fate);
-                    heard.stops |= stops(decision.fate);
+                    self.standing = standing_by(decision.effect);
+                    heard.stops |= stops(decision.effect);
                     Ok(())
                 }
             },

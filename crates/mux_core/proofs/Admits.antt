@@ -22,7 +22,7 @@ use Rattle.mux_history.proofs.Bools.{same-number, self}
 use Rattle.mux_history.proofs.Finds.{filter-no, filter-yes}
 use Rattle.mux_history.proofs.OwnRows.{idle_row, own_row}
 use Rattle.mux_isolation.specs.View.{left_of}
-use Rattle.mux_core.specs.State.{ClientState, CoreState, is_served}
+use Rattle.mux_core.specs.State.{MemberState, CoreState, is_served}
 use Rattle.channel_table.specs.Entries.{Entry}
 use Rattle.forward_rules.specs.State as kept
 use Rattle.forward_rules.specs.Stands.{AreFit, Places, places_of}
@@ -44,7 +44,7 @@ count-matters rows (j ∷ js) = by_case (count-matters rows js) (has_matters row
     by_case ih true h = ap (λ (b : Bool). elim b as (λ _. ℕ) [ true ↦ matters_of rows js + 1 | false ↦ matters_of rows js ]) h ∙ (ap (λ n. n + 1) ih ∙ (more (length (filter (has_matters rows) js)) ∙ sym (ap length (filter-yes (has_matters rows) j js h))))
     by_case ih false h = ap (λ (b : Bool). elim b as (λ _. ℕ) [ true ↦ matters_of rows js + 1 | false ↦ matters_of rows js ]) h ∙ (ih ∙ sym (ap length (filter-no (has_matters rows) j js h)))
 
-length-map : (cs : List ClientState) → length (map (λ (c : ClientState). c.number) cs) ≡ length cs
+length-map : (cs : List MemberState) → length (map (λ (c : MemberState). c.number) cs) ≡ length cs
 length-map [] = refl
 length-map (c ∷ cs) = ap suc (length-map cs)
 
@@ -137,7 +137,7 @@ refused-stands s k rows st new =
 abbrev pub admit_row : ℕ → List ℕ → Row
 admit_row k frame = bare (Admit k) k (tells frame)
 
-abbrev pub new_client : ℕ → ClientState
+abbrev pub new_client : ℕ → MemberState
 new_client k = record { number = k; lost = false; waiting = [] }
 
 all-others : (k : ℕ) (js : List ℕ) → any_of (λ i. i == k) js ≡ false → AllByRecursion (λ i. (i == k) ≡ false) js
@@ -159,23 +159,23 @@ filter-on k m m' same (j ∷ js) all = by_case (filter-on k m m' same js all.1) 
 turned : (a b : ℕ) → (a == b) ≡ false → (b == a) ≡ false
 turned a b h = grind (arith, nat_tests)
 
-numbers-append : (k : ℕ) (cs : List ClientState) → map (λ (c : ClientState). c.number) (cs ++ new_client k ∷ []) ≡ map (λ (c : ClientState). c.number) cs ++ k ∷ []
+numbers-append : (k : ℕ) (cs : List MemberState) → map (λ (c : MemberState). c.number) (cs ++ new_client k ∷ []) ≡ map (λ (c : MemberState). c.number) cs ++ k ∷ []
 numbers-append k [] = refl
 numbers-append k (c ∷ cs) = ap (λ ns. c.number ∷ ns) (numbers-append k cs)
 
-length-append : (k : ℕ) (cs : List ClientState) → length (cs ++ new_client k ∷ []) ≡ suc (length cs)
+length-append : (k : ℕ) (cs : List MemberState) → length (cs ++ new_client k ∷ []) ≡ suc (length cs)
 length-append k [] = refl
 length-append k (c ∷ cs) = ap suc (length-append k cs)
 
-once-append : (k : ℕ) (cs : List ClientState) → AllByRecursion (λ c. (c.number == k) ≡ false) cs → AreOnce cs → AreOnce (cs ++ new_client k ∷ [])
+once-append : (k : ℕ) (cs : List MemberState) → AllByRecursion (λ c. (c.number == k) ≡ false) cs → AreOnce cs → AreOnce (cs ++ new_client k ∷ [])
 once-append k [] all once = (tt, tt)
 once-append k (c ∷ cs) all once = (each cs once.0, once-append k cs all.1 once.1)
   where
-    each : (ds : List ClientState) → AllByRecursion (λ d. (c.number == d.number) ≡ false) ds → AllByRecursion (λ d. (c.number == d.number) ≡ false) (ds ++ new_client k ∷ [])
+    each : (ds : List MemberState) → AllByRecursion (λ d. (c.number == d.number) ≡ false) ds → AllByRecursion (λ d. (c.number == d.number) ≡ false) (ds ++ new_client k ∷ [])
     each [] one = (all.0, tt)
     each (d ∷ ds) one = (one.0, each ds one.1)
 
-known-append : (k j : ℕ) (cs : List ClientState) → is_known cs j ≡ true → is_known (cs ++ new_client k ∷ []) j ≡ true
+known-append : (k j : ℕ) (cs : List MemberState) → is_known cs j ≡ true → is_known (cs ++ new_client k ∷ []) j ≡ true
 known-append k j [] h = absurd (cc)
 known-append k j (c ∷ cs) h = by_case (known-append k j cs) (c.number == j) h
   where
@@ -183,7 +183,7 @@ known-append k j (c ∷ cs) h = by_case (known-append k j cs) (c.number == j) h
     by_case ih true h = refl
     by_case ih false h = ih h
 
-served-append : (k j : ℕ) (cs : List ClientState) → is_served cs j ≡ true → is_served (cs ++ new_client k ∷ []) j ≡ true
+served-append : (k j : ℕ) (cs : List MemberState) → is_served cs j ≡ true → is_served (cs ++ new_client k ∷ []) j ≡ true
 served-append k j [] h = absurd (cc)
 served-append k j (c ∷ cs) h = by_case (served-append k j cs) ((c.number == j) && not c.lost) h
   where
@@ -200,15 +200,15 @@ all-last P x one [] all = (one, tt)
 all-last P x one (y ∷ ys) all = (all.0, all-last P x one ys all.1)
 
 -- none of the clients has its number
-strangers : (k : ℕ) (rows : List Row) (cs : List ClientState) → rows_of k rows ≡ [] → AllByRecursion (ClientFits (look rows)) cs → AllByRecursion (λ c. (c.number == k) ≡ false) cs
+strangers : (k : ℕ) (rows : List Row) (cs : List MemberState) → rows_of k rows ≡ [] → AllByRecursion (ClientFits (look rows)) cs → AllByRecursion (λ c. (c.number == k) ≡ false) cs
 strangers k rows cs new all = all-of (ClientFits (look rows)) (λ c. (c.number == k) ≡ false) (λ c fits. one c fits (c.number == k) refl) cs all
   where
-    one : (c : ClientState) → ClientFits (look rows) c → (b : Bool) → (c.number == k) ≡ b → (c.number == k) ≡ false
+    one : (c : MemberState) → ClientFits (look rows) c → (b : Bool) → (c.number == k) ≡ b → (c.number == k) ≡ false
     one c fits true e = absurd (let a : any_of is_admit (rows_of k rows) ≡ true = subst (λ j. any_of is_admit (rows_of j rows) ≡ true) (same-number c.number k e) fits.admitted in let b : any_of is_admit (rows_of k rows) ≡ false = ap (any_of is_admit) new in let d = sym a ∙ b in cc)
     one c fits false e = e
 
 -- a client that was there stands as before
-stays : (k : ℕ) (frame : List ℕ) (rows : List Row) (c : ClientState) → (c.number == k) ≡ false → ClientFits (look rows) c → ClientFits (look (admit_row k frame ∷ rows)) c
+stays : (k : ℕ) (frame : List ℕ) (rows : List Row) (c : MemberState) → (c.number == k) ≡ false → ClientFits (look rows) c → ClientFits (look (admit_row k frame ∷ rows)) c
 stays k frame rows c other fits =
     let same = idle_row c.number (admit_row k frame) rows (turned c.number k other) in
     record {
@@ -263,7 +263,7 @@ admitted-stands s k frame rows st nonzero new room =
       };
     }
   where
-    old : (cs : List ClientState) → AllByRecursion (λ c. (c.number == k) ≡ false) cs → AllByRecursion (ClientFits (look rows)) cs → AllByRecursion (ClientFits (look (admit_row k frame ∷ rows))) cs
+    old : (cs : List MemberState) → AllByRecursion (λ c. (c.number == k) ≡ false) cs → AllByRecursion (ClientFits (look rows)) cs → AllByRecursion (ClientFits (look (admit_row k frame ∷ rows))) cs
     old [] a b = tt
     old (c ∷ cs) a b = (stays k frame rows c a.0 b.0, old cs a.1 b.1)
 

@@ -22,7 +22,7 @@ use Rattle.channel_table.specs.Entries.{changed_at, has_remote, number_of_remote
 use Rattle.mux_core.proofs.ConfirmedTable.{close-it, close-others, closed-channels, closed-fits, closes, confirmed-channels, confirmed-table, given-fits, known-altered, not-false, plain, quiet-confirmed}
 use Rattle.mux_core.proofs.Confirms.{confirm_remote}
 use Rattle.channel_table.specs.Stands.{Fits}
-use Rattle.mux_core.specs.declared.heard.Heard.TheVariants as heard
+use Rattle.mux_core.specs.declared.heard.Delivery.TheVariants as heard
 use Rattle.mux_core.specs.State.{CoreState}
 use Rattle.mux_core.specs.Stands.{Stands, TableFits}
 use Rattle.mux_core.specs.Lookups.{channel_for, waits}

@@ -22,8 +22,8 @@ use Rattle.window_ledger.specs.declared.ledger.Ledger.{Ledger}
 use Rattle.channel_table.specs.declared.channel.Channel as table
 use Rattle.channel_table.specs.Entries.{Entry}
 use Rattle.channel_table.specs.Entries.{freed, shown_at}
-use Rattle.mux_core.specs.declared.heard.Heard as told
-use Rattle.mux_core.specs.declared.heard.Heard.TheVariants as heard
+use Rattle.mux_core.specs.declared.heard.Delivery as told
+use Rattle.mux_core.specs.declared.heard.Delivery.TheVariants as heard
 use Rattle.mux_core.specs.State.{CoreState, is_served}
 use Rattle.mux_core.specs.Stands.{Stands, TableFits, is_known, look}
 use Rattle.mux_core.specs.Lookups.{channel_for, waits}
@@ -162,7 +162,7 @@ failure-lost s new n p p' up c l rows st looks lost pend after e =
     (freed-known s sh.entry.number st.known.channels)
     (after ∙ (ap (λ (i : ℕ). settled (record s { channels = freed i s.channels }) c.client) (sym sh.number) ∙ ap (λ (d : table.Channel). settled (record s { channels = freed sh.entry.number s.channels }) d.client) (sym sh.channel))))
 
-pub failure-delivered : (s mid new : CoreState) (n : ℕ) (p p' : List ℕ) (up : QueueState) (c : table.Channel) (l : Ledger) (h : told.Heard) (rows : List Row) → Stands s rows → channel_for s.channels n ≡ Some (c, l) → waits c l ≡ true → mid ≡ record s { channels = freed n s.channels } → DeliversAs (is_lost_in mid.clients c.client) mid new c p p' h → read_gist p ≡ Ok (Within n Fails) → HearsAs new p p' up up h rows (dest rows p)
+pub failure-delivered : (s mid new : CoreState) (n : ℕ) (p p' : List ℕ) (up : QueueState) (c : table.Channel) (l : Ledger) (h : told.Delivery) (rows : List Row) → Stands s rows → channel_for s.channels n ≡ Some (c, l) → waits c l ≡ true → mid ≡ record s { channels = freed n s.channels } → DeliversAs (is_lost_in mid.clients c.client) mid new c p p' h → read_gist p ≡ Ok (Within n Fails) → HearsAs new p p' up up h rows (dest rows p)
 failure-delivered s mid new n p p' up c l h rows st looks pend is goes e =
     by_case (is_lost_in s.clients c.client) refl (subst (λ (u : CoreState). DeliversAs (is_lost_in u.clients c.client) u new c p p' h) is goes)
   where

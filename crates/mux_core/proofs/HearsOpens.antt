@@ -31,7 +31,7 @@ use Rattle.channel_table.specs.Entries.{Entry}
 use Rattle.channel_table.specs.Entries.{AreTwo, IsFree, count_of, full_refusal, has_remote, is_at, number_of_remote, remote_entry, remote_refusal, unless, unless_held}
 use Rattle.channel_table.specs.declared.channel.Refused.TheVariants as refused
 use Rattle.channel_table.specs.Stands.{ChannelsFit, Fits}
-use Rattle.mux_core.specs.declared.heard.Heard.TheVariants as heard
+use Rattle.mux_core.specs.declared.heard.Delivery.TheVariants as heard
 use Rattle.mux_core.specs.State.{CoreState}
 use Rattle.mux_core.specs.Stands.{HasSmall, Stands, has_numbers, is_known, is_whole, look}
 use Rattle.mux_core.specs.Opening.{owner_for}

@@ -28,9 +28,9 @@ use Rattle.global_replies.specs.Replies.{FirstAsked, after_reply, refusals_behin
 use Rattle.forward_rules.specs.State.{Forward}
 use Rattle.forward_rules.specs.Step.{cancel_answered, change_first, first_cancel, is_cancelled_at, is_leaving_at, settled_at, without_cancel_of, without_first}
 use Rattle.forward_rules.specs.Step as forwards
-use Rattle.mux_core.specs.declared.heard.Heard as told
-use Rattle.mux_core.specs.declared.heard.Heard.TheVariants as heard
-use Rattle.mux_core.specs.State.{ClientState, CoreState, is_served}
+use Rattle.mux_core.specs.declared.heard.Delivery as told
+use Rattle.mux_core.specs.declared.heard.Delivery.TheVariants as heard
+use Rattle.mux_core.specs.State.{MemberState, CoreState, is_served}
 use Rattle.mux_core.specs.Stands.{Stands, is_known, look}
 use Rattle.mux_core.specs.Calls.{HearsAs, HearsClient, HearsWith, told_by}
 use Rattle.mux_core.specs.Replying.{after_failure, after_success, misses_port}
@@ -84,22 +84,22 @@ all-kept P test (f ∷ fs) all = by_test (all-kept P test fs all.1) (test f) ref
     by_test ih true h = subst (AllByRecursion P) (sym (filter-yes test f fs h)) (all.0, ih)
     by_test ih false h = subst (AllByRecursion P) (sym (filter-no test f fs h)) ih
 
-all-moved : (cs : List ClientState) (k rank : ℕ) (fs : List Forward) → AllByRecursion (λ f. is_served cs f.client ≡ true) fs → AllByRecursion (λ f. is_served cs f.client ≡ true) (map (without_cancel_of k rank) fs)
+all-moved : (cs : List MemberState) (k rank : ℕ) (fs : List Forward) → AllByRecursion (λ f. is_served cs f.client ≡ true) fs → AllByRecursion (λ f. is_served cs f.client ≡ true) (map (without_cancel_of k rank) fs)
 all-moved cs k rank [] all = tt
 all-moved cs k rank (f ∷ fs) all = (ap (is_served cs) (client-after k rank f) ∙ all.0, all-moved cs k rank fs all.1)
 
-all-answered : (cs : List ClientState) (k : ℕ) (done : Bool) (fs : List Forward) (o : Option ℕ) → AllByRecursion (λ f. is_served cs f.client ≡ true) fs → AllByRecursion (λ f. is_served cs f.client ≡ true) (settled_at k o done fs)
+all-answered : (cs : List MemberState) (k : ℕ) (done : Bool) (fs : List Forward) (o : Option ℕ) → AllByRecursion (λ f. is_served cs f.client ≡ true) fs → AllByRecursion (λ f. is_served cs f.client ≡ true) (settled_at k o done fs)
 all-answered cs k done fs None all = all
 all-answered cs k true fs (Some r) all = all-moved cs k r (filter (λ f. not (is_cancelled_at k r f)) fs) (all-kept (λ f. is_served cs f.client ≡ true) (λ f. not (is_cancelled_at k r f)) fs all)
 all-answered cs k false fs (Some r) all = all-moved cs k r fs all
 
-served-success : (cs : List ClientState) (k : ℕ) (what : full.Global) (rest : List ℕ) (fs : List Forward) → AllByRecursion (λ f. is_served cs f.client ≡ true) fs → AllByRecursion (λ f. is_served cs f.client ≡ true) (after_success k what rest fs)
+served-success : (cs : List MemberState) (k : ℕ) (what : full.Global) (rest : List ℕ) (fs : List Forward) → AllByRecursion (λ f. is_served cs f.client ≡ true) fs → AllByRecursion (λ f. is_served cs f.client ≡ true) (after_success k what rest fs)
 served-success cs k (full.Forward key) rest fs all = all-first (λ f. is_served cs f.client ≡ true) (forwards.is_asked_at k key) _ (λ f h. h) fs all
 served-success cs k (full.Cancel key) rest fs all = all-answered cs k true fs (first_cancel (is_leaving_at k key) fs) all
 served-success cs k full.KeepAlive rest fs all = all
 served-success cs k full.OtherName rest fs all = all
 
-served-failure : (cs : List ClientState) (k : ℕ) (what : full.Global) (fs : List Forward) → AllByRecursion (λ f. is_served cs f.client ≡ true) fs → AllByRecursion (λ f. is_served cs f.client ≡ true) (after_failure k what fs)
+served-failure : (cs : List MemberState) (k : ℕ) (what : full.Global) (fs : List Forward) → AllByRecursion (λ f. is_served cs f.client ≡ true) fs → AllByRecursion (λ f. is_served cs f.client ≡ true) (after_failure k what fs)
 served-failure cs k (full.Forward key) fs all = all-without (λ f. is_served cs f.client ≡ true) (forwards.is_asked_at k key) fs all
 served-failure cs k (full.Cancel key) fs all = all-answered cs k false fs (first_cancel (is_leaving_at k key) fs) all
 served-failure cs k full.KeepAlive fs all = all
@@ -174,7 +174,7 @@ success-given s new k what queue p rest up rows st first good here e after =
     let alive = (served (look rows) k s.clients st.clients.each serves).here in
     let asked = asked-first s rows (record { client = k; what = what }) queue st first in
     let stands : Stands new (reply_row k p [] ∷ rows) =
-    subst (λ u. Stands u (reply_row k p [] ∷ rows)) (sym (after ∙ ap (λ (cs : List ClientState). let u : CoreState = record s { asks = queue; forwards = after_success k what rest s.forwards; clients = cs } in u) (with-map k after_reply s.clients st.clients.once)))
+    subst (λ u. Stands u (reply_row k p [] ∷ rows)) (sym (after ∙ ap (λ (cs : List MemberState). let u : CoreState = record s { asks = queue; forwards = after_success k what rest s.forwards; clients = cs } in u) (with-map k after_reply s.clients st.clients.once)))
     (served-stands s p (Succeeds rest) [] (record { client = k; what = what }) queue (after_success k what rest s.forwards) rows st serves is first (λ x. refl)
     (success-fit k rest what s.forwards (current rows) (look rows).own (look (reply_row k p [] ∷ rows)).own (look rows).lost st.forwards (own-next k p (Succeeds rest) [] rows is) alive asked.place)
     (served-success s.clients k what rest s.forwards st.known.forwards)) in
@@ -189,7 +189,7 @@ refusal-given s new k what queue p up rows st first here e after =
     let alive = (served (look rows) k s.clients st.clients.each serves).here in
     let asked = asked-first s rows (record { client = k; what = what }) queue st first in
     let stands : Stands new (reply_row k p [] ∷ rows) =
-    subst (λ u. Stands u (reply_row k p [] ∷ rows)) (sym (after ∙ ap (λ (cs : List ClientState). let u : CoreState = record s { asks = queue; forwards = after_failure k what s.forwards; clients = cs } in u) (with-map k after_reply s.clients st.clients.once)))
+    subst (λ u. Stands u (reply_row k p [] ∷ rows)) (sym (after ∙ ap (λ (cs : List MemberState). let u : CoreState = record s { asks = queue; forwards = after_failure k what s.forwards; clients = cs } in u) (with-map k after_reply s.clients st.clients.once)))
     (served-stands s p Refuses [] (record { client = k; what = what }) queue (after_failure k what s.forwards) rows st serves is first (λ x. refl)
     (failure-fit k what s.forwards (current rows) (look rows).own (look (reply_row k p [] ∷ rows)).own (look rows).lost st.forwards (own-next k p Refuses [] rows is) alive asked.place)
     (served-failure s.clients k what s.forwards st.known.forwards)) in
@@ -245,14 +245,14 @@ lost-then s mid k b is lost = ap (λ (u : CoreState). is_lost_in u.clients k) (s
 sent-then : (ps qs : List (List ℕ)) (up up' : QueueState) → up' ≡ with_payloads ps up → ps ≡ qs → up'.waiting ≡ up.waiting ++ joined (map frame_payload qs)
 sent-then ps qs up up' is same = ap (λ (q : QueueState). q.waiting) is ∙ ap (λ xs. up.waiting ++ joined (map frame_payload xs)) same
 
-pub refusal-late : (s mid new : CoreState) (k : ℕ) (ask : declared.Ask) (what : full.Global) (sent : List (List ℕ)) (p : List ℕ) (up up' : QueueState) (r : Result told.Heard OutOfMemory) → FirstAsked s.asks (Some (k, ask)) → mid ≡ record s { asks = rest_of s.asks } → what ≡ what_of ask → is_lost_in mid.clients k ≡ true → sent ≡ late_refusal what
+pub refusal-late : (s mid new : CoreState) (k : ℕ) (ask : declared.Ask) (what : full.Global) (sent : List (List ℕ)) (p : List ℕ) (up up' : QueueState) (r : Result told.Delivery OutOfMemory) → FirstAsked s.asks (Some (k, ask)) → mid ≡ record s { asks = rest_of s.asks } → what ≡ what_of ask → is_lost_in mid.clients k ≡ true → sent ≡ late_refusal what
     → IfOk r (λ h. h ≡ heard.Lost k) → OnOk r (new ≡ settled mid k) → OnOk r (up' ≡ with_payloads sent up) → IfOk r (λ h. HearsWith s new p p Refuses up up' h)
 refusal-late s mid new k ask what sent p up up' (Ok h) first is same lost says to after goes = λ rows st e.
     subst (λ x. HearsAs new p p up up' x rows (dest rows p)) (sym to)
     (refusal-lost s new k what (rest_of s.asks) p p up up' rows st (first-asked s k ask what first same) (lost-then s mid k true is lost) e (sent-then sent (late_refusal what) up up' goes says) (after ∙ ap (λ (u : CoreState). settled u k) is))
 refusal-late s mid new k ask what sent p up up' (Err x) first is same lost says to after goes = to
 
-pub success-late : (s mid new : CoreState) (k : ℕ) (ask : declared.Ask) (what : full.Global) (sent : List (List ℕ)) (p rest : List ℕ) (up up' : QueueState) (r : Result told.Heard OutOfMemory) → FirstAsked s.asks (Some (k, ask)) → mid ≡ record s { asks = rest_of s.asks } → what ≡ what_of ask → misses_port what rest ≡ false → is_lost_in mid.clients k ≡ true → sent ≡ late_success rest what
+pub success-late : (s mid new : CoreState) (k : ℕ) (ask : declared.Ask) (what : full.Global) (sent : List (List ℕ)) (p rest : List ℕ) (up up' : QueueState) (r : Result told.Delivery OutOfMemory) → FirstAsked s.asks (Some (k, ask)) → mid ≡ record s { asks = rest_of s.asks } → what ≡ what_of ask → misses_port what rest ≡ false → is_lost_in mid.clients k ≡ true → sent ≡ late_success rest what
     → IfOk r (λ h. h ≡ heard.Lost k) → OnOk r (new ≡ settled mid k) → OnOk r (up' ≡ with_payloads sent up) → IfOk r (λ h. HearsWith s new p p (Succeeds rest) up up' h)
 success-late s mid new k ask what sent p rest up up' (Ok h) first is same good lost says to after goes = λ rows st e.
     subst (λ x. HearsAs new p p up up' x rows (dest rows p)) (sym to)
@@ -269,14 +269,14 @@ same-clients s mid m2 fs is then_ = ap (λ (u : CoreState). u.clients) then_ ∙
 same-forwards : (s mid : CoreState) → mid ≡ record s { asks = rest_of s.asks } → mid.forwards ≡ s.forwards
 same-forwards s mid is = ap (λ (u : CoreState). u.forwards) is
 
-pub refusal-served : (s mid m2 new : CoreState) (k : ℕ) (ask : declared.Ask) (what : full.Global) (p : List ℕ) (up : QueueState) (h : told.Heard) → FirstAsked s.asks (Some (k, ask)) → mid ≡ record s { asks = rest_of s.asks } → what ≡ what_of ask → is_lost_in mid.clients k ≡ false → m2 ≡ record mid { forwards = after_failure k what mid.forwards } → new ≡ record m2 { clients = with_waiting k after_reply m2.clients } → h ≡ heard.Client k (refusals_behind (waiting_of k m2.clients)) → HearsWith s new p p Refuses up up h
+pub refusal-served : (s mid m2 new : CoreState) (k : ℕ) (ask : declared.Ask) (what : full.Global) (p : List ℕ) (up : QueueState) (h : told.Delivery) → FirstAsked s.asks (Some (k, ask)) → mid ≡ record s { asks = rest_of s.asks } → what ≡ what_of ask → is_lost_in mid.clients k ≡ false → m2 ≡ record mid { forwards = after_failure k what mid.forwards } → new ≡ record m2 { clients = with_waiting k after_reply m2.clients } → h ≡ heard.Client k (refusals_behind (waiting_of k m2.clients)) → HearsWith s new p p Refuses up up h
 refusal-served s mid m2 new k ask what p up h first is same here then_ last to = λ rows st e.
     let fs = ap (after_failure k what) (same-forwards s mid is) in
     let then_s = then_ ∙ ap (λ (gs : List Forward). let v : CoreState = record mid { forwards = gs } in v) fs in
     subst (λ x. HearsAs new p p up up x rows (dest rows p)) (sym (to ∙ ap (λ cs. heard.Client k (refusals_behind (waiting_of k cs))) (same-clients s mid m2 (after_failure k what s.forwards) is then_s)))
     (refusal-given s new k what (rest_of s.asks) p up rows st (first-asked s k ask what first same) (lost-then s mid k false is here) e (passed-on s mid m2 new k (after_failure k what s.forwards) is then_s last))
 
-pub success-served : (s mid m2 new : CoreState) (k : ℕ) (ask : declared.Ask) (what : full.Global) (p rest : List ℕ) (up : QueueState) (h : told.Heard) → FirstAsked s.asks (Some (k, ask)) → mid ≡ record s { asks = rest_of s.asks } → what ≡ what_of ask → misses_port what rest ≡ false → is_lost_in mid.clients k ≡ false → m2 ≡ record mid { forwards = after_success k what rest mid.forwards } → new ≡ record m2 { clients = with_waiting k after_reply m2.clients } → h ≡ heard.Client k (refusals_behind (waiting_of k m2.clients)) → HearsWith s new p p (Succeeds rest) up up h
+pub success-served : (s mid m2 new : CoreState) (k : ℕ) (ask : declared.Ask) (what : full.Global) (p rest : List ℕ) (up : QueueState) (h : told.Delivery) → FirstAsked s.asks (Some (k, ask)) → mid ≡ record s { asks = rest_of s.asks } → what ≡ what_of ask → misses_port what rest ≡ false → is_lost_in mid.clients k ≡ false → m2 ≡ record mid { forwards = after_success k what rest mid.forwards } → new ≡ record m2 { clients = with_waiting k after_reply m2.clients } → h ≡ heard.Client k (refusals_behind (waiting_of k m2.clients)) → HearsWith s new p p (Succeeds rest) up up h
 success-served s mid m2 new k ask what p rest up h first is same good here then_ last to = λ rows st e.
     let fs = ap (after_success k what rest) (same-forwards s mid is) in
     let then_s = then_ ∙ ap (λ (gs : List Forward). let v : CoreState = record mid { forwards = gs } in v) fs in

@@ -20,7 +20,7 @@ use Rattle.global_replies.specs.Replies.{after_reply}
 use Rattle.forward_rules.specs.State as kept
 use Rattle.forward_rules.specs.Stands.{AreFit, AreListed}
 use Rattle.channel_table.specs.Entries.{Entry}
-use Rattle.mux_core.specs.State.{ClientState, CoreState, is_served}
+use Rattle.mux_core.specs.State.{MemberState, CoreState, is_served}
 use Rattle.mux_core.specs.Stands.{AsksFit, ClientFits, Stands, TableFits, has_matters, is_known, look}
 use Rattle.mux_core.specs.Settling.{has_left, is_lost_in, settled}
 use Rattle.mux_core.proofs.Answering.{Waits, asks-replied, replied-waits}
@@ -43,7 +43,7 @@ waits-next k p m sent own w is h lt =
     (ap (λ fs. left_of fs (replies own ++ reply_in (Heard p))) (append-nil (wanted own))
     ∙ (ap (λ rs. left_of (wanted own) (replies own ++ rs)) (came p m is) ∙ replied-waits (wanted own) (replies own) s.later p (subst (Waits (wanted own) (replies own)) s.is h)))
 
-client-next : (k : ℕ) (p : List ℕ) (m : Gist) (sent : List (List ℕ)) (rows : List Row) (c : ClientState) → IsReply p m → length (replies (rows_of k rows)) < length (asks (rows_of k rows)) → ClientFits (look rows) c → ClientFits (look (reply_row k p sent ∷ rows)) (changes k after_reply c)
+client-next : (k : ℕ) (p : List ℕ) (m : Gist) (sent : List (List ℕ)) (rows : List Row) (c : MemberState) → IsReply p m → length (replies (rows_of k rows)) < length (asks (rows_of k rows)) → ClientFits (look rows) c → ClientFits (look (reply_row k p sent ∷ rows)) (changes k after_reply c)
 client-next k p m sent rows c is lt fits = by_number (c.number == k) refl (k == c.number) refl
   where
     after-own : (j : ℕ) → (k == j) ≡ true → rows_of j (reply_row k p sent ∷ rows) ≡ reply_row k p sent ∷ rows_of j rows
@@ -68,7 +68,7 @@ client-next k p m sent rows c is lt fits = by_number (c.number == k) refl (k == 
     by_number true h false g = absurd (clash c.number k h g)
     by_number false h true g = absurd (clash k c.number g h)
 
-clients-next : (k : ℕ) (p : List ℕ) (m : Gist) (sent : List (List ℕ)) (rows : List Row) (cs : List ClientState) → IsReply p m → length (replies (rows_of k rows)) < length (asks (rows_of k rows)) → AllByRecursion (ClientFits (look rows)) cs → AllByRecursion (ClientFits (look (reply_row k p sent ∷ rows))) (map (changes k after_reply) cs)
+clients-next : (k : ℕ) (p : List ℕ) (m : Gist) (sent : List (List ℕ)) (rows : List Row) (cs : List MemberState) → IsReply p m → length (replies (rows_of k rows)) < length (asks (rows_of k rows)) → AllByRecursion (ClientFits (look rows)) cs → AllByRecursion (ClientFits (look (reply_row k p sent ∷ rows))) (map (changes k after_reply) cs)
 clients-next k p m sent rows [] is lt all = tt
 clients-next k p m sent rows (c ∷ cs) is lt all = (client-next k p m sent rows c is lt all.0, clients-next k p m sent rows cs is lt all.1)
 
@@ -113,7 +113,7 @@ served-stands s p m sent a queue fs rows st serves is first ups fit theirs =
 
 -- ---- for a client that is lost
 
-lost-client : (k : ℕ) (p : List ℕ) (m : Gist) (sent : List (List ℕ)) (rows : List Row) (c : ClientState) → is_lost (rows_of k rows) ≡ true → ClientFits (look rows) c → ClientFits (look (reply_row k p sent ∷ rows)) c
+lost-client : (k : ℕ) (p : List ℕ) (m : Gist) (sent : List (List ℕ)) (rows : List Row) (c : MemberState) → is_lost (rows_of k rows) ≡ true → ClientFits (look rows) c → ClientFits (look (reply_row k p sent ∷ rows)) c
 lost-client k p m sent rows c gone fits = record {
   nonzero = fits.nonzero;
   admitted = own-same (any_of is_admit) (reply_row k p sent) rows (λ o. refl) c.number ∙ fits.admitted;
@@ -125,7 +125,7 @@ lost-client k p m sent rows c gone fits = record {
     by_number here true h = absurd (let x : is_lost (rows_of c.number rows) ≡ true = subst (λ i. is_lost (rows_of i rows) ≡ true) (same-number k c.number h) gone in let y : true ≡ false = sym x ∙ (sym fits.lost ∙ here) in cc)
     by_number here false h = ap (λ own. left_of (wanted own) (replies own)) (idle_row c.number (reply_row k p sent) rows h) ∙ fits.answers here
 
-lost-clients : (k : ℕ) (p : List ℕ) (m : Gist) (sent : List (List ℕ)) (rows : List Row) (cs : List ClientState) → is_lost (rows_of k rows) ≡ true → AllByRecursion (ClientFits (look rows)) cs → AllByRecursion (ClientFits (look (reply_row k p sent ∷ rows))) cs
+lost-clients : (k : ℕ) (p : List ℕ) (m : Gist) (sent : List (List ℕ)) (rows : List Row) (cs : List MemberState) → is_lost (rows_of k rows) ≡ true → AllByRecursion (ClientFits (look rows)) cs → AllByRecursion (ClientFits (look (reply_row k p sent ∷ rows))) cs
 lost-clients k p m sent rows [] gone all = tt
 lost-clients k p m sent rows (c ∷ cs) gone all = (lost-client k p m sent rows c gone all.0, lost-clients k p m sent rows cs gone all.1)
 

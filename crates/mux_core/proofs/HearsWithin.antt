@@ -25,9 +25,9 @@ use Rattle.channel_table.specs.declared.channel.Channel as table
 use Rattle.channel_table.specs.Entries.{Entry}
 use Rattle.channel_table.specs.Entries.{shown_at}
 use Rattle.channel_table.specs.Stands.{Fits}
-use Rattle.mux_core.specs.declared.heard.Heard as told
-use Rattle.mux_core.specs.declared.heard.Heard.TheVariants as heard
-use Rattle.mux_core.specs.State.{ClientState, CoreState, is_served}
+use Rattle.mux_core.specs.declared.heard.Delivery as told
+use Rattle.mux_core.specs.declared.heard.Delivery.TheVariants as heard
+use Rattle.mux_core.specs.State.{MemberState, CoreState, is_served}
 use Rattle.mux_core.specs.Stands.{Stands, is_known, look}
 use Rattle.mux_core.specs.Lookups.{acted, channel_for}
 use Rattle.mux_core.specs.Settling.{is_lost_in, settled}
@@ -141,7 +141,7 @@ passes-by s new n a p p' up e0 l over rows st lost h fine acts plain after e =
         }
 
 -- a client with a channel that isn't lost is served
-pub known-served : (k : ℕ) (cs : List ClientState) → is_known cs k ≡ true → is_lost_in cs k ≡ false → is_served cs k ≡ true
+pub known-served : (k : ℕ) (cs : List MemberState) → is_known cs k ≡ true → is_lost_in cs k ≡ false → is_served cs k ≡ true
 known-served k [] known here = known
 known-served k (c ∷ cs) known here = by_case (known-served k cs) (c.number == k) refl c.lost refl known here
   where
@@ -168,7 +168,7 @@ passes-for s new n a p p' up c l l' over rows st looks lost fine acts plain afte
     subst (λ (d : table.Channel). HearsAs new p p' up up (heard.Lost d.client) rows (dest rows p)) sh.channel
     (passes-by s new n a p p' up sh.entry l' over rows st (subst (λ (d : table.Channel). is_lost_in s.clients d.client ≡ true) (sym sh.channel) lost) sh.found (subst (λ m. (x : Channel) → ledger.Stands m x → breach Down a x ≡ None) (sym sh.ledger) fine) (subst (λ m. ActsOn Down a m l' over) (sym sh.ledger) acts) plain (after ∙ (ap (λ (i : ℕ). settled (record s { channels = acted i l' over s.channels }) c.client) (sym sh.number) ∙ ap (λ (d : table.Channel). settled (record s { channels = acted sh.entry.number l' over s.channels }) d.client) (sym sh.channel))) e)
 
-pub within-delivered : (s mid new : CoreState) (n : ℕ) (a : Act) (p p' : List ℕ) (up : QueueState) (c : table.Channel) (l l' : Ledger) (over : Bool) (h : told.Heard) (rows : List Row) → Stands s rows → channel_for s.channels n ≡ Some (c, l) → ((x : Channel) → ledger.Stands l x → breach Down a x ≡ None) → ActsOn Down a l l' over → is_failing a ≡ false → mid ≡ record s { channels = acted n l' over s.channels } → DeliversAs (is_lost_in mid.clients c.client) mid new c p p' h → read_gist p ≡ Ok (Within n a) → HearsAs new p p' up up h rows (dest rows p)
+pub within-delivered : (s mid new : CoreState) (n : ℕ) (a : Act) (p p' : List ℕ) (up : QueueState) (c : table.Channel) (l l' : Ledger) (over : Bool) (h : told.Delivery) (rows : List Row) → Stands s rows → channel_for s.channels n ≡ Some (c, l) → ((x : Channel) → ledger.Stands l x → breach Down a x ≡ None) → ActsOn Down a l l' over → is_failing a ≡ false → mid ≡ record s { channels = acted n l' over s.channels } → DeliversAs (is_lost_in mid.clients c.client) mid new c p p' h → read_gist p ≡ Ok (Within n a) → HearsAs new p p' up up h rows (dest rows p)
 within-delivered s mid new n a p p' up c l l' over h rows st looks fine acts plain is goes e =
     by_case (is_lost_in s.clients c.client) refl (subst (λ (u : CoreState). DeliversAs (is_lost_in u.clients c.client) u new c p p' h) is goes)
   where

@@ -15,7 +15,7 @@ use Rattle.forward_rules.specs.Step.{cancels, count_of, is_leaving, is_of, witho
 use Rattle.forward_rules.specs.Stands.{AreFit, AreInOrder, AreListed, AreTwo, EachHas, EachTwo, InOrderWith, IsAwaited, IsRanked, Places}
 use Rattle.client_teardown.specs.Leaving.{left_entries}
 use Rattle.client_teardown.specs.Laws.{left_channels}
-use Rattle.mux_core.specs.State.{ClientState, CoreState, is_served}
+use Rattle.mux_core.specs.State.{MemberState, CoreState, is_served}
 use Rattle.mux_core.specs.Stands.{AreKnown, AreOnce, AsksFit, ClientFits, OwnRequests, Stands, TableFits, has_matters, is_known, look, unreplied_in}
 use Rattle.mux_core.specs.Settling.{has_left, settled}
 use Rattle.mux_core.specs.Losing.{lose, lost_clients, lost_core}
@@ -167,11 +167,11 @@ forwards-lost k fs gs own own' lost lost' same gone others fit = record {
 
 -- ---- the clients
 
-known-lost : (k j : ℕ) (cs : List ClientState) → is_known (lost_clients k cs) j ≡ is_known cs j
+known-lost : (k j : ℕ) (cs : List MemberState) → is_known (lost_clients k cs) j ≡ is_known cs j
 known-lost k j [] = refl
 known-lost k j (c ∷ cs) = ap (λ b. (c.number == j) || b) (known-lost k j cs)
 
-served-lost : (k j : ℕ) (cs : List ClientState) → (k == j) ≡ false → is_served (lost_clients k cs) j ≡ is_served cs j
+served-lost : (k j : ℕ) (cs : List MemberState) → (k == j) ≡ false → is_served (lost_clients k cs) j ≡ is_served cs j
 served-lost k j [] apart = refl
 served-lost k j (c ∷ cs) apart = ap (λ b. ((c.number == j) && not (c.lost || (c.number == k))) || b) (served-lost k j cs apart) ∙ ap (λ b. b || is_served cs j) (by_case (c.number == j) refl (c.number == k) refl)
   where
@@ -187,24 +187,24 @@ served-lost k j (c ∷ cs) apart = ap (λ b. ((c.number == j) && not (c.lost || 
     by_case true p false q = ap (λ d. (c.number == j) && not (c.lost || d)) q ∙ ap (λ d. (c.number == j) && not d) (plain c.lost)
     by_case false p d q = ap (λ b. b && not (c.lost || (c.number == k))) p ∙ sym (ap (λ b. b && not c.lost) p)
 
-numbers-lost : (k : ℕ) (cs : List ClientState) → map (λ (c : ClientState). c.number) (lost_clients k cs) ≡ map (λ (c : ClientState). c.number) cs
+numbers-lost : (k : ℕ) (cs : List MemberState) → map (λ (c : MemberState). c.number) (lost_clients k cs) ≡ map (λ (c : MemberState). c.number) cs
 numbers-lost k [] = refl
 numbers-lost k (c ∷ cs) = ap (λ ns. c.number ∷ ns) (numbers-lost k cs)
 
-once-lost : (k : ℕ) (cs : List ClientState) → AreOnce cs → AreOnce (lost_clients k cs)
+once-lost : (k : ℕ) (cs : List MemberState) → AreOnce cs → AreOnce (lost_clients k cs)
 once-lost k [] once = tt
 once-lost k (c ∷ cs) once = (each cs once.0, once-lost k cs once.1)
   where
-    each : (ds : List ClientState) → AllByRecursion (λ d. (c.number == d.number) ≡ false) ds → AllByRecursion (λ d. (c.number == d.number) ≡ false) (lost_clients k ds)
+    each : (ds : List MemberState) → AllByRecursion (λ d. (c.number == d.number) ≡ false) ds → AllByRecursion (λ d. (c.number == d.number) ≡ false) (lost_clients k ds)
     each [] all = tt
     each (d ∷ ds) all = (all.0, each ds all.1)
 
-length-lost : (k : ℕ) (cs : List ClientState) → length (lost_clients k cs) ≡ length cs
+length-lost : (k : ℕ) (cs : List MemberState) → length (lost_clients k cs) ≡ length cs
 length-lost k [] = refl
 length-lost k (c ∷ cs) = ap suc (length-lost k cs)
 
 -- a client stands for the log with the loss
-client-lost : (k : ℕ) (old new : List Row) (c : ClientState) → IsLoss k old new → ClientFits (look old) c → ClientFits (look new) (lose k c)
+client-lost : (k : ℕ) (old new : List Row) (c : MemberState) → IsLoss k old new → ClientFits (look old) c → ClientFits (look new) (lose k c)
 client-lost k old new c loss fits = record {
   nonzero = fits.nonzero;
   admitted = loss.admitted c.number ∙ fits.admitted;
@@ -228,7 +228,7 @@ client-lost k old new c loss fits = record {
     by_here true h here = absurd (let a = sym (ap (λ b. c.lost || b) h ∙ end c.lost) ∙ here in cc)
     by_here false h here = loss.waiting c.number (turned c.number k h) ∙ fits.answers (sym (ap (λ b. c.lost || b) h ∙ plain c.lost) ∙ here)
 
-clients-lost : (k : ℕ) (old new : List Row) (cs : List ClientState) → IsLoss k old new → AllByRecursion (ClientFits (look old)) cs → AllByRecursion (ClientFits (look new)) (lost_clients k cs)
+clients-lost : (k : ℕ) (old new : List Row) (cs : List MemberState) → IsLoss k old new → AllByRecursion (ClientFits (look old)) cs → AllByRecursion (ClientFits (look new)) (lost_clients k cs)
 clients-lost k old new [] loss all = tt
 clients-lost k old new (c ∷ cs) loss all = (client-lost k old new c loss all.0, clients-lost k old new cs loss all.1)
 

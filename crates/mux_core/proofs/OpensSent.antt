@@ -30,7 +30,7 @@ use Rattle.channel_table.specs.Entries.{Entry}
 use Rattle.channel_table.specs.Entries.{AreApart, AreTwo, IsFree, count_of, has_own, is_at, is_of, is_shown, own_entry}
 use Rattle.channel_table.specs.Stands.{ChannelsFit, Fits, shown_number}
 use Rattle.mux_core.specs.declared.verdict.Verdict.TheVariants as verdict
-use Rattle.mux_core.specs.State.{ClientState, CoreState, is_served}
+use Rattle.mux_core.specs.State.{MemberState, CoreState, is_served}
 use Rattle.mux_core.specs.Stands.{HasSmall, Stands, TableFits, has_numbers, is_known, is_whole, look}
 use Rattle.mux_core.specs.Opening.{open_verdict}
 use Rattle.mux_core.specs.Calls.{SaysIn, SaysRow}
@@ -113,7 +113,7 @@ two-new es n k c l free unused = both es (none-pass (is_at n) es free.unused) (n
     both (f ∷ fs) a b = (one f a.0 b.0, both fs a.1 b.1)
 
 -- the client is known
-pub served-known : (k : ℕ) (cs : List ClientState) → is_served cs k ≡ true → is_known cs k ≡ true
+pub served-known : (k : ℕ) (cs : List MemberState) → is_served cs k ≡ true → is_known cs k ≡ true
 served-known k [] h = h
 served-known k (c ∷ cs) h = by_case (served-known k cs) (c.number == k) refl c.lost refl
   where

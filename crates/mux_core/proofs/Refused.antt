@@ -25,7 +25,7 @@ use Rattle.forward_rules.specs.Stands.{AreFit, Places, places_of}
 use Rattle.channel_table.specs.Entries.{Entry}
 use Rattle.mux_history.specs.Requests.{Ask}
 use Rattle.mux_core.specs.declared.verdict.Verdict.{Verdict}
-use Rattle.mux_core.specs.State.{ClientState, CoreState, is_served}
+use Rattle.mux_core.specs.State.{MemberState, CoreState, is_served}
 use Rattle.mux_core.specs.Stands.{AreOnce, AsksFit, ClientFits, Stands, TableFits, has_matters, is_known, look}
 use Rattle.mux_core.specs.Calls.{SaysIn, SaysRow, Shows}
 use Rattle.mux_core.specs.Requesting.{SaysRoomy, after_refusal, refusal, refusal_now, waiting_of}
@@ -42,33 +42,33 @@ refused_row k p = said_as k p silent
 
 -- ---- clients of which one has its answers changed
 
-pub number-same : (k : ℕ) (h : List Bool → List Bool) (c : ClientState) → (changes k h c).number ≡ c.number
-number-same k h c = elim (c.number == k) as (λ b. (elim b as (λ _. ClientState) [ true ↦ record c { waiting = h c.waiting } | false ↦ c ]).number ≡ c.number) [ true ↦ refl | false ↦ refl ]
+pub number-same : (k : ℕ) (h : List Bool → List Bool) (c : MemberState) → (changes k h c).number ≡ c.number
+number-same k h c = elim (c.number == k) as (λ b. (elim b as (λ _. MemberState) [ true ↦ record c { waiting = h c.waiting } | false ↦ c ]).number ≡ c.number) [ true ↦ refl | false ↦ refl ]
 
-pub lost-same : (k : ℕ) (h : List Bool → List Bool) (c : ClientState) → (changes k h c).lost ≡ c.lost
-lost-same k h c = elim (c.number == k) as (λ b. (elim b as (λ _. ClientState) [ true ↦ record c { waiting = h c.waiting } | false ↦ c ]).lost ≡ c.lost) [ true ↦ refl | false ↦ refl ]
+pub lost-same : (k : ℕ) (h : List Bool → List Bool) (c : MemberState) → (changes k h c).lost ≡ c.lost
+lost-same k h c = elim (c.number == k) as (λ b. (elim b as (λ _. MemberState) [ true ↦ record c { waiting = h c.waiting } | false ↦ c ]).lost ≡ c.lost) [ true ↦ refl | false ↦ refl ]
 
-pub numbers-same : (k : ℕ) (h : List Bool → List Bool) (cs : List ClientState) → map (λ (c : ClientState). c.number) (map (changes k h) cs) ≡ map (λ (c : ClientState). c.number) cs
+pub numbers-same : (k : ℕ) (h : List Bool → List Bool) (cs : List MemberState) → map (λ (c : MemberState). c.number) (map (changes k h) cs) ≡ map (λ (c : MemberState). c.number) cs
 numbers-same k h [] = refl
-numbers-same k h (c ∷ cs) = ap (λ n. n ∷ map (λ (c : ClientState). c.number) (map (changes k h) cs)) (number-same k h c) ∙ ap (λ ns. c.number ∷ ns) (numbers-same k h cs)
+numbers-same k h (c ∷ cs) = ap (λ n. n ∷ map (λ (c : MemberState). c.number) (map (changes k h) cs)) (number-same k h c) ∙ ap (λ ns. c.number ∷ ns) (numbers-same k h cs)
 
-pub known-same : (k j : ℕ) (h : List Bool → List Bool) (cs : List ClientState) → is_known (map (changes k h) cs) j ≡ is_known cs j
+pub known-same : (k j : ℕ) (h : List Bool → List Bool) (cs : List MemberState) → is_known (map (changes k h) cs) j ≡ is_known cs j
 known-same k j h [] = refl
 known-same k j h (c ∷ cs) = ap (λ n. (n == j) || is_known (map (changes k h) cs) j) (number-same k h c) ∙ ap (λ b. (c.number == j) || b) (known-same k j h cs)
 
-pub served-same : (k j : ℕ) (h : List Bool → List Bool) (cs : List ClientState) → is_served (map (changes k h) cs) j ≡ is_served cs j
+pub served-same : (k j : ℕ) (h : List Bool → List Bool) (cs : List MemberState) → is_served (map (changes k h) cs) j ≡ is_served cs j
 served-same k j h [] = refl
 served-same k j h (c ∷ cs) = ap (λ n. ((n == j) && not (changes k h c).lost) || is_served (map (changes k h) cs) j) (number-same k h c) ∙ (ap (λ b. ((c.number == j) && not b) || is_served (map (changes k h) cs) j) (lost-same k h c) ∙ ap (λ b. ((c.number == j) && not c.lost) || b) (served-same k j h cs))
 
-pub once-same : (k : ℕ) (h : List Bool → List Bool) (cs : List ClientState) → AreOnce cs → AreOnce (map (changes k h) cs)
+pub once-same : (k : ℕ) (h : List Bool → List Bool) (cs : List MemberState) → AreOnce cs → AreOnce (map (changes k h) cs)
 once-same k h [] once = tt
 once-same k h (c ∷ cs) once = (each cs once.0, once-same k h cs once.1)
   where
-    each : (ds : List ClientState) → AllByRecursion (λ d. (c.number == d.number) ≡ false) ds → AllByRecursion (λ d. ((changes k h c).number == d.number) ≡ false) (map (changes k h) ds)
+    each : (ds : List MemberState) → AllByRecursion (λ d. (c.number == d.number) ≡ false) ds → AllByRecursion (λ d. ((changes k h c).number == d.number) ≡ false) (map (changes k h) ds)
     each [] all = tt
     each (d ∷ ds) all = (ap (λ n. n == (changes k h d).number) (number-same k h c) ∙ (ap (λ n. c.number == n) (number-same k h d) ∙ all.0), each ds all.1)
 
-pub length-same : (k : ℕ) (h : List Bool → List Bool) (cs : List ClientState) → length (map (changes k h) cs) ≡ length cs
+pub length-same : (k : ℕ) (h : List Bool → List Bool) (cs : List MemberState) → length (map (changes k h) cs) ≡ length cs
 length-same k h [] = refl
 length-same k h (c ∷ cs) = ap suc (length-same k h cs)
 
@@ -88,7 +88,7 @@ waits-then k p what own w e h =
     ap (λ fs. left_of (wanted own ++ fs) (replies own ++ [])) (flag k p what e)
     ∙ (ap (left_of (wanted own ++ false ∷ [])) (append-nil (replies own)) ∙ refused-waits (wanted own) (replies own) w h)
 
-client-then : (k : ℕ) (p : List ℕ) (what : Global) (rows : List Row) (c : ClientState) → read_gist p ≡ Ok (Requests what true) → ClientFits (look rows) c → ClientFits (look (refused_row k p ∷ rows)) (changes k or_behind c)
+client-then : (k : ℕ) (p : List ℕ) (what : Global) (rows : List Row) (c : MemberState) → read_gist p ≡ Ok (Requests what true) → ClientFits (look rows) c → ClientFits (look (refused_row k p ∷ rows)) (changes k or_behind c)
 client-then k p what rows c e fits = by_number (c.number == k) refl (k == c.number) refl
   where
     after-own : (j : ℕ) → (k == j) ≡ true → rows_of j (refused_row k p ∷ rows) ≡ refused_row k p ∷ rows_of j rows
@@ -113,7 +113,7 @@ client-then k p what rows c e fits = by_number (c.number == k) refl (k == c.numb
     by_number true h false g = absurd (clash c.number k h g)
     by_number false h true g = absurd (clash k c.number g h)
 
-clients-then : (k : ℕ) (p : List ℕ) (what : Global) (rows : List Row) (cs : List ClientState) → read_gist p ≡ Ok (Requests what true) → AllByRecursion (ClientFits (look rows)) cs → AllByRecursion (ClientFits (look (refused_row k p ∷ rows))) (map (changes k or_behind) cs)
+clients-then : (k : ℕ) (p : List ℕ) (what : Global) (rows : List Row) (cs : List MemberState) → read_gist p ≡ Ok (Requests what true) → AllByRecursion (ClientFits (look rows)) cs → AllByRecursion (ClientFits (look (refused_row k p ∷ rows))) (map (changes k or_behind) cs)
 clients-then k p what rows [] e all = tt
 clients-then k p what rows (c ∷ cs) e all = (client-then k p what rows c e all.0, clients-then k p what rows cs e all.1)
 
@@ -173,6 +173,6 @@ by-left s new k p up rows false shows st = record { sent = same-queue up; shows 
 pub refused : (s new : CoreState) (k : ℕ) (p : List ℕ) (what : Global) (want : Bool) (v : Verdict) (up : QueueState) → v ≡ refusal want (waiting_of k s.clients) → new ≡ record s { clients = after_refusal want k s.clients } → ((rows : List Row) → Stands s rows → said_request s.policy k (rows_of k rows) p what want ≡ silent) → SaysRoomy s new k p what want up up v
 refused s new k p what false v up is after does = λ room rows st serves e. refused-silent s new k p what v up rows st serves e (does rows st) is after
 refused s new k p what true v up is after does = λ room rows st serves e.
-    subst (λ x. SaysIn s new k p 0 up up x rows) (sym is) (subst (λ x. SaysIn s x k p 0 up up (refusal_now (is_none_left (waiting_of k s.clients))) rows) (sym (after ∙ ap (λ (cs : List ClientState). record s { clients = cs }) (with-map k or_behind s.clients st.clients.once)))
+    subst (λ x. SaysIn s new k p 0 up up x rows) (sym is) (subst (λ x. SaysIn s x k p 0 up up (refusal_now (is_none_left (waiting_of k s.clients))) rows) (sym (after ∙ ap (λ (cs : List MemberState). record s { clients = cs }) (with-map k or_behind s.clients st.clients.once)))
     (subst (λ o. SaysRow s (record s { clients = map (changes k or_behind) s.clients }) (said_as k p o) 0 up up (refusal_now (is_none_left (waiting_of k s.clients))) rows) (sym (by-full s k p what true false rows st serves e room ∙ does rows st))
     (by-left s (record s { clients = map (changes k or_behind) s.clients }) k p up rows (is_none_left (waiting_of k s.clients)) (shows-refusal k p what (rows_of k rows) (waiting_of k s.clients) e (told-if k p what (rows_of k rows) (waiting_of k s.clients) e (served (look rows) k s.clients st.clients.each serves).here (waits-are rows k s.clients st.clients.each st.clients.once serves))) (refused-stands s k p what rows st serves e))))

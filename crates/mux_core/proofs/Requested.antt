@@ -24,7 +24,7 @@ use Rattle.mux_history.specs.Channels.{Channel, after_item, held_of, is_held, op
 use Rattle.mux_history.specs.Farewell.{has_open_matters}
 use Rattle.mux_history.specs.Log.{entered}
 use Rattle.channel_table.specs.Entries.{Entry}
-use Rattle.mux_core.specs.State.{ClientState, CoreState, is_served}
+use Rattle.mux_core.specs.State.{MemberState, CoreState, is_served}
 use Rattle.mux_core.specs.Stands.{AreOnce, ClientFits, Stands, TableFits, has_matters, is_known, look}
 use Rattle.mux_core.proofs.Bare.{held-bare}
 use Rattle.mux_core.proofs.OpensSent.{served-known}
@@ -64,13 +64,13 @@ waits-more k p what own w e h =
 -- ---- the clients
 
 -- one client awaits one more answer
-abbrev pub awaits : ℕ → ClientState → ClientState
+abbrev pub awaits : ℕ → MemberState → MemberState
 awaits k c = elim (c.number == k) [ true ↦ record c { waiting = c.waiting ++ true ∷ [] } | false ↦ c ]
 
-number-same : (k : ℕ) (c : ClientState) → (awaits k c).number ≡ c.number
-number-same k c = elim (c.number == k) as (λ b. (elim b as (λ _. ClientState) [ true ↦ record c { waiting = c.waiting ++ true ∷ [] } | false ↦ c ]).number ≡ c.number) [ true ↦ refl | false ↦ refl ]
+number-same : (k : ℕ) (c : MemberState) → (awaits k c).number ≡ c.number
+number-same k c = elim (c.number == k) as (λ b. (elim b as (λ _. MemberState) [ true ↦ record c { waiting = c.waiting ++ true ∷ [] } | false ↦ c ]).number ≡ c.number) [ true ↦ refl | false ↦ refl ]
 
-pub client-more : (k : ℕ) (p : List ℕ) (what : Global) (rows : List Row) (c : ClientState) → read_gist p ≡ Ok (Requests what true) → ClientFits (look rows) c → ClientFits (look (request_row k p ∷ rows)) (awaits k c)
+pub client-more : (k : ℕ) (p : List ℕ) (what : Global) (rows : List Row) (c : MemberState) → read_gist p ≡ Ok (Requests what true) → ClientFits (look rows) c → ClientFits (look (request_row k p ∷ rows)) (awaits k c)
 client-more k p what rows c e fits = by_number (c.number == k) refl (k == c.number) refl
   where
     after-own : (j : ℕ) → (k == j) ≡ true → rows_of j (request_row k p ∷ rows) ≡ request_row k p ∷ rows_of j rows
@@ -176,34 +176,34 @@ same-channels k p what want rows e =
     ∙ (ap (filter is_held) (ap (λ ys. map (after_item (request_row k p)) (held_of rows) ++ ys) (reading-ok p (Requests what want) (opened_up k (p ∷ [])) [] e) ∙ (append-nil (map (after_item (request_row k p)) (held_of rows)) ∙ map-same (after_item (request_row k p)) (λ x. no-change k p what want x e) (held_of rows)))
     ∙ held-held rows)
 
-numbers-same : (k : ℕ) (cs : List ClientState) → map (λ (c : ClientState). c.number) (map (awaits k) cs) ≡ map (λ (c : ClientState). c.number) cs
+numbers-same : (k : ℕ) (cs : List MemberState) → map (λ (c : MemberState). c.number) (map (awaits k) cs) ≡ map (λ (c : MemberState). c.number) cs
 numbers-same k [] = refl
-numbers-same k (c ∷ cs) = ap (λ n. n ∷ map (λ (c : ClientState). c.number) (map (awaits k) cs)) (number-same k c) ∙ ap (λ ns. c.number ∷ ns) (numbers-same k cs)
+numbers-same k (c ∷ cs) = ap (λ n. n ∷ map (λ (c : MemberState). c.number) (map (awaits k) cs)) (number-same k c) ∙ ap (λ ns. c.number ∷ ns) (numbers-same k cs)
 
-lost-same : (k : ℕ) (c : ClientState) → (awaits k c).lost ≡ c.lost
-lost-same k c = elim (c.number == k) as (λ b. (elim b as (λ _. ClientState) [ true ↦ record c { waiting = c.waiting ++ true ∷ [] } | false ↦ c ]).lost ≡ c.lost) [ true ↦ refl | false ↦ refl ]
+lost-same : (k : ℕ) (c : MemberState) → (awaits k c).lost ≡ c.lost
+lost-same k c = elim (c.number == k) as (λ b. (elim b as (λ _. MemberState) [ true ↦ record c { waiting = c.waiting ++ true ∷ [] } | false ↦ c ]).lost ≡ c.lost) [ true ↦ refl | false ↦ refl ]
 
-known-same : (k j : ℕ) (cs : List ClientState) → is_known (map (awaits k) cs) j ≡ is_known cs j
+known-same : (k j : ℕ) (cs : List MemberState) → is_known (map (awaits k) cs) j ≡ is_known cs j
 known-same k j [] = refl
 known-same k j (c ∷ cs) = ap (λ n. (n == j) || is_known (map (awaits k) cs) j) (number-same k c) ∙ ap (λ b. (c.number == j) || b) (known-same k j cs)
 
-served-same : (k j : ℕ) (cs : List ClientState) → is_served (map (awaits k) cs) j ≡ is_served cs j
+served-same : (k j : ℕ) (cs : List MemberState) → is_served (map (awaits k) cs) j ≡ is_served cs j
 served-same k j [] = refl
 served-same k j (c ∷ cs) = ap (λ n. ((n == j) && not (awaits k c).lost) || is_served (map (awaits k) cs) j) (number-same k c) ∙ (ap (λ b. ((c.number == j) && not b) || is_served (map (awaits k) cs) j) (lost-same k c) ∙ ap (λ b. ((c.number == j) && not c.lost) || b) (served-same k j cs))
 
-once-same : (k : ℕ) (cs : List ClientState) → AreOnce cs → AreOnce (map (awaits k) cs)
+once-same : (k : ℕ) (cs : List MemberState) → AreOnce cs → AreOnce (map (awaits k) cs)
 once-same k [] once = tt
 once-same k (c ∷ cs) once = (each cs once.0, once-same k cs once.1)
   where
-    each : (ds : List ClientState) → AllByRecursion (λ d. (c.number == d.number) ≡ false) ds → AllByRecursion (λ d. ((awaits k c).number == d.number) ≡ false) (map (awaits k) ds)
+    each : (ds : List MemberState) → AllByRecursion (λ d. (c.number == d.number) ≡ false) ds → AllByRecursion (λ d. ((awaits k c).number == d.number) ≡ false) (map (awaits k) ds)
     each [] all = tt
     each (d ∷ ds) all = (ap (λ n. n == (awaits k d).number) (number-same k c) ∙ (ap (λ n. c.number == n) (number-same k d) ∙ all.0), each ds all.1)
 
-length-same : (k : ℕ) (cs : List ClientState) → length (map (awaits k) cs) ≡ length cs
+length-same : (k : ℕ) (cs : List MemberState) → length (map (awaits k) cs) ≡ length cs
 length-same k [] = refl
 length-same k (c ∷ cs) = ap suc (length-same k cs)
 
-clients-more : (k : ℕ) (p : List ℕ) (what : Global) (rows : List Row) (cs : List ClientState) → read_gist p ≡ Ok (Requests what true) → AllByRecursion (ClientFits (look rows)) cs → AllByRecursion (ClientFits (look (request_row k p ∷ rows))) (map (awaits k) cs)
+clients-more : (k : ℕ) (p : List ℕ) (what : Global) (rows : List Row) (cs : List MemberState) → read_gist p ≡ Ok (Requests what true) → AllByRecursion (ClientFits (look rows)) cs → AllByRecursion (ClientFits (look (request_row k p ∷ rows))) (map (awaits k) cs)
 clients-more k p what rows [] e all = tt
 clients-more k p what rows (c ∷ cs) e all = (client-more k p what rows c e all.0, clients-more k p what rows cs e all.1)
 
@@ -219,11 +219,11 @@ matters-more k p rows s j = by_case (k == j) refl
         let here : is_lost (rows_of j rows) ≡ false = subst (λ i. (look rows).lost i ≡ false) same s.here in
         ap has_open_matters (own_row j (request_row k p) rows e) ∙ (open-by (request_row k p ∷ rows_of j rows) admitted here ∙ sym (open-by (rows_of j rows) admitted here))
 
-pub all-known : {X : Type 0} (client : X → ℕ) (cs cs' : List ClientState) → ((j : ℕ) → is_known cs' j ≡ is_known cs j) → (xs : List X) → AllByRecursion (λ x. is_known cs (client x) ≡ true) xs → AllByRecursion (λ x. is_known cs' (client x) ≡ true) xs
+pub all-known : {X : Type 0} (client : X → ℕ) (cs cs' : List MemberState) → ((j : ℕ) → is_known cs' j ≡ is_known cs j) → (xs : List X) → AllByRecursion (λ x. is_known cs (client x) ≡ true) xs → AllByRecursion (λ x. is_known cs' (client x) ≡ true) xs
 all-known client cs cs' same [] all = tt
 all-known client cs cs' same (x ∷ xs) all = (same (client x) ∙ all.0, all-known client cs cs' same xs all.1)
 
-pub all-served : (cs cs' : List ClientState) → ((j : ℕ) → is_served cs' j ≡ is_served cs j) → (fs : List kept.Forward) → AllByRecursion (λ f. is_served cs f.client ≡ true) fs → AllByRecursion (λ f. is_served cs' f.client ≡ true) fs
+pub all-served : (cs cs' : List MemberState) → ((j : ℕ) → is_served cs' j ≡ is_served cs j) → (fs : List kept.Forward) → AllByRecursion (λ f. is_served cs f.client ≡ true) fs → AllByRecursion (λ f. is_served cs' f.client ≡ true) fs
 all-served cs cs' same [] all = tt
 all-served cs cs' same (f ∷ fs) all = (same f.client ∙ all.0, all-served cs cs' same fs all.1)
 

@@ -15,7 +15,7 @@ use Rattle.mux_history.proofs.Readings.{reading-ok}
 use Rattle.forward_rules.specs.State as kept
 use Rattle.forward_rules.specs.Step.{asked, cancelled, change_first, count_of, is_free_at, some_free, without_first}
 use Rattle.forward_rules.specs.Stands.{AreFit}
-use Rattle.mux_core.specs.State.{ClientState, CoreState, is_served}
+use Rattle.mux_core.specs.State.{MemberState, CoreState, is_served}
 use Rattle.mux_core.specs.Stands.{AsksFit, ClientFits, ClientsFit, Look, Stands, TableFits, has_matters, look}
 use Rattle.mux_core.proofs.Quiet.{IsSteady, look-steady}
 use Rattle.mux_core.proofs.Served.{IsServed, served}
@@ -97,7 +97,7 @@ unwanted-stands s k p what rows fs st serves e fit theirs =
       known = record { channels = st.known.channels; asks = st.known.asks; forwards = theirs };
     }
   where
-    each : (cs : List ClientState) → AllByRecursion (ClientFits (look rows)) cs → AllByRecursion (ClientFits (record (look rows) { current = current (request_row k p ∷ rows) })) cs
+    each : (cs : List MemberState) → AllByRecursion (ClientFits (look rows)) cs → AllByRecursion (ClientFits (record (look rows) { current = current (request_row k p ∷ rows) })) cs
     each [] all = tt
     each (c ∷ cs) all = (record { nonzero = all.0.nonzero; admitted = all.0.admitted; lost = all.0.lost; answers = all.0.answers }, each cs all.1)
 

@@ -29,7 +29,7 @@ use Rattle.forward_rules.specs.State as kept
 use Rattle.forward_rules.specs.Stands.{AreListed}
 use Rattle.mux_core.specs.declared.verdict.Verdict.{Verdict}
 use Rattle.mux_core.specs.declared.verdict.Verdict.TheVariants as verdict
-use Rattle.mux_core.specs.State.{ClientState, CoreState, is_served}
+use Rattle.mux_core.specs.State.{MemberState, CoreState, is_served}
 use Rattle.mux_core.specs.Stands.{Stands, TableFits, look}
 use Rattle.mux_core.specs.Calls.{SaysAs, SaysIn, SaysRow}
 use Rattle.mux_core.specs.Requesting.{SaysRoomy, is_full, more_awaited, waiting_of, with_waiting}
@@ -148,7 +148,7 @@ cancel-does s k p key want rows st = ap (λ b. sends_if b p) (ap (any_of (histor
 -- ---- the state after one that is sent and wants a reply
 
 awaits-all : (s : CoreState) (k : ℕ) (a : Ask) (fs : List kept.Forward) (rows : List Row) → Stands s rows → (let u : CoreState = record s { asks = s.asks ++ a ∷ []; clients = with_waiting k more_awaited s.clients; forwards = fs } in u) ≡ record s { asks = s.asks ++ a ∷ []; clients = map (awaits k) s.clients; forwards = fs }
-awaits-all s k a fs rows st = ap (λ (cs : List ClientState). let u : CoreState = record s { asks = s.asks ++ a ∷ []; clients = cs; forwards = fs } in u) (with-map k more_awaited s.clients st.clients.once)
+awaits-all s k a fs rows st = ap (λ (cs : List MemberState). let u : CoreState = record s { asks = s.asks ++ a ∷ []; clients = cs; forwards = fs } in u) (with-map k more_awaited s.clients st.clients.once)
 
 pub alive-wanted : (s new : CoreState) (k : ℕ) (p : List ℕ) (up : QueueState) → new ≡ record s { asks = s.asks ++ ask_of k KeepAlive ∷ []; clients = with_waiting k more_awaited s.clients } → SaysRoomy s new k p KeepAlive true up (with_bytes (frame_payload p) up) verdict.Sent
 alive-wanted s new k p up after = λ room rows st serves e. goes-up s new k p KeepAlive true up rows st serves e room refl (subst (λ u. Stands u (request_row k p ∷ rows)) (sym (after ∙ awaits-all s k (ask_of k KeepAlive) s.forwards rows st)) (request-stands s k p KeepAlive rows st serves e refl (λ place fs. refl)))

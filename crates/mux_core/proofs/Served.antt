@@ -11,7 +11,7 @@ use Rattle.mux_history.proofs.Bools.{same-number}
 use Rattle.mux_history.proofs.OwnRows.{idle_row}
 use Rattle.channel_table.specs.Entries.{Entry}
 use Rattle.forward_rules.specs.Stands.{AreFit}
-use Rattle.mux_core.specs.State.{ClientState, CoreState, is_served}
+use Rattle.mux_core.specs.State.{MemberState, CoreState, is_served}
 use Rattle.mux_core.specs.Stands.{AsksFit, ClientFits, ClientsFit, Look, Stands, TableFits, has_matters, is_known, look}
 use Rattle.mux_core.proofs.Quiet.{IsQuiet, look-same}
 
@@ -25,7 +25,7 @@ either : (a b : Bool) → (a || b) ≡ true → (a ≡ false → b ≡ true)
 either true b h n = absurd (cc)
 either false b h n = h
 
-pub served : (l : Look) (k : ℕ) (cs : List ClientState) → AllByRecursion (ClientFits l) cs → is_served cs k ≡ true → IsServed k l
+pub served : (l : Look) (k : ℕ) (cs : List MemberState) → AllByRecursion (ClientFits l) cs → is_served cs k ≡ true → IsServed k l
 served l k [] all h = absurd (cc)
 served l k (c ∷ cs) all h = by_case (served l k cs all.1) (c.number == k) refl c.lost refl
   where

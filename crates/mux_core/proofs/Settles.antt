@@ -14,7 +14,7 @@ use Rattle.channel_table.specs.Entries.{Entry}
 use Rattle.channel_table.specs.Entries.{count_of, is_of}
 use Rattle.forward_rules.specs.State.{Forward}
 use Rattle.global_replies.specs.Replies as answers
-use Rattle.mux_core.specs.State.{ClientState, CoreState, is_served}
+use Rattle.mux_core.specs.State.{MemberState, CoreState, is_served}
 use Rattle.mux_core.specs.Stands.{AreKnown, AreOnce, AsksFit, ClientFits, ClientsFit, Look, Stands, TableFits, has_matters, is_known, look}
 use Rattle.mux_core.specs.Settling.{has_left, is_lost_in, is_other, kept, settled}
 use Rattle.mux_core.proofs.Found.{held-local}
@@ -42,7 +42,7 @@ fewer keep (x ∷ xs) = by_case (fewer keep xs) (keep x) refl
     by_case ih true h = rw (filter-yes keep x xs h) (omega arith)
     by_case ih false h = rw (filter-no keep x xs h) (omega arith)
 
-once-filter : (keep : ClientState → Bool) (cs : List ClientState) → AreOnce cs → AreOnce (filter keep cs)
+once-filter : (keep : MemberState → Bool) (cs : List MemberState) → AreOnce cs → AreOnce (filter keep cs)
 once-filter keep [] once = tt
 once-filter keep (c ∷ cs) once = by_case (once-filter keep cs once.1) (keep c) refl
   where
@@ -50,13 +50,13 @@ once-filter keep (c ∷ cs) once = by_case (once-filter keep cs once.1) (keep c)
     by_case ih true h = subst AreOnce (sym (filter-yes keep c cs h)) (all-filter (λ d. (c.number == d.number) ≡ false) keep cs once.0, ih)
     by_case ih false h = subst AreOnce (sym (filter-no keep c cs h)) ih
 
-numbers-filter : (k : ℕ) (cs : List ClientState) → map (λ (c : ClientState). c.number) (filter (is_other k) cs) ≡ filter (λ j. not (j == k)) (map (λ (c : ClientState). c.number) cs)
+numbers-filter : (k : ℕ) (cs : List MemberState) → map (λ (c : MemberState). c.number) (filter (is_other k) cs) ≡ filter (λ j. not (j == k)) (map (λ (c : MemberState). c.number) cs)
 numbers-filter k [] = refl
 numbers-filter k (c ∷ cs) = by_case (numbers-filter k cs) (is_other k c) refl
   where
-    by_case : map (λ (c : ClientState). c.number) (filter (is_other k) cs) ≡ filter (λ j. not (j == k)) (map (λ (c : ClientState). c.number) cs) → (b : Bool) → is_other k c ≡ b → map (λ (c : ClientState). c.number) (filter (is_other k) (c ∷ cs)) ≡ filter (λ j. not (j == k)) (map (λ (c : ClientState). c.number) (c ∷ cs))
-    by_case ih true h = ap (map (λ (c : ClientState). c.number)) (filter-yes (is_other k) c cs h) ∙ (ap (λ js. c.number ∷ js) ih ∙ sym (filter-yes (λ j. not (j == k)) c.number (map (λ (c : ClientState). c.number) cs) h))
-    by_case ih false h = ap (map (λ (c : ClientState). c.number)) (filter-no (is_other k) c cs h) ∙ (ih ∙ sym (filter-no (λ j. not (j == k)) c.number (map (λ (c : ClientState). c.number) cs) h))
+    by_case : map (λ (c : MemberState). c.number) (filter (is_other k) cs) ≡ filter (λ j. not (j == k)) (map (λ (c : MemberState). c.number) cs) → (b : Bool) → is_other k c ≡ b → map (λ (c : MemberState). c.number) (filter (is_other k) (c ∷ cs)) ≡ filter (λ j. not (j == k)) (map (λ (c : MemberState). c.number) (c ∷ cs))
+    by_case ih true h = ap (map (λ (c : MemberState). c.number)) (filter-yes (is_other k) c cs h) ∙ (ap (λ js. c.number ∷ js) ih ∙ sym (filter-yes (λ j. not (j == k)) c.number (map (λ (c : MemberState). c.number) cs) h))
+    by_case ih false h = ap (map (λ (c : MemberState). c.number)) (filter-no (is_other k) c cs h) ∙ (ih ∙ sym (filter-no (λ j. not (j == k)) c.number (map (λ (c : MemberState). c.number) cs) h))
 
 -- the clients with matters but one
 filter-but : (k : ℕ) (m m' : ℕ → Bool) → ((j : ℕ) → (j == k) ≡ false → m' j ≡ m j) → m' k ≡ false → (js : List ℕ) → filter (λ j. not (j == k)) (filter m js) ≡ filter m' js
@@ -74,7 +74,7 @@ filter-but k m m' same none (j ∷ js) = by_case (filter-but k m m' same none js
 
 -- ---- the clients
 
-pub clients-settle : (k : ℕ) (b : Bool) (cs : List ClientState) (m m' : ℕ → Bool) (l : Look) → ClientsFit cs m l → ((j : ℕ) → (j == k) ≡ false → m' j ≡ m j) → m' k ≡ b → m k ≡ true → ClientsFit (kept k b cs) m' l
+pub clients-settle : (k : ℕ) (b : Bool) (cs : List MemberState) (m m' : ℕ → Bool) (l : Look) → ClientsFit cs m l → ((j : ℕ) → (j == k) ≡ false → m' j ≡ m j) → m' k ≡ b → m k ≡ true → ClientsFit (kept k b cs) m' l
 clients-settle k true cs m m' l fit same here there = subst (λ n. ClientsFit cs n l) (λ i j. pointwise j i) fit
   where
     pointwise : (j : ℕ) → m j ≡ m' j
@@ -129,7 +129,7 @@ lost-matters s k rows table fit lost =
 
 -- ---- who is known
 
-without : (k : ℕ) (test : ClientState → Bool) (cs : List ClientState) → ((c : ClientState) → (c.number == k) ≡ true → test c ≡ false) → any_of test (filter (is_other k) cs) ≡ any_of test cs
+without : (k : ℕ) (test : MemberState → Bool) (cs : List MemberState) → ((c : MemberState) → (c.number == k) ≡ true → test c ≡ false) → any_of test (filter (is_other k) cs) ≡ any_of test cs
 without k test [] none = refl
 without k test (c ∷ cs) none = by_case (without k test cs none) (c.number == k) refl
   where
@@ -140,10 +140,10 @@ without k test (c ∷ cs) none = by_case (without k test cs none) (c.number == k
 other-test : (i j k : ℕ) → (j == k) ≡ false → (i == k) ≡ true → (i == j) ≡ false
 other-test i j k a b = grind (arith, nat_tests)
 
-known-without : (k j : ℕ) (cs : List ClientState) → (j == k) ≡ false → is_known cs j ≡ true → is_known (filter (is_other k) cs) j ≡ true
+known-without : (k j : ℕ) (cs : List MemberState) → (j == k) ≡ false → is_known cs j ≡ true → is_known (filter (is_other k) cs) j ≡ true
 known-without k j cs other known = without k (λ c. c.number == j) cs (λ c h. other-test c.number j k other h) ∙ known
 
-served-without : (k j : ℕ) (cs : List ClientState) → (j == k) ≡ false → is_served cs j ≡ true → is_served (filter (is_other k) cs) j ≡ true
+served-without : (k j : ℕ) (cs : List MemberState) → (j == k) ≡ false → is_served cs j ≡ true → is_served (filter (is_other k) cs) j ≡ true
 served-without k j cs other known = without k (λ c. (c.number == j) && not c.lost) cs (λ c h. ap (λ b. b && not c.lost) (other-test c.number j k other h)) ∙ known
 
 none-of : {X : Type 0} (test : X → Bool) (xs : List X) → not (length (filter test xs) == 0) ≡ false → AllByRecursion (λ x. test x ≡ false) xs
@@ -177,7 +177,7 @@ known-settle s k known elsewhere = by_left (has_left s k) refl
 
 -- ---- the row of a client that is lost
 
-pub listed : (j : ℕ) (m : ℕ → Bool) (js : List ℕ) (cs : List ClientState) → map (λ (c : ClientState). c.number) cs ≡ filter m js → is_known cs j ≡ true → m j ≡ true
+pub listed : (j : ℕ) (m : ℕ → Bool) (js : List ℕ) (cs : List MemberState) → map (λ (c : MemberState). c.number) cs ≡ filter m js → is_known cs j ≡ true → m j ≡ true
 listed j m js cs e known = within (filter m js) (passing js) (sym (any-map cs) ∙ known ∙ refl) e
   where
     passing : (is : List ℕ) → AllByRecursion (λ i. m i ≡ true) (filter m is)
@@ -188,7 +188,7 @@ listed j m js cs e known = within (filter m js) (passing js) (sym (any-map cs) �
         by_case ih true h = subst (AllByRecursion (λ i. m i ≡ true)) (sym (filter-yes m i is h)) (h, ih)
         by_case ih false h = subst (AllByRecursion (λ i. m i ≡ true)) (sym (filter-no m i is h)) ih
 
-    any-map : (ds : List ClientState) → is_known ds j ≡ any_of (λ i. i == j) (map (λ (c : ClientState). c.number) ds)
+    any-map : (ds : List MemberState) → is_known ds j ≡ any_of (λ i. i == j) (map (λ (c : MemberState). c.number) ds)
     any-map [] = refl
     any-map (d ∷ ds) = ap (λ b. (d.number == j) || b) (any-map ds)
 
@@ -200,11 +200,11 @@ listed j m js cs e known = within (filter m js) (passing js) (sym (any-map cs) �
         by_case ih true t h = subst (λ x. m x ≡ true) (same-number i j t) all.0
         by_case ih false t h = ih (sym (ap (λ b. b || any_of (λ i. i == j) is) t) ∙ h)
 
-    within : (is : List ℕ) → AllByRecursion (λ i. m i ≡ true) is → any_of (λ i. i == j) (map (λ (c : ClientState). c.number) cs) ≡ true → map (λ (c : ClientState). c.number) cs ≡ is → m j ≡ true
+    within : (is : List ℕ) → AllByRecursion (λ i. m i ≡ true) is → any_of (λ i. i == j) (map (λ (c : MemberState). c.number) cs) ≡ true → map (λ (c : MemberState). c.number) cs ≡ is → m j ≡ true
     within is all h e = found is all (ap (any_of (λ i. i == j)) (sym e) ∙ h)
 
 -- the client is lost in the log
-pub lost-there : (l : Look) (k : ℕ) (cs : List ClientState) → AllByRecursion (ClientFits l) cs → is_lost_in cs k ≡ true → l.lost k ≡ true
+pub lost-there : (l : Look) (k : ℕ) (cs : List MemberState) → AllByRecursion (ClientFits l) cs → is_lost_in cs k ≡ true → l.lost k ≡ true
 lost-there l k [] all h = absurd (cc)
 lost-there l k (c ∷ cs) all h = by_case (lost-there l k cs all.1) (c.number == k) refl c.lost refl h
   where
@@ -213,7 +213,7 @@ lost-there l k (c ∷ cs) all h = by_case (lost-there l k cs all.1) (c.number ==
     by_case ih true n false d h = ih (sym (ap (λ b. b || is_lost_in cs k) (ap (λ b. b && c.lost) n ∙ d)) ∙ h)
     by_case ih false n d e h = ih (sym (ap (λ b. (b && c.lost) || is_lost_in cs k) n) ∙ h)
 
-pub lost-known : (k : ℕ) (cs : List ClientState) → is_lost_in cs k ≡ true → is_known cs k ≡ true
+pub lost-known : (k : ℕ) (cs : List MemberState) → is_lost_in cs k ≡ true → is_known cs k ≡ true
 lost-known k [] h = h
 lost-known k (c ∷ cs) h = by_case (lost-known k cs) (c.number == k) refl h
   where

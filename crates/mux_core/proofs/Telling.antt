@@ -21,8 +21,8 @@ use Rattle.mux_history.specs.Requests.{Ask, asker}
 use Rattle.mux_history.proofs.Dests.{dest-ok}
 use Rattle.channel_table.specs.Entries.{Entry, shown_at}
 use Rattle.channel_table.specs.Stands.{Fits}
-use Rattle.mux_core.specs.declared.heard.Heard as told
-use Rattle.mux_core.specs.declared.heard.Heard.TheVariants as heard
+use Rattle.mux_core.specs.declared.heard.Delivery as told
+use Rattle.mux_core.specs.declared.heard.Delivery.TheVariants as heard
 use Rattle.mux_core.specs.State.{CoreState}
 use Rattle.mux_core.specs.Stands.{Stands, is_known}
 use Rattle.mux_core.specs.Calls.{HearsAs, HearsGist, HearsOn, HearsWith, IsLetIn}
@@ -180,7 +180,7 @@ dest-known s k p rows st h = by_read (read_gist p) refl
 
 -- ---- a client that is told something was let in
 
-told-known : (s new : CoreState) (p p' : List ℕ) (up up' : QueueState) (h : told.Heard) (rows : List Row) → Stands s rows → HearsAs new p p' up up' h rows (dest rows p) → IsLetIn s h
+told-known : (s new : CoreState) (p p' : List ℕ) (up up' : QueueState) (h : told.Delivery) (rows : List Row) → Stands s rows → HearsAs new p p' up up' h rows (dest rows p) → IsLetIn s h
 told-known s new p p' up up' (heard.Client k refusals) rows st hears = by_dest (dest rows p) refl hears
   where
     by_dest : (d : Dest) → dest rows p ≡ d → HearsAs new p p' up up' (heard.Client k refusals) rows d → is_known s.clients k ≡ true
@@ -199,12 +199,12 @@ told-known s new p p' up up' heard.Master rows st hears = tt
 told-known s new p p' up up' heard.Disconnect rows st hears = tt
 told-known s new p p' up up' (heard.Broke why) rows st hears = tt
 
-pub hears-on : (s new : CoreState) (p p' : List ℕ) (m : Gist) (up up' : QueueState) (h : told.Heard) → read_gist p ≡ Ok m → HearsWith s new p p' m up up' h → HearsOn s new p p' up up' h
+pub hears-on : (s new : CoreState) (p p' : List ℕ) (m : Gist) (up up' : QueueState) (h : told.Delivery) → read_gist p ≡ Ok m → HearsWith s new p p' m up up' h → HearsOn s new p p' up up' h
 hears-on s new p p' m up up' h e hears = λ rows st. record { row = hears rows st e; let_in = told-known s new p p' up up' h rows st (hears rows st e) }
 
-pub hears-result : (s new : CoreState) (p p' : List ℕ) (m : Gist) (up up' : QueueState) (r : Result told.Heard OutOfMemory) → read_gist p ≡ Ok m → IfOk r (λ h. HearsWith s new p p' m up up' h) → IfOk r (λ h. HearsOn s new p p' up up' h)
+pub hears-result : (s new : CoreState) (p p' : List ℕ) (m : Gist) (up up' : QueueState) (r : Result told.Delivery OutOfMemory) → read_gist p ≡ Ok m → IfOk r (λ h. HearsWith s new p p' m up up' h) → IfOk r (λ h. HearsOn s new p p' up up' h)
 hears-result s new p p' m up up' (Ok h) e hears = hears-on s new p p' m up up' h e hears
 hears-result s new p p' m up up' (Err x) e hears = hears
 
-pub hears-quiet : (s new : CoreState) (p p' : List ℕ) (m : Gist) (up : QueueState) (h : told.Heard) → read_gist p ≡ Ok m → HearsGist s new p p' m h → HearsOn s new p p' up up h
+pub hears-quiet : (s new : CoreState) (p p' : List ℕ) (m : Gist) (up : QueueState) (h : told.Delivery) → read_gist p ≡ Ok m → HearsGist s new p p' m h → HearsOn s new p p' up up h
 hears-quiet s new p p' m up h e hears = hears-on s new p p' m up up h e (λ rows st f. hears rows up st f)

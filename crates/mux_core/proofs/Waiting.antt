@@ -6,9 +6,9 @@ use Rattle.std.proofs.lemmas.Bool.Decides.{nat_tests}
 use Rattle.mux_history.specs.Rows.{Row, rows_of}
 use Rattle.mux_history.specs.Requests.{replies, unanswered_asks, wanted}
 use Rattle.mux_history.proofs.Bools.{same-number}
-use Rattle.mux_core.specs.declared.clients.Client.{Client}
-use Rattle.mux_core.specs.Clients.{client_state}
-use Rattle.mux_core.specs.State.{ClientState, is_served}
+use Rattle.mux_core.specs.declared.members.Member.{Member}
+use Rattle.mux_core.specs.Members.{member_state}
+use Rattle.mux_core.specs.State.{MemberState, is_served}
 use Rattle.mux_core.specs.Stands.{AreOnce, ClientFits, look}
 use Rattle.mux_core.specs.Requesting.{place_of, waiting_of, with_waiting}
 use Rattle.mux_core.proofs.Answering.{Waits, unanswered}
@@ -16,17 +16,17 @@ use Rattle.mux_core.proofs.Pairs.{or-found}
 
 -- ---- the code's
 
-place-at : (k : ℕ) (c : ClientState) (cs : List ClientState) (b : Bool) → (c.number == k) ≡ b → place_of k (c ∷ cs) ≡ elim b as (λ _. ℕ) [ true ↦ 0 | false ↦ place_of k cs + 1 ]
+place-at : (k : ℕ) (c : MemberState) (cs : List MemberState) (b : Bool) → (c.number == k) ≡ b → place_of k (c ∷ cs) ≡ elim b as (λ _. ℕ) [ true ↦ 0 | false ↦ place_of k cs + 1 ]
 place-at k c cs b h = ap (λ (d : Bool). elim d as (λ _. ℕ) [ true ↦ 0 | false ↦ place_of k cs + 1 ]) h
 
-with-at : (k : ℕ) (change : List Bool → List Bool) (c : ClientState) (cs : List ClientState) (b : Bool) → (c.number == k) ≡ b → with_waiting k change (c ∷ cs) ≡ elim b as (λ _. List ClientState) [ true ↦ record c { waiting = change c.waiting } ∷ cs | false ↦ c ∷ with_waiting k change cs ]
-with-at k change c cs b h = ap (λ (d : Bool). elim d as (λ _. List ClientState) [ true ↦ record c { waiting = change c.waiting } ∷ cs | false ↦ c ∷ with_waiting k change cs ]) h
+with-at : (k : ℕ) (change : List Bool → List Bool) (c : MemberState) (cs : List MemberState) (b : Bool) → (c.number == k) ≡ b → with_waiting k change (c ∷ cs) ≡ elim b as (λ _. List MemberState) [ true ↦ record c { waiting = change c.waiting } ∷ cs | false ↦ c ∷ with_waiting k change cs ]
+with-at k change c cs b h = ap (λ (d : Bool). elim d as (λ _. List MemberState) [ true ↦ record c { waiting = change c.waiting } ∷ cs | false ↦ c ∷ with_waiting k change cs ]) h
 
-waiting-at : (k : ℕ) (c : ClientState) (cs : List ClientState) (b : Bool) → (c.number == k) ≡ b → waiting_of k (c ∷ cs) ≡ elim b as (λ _. List Bool) [ true ↦ c.waiting | false ↦ waiting_of k cs ]
+waiting-at : (k : ℕ) (c : MemberState) (cs : List MemberState) (b : Bool) → (c.number == k) ≡ b → waiting_of k (c ∷ cs) ≡ elim b as (λ _. List Bool) [ true ↦ c.waiting | false ↦ waiting_of k cs ]
 waiting-at k c cs b h = ap (λ (d : Bool). elim d as (λ _. List Bool) [ true ↦ c.waiting | false ↦ waiting_of k cs ]) h
 
 -- where the client isn't there nothing changes
-pub not-there : (k : ℕ) (change : List Bool → List Bool) (cs : List ClientState) → length cs ≤ place_of k cs → (with_waiting k change cs ≡ cs) × (waiting_of k cs ≡ [])
+pub not-there : (k : ℕ) (change : List Bool → List Bool) (cs : List MemberState) → length cs ≤ place_of k cs → (with_waiting k change cs ≡ cs) × (waiting_of k cs ≡ [])
 not-there k change [] le = (refl, refl)
 not-there k change (c ∷ cs) le = by_case (not-there k change cs) (c.number == k) refl
   where
@@ -37,42 +37,42 @@ not-there k change (c ∷ cs) le = by_case (not-there k change cs) (c.number == 
         let i = ih (omega (arith, e, le)) in
         (with-at k change c cs false h ∙ ap (λ ds. c ∷ ds) i.0, waiting-at k c cs false h ∙ i.1)
 
-pub set-client : (k : ℕ) (change : List Bool → List Bool) (cs : List Client) (i : ℕ) (x d : Client) → i ≡ place_of k (map client_state cs) → i < length cs → client_state x ≡ record (client_state (slice_index_or cs i d)) { waiting = change (client_state (slice_index_or cs i d)).waiting } → (map client_state (slice_set cs i x) ≡ with_waiting k change (map client_state cs)) × (waiting_of k (map client_state cs) ≡ (client_state (slice_index_or cs i d)).waiting)
+pub set-client : (k : ℕ) (change : List Bool → List Bool) (cs : List Member) (i : ℕ) (x d : Member) → i ≡ place_of k (map member_state cs) → i < length cs → member_state x ≡ record (member_state (slice_index_or cs i d)) { waiting = change (member_state (slice_index_or cs i d)).waiting } → (map member_state (slice_set cs i x) ≡ with_waiting k change (map member_state cs)) × (waiting_of k (map member_state cs) ≡ (member_state (slice_index_or cs i d)).waiting)
 set-client k change [] i x d at lt is = absurd (omega arith)
-set-client k change (c ∷ cs) zero x d at lt is = by_case ((client_state c).number == k) refl
+set-client k change (c ∷ cs) zero x d at lt is = by_case ((member_state c).number == k) refl
   where
-    by_case : (b : Bool) → ((client_state c).number == k) ≡ b → (map client_state (slice_set (c ∷ cs) zero x) ≡ with_waiting k change (map client_state (c ∷ cs))) × (waiting_of k (map client_state (c ∷ cs)) ≡ (client_state c).waiting)
-    by_case true h = (ap (λ y. y ∷ map client_state cs) is ∙ sym (with-at k change (client_state c) (map client_state cs) true h), waiting-at k (client_state c) (map client_state cs) true h)
-    by_case false h = absurd (let e = place-at k (client_state c) (map client_state cs) false h in omega (arith, e, at))
-set-client k change (c ∷ cs) (suc n) x d at lt is = by_case (set-client k change cs n x d) ((client_state c).number == k) refl
+    by_case : (b : Bool) → ((member_state c).number == k) ≡ b → (map member_state (slice_set (c ∷ cs) zero x) ≡ with_waiting k change (map member_state (c ∷ cs))) × (waiting_of k (map member_state (c ∷ cs)) ≡ (member_state c).waiting)
+    by_case true h = (ap (λ y. y ∷ map member_state cs) is ∙ sym (with-at k change (member_state c) (map member_state cs) true h), waiting-at k (member_state c) (map member_state cs) true h)
+    by_case false h = absurd (let e = place-at k (member_state c) (map member_state cs) false h in omega (arith, e, at))
+set-client k change (c ∷ cs) (suc n) x d at lt is = by_case (set-client k change cs n x d) ((member_state c).number == k) refl
   where
-    by_case : (n ≡ place_of k (map client_state cs) → n < length cs → client_state x ≡ record (client_state (slice_index_or cs n d)) { waiting = change (client_state (slice_index_or cs n d)).waiting } → (map client_state (slice_set cs n x) ≡ with_waiting k change (map client_state cs)) × (waiting_of k (map client_state cs) ≡ (client_state (slice_index_or cs n d)).waiting)) → (b : Bool) → ((client_state c).number == k) ≡ b → (map client_state (slice_set (c ∷ cs) (suc n) x) ≡ with_waiting k change (map client_state (c ∷ cs))) × (waiting_of k (map client_state (c ∷ cs)) ≡ (client_state (slice_index_or cs n d)).waiting)
-    by_case ih true h = absurd (let e = place-at k (client_state c) (map client_state cs) true h in omega (arith, e, at))
+    by_case : (n ≡ place_of k (map member_state cs) → n < length cs → member_state x ≡ record (member_state (slice_index_or cs n d)) { waiting = change (member_state (slice_index_or cs n d)).waiting } → (map member_state (slice_set cs n x) ≡ with_waiting k change (map member_state cs)) × (waiting_of k (map member_state cs) ≡ (member_state (slice_index_or cs n d)).waiting)) → (b : Bool) → ((member_state c).number == k) ≡ b → (map member_state (slice_set (c ∷ cs) (suc n) x) ≡ with_waiting k change (map member_state (c ∷ cs))) × (waiting_of k (map member_state (c ∷ cs)) ≡ (member_state (slice_index_or cs n d)).waiting)
+    by_case ih true h = absurd (let e = place-at k (member_state c) (map member_state cs) true h in omega (arith, e, at))
     by_case ih false h =
-        let e = place-at k (client_state c) (map client_state cs) false h in
+        let e = place-at k (member_state c) (map member_state cs) false h in
         let i = ih (omega (arith, e, at)) (omega arith) is in
-        (ap (λ ds. client_state c ∷ ds) i.0 ∙ sym (with-at k change (client_state c) (map client_state cs) false h), waiting-at k (client_state c) (map client_state cs) false h ∙ i.1)
+        (ap (λ ds. member_state c ∷ ds) i.0 ∙ sym (with-at k change (member_state c) (map member_state cs) false h), waiting-at k (member_state c) (map member_state cs) false h ∙ i.1)
 
-pub length-clients : (cs : List Client) → length (map client_state cs) ≡ length cs
+pub length-clients : (cs : List Member) → length (map member_state cs) ≡ length cs
 length-clients [] = refl
 length-clients (c ∷ cs) = ap suc (length-clients cs)
 
 -- ---- all with that number are one
 
-abbrev pub changes : ℕ → (List Bool → List Bool) → ClientState → ClientState
+abbrev pub changes : ℕ → (List Bool → List Bool) → MemberState → MemberState
 changes k change c = elim (c.number == k) [ true ↦ record c { waiting = change c.waiting } | false ↦ c ]
 
-pub changes-at : (k : ℕ) (change : List Bool → List Bool) (c : ClientState) (b : Bool) → (c.number == k) ≡ b → changes k change c ≡ elim b as (λ _. ClientState) [ true ↦ record c { waiting = change c.waiting } | false ↦ c ]
-changes-at k change c b h = ap (λ (d : Bool). elim d as (λ _. ClientState) [ true ↦ record c { waiting = change c.waiting } | false ↦ c ]) h
+pub changes-at : (k : ℕ) (change : List Bool → List Bool) (c : MemberState) (b : Bool) → (c.number == k) ≡ b → changes k change c ≡ elim b as (λ _. MemberState) [ true ↦ record c { waiting = change c.waiting } | false ↦ c ]
+changes-at k change c b h = ap (λ (d : Bool). elim d as (λ _. MemberState) [ true ↦ record c { waiting = change c.waiting } | false ↦ c ]) h
 
 clash : (a b k : ℕ) → (a == k) ≡ true → (a == b) ≡ false → (b == k) ≡ false
 clash a b k h g = grind (arith, nat_tests)
 
-pub with-map : (k : ℕ) (change : List Bool → List Bool) (cs : List ClientState) → AreOnce cs → with_waiting k change cs ≡ map (changes k change) cs
+pub with-map : (k : ℕ) (change : List Bool → List Bool) (cs : List MemberState) → AreOnce cs → with_waiting k change cs ≡ map (changes k change) cs
 with-map k change [] once = refl
 with-map k change (c ∷ cs) once = by_case (with-map k change cs once.1) (c.number == k) refl
   where
-    others : (ds : List ClientState) → (c.number == k) ≡ true → AllByRecursion (λ d. (c.number == d.number) ≡ false) ds → map (changes k change) ds ≡ ds
+    others : (ds : List MemberState) → (c.number == k) ≡ true → AllByRecursion (λ d. (c.number == d.number) ≡ false) ds → map (changes k change) ds ≡ ds
     others [] h all = refl
     others (d ∷ ds) h all = ap (λ y. y ∷ map (changes k change) ds) (changes-at k change d false (clash c.number d.number k h all.0)) ∙ ap (λ ys. d ∷ ys) (others ds h all.1)
 
@@ -82,15 +82,15 @@ with-map k change (c ∷ cs) once = by_case (with-map k change cs once.1) (c.num
 
 -- ---- what a client that is served waits for
 
-none-served : (k : ℕ) (cs : List ClientState) → AllByRecursion (λ d. (d.number == k) ≡ false) cs → is_served cs k ≡ true → ⊥
+none-served : (k : ℕ) (cs : List MemberState) → AllByRecursion (λ d. (d.number == k) ≡ false) cs → is_served cs k ≡ true → ⊥
 none-served k [] all h = cc
 none-served k (c ∷ cs) all h = none-served k cs all.1 (or-found ((c.number == k) && not c.lost) (is_served cs k) h (ap (λ b. b && not c.lost) all.0))
 
-pub waits-are : (rows : List Row) (k : ℕ) (cs : List ClientState) → AllByRecursion (ClientFits (look rows)) cs → AreOnce cs → is_served cs k ≡ true → Waits (wanted (rows_of k rows)) (replies (rows_of k rows)) (waiting_of k cs)
+pub waits-are : (rows : List Row) (k : ℕ) (cs : List MemberState) → AllByRecursion (ClientFits (look rows)) cs → AreOnce cs → is_served cs k ≡ true → Waits (wanted (rows_of k rows)) (replies (rows_of k rows)) (waiting_of k cs)
 waits-are rows k [] all once serves = absurd (cc)
 waits-are rows k (c ∷ cs) all once serves = by_case (waits-are rows k cs all.1 once.1) (c.number == k) refl c.lost refl
   where
-    others : (ds : List ClientState) → (c.number == k) ≡ true → AllByRecursion (λ d. (c.number == d.number) ≡ false) ds → AllByRecursion (λ d. (d.number == k) ≡ false) ds
+    others : (ds : List MemberState) → (c.number == k) ≡ true → AllByRecursion (λ d. (c.number == d.number) ≡ false) ds → AllByRecursion (λ d. (d.number == k) ≡ false) ds
     others [] h more = tt
     others (d ∷ ds) h more = (clash c.number d.number k h more.0, others ds h more.1)
 

@@ -21,8 +21,8 @@ use Rattle.mux_history.specs.Log.{all_told, admits, bare, open_matters, with_far
 use Rattle.client_teardown.specs.Leaving.{with_payloads}
 use Rattle.mux_core.specs.declared.verdict.Verdict.{Verdict}
 use Rattle.mux_core.specs.declared.verdict.Verdict.TheVariants as verdict
-use Rattle.mux_core.specs.declared.heard.Heard as declared
-use Rattle.mux_core.specs.declared.heard.Heard.TheVariants as heard
+use Rattle.mux_core.specs.declared.heard.Delivery as declared
+use Rattle.mux_core.specs.declared.heard.Delivery.TheVariants as heard
 use Rattle.mux_core.specs.State.{CoreState, is_served}
 use Rattle.mux_core.specs.Opening.{open_verdict}
 use Rattle.mux_core.specs.Stands.{Stands, is_known}
@@ -120,14 +120,14 @@ AnswerFits v = Unit {0}
 -- ---- heard
 
 -- what a client is told by an answer
-abbrev pub told_by : declared.Heard → List ℕ → List (List ℕ)
+abbrev pub told_by : declared.Delivery → List ℕ → List (List ℕ)
 told_by (heard.Client k refusals) p =
     frame_payload p ∷ replicate refusals (frame_payload request_failure)
 told_by h p = []
 
 -- a client that is lost is named so; of one that isn't, an open that is answered for it is the
 -- master's
-abbrev pub GoesTo : ℕ → Bool → declared.Heard → Type 0
+abbrev pub GoesTo : ℕ → Bool → declared.Delivery → Type 0
 GoesTo k lost heard.Master = lost ≡ false
 GoesTo k lost (heard.Client j refusals) = (lost ≡ false) × (j ≡ k)
 GoesTo k lost (heard.Lost j) = (lost ≡ true) × (j ≡ k)
@@ -138,25 +138,25 @@ abbrev pub heard_row_of : ℕ → List ℕ → List Row → Row
 heard_row_of k p rows = bare (Heard p) k (heard_for (rows_of k rows) p)
 
 pub record HearsClient (new : CoreState) (k : ℕ) (p p' : List ℕ) (up up' : QueueState)
-    (h : declared.Heard) (rows : List Row) : Type 0 where
+    (h : declared.Delivery) (rows : List Row) : Type 0 where
   pub sent : up'.waiting ≡ (with_payloads (heard_row_of k p rows).up up).waiting
   pub to : GoesTo k (is_lost (rows_of k rows)) h
   pub told : all_told (heard_row_of k p rows) (rows_of k rows) ≡ told_by h p'
   pub stands : Stands new (heard_row_of k p rows ∷ rows)
 
-pub record HearsMaster (new : CoreState) (p : List ℕ) (up up' : QueueState) (h : declared.Heard)
+pub record HearsMaster (new : CoreState) (p : List ℕ) (up up' : QueueState) (h : declared.Delivery)
     (rows : List Row) : Type 0 where
   pub sent : up'.waiting ≡ (with_payloads (heard_master p).sent up).waiting
   pub to : h ≡ heard.Master
   pub stands : Stands new (bare (Heard p) 0 (heard_master p) ∷ rows)
 
 -- nothing is sent where the run ends
-pub record HearsEnd (expected : declared.Heard) (up up' : QueueState) (h : declared.Heard) :
+pub record HearsEnd (expected : declared.Delivery) (up up' : QueueState) (h : declared.Delivery) :
     Type 0 where
   pub sent : up' ≡ up
   pub to : h ≡ expected
 
-abbrev pub HearsAs : CoreState → List ℕ → List ℕ → QueueState → QueueState → declared.Heard
+abbrev pub HearsAs : CoreState → List ℕ → List ℕ → QueueState → QueueState → declared.Delivery
     → List Row → Dest → Type 0
 HearsAs new p p' up up' h rows ToMaster = HearsMaster new p up up' h rows
 HearsAs new p p' up up' h rows (ToClient k) = HearsClient new k p p' up up' h rows
@@ -164,18 +164,18 @@ HearsAs new p p' up up' h rows Disconnects = HearsEnd heard.Disconnect up up' h
 HearsAs new p p' up up' h rows (Breaks why) = HearsEnd (heard.Broke why) up up' h
 
 -- a client that is told something was let in
-abbrev pub IsLetIn : CoreState → declared.Heard → Type 0
+abbrev pub IsLetIn : CoreState → declared.Delivery → Type 0
 IsLetIn s (heard.Client k refusals) = is_known s.clients k ≡ true
 IsLetIn s (heard.Lost k) = is_known s.clients k ≡ true
 IsLetIn s h = Unit {0}
 
-pub record HearsIn (old new : CoreState) (p p' : List ℕ) (up up' : QueueState) (h : declared.Heard)
+pub record HearsIn (old new : CoreState) (p p' : List ℕ) (up up' : QueueState) (h : declared.Delivery)
     (rows : List Row) : Type 0 where
   pub row : HearsAs new p p' up up' h rows (dest rows p)
   pub let_in : IsLetIn old h
 
 abbrev pub HearsOn : CoreState → CoreState → List ℕ → List ℕ → QueueState → QueueState
-    → declared.Heard → Type 0
+    → declared.Delivery → Type 0
 HearsOn old new p p' up up' h = (rows : List Row) → Stands old rows
     → HearsIn old new p p' up up' h rows
 
@@ -209,12 +209,12 @@ LeavesTold old new k up up' =
     → row.farewell ≡ [] → Leaves new (record row { down = down; fate = Drop why }) up up' rows
 
 -- of all logs, where the server says this message and nothing goes up
-abbrev pub HearsGist : CoreState → CoreState → List ℕ → List ℕ → Gist → declared.Heard → Type 0
+abbrev pub HearsGist : CoreState → CoreState → List ℕ → List ℕ → Gist → declared.Delivery → Type 0
 HearsGist old new p p' m h = (rows : List Row) (up : QueueState) → Stands old rows
     → read_gist p ≡ Ok m → HearsAs new p p' up up h rows (dest rows p)
 
 -- the same where something goes up
 abbrev pub HearsWith : CoreState → CoreState → List ℕ → List ℕ → Gist → QueueState → QueueState
-    → declared.Heard → Type 0
+    → declared.Delivery → Type 0
 HearsWith old new p p' m up up' h = (rows : List Row) → Stands old rows → read_gist p ≡ Ok m
     → HearsAs new p p' up up' h rows (dest rows p)

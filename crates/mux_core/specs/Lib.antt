@@ -1,5 +1,5 @@
 pub mod State
-pub mod Clients
+pub mod Members
 pub mod Gists
 pub mod Stands
 pub mod Lookups

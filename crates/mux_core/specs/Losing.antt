@@ -2,13 +2,13 @@
 use Rattle.std.specs.Prelude.{ℕ, ◌==◌, ◌||◌, List, map}
 use Rattle.client_teardown.specs.Leaving.{left_entries}
 use Rattle.forward_rules.specs.Step.{without_client}
-use Rattle.mux_core.specs.State.{ClientState, CoreState}
+use Rattle.mux_core.specs.State.{MemberState, CoreState}
 
 -- the client is lost
-abbrev pub lose : ℕ → ClientState → ClientState
+abbrev pub lose : ℕ → MemberState → MemberState
 lose k c = record c { lost = c.lost || (c.number == k) }
 
-abbrev pub lost_clients : ℕ → List ClientState → List ClientState
+abbrev pub lost_clients : ℕ → List MemberState → List MemberState
 lost_clients k cs = map (lose k) cs
 
 -- its tables after a farewell, and the client is lost

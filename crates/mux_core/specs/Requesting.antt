@@ -10,21 +10,21 @@ use Rattle.mux_history.specs.Keys.{is_askable}
 use Rattle.mux_history.specs.Policy.{Policy, permits}
 use Rattle.mux_core.specs.declared.verdict.Verdict.{Verdict}
 use Rattle.mux_core.specs.declared.verdict.Verdict.TheVariants as verdict
-use Rattle.mux_core.specs.State.{ClientState, CoreState}
+use Rattle.mux_core.specs.State.{MemberState, CoreState}
 use Rattle.mux_core.specs.Calls.{SaysAs}
 
 -- the place of a client, or the end
-abbrev pub place_of : ℕ → List ClientState → ℕ
+abbrev pub place_of : ℕ → List MemberState → ℕ
 place_of k [] = 0
 place_of k (c ∷ cs) = elim (c.number == k) [ true ↦ 0 | false ↦ place_of k cs + 1 ]
 
 -- what it is still to be answered
-abbrev pub waiting_of : ℕ → List ClientState → List Bool
+abbrev pub waiting_of : ℕ → List MemberState → List Bool
 waiting_of k [] = []
 waiting_of k (c ∷ cs) = elim (c.number == k) [ true ↦ c.waiting | false ↦ waiting_of k cs ]
 
 -- the first of that number, with what it is still to be answered changed
-abbrev pub with_waiting : ℕ → (List Bool → List Bool) → List ClientState → List ClientState
+abbrev pub with_waiting : ℕ → (List Bool → List Bool) → List MemberState → List MemberState
 with_waiting k change [] = []
 with_waiting k change (c ∷ cs) = elim (c.number == k) [
   | true ↦ record c { waiting = change c.waiting } ∷ cs
@@ -45,7 +45,7 @@ abbrev pub refusal : Bool → List Bool → Verdict
 refusal false w = verdict.Silent
 refusal true w = refusal_now (is_none_left w)
 
-abbrev pub after_refusal : Bool → ℕ → List ClientState → List ClientState
+abbrev pub after_refusal : Bool → ℕ → List MemberState → List MemberState
 after_refusal false k cs = cs
 after_refusal true k cs = with_waiting k or_behind cs
 

@@ -16,7 +16,7 @@ use Rattle.channel_table.specs.Entries.{Entry}
 use Rattle.channel_table.specs.Entries.{AreApart, count_of}
 use Rattle.channel_table.specs.Stands.{ChannelsFit}
 use Rattle.forward_rules.specs.Stands.{AreFit, Places, places_of}
-use Rattle.mux_core.specs.State.{ClientState, CoreState, is_served}
+use Rattle.mux_core.specs.State.{MemberState, CoreState, is_served}
 
 -- ---- channels
 
@@ -89,14 +89,14 @@ pub record AsksFit (queue : List Ask) (l : Look) : Type 0 where
 
 -- a client stands for its rows: while it isn't lost, what it is still to be answered is what they
 -- leave unanswered
-pub record ClientFits (l : Look) (c : ClientState) : Type 0 where
+pub record ClientFits (l : Look) (c : MemberState) : Type 0 where
   pub nonzero : c.number ≢ 0
   pub admitted : l.admitted c.number ≡ true
   pub lost : c.lost ≡ l.lost c.number
   pub answers : c.lost ≡ false → l.waiting c.number ≡ record { requests = c.waiting; early = [] }
 
 -- no two clients have one number
-abbrev pub AreOnce : List ClientState → Type 0
+abbrev pub AreOnce : List MemberState → Type 0
 AreOnce [] = Unit {0}
 AreOnce (c ∷ cs) = AllByRecursion (λ d. (c.number == d.number) ≡ false) cs × AreOnce cs
 
@@ -104,14 +104,14 @@ abbrev pub has_matters : List Row → ℕ → Bool
 has_matters rows k = has_open_matters (rows_of k rows)
 
 -- those that were let in and have open matters, in order, at most 64
-pub record ClientsFit (cs : List ClientState) (matters : ℕ → Bool) (l : Look) : Type 0 where
+pub record ClientsFit (cs : List MemberState) (matters : ℕ → Bool) (l : Look) : Type 0 where
   pub numbers : map (λ c. c.number) cs ≡ filter matters l.entered
   pub each : AllByRecursion (ClientFits l) cs
   pub once : AreOnce cs
   pub few : length cs ≤ MAX_CLIENTS
 
 -- a client is one of these
-abbrev pub is_known : List ClientState → ℕ → Bool
+abbrev pub is_known : List MemberState → ℕ → Bool
 is_known cs k = any_of (λ c. c.number == k) cs
 
 -- whose channels, requests and forwardings all are; those with forwardings are not lost

@@ -8,7 +8,7 @@ use Rattle.forward_rules.specs.State.{Forward}
 
 -- a client with open matters: whether it is lost, and what it is still to be answered, for each of
 -- its requests from the first on that was sent and has no reply, whether it was sent
-pub record ClientState : Type 0 where
+pub record MemberState : Type 0 where
   pub number : ℕ
   pub lost : Bool
   pub waiting : List Bool
@@ -19,12 +19,12 @@ pub record CoreState : Type 0 where
   pub policy : Policy
   pub channels : List Entry
   pub asks : List Ask
-  pub clients : List ClientState
+  pub clients : List MemberState
   pub forwards : List Forward
 
 abbrev pub new_state : Policy → CoreState
 new_state policy = record { policy = policy; channels = []; asks = []; clients = []; forwards = [] }
 
 -- the client is there and not lost
-abbrev pub is_served : List ClientState → ℕ → Bool
+abbrev pub is_served : List MemberState → ℕ → Bool
 is_served cs k = any_of (λ c. (c.number == k) && not c.lost) cs

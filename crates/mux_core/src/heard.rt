@@ -14,7 +14,7 @@ ghost use Rattle.client_teardown.specs.Steps.{listed};
 ghost use Rattle.mux_core.specs.Replying.{after_failure, after_success, misses_port};
 ghost use Rattle.mux_core.specs.Requesting.{waiting_of, with_waiting};
 ghost use Rattle.mux_core.specs.Settling.{settled};
-ghost use Rattle.mux_core.specs.declared.heard.Heard.TheVariants.{Client, Lost};
+ghost use Rattle.mux_core.specs.declared.heard.Delivery.TheVariants.{Client, Lost};
 
 use crate::reading::{Gist, read_gist};
 use crate::state::Core;
@@ -27,7 +27,7 @@ use ssh_grammar::numbers::*;
 
 /// Where what the server said goes.
 #[derive(Clone, Copy, PartialEq, Eq)]
-pub enum Heard {
+pub enum Delivery {
     /// Nothing goes to a client.
     Master,
     /// The payload, and then so many refusals, are this client's.
@@ -85,7 +85,7 @@ fn late_refusal(request: Request<'_>) -> Option<Small>
 impl Core {
     /// The server says a payload. Where it goes to a client it has the client's own number for the
     /// channel afterwards.
-    pub fn heard(&mut self, payload: &mut [u8], up: &mut Queue) -> Result<Heard, OutOfMemory>
+    pub fn heard(&mut self, payload: &mut [u8], up: &mut Queue) -> Result<Delivery, OutOfMemory>
         requires { length payload.old ≤ LONGEST_PAYLOAD }
         ensures stands { IfOk result (λ h.
             HearsOn self.old self.new payload.old payload.new up.old up.new h) }
@@ -95,9 +95,9 @@ impl Core {
         ensures err { OnErr result (up.new ≡ up.old) }
     {
         match read_gist(payload) {
-            Err(bad) => Ok(Heard::Broke(Break::Message(bad))),
-            Ok(Gist::Transport { number: DISCONNECT }) => Ok(Heard::Disconnect),
-            Ok(Gist::Transport { .. }) => Ok(Heard::Master),
+            Err(bad) => Ok(Delivery::Broke(Break::Message(bad))),
+            Ok(Gist::Transport { number: DISCONNECT }) => Ok(Delivery::Disconnect),
+            Ok(Gist::Transport { .. }) => Ok(Delivery::Master),
             Ok(Gist::Requests { what, want }) => self.hear_request(payload, what, want, up),
             Ok(Gist::Succeeds { rest }) => self.hear_success(payload, rest, up),
             Ok(Gist::Refuses) => self.hear_refusal(payload, up),
@@ -131,7 +131,7 @@ impl Core {
         what: Request<'_>,
         want: bool,
         up: &mut Queue,
-    ) -> Result<Heard, OutOfMemory>
+    ) -> Result<Delivery, OutOfMemory>
         ensures stands { IfOk result (λ h.
             HearsWith self.now self.now payload.now payload.now
             (Requests (request_of what.entry) want) up.old up.new h) }
@@ -139,11 +139,11 @@ impl Core {
         ensures err { OnErr result (up.new ≡ up.old) }
     {
         if !want {
-            return Ok(Heard::Master);
+            return Ok(Delivery::Master);
         }
         let refusal = request_failure();
         up.push_payload(refusal.as_bytes())?;
-        Ok(Heard::Master)
+        Ok(Delivery::Master)
     }
 
     // A success: to the client whose request waits longest, and where that is lost what it asked
@@ -153,7 +153,7 @@ impl Core {
         payload: &[u8],
         rest: &[u8],
         up: &mut Queue,
-    ) -> Result<Heard, OutOfMemory>
+    ) -> Result<Delivery, OutOfMemory>
         ensures stands { IfOk result (λ h.
             HearsWith self.old self.new payload.now payload.now (Succeeds rest.now)
             up.old up.new h) }
@@ -162,11 +162,11 @@ impl Core {
         ensures err { OnErr result (up.new ≡ up.old) }
     {
         let Some((client, ask)) = self.take_asker() else {
-            return Ok(Heard::Broke(Break::NoAsker));
+            return Ok(Delivery::Broke(Break::NoAsker));
         };
         let request = ask.as_request();
         if misses_port(request, rest) {
-            return Ok(Heard::Broke(Break::BadReply { length: rest.len() }));
+            return Ok(Delivery::Broke(Break::BadReply { length: rest.len() }));
         }
         if self.is_lost(client) {
             return self.hear_late(client, late_success(request, rest), up);
@@ -177,7 +177,7 @@ impl Core {
 
     // A failure: to the client whose request waits longest, and where that is lost its cancel is
     // said again.
-    fn hear_refusal(&mut self, payload: &[u8], up: &mut Queue) -> Result<Heard, OutOfMemory>
+    fn hear_refusal(&mut self, payload: &[u8], up: &mut Queue) -> Result<Delivery, OutOfMemory>
         ensures stands { IfOk result (λ h.
             HearsWith self.old self.new payload.now payload.now Refuses up.old up.new h) }
         ensures spare { up.new.spare ≡ up.old.spare }
@@ -185,7 +185,7 @@ impl Core {
         ensures err { OnErr result (up.new ≡ up.old) }
     {
         let Some((client, ask)) = self.take_asker() else {
-            return Ok(Heard::Broke(Break::NoAsker));
+            return Ok(Delivery::Broke(Break::NoAsker));
         };
         let request = ask.as_request();
         if self.is_lost(client) {
@@ -201,7 +201,7 @@ impl Core {
         client: u64,
         cancel: Option<Small>,
         up: &mut Queue,
-    ) -> Result<Heard, OutOfMemory>
+    ) -> Result<Delivery, OutOfMemory>
         requires { IfSome cancel (IsContent Proxy) }
         ensures to { IfOk result (λ h. h ≡ Lost client) }
         ensures ok { OnOk result (self.new ≡ settled self.old client) }
@@ -213,17 +213,17 @@ impl Core {
             up.push_payload(payload.as_bytes())?;
         }
         self.settle(client);
-        Ok(Heard::Lost { client })
+        Ok(Delivery::Lost { client })
     }
 
     // A reply goes to its client, and so many refusals after it as waited behind it.
-    pub(crate) fn pass_on(&mut self, client: u64) -> Heard
+    pub(crate) fn pass_on(&mut self, client: u64) -> Delivery
         ensures to { result ≡ Client client (refusals_behind (waiting_of client self.old.clients)) }
         ensures left { self.new
             ≡ record self.old { clients = with_waiting client after_reply self.old.clients } }
     {
         let refusals = self.pass_reply(client);
-        Heard::Client { client, refusals }
+        Delivery::Client { client, refusals }
     }
 
     // What a success does to the forwardings.

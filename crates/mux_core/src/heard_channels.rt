@@ -9,7 +9,7 @@ ghost use Rattle.conn_messages.specs.Message.{opening_of};
 ghost use Rattle.mux_core.specs.Opening.{owner_for};
 ghost use Rattle.mux_core.specs.Settling.{is_lost_in};
 
-use crate::heard::Heard;
+use crate::heard::Delivery;
 use crate::state::{Core, confirmed_ledger, put_recipient, waits};
 use channel_table::{Channel, Refused};
 use conn_messages::{Opening, close, open_failure};
@@ -30,7 +30,7 @@ impl Core {
         window: u32,
         maximum: u32,
         up: &mut Queue,
-    ) -> Result<Heard, OutOfMemory>
+    ) -> Result<Delivery, OutOfMemory>
         ensures stands { IfOk result (λ h.
             HearsWith self.old self.new payload.now payload.now
             (Open (opening_of what.now) sender window maximum) up.old up.new h) }
@@ -39,30 +39,30 @@ impl Core {
         ensures err { OnErr result (up.new ≡ up.old) }
     {
         if self.uses_remote(sender) {
-            return Ok(Heard::Broke(Break::NumberInUse { number: sender }));
+            return Ok(Delivery::Broke(Break::NumberInUse { number: sender }));
         }
         let Some(client) = self.owner(what) else {
             let refusal = open_failure(sender, ADMINISTRATIVELY_PROHIBITED, b"not permitted");
             up.push_payload(refusal.as_bytes())?;
-            return Ok(Heard::Master);
+            return Ok(Delivery::Master);
         };
         let ledger = Ledger::opened(Side::Down, window, maximum);
         match self.add_remote(client, sender, ledger) {
             Ok(_) => {
-                return Ok(Heard::Client {
+                return Ok(Delivery::Client {
                     client,
                     refusals: 0,
                 });
             }
             Err(Refused::OutOfMemory) => return Err(OutOfMemory),
             Err(Refused::OwnInUse | Refused::RemoteInUse { .. }) => {
-                return Ok(Heard::Broke(Break::NumberInUse { number: sender }));
+                return Ok(Delivery::Broke(Break::NumberInUse { number: sender }));
             }
             Err(Refused::Full { .. }) => {}
         }
         let refusal = open_failure(sender, RESOURCE_SHORTAGE, b"too many channels");
         up.push_payload(refusal.as_bytes())?;
-        Ok(Heard::Master)
+        Ok(Delivery::Master)
     }
 
     // Whose a server's open is.
@@ -85,7 +85,7 @@ impl Core {
         window: u32,
         maximum: u32,
         up: &mut Queue,
-    ) -> Result<Heard, OutOfMemory>
+    ) -> Result<Delivery, OutOfMemory>
         ensures stands { IfOk result (λ h.
             HearsWith self.old self.new payload.old payload.new
             (Confirmation number remote window maximum) up.old up.new h) }
@@ -94,13 +94,13 @@ impl Core {
         ensures err { OnErr result (up.new ≡ up.old) }
     {
         let Some((channel, ledger)) = self.channel_for(number) else {
-            return Ok(Heard::Broke(Break::NotPending { number }));
+            return Ok(Delivery::Broke(Break::NotPending { number }));
         };
         if !waits(&channel, &ledger) {
-            return Ok(Heard::Broke(Break::NotPending { number }));
+            return Ok(Delivery::Broke(Break::NotPending { number }));
         }
         if !self.name_remote(number, remote)? {
-            return Ok(Heard::Broke(Break::NumberInUse { number: remote }));
+            return Ok(Delivery::Broke(Break::NumberInUse { number: remote }));
         }
         let given = confirmed_ledger(ledger, window, maximum);
         let client = channel.client;
@@ -108,43 +108,43 @@ impl Core {
             up.push_payload(close(remote).as_bytes())?;
             self.set_ledger(number, given.left());
             self.settle(client);
-            return Ok(Heard::Lost { client });
+            return Ok(Delivery::Lost { client });
         }
         self.set_ledger(number, given);
         put_recipient(payload, channel.own.unwrap_or(0));
-        Ok(Heard::Client {
+        Ok(Delivery::Client {
             client,
             refusals: 0,
         })
     }
 
     // The server refuses a client's open.
-    pub(crate) fn hear_failure(&mut self, payload: &mut [u8], number: u32) -> Heard
+    pub(crate) fn hear_failure(&mut self, payload: &mut [u8], number: u32) -> Delivery
         ensures stands { HearsGist self.old self.new payload.old payload.new
             (Within number Fails) result }
         ensures policy { self.new.policy ≡ self.old.policy }
     {
         let Some((channel, ledger)) = self.channel_for(number) else {
-            return Heard::Broke(Break::NotPending { number });
+            return Delivery::Broke(Break::NotPending { number });
         };
         if !waits(&channel, &ledger) {
-            return Heard::Broke(Break::NotPending { number });
+            return Delivery::Broke(Break::NotPending { number });
         }
         self.free(number);
         self.deliver(&channel, payload)
     }
 
     // What the server says in a channel that both sides have confirmed.
-    pub(crate) fn hear_within(&mut self, payload: &mut [u8], number: u32, act: Act) -> Heard
+    pub(crate) fn hear_within(&mut self, payload: &mut [u8], number: u32, act: Act) -> Delivery
         ensures stands { HearsGist self.old self.new payload.old payload.new
             (Within number (act_of act)) result }
         ensures policy { self.new.policy ≡ self.old.policy }
     {
         let Some((channel, mut ledger)) = self.channel_for(number) else {
-            return Heard::Broke(Break::NoChannel { number });
+            return Delivery::Broke(Break::NoChannel { number });
         };
         if let Err(why) = ledger.take(Side::Down, act) {
-            return Heard::Broke(Break::Channel { number, why });
+            return Delivery::Broke(Break::Channel { number, why });
         }
         self.put(number, ledger);
         self.deliver(&channel, payload)
@@ -152,7 +152,7 @@ impl Core {
 
     // What the server says in a channel goes to its client. One that is lost is forgotten, where
     // nothing of it is left.
-    fn deliver(&mut self, channel: &Channel, payload: &mut [u8]) -> Heard
+    fn deliver(&mut self, channel: &Channel, payload: &mut [u8]) -> Delivery
         ensures goes { DeliversAs (is_lost_in self.old.clients channel.now.client)
             self.old self.new channel.now payload.old payload.new result }
         ensures policy { self.new.policy ≡ self.old.policy }
@@ -160,10 +160,10 @@ impl Core {
         let client = channel.client;
         if self.is_lost(client) {
             self.settle(client);
-            return Heard::Lost { client };
+            return Delivery::Lost { client };
         }
         put_recipient(payload, channel.own.unwrap_or(0));
-        Heard::Client {
+        Delivery::Client {
             client,
             refusals: 0,
         }

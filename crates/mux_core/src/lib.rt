@@ -7,17 +7,17 @@
 //! drops it where that doesn't fit.
 #![tactic(auto)]
 
-mod clients;
 mod gone;
 mod heard;
 mod heard_channels;
 pub mod laws;
+mod members;
 mod reading;
 mod said;
 mod said_requests;
 mod state;
 mod verdict;
 
-pub use heard::Heard;
+pub use heard::Delivery;
 pub use state::Core;
 pub use verdict::Verdict;

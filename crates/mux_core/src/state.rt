@@ -18,7 +18,7 @@ ghost use Rattle.mux_core.specs.Calls.{AdmitsOn};
 mod channels;
 mod requests;
 
-use crate::clients::Clients;
+use crate::members::Members;
 use channel_table::{Channel, Table};
 use client_teardown::{FAREWELL_ROOM, tear_down};
 use conn_messages::{Key, recipient_at, sender_at};
@@ -42,7 +42,7 @@ pub struct Core {
     /// The forwardings that are asked or live.
     forwards: Forwards,
     /// The clients with open matters, at most 64.
-    clients: Clients,
+    clients: Members,
 }
 
 impl Model for Core {
@@ -123,7 +123,7 @@ impl Core {
             table: Table::new(alloc)?,
             askers: Askers::new(alloc),
             forwards: Forwards::new(alloc),
-            clients: Clients::new(alloc),
+            clients: Members::new(alloc),
         })
     }
 

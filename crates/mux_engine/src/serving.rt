@@ -31,7 +31,7 @@ use ssh_fields::OutOfMemory;
 use std::alloc::Global;
 
 // Keeps what one of the master's own listeners and streams told, and hands it on.
-fn hear<H: House>(house: &mut H, lists: &mut Lists, told: OwnTurn<'_>) -> Result<(), OutOfMemory>
+fn hand_on<H: House>(house: &mut H, lists: &mut Lists, told: OwnTurn<'_>) -> Result<(), OutOfMemory>
     requires ordering { (H.state house.old).known.ordering ≡ None }
     requires fits { OwnTurnFits told (H.state house.old).known (H.state house.old).quiet }
     ensures lists { OnOk result (HeardBy told.entry lists.old lists.new) }
@@ -90,7 +90,7 @@ fn turn<W: Wire, H: House>(
     match next_of(told, piece.as_bytes()) {
         Next::Event(e) => heed(engine, wire, house, &mut lists.asks, e),
         Next::Own(told) => {
-            hear(house, lists, told)?;
+            hand_on(house, lists, told)?;
             Ok(Went::On)
         }
         Next::Freed(stream) => {

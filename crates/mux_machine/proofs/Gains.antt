@@ -15,7 +15,7 @@ use Rattle.mux_history.specs.Solo.{end_of}
 use Rattle.mux_history.specs.Promises.{listens}
 use Rattle.mux_history.specs.Log.{more_all}
 use Rattle.mux_history.specs.Journal.{bytes_of, is_own_stream, log_of_journal, new_heard, new_sayings, unless_own}
-use Rattle.mux_clients.specs.declared.heard.Heard.{Heard}
+use Rattle.mux_clients.specs.declared.run_change.RunChange.{RunChange}
 use Rattle.mux_clients.specs.State.{ClientState}
 use Rattle.mux_clients.specs.Stands.{is_lost, is_read, standing_of}
 use Rattle.mux_clients.specs.Among.{ChangesOne, EachFits, InFits, MovesTo, is_present}
@@ -43,7 +43,7 @@ drop-front (x ∷ xs) ys = drop-front xs ys
 
 -- ---- a piece of a client that is read
 
-pub record PieceAt (May : HouseReply → Type 0) (before told : Option (List Asked)) (s new : State) (bytes : List ℕ) (x y : ClientState) (heard : Heard) : Type 0 where
+pub record PieceAt (May : HouseReply → Type 0) (before told : Option (List Asked)) (s new : State) (bytes : List ℕ) (x y : ClientState) (heard : RunChange) : Type 0 where
   pub pid : new.pid ≡ s.pid
   pub server : new.server ≡ s.server
   pub refused : new.refused ≡ s.refused
@@ -73,12 +73,12 @@ read-in Rattle.mux_clients.specs.declared.standing.Standing.TheVariants.Unread e
 read-in (Rattle.mux_clients.specs.declared.standing.Standing.TheVariants.Lost why) e = true_false (sym e)
 
 -- with these rows after it
-pub record PieceRows (s new : State) (x y : ClientState) (heard : Heard) (picked : List ℕ) (used : List HouseReply) (asks : List Asked) (rows rows' : List Row) (old bytes : List ℕ) : Type 0 where
+pub record PieceRows (s new : State) (x y : ClientState) (heard : RunChange) (picked : List ℕ) (used : List HouseReply) (asks : List Asked) (rows rows' : List Row) (old bytes : List ℕ) : Type 0 where
   pub on : SaysOn x.seat.number rows rows'
   pub to : IsReadTo x.seat.number old bytes picked used asks rows rows' new.core new.up y heard
   pub live : is_ended rows ≡ false
 
-rows-gain : (May : HouseReply → Type 0) (before told : Option (List Asked)) (taken : ℕ) (dn : List Asked) (given : List HouseReply) (s new : State) (bytes old : List ℕ) (x y : ClientState) (heard : Heard) (picked : List ℕ) (used : List HouseReply) (asks : List Asked) (closed : List ℕ) (rows rows' : List Row)
+rows-gain : (May : HouseReply → Type 0) (before told : Option (List Asked)) (taken : ℕ) (dn : List Asked) (given : List HouseReply) (s new : State) (bytes old : List ℕ) (x y : ClientState) (heard : RunChange) (picked : List ℕ) (used : List HouseReply) (asks : List Asked) (closed : List ℕ) (rows rows' : List Row)
     → AreBytes old → AreBytes bytes → length asks ≡ length used → is_present s.clients x.seat.number ≡ true → x.seat.number ≢ 0 → InFits rows x → PieceAt May before told s new bytes x y heard → PieceRows s new x y heard picked used asks rows rows' old bytes → RowsFit taken dn s closed rows
     → RowsFit (taken + length picked) (dn ++ asks) new closed rows'
 rows-gain May before told taken dn given s new bytes old x y heard picked used asks closed rows rows' ob nb each here nz fx c w st =
@@ -119,7 +119,7 @@ rows-gain May before told taken dn given s new bytes old x y heard picked used a
 
 -- ---- the bytes
 
-reads-now : (old bytes : List ℕ) (picked : List ℕ) (used : List HouseReply) (asks : List Asked) (rows rows' : List Row) (core : _) (up : _) (y : ClientState) (heard : Heard) (k : ℕ) → is_ended rows' ≡ false → IsReadTo k old bytes picked used asks rows rows' core up y heard → ClientReads (old ++ bytes) y
+reads-now : (old bytes : List ℕ) (picked : List ℕ) (used : List HouseReply) (asks : List Asked) (rows rows' : List Row) (core : _) (up : _) (y : ClientState) (heard : RunChange) (k : ℕ) → is_ended rows' ≡ false → IsReadTo k old bytes picked used asks rows rows' core up y heard → ClientReads (old ++ bytes) y
 reads-now old bytes picked used asks rows rows' core up y heard k live r = record {
   mode_is = λ l. by_read (is_read y.seat.standing) refl l;
   rest_is = λ e. (r.reads e).rest;
@@ -142,7 +142,7 @@ gets-quiet k j bytes ne = ap (λ b. elim b as (λ _. List ℕ) [ true ↦ bytes 
 pub gets-own : (k : ℕ) (bytes : List ℕ) (marks : List Mark) → bytes_of k (Gets k bytes ∷ marks) ≡ bytes_of k marks ++ bytes
 gets-own k bytes marks = ap (λ b. bytes_of k marks ++ elim b as (λ _. List ℕ) [ true ↦ bytes | false ↦ [] ]) (eq-eqb k k refl)
 
-bytes-gain : (May : HouseReply → Type 0) (before told : Option (List Asked)) (taken : ℕ) (dn : List Asked) (s new : State) (bytes : List ℕ) (x y : ClientState) (heard : Heard) (picked : List ℕ) (used : List HouseReply) (asks : List Asked) (marks : List Mark) (closed : List ℕ) (rows rows' : List Row)
+bytes-gain : (May : HouseReply → Type 0) (before told : Option (List Asked)) (taken : ℕ) (dn : List Asked) (s new : State) (bytes : List ℕ) (x y : ClientState) (heard : RunChange) (picked : List ℕ) (used : List HouseReply) (asks : List Asked) (marks : List Mark) (closed : List ℕ) (rows rows' : List Row)
     → is_present s.clients x.seat.number ≡ true → x.seat.number ≢ 0 → IsAllowed s marks (Gets x.seat.number bytes) → PieceAt May before told s new bytes x y heard → PieceRows s new x y heard picked used asks rows rows' (bytes_of x.seat.number marks) bytes → RowsFit taken dn s closed rows → BytesFit s marks closed rows
     → BytesFit new (Gets x.seat.number bytes ∷ marks) closed rows'
 bytes-gain May before told taken dn s new bytes x y heard picked used asks marks closed rows rows' here nz al c w fit st =
@@ -164,7 +164,7 @@ bytes-gain May before told taken dn s new bytes x y heard picked used asks marks
 pub gets-log : (s : State) (picks : List ℕ) (replies : List HouseReply) (k : ℕ) (bytes : List ℕ) (marks : List Mark) → k ≢ 0 → is_own_stream k ≡ false → log s picks replies (Gets k bytes ∷ marks) ≡ rows_given s.core.policy s.pid picks replies k (bytes_of k marks) bytes (log s picks replies marks)
 gets-log s picks replies k bytes marks nz own = ap (λ b. more_all (setting s picks replies) (log s picks replies marks) (elim b as (λ _. List Rattle.mux_history.specs.Rows.Item) [ true ↦ new_heard (bytes_of 0 marks) (bytes_of 0 marks ++ bytes) | false ↦ unless_own k (new_sayings k (bytes_of k marks) (bytes_of k marks ++ bytes)) ])) (test_other k 0 nz) ∙ ap (more_all (setting s picks replies) (log s picks replies marks)) (unless-not k (new_sayings k (bytes_of k marks) (bytes_of k marks ++ bytes)) own)
 
-piece-rows-of : (May : HouseReply → Type 0) (before told : Option (List Asked)) (s new : State) (bytes : List ℕ) (x y : ClientState) (heard : Heard) (c : PieceAt May before told s new bytes x y heard) (picks : List ℕ) (replies : List HouseReply) (taken : ℕ) (dn : List Asked) (marks : List Mark) (closed : List ℕ) (rows : List Row)
+piece-rows-of : (May : HouseReply → Type 0) (before told : Option (List Asked)) (s new : State) (bytes : List ℕ) (x y : ClientState) (heard : RunChange) (c : PieceAt May before told s new bytes x y heard) (picks : List ℕ) (replies : List HouseReply) (taken : ℕ) (dn : List Asked) (marks : List Mark) (closed : List ℕ) (rows : List Row)
     → is_ended rows ≡ false → InFits rows x → RowsFit taken dn s closed rows → BytesFit s marks closed rows → ClientReads (bytes_of x.seat.number marks) x
     → Rattle.mux_clients.specs.Says.ComeNext c.piece.hearing.picked rows picks → Rattle.mux_clients.specs.Pieces.ReplyNext c.piece.hearing.used rows replies
     → PieceRows s new x y heard c.piece.hearing.picked c.piece.hearing.used c.piece.hearing.asks rows (rows_given s.core.policy s.pid picks replies x.seat.number (bytes_of x.seat.number marks) bytes rows) (bytes_of x.seat.number marks) bytes
@@ -179,7 +179,7 @@ piece-rows-of May before told s new bytes x y heard c picks replies taken dn mar
       live = live;
     }
 
-pub goes-piece : (May : HouseReply → Type 0) (before told : Option (List Asked)) (s new : State) (bytes : List ℕ) (x y : ClientState) (heard : Heard) → s.ended ≡ None → is_present s.clients x.seat.number ≡ true → x.seat.number ≢ 0 → ((rows : List Row) → EachFits rows s.clients → InFits rows x) → ((marks : List Mark) → EachReads marks s.clients → ClientReads (bytes_of x.seat.number marks) x)
+pub goes-piece : (May : HouseReply → Type 0) (before told : Option (List Asked)) (s new : State) (bytes : List ℕ) (x y : ClientState) (heard : RunChange) → s.ended ≡ None → is_present s.clients x.seat.number ≡ true → x.seat.number ≢ 0 → ((rows : List Row) → EachFits rows s.clients → InFits rows x) → ((marks : List Mark) → EachReads marks s.clients → ClientReads (bytes_of x.seat.number marks) x)
     → PieceAt May before told s new bytes x y heard → GoesOn May before told s new (Gets x.seat.number bytes)
 goes-piece May before told s new bytes x y heard none here nz fits reads c picked given marks closed st al = record {
   picks = h.picked;

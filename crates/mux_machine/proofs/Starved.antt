@@ -12,7 +12,7 @@ use Rattle.mux_history.specs.Rows.{Row, is_ended}
 use Rattle.mux_history.specs.Journal.{bytes_of, items_in, said_item}
 use Rattle.mux_history.specs.Log.{more_all}
 use Rattle.mux_core.specs.State.{CoreState}
-use Rattle.mux_clients.specs.declared.heard.Heard.{Heard}
+use Rattle.mux_clients.specs.declared.run_change.RunChange.{RunChange}
 use Rattle.mux_clients.specs.State.{ClientState, ClientsState}
 use Rattle.mux_clients.specs.Stands.{is_read, mode_of}
 use Rattle.mux_clients.specs.Among.{ChangesOne, EachFits, InFits, Noting, NotesOne, is_present}
@@ -70,7 +70,7 @@ pub some-shown : (May : HouseReply → Type 0) (told told' : Option (List Asked)
 some-shown May told told' k bytes parts s view h = subst (λ (x : State). OneIs k (HearsSome May told told' x.pid bytes x.core x.up) x.clients) view h
 
 -- all was taken in, and then there was no memory
-pub some-heard : {A E : Type 0} {a : A} (May : HouseReply → Type 0) {asks asks' : List Asked} {old new : HouseState} (pid : ℕ) (bytes : List ℕ) (core core' : CoreState) (up up' : QueueState) (heard : Heard) (k : ℕ) (was now : ClientsState) → is_heard was.all k ≡ true
+pub some-heard : {A E : Type 0} {a : A} (May : HouseReply → Type 0) {asks asks' : List Asked} {old new : HouseState} (pid : ℕ) (bytes : List ℕ) (core core' : CoreState) (up up' : QueueState) (heard : RunChange) (k : ℕ) (was now : ClientsState) → is_heard was.all k ≡ true
     → NotesOne k (HearsIn May (Some asks) (Some asks') pid bytes core core' up up' heard) was now → Heeds {A = A} {E = E} (Ok a) asks asks' old new → OneIs k (HearsSome May old.told new.told pid bytes core up) was.all
 some-heard May {asks} {asks'} {old} {new} pid bytes core core' up up' heard k was now read hears h =
     let here : is_present was.all k ≡ true = so-here is_read k was.all read in

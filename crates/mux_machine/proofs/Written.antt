@@ -9,7 +9,7 @@ use Rattle.mux_history.specs.declared.why.Why.{Why}
 use Rattle.mux_history.specs.declared.ended.Ended.{Ended}
 use Rattle.client_teardown.specs.declared.farewell.TheConstants.{FAREWELL_ROOM}
 use Rattle.mux_core.specs.State.{CoreState}
-use Rattle.mux_clients.specs.declared.heard.Heard.{Heard}
+use Rattle.mux_clients.specs.declared.run_change.RunChange.{RunChange}
 use Rattle.mux_clients.specs.State.{ClientState, ClientsState, clients_of, crowd, part}
 use Rattle.mux_clients.specs.Stands.{is_lost, is_read}
 use Rattle.mux_clients.specs.Among.{ChangesOne, Noting, NotesOne, is_present}
@@ -113,16 +113,16 @@ answer-written s parts new k id given cs core up ws view is p =
 
 -- ---- a client that says something
 
-pub record GainParts (May : HouseReply → Type 0) (before told : Option (List Asked)) (parts : State) (k : ℕ) (bytes : List ℕ) (cs : ClientsState) (core : CoreState) (up : QueueState) (heard : Heard) (ws : List ℕ) (listening : Bool) : Type 0 where
+pub record GainParts (May : HouseReply → Type 0) (before told : Option (List Asked)) (parts : State) (k : ℕ) (bytes : List ℕ) (cs : ClientsState) (core : CoreState) (up : QueueState) (heard : RunChange) (ws : List ℕ) (listening : Bool) : Type 0 where
   pub read : is_heard parts.clients k ≡ true
   pub hears : NotesOne k (HearsIn May before told parts.pid bytes parts.core core parts.up up heard) (clients_of parts.clients parts.leaving) cs
   pub listens : listening ≡ (parts.listening && not heard.stops)
   pub waits : ws ≡ waiting_of up.waiting cs.all
 
-abbrev pub gain_new : State → ClientsState → CoreState → QueueState → Heard → List ℕ → Bool → State
+abbrev pub gain_new : State → ClientsState → CoreState → QueueState → RunChange → List ℕ → Bool → State
 gain_new parts cs core up heard ws listening = record parts { core = core; up = up; clients = cs.all; leaving = cs.leaving; waiting = ws; listening = listening; ended = heard.ended }
 
-pub gain-written : (May : HouseReply → Type 0) (before told : Option (List Asked)) (s parts new : State) (k : ℕ) (bytes : List ℕ) (cs : ClientsState) (core : CoreState) (up : QueueState) (heard : Heard) (ws : List ℕ) (listening : Bool)
+pub gain-written : (May : HouseReply → Type 0) (before told : Option (List Asked)) (s parts new : State) (k : ℕ) (bytes : List ℕ) (cs : ClientsState) (core : CoreState) (up : QueueState) (heard : RunChange) (ws : List ℕ) (listening : Bool)
     → parts ≡ s → new ≡ gain_new parts cs core up heard ws listening → GainParts May before told parts k bytes cs core up heard ws listening → GainsAt May before told s new k bytes
 gain-written May before told s parts new k bytes cs core up heard ws listening view is p =
     let here : is_present parts.clients k ≡ true = so-here is_read k parts.clients p.read in

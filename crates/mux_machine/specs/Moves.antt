@@ -12,7 +12,7 @@ use Rattle.mux_history.specs.declared.ended.Ended.{Ended}
 use Rattle.mux_history.specs.declared.why.Why.{Why}
 use Rattle.mux_history.specs.declared.ended.Ended.TheVariants as ended
 use Rattle.mux_core.specs.State.{CoreState}
-use Rattle.mux_clients.specs.declared.heard.Heard.{Heard}
+use Rattle.mux_clients.specs.declared.run_change.RunChange.{RunChange}
 use Rattle.mux_clients.specs.declared.standing.Standing.{Standing}
 use Rattle.mux_clients.specs.State.{ClientState}
 use Rattle.mux_clients.specs.Stands.{is_lost, is_read}
@@ -70,7 +70,7 @@ pub record LosesAt (s new : State) (k : ℕ) : Type 0 where
 -- a client that is read gave bytes
 pub record GainsAt (May : HouseReply → Type 0) (before told : Option (List Asked)) (s new : State)
     (k : ℕ) (bytes : List ℕ) : Type 0 where
-  pub heard : Heard
+  pub heard : RunChange
   pub pid : new.pid ≡ s.pid
   pub server : new.server ≡ s.server
   pub refused : new.refused ≡ s.refused

@@ -2,9 +2,9 @@ ghost use Rattle.std.specs.Prelude.{◌≡◌, ◌≢◌, ◌<◌, ◌⊎◌, �
 ghost use Rattle.indexmap.specs.IndexMap.{get};
 ghost use Rattle.mux_outside.specs.Faults.{no_faults};
 ghost use Rattle.mux_outside.specs.OwnStreams.{is_own, is_silent};
-ghost use Rattle.mux_outside.specs.Seen.{seen_after_connect, seen_after_finish, seen_after_join, seen_after_listen, seen_after_pause, seen_after_silence};
+ghost use Rattle.mux_outside.specs.Seen.{seen_after_close, seen_after_connect, seen_after_finish, seen_after_join, seen_after_listen, seen_after_pause, seen_after_silence, seen_after_unlisten};
 ghost use Rattle.mux_outside.specs.Streams.{among};
-ghost use Rattle.mux_outside.specs.Wire.{IsNewOwn, JoinFaults, MakeFaults, NumberFits, OpenFaults, OwnFits, TurnFaults, TurnFits, WroteFaults, WroteFits};
+ghost use Rattle.mux_outside.specs.Wire.{IsNewOwn, JoinFaults, MakeFaults, MayWait, MayWrite, NumberFits, OpenFaults, OwnFits, TurnFaults, TurnFits, WroteFaults, WroteFits};
 ghost use Rattle.mux_outside.specs.WireState.{nothing_called, opens_stream, seeing, state_opened, state_waited, state_written, untelling};
 ghost use Rattle.mux_outside.specs.declared.turn.Turn.TheVariants.{NoMemory};
 ghost use Rattle.mux_outside.specs.declared.turn.Want.{Want as TheWant};
@@ -136,6 +136,7 @@ impl<R: Files + Net + Processes + Clock + Clone + Drop> RealWire<R> {
 
     // Counts that nothing was opened.
     fn not_opened(&mut self, fault: Fault) -> FileError
+        ensures named { self.new.control ≡ self.old.control }
         ensures sockets { self.new.sockets ≡ self.old.sockets }
         ensures state { self.new.state ≡ state_opened (Err result) self.old.state }
         ensures cause { OpenFaults (Err result) self.old.faults self.new.faults }
@@ -173,6 +174,7 @@ impl<R: Files + Net + Processes + Clock + Clone + Drop> RealWire<R> {
         ensures own_turn { OwnFits result self.old.state.seen }
         ensures told { Tells turn result }
         ensures room { result ≡ NoMemory → (opens_stream turn ≡ true) ⊎ (turn ≡ NoMemory) }
+        ensures named { self.new.control ≡ self.old.control }
         ensures sockets { result ≢ NoMemory → self.new.sockets ≡ self.old.sockets }
         ensures state { self.new.state ≡ state_waited result self.old.state }
         ensures cause { TurnFaults result self.old.faults self.new.faults }
@@ -189,6 +191,7 @@ impl<R: Files + Net + Processes + Clock + Clone + Drop> RealWire<R> {
 
     // Listens at an address with the next number.
     fn listen_at(&mut self, host: &[u8], port: u32) -> Result<u64, FileError>
+        ensures named { self.new.control ≡ self.old.control }
         ensures fits { NumberFits result self.old.state.seen.last_own }
         ensures state { self.new.state ≡ seeing (seen_after_listen result) self.old.state }
         ensures faults { self.new.faults ≡ self.old.faults }
@@ -204,6 +207,7 @@ impl<R: Files + Net + Processes + Clock + Clone + Drop> RealWire<R> {
 
     // Begins to connect with the next number.
     fn connect_to(&mut self, host: &[u8], port: u32) -> Result<u64, FileError>
+        ensures named { self.new.control ≡ self.old.control }
         ensures fits { NumberFits result self.old.state.seen.last_own }
         ensures state { self.new.state ≡ seeing (seen_after_connect result) self.old.state }
         ensures faults { self.new.faults ≡ self.old.faults }
@@ -265,14 +269,28 @@ impl<R: Files + Net + Processes + Clock + Clone + Drop> Wire for RealWire<R> {
         }
     }
 
-    fn wait(&mut self, waiting: &Streams, want: Want, into: &mut Piece) -> Turn {
+    fn wait(&mut self, waiting: &Streams, want: Want, into: &mut Piece) -> Turn
+        requires may { MayWait waiting.now want self.old.state.seen }
+        ensures named { self.new.control ≡ self.old.control }
+        ensures turn { TurnFits result want self.old.state.seen into.new }
+        ensures own_turn { OwnFits result self.old.state.seen }
+        ensures state { self.new.state ≡ state_waited result self.old.state }
+        ensures cause { TurnFaults result self.old.faults self.new.faults }
+        ensures kept { result ≡ NoMemory → into.new ≡ into.old }
+    {
         let numbers = numbers_to_give(&self.state, want);
         let found = found_next(&mut self.sockets, &self.rt, waiting, want, numbers, into);
         let turn = turn_of(&self.state, found, want, numbers);
         self.keep(turn)
     }
 
-    fn write(&mut self, stream: u64, bytes: &[u8]) -> Wrote {
+    fn write(&mut self, stream: u64, bytes: &[u8]) -> Wrote
+        requires may { MayWrite stream bytes.now self.old.state.seen }
+        ensures named { self.new.control ≡ self.old.control }
+        ensures wrote { WroteFits result (length bytes.now) }
+        ensures state { self.new.state ≡ state_written result stream self.old.state }
+        ensures cause { WroteFaults result stream self.old.faults self.new.faults }
+    {
         // The room for a stream that blocks comes before the write, which can't be taken back.
         if self.state.hold(stream).is_err() {
             return Wrote::NoMemory;
@@ -294,7 +312,11 @@ impl<R: Files + Net + Processes + Clock + Clone + Drop> Wire for RealWire<R> {
         stop_listening(&mut self.sockets);
     }
 
-    fn close(&mut self, stream: u64) {
+    fn close(&mut self, stream: u64)
+        ensures named { self.new.control ≡ self.old.control }
+        ensures state { self.new.state ≡ seeing (seen_after_close stream) self.old.state }
+        ensures faults { self.new.faults ≡ self.old.faults }
+    {
         self.state.close(stream);
         drop_socket(&mut self.sockets, stream);
     }
@@ -303,24 +325,39 @@ impl<R: Files + Net + Processes + Clock + Clone + Drop> Wire for RealWire<R> {
         Ok(())
     }
 
-    fn listen(&mut self, host: &[u8], port: u32) -> Result<u64, FileError> {
+    fn listen(&mut self, host: &[u8], port: u32) -> Result<u64, FileError>
+        ensures named { self.new.control ≡ self.old.control }
+        ensures fits { NumberFits result self.old.state.seen.last_own }
+        ensures state { self.new.state ≡ seeing (seen_after_listen result) self.old.state }
+        ensures cause { MakeFaults result self.old.faults self.new.faults }
+    {
         let answer = self.listen_at(host, port);
         count_made(&answer, &mut self.faults);
         answer
     }
 
-    fn connect(&mut self, host: &[u8], port: u32) -> Result<u64, FileError> {
+    fn connect(&mut self, host: &[u8], port: u32) -> Result<u64, FileError>
+        ensures named { self.new.control ≡ self.old.control }
+        ensures fits { NumberFits result self.old.state.seen.last_own }
+        ensures state { self.new.state ≡ seeing (seen_after_connect result) self.old.state }
+        ensures cause { MakeFaults result self.old.faults self.new.faults }
+    {
         let answer = self.connect_to(host, port);
         count_made(&answer, &mut self.faults);
         answer
     }
 
-    fn unlisten(&mut self, listener: u64) {
+    fn unlisten(&mut self, listener: u64)
+        ensures named { self.new.control ≡ self.old.control }
+        ensures state { self.new.state ≡ seeing (seen_after_unlisten listener) self.old.state }
+        ensures faults { self.new.faults ≡ self.old.faults }
+    {
         self.state.unlistened(listener);
         unlisten(&mut self.sockets, listener);
     }
 
     fn pause(&mut self, stream: u64)
+        ensures named { self.new.control ≡ self.old.control }
         ensures paused { IfSome self.old.sockets (λ old. is_own stream ≡ true
             → HasEntry stream old.table.entries
             → IsSomeAnd self.new.sockets (λ new. IsPaused true stream new.table.entries)) }
@@ -332,6 +369,7 @@ impl<R: Files + Net + Processes + Clock + Clone + Drop> Wire for RealWire<R> {
     }
 
     fn resume(&mut self, stream: u64)
+        ensures named { self.new.control ≡ self.old.control }
         ensures resumed { IfSome self.old.sockets (λ old. is_own stream ≡ true
             → HasEntry stream old.table.entries
             → IsSomeAnd self.new.sockets (λ new. IsPaused false stream new.table.entries)) }
@@ -343,6 +381,7 @@ impl<R: Files + Net + Processes + Clock + Clone + Drop> Wire for RealWire<R> {
     }
 
     fn finish(&mut self, stream: u64)
+        ensures named { self.new.control ≡ self.old.control }
         ensures finished { IfSome self.old.sockets (λ old. is_own stream ≡ true
             → HasEntry stream old.table.entries
             → IsSomeAnd self.new.sockets (λ new. IsFinished stream new.table.entries)) }

@@ -94,19 +94,19 @@ returns-in-Event g c =
 
 -- ---- something of the master's own listeners and streams
 
-pub hear-requires-clause-fits : goal.hear-requires-clause-fits
-hear-requires-clause-fits g c =
-    let p = goal.at.hear-requires-clause-fits g c in
+pub hand_on-requires-clause-fits : goal.hand_on-requires-clause-fits
+hand_on-requires-clause-fits g c =
+    let p = goal.at.hand_on-requires-clause-fits g c in
     let k = c.wait-told in
     turn-fits (waited g p.After-next_of) c.in-Own.told (told-own g p.In-Own) (g.H.Asks.state c.args.house.now).known (g.H.Asks.state c.args.house.now).quiet c.requires.together.housed c.requires.together.alone c.requires.ready
 
-pub returns-in_err-hear-in-Own : goal.returns-in_err-hear-in-Own
-returns-in_err-hear-in-Own g c =
-    let p = goal.at.returns-in_err-hear-in-Own g c in
+pub returns-in_err-hand_on-in-Own : goal.returns-in_err-hand_on-in-Own
+returns-in_err-hand_on-in-Own g c =
+    let p = goal.at.returns-in_err-hand_on-in-Own g c in
     let k = c.wait-told in
-    let r = c.from_residual-in_err-hear-in-Own in
+    let r = c.from_residual-in_err-hand_on-in-Own in
     let d = turn-unheard (g.W.Wire.state k.new.self) (g.W.Wire.faults c.args.wire.now) (g.W.Wire.faults k.new.self) c.requires.served (begins g p.Start) (waited g p.After-next_of)
-    c.hear.new.house c.in-Own.told (told-own g p.In-Own) c.hear.ensures.told c.hear.ensures.must r.result c.hear.new.lists.held c.hear.new.lists.own c.hear.new.lists.failed r.ensures.0 in record {
+    c.hand_on.new.house c.in-Own.told (told-own g p.In-Own) c.hand_on.ensures.told c.hand_on.ensures.must r.result c.hand_on.new.lists.held c.hand_on.new.lists.own c.hand_on.new.lists.failed r.ensures.0 in record {
       serving = d.serving;
       together = d.together _ refl refl;
       house = d.stays;
@@ -115,13 +115,13 @@ returns-in_err-hear-in-Own g c =
       wire = works-own-turn r.result c.in-Own.told k.result c.list_waiting.new.todo c.wanted.result k.new.into (told-own g p.In-Own) k.ensures.state k.ensures.cause;
     }
 
-pub returns-in_ok-hear-in-Own : goal.returns-in_ok-hear-in-Own
-returns-in_ok-hear-in-Own g c =
-    let p = goal.at.returns-in_ok-hear-in-Own g c in
+pub returns-in_ok-hand_on-in-Own : goal.returns-in_ok-hand_on-in-Own
+returns-in_ok-hand_on-in-Own g c =
+    let p = goal.at.returns-in_ok-hand_on-in-Own g c in
     let k = c.wait-told in
-    let heard = c.in_ok-hear-in-Own.ensures in
+    let heard = c.in_ok-hand_on-in-Own.ensures in
     let d = turn-heard (g.W.Wire.state k.new.self) (g.W.Wire.faults c.args.wire.now) (g.W.Wire.faults k.new.self) c.requires.served (begins g p.Start) (waited g p.After-next_of)
-    c.hear.new.house c.in-Own.told (told-own g p.In-Own) c.hear.ensures.told c.hear.ensures.must {E = OutOfMemory} On c.hear.new.lists.held c.hear.new.lists.own c.hear.new.lists.failed heard.known heard.lists.held heard.lists.own heard.lists.failed heard.stands in record {
+    c.hand_on.new.house c.in-Own.told (told-own g p.In-Own) c.hand_on.ensures.told c.hand_on.ensures.must {E = OutOfMemory} On c.hand_on.new.lists.held c.hand_on.new.lists.own c.hand_on.new.lists.failed heard.known heard.lists.held heard.lists.own heard.lists.failed heard.stands in record {
       serving = d.serving;
       together = d.together _ refl refl;
       house = d.stays;

@@ -1,5 +1,5 @@
 use Rattle.std.proofs.Common.{sym, ap, ◌∙◌, refl, ◌||◌}
-use Rattle.mux_clients.specs.declared.heard.Heard.{Heard}
+use Rattle.mux_clients.specs.declared.run_change.RunChange.{RunChange}
 use Rattle.mux_clients.specs.State.{SeatState}
 use Rattle.mux_clients.proofs.Bodied.{follows-on, follows-full, follows-drop, goes-by}
 use Rattle.mux_clients.proofs.seat.Seat.follows.Goals as goal
@@ -15,7 +15,7 @@ returns-in-Some-clause-follows c = follows-full c.args.decision.now c.in-Some.wh
 pub returns-in-None-clause-follows : goal.returns-in-None-clause-follows
 returns-in-None-clause-follows c =
     let seat : SeatState = record { number = c.self-in-None.inside.number; standing = c.standing_by-self-inside.result; queue = c.self-in-None.inside.queue.waiting } in
-    let heard : Heard = record { stops = c.args.heard.now.stops || c.stops.result; ended = c.args.heard.now.ended } in
+    let heard : RunChange = record { stops = c.args.heard.now.stops || c.stops.result; ended = c.args.heard.now.ended } in
     follows-on c.args.decision.now c.args.core.now c.args.self.now c.tell_frame-in-Goes.new.self seat c.args.up.now c.args.heard.now heard
     (goes-by c.args.decision.now.fate c.in-Goes.is).0 c.in_ok-why-in-Goes.ensures.queue (sym c.in_ok-why-in-Goes.ensures.full ∙ c.in-None.is)
     (ap (λ (t : SeatState). t.number) c.self-in-None.view_is) (λ s stood. c.standing_by-self-inside.ensures s stood (goes-by c.args.decision.now.fate c.in-Goes.is).1) (ap (λ (t : SeatState). t.queue) c.self-in-None.view_is)

@@ -1,7 +1,7 @@
 use Rattle.std.proofs.Common.{rules}
 use Rattle.mux_history.specs.Gist.{Confirmation, Fails, Open, Refuses, Succeeds, Transport, Within}
 use Rattle.window_ledger.specs.Act.{act_of}
-use Rattle.mux_core.specs.declared.heard.Heard.TheVariants as heard
+use Rattle.mux_core.specs.declared.heard.Delivery.TheVariants as heard
 use Rattle.conn_messages.specs.Message.{opening_of}
 use Rattle.mux_core.proofs.Dispatch.{not-one}
 use Rattle.mux_core.proofs.HearsRequest.{transport-passed}

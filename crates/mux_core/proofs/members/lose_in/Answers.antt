@@ -1,15 +1,15 @@
 use Rattle.std.proofs.Common.{rules, arith, ◌≡◌, ◌<◌, ◌≤◌, ◌++◌, ◌∙◌, drop, ap, refl, map, length, ℕ, List, [], ◌∷◌}
 use Rattle.std.proofs.lemmas.List.{append-nil, drop_all, take_all}
 use Rattle.std.proofs.lemmas.List.Edits.{map_over_more}
-use Rattle.mux_core.specs.declared.clients.Client.{Client}
-use Rattle.mux_core.specs.Clients.{client_state}
+use Rattle.mux_core.specs.declared.members.Member.{Member}
+use Rattle.mux_core.specs.Members.{member_state}
 use Rattle.mux_core.specs.Losing.{lose, lost_clients}
-use Rattle.mux_core.proofs.clients.lose_in.Invariants.{lose_one}
-use Rattle.mux_core.proofs.clients.lose_in.Goals as goal
+use Rattle.mux_core.proofs.members.lose_in.Invariants.{lose_one}
+use Rattle.mux_core.proofs.members.lose_in.Goals as goal
 
-seen : (k : ℕ) (cs : List Client) → map client_state (map (lose_one k) cs) ≡ lost_clients k (map client_state cs)
+seen : (k : ℕ) (cs : List Member) → map member_state (map (lose_one k) cs) ≡ lost_clients k (map member_state cs)
 seen k [] = refl
-seen k (c ∷ cs) = ap (λ ds. lose k (client_state c) ∷ ds) (seen k cs)
+seen k (c ∷ cs) = ap (λ ds. lose k (member_state c) ∷ ds) (seen k cs)
 
 pub loop-c-preserved : goal.loop-c-preserved
 loop-c-preserved c =
@@ -21,6 +21,6 @@ returns c =
     let over : length c.args.clients.now ≤ c.loop-c.c-index = omega arith in
     let all : c.loop-c.clients ≡ map (lose_one c.args.client) c.args.clients.now =
     c.loop-c.invariant
-    ∙ (ap (λ (ys : List Client). map (lose_one c.args.client) ys ++ drop c.loop-c.c-index c.args.clients.now) (take_all c.loop-c.c-index c.args.clients.now over)
-    ∙ (ap (λ (ys : List Client). map (lose_one c.args.client) c.args.clients.now ++ ys) (drop_all c.loop-c.c-index c.args.clients.now over) ∙ append-nil (map (lose_one c.args.client) c.args.clients.now))) in
-    ap (map client_state) all ∙ seen c.args.client c.args.clients.now
+    ∙ (ap (λ (ys : List Member). map (lose_one c.args.client) ys ++ drop c.loop-c.c-index c.args.clients.now) (take_all c.loop-c.c-index c.args.clients.now over)
+    ∙ (ap (λ (ys : List Member). map (lose_one c.args.client) c.args.clients.now ++ ys) (drop_all c.loop-c.c-index c.args.clients.now over) ∙ append-nil (map (lose_one c.args.client) c.args.clients.now))) in
+    ap (map member_state) all ∙ seen c.args.client c.args.clients.now

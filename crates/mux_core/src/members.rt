@@ -1,7 +1,7 @@
 ghost use Rattle.std.specs.Prelude.{◌≡◌, ◌==◌, ◌||◌, ◌<◌, ◌≤◌, length, [], map, false, nat_lt, IfOk, OnOk, OnErr};
 ghost use Rattle.mux_history.specs.declared.limits.TheConstants.{MAX_CLIENTS};
 ghost use Rattle.global_replies.specs.Replies.{after_reply, is_none_left, or_behind, refusals_behind};
-ghost use Rattle.mux_core.specs.Clients.{client_state};
+ghost use Rattle.mux_core.specs.Members.{member_state};
 ghost use Rattle.mux_core.specs.Entering.{with_client};
 ghost use Rattle.mux_core.specs.Losing.{lost_clients};
 ghost use Rattle.mux_core.specs.Requesting.{more_awaited, place_of, waiting_of, with_waiting};
@@ -15,7 +15,7 @@ use std::marker::Model;
 
 /// A client with open matters.
 #[derive(Drop)]
-pub struct Client {
+pub struct Member {
     number: u64,
     /// Its stream is gone, or it was dropped; what it left open isn't closed yet.
     lost: bool,
@@ -25,38 +25,38 @@ pub struct Client {
 
 /// The clients with open matters, in the order in which they came.
 #[derive(Drop)]
-pub struct Clients {
+pub struct Members {
     alloc: Global,
-    listed: Vec<Client>,
+    listed: Vec<Member>,
 }
 
-impl Model for Clients {
+impl Model for Members {
     ghost use Rattle.std.specs.Prelude.{List, map};
-    ghost use Rattle.mux_core.specs.State.{ClientState};
-    ghost use Rattle.mux_core.specs.Clients.{client_state};
+    ghost use Rattle.mux_core.specs.State.{MemberState};
+    ghost use Rattle.mux_core.specs.Members.{member_state};
 
-    ghost Value = { List ClientState };
+    ghost Value = { List MemberState };
 
-    ghost view = { λ a. map client_state a.listed.items };
+    ghost view = { λ a. map member_state a.listed.items };
 }
 
 // Whether a client is lost once this one is.
-fn is_lost_by(c: &Client, client: u64) -> bool
+fn is_lost_by(c: &Member, client: u64) -> bool
     ensures { result ≡ (c.now.lost || (c.now.number == client)) }
 {
     c.lost || c.number == client
 }
 
-fn lose_in(clients: &mut [Client], client: u64)
-    ensures { map client_state clients.new ≡ lost_clients client (map client_state clients.old) }
+fn lose_in(clients: &mut [Member], client: u64)
+    ensures { map member_state clients.new ≡ lost_clients client (map member_state clients.old) }
 {
     for c in clients.iter_mut() {
         c.lost = is_lost_by(c, client);
     }
 }
 
-fn lost_in(clients: &[Client], client: u64) -> bool
-    ensures { result ≡ is_lost_in (map client_state clients.now) client }
+fn lost_in(clients: &[Member], client: u64) -> bool
+    ensures { result ≡ is_lost_in (map member_state clients.now) client }
 {
     for c in clients {
         if c.number == client && c.lost {
@@ -67,8 +67,8 @@ fn lost_in(clients: &[Client], client: u64) -> bool
 }
 
 // How many requests of a client have no answer.
-fn waiting_in(clients: &[Client], client: u64) -> u32
-    ensures { result ≡ length (waiting_of client (map client_state clients.now)) }
+fn waiting_in(clients: &[Member], client: u64) -> u32
+    ensures { result ≡ length (waiting_of client (map member_state clients.now)) }
 {
     for c in clients {
         if c.number == client {
@@ -79,9 +79,9 @@ fn waiting_in(clients: &[Client], client: u64) -> u32
 }
 
 // The place of a client, or the end.
-fn place_in(clients: &[Client], client: u64) -> usize
+fn place_in(clients: &[Member], client: u64) -> usize
     ensures within { result ≤ length clients.now }
-    ensures exact { result ≡ place_of client (map client_state clients.now) }
+    ensures exact { result ≡ place_of client (map member_state clients.now) }
 {
     let mut place = 0;
     for c in clients {
@@ -94,9 +94,9 @@ fn place_in(clients: &[Client], client: u64) -> usize
 }
 
 // A request of a client was sent: its answer is awaited.
-fn await_in(clients: &mut Vec<Client>, client: u64) -> Result<(), OutOfMemory>
-    ensures { OnOk result (map client_state clients.new.items
-        ≡ with_waiting client more_awaited (map client_state clients.old.items)) }
+fn await_in(clients: &mut Vec<Member>, client: u64) -> Result<(), OutOfMemory>
+    ensures { OnOk result (map member_state clients.new.items
+        ≡ with_waiting client more_awaited (map member_state clients.old.items)) }
 {
     let place = place_in(clients, client);
     if place >= clients.len() {
@@ -107,11 +107,11 @@ fn await_in(clients: &mut Vec<Client>, client: u64) -> Result<(), OutOfMemory>
 }
 
 // A request of a client is refused: whether at once, or behind what waits.
-fn refuse_in(clients: &mut Vec<Client>, client: u64) -> Result<bool, OutOfMemory>
+fn refuse_in(clients: &mut Vec<Member>, client: u64) -> Result<bool, OutOfMemory>
     ensures now { IfOk result (λ now.
-        now ≡ is_none_left (waiting_of client (map client_state clients.old.items))) }
-    ensures ok { OnOk result (map client_state clients.new.items
-        ≡ with_waiting client or_behind (map client_state clients.old.items)) }
+        now ≡ is_none_left (waiting_of client (map member_state clients.old.items))) }
+    ensures ok { OnOk result (map member_state clients.new.items
+        ≡ with_waiting client or_behind (map member_state clients.old.items)) }
 {
     let place = place_in(clients, client);
     if place >= clients.len() {
@@ -122,11 +122,11 @@ fn refuse_in(clients: &mut Vec<Client>, client: u64) -> Result<bool, OutOfMemory
 }
 
 // The server's reply to a client's first request came: so many refusals follow it now.
-fn answer_in(clients: &mut Vec<Client>, client: u64) -> u32
+fn answer_in(clients: &mut Vec<Member>, client: u64) -> u32
     ensures refusals { result
-        ≡ refusals_behind (waiting_of client (map client_state clients.old.items)) }
-    ensures left { map client_state clients.new.items
-        ≡ with_waiting client after_reply (map client_state clients.old.items) }
+        ≡ refusals_behind (waiting_of client (map member_state clients.old.items)) }
+    ensures left { map member_state clients.new.items
+        ≡ with_waiting client after_reply (map member_state clients.old.items) }
 {
     let place = place_in(clients, client);
     if place >= clients.len() {
@@ -135,19 +135,19 @@ fn answer_in(clients: &mut Vec<Client>, client: u64) -> u32
     clients[place].answers.server_answered()
 }
 
-fn forget_in(clients: &mut Vec<Client>, client: u64)
-    ensures { map client_state clients.new.items
-        ≡ kept client false (map client_state clients.old.items) }
+fn forget_in(clients: &mut Vec<Member>, client: u64)
+    ensures { map member_state clients.new.items
+        ≡ kept client false (map member_state clients.old.items) }
 {
     clients.retain(|c| c.number != client);
 }
 
-impl Clients {
+impl Members {
     /// Nobody is there.
-    pub fn new(alloc: Global) -> Clients
+    pub fn new(alloc: Global) -> Members
         ensures { result ≡ [] }
     {
-        Clients {
+        Members {
             alloc,
             listed: Vec::new(alloc),
         }
@@ -169,7 +169,7 @@ impl Clients {
         if self.listed.len() >= MAX_CLIENTS {
             return Ok(false);
         }
-        self.listed.push(Client {
+        self.listed.push(Member {
             number: client,
             lost: false,
             answers: ClientAnswers::new(self.alloc),

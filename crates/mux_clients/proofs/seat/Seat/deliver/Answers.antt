@@ -2,7 +2,7 @@ use Rattle.std.proofs.Common.{sym, ◌∙◌, ◌∷◌}
 use Rattle.ssh_grammar.specs.Frames.{frame_payload}
 use Rattle.mux_clients.specs.State.{refusals_of}
 use Rattle.mux_clients.proofs.Heards.{hears-on, hears-full}
-use Rattle.mux_clients.proofs.seat.Seat.hears.Goals as goal
+use Rattle.mux_clients.proofs.seat.Seat.deliver.Goals as goal
 
 pub returns-in-None-clause-stands : goal.returns-in-None-clause-stands
 returns-in-None-clause-stands c = hears-on (frame_payload c.args.payload.now ∷ refusals_of c.args.refusals) c.args.core.now c.args.self.now c.tell_all.new.self c.args.up.now c.in_ok-tell_all.ensures.queue (sym c.in_ok-tell_all.ensures.full ∙ c.in-None.is)

@@ -1,9 +1,9 @@
 use Rattle.std.proofs.Common.{◌≡◌, ◌++◌, ℕ, drop, map, take}
 use Rattle.std.specs.Prelude.{◌==◌, ◌||◌}
-use Rattle.mux_core.specs.declared.clients.Client.{Client}
-use Rattle.mux_core.proofs.clients.lose_in.Given as goal
+use Rattle.mux_core.specs.declared.members.Member.{Member}
+use Rattle.mux_core.proofs.members.lose_in.Given as goal
 
-abbrev pub lose_one : ℕ → Client → Client
+abbrev pub lose_one : ℕ → Member → Member
 lose_one k c = record c { lost = c.lost || (c.number == k) }
 
 abbrev pub invariant-loop-c : goal.invariant-loop-c
