@@ -93,55 +93,6 @@ fn place_in(clients: &[Member], client: u64) -> usize
     place
 }
 
-// A request of a client was sent: its answer is awaited.
-fn await_in(clients: &mut Vec<Member>, client: u64) -> Result<(), OutOfMemory>
-    ensures { OnOk result (map member_state clients.new.items
-        ≡ with_waiting client more_awaited (map member_state clients.old.items)) }
-{
-    let place = place_in(clients, client);
-    if place >= clients.len() {
-        return Ok(());
-    }
-    clients[place].answers.awaited()?;
-    Ok(())
-}
-
-// A request of a client is refused: whether at once, or behind what waits.
-fn refuse_in(clients: &mut Vec<Member>, client: u64) -> Result<bool, OutOfMemory>
-    ensures now { IfOk result (λ now.
-        now ≡ is_none_left (waiting_of client (map member_state clients.old.items))) }
-    ensures ok { OnOk result (map member_state clients.new.items
-        ≡ with_waiting client or_behind (map member_state clients.old.items)) }
-{
-    let place = place_in(clients, client);
-    if place >= clients.len() {
-        return Ok(true);
-    }
-    let now = clients[place].answers.local()?;
-    Ok(now)
-}
-
-// The server's reply to a client's first request came: so many refusals follow it now.
-fn answer_in(clients: &mut Vec<Member>, client: u64) -> u32
-    ensures refusals { result
-        ≡ refusals_behind (waiting_of client (map member_state clients.old.items)) }
-    ensures left { map member_state clients.new.items
-        ≡ with_waiting client after_reply (map member_state clients.old.items) }
-{
-    let place = place_in(clients, client);
-    if place >= clients.len() {
-        return 0;
-    }
-    clients[place].answers.server_answered()
-}
-
-fn forget_in(clients: &mut Vec<Member>, client: u64)
-    ensures { map member_state clients.new.items
-        ≡ kept client false (map member_state clients.old.items) }
-{
-    clients.retain(|c| c.number != client);
-}
-
 impl Members {
     /// Nobody is there.
     pub fn new(alloc: Global) -> Members
@@ -195,7 +146,7 @@ impl Members {
     pub fn forget(&mut self, client: u64)
         ensures { self.new ≡ kept client false self.old }
     {
-        forget_in(&mut self.listed, client);
+        self.listed.retain(|c| c.number != client);
     }
 
     /// How many requests of a client have no answer.
@@ -209,7 +160,12 @@ impl Members {
     pub fn awaited(&mut self, client: u64) -> Result<(), OutOfMemory>
         ensures { OnOk result (self.new ≡ with_waiting client more_awaited self.old) }
     {
-        await_in(&mut self.listed, client)
+        let place = place_in(&self.listed, client);
+        if place >= self.listed.len() {
+            return Ok(());
+        }
+        self.listed[place].answers.awaited()?;
+        Ok(())
     }
 
     /// A request of a client is refused: whether at once, or behind what waits.
@@ -217,7 +173,12 @@ impl Members {
         ensures now { IfOk result (λ now. now ≡ is_none_left (waiting_of client self.old)) }
         ensures ok { OnOk result (self.new ≡ with_waiting client or_behind self.old) }
     {
-        refuse_in(&mut self.listed, client)
+        let place = place_in(&self.listed, client);
+        if place >= self.listed.len() {
+            return Ok(true);
+        }
+        let now = self.listed[place].answers.local()?;
+        Ok(now)
     }
 
     /// The server's reply to a client's first request came: so many refusals follow it now.
@@ -225,6 +186,10 @@ impl Members {
         ensures refusals { result ≡ refusals_behind (waiting_of client self.old) }
         ensures left { self.new ≡ with_waiting client after_reply self.old }
     {
-        answer_in(&mut self.listed, client)
+        let place = place_in(&self.listed, client);
+        if place >= self.listed.len() {
+            return 0;
+        }
+        self.listed[place].answers.server_answered()
     }
 }
