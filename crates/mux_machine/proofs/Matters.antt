@@ -126,22 +126,22 @@ current-local k rows = filters-turn (for_of k) is-on (forwardings_of rows) ∙ a
 
 -- ---- what a client is still to be answered
 
-abbrev is-mine : ℕ → core.ClientState → Bool
+abbrev is-mine : ℕ → core.MemberState → Bool
 is-mine k x = (x.number == k) && not x.lost
 
-abbrev client-with : ℕ → Bool → List Bool → core.ClientState
+abbrev client-with : ℕ → Bool → List Bool → core.MemberState
 client-with number lost waiting = record { number = number; lost = lost; waiting = waiting }
 
 -- a client of these rows that was let in and isn't lost
-abbrev answers-of : ℕ → List Row → Option core.ClientState
+abbrev answers-of : ℕ → List Row → Option core.MemberState
 answers-of k own = elim (any_of is_admit own && not (is_lost own)) [ true ↦ Some (client-with k false (left_of (wanted own) (replies own)).requests) | false ↦ None ]
 
 -- the first that passes is one of them
-abbrev FoundOne : Look → (core.ClientState → Bool) → Option core.ClientState → Type 0
+abbrev FoundOne : Look → (core.MemberState → Bool) → Option core.MemberState → Type 0
 FoundOne l test None = Unit {0}
 FoundOne l test (Some c) = (test c ≡ true) × ClientFits l c
 
-found-one : (l : Look) (test : core.ClientState → Bool) (cs : List core.ClientState) → AllByRecursion (ClientFits l) cs → FoundOne l test (find test cs)
+found-one : (l : Look) (test : core.MemberState → Bool) (cs : List core.MemberState) → AllByRecursion (ClientFits l) cs → FoundOne l test (find test cs)
 found-one l test [] all = tt
 found-one l test (c ∷ cs) all = by_case (test c) refl (found-one l test cs all.1)
   where
@@ -150,7 +150,7 @@ found-one l test (c ∷ cs) all = by_case (test c) refl (found-one l test cs all
     by_case false e ih = Rattle.std.proofs.Common.subst (FoundOne l test) (sym (find-no test c cs e)) ih
 
 -- one that is found is there
-none-there : (test : core.ClientState → Bool) (cs : List core.ClientState) → find test cs ≡ None → any_of test cs ≡ false
+none-there : (test : core.MemberState → Bool) (cs : List core.MemberState) → find test cs ≡ None → any_of test cs ≡ false
 none-there test [] e = refl
 none-there test (c ∷ cs) e = by_case (test c) refl (λ n. none-there test cs n)
   where
@@ -172,15 +172,15 @@ answers-are s k rows st = by_found (find (is-mine k) s.clients) refl (found-one 
     own : List Row
     own = rows_of k rows
 
-    here : Bool → Option core.ClientState
-    here b = elim b as (λ _. Option core.ClientState) [ true ↦ Some (client-with k false (left_of (wanted own) (replies own)).requests) | false ↦ None ]
+    here : Bool → Option core.MemberState
+    here b = elim b as (λ _. Option core.MemberState) [ true ↦ Some (client-with k false (left_of (wanted own) (replies own)).requests) | false ↦ None ]
 
     by_here : (a b : Bool) → any_of is_admit own ≡ a → is_lost own ≡ b → find (is-mine k) s.clients ≡ None → None ≡ here (a && not b)
     by_here true true e f n = refl
     by_here false b e f n = refl
     by_here true false e f n = true_false (sym (served-of s rows k st e f) ∙ none-there (is-mine k) s.clients n)
 
-    by_found : (o : Option core.ClientState) → find (is-mine k) s.clients ≡ o → FoundOne (look rows) (is-mine k) o → o ≡ answers-of k own
+    by_found : (o : Option core.MemberState) → find (is-mine k) s.clients ≡ o → FoundOne (look rows) (is-mine k) o → o ≡ answers-of k own
     by_found None e one = by_here (any_of is_admit own) (is_lost own) refl refl e
     by_found (Some c) e one =
         let both : ((c.number == k) ≡ true) × (not c.lost ≡ true) = both-true (c.number == k) (not c.lost) one.0 in
@@ -196,7 +196,7 @@ answers-are s k rows st = by_found (find (is-mine k) s.clients) refl (found-one 
 
 -- ---- all of it
 
-abbrev matters-with : List HeldChannel → List Rattle.mux_history.specs.Requests.Ask → List HeldForward → Option core.ClientState → Matters
+abbrev matters-with : List HeldChannel → List Rattle.mux_history.specs.Requests.Ask → List HeldForward → Option core.MemberState → Matters
 matters-with channels requests forwards answers = record { channels = channels; requests = requests; forwards = forwards; answers = answers }
 
 -- the matters of a client that has these rows

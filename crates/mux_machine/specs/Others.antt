@@ -49,7 +49,7 @@ pub record Matters : Type 0 where
   pub channels : List HeldChannel
   pub requests : List Ask
   pub forwards : List HeldForward
-  pub answers : Option core.ClientState
+  pub answers : Option core.MemberState
 
 abbrev pub matters_of : ℕ → CoreState → Matters
 matters_of k c = record {
