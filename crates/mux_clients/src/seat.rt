@@ -315,19 +315,18 @@ impl Seat {
                 heard.ended = Some(cause);
                 Ok(())
             }
-            Effect::Goes | Effect::Switches | Effect::Unreads | Effect::Stops => match self.tell_frame(
-                &decision.told,
-            )? {
-                Some(why) => {
-                    self.drop_for(why, core, up);
-                    Ok(())
-                }
-                None => {
-                    self.standing = standing_by(decision.effect);
-                    heard.stops |= stops(decision.effect);
-                    Ok(())
-                }
-            },
+            Effect::Goes | Effect::Switches | Effect::Unreads | Effect::Stops =>
+                match self.tell_frame(&decision.told)? {
+                    Some(why) => {
+                        self.drop_for(why, core, up);
+                        Ok(())
+                    }
+                    None => {
+                        self.standing = standing_by(decision.effect);
+                        heard.stops |= stops(decision.effect);
+                        Ok(())
+                    }
+                },
         }
     }
 }
