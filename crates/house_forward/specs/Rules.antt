@@ -2,11 +2,12 @@
 use Rattle.std.specs.Prelude.{◌≡◌, ℕ, Bool, true, false, ◌&&◌, ◌||◌, if◌then◌else◌, ◌==◌, nat_lt, List, [], length, codes, Option, Some, None}
 use Rattle.std.specs.Str.{bytes_eq}
 use Rattle.mux_outside.specs.declared.start_ask.StartAsk.{StartAsk}
+use Rattle.mux_outside.specs.declared.start_ask.TheConstants.{LONGEST_HOST}
 use Rattle.house_forward.specs.declared.rules.Asked.{Asked}
 use Rattle.house_forward.specs.declared.rules.Ends.{Ends}
 use Rattle.house_forward.specs.declared.rules.Kind.{Kind}
 use Rattle.house_forward.specs.declared.rules.Kind.TheVariants.{Local, Remote, Dynamic}
-use Rattle.house_forward.specs.declared.rules.TheConstants.{LAST_PORT, LONGEST_HOST}
+use Rattle.house_forward.specs.declared.rules.TheConstants.{LAST_PORT}
 
 -- the kinds that are served
 abbrev pub kind_of : ℕ → Option Kind

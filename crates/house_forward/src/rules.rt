@@ -4,7 +4,7 @@ ghost use Rattle.mux_outside.specs.House.{ask_of};
 ghost use Rattle.mux_outside.specs.declared.start_ask.StartAsk.{StartAsk};
 ghost use Rattle.house_forward.specs.Rules.{listens_here, connects_there, same_kind, kind_of, local_host, remote_host, listen_host, has_bad_port, is_refused_alone, AreEnds, IsAsk};
 
-use mux_outside::{FwdAsk, StartAsk as OneAsk};
+use mux_outside::{FwdAsk, LONGEST_HOST, StartAsk as OneAsk};
 
 /// The most forwardings that are asked or live.
 pub const MOST_FORWARDINGS: usize = 64;
@@ -17,9 +17,6 @@ pub const MOST_CHANNELS: usize = 256;
 
 /// The most sockets whose dialog is under way.
 pub const MOST_DIALOGS: usize = 256;
-
-/// The longest host that is listened on or connected to.
-pub const LONGEST_HOST: usize = 255;
 
 /// The last port.
 pub const LAST_PORT: u32 = 65_535;

@@ -97,9 +97,9 @@ impl Client {
         requires ordering { (H.state house.old).known.ordering ≡ None }
         ensures number { OnOk result (self.new.seat.number ≡ self.old.seat.number) }
         ensures room { OnOk result (LeavesRoom up.old up.new self.old self.new) }
-        ensures hears { IfOk result (λ heard.
+        ensures hears { IfOk result (λ change.
             HearsIn H.may (Some asks.old) (Some asks.new) pid bytes.now core.old core.new
-            up.old up.new heard self.old self.new) }
+            up.old up.new change self.old self.new) }
         ensures heeds { Heeds result asks.old asks.new (H.state house.old) (H.state house.new) }
         ensures cut { OnErr result (HearsSome H.may (H.state house.old).told
             (H.state house.new).told pid bytes.now core.old up.old self.old) }
@@ -213,7 +213,7 @@ impl Client {
     fn say_next<H: Asks>(
         &mut self,
         pid: u32,
-        heard: &mut RunChange,
+        change: &mut RunChange,
         house: &mut H,
         asks: &mut AskLog,
         core: &mut Core,
@@ -224,7 +224,7 @@ impl Client {
         ensures next { IfOk result (λ more.
             SaysNext H.may (Some asks.old) (Some asks.new) pid more
             (first_in (mode_of self.old.seat.standing) self.old.rest) core.old core.new up.old
-            up.new self.old heard.old self.new heard.new) }
+            up.new self.old change.old self.new change.new) }
         ensures cut { OnErr result (AsksNext H.may (H.state house.old).told (H.state house.new).told
             self.old.seat.number self.old.seat.standing
             (first_in (mode_of self.old.seat.standing) self.old.rest)) }
@@ -251,7 +251,7 @@ impl Client {
                     house,
                     asks,
                 )?;
-                self.seat.follows(&decision, heard, core, up)?;
+                self.seat.follows(&decision, change, core, up)?;
                 if self.seat.is_proxied() {
                     self.framer.switch(Framing::Proxy);
                 }
@@ -272,24 +272,24 @@ impl Client {
     ) -> Result<RunChange, OutOfMemory>
         requires { MaySay self.old.seat.standing up.old (H.state house.old) }
         ensures heeds { Heeds result asks.old asks.new (H.state house.old) (H.state house.new) }
-        ensures hears { IfOk result (λ heard.
+        ensures hears { IfOk result (λ change.
             HearsPiece H.may (Some asks.old) (Some asks.new) pid bytes.now core.old up.old
-            self.old core.new up.new self.new heard) }
+            self.old core.new up.new self.new change) }
         ensures cut { OnErr result (HearsSome H.may (H.state house.old).told
             (H.state house.new).told pid bytes.now core.old up.old self.old) }
         ensures policy { OnOk result (core.new.policy ≡ core.old.policy) }
         ensures keeps { OnOk result (KeepsSeat up.old up.new self.old.seat self.new.seat) }
     {
-        let mut heard = RunChange {
+        let mut change = RunChange {
             stops: false,
             ended: None,
         };
         self.framer.push(bytes)?;
         while self.seat.is_read() {
-            if !self.say_next(pid, &mut heard, house, asks, core, up)? {
+            if !self.say_next(pid, &mut change, house, asks, core, up)? {
                 break;
             }
         }
-        Ok(heard)
+        Ok(change)
     }
 }

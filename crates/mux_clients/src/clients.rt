@@ -156,8 +156,8 @@ impl Clients {
     ) -> Result<RunChange, OutOfMemory>
         requires room { HasRoom self.old.all up.old }
         requires ordering { (H.state house.old).known.ordering ≡ None }
-        ensures hears { IfOk result (λ heard. NotesOne number (HearsIn H.may (Some asks.old)
-            (Some asks.new) pid bytes.now core.old core.new up.old up.new heard) self.old
+        ensures hears { IfOk result (λ change. NotesOne number (HearsIn H.may (Some asks.old)
+            (Some asks.new) pid bytes.now core.old core.new up.old up.new change) self.old
             self.new) }
         ensures absent { is_present self.old.all number ≡ false
             → IsUntouched (crowd self.old core.old up.old) (crowd self.new core.new up.new) }
@@ -174,9 +174,9 @@ impl Clients {
         if i < self.all.len() {
             let client = &mut self.all[i];
             let before = client.standing();
-            let heard = client.got(pid, bytes, house, asks, core, up)?;
+            let change = client.got(pid, bytes, house, asks, core, up)?;
             note_loss(&mut self.leaving, before, client.standing(), number)?;
-            return Ok(heard);
+            return Ok(change);
         }
         Ok(RunChange {
             stops: false,

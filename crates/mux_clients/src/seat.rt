@@ -168,9 +168,9 @@ impl Seat {
     /// What it says is no frame.
     pub fn fails(&mut self, fault: BadFrame, core: &mut Core, up: &mut Queue)
         requires room { FAREWELL_ROOM ≤ up.old.spare }
-        ensures faults { (heard : TheRunChange)
-            → FaultBy fault (part core.old self.old up.old) heard
-            (part core.new self.new up.new) heard }
+        ensures faults { (change : TheRunChange)
+            → FaultBy fault (part core.old self.old up.old) change
+            (part core.new self.new up.new) change }
         ensures out { is_read self.new.standing ≡ false }
         ensures number { self.new.number ≡ self.old.number }
         ensures policy { core.new.policy ≡ core.old.policy }
@@ -290,7 +290,7 @@ impl Seat {
     pub fn follows(
         &mut self,
         decision: &Decision,
-        heard: &mut RunChange,
+        change: &mut RunChange,
         core: &mut Core,
         up: &mut Queue,
     ) -> Result<(), OutOfMemory>
@@ -298,8 +298,8 @@ impl Seat {
         ensures err { OnErr result (is_read self.new.standing ≡ true
             → self.new.standing ≡ self.old.standing) }
         ensures follows { OnOk result
-            (FollowsBy decision.now (part core.old self.old up.old) heard.old
-            (part core.new self.new up.new) heard.new) }
+            (FollowsBy decision.now (part core.old self.old up.old) change.old
+            (part core.new self.new up.new) change.new) }
         ensures number { OnOk result (self.new.number ≡ self.old.number) }
         ensures policy { core.new.policy ≡ core.old.policy }
         ensures spare { OnOk result (KeepsRoom up.old up.new self.new.standing) }
@@ -312,7 +312,7 @@ impl Seat {
             Effect::Ends(cause) => {
                 self.tell_frame(&decision.told)?;
                 self.standing = Standing::Unread;
-                heard.ended = Some(cause);
+                change.ended = Some(cause);
                 Ok(())
             }
             Effect::Goes | Effect::Switches | Effect::Unreads | Effect::Stops =>
@@ -323,7 +323,7 @@ impl Seat {
                     }
                     None => {
                         self.standing = standing_by(decision.effect);
-                        heard.stops |= stops(decision.effect);
+                        change.stops |= stops(decision.effect);
                         Ok(())
                     }
                 },

@@ -1,8 +1,6 @@
 pub mod Connections
 pub mod Entries
-pub mod Exchange
 pub mod Names
-pub mod Permissions
 pub mod Ready
 pub mod Shares
 pub mod Sockets

@@ -3,7 +3,7 @@ use Rattle.std.specs.Prelude.{◌≡◌, ◌≤◌, ◌⊎◌, ℕ, List, length
 use Rattle.mux_outside.specs.declared.turn.Turn.{Turn}
 use Rattle.mux_outside.specs.declared.turn.Turn.TheVariants.{Got}
 use Rattle.mux_edge.specs.Entries.{IsHeld, IsNoted, IsSilent, OthersStay, StopsShort}
-use Rattle.mux_edge.specs.Exchange.{most_read}
+use Rattle.mux_exchange.specs.Exchange.{most_read}
 use Rattle.mux_edge.specs.Ready.{IsFull}
 use Rattle.mux_edge.specs.declared.table.Table.{Table}
 

@@ -4,14 +4,12 @@
 
 mod address;
 mod children;
-mod exchange;
 mod faults;
 mod lookup;
 mod lookups;
 mod names;
 mod numbers;
 pub mod opened;
-mod permissions;
 mod sink;
 mod sockets;
 mod stream;
@@ -22,7 +20,6 @@ mod turns;
 pub use children::Children;
 pub use faults::{count_failed, count_made, file_error};
 pub use numbers::{Numbers, keep_listener, keep_stream, next_number, numbers_to_give};
-pub use permissions::owner_only;
 pub use sink::RealSink;
 pub use sockets::Sockets;
 pub use stream::Stream;

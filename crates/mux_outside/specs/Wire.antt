@@ -7,7 +7,7 @@ use Rattle.mux_outside.specs.Streams.{among}
 use Rattle.mux_outside.specs.Whose.{whose}
 use Rattle.mux_outside.specs.declared.file_error.FileError.{FileError}
 use Rattle.mux_outside.specs.declared.file_error.FileError.TheVariants.{Failed as FailedFile, OutOfMemory}
-use Rattle.mux_outside.specs.declared.mark.Opening.{Opening}
+use Rattle.mux_outside.specs.declared.mark.OpenCall.{OpenCall}
 use Rattle.mux_outside.specs.declared.own_streams.TheConstants.{LAST_CLIENT, LAST_OWN}
 use Rattle.mux_outside.specs.declared.piece.TheConstants.{LONGEST_PIECE}
 use Rattle.mux_outside.specs.declared.turn.Turn.{Turn}
@@ -20,7 +20,7 @@ use Rattle.mux_outside.specs.declared.turn.Wrote.TheVariants.{Took, Later, Faile
 -- ---- open
 
 -- the arguments that a call adds to those told: for want of memory none
-abbrev pub openings_of : Result (Unit {0}) FileError → List ℕ → List ℕ → List Opening
+abbrev pub openings_of : Result (Unit {0}) FileError → List ℕ → List ℕ → List OpenCall
 openings_of (Ok x) control transport = record { control = control; transport = transport } ∷ []
 openings_of (Err FailedFile) control transport =
     record { control = control; transport = transport } ∷ []

@@ -7,7 +7,7 @@ use Rattle.mux_outside.specs.Tally.{no_tally}
 use Rattle.mux_outside.specs.Wire.{openings_of, joinings_of}
 use Rattle.mux_outside.specs.declared.file_error.FileError.{FileError}
 use Rattle.mux_outside.specs.declared.mark.Mark.{Mark}
-use Rattle.mux_outside.specs.declared.mark.Opening.{Opening}
+use Rattle.mux_outside.specs.declared.mark.OpenCall.{OpenCall}
 use Rattle.mux_outside.specs.declared.turn.Tally.{Tally}
 use Rattle.mux_outside.specs.declared.turn.Turn.{Turn}
 use Rattle.mux_outside.specs.declared.turn.Turn.TheVariants.{Accepted, Got, End, Writable, Failed, Joined, NoMemory}
@@ -20,7 +20,7 @@ use Rattle.mux_outside.specs.declared.turn.Wrote.TheVariants.{NoMemory as NoMemo
 -- and what it counted of a drill
 pub record WireState : Type 0 where
   pub seen : Seen
-  pub openings : Option (List Opening)
+  pub openings : Option (List OpenCall)
   pub joinings : Option (List (List ℕ))
   pub calls : CallCounts
   pub tally : Tally
@@ -36,7 +36,7 @@ nothing_called = record {
 }
 
 -- the same of a wire that tells these arguments of its calls of open and of join, and these marks
-abbrev pub telling : List Opening → List (List ℕ) → List Mark → WireState → WireState
+abbrev pub telling : List OpenCall → List (List ℕ) → List Mark → WireState → WireState
 telling openings joinings marks state = record state {
   seen = record state.seen { told = Some marks };
   openings = Some openings;

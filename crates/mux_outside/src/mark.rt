@@ -9,7 +9,7 @@ use std::alloc::Global;
 
 /// The arguments of a call of `open`.
 #[derive(Drop)]
-pub struct Opening {
+pub struct OpenCall {
     pub control: Text,
     pub transport: Text,
 }

@@ -3,6 +3,9 @@ ghost use Rattle.std.specs.Prelude.{◌≡◌, IfOk};
 use ssh_fields::{ListOf, OutOfMemory, Text};
 use std::alloc::Global;
 
+/// How many bytes a host that is listened on or connected to has at most.
+pub const LONGEST_HOST: usize = 255;
+
 /// A forwarding that is asked for by the configuration, by words or by a client: its kind, and both
 /// ends. An absent end has an empty host and port 0.
 #[derive(Drop)]

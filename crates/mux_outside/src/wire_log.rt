@@ -13,7 +13,7 @@ use crate::fault_counts::FaultCounts;
 use crate::file_error::FileError;
 use crate::house_mark::HouseMark;
 use crate::kept_mark::KeptMark;
-use crate::mark::{Mark, Opening, bytes_taken};
+use crate::mark::{Mark, OpenCall, bytes_taken};
 use crate::marks::Marks;
 use crate::record::{mark_of_write, marks_of_wait};
 use crate::streams::Streams;
@@ -28,7 +28,7 @@ use std::marker::Model;
 #[derive(Drop)]
 pub struct WireLog {
     alloc: Global,
-    openings: Vec<Opening>,
+    openings: Vec<OpenCall>,
     joinings: Vec<Text>,
     marks: Marks,
     state: WireState,
@@ -100,7 +100,7 @@ impl WireLog {
     }
 
     /// The arguments of the calls of `open` so far.
-    pub fn openings(&self) -> &[Opening]
+    pub fn openings(&self) -> &[OpenCall]
         ensures { Some result.now ≡ self.now.state.openings }
     {
         self.openings.as_slice()
@@ -129,7 +129,7 @@ impl WireLog {
             self.old.state.tally self.old.state }
         ensures cause { OpenFaults result self.old.faults self.new.faults }
     {
-        let opening = Opening {
+        let opening = OpenCall {
             control: Text::copy(self.alloc, control)?,
             transport: Text::copy(self.alloc, transport)?,
         };

@@ -4,7 +4,7 @@ ghost use Rattle.std.specs.String.{string_bytes};
 
 use libc::net::listen;
 use mio::net::UnixListener;
-use mux_edge::owner_only;
+use mux_exchange::owner_only;
 use std::alloc::Global;
 use std::fs::Files;
 use std::net::Net;

@@ -3,7 +3,7 @@ use crate::marks::add_marks;
 use crate::play::Played;
 use crate::scripted::took_line;
 use crate::spelling::escape;
-use mux_outside::{Opening, WireLog};
+use mux_outside::{OpenCall, WireLog};
 use ssh_fields::{OutOfMemory, Text, Texts};
 use std::alloc::Global;
 
@@ -52,7 +52,7 @@ fn add_text(lines: &mut Texts, alloc: Global, head: &[u8], text: &[u8]) -> Resul
 }
 
 // How the wire was opened.
-fn opening_line(alloc: Global, opening: &Opening) -> Result<Text, OutOfMemory> {
+fn opening_line(alloc: Global, opening: &OpenCall) -> Result<Text, OutOfMemory> {
     let mut line = Text::copy(alloc, b"opened ")?;
     escape(&mut line, opening.control.as_bytes())?;
     line.add(b" over ")?;

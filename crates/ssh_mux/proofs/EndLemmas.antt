@@ -10,7 +10,7 @@ use Rattle.mux_outside.specs.HouseCalls.{HouseCall}
 use Rattle.mux_outside.specs.declared.house.HouseReply.{HouseReply}
 use Rattle.mux_outside.specs.declared.house_mark.HouseMark.{HouseMark}
 use Rattle.mux_outside.specs.declared.mark.Mark.{Mark}
-use Rattle.mux_outside.specs.declared.mark.Opening.{Opening}
+use Rattle.mux_outside.specs.declared.mark.OpenCall.{OpenCall}
 use Rattle.mux_outside.specs.declared.starts.Starts.{Starts}
 use Rattle.mux_history.specs.declared.ended.Ended.TheVariants as answers
 use Rattle.mux_history.specs.Policy.{Policy}
@@ -119,7 +119,7 @@ sink_after status ending b n f f' before now r c = carried (λ s. OutCause s bef
 
 -- ---- the wire
 
-unopened : (k : Known) (status : Status) (before now : Option (List Opening)) → OpensOnce k status before now → OpensOnce k statuses.Memory before now
+unopened : (k : Known) (status : Status) (before now : Option (List OpenCall)) → OpensOnce k status before now → OpensOnce k statuses.Memory before now
 unopened (Certain (Opens control transport os ls)) statuses.Memory before now h = h
 unopened (Certain (Opens control transport os ls)) statuses.Outside before now h = inl h
 unopened (Certain (Opens control transport os ls)) status before now h = inr h
@@ -134,7 +134,7 @@ unopened (Master transport os ls) statuses.Config before now h = inl h
 unopened (Master transport os ls) statuses.Outside before now h = inl h
 unopened (Master transport os ls) status before now h = inr h
 
-pub opened_after : (k : Known) (status : Status) (ending : Ending) (b n : Option (List ℕ)) (f f' : ℕ) (before now : Option (List Opening)) → Reports status ending b n f f' → OpensOnce k (status_of ending) before now → OpensOnce k status before now
+pub opened_after : (k : Known) (status : Status) (ending : Ending) (b n : Option (List ℕ)) (f f' : ℕ) (before now : Option (List OpenCall)) → Reports status ending b n f f' → OpensOnce k (status_of ending) before now → OpensOnce k status before now
 opened_after k status ending b n f f' before now r h = carried (λ s. OpensOnce k s before now) status ending (reported status ending b n f f' r) (unopened k (status_of ending) before now h) h
 
 module _ (May : HouseReply → Type 0) (Rest : Resting) (stands stands' : List HouseCall → Type 0) (policy : Policy) (pid turns : ℕ) (before now : Option (List HouseMark)) (start : Option (List Mark)) (seen : Seen) (refused : Option ℕ) (b n : Option (List ℕ)) (f f' : ℕ) where

@@ -16,7 +16,7 @@ use Rattle.mux_history.specs.declared.ended.Ended.TheVariants as ends
 use Rattle.mux_outside.specs.CallCounts.{CallCounts, calls_after_open}
 use Rattle.mux_outside.specs.declared.file_error.FileError.TheVariants as failures
 use Rattle.mux_outside.specs.declared.house.HouseReply.{HouseReply}
-use Rattle.mux_outside.specs.declared.mark.Opening.{Opening}
+use Rattle.mux_outside.specs.declared.mark.OpenCall.{OpenCall}
 use Rattle.mux_outside.specs.declared.starts.Starts.{Starts}
 use Rattle.mux_outside.specs.Faults.{Faults, OpeningFault}
 use Rattle.mux_outside.specs.House.{HouseState}
@@ -91,7 +91,7 @@ served-counts housed turns ended refused x control transport old mid new f f' f'
     }
 
 -- and the wire was opened once
-pub opens_end : (ended : Ended) (control transport : Bytes) (before now : Option (List Opening)) → now ≡ opened control transport before → OpensAt control transport (so_far (told_as ended)) before now
+pub opens_end : (ended : Ended) (control transport : Bytes) (before now : Option (List OpenCall)) → now ≡ opened control transport before → OpensAt control transport (so_far (told_as ended)) before now
 opens_end ends.OutOfMemory control transport before now e = inr e
 opens_end ends.ServerEnd control transport before now e = e
 opens_end ends.Disconnected control transport before now e = e

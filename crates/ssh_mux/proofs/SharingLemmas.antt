@@ -23,7 +23,7 @@ use Rattle.mux_engine.specs.Wires.{NoFault}
 use Rattle.mux_outside.specs.declared.house.HouseReply.{HouseReply}
 use Rattle.mux_outside.specs.declared.house_mark.HouseMark.{HouseMark}
 use Rattle.mux_outside.specs.declared.mark.Mark.{Mark}
-use Rattle.mux_outside.specs.declared.mark.Opening.{Opening}
+use Rattle.mux_outside.specs.declared.mark.OpenCall.{OpenCall}
 use Rattle.ssh_mux.specs.declared.ending.Ending.{Ending}
 use Rattle.ssh_mux.specs.declared.ending.Ending.TheVariants as endings
 use Rattle.ssh_mux.specs.declared.status.Status.{Status}
@@ -225,11 +225,11 @@ pub master-shares : (k : Known) (transport : Bytes) (os ls : List Bytes) (contro
 master-shares k transport os ls control result (inl e) h = rw (master-opens result h) (subst (λ x. opens x ≡ true) (sym e) refl)
 master-shares k transport os ls control result (inr e) h = rw (master-opens result h) (subst (λ x. opens x ≡ true) (sym e) refl)
 
-certain-opened : (transport : Bytes) (os ls : List Bytes) (control : Bytes) (status : Status) (before now : Option (List Opening)) → may_open status ≡ true → OpensAt control transport status before now → OpensOnce (Certain (opens_at transport os ls control)) status before now
+certain-opened : (transport : Bytes) (os ls : List Bytes) (control : Bytes) (status : Status) (before now : Option (List OpenCall)) → may_open status ≡ true → OpensAt control transport status before now → OpensOnce (Certain (opens_at transport os ls control)) status before now
 certain-opened transport os ls control statuses.Outside before now m h = absurd cc
 certain-opened transport os ls control status before now m h = h
 
-some-opened : (transport control : Bytes) (os ls : List Bytes) (status : Status) (before now : Option (List Opening)) → may_open status ≡ true → OpensAt control transport status before now → OpensOnce (Master transport os ls) status before now
+some-opened : (transport control : Bytes) (os ls : List Bytes) (status : Status) (before now : Option (List OpenCall)) → may_open status ≡ true → OpensAt control transport status before now → OpensOnce (Master transport os ls) status before now
 some-opened transport control os ls statuses.Usage before now m h = absurd cc
 some-opened transport control os ls statuses.Config before now m h = absurd cc
 some-opened transport control os ls statuses.Outside before now m h = absurd cc
@@ -237,14 +237,14 @@ some-opened transport control os ls statuses.Memory before now m (inl h) = inl h
 some-opened transport control os ls statuses.Memory before now m (inr h) = inr (record { control = control; once = h })
 some-opened transport control os ls status before now m h = record { control = control; once = h }
 
-pub master-opened : (k : Known) (transport : Bytes) (os ls : List Bytes) (control : Bytes) (status : Status) (before now : Option (List Opening)) → IsMaster k transport os ls control → may_open status ≡ true → OpensAt control transport status before now → OpensOnce k status before now
+pub master-opened : (k : Known) (transport : Bytes) (os ls : List Bytes) (control : Bytes) (status : Status) (before now : Option (List OpenCall)) → IsMaster k transport os ls control → may_open status ≡ true → OpensAt control transport status before now → OpensOnce k status before now
 master-opened k transport os ls control status before now (inl e) m h = subst (λ x. OpensOnce x status before now) (sym e) (certain-opened transport os ls control status before now m h)
 master-opened k transport os ls control status before now (inr e) m h = subst (λ x. OpensOnce x status before now) (sym e) (some-opened transport control os ls status before now m h)
 
 -- ---- what others leave
 
 -- a command that opens nothing
-pub none-opened : (k : Known) (status : Status) (before : Option (List Opening)) → opens k ≡ false → OpensOnce k status before before
+pub none-opened : (k : Known) (status : Status) (before : Option (List OpenCall)) → opens k ≡ false → OpensOnce k status before before
 none-opened (Certain (Opens control transport os ls)) status before e = absurd cc
 none-opened (Certain (Ends ending)) status before e = refl
 none-opened (Certain (Writes text)) status before e = refl

@@ -17,7 +17,7 @@ use Rattle.mux_outside.specs.Faults.{Faults}
 use Rattle.mux_outside.specs.CallCounts.{CallCounts}
 use Rattle.mux_outside.specs.declared.house.HouseReply.{HouseReply}
 use Rattle.mux_outside.specs.declared.house_mark.HouseMark.{HouseMark}
-use Rattle.mux_outside.specs.declared.mark.Opening.{Opening}
+use Rattle.mux_outside.specs.declared.mark.OpenCall.{OpenCall}
 use Rattle.mux_outside.specs.declared.starts.Starts.{Starts}
 use Rattle.ssh_mux.specs.declared.ending.Ending.{Ending as MeantEnding}
 use Rattle.ssh_mux.specs.declared.ending.Ending.TheVariants as endings
@@ -172,7 +172,7 @@ pub quiet-count : (status : Status) (count : ℕ) → is_silent status ≡ false
 quiet-count statuses.Write count e = absurd cc
 quiet-count status count e = refl
 
-pub still-opened : (k : Known) (ending : Ending) (before : Option (List Opening)) → IsRefused k ending → OpensOnce k (status_of ending) before before
+pub still-opened : (k : Known) (ending : Ending) (before : Option (List OpenCall)) → IsRefused k ending → OpensOnce k (status_of ending) before before
 still-opened (Certain (Ends due)) ending before h = refl
 still-opened (Certain (Writes text)) ending before h = refl
 still-opened (Certain (Drills seed clients messages)) ending before h = tt

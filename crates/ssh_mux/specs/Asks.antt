@@ -26,6 +26,7 @@ use Rattle.conf_rules.specs.Values.{value_for}
 use Rattle.mux_client.specs.declared.asks.Asks.{Asks}
 use Rattle.mux_client.specs.declared.asks.Asks.TheVariants as asks
 use Rattle.mux_outside.specs.declared.start_ask.StartAsk.{StartAsk}
+use Rattle.mux_outside.specs.declared.start_ask.TheConstants.{LONGEST_HOST}
 use Rattle.ssh_mux.specs.declared.asks.AskedEnd.{AskedEnd}
 use Rattle.ssh_mux.specs.declared.ending.Ending.{Ending as MeantEnding}
 use Rattle.ssh_mux.specs.declared.ending.Ending.TheVariants as endings
@@ -52,7 +53,7 @@ host_or_empty (Some host) = host
 
 -- a host with its port, unless it is too long
 abbrev pub host_at : Option Bytes → ℕ → Option AskedEnd
-host_at host port = if nat_lt 255 (length (host_or_empty host)) then None
+host_at host port = if nat_lt LONGEST_HOST (length (host_or_empty host)) then None
     else Some (record { host = host_or_empty host; port = port })
 
 -- an end; a path is none

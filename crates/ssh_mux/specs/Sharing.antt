@@ -19,7 +19,7 @@ use Rattle.mux_outside.specs.WireState.{WireState}
 use Rattle.mux_outside.specs.declared.house.HouseReply.{HouseReply}
 use Rattle.mux_outside.specs.declared.house_mark.HouseMark.{HouseMark}
 use Rattle.mux_outside.specs.declared.mark.Mark.{Mark}
-use Rattle.mux_outside.specs.declared.mark.Opening.{Opening}
+use Rattle.mux_outside.specs.declared.mark.OpenCall.{OpenCall}
 use Rattle.mux_outside.specs.Seen.{Seen}
 use Rattle.mux_outside.specs.CallCounts.{CallCounts}
 use Rattle.mux_outside.specs.Faults.{Faults, OpeningFault}
@@ -39,24 +39,24 @@ use Rattle.ssh_mux.specs.World.{Sockets, World}
 -- ---- the opening
 
 -- one opening more
-abbrev pub opened : Bytes → Bytes → Option (List Opening) → Option (List Opening)
+abbrev pub opened : Bytes → Bytes → Option (List OpenCall) → Option (List OpenCall)
 opened control transport before =
     option_map (λ os. os ++ record { control = control; transport = transport } ∷ []) before
 
 -- the wire was opened once, with this control path and transport, but for want of memory
-abbrev pub OpensAt : Bytes → Bytes → Status → Option (List Opening) → Option (List Opening) → Type 0
+abbrev pub OpensAt : Bytes → Bytes → Status → Option (List OpenCall) → Option (List OpenCall) → Type 0
 OpensAt control transport Memory before now =
     (now ≡ before) ⊎ (now ≡ opened control transport before)
 OpensAt control transport status before now = now ≡ opened control transport before
 
 -- the wire was opened with some control path and this transport
-pub record OpensBy (transport : Bytes) (before now : Option (List Opening)) : Type 0 where
+pub record OpensBy (transport : Bytes) (before now : Option (List OpenCall)) : Type 0 where
   pub control : Bytes
   pub once : now ≡ opened control transport before
 
 -- it was opened so once, unless the configuration is refused, a fault came before or memory was
 -- wanting
-abbrev pub OpensSome : Bytes → Status → Option (List Opening) → Option (List Opening) → Type 0
+abbrev pub OpensSome : Bytes → Status → Option (List OpenCall) → Option (List OpenCall) → Type 0
 OpensSome transport Config before now = now ≡ before
 OpensSome transport Outside before now = now ≡ before
 OpensSome transport Memory before now = (now ≡ before) ⊎ OpensBy transport before now
@@ -64,7 +64,7 @@ OpensSome transport status before now = OpensBy transport before now
 
 -- the same of what comes of words: but for a drill, of which `IsDrill` says it, only a master opens
 -- the wire, and none behind a fault
-abbrev pub OpensOnce : Known → Status → Option (List Opening) → Option (List Opening) → Type 0
+abbrev pub OpensOnce : Known → Status → Option (List OpenCall) → Option (List OpenCall) → Type 0
 OpensOnce (Certain (Opens control transport opens listens)) Outside before now = now ≡ before
 OpensOnce (Certain (Opens control transport opens listens)) status before now =
     OpensAt control transport status before now

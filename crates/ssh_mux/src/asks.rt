@@ -13,12 +13,9 @@ use crate::ending::Ending;
 use conf_options::{End, Forward, Value, ValueError, read_value};
 use conf_rules::{Asked, AskedLine, Cause, Control, Key};
 use mux_client::Asks;
-use mux_outside::{StartAsk, StartAsks};
+use mux_outside::{LONGEST_HOST, StartAsk, StartAsks};
 use ssh_fields::{OutOfMemory, Text, Texts};
 use std::alloc::Global;
-
-/// How many bytes a host has at most that a running master is told.
-const LONGEST_HOST: usize = 255;
 
 /// An end of a forwarding as it is asked for.
 #[derive(Drop)]

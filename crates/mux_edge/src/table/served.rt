@@ -8,11 +8,11 @@ ghost use Rattle.mux_edge.specs.declared.numbers.Numbers.{Numbers};
 
 use super::Table;
 use super::ready::Ready;
-use crate::exchange::{Sent, hear, most_read, send};
 use crate::lookups::Lookups;
 use crate::numbers::Numbers;
 use crate::stream::Stream;
 use mio::net::UnixStream;
+use mux_exchange::{Sent, hear, most_read, send};
 use mux_outside::{Piece, Turn, Wrote};
 use std::io;
 use std::io::ErrorKind;

@@ -18,18 +18,18 @@ pub loop-self-preserved : goal.loop-self-preserved
 loop-self-preserved g c = let read : is_read c.loop-self.self.seat.standing ≡ true = ap (λ (x : ClientState). is_read x.seat.standing) (sym c.self-in-loop-self.view_is) ∙ (sym c.is_read.ensures ∙ c.loop-self-test.true) in record {
   loop = record {
     hearing = hearing_goes g.H.Asks.may (Some c.args.asks.now) (Some c.loop-self.asks) (Some c.say_next.new.asks) c.args.pid (c.args.self.now.rest ++ c.args.bytes.now) c.args.core.now c.loop-self.core c.say_next.new.core c.args.up.now c.loop-self.up c.say_next.new.up
-        c.args.self.now c.loop-self.self c.say_next.new.self c.loop-self.heard c.say_next.new.heard read c.in_ok-say_next.ensures.policy c.loop-self.invariant.loop.hearing
-        (subst (λ (more : Bool). SaysNext g.H.Asks.may (Some c.loop-self.asks) (Some c.say_next.new.asks) c.args.pid more (first_in (mode_of c.loop-self.self.seat.standing) c.loop-self.self.rest) c.loop-self.core c.say_next.new.core c.loop-self.up c.say_next.new.up c.loop-self.self c.loop-self.heard c.say_next.new.self c.say_next.new.heard) c.if-not-branch.false c.in_ok-say_next.ensures.next);
+        c.args.self.now c.loop-self.self c.say_next.new.self c.loop-self.change c.say_next.new.change read c.in_ok-say_next.ensures.policy c.loop-self.invariant.loop.hearing
+        (subst (λ (more : Bool). SaysNext g.H.Asks.may (Some c.loop-self.asks) (Some c.say_next.new.asks) c.args.pid more (first_in (mode_of c.loop-self.self.seat.standing) c.loop-self.self.rest) c.loop-self.core c.say_next.new.core c.loop-self.up c.say_next.new.up c.loop-self.self c.loop-self.change c.say_next.new.self c.say_next.new.change) c.if-not-branch.false c.in_ok-say_next.ensures.next);
     room = room-on c.args.up.now c.loop-self.up c.say_next.new.up c.loop-self.self.seat.standing c.say_next.new.self.seat.standing read c.loop-self.invariant.loop.room c.in_ok-say_next.ensures.keeps.spare;
     number = c.in_ok-say_next.ensures.keeps.number ∙ c.loop-self.invariant.loop.number;
   };
-  heeds = heeds_any (Ok c.say_next.new.heard) (heeds_then c.loop-self.invariant.heeds c.in_ok-say_next.ensures.heeds);
+  heeds = heeds_any (Ok c.say_next.new.change) (heeds_then c.loop-self.invariant.heeds c.in_ok-say_next.ensures.heeds);
 }
 
 pub returns-then-not-branch-clause-hears : goal.returns-then-not-branch-clause-hears
 returns-then-not-branch-clause-hears g c = hears_rest g.H.Asks.may (Some c.args.asks.now) (Some c.loop-self.asks) (Some c.say_next.new.asks) c.args.pid c.args.bytes.now c.args.core.now c.loop-self.core c.say_next.new.core c.args.up.now c.loop-self.up c.say_next.new.up
-    c.args.self.now c.loop-self.self c.say_next.new.self c.loop-self.heard c.say_next.new.heard c.loop-self.invariant.loop.hearing
-    (subst (λ (more : Bool). SaysNext g.H.Asks.may (Some c.loop-self.asks) (Some c.say_next.new.asks) c.args.pid more (first_in (mode_of c.loop-self.self.seat.standing) c.loop-self.self.rest) c.loop-self.core c.say_next.new.core c.loop-self.up c.say_next.new.up c.loop-self.self c.loop-self.heard c.say_next.new.self c.say_next.new.heard) c.if-not-branch.true c.in_ok-say_next.ensures.next)
+    c.args.self.now c.loop-self.self c.say_next.new.self c.loop-self.change c.say_next.new.change c.loop-self.invariant.loop.hearing
+    (subst (λ (more : Bool). SaysNext g.H.Asks.may (Some c.loop-self.asks) (Some c.say_next.new.asks) c.args.pid more (first_in (mode_of c.loop-self.self.seat.standing) c.loop-self.self.rest) c.loop-self.core c.say_next.new.core c.loop-self.up c.say_next.new.up c.loop-self.self c.loop-self.change c.say_next.new.self c.say_next.new.change) c.if-not-branch.true c.in_ok-say_next.ensures.next)
 
 -- what was asked so far, and what the last saying asked
 pub returns-in_err-say_next-clause-heeds : goal.returns-in_err-say_next-clause-heeds
@@ -58,4 +58,4 @@ returns-in_err-say_next-clause-cut g c =
     let read : is_read c.loop-self.self.seat.standing ≡ true = ap (λ (x : ClientState). is_read x.seat.standing) (sym c.self-in-loop-self.view_is) ∙ (sym c.is_read.ensures ∙ c.loop-self-test.true) in
     on-err c.from_residual-in_err-say_next.result
     (hears-some g.H.Asks.may (g.H.Asks.state c.say_next.new.house).told c.args.pid c.args.bytes.now c.args.core.now c.loop-self.core c.args.up.now c.loop-self.up
-    c.args.self.now c.loop-self.self c.loop-self.heard c.requires.read read c.loop-self.invariant.loop.hearing c.loop-self.invariant.heeds c.in_err-say_next.ensures.cut)
+    c.args.self.now c.loop-self.self c.loop-self.change c.requires.read read c.loop-self.invariant.loop.hearing c.loop-self.invariant.heeds c.in_err-say_next.ensures.cut)

@@ -21,9 +21,9 @@ returns-then-i-len-clause-hears g c =
       noted = loss_between c.standing-before.result c.standing.result c.args.number;
       leaves = c.in_ok-note_loss.ensures.notes;
       changes = λ here. found-changes c.args.number c.index_of-i.result
-          (Noting c.args.number (loss_between c.standing-before.result c.standing.result c.args.number) (HearsIn g.H.Asks.may (Some c.args.asks.now) (Some c.got.new.asks) c.args.pid c.args.bytes.now c.args.core.now c.got.new.core c.args.up.now c.got.new.up c.in_ok-heard.heard))
+          (Noting c.args.number (loss_between c.standing-before.result c.standing.result c.args.number) (HearsIn g.H.Asks.may (Some c.args.asks.now) (Some c.got.new.asks) c.args.pid c.args.bytes.now c.args.core.now c.got.new.core c.args.up.now c.got.new.up c.in_ok-change.change))
           c.index_mut-client.result.now c.got.new.self c.self.inside.all.items f (record {
-            goes = c.in_ok-heard.ensures.hears;
+            goes = c.in_ok-change.ensures.hears;
             noted_is = loss-same c.standing-before.result c.standing.result _ _ c.args.number c.standing-before.ensures c.standing.ensures;
           });
     })
@@ -45,7 +45,7 @@ pub returns-then-i-len-clause-keeps : goal.returns-then-i-len-clause-keeps
 returns-then-i-len-clause-keeps g c =
     let f : Found c.args.number c.index_of-i.result c.index_mut-client.result.now c.self.inside.all.items =
     found c.args.number c.index_of-i.result c.len.result c.self.inside.all.len c.index_mut-client.result.now c.deref.result.now c.self.inside.all.items c.index_of-i.ensures c.deref.ensures.value c.if-i-len.true c.len.ensures c.self.inside.all.ok.0 c.index_mut-client.ensures.value in
-    rw (← c.self.view_is) (found-keeps c.args.number c.index_of-i.result c.index_mut-client.result.now c.got.new.self c.self.inside.all.items c.args.up.now c.got.new.up f c.in_ok-heard.ensures.number c.in_ok-heard.ensures.room)
+    rw (← c.self.view_is) (found-keeps c.args.number c.index_of-i.result c.index_mut-client.result.now c.got.new.self c.self.inside.all.items c.args.up.now c.got.new.up f c.in_ok-change.ensures.number c.in_ok-change.ensures.room)
 
 pub got-requires : goal.got-requires
 got-requires g c =
@@ -77,37 +77,37 @@ returns-in_err-note_loss-clause-silent g c =
     found c.args.number c.index_of-i.result c.len.result c.self.inside.all.len c.index_mut-client.result.now c.deref.result.now c.self.inside.all.items c.index_of-i.ensures c.deref.ensures.value c.if-i-len.true c.len.ensures c.self.inside.all.ok.0 c.index_mut-client.ensures.value in
     λ gone. found-here c.args.number c.index_of-i.result c.index_mut-client.result.now c.self.inside.all.items f (ap (λ (s : ClientsState). is_present s.all c.args.number) c.self.view_is ∙ gone)
 
-pub returns-in_err-heard-clause-absent : goal.returns-in_err-heard-clause-absent
-returns-in_err-heard-clause-absent g c =
+pub returns-in_err-change-clause-absent : goal.returns-in_err-change-clause-absent
+returns-in_err-change-clause-absent g c =
     let f : Found c.args.number c.index_of-i.result c.index_mut-client.result.now c.self.inside.all.items =
     found c.args.number c.index_of-i.result c.len.result c.self.inside.all.len c.index_mut-client.result.now c.deref.result.now c.self.inside.all.items c.index_of-i.ensures c.deref.ensures.value c.if-i-len.true c.len.ensures c.self.inside.all.ok.0 c.index_mut-client.ensures.value in
     λ gone. found-here c.args.number c.index_of-i.result c.index_mut-client.result.now c.self.inside.all.items f (ap (λ (s : ClientsState). is_present s.all c.args.number) c.self.view_is ∙ gone)
 
-pub returns-in_err-heard-clause-silent : goal.returns-in_err-heard-clause-silent
-returns-in_err-heard-clause-silent g c =
+pub returns-in_err-change-clause-silent : goal.returns-in_err-change-clause-silent
+returns-in_err-change-clause-silent g c =
     let f : Found c.args.number c.index_of-i.result c.index_mut-client.result.now c.self.inside.all.items =
     found c.args.number c.index_of-i.result c.len.result c.self.inside.all.len c.index_mut-client.result.now c.deref.result.now c.self.inside.all.items c.index_of-i.ensures c.deref.ensures.value c.if-i-len.true c.len.ensures c.self.inside.all.ok.0 c.index_mut-client.ensures.value in
     λ gone. found-here c.args.number c.index_of-i.result c.index_mut-client.result.now c.self.inside.all.items f (ap (λ (s : ClientsState). is_present s.all c.args.number) c.self.view_is ∙ gone)
 
 pub returns-then-i-len-clause-heeds : goal.returns-then-i-len-clause-heeds
-returns-then-i-len-clause-heeds g c = heeds_any _ c.in_ok-heard.ensures.heeds
+returns-then-i-len-clause-heeds g c = heeds_any _ c.in_ok-change.ensures.heeds
 
 pub returns-in_err-note_loss-clause-heeds : goal.returns-in_err-note_loss-clause-heeds
-returns-in_err-note_loss-clause-heeds g c = heeds_any c.from_residual-in_err-note_loss.result c.in_ok-heard.ensures.heeds
+returns-in_err-note_loss-clause-heeds g c = heeds_any c.from_residual-in_err-note_loss.result c.in_ok-change.ensures.heeds
 
-pub returns-in_err-heard-clause-heeds : goal.returns-in_err-heard-clause-heeds
-returns-in_err-heard-clause-heeds g c = heeds_err c.from_residual.result c.from_residual.ensures.0 c.in_err-heard.ensures.heeds
+pub returns-in_err-change-clause-heeds : goal.returns-in_err-change-clause-heeds
+returns-in_err-change-clause-heeds g c = heeds_err c.from_residual.result c.from_residual.ensures.0 c.in_err-change.ensures.heeds
 
 -- ---- what was asked where memory was wanting
 
-pub returns-in_err-heard-clause-cut : goal.returns-in_err-heard-clause-cut
-returns-in_err-heard-clause-cut g c =
+pub returns-in_err-change-clause-cut : goal.returns-in_err-change-clause-cut
+returns-in_err-change-clause-cut g c =
     let f : Found c.args.number c.index_of-i.result c.index_mut-client.result.now c.self.inside.all.items =
     found c.args.number c.index_of-i.result c.len.result c.self.inside.all.len c.index_mut-client.result.now c.deref.result.now c.self.inside.all.items c.index_of-i.ensures c.deref.ensures.value c.if-i-len.true c.len.ensures c.self.inside.all.ok.0 c.index_mut-client.ensures.value in
     let P : ClientState → Type 0 = HearsSome g.H.Asks.may (g.H.Asks.state c.args.house.now).told (g.H.Asks.state c.got.new.house).told c.args.pid c.args.bytes.now c.args.core.now c.args.up.now in
     on-err c.from_residual.result
     (subst (λ (s : ClientsState). OneIs c.args.number P s.all) c.self.view_is
-    (one-is c.args.number c.index_of-i.result P c.index_mut-client.result.now c.self.inside.all.items f.place f.within (subst P f.is c.in_err-heard.ensures.cut)))
+    (one-is c.args.number c.index_of-i.result P c.index_mut-client.result.now c.self.inside.all.items f.place f.within (subst P f.is c.in_err-change.ensures.cut)))
 
 pub returns-in_err-note_loss-clause-cut : goal.returns-in_err-note_loss-clause-cut
 returns-in_err-note_loss-clause-cut g c =
@@ -116,6 +116,6 @@ returns-in_err-note_loss-clause-cut g c =
     let P : ClientState → Type 0 = HearsSome g.H.Asks.may (g.H.Asks.state c.args.house.now).told (g.H.Asks.state c.got.new.house).told c.args.pid c.args.bytes.now c.args.core.now c.args.up.now in
     on-err c.from_residual-in_err-note_loss.result
     (subst (λ (s : ClientsState). OneIs c.args.number P s.all) c.self.view_is
-    (cut-noted g.H.Asks.may c.args.pid c.args.bytes.now c.args.core.now c.got.new.core c.args.up.now c.got.new.up c.in_ok-heard.heard c.args.number c.index_of-i.result c.index_mut-client.result.now c.got.new.self c.self.inside.all.items f
+    (cut-noted g.H.Asks.may c.args.pid c.args.bytes.now c.args.core.now c.got.new.core c.args.up.now c.got.new.up c.in_ok-change.change c.args.number c.index_of-i.result c.index_mut-client.result.now c.got.new.self c.self.inside.all.items f
     (ap stands.is_lost (sym c.standing-before.ensures) ∙ c.in_err-note_loss.ensures.lost.0, ap stands.is_lost (sym c.standing.ensures) ∙ c.in_err-note_loss.ensures.lost.1)
-    c.in_ok-heard.ensures.hears c.in_ok-heard.ensures.heeds))
+    c.in_ok-change.ensures.hears c.in_ok-change.ensures.heeds))

@@ -1,7 +1,7 @@
 //! What one read of a stream and one write to it come to.
 ghost use Rattle.std.specs.Prelude.{◌≡◌, ◌≢◌, ◌<◌, length, IfErr, IfOk};
 ghost use Rattle.std.specs.IoError.{error_kind};
-ghost use Rattle.mux_edge.specs.Exchange.{Hears, Sends, heard_again, heard_last, heard_len, heard_turn, most_read, sent_wrote};
+ghost use Rattle.mux_exchange.specs.Exchange.{Hears, Sends, heard_again, heard_last, heard_len, heard_turn, most_read, sent_wrote};
 
 use mux_outside::{LONGEST_PIECE, Piece, Turn, Wrote, is_own};
 use std::io::{ErrorKind, Read, Write};

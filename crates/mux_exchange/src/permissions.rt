@@ -1,7 +1,7 @@
 //! Who may use the control socket.
 ghost use Rattle.std.specs.Prelude.{◌≡◌};
 ghost use Rattle.std.specs.Fs.{permissions_mode};
-ghost use Rattle.mux_edge.specs.Permissions.{owner_reads_and_writes};
+ghost use Rattle.mux_exchange.specs.Permissions.{owner_reads_and_writes};
 
 use std::fs::Permissions;
 use std::os::unix::fs::PermissionsExt;

@@ -7,11 +7,11 @@ use Rattle.mux_outside.specs.declared.turn.Turn.{Turn}
 use Rattle.mux_outside.specs.declared.turn.Turn.TheVariants as turn
 use Rattle.mux_outside.specs.declared.turn.Wrote.{Wrote}
 use Rattle.mux_outside.specs.declared.turn.Wrote.TheVariants as wrote
-use Rattle.mux_edge.specs.declared.exchange.TheConstants.{LONGEST_OWN_READ}
-use Rattle.mux_edge.specs.declared.exchange.Heard.{Heard}
-use Rattle.mux_edge.specs.declared.exchange.Heard.TheVariants.{Bytes, End, Nothing, Interrupted, Failed}
-use Rattle.mux_edge.specs.declared.exchange.Sent.{Sent}
-use Rattle.mux_edge.specs.declared.exchange.Sent.TheVariants.{Took, Waits, Interrupted as SentInterrupted, Failed as SentFailed}
+use Rattle.mux_exchange.specs.declared.exchange.TheConstants.{LONGEST_OWN_READ}
+use Rattle.mux_exchange.specs.declared.exchange.Heard.{Heard}
+use Rattle.mux_exchange.specs.declared.exchange.Heard.TheVariants.{Bytes, End, Nothing, Interrupted, Failed}
+use Rattle.mux_exchange.specs.declared.exchange.Sent.{Sent}
+use Rattle.mux_exchange.specs.declared.exchange.Sent.TheVariants.{Took, Waits, Interrupted as SentInterrupted, Failed as SentFailed}
 
 -- ---- a read
 

@@ -1,0 +1,9 @@
+//! What one read of a stream and one write to it come to, whatever the stream is, and who may use
+//! the control socket.
+#![tactic(auto)]
+
+mod exchange;
+mod permissions;
+
+pub use exchange::{Heard, LONGEST_OWN_READ, Sent, hear, most_read, send};
+pub use permissions::owner_only;
