@@ -1,5 +1,5 @@
 //! A look-up of a name, by a child that writes its addresses, so that nobody waits for it.
-ghost use Rattle.std.specs.Prelude.{◌≡◌, [], IfOk, IsNone, false};
+ghost use Rattle.std.specs.Prelude.{◌≡◌, [], IfOk, IsNone, OnOk, false, true};
 
 use mio::net::UnixStream;
 use mio::{Interest, Registry, Token};
@@ -63,7 +63,10 @@ impl Lookup {
     }
 
     /// Goes on with it: it is over where it takes too long, and then nothing that was heard counts.
-    pub fn go_on(&mut self, now: Option<Instant>) -> Result<(), AllocError> {
+    pub fn go_on(&mut self, now: Option<Instant>) -> Result<(), AllocError>
+        ensures name { self.new.name ≡ self.old.name }
+        ensures late { OnOk result (IsNone now → self.new.over ≡ true) }
+    {
         if self.noted {
             self.hear()?;
         }
@@ -75,7 +78,9 @@ impl Lookup {
     }
 
     // Reads what the child has written so far. It is over at its end, and where it writes too much.
-    fn hear(&mut self) -> Result<(), AllocError> {
+    fn hear(&mut self) -> Result<(), AllocError>
+        ensures name { self.new.name ≡ self.old.name }
+    {
         let mut room = [0; READ_BYTES];
         for _ in 0..MOST_READS {
             match self.output.read(&mut room) {

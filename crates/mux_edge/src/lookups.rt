@@ -1,5 +1,6 @@
 //! Names that are looked up, and the streams that connect to them.
-ghost use Rattle.std.specs.Prelude.{◌≡◌, ◌<◌, ◌≤◌, ◌↔◌, length, max, None, is_some, true, IsSomeAnd, IsTrue, OnOk, nat_eq};
+ghost use Rattle.std.specs.Prelude.{◌≡◌, ◌<◌, ◌≤◌, ◌↔◌, length, max, None, Ok, is_some, true, IfOk, IfSome, IsErr, IsNone, IsSomeAnd, IsTrue, OnOk, nat_eq};
+ghost use Rattle.mux_edge.specs.Targets.{IsNewTarget, has_addresses};
 ghost use Rattle.indexmap.specs.IndexMap.{get, index_map_len};
 
 use crate::lookup::{Lookup, is_within};
@@ -96,7 +97,13 @@ impl Lookups {
         name: &[u8],
         port: u16,
         now: Instant,
-    ) -> Result<Known, AllocError> {
+    ) -> Result<Known, AllocError>
+        ensures target { OnOk result (IsSomeAnd (get nat_eq self.new.targets number)
+            (IsNewTarget name.now port)) }
+        ensures known { IfOk result (λ known. IsSomeAnd (get nat_eq self.new.targets number)
+            (λ target. is_some target.addresses ≡ has_addresses known)) }
+        ensures running { self.new.running ≡ self.old.running }
+    {
         self.cache.retain(|resolved| is_within(CACHE_SECONDS, resolved.since, Some(now)));
         let addresses = self.cached(name)?;
         let is_known = addresses.is_some();
@@ -124,7 +131,11 @@ impl Lookups {
         number: u64,
         name: &[u8],
         since: Instant,
-    ) -> io::Result<net::UnixStream> {
+    ) -> io::Result<net::UnixStream>
+        ensures begun { OnOk result (IsSomeAnd (get nat_eq self.new.running number)
+            (λ lookup. lookup.name.items ≡ name.now)) }
+        ensures targets { self.new.targets ≡ self.old.targets }
+    {
         let (ours, theirs) = net::UnixStream::pair(rt)?;
         let lookup = Lookup::new(self.alloc, registry, number, name, since, ours)?;
         self.running.insert(number, lookup).map_err(|_| AllocError)?;
@@ -138,7 +149,12 @@ impl Lookups {
         registry: &Registry,
         number: u64,
         stream: &mut Stream,
-    ) -> io::Result<()> {
+    ) -> io::Result<()>
+        ensures unknown { get nat_eq self.old.targets number ≡ None → IsErr result }
+        ensures waits { IsSomeAnd (get nat_eq self.old.targets number)
+            (λ target. IsNone target.addresses) → (result ≡ Ok tt) × (stream.new ≡ stream.old) }
+        ensures running { self.new.running ≡ self.old.running }
+    {
         let Some(target) = self.targets.get_mut(&number) else {
             return Err(io::Error::from(ErrorKind::NotFound));
         };
@@ -149,7 +165,9 @@ impl Lookups {
     }
 
     /// Goes on with the look-ups. `now` is `None` where there is no clock.
-    pub fn go_on(&mut self, now: Option<Instant>) -> Result<(), AllocError> {
+    pub fn go_on(&mut self, now: Option<Instant>) -> Result<(), AllocError>
+        ensures targets { self.new.targets ≡ self.old.targets }
+    {
         for lookup in self.running.values_mut() {
             lookup.go_on(now)?;
         }
@@ -157,7 +175,11 @@ impl Lookups {
     }
 
     /// Takes out a look-up that is over, and tells its addresses: its number, where there was one.
-    pub fn end_one(&mut self, now: Option<Instant>) -> Result<Option<u64>, AllocError> {
+    pub fn end_one(&mut self, now: Option<Instant>) -> Result<Option<u64>, AllocError>
+        ensures gone { IfOk result (λ over. IfSome over
+            (λ number. get nat_eq self.new.running number ≡ None)) }
+        ensures none { IfOk result (λ over. IsNone over → self.new.targets ≡ self.old.targets) }
+    {
         let over = self
             .running
             .iter()
@@ -211,12 +233,9 @@ impl Lookups {
     }
 
     // Tells the addresses of a name, of which its look-up wrote this.
-    fn tell(
-        &mut self,
-        name: Vec<u8>,
-        heard: &[u8],
-        now: Option<Instant>,
-    ) -> Result<(), AllocError> {
+    fn tell(&mut self, name: Vec<u8>, heard: &[u8], now: Option<Instant>) -> Result<(), AllocError>
+        ensures { self.new.running ≡ self.old.running }
+    {
         let addresses = addresses_of(self.alloc, heard)?;
         self.resolve(name.as_slice(), addresses.as_slice())?;
         match now {
@@ -226,7 +245,9 @@ impl Lookups {
     }
 
     // Gives the addresses of a name to the streams that wait for them.
-    fn resolve(&mut self, name: &[u8], addresses: &[IpAddr]) -> Result<(), AllocError> {
+    fn resolve(&mut self, name: &[u8], addresses: &[IpAddr]) -> Result<(), AllocError>
+        ensures { self.new.running ≡ self.old.running }
+    {
         for target in self.targets.values_mut() {
             if target.awaits(name) {
                 target.addresses = Some(Vec::from_slice(self.alloc, addresses)?);
@@ -243,6 +264,7 @@ impl Lookups {
         since: Instant,
     ) -> Result<(), AllocError>
         ensures few { length self.new.cache.items ≤ max MOST_CACHED (length self.old.cache.items) }
+        ensures running { self.new.running ≡ self.old.running }
     {
         if !addresses.is_empty() && self.cache.len() < MOST_CACHED {
             self.cache

@@ -35,7 +35,10 @@ impl Stream {
     }
 
     /// Has the system tell of what comes and of what can be written, over TCP also of urgent bytes.
-    pub fn register(&mut self, registry: &Registry, token: Token) -> io::Result<()> {
+    pub fn register(&mut self, registry: &Registry, token: Token) -> io::Result<()>
+        ensures begun { is_begun self.old ≡ true → result ≡ Ok tt }
+        ensures same { is_begun self.new ≡ is_begun self.old }
+    {
         let both = Interest::READABLE | Interest::WRITABLE;
         match self {
             Stream::Unix(stream) => registry.register(stream, token, both),

@@ -1,5 +1,6 @@
 //! The sockets of streams and listeners, and which of them are ready.
-ghost use Rattle.std.specs.Prelude.{◌≡◌, ◌≢◌, None, OnOk, false, true, IfOk, IsNone, IsSome, nat_eq};
+ghost use Rattle.std.specs.Prelude.{◌≡◌, ◌≢◌, ◌*◌, ◌||◌, None, OnOk, false, true, is_some, IfOk, IfSome, IsNone, IsSome, IsSomeAnd, nat_eq};
+ghost use Rattle.std.specs.Duration.{as_nanos};
 ghost use Rattle.mux_edge.specs.Entries.{HasEntry, IsBlocked, StopsShort};
 ghost use Rattle.mux_edge.specs.Table.{Touches};
 ghost use Rattle.indexmap.specs.IndexMap.{get};
@@ -179,7 +180,13 @@ impl Table {
 impl Table {
     /// How long to wait for what becomes ready: not where something is, and not for long where
     /// something is to be tried again.
-    pub fn timeout(&self, some: bool, is_busy: bool) -> Option<Duration> {
+    pub fn timeout(&self, some: bool, is_busy: bool) -> Option<Duration>
+        ensures at_once { some ≡ true → IsSomeAnd result (λ d. as_nanos d ≡ 0) }
+        ensures ends { some ≡ false
+            → is_some result ≡ (self.now.pauses || (self.now.joins_pause || is_busy)) }
+        ensures short { some ≡ false
+            → IfSome result (λ d. as_nanos d ≡ PAUSE_MILLIS * 1_000_000) }
+    {
         if some {
             Some(Duration::from_millis(0))
         } else {

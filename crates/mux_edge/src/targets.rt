@@ -19,7 +19,7 @@ pub struct Target {
 }
 
 impl Target {
-    ghost use Rattle.mux_edge.specs.Targets.{left_of};
+    ghost use Rattle.mux_edge.specs.Targets.{awaits, left_of};
 
     // The address that is tried next.
     fn next(&mut self) -> Option<SocketAddr>
@@ -53,7 +53,9 @@ impl Target {
     }
 
     /// Whether it waits for the look-up of this name.
-    pub fn awaits(&self, name: &[u8]) -> bool {
+    pub fn awaits(&self, name: &[u8]) -> bool
+        ensures { result ≡ awaits self.now name.now }
+    {
         self.addresses.is_none() && self.name.as_slice() == name
     }
 }
