@@ -37,7 +37,7 @@ module _ (policy : Policy) (pid : ℕ) (picks : List ℕ) (given : List HouseRep
 
   room-house : (mark : HouseMark) (before : List Mark) → LawfulHouse before mark → SpeaksInTime setting before (wire.House mark) → ReadsWithRoom setting before (wire.House mark)
   room-house HouseIn before lawful speaks = λ reading. subst (λ (marks : List Mark). waiting_up setting marks < 4194304) (sym lawful) (omega arith)
-  room-house (HouseSaid bytes) before lawful speaks = λ reading. speaks
+  room-house (HouseSaid bytes) before lawful speaks = λ reading. speaks.room
   room-house mark before lawful speaks = λ reading. cc
 
   rooms : (marks : List Mark) → IsLawful marks → Throughout ReadsWhenAsked marks → Throughout (WaitsAt setting) marks → Throughout (SpeaksInTime setting) marks → Throughout (ReadsWithRoom setting) marks

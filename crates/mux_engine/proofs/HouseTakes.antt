@@ -42,6 +42,7 @@ use Rattle.mux_engine.proofs.Taken.{queue-present, took-asks, took-run}
 use Rattle.mux_engine.proofs.Todo.{serve-todo}
 use Rattle.mux_engine.proofs.Told.{tells-none}
 use Rattle.mux_engine.proofs.Turned.{EventAt, stayed}
+use Rattle.mux_engine.proofs.Waits.{handed-all}
 
 drop-all : (xs : List ℕ) → drop (length xs) xs ≡ []
 drop-all [] = refl
@@ -131,7 +132,10 @@ module _ {May : HouseReply → Type 0} {Rest : Resting} {before : Option (List H
         of_wire = of;
         said = here_is;
         spares = λ j c. tt;
-        speaks = λ picks later. subst (λ (q : List ℕ). length q < READING_STOPS_AT) (subst (RowsFit (length v.picked) v.stands.asks s v.closed) (log-is s policy pid (v.picked ++ picks) (v.replies ++ later) v.journal v.policy_is v.pid_is) (v.stands.at picks later).rows).fit.up room;
+        speaks = λ picks later. record {
+          room = subst (λ (q : List ℕ). length q < READING_STOPS_AT) (subst (RowsFit (length v.picked) v.stands.asks s v.closed) (log-is s policy pid (v.picked ++ picks) (v.replies ++ later) v.journal v.policy_is v.pid_is) (v.stands.at picks later).rows).fit.up room;
+          heard = handed-all v picks later;
+        };
         rested = λ set. tt;
         absent = λ e. true-false (sym (v.house_there within) ∙ e);
         turns = ap (λ n. n + 1) v.turns;

@@ -86,6 +86,17 @@ none-left (x ∷ xs) h = ap (λ b. cond (not b) (x ∷ not_own xs) (not_own xs))
     later true e = refl
     later false e = e
 
+-- where all streams were offered what waits for them, the house was handed over all
+pub handed-all : {May : HouseReply → Type 0} {Rest : Resting} {before : Option (List HouseMark)} {now : Side} {policy : Policy} {pid : ℕ} {start : Option (List Mark)} {seen : Seen} {held failed : List ℕ} {given : ℕ} {s : State}
+    (v : Serving May Rest before now policy pid start seen held failed given [] s) (picks : List ℕ) (later : List HouseReply) → pending HOUSE (log_of_journal (by_lists policy pid (v.picked ++ picks) (v.replies ++ later)) v.journal) ≡ []
+handed-all v picks later = elim ((v.sound picks later).settled HOUSE refl refl) [
+  | inl e ↦ e
+  | inr r ↦ elim r [
+    | inl b ↦ true-false (sym b ∙ (v.unused HOUSE (inr refl)).never_blocked)
+    | inr f ↦ true-false (sym (failed-has HOUSE v.journal f) ∙ (v.unused HOUSE (inr refl)).never_failed)
+  ]
+]
+
 -- ---- where all streams were offered what waits for them, while a run goes on and nobody leaves
 
 -- how the master's own streams stand then
@@ -119,16 +130,6 @@ module _ {May : HouseReply → Type 0} {Rest : Resting} {before : Option (List H
   streams-are : not_own seen.streams ≡ 0 ∷ not_own (numbers s.clients)
   streams-are = v.open_are ∙ ap (λ l. 0 ∷ not_own l) here-are
 
-  -- the house was handed over all
-  house-none : (picks : List ℕ) (later : List HouseReply) → pending HOUSE (rows picks later) ≡ []
-  house-none picks later = elim ((v.sound picks later).settled HOUSE refl refl) [
-    | inl e ↦ e
-    | inr r ↦ elim r [
-      | inl b ↦ true-false (sym b ∙ (v.unused HOUSE (inr refl)).never_blocked)
-      | inr f ↦ true-false (sym (failed-has HOUSE v.journal f) ∙ (v.unused HOUSE (inr refl)).never_failed)
-    ]
-  ]
-
   waits-are : (picks : List ℕ) (later : List HouseReply) → s.waiting ≡ filter (has_output (rows picks later)) (0 ∷ numbers s.clients)
   waits-are picks later = waiting-are (fits picks later)
 
@@ -144,7 +145,7 @@ module _ {May : HouseReply → Type 0} {Rest : Resting} {before : Option (List H
       record {
         open_is = sym (among-open s t) ∙ (ap (λ l. among t (0 ∷ l)) here-are ∙ p.0);
         output = p.1;
-        no_house = λ e. not-empty (pending t (rows [] [])) p.1 (ap (λ i. pending i (rows [] [])) e ∙ house-none [] []);
+        no_house = λ e. not-empty (pending t (rows [] [])) p.1 (ap (λ i. pending i (rows [] [])) e ∙ handed-all v [] []);
       }
 
   not-out : (t : ℕ) → is_open s t ≡ true → is_out (rows_of t (rows [] [])) ≡ false
@@ -255,7 +256,7 @@ module _ {May : HouseReply → Type 0} {Rest : Resting} {before : Option (List H
     blocked = all-of (λ t. IsTrue (is_blocked t v.journal)) all-waiting blocked-of;
     write_only = subst (λ q. ((cond (nat_lt (length s.up.waiting) READING_STOPS_AT) Read WriteOnly) ≡ WriteOnly) ↔ (READING_STOPS_AT ≤ length q)) (fits picks later).fit.up (want-is (length s.up.waiting) READING_STOPS_AT);
     settled = λ t client. (v.sound picks later).settled t (not-own-stream t client) refl;
-    house = house-none picks later;
+    house = handed-all v picks later;
   }
 
   pub open-right : (hears : seen.listens ≡ s.listening) (picks : List ℕ) (later : List HouseReply) → OpenRight (rows picks later) seen.streams seen.listens

@@ -106,10 +106,15 @@ WaitsAt setting before (Waits waiting want streams listens) =
     WaitsRight setting before waiting want streams
 WaitsAt setting before _ = Unit {0}
 
--- the house speaks only while fewer than 4,194,304 bytes wait for the server
+-- the house speaks only while fewer than 4,194,304 bytes wait for the server, and when it was handed
+-- all that it is told as a client
+pub record SpeaksRight (setting : Setting) (before : List Mark) : Type 0 where
+  pub room : length (pending 0 (log_of_journal setting before)) < READING_STOPS_AT
+  pub heard : pending HOUSE (log_of_journal setting before) ≡ []
+
+-- of what it says
 abbrev pub SpeaksInTime : Setting → List Mark → Mark → Type 0
-SpeaksInTime setting before (House (HouseSaid bytes)) =
-    length (pending 0 (log_of_journal setting before)) < READING_STOPS_AT
+SpeaksInTime setting before (House (HouseSaid bytes)) = SpeaksRight setting before
 SpeaksInTime setting before mark = Unit {0}
 
 -- takes and waits, and what the house says
