@@ -144,6 +144,7 @@ offers to remote window maximum old new h = λ framer stage desk most course is.
       record {
         number = h.number;
         free = none-lives most (has_channel h.number) (λ l. l.relay.number == h.number) (living.has-channel h.number most) course.lives old is.lives h.free;
+        small = h.small;
         more = refl;
       },
       of-same most (record course { lives = course.lives ++ life ∷ [] }) framer stage desk (old ++ link ∷ []) new h.more
@@ -478,6 +479,7 @@ joins l t old new framer stage desk h = λ most course is.
           (subst (λ (b : Bool). IsJoined (is_full old) b f t h.relay) (sym (crowded-same most course.lives old is.lives)) h.joined);
       free = none-lives most (has_channel h.relay.number) (λ l. l.relay.number == h.relay.number)
           (living.has-channel h.relay.number most) course.lives old is.lives h.free;
+      small = h.small;
       fresh = none-lives most (has_stream t) (has_number t) (living.has-number t most) course.lives old is.lives
           (numbers-none t old h.fresh);
       more = refl;

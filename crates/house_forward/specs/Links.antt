@@ -1,5 +1,5 @@
 -- The relays of the house, each with its stream.
-use Rattle.std.specs.Prelude.{◌≡◌, ℕ, Bool, true, false, not, ◌&&◌, if◌then◌else◌, ◌==◌, nat_le, List, [], ◌∷◌, ◌++◌, length, map, filter, find, is_some, IfSome, Option, Some, None}
+use Rattle.std.specs.Prelude.{◌≡◌, ◌<◌, ◌^◌, ℕ, Bool, true, false, not, ◌&&◌, if◌then◌else◌, ◌==◌, nat_le, List, [], ◌∷◌, ◌++◌, length, map, filter, find, is_some, IfSome, Option, Some, None}
 use Rattle.mux_outside.specs.OwnStreams.{new_stream, is_one, is_finished}
 use Rattle.mux_outside.specs.declared.order.Order.{Order}
 use Rattle.mux_outside.specs.declared.order.Order.TheVariants.{Listen, Connect, Unlisten}
@@ -258,6 +258,7 @@ pub record Offers (f : Forwarding) (remote window maximum : ℕ) (old new : List
   pub number : ℕ
   pub stream : Stream
   pub free : is_number_of number old ≡ false
+  pub small : number < 2 ^ 32
   pub connects : ConnectsAt f.connect_host f.connect_port stream
   pub more : new ≡ old ++ record {
     relay = fresh_relay number (OfServer remote window maximum) socket.Unmade;
@@ -295,5 +296,6 @@ pub record Joins (f : Option Forwarding) (t : ℕ) (old new : List Link) : Type 
   pub relay : Relay
   pub joined : IsJoined (is_full old) (is_crowded old) f t relay
   pub free : is_number_of relay.number old ≡ false
+  pub small : relay.number < 2 ^ 32
   pub fresh : is_one t (streams_of old) ≡ false
   pub more : new ≡ old ++ record { relay = relay; stream = Made (new_stream t) } ∷ []

@@ -219,6 +219,7 @@ pub record JoinsOne (f : Option Forwarding) (t joins : ℕ) (old new : List Life
   pub relay : Relay
   pub joined : IsJoined (are_full old) (are_crowded old) f t relay
   pub free : list_any (has_channel relay.number) old ≡ false
+  pub small : relay.number < 2 ^ 32
   pub fresh : list_any (has_stream t) old ≡ false
   pub more : new ≡ old ++ record {
     relay = relay;
@@ -284,6 +285,7 @@ HearsAt n m old new = ((lives : List Life) × One (has_channel n) (Listens m) ol
 pub record OffersOne (f : Forwarding) (remote window maximum : ℕ) (old new : Course) : Type 0 where
   pub number : ℕ
   pub free : list_any (has_channel number) old.lives ≡ false
+  pub small : number < 2 ^ 32
   pub more : new ≡ record old {
     lives = old.lives ++ record {
       relay = fresh_relay number (OfServer remote window maximum) socket.Unmade;

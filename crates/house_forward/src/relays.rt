@@ -1,5 +1,5 @@
 //! The relays of the house, each with its stream.
-ghost use Rattle.std.specs.Prelude.{◌≡◌, ◌≤◌, ◌+◌, ◌++◌, ◌∷◌, [], ℕ, true, false, not, length, map, find, ◌==◌, IfOk, IfSome, OnOk, OnErr, OnSome, None, Some, Ok};
+ghost use Rattle.std.specs.Prelude.{◌≡◌, ◌≤◌, ◌<◌, ◌^◌, ◌+◌, ◌++◌, ◌∷◌, [], ℕ, true, false, not, length, map, find, ◌==◌, IfOk, IfSome, OnOk, OnErr, OnSome, None, Some, Ok};
 ghost use Rattle.std.specs.List.{All, list_any, position, sum_by};
 ghost use Rattle.std.specs.Option.{option_copied};
 ghost use Rattle.mux_outside.specs.House.{SaysFits, says_nothing, gives_none, order_marks, OrderFits, Known as TheKnown, known_after_order, queue_after_took};
@@ -83,7 +83,8 @@ impl Relays {
 
     /// A number that no relay has.
     pub fn free_number(&self) -> Option<u32>
-        ensures { IfSome result (λ n. is_number_of n self.now.all.items ≡ false) }
+        ensures free { IfSome result (λ n. is_number_of n self.now.all.items ≡ false) }
+        ensures small { IfSome result (λ n. n < 2 ^ 32) }
     {
         let mut number = self.next;
         for _ in 0..=self.all.len() {
