@@ -633,9 +633,9 @@ caused calls = record {
     over = right-socket a.relay.line a.relay.socket (made_as number) a.dials (Other ∷ a.acts) (λ e. unmade-whole a.relay.socket is)
         (hears-other a.relay.line a.relay.socket a.dials a.acts p.over);
   };
-  joins = λ l t old now r h. joined-caused calls old.joins l t old now (are_full old.lives) (are_crowded old.lives) (find (has_listener l) old.desk.all)
+  joins = λ l t old now r h small. joined-caused calls old.joins l t old now (are_full old.lives) (are_crowded old.lives) (find (has_listener l) old.desk.all)
       refl refl refl r h;
-  offers = λ f number remote window maximum. record { broken = tt; over = tt };
+  offers = λ f number remote window maximum small. record { broken = tt; over = tt };
 }
 
 all-caused : (calls : List HouseCall) (course : Course) → Reaches first_course calls course → All (Both (Caused calls)) course

@@ -224,12 +224,12 @@ aimed calls = record {
     right = none-right calls (made_life number a).own a.joined a.relay.line (p.unmade_none is);
     unmade_none = not-unmade (made_life number a) (made-none number a);
   };
-  joins = λ l t old now r h. record {
+  joins = λ l t old now r h small. record {
     right = joined-right calls l t (are_full old.lives) (are_crowded old.lives) (find (has_listener l) old.desk.all) old r now refl h;
     unmade_none = not-unmade (joined_life old.joins t r)
         (streamed r.socket t (joined (are_full old.lives) (are_crowded old.lives) (find (has_listener l) old.desk.all) t r h).stream);
   };
-  offers = λ f number remote window maximum. record { right = tt; unmade_none = λ e. refl };
+  offers = λ f number remote window maximum small. record { right = tt; unmade_none = λ e. refl };
 }
 
 pub all-aimed : (calls : List HouseCall) (course : Course) → Reaches first_course calls course → All (Both (Aimed calls)) course

@@ -1,7 +1,7 @@
 -- The channel numbers of the relays, and their streams.
-use Rattle.std.proofs.Common.{◌≡◌, ◌∙◌, refl, sym, ap, subst, arith, ℕ, zero, suc, ◌<◌, Bool, true, false, cond, List, [], ◌∷◌, ◌++◌, length, get_or, map, Option, Some, None}
+use Rattle.std.proofs.Common.{◌≡◌, ◌∙◌, refl, sym, ap, subst, arith, ℕ, zero, suc, ◌<◌, ◌^◌, Bool, true, false, cond, List, [], ◌∷◌, ◌++◌, length, get_or, map, Option, Some, None}
 use Rattle.std.specs.Prelude.{◌≢◌, ◌==◌, not, if◌then◌else◌, filter, find, IfSome}
-use Rattle.std.specs.List.{AllPairs, list_any, cons_option}
+use Rattle.std.specs.List.{AllByRecursion, AllPairs, list_any, cons_option}
 use Rattle.std.specs.Option.{option_to_list}
 use Rattle.std.proofs.lemmas.Bool.{and_parts, or_parts, or_from, both_ways, eq-eqb, ne_eqb, eqb-false}
 use Rattle.std.proofs.lemmas.List.{append-nil, map-append}
@@ -34,7 +34,7 @@ use Rattle.house_forward.specs.Heard.{heard_of}
 use Rattle.house_forward.specs.Links.{after_saying, relay_after}
 use Rattle.house_forward.specs.Lives.{Life, Course, GoesBy, Speaks, Listens, StepsBy, MakesOne, Reaches, Follows, SaysBy, MarksIn, OrdersIn, TurnsTo, first_course, with_heard}
 use Rattle.house_forward.specs.Lives.{has_channel, has_stream, is_stream, has_words, unmade, are_full, own_after, own_made, stepped, made_life, kept_in}
-use Rattle.house_forward.specs.Numbers.{ChannelsDiffer, StreamsAreTheirs, StreamsDiffer, EachIsNew, BringsNew, channels_of, open_streams, number_of, open_after, made_by, closed_by, without_closed}
+use Rattle.house_forward.specs.Numbers.{ChannelsAreSmall, ChannelsDiffer, StreamsAreTheirs, StreamsDiffer, EachIsNew, BringsNew, channels_of, open_streams, number_of, open_after, made_by, closed_by, without_closed}
 use Rattle.house_forward.specs.declared.forwarding.Forwarding.{Forwarding}
 use Rattle.house_forward.specs.declared.link.Step.{Step}
 use Rattle.house_forward.specs.declared.link.Step.TheVariants as step
@@ -42,7 +42,7 @@ use Rattle.house_forward.proofs.Differing.{Apart}
 use Rattle.house_forward.proofs.Frames.{Heeds, frames}
 use Rattle.house_forward.proofs.Lists.{any-map, one-passes}
 use Rattle.house_forward.proofs.Picking.{pick-none, pick-push, pick-kept, pick-stepped, one-picks, most-picks, one-maps, most-maps}
-use Rattle.house_forward.proofs.Sound.{Each, All, Sound, offered_life, joined_life, step_of, each-back, each-one, sound-says, sound-hears, stepped-sound, follow-sound}
+use Rattle.house_forward.proofs.Sound.{Each, All, Kept, Sound, all-reach, offered_life, joined_life, step_of, each-back, each-one, sound-says, sound-hears, stepped-sound, follow-sound}
 
 -- ---- numbers of which no two are the same
 
@@ -107,7 +107,7 @@ apart-filtered p (x ∷ ns) h = either (p x) (apart-filtered p ns h.1) (among-fi
 
 -- ---- a channel's number stays
 
-number-said : (s : Saying) (r : Relay) → (said_of s r).number ≡ r.number
+pub number-said : (s : Saying) (r : Relay) → (said_of s r).number ≡ r.number
 number-said saying.Open r = refl
 number-said saying.Confirmation r = refl
 number-said saying.OpenFailure r = refl
@@ -141,7 +141,7 @@ number-data : (b : Bool) (bytes : List ℕ) (r : Relay) → (data_heard b bytes 
 number-data true bytes r = refl
 number-data false bytes r = refl
 
-number-heard : (m : Message) (r : Relay) → (heard_of m r).number ≡ r.number
+pub number-heard : (m : Message) (r : Relay) → (heard_of m r).number ≡ r.number
 number-heard (message.Transport number rest) r = refl
 number-heard (message.GlobalRequest name want rest what) r = refl
 number-heard (message.RequestSuccess rest) r = refl
@@ -303,6 +303,38 @@ channels-reach (call ∷ calls) old new h s a =
 pub channels-differ : ChannelsDiffer
 channels-differ calls course h =
     pairs (channels_of course.lives) (channels-reach calls first_course course h (record { lives = tt; past = tt }) tt)
+
+-- each is uint32
+
+HasSmall : Life → Type 0
+HasSmall l = channel l < 2 ^ 32
+
+small-stays : (a b : Life) → channel b ≡ channel a → HasSmall a → HasSmall b
+unfolding HasSmall
+small-stays a b same h = subst (λ (n : ℕ). n < 2 ^ 32) (sym same) h
+
+small-kept : Kept (λ call course. Unit {0}) HasSmall
+unfolding HasSmall
+small-kept = record {
+  says = λ bytes a b p is h. small-stays a b (says-same bytes a b h) p;
+  hears = λ m a b p h. small-stays a b (hears-same m a b h) p;
+  gets = λ t bytes old now a b p is h. small-stays a b (gets-same (not (are_full old.lives)) bytes a b h) p;
+  takes = λ t n a b p is h. small-stays a b (takes-same n a b h) p;
+  steps = λ s t call old now causes a p is. small-stays a (step_of s a) (number-step s a.relay) p;
+  makes = λ host port number old now a p is. p;
+  joins = λ l t old now r h small. small;
+  offers = λ f number remote window maximum small. small;
+}
+
+all-small : (ls : List Life) → Each HasSmall ls → AllByRecursion (λ n. n < 2 ^ 32) (channels_of ls)
+unfolding HasSmall
+all-small [] h = tt
+all-small (l ∷ ls) h = (h.0, all-small ls h.1)
+
+pub channels-small : ChannelsAreSmall
+channels-small calls course h =
+    let all : All HasSmall course = all-reach (λ call course. Unit {0}) HasSmall small-kept calls first_course course (λ before call behind mid e r. tt) h (record { lives = tt; past = tt }) in
+    all-small course.lives all.lives
 
 -- ---- the streams of a course
 

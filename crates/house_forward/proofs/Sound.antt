@@ -1,5 +1,5 @@
 -- What holds of each relay of a course, by what each step leaves of one.
-use Rattle.std.proofs.Common.{◌≡◌, ◌∙◌, refl, sym, ap, subst, inl, inr, ℕ, Bool, true, false, List, [], ◌∷◌, ◌++◌, map, Option, Some, None}
+use Rattle.std.proofs.Common.{◌≡◌, ◌∙◌, refl, sym, ap, subst, inl, inr, ◌<◌, ◌^◌, ℕ, Bool, true, false, List, [], ◌∷◌, ◌++◌, map, Option, Some, None}
 use Rattle.std.specs.Prelude.{not, if◌then◌else◌, find, Result, Ok, Err}
 use Rattle.ssh_fields.specs.Fields.{take_u32}
 use Rattle.ssh_grammar.specs.Frames.{Frame}
@@ -111,8 +111,9 @@ pub record Kept (Now : HouseCall → Course → Type 0) (P : Life → Type 0) : 
       → Now (Marks (HouseOrder (order.Connect host port) number)) old → (a : Life) → P a → is_unmade a ≡ true
       → P (made_life number a)
   pub joins : (l t : ℕ) (old : Course) → Now (Turns (Joined l t)) old → (r : Relay)
-      → IsJoined (are_full old.lives) (are_crowded old.lives) (find (has_listener l) old.desk.all) t r → P (joined_life old.joins t r)
-  pub offers : (f : Forwarding) (number remote window maximum : ℕ) → P (offered_life f number remote window maximum)
+      → IsJoined (are_full old.lives) (are_crowded old.lives) (find (has_listener l) old.desk.all) t r → r.number < 2 ^ 32
+      → P (joined_life old.joins t r)
+  pub offers : (f : Forwarding) (number remote window maximum : ℕ) → number < 2 ^ 32 → P (offered_life f number remote window maximum)
 
 -- ---- it holds of all by one
 
@@ -188,7 +189,7 @@ all-opens : (Now : HouseCall → Course → Type 0) (P : Life → Type 0) → Ke
     → OpensFor o remote window maximum old new → All P old → All P new
 all-opens Now P k None remote window maximum old new h all = all-same P old new h all
 all-opens Now P k (Some f) remote window maximum old new h all = subst (All P) (sym h.more) (record {
-  lives = each-append P old.lives _ all.lives (k.offers f h.number remote window maximum, tt);
+  lives = each-append P old.lives _ all.lives (k.offers f h.number remote window maximum h.small, tt);
   past = all.past;
 })
 
@@ -295,7 +296,7 @@ all-marks Now P k (HouseOrder o number) old new now h all = all-orders Now P k o
 each-turn : (Now : HouseCall → Course → Type 0) (P : Life → Type 0) → Kept Now P → (happening : Happening) (old : Course) (new : List Life)
     → Now (Turns happening) old → TurnsTo happening old.joins old.desk.all old.lives new → Each P old.lives → Each P new
 each-turn Now P k (Joined l t) old new now h all = subst (Each P) (sym h.more)
-    (each-append P old.lives (joined_life old.joins t h.relay ∷ []) all (k.joins l t old now h.relay h.joined, tt))
+    (each-append P old.lives (joined_life old.joins t h.relay ∷ []) all (k.joins l t old now h.relay h.joined h.small, tt))
 each-turn Now P k (Got t bytes) old new now h all =
     each-most P (has_stream t) (GoesBy (GetsOn (not (are_full old.lives)) bytes) (Reads bytes)) old.lives new
     (λ a b p is goes. k.gets t bytes old now a b p is goes) h all
@@ -413,8 +414,9 @@ pub record KeptSound (Now : HouseCall → Course → Type 0) (P : Life → Type 
       → Now (Marks (HouseOrder (order.Connect host port) number)) old → (a : Life) → Sound a → P a → is_unmade a ≡ true
       → P (made_life number a)
   pub joins : (l t : ℕ) (old : Course) → Now (Turns (Joined l t)) old → (r : Relay)
-      → IsJoined (are_full old.lives) (are_crowded old.lives) (find (has_listener l) old.desk.all) t r → P (joined_life old.joins t r)
-  pub offers : (f : Forwarding) (number remote window maximum : ℕ) → P (offered_life f number remote window maximum)
+      → IsJoined (are_full old.lives) (are_crowded old.lives) (find (has_listener l) old.desk.all) t r → r.number < 2 ^ 32
+      → P (joined_life old.joins t r)
+  pub offers : (f : Forwarding) (number remote window maximum : ℕ) → number < 2 ^ 32 → P (offered_life f number remote window maximum)
 
 abbrev pub Both : (Life → Type 0) → Life → Type 0
 Both P l = Sound l × P l
@@ -430,10 +432,10 @@ with-sound Now P k = record {
   takes = λ t n a b p is h. (sound-takes n a b p.0 h, k.takes t n a b p.0 p.1 is h);
   steps = λ s t call old now causes a p is. (sound-steps s t a p.0 is, k.steps s t call old now causes a p.0 p.1 is);
   makes = λ host port number old now a p is. (sound-makes number a p.0, k.makes host port number old now a p.0 p.1 is);
-  joins = λ l t old now r h.
-      (sound-joins (are_full old.lives) (are_crowded old.lives) (find (has_listener l) old.desk.all) old.joins t r h, k.joins l t old now r h);
-  offers = λ f number remote window maximum.
-      (sound-offers f number remote window maximum, k.offers f number remote window maximum);
+  joins = λ l t old now r h small.
+      (sound-joins (are_full old.lives) (are_crowded old.lives) (find (has_listener l) old.desk.all) old.joins t r h, k.joins l t old now r h small);
+  offers = λ f number remote window maximum small.
+      (sound-offers f number remote window maximum, k.offers f number remote window maximum small);
 }
 
 abbrev Whenever : HouseCall → Course → Type 0
@@ -447,8 +449,8 @@ sound = record {
   takes = λ t n a b s is h. sound-takes n a b s h;
   steps = λ s t call old now causes a h is. sound-steps s t a h is;
   makes = λ host port number old now a h is. sound-makes number a h;
-  joins = λ l t old now r h. sound-joins (are_full old.lives) (are_crowded old.lives) (find (has_listener l) old.desk.all) old.joins t r h;
-  offers = λ f number remote window maximum. sound-offers f number remote window maximum;
+  joins = λ l t old now r h small. sound-joins (are_full old.lives) (are_crowded old.lives) (find (has_listener l) old.desk.all) old.joins t r h;
+  offers = λ f number remote window maximum small. sound-offers f number remote window maximum;
 }
 
 pub stepped-sound : (s : Step) (t : ℕ) (ls : List Life) → Each Sound ls → Each Sound (map (stepped s t) ls)

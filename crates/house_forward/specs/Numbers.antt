@@ -1,6 +1,6 @@
 -- The channel numbers of the relays and the numbers of their streams, by the calls.
-use Rattle.std.specs.Prelude.{◌≡◌, ◌≢◌, ℕ, false, List, [], ◌∷◌, ◌++◌, map, IfSome, Option, Some, None}
-use Rattle.std.specs.List.{AllPairs, filter_map}
+use Rattle.std.specs.Prelude.{◌≡◌, ◌≢◌, ◌<◌, ◌^◌, ℕ, false, List, [], ◌∷◌, ◌++◌, map, IfSome, Option, Some, None}
+use Rattle.std.specs.List.{AllByRecursion, AllPairs, filter_map}
 use Rattle.std.specs.Option.{option_to_list}
 use Rattle.mux_outside.specs.HouseCalls.{HouseCall, Happening, Begins, Marks, Hears, Turns, Takes}
 use Rattle.mux_outside.specs.HouseCalls.{Joined, Got, End, Writable, Failed}
@@ -22,6 +22,11 @@ channels_of lives = map (λ l. l.relay.number) lives
 abbrev pub ChannelsDiffer : Type 0
 ChannelsDiffer = (calls : List HouseCall) (course : Course) → Reaches first_course calls course
     → AllPairs (λ a b. a ≢ b) (channels_of course.lives)
+
+-- each is a uint32 (RFC 4254, section 5.1)
+abbrev pub ChannelsAreSmall : Type 0
+ChannelsAreSmall = (calls : List HouseCall) (course : Course) → Reaches first_course calls course
+    → AllByRecursion (λ n. n < 2 ^ 32) (channels_of course.lives)
 
 -- ---- streams
 

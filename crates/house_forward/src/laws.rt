@@ -8,7 +8,7 @@ ghost use Rattle.house_forward.specs.Connects.{OneConnectEach};
 ghost use Rattle.house_forward.specs.Deeds.{EachHappens};
 ghost use Rattle.house_forward.specs.Greeting.{EachGreets};
 ghost use Rattle.house_forward.specs.Laws.{EachRelays, EachKeeps, EachRests};
-ghost use Rattle.house_forward.specs.Numbers.{ChannelsDiffer, EachIsNew, StreamsAreTheirs, StreamsDiffer};
+ghost use Rattle.house_forward.specs.Numbers.{ChannelsAreSmall, ChannelsDiffer, EachIsNew, StreamsAreTheirs, StreamsDiffer};
 ghost use Rattle.house_forward.specs.Opening.{EachIsTold, EachWasJoined, OneOpenAtMost, OneOpenEach, OpensGoRight};
 ghost use Rattle.house_forward.specs.Starting.{EachQuiet, EachStart};
 ghost use Rattle.house_forward.specs.Streaming.{EachHasItsStream};
@@ -28,10 +28,11 @@ pub fn relays_of_a_quiet_house_rest()
 {}
 
 /// Channel numbers and streams are each one's own: no two relays of the house have the same channel
-/// number; and its relays have exactly the streams that were joined or connected and not closed since,
+/// number, and each is a uint32; and its relays have exactly the streams that were joined or connected and not closed since,
 /// of which no two are the same, since each came with a number that no open one had.
 pub fn each_relay_has_its_own_channel_and_stream()
     ensures channels { ChannelsDiffer }
+    ensures small { ChannelsAreSmall }
     ensures streams { StreamsAreTheirs }
     ensures new { EachIsNew }
     ensures apart { StreamsDiffer }

@@ -1,0 +1,557 @@
+-- The house stays, mark by mark.
+use Rattle.std.proofs.Common.{◌≡◌, ◌≤◌, ◌<◌, ◌+◌, ◌*◌, ◌^◌, ℕ, Bool, true, false, not, ◌&&◌, Option, Some, None, List, [], ◌∷◌, ◌++◌, refl, sym, ap, ◌∙◌, subst, arith, map, append-nil, length, inl}
+use Rattle.std.specs.Prelude.{◌==◌, find, take, if◌then◌else◌}
+use Rattle.std.proofs.lemmas.Bool.Decides.{nat_tests}
+use Rattle.std.specs.List.{AllByRecursion}
+use Rattle.ssh_grammar.specs.Control.{Greets}
+use Rattle.ssh_grammar.specs.Frames.{frame_answer}
+use Rattle.ssh_grammar.specs.Said.{InProxy, parse}
+use Rattle.ssh_grammar.specs.SpellControl.{spell_answer}
+use Rattle.ssh_grammar.specs.declared.numbers.TheConstants.{VERSION}
+use Rattle.mux_outside.specs.HouseCalls.{Got, End, Failed, Hears, HouseCall, Joined, Marks, Turns, Writable}
+use Rattle.mux_outside.specs.HouseCalls as call
+use Rattle.mux_outside.specs.OwnStreams.{is_own}
+use Rattle.mux_outside.specs.Whose.{is_server}
+use Rattle.mux_outside.specs.declared.house.HouseReply.{HouseReply}
+use Rattle.mux_outside.specs.declared.house_mark.HouseMark.{HouseMark}
+use Rattle.mux_outside.specs.declared.house_mark.HouseMark.TheVariants.{HouseIn, HouseSaid, HouseTook, HouseAsked, HouseAnswer, HouseOrder}
+use Rattle.mux_outside.specs.declared.mark.Mark.{Mark}
+use Rattle.mux_outside.specs.declared.mark.Mark.TheVariants.{Waits, Accepts, Gets, Ends, Frees, Fails, Takes, Holds, WriteFails, Joins, House}
+use Rattle.mux_outside.specs.declared.turn.Want.TheVariants.{Read, WriteOnly}
+use Rattle.mux_history.specs.declared.limits.TheConstants.{HOUSE}
+use Rattle.mux_history.specs.Journal.{IsLawful, LawfulMark, bytes_in, bytes_of, is_accepted, is_own_stream, items_in, log_of_journal, new_heard, new_sayings, server_end, unless_own}
+use Rattle.mux_history.specs.Kept.{AtEach}
+use Rattle.mux_history.specs.Log.{Setting, is_took, makes_row, more_all, more_of, next_row}
+use Rattle.mux_history.specs.Pending.{pending}
+use Rattle.mux_history.specs.Policy.{Policy}
+use Rattle.mux_history.specs.Promises.{SpeaksInTime, Throughout, WaitsAt}
+use Rattle.mux_history.specs.Rows.{Admit, BadServer, Gone, Heard, HouseSays, Item, Row, RunEnd, Says, ServerCut, ServerEnd, ServerFailed, Took, is_ended, is_lost, rows_of}
+use Rattle.mux_history.specs.Settings.{by_lists}
+use Rattle.mux_history.specs.Wires.{FollowsRead, ReadsWhenAsked}
+use Rattle.mux_engine.specs.Called.{calls_at, calls_in, if_own}
+use Rattle.house_forward.specs.Lives.{Course, Follows, Life, Reaches, SaysBy, first_course}
+use Rattle.house_forward.proofs.Sound.{All, Sound, all-sound, follow-sound}
+use Rattle.house_history.specs.Runs.{HouseStays, IsOfOthers, names_house}
+use Rattle.house_history.proofs.Lists.{Each, each-found, each-front, found}
+use Rattle.house_history.proofs.Hearing.{NoGrant, Told, Waits as WaitsFor, hears, none-left}
+use Rattle.house_history.proofs.Requesting.{requests-few}
+use Rattle.house_history.proofs.RowsOf.{heard-size, plain_row, total}
+use Rattle.house_history.proofs.AnswersOf.{atEach-before, atEach-here, heard-sized}
+use Rattle.house_history.proofs.Calm.{IsCalm, distinct-of}
+use Rattle.house_history.proofs.Going.{After, Going, IsOn, IsOver, RightAt, SaidSo, in-kept, others-stay, own-more}
+use Rattle.house_history.proofs.Items.{HeardRow, IsOther, OnWith, heard-items, is-bytes-all, is-heard-all, is-other-all, others-items}
+use Rattle.house_history.proofs.Takes.{calm-rest, calm-step, took-step}
+use Rattle.house_history.proofs.Desks.{desk-heard}
+use Rattle.house_history.proofs.Asks.{greets-step, request-step}
+use Rattle.house_history.proofs.Relays.{EachSmall, WindowIn, relay-step}
+use Rattle.house_history.proofs.Remotes.{IsSmallChannel, remotes-held, stream-bytes}
+use Rattle.house_history.proofs.HeardRows.{heard-row}
+use Rattle.house_history.proofs.Right.{right-held}
+use Rattle.house_history.proofs.Readings.{SmallIn}
+use Rattle.house_history.proofs.Views.{IsOffered, View}
+use Rattle.house_history.proofs.Fitting.{Entry, Fits, FitsAs, Owns, number-is, offered-at, owned-at}
+use Rattle.house_history.proofs.Seen.{AreViews, Seen, ViewOf, note-in}
+use Rattle.house_relay.specs.Acts.{Act}
+use Rattle.house_relay.specs.declared.line.Line.{Line}
+use Rattle.house_relay.specs.declared.line.Line.TheVariants as line
+use Rattle.house_forward.specs.Forwardings.{has_request}
+use Rattle.house_forward.specs.declared.forwarding.Forwarding.{Forwarding}
+use Rattle.house_forward.specs.Numbers.{channels_of}
+use Rattle.house_forward.proofs.Owning.{channels-differ, channels-small}
+use Rattle.mux_history.specs.Channels.{Channel, held_of, is_confirmed, is_number, is_up}
+use Rattle.std.proofs.lemmas.Bool.{and_parts}
+
+-- ---- the numbers that the server gave are small
+
+abbrev pub HeldSmall : List Row → Type 0
+HeldSmall rows = Each IsSmallChannel (held_of (rows_of HOUSE rows))
+
+small-offered : (hs : List Channel) (s w m : ℕ) (o : Option ℕ) → Each IsSmallChannel hs → FitsAs hs o (IsOffered s w m) → (s < 2 ^ 32) × (w ≤ 4294967295)
+small-offered hs s w m o small f =
+    let x = f.1.0 in
+    let at = found (offered-at s) x hs f.1.1 in
+    let is = and_parts (is_number x.remote s) (not (is_up x.by) && not (is_confirmed x)) at.is in
+    let both = each-found IsSmallChannel (offered-at s) x hs f.1.1 small in
+    let bound = both.1 in
+    let room = f.1.2.window in
+    (both.0 s (number-is x.remote s is.0), omega (arith, bound, room))
+
+owned-small : (hs : List Channel) (o : Option ℕ) (x : Channel) → Each IsSmallChannel hs → Owns hs o x → IsSmallChannel x
+owned-small hs None x small f = absurd f
+owned-small hs (Some n) x small f = each-found IsSmallChannel (owned-at n) x hs f small
+
+small-view : (hs : List Channel) (l : Line) (acts : List Act) (o : Option ℕ) (v : View) → Each IsSmallChannel hs → ViewOf l acts v → FitsAs hs o v → SmallIn l × WindowIn l
+small-view hs (line.Dialing dialog) acts o v small h f = (tt, tt)
+small-view hs (line.Asked host port version) acts o v small h f = (tt, tt)
+small-view hs (line.Opened version) acts o v small h f = (tt, tt)
+small-view hs (line.Offered remote window maximum) acts o v small h f = small-offered hs remote window maximum o small (subst (FitsAs hs o) h.0 f)
+small-view hs (line.Live live) acts o v small h f =
+    let its = subst (FitsAs hs o) h.1 f in
+    let both = owned-small hs o its.0 small its.1 in
+    let n = both.0 h.0.remote its.2.remote in
+    (subst (λ (n : ℕ). n < 2 ^ 32) (sym h.2.remote) n, tt)
+small-view hs line.Over acts o v small h f = (tt, tt)
+
+small-lives : (hs : List Channel) (lives : List Life) (es : List Entry) → Each IsSmallChannel hs → AreViews lives es → Each (Fits hs) es → EachSmall lives
+small-lives hs [] es small views fits = tt
+small-lives hs (l ∷ lives) [] small views fits = absurd views
+small-lives hs (l ∷ lives) (e ∷ es) small views fits = (small-view hs l.relay.line l.acts e.0 e.1 small views.0.view fits.0, small-lives hs lives es small views.1 fits.1)
+
+lives-small : (rows : List Row) (course : Course) (told : Told) → Going rows course told → pending HOUSE rows ≡ [] → HeldSmall rows → EachSmall course.lives
+lives-small rows course told g empty small =
+    let hs = held_of (rows_of HOUSE rows) in
+    let none = none-left course told (subst (λ (b : List ℕ). WaitsFor course b told) empty g.waits) in
+    let s : Seen hs course.lives [] = subst (λ (ps : List (List ℕ)). Seen hs course.lives (map note-in ps)) none.1 g.seen in
+    small-lives hs course.lives s.entries small s.views (each-front (Fits hs) s.entries s.orphans s.later.fits)
+
+-- and those of the house
+numbers-each : (lives : List Life) → AllByRecursion (λ n. n < 2 ^ 32) (channels_of lives) → Each (λ (l : Life). l.relay.number < 2 ^ 32) lives
+numbers-each [] all = tt
+numbers-each (l ∷ lives) all = (all.0, numbers-each lives all.1)
+
+numbers-small : (calls : List HouseCall) (course : Course) → Reaches first_course calls course → Each (λ (l : Life). l.relay.number < 2 ^ 32) course.lives
+numbers-small calls course h = numbers-each course.lives (channels-small calls course h)
+
+-- ---- calls
+
+pub record Split (calls more : List HouseCall) (a c : Course) : Type 0 where
+  pub middle : Course
+  pub first : Reaches a calls middle
+  pub rest : Reaches middle more c
+
+reach-split : (calls more : List HouseCall) (a c : Course) → Reaches a (calls ++ more) c → Split calls more a c
+reach-split [] more a c h = record { middle = a; first = refl; rest = h }
+reach-split (one ∷ calls) more a c h =
+    let s = reach-split calls more h.0 c h.2 in
+    record { middle = s.middle; first = (h.0, h.1, s.first); rest = s.rest }
+
+-- calls that are calm leave the run and its house going on
+pub record Calmed (rows : List Row) (course new : Course) : Type 0 where
+  pub goes : (told : Told) → Going rows course told → Going rows new told
+  pub greeted : new.desk.greeted ≡ course.desk.greeted
+
+calms : (rows : List Row) (calls : List HouseCall) (course new : Course) → Each IsCalm calls → All Sound course → Reaches course calls new → Calmed rows course new
+calms rows [] course new calm sound h = record {
+  goes = λ told g. subst (λ (c : Course). Going rows c told) (sym h) g;
+  greeted = ap (λ c. c.desk.greeted) h;
+}
+calms rows (one ∷ calls) course new calm sound h =
+    let rest = calms rows calls h.0 new calm.1 (follow-sound one course h.0 h.1 sound) h.2 in
+    let first = calm-rest one course h.0 calm.0 h.1 in
+    record {
+      goes = λ told g. rest.goes told (calm-step rows course h.0 one told sound calm.0 h.1 g);
+      greeted = rest.greeted ∙ first.greeted;
+    }
+
+if-calm : (t : ℕ) (one : HouseCall) → IsCalm one → Each IsCalm (if_own t one)
+if-calm t one calm = go (is_own t)
+  where
+    go : (b : Bool) → Each IsCalm (if b then one ∷ [] else [])
+    go true = (calm, tt)
+    go false = tt
+
+-- ---- what is so behind each mark
+
+pub data Inv (setting : Setting) (journal : List Mark) (course : Course) : Type 0 where
+  Past : is_ended (log_of_journal setting journal) ≡ true → is_lost (rows_of HOUSE (log_of_journal setting journal)) ≡ false → Inv setting journal course
+  Here : (told : Told) → Going (log_of_journal setting journal) course told → SaidSo course.desk.greeted (bytes_of HOUSE journal) → Inv setting journal course
+
+-- the house says nothing at this mark
+bytes-same : (mark : Mark) (before : List Mark) → bytes_in HOUSE mark ≡ [] → bytes_of HOUSE (mark ∷ before) ≡ bytes_of HOUSE before
+bytes-same mark before e = ap (λ (l : List ℕ). bytes_of HOUSE before ++ l) e ∙ append-nil (bytes_of HOUSE before)
+
+-- marks at which the house says and takes nothing
+record IsQuiet (setting : Setting) (before : List Mark) (mark : Mark) : Type 0 where
+  silent : bytes_in HOUSE mark ≡ []
+  calm : Each IsCalm (calls_at setting before mark)
+
+after-so : (setting : Setting) (before : List Mark) (mark : Mark) (course new : Course) → bytes_of HOUSE (mark ∷ before) ≡ bytes_of HOUSE before → new.desk.greeted ≡ course.desk.greeted
+    → SaidSo course.desk.greeted (bytes_of HOUSE before) → SaidSo new.desk.greeted (bytes_of HOUSE (mark ∷ before))
+after-so setting before mark course new same greeted said =
+    subst (λ (b : Bool). SaidSo b (bytes_of HOUSE (mark ∷ before))) (sym greeted) (subst (λ (bytes : List ℕ). SaidSo course.desk.greeted bytes) (sym same) said)
+
+-- where its items are after, so is all
+pub quiet-step : (policy : Policy) (pid : ℕ) (picks : List ℕ) (given : List HouseReply) (before : List Mark) (mark : Mark) (course new : Course) → bytes_in HOUSE mark ≡ []
+    → Each IsCalm (calls_at (by_lists policy pid picks given) before mark) → All Sound course → Reaches course (calls_at (by_lists policy pid picks given) before mark) new
+    → SaidSo course.desk.greeted (bytes_of HOUSE before)
+    → After (log_of_journal (by_lists policy pid picks given) (mark ∷ before)) course → Inv (by_lists policy pid picks given) (mark ∷ before) new
+quiet-step policy pid picks given before mark course new silent calm sound reached said (IsOver ended kept) = Past ended kept
+quiet-step policy pid picks given before mark course new silent calm sound reached said (IsOn told g) =
+    let setting = by_lists policy pid picks given in
+    let c = calms (log_of_journal setting (mark ∷ before)) (calls_at setting before mark) course new calm sound reached in
+    Here told (c.goes told g) (after-so setting before mark course new (bytes-same mark before silent) c.greeted said)
+
+-- behind the end only what is taken makes rows
+pub record IsPast (rows : List Row) : Type 0 where
+  pub ended : is_ended rows ≡ true
+  pub kept : is_lost (rows_of HOUSE rows) ≡ false
+
+module _ (policy : Policy) (pid : ℕ) (picks : List ℕ) (given : List HouseReply) where
+  abbrev setting : Setting
+  setting = by_lists policy pid picks given
+
+  past-same : (item : Item) (rows : List Row) → is_took item ≡ false → IsPast rows → IsPast (more_of setting rows item)
+  past-same item rows none p = subst IsPast (sym same) p
+    where
+      same : more_of setting rows item ≡ rows
+      same =
+          ap (λ (b : Bool). elim (elim b as (λ _. Bool) [ true ↦ is_took item | false ↦ makes_row rows item ]) as (λ _. List Row) [ false ↦ rows | true ↦ next_row setting rows item ∷ rows ]) p.ended
+          ∙ ap (λ (b : Bool). elim b as (λ _. List Row) [ false ↦ rows | true ↦ next_row setting rows item ∷ rows ]) none
+
+  past-took : (t n : ℕ) (rows : List Row) → IsPast rows → IsPast (more_of setting rows (Took t n))
+  past-took t n rows p = subst IsPast (sym same) (record { ended = p.ended; kept = go (t == HOUSE) refl })
+    where
+      row : Row
+      row = next_row setting rows (Took t n)
+
+      same : more_of setting rows (Took t n) ≡ row ∷ rows
+      same = ap (λ (b : Bool). elim (elim b as (λ _. Bool) [ true ↦ true | false ↦ true ]) as (λ _. List Row) [ false ↦ rows | true ↦ row ∷ rows ]) p.ended
+
+      go : (b : Bool) → (t == HOUSE) ≡ b → is_lost (rows_of HOUSE (row ∷ rows)) ≡ false
+      go true e = ap is_lost (own-more row rows e) ∙ p.kept
+      go false e = ap is_lost (others-stay row rows e) ∙ p.kept
+
+  past-item : (item : Item) (rows : List Row) → IsPast rows → IsPast (more_of setting rows item)
+  past-item (Took t n) rows p = past-took t n rows p
+  past-item (Admit k) rows p = past-same (Admit k) rows refl p
+  past-item (Says k saying reply) rows p = past-same (Says k saying reply) rows refl p
+  past-item (HouseSays k id reply) rows p = past-same (HouseSays k id reply) rows refl p
+  past-item (Gone k) rows p = past-same (Gone k) rows refl p
+  past-item (Heard payload) rows p = past-same (Heard payload) rows refl p
+  past-item (BadServer fault) rows p = past-same (BadServer fault) rows refl p
+  past-item ServerEnd rows p = past-same ServerEnd rows refl p
+  past-item (ServerCut left) rows p = past-same (ServerCut left) rows refl p
+  past-item ServerFailed rows p = past-same ServerFailed rows refl p
+  past-item (RunEnd cause) rows p = past-same (RunEnd cause) rows refl p
+
+  past-items : (items : List Item) (rows : List Row) → IsPast rows → IsPast (more_all setting rows items)
+  past-items [] rows p = p
+  past-items (item ∷ items) rows p = past-items items (more_of setting rows item) (past-item item rows p)
+
+  -- ---- what the marks of others give
+
+  ends-other : (t : ℕ) (rest : List ℕ) (b o : Bool) → (t == HOUSE) ≡ false
+      → Each IsOther (elim b as (λ _. List Item) [ true ↦ server_end rest ∷ [] | false ↦ elim o as (λ _. List Item) [ true ↦ [] | false ↦ Gone t ∷ [] ] ])
+  ends-other t [] true o other = (tt, tt)
+  ends-other t (x ∷ rest) true o other = (tt, tt)
+  ends-other t rest false true other = tt
+  ends-other t rest false false other = (other, tt)
+
+  fails-other : (t : ℕ) (b o : Bool) → (t == HOUSE) ≡ false
+      → Each IsOther (elim b as (λ _. List Item) [ true ↦ ServerFailed ∷ [] | false ↦ elim o as (λ _. List Item) [ true ↦ [] | false ↦ Gone t ∷ [] ] ])
+  fails-other t true o other = (tt, tt)
+  fails-other t false true other = tt
+  fails-other t false false other = (other, tt)
+
+  takes-other : (t n : ℕ) (o : Bool) → (t == HOUSE) ≡ false → Each IsOther (elim o as (λ _. List Item) [ true ↦ [] | false ↦ Took t n ∷ [] ])
+  takes-other t n true other = tt
+  takes-other t n false other = (other, tt)
+
+  gets-other : (t : ℕ) (before bytes : List ℕ) (o : Bool) → (t == HOUSE) ≡ false → Each IsOther (elim o as (λ _. List Item) [ true ↦ [] | false ↦ new_sayings t before (before ++ bytes) ])
+  gets-other t before bytes true other = tt
+  gets-other t before bytes false other = is-other-all t before bytes other
+
+  gets-none : (t : ℕ) (bytes : List ℕ) → (t == HOUSE) ≡ false → bytes_in HOUSE (Gets t bytes) ≡ []
+  gets-none t bytes e = ap (λ (b : Bool). elim b as (λ _. List ℕ) [ true ↦ bytes | false ↦ [] ]) e
+
+  -- ---- the server says something
+
+  -- nothing waited for the house
+  none-before : (before : List Mark) → FollowsRead before → Throughout (WaitsAt setting) before → pending HOUSE (log_of_journal setting before) ≡ []
+  none-before [] follows waits = absurd follows
+  none-before (Waits waiting Read streams accepts ∷ before) follows waits = waits.0.house
+  none-before (Waits waiting WriteOnly streams accepts ∷ before) follows waits = absurd follows
+  none-before (Accepts k ∷ before) follows waits = absurd follows
+  none-before (Gets t bytes ∷ before) follows waits = absurd follows
+  none-before (Ends t ∷ before) follows waits = absurd follows
+  none-before (Frees t ∷ before) follows waits = absurd follows
+  none-before (Fails t ∷ before) follows waits = absurd follows
+  none-before (Takes t bytes ∷ before) follows waits = absurd follows
+  none-before (Holds t ∷ before) follows waits = absurd follows
+  none-before (WriteFails t ∷ before) follows waits = absurd follows
+  none-before (Joins l t ∷ before) follows waits = absurd follows
+  none-before (House mark ∷ before) follows waits = absurd follows
+
+  -- ---- one mark more
+
+  -- what is known of it
+  record OneMore (before : List Mark) (mark : Mark) (course new : Course) : Type 0 where
+    lawful : LawfulMark before mark
+    lawful_before : IsLawful before
+    asked : ReadsWhenAsked before mark
+    waits : Throughout (WaitsAt setting) before
+    speaks : SpeaksInTime setting before mark
+    other : names_house mark ≡ false
+    right : AtEach RightAt (log_of_journal setting (mark ∷ before))
+    small : HeldSmall (log_of_journal setting before)
+    reached : Reaches first_course (calls_in setting before) course
+    goes : Reaches course (calls_at setting before mark) new
+
+  -- what its items leave
+  after-is : (mark : Mark) (before : List Mark) (new : Course) → After (log_of_journal setting (mark ∷ before)) new → SaidSo new.desk.greeted (bytes_of HOUSE (mark ∷ before)) → Inv setting (mark ∷ before) new
+  after-is mark before new (IsOver ended kept) said = Past ended kept
+  after-is mark before new (IsOn told g) said = Here told g said
+
+  -- a mark of others
+  other-mark : (before : List Mark) (mark : Mark) (course new : Course) (told : Told) → OneMore before mark course new → Going (log_of_journal setting before) course told → SaidSo course.desk.greeted (bytes_of HOUSE before)
+      → bytes_in HOUSE mark ≡ [] → Each IsCalm (calls_at setting before mark) → Each IsOther (items_in before mark) → Inv setting (mark ∷ before) new
+  other-mark before mark course new told one g said silent calm others =
+      quiet-step policy pid picks given before mark course new silent calm (all-sound (calls_in setting before) course one.reached) one.goes said
+      (others-items policy pid picks given (items_in before mark) (log_of_journal setting before) course others (IsOn told g))
+
+  server-mark : HeardRow policy pid → (before : List Mark) (bytes : List ℕ) (course new : Course) (told : Told) → OneMore before (Gets 0 bytes) course new → Going (log_of_journal setting before) course told → SaidSo course.desk.greeted (bytes_of HOUSE before)
+      → Inv setting (Gets 0 bytes ∷ before) new
+  server-mark heard before bytes course new told one g said =
+      let was = bytes_of 0 before in
+      let size : total (new_heard was (was ++ bytes)) ≤ 327683 = heard-size was bytes (stream-bytes 0 before one.lawful_before) one.lawful.3 one.lawful.2 in
+      let none : pending HOUSE (log_of_journal setting before) ≡ [] = none-before before (one.asked refl) one.waits in
+      let room : length (pending HOUSE (log_of_journal setting before)) + 65 * total (new_heard was (was ++ bytes)) ≤ 33554432 = let l : length (pending HOUSE (log_of_journal setting before)) ≡ 0 = ap length none in omega (arith, size, l) in
+      quiet-step policy pid picks given before (Gets 0 bytes) course new refl tt (all-sound (calls_in setting before) course one.reached) one.goes said
+      (heard-items policy pid picks given heard (new_heard was (was ++ bytes)) (log_of_journal setting before) course (is-heard-all was bytes) (heard-sized was bytes) (is-bytes-all was bytes (stream-bytes 0 before one.lawful_before) one.lawful.3) one.right
+      (requests-few (calls_in setting before) course one.reached) (OnWith told g room))
+
+  gets-mark : HeardRow policy pid → (before : List Mark) (t : ℕ) (bytes : List ℕ) (course new : Course) (told : Told) → OneMore before (Gets t bytes) course new → Going (log_of_journal setting before) course told → SaidSo course.desk.greeted (bytes_of HOUSE before)
+      → Inv setting (Gets t bytes ∷ before) new
+  gets-mark heard before t bytes course new told one g said = go (is_server t) refl
+    where
+      go : (b : Bool) → is_server t ≡ b → Inv setting (Gets t bytes ∷ before) new
+      go true e = subst P (sym zero) (λ one. server-mark heard before bytes course new told one g said) one
+        where
+          zero : t ≡ 0
+          zero = grind (arith, nat_tests)
+
+          P : ℕ → Type 0
+          P i = OneMore before (Gets i bytes) course new → Inv setting (Gets i bytes ∷ before) new
+      go false e = other-mark before (Gets t bytes) course new told one g said (gets-none t bytes one.other) (if-calm t (Turns (Got t bytes)) tt)
+          (subst (Each IsOther) (sym items) (gets-other t (bytes_of t before) bytes (is_own_stream t) one.other))
+        where
+          items : items_in before (Gets t bytes) ≡ unless_own t (new_sayings t (bytes_of t before) (bytes_of t before ++ bytes))
+          items = ap (λ (b : Bool). elim b as (λ _. List Item) [ true ↦ new_heard (bytes_of 0 before) (bytes_of 0 before ++ bytes) | false ↦ unless_own t (new_sayings t (bytes_of t before) (bytes_of t before ++ bytes)) ]) e
+
+  ends-mark : (before : List Mark) (t : ℕ) (course new : Course) (told : Told) → OneMore before (Ends t) course new → Going (log_of_journal setting before) course told → SaidSo course.desk.greeted (bytes_of HOUSE before)
+      → Inv setting (Ends t ∷ before) new
+  ends-mark before t course new told one g said = other-mark before (Ends t) course new told one g said refl (if-calm t (Turns (End t)) tt)
+      (ends-other t (parse InProxy (bytes_of 0 before)).rest (is_server t) (is_own_stream t) one.other)
+
+  fails-mark : (before : List Mark) (t : ℕ) (course new : Course) (told : Told) → OneMore before (Fails t) course new → Going (log_of_journal setting before) course told → SaidSo course.desk.greeted (bytes_of HOUSE before)
+      → Inv setting (Fails t ∷ before) new
+  fails-mark before t course new told one g said = other-mark before (Fails t) course new told one g said refl (if-calm t (Turns (Failed t)) tt) (fails-other t (is_server t) (is_own_stream t) one.other)
+
+  write-fails-mark : (before : List Mark) (t : ℕ) (course new : Course) (told : Told) → OneMore before (WriteFails t) course new → Going (log_of_journal setting before) course told → SaidSo course.desk.greeted (bytes_of HOUSE before)
+      → Inv setting (WriteFails t ∷ before) new
+  write-fails-mark before t course new told one g said = other-mark before (WriteFails t) course new told one g said refl (if-calm t (Turns (Failed t)) tt) (fails-other t (is_server t) (is_own_stream t) one.other)
+
+  takes-mark : (before : List Mark) (t : ℕ) (bytes : List ℕ) (course new : Course) (told : Told) → OneMore before (Takes t bytes) course new → Going (log_of_journal setting before) course told → SaidSo course.desk.greeted (bytes_of HOUSE before)
+      → Inv setting (Takes t bytes ∷ before) new
+  takes-mark before t bytes course new told one g said = other-mark before (Takes t bytes) course new told one g said refl (if-calm t (call.Takes t (length bytes)) tt) (takes-other t (length bytes) (is_own_stream t) one.other)
+
+  -- ---- the house takes
+
+  took-mark : (before : List Mark) (size : ℕ) (course new : Course) (told : Told) → OneMore before (House (HouseTook size)) course new → Going (log_of_journal setting before) course told → SaidSo course.desk.greeted (bytes_of HOUSE before)
+      → Inv setting (House (HouseTook size) ∷ before) new
+  took-mark before size course new told one g said =
+      let rows = log_of_journal setting before in
+      let follows : Follows (Hears (take size (pending HOUSE rows))) course new = subst (λ (c : Course). Follows (Hears (take size (pending HOUSE rows))) course c) (sym one.goes.2) one.goes.1 in
+      let apart = distinct-of course.lives (channels-differ (calls_in setting before) course one.reached) in
+      let heard = hears course new size (pending HOUSE rows) told g.waits follows in
+      let desk = desk-heard heard.heard course new heard.goes in
+      after-is (House (HouseTook size)) before new (took-step setting rows course new size told apart g follows)
+      (after-so setting before (House (HouseTook size)) course new (bytes-same (House (HouseTook size)) before refl) desk.greeted said)
+
+  -- ---- the house speaks
+
+  said-mark : (before : List Mark) (bytes : List ℕ) (course new : Course) (told : Told) → OneMore before (House (HouseSaid bytes)) course new → Going (log_of_journal setting before) course told → SaidSo course.desk.greeted (bytes_of HOUSE before)
+      → Inv setting (House (HouseSaid bytes) ∷ before) new
+  said-mark before bytes course new told one g said = by_greeted course.desk.greeted refl says said
+    where
+      rows : List Row
+      rows = log_of_journal setting before
+
+      was : List ℕ
+      was = bytes_of HOUSE before
+
+      says : SaysBy course.desk.greeted (find has_request course.desk.all) bytes course new
+      says = subst (λ (c : Course). SaysBy course.desk.greeted (find has_request course.desk.all) bytes course c) (sym one.goes.2) one.goes.1
+
+      ends : After (more_all setting rows (new_sayings HOUSE was (was ++ bytes))) new → new.desk.greeted ≡ true → SaidSo true (was ++ bytes) → Inv setting (House (HouseSaid bytes) ∷ before) new
+      ends after greets so = after-is (House (HouseSaid bytes)) before new after (subst (λ (b : Bool). SaidSo b (was ++ bytes)) (sym greets) so)
+
+      greets : course.desk.greeted ≡ false → SaysBy false (find has_request course.desk.all) bytes course new → was ≡ [] → Inv setting (House (HouseSaid bytes) ∷ before) new
+      greets e says none =
+          let right : AtEach RightAt (more_all setting rows (new_sayings HOUSE [] ([] ++ bytes))) = subst (λ (b : List ℕ). AtEach RightAt (more_all setting rows (new_sayings HOUSE b (b ++ bytes)))) none one.right in
+          let h = greets-step policy pid picks given rows course new bytes told right g e one.speaks.heard says in
+          ends (subst (λ (b : List ℕ). After (more_all setting rows (new_sayings HOUSE b (b ++ bytes))) new) (sym none) h.after) h.greeted (subst (λ (b : List ℕ). SaidSo true (b ++ bytes)) (sym none) h.said)
+
+      by_request : (o : Option Forwarding) → find has_request course.desk.all ≡ o → course.desk.greeted ≡ true → SaysBy true o bytes course new → SaidSo true was → Inv setting (House (HouseSaid bytes) ∷ before) new
+      by_request (Some f) found e says so =
+          let h = request-step policy pid picks given rows course new was bytes told f one.right g e (requests-few (calls_in setting before) course one.reached) one.speaks.heard one.lawful.3 one.lawful.2 so found says in
+          ends h.after h.greeted h.said
+      by_request None found e says so =
+          let sound = all-sound (calls_in setting before) course one.reached in
+          let h = relay-step policy pid picks given rows course new was bytes told one.right g e one.speaks.heard one.lawful.3 one.lawful.2 so sound.lives (numbers-small (calls_in setting before) course one.reached)
+          (lives-small rows course told g one.speaks.heard one.small) says in
+          ends h.after h.greeted h.so
+
+      by_greeted : (b : Bool) → course.desk.greeted ≡ b → SaysBy b (find has_request course.desk.all) bytes course new → SaidSo b was → Inv setting (House (HouseSaid bytes) ∷ before) new
+      by_greeted false e says none = greets e says none
+      by_greeted true e says so = by_request (find has_request course.desk.all) refl e says so
+
+  -- ---- each mark
+
+  house-step : (before : List Mark) (mark : HouseMark) (course new : Course) (told : Told) → (mark ≡ HouseIn → ⊥) → OneMore before (House mark) course new → Going (log_of_journal setting before) course told → SaidSo course.desk.greeted (bytes_of HOUSE before)
+      → Inv setting (House mark ∷ before) new
+  house-step before HouseIn course new told other one g said = absurd (other refl)
+  house-step before (HouseSaid bytes) course new told other one g said = said-mark before bytes course new told one g said
+  house-step before (HouseTook size) course new told other one g said = took-mark before size course new told one g said
+  house-step before (HouseAsked client id opening ask reply) course new told other one g said = other-mark before (House (HouseAsked client id opening ask reply)) course new told one g said refl (tt, tt) tt
+  house-step before (HouseAnswer client id reply) course new told other one g said = other-mark before (House (HouseAnswer client id reply)) course new told one g said refl (tt, tt) (one.other, tt)
+  house-step before (HouseOrder order number) course new told other one g said = other-mark before (House (HouseOrder order number)) course new told one g said refl (tt, tt) tt
+
+  step : HeardRow policy pid → (before : List Mark) (mark : Mark) (course new : Course) (told : Told) → (mark ≡ House HouseIn → ⊥) → OneMore before mark course new → Going (log_of_journal setting before) course told → SaidSo course.desk.greeted (bytes_of HOUSE before)
+      → Inv setting (mark ∷ before) new
+  step heard before (Waits waiting want streams accepts) course new told other one g said = other-mark before (Waits waiting want streams accepts) course new told one g said refl tt tt
+  step heard before (Accepts k) course new told other one g said = other-mark before (Accepts k) course new told one g said refl tt (one.other, tt)
+  step heard before (Gets t bytes) course new told other one g said = gets-mark heard before t bytes course new told one g said
+  step heard before (Ends t) course new told other one g said = ends-mark before t course new told one g said
+  step heard before (Frees t) course new told other one g said = other-mark before (Frees t) course new told one g said refl (if-calm t (Turns (Writable t)) tt) tt
+  step heard before (Fails t) course new told other one g said = fails-mark before t course new told one g said
+  step heard before (Takes t bytes) course new told other one g said = takes-mark before t bytes course new told one g said
+  step heard before (Holds t) course new told other one g said = other-mark before (Holds t) course new told one g said refl tt tt
+  step heard before (WriteFails t) course new told other one g said = write-fails-mark before t course new told one g said
+  step heard before (Joins l t) course new told other one g said = other-mark before (Joins l t) course new told one g said refl (tt, tt) tt
+  step heard before (House mark) course new told other one g said = house-step before mark course new told (λ e. other (ap House e)) one g said
+
+  next : HeardRow policy pid → (before : List Mark) (mark : Mark) (course new : Course) → (mark ≡ House HouseIn → ⊥) → OneMore before mark course new → Inv setting before course → Inv setting (mark ∷ before) new
+  next heard before mark course new other one (Past ended kept) =
+      let p = past-items (items_in before mark) (log_of_journal setting before) (record { ended = ended; kept = kept }) in Past p.ended p.kept
+  next heard before mark course new other one (Here told g said) = step heard before mark course new told other one g said
+
+  -- ---- the house is let in
+
+  first-own : List Row
+  first-own = plain_row (Admit HOUSE) HOUSE [] (frame_answer (Greets VERSION) ∷ []) ∷ []
+
+  first-told : Told
+  first-told = record { answers = spell_answer (Greets VERSION) ∷ []; payloads = [] }
+
+  first-log : log_of_journal setting (House HouseIn ∷ []) ≡ first-own
+  unfolding first-own
+  first-log = refl
+
+  no-grant : NoGrant first-told
+  unfolding first-told
+  no-grant = record { none = refl; plain = (refl, tt) }
+
+  first-going : Going first-own first_course first-told
+  unfolding first-own first-told
+  first-going = record {
+    on = refl;
+    inside = refl;
+    waits = record {
+      fault = refl;
+      framing = refl;
+      bytes = refl;
+      stage = inl no-grant;
+      sized = record { answers = ((omega arith, omega arith), tt); payloads = tt };
+      whole = λ e. cc;
+    };
+    seen = record { entries = []; orphans = []; views = tt; unnumbered = tt; later = record { fits = tt; known = tt; apart = tt } };
+    requests = refl;
+    phase = (no-grant, record { channels = refl; asked = refl; forwardings = refl; silent = refl });
+  }
+
+  let-in : (course : Course) → course ≡ first_course → Inv setting (House HouseIn ∷ []) course
+  let-in course e =
+      subst (λ (c : Course). Inv setting (House HouseIn ∷ []) c) (sym e)
+      (Here first-told (subst (λ (rows : List Row). Going rows first_course first-told) (sym first-log) first-going) refl)
+
+  -- ---- the whole journal
+
+  pub record Journey (journal : List Mark) (course : Course) : Type 0 where
+    pub lawful : IsLawful journal
+    pub asked : Throughout ReadsWhenAsked journal
+    pub waits : Throughout (WaitsAt setting) journal
+    pub speaks : Throughout (SpeaksInTime setting) journal
+    pub others : Throughout IsOfOthers journal
+    pub right : AtEach RightAt (log_of_journal setting journal)
+    pub small : AtEach HeldSmall (log_of_journal setting journal)
+    pub within : is_accepted HOUSE journal ≡ true
+    pub reached : Reaches first_course (calls_in setting journal) course
+
+  within-house : (mark : HouseMark) (before : List Mark) → (House mark ≡ House HouseIn → ⊥) → is_accepted HOUSE (House mark ∷ before) ≡ true → is_accepted HOUSE before ≡ true
+  within-house HouseIn before other h = absurd (other refl)
+  within-house mark before other h = h
+
+  -- it was let in before
+  within-before : (mark : Mark) (before : List Mark) → (mark ≡ House HouseIn → ⊥) → names_house mark ≡ false → is_accepted HOUSE (mark ∷ before) ≡ true → is_accepted HOUSE before ≡ true
+  within-before (Accepts k) before other e h = sym (ap (λ (b : Bool). if b then true else is_accepted HOUSE before) e) ∙ h
+  within-before (House mark) before other e h = within-house mark before other h
+  within-before mark before other e h = h
+
+  before-more : (before : List Mark) (mark : Mark) (course : Course) → (mark ≡ House HouseIn → ⊥) → Journey (mark ∷ before) course → (h : Split (calls_in setting before) (calls_at setting before mark) first_course course) → Journey before h.middle
+  before-more before mark course other j h = record {
+    lawful = j.lawful.1;
+    asked = j.asked.1;
+    waits = j.waits.1;
+    speaks = j.speaks.1;
+    others = j.others.1;
+    right = atEach-before RightAt setting mark before j.right;
+    small = atEach-before HeldSmall setting mark before j.small;
+    within = within-before mark before other j.others.0 j.within;
+    reached = h.first;
+  }
+
+  one-more : (before : List Mark) (mark : Mark) (course : Course) → Journey (mark ∷ before) course → (h : Split (calls_in setting before) (calls_at setting before mark) first_course course) → OneMore before mark h.middle course
+  one-more before mark course j h = record {
+    lawful = j.lawful.0;
+    lawful_before = j.lawful.1;
+    asked = j.asked.0;
+    waits = j.waits.1;
+    speaks = j.speaks.0;
+    other = j.others.0;
+    right = j.right;
+    small = atEach-here HeldSmall (log_of_journal setting before) (atEach-before HeldSmall setting mark before j.small);
+    reached = h.first;
+    goes = h.rest;
+  }
+
+  comes-in : (before : List Mark) (course : Course) → Journey (House HouseIn ∷ before) course → Inv setting (House HouseIn ∷ before) course
+  comes-in [] course j = let-in course j.reached
+  comes-in (mark ∷ before) course j = absurd (let none = j.lawful.0 in cc)
+
+  journeys : HeardRow policy pid → (journal : List Mark) (course : Course) → Journey journal course → Inv setting journal course
+  journeys heard [] course j = absurd (let bad = j.within in cc)
+  journeys heard (mark ∷ before) course j = by_mark mark j (λ (c : Course) (j : Journey before c). journeys heard before c j)
+    where
+      goes : (mark : Mark) → (mark ≡ House HouseIn → ⊥) → Journey (mark ∷ before) course → ((c : Course) → Journey before c → Inv setting before c) → Inv setting (mark ∷ before) course
+      goes mark other j earlier =
+          let h = reach-split (calls_in setting before) (calls_at setting before mark) first_course course j.reached in
+          next heard before mark h.middle course other (one-more before mark course j h) (earlier h.middle (before-more before mark course other j h))
+
+      by_house : (mark : HouseMark) → Journey (House mark ∷ before) course → ((c : Course) → Journey before c → Inv setting before c) → Inv setting (House mark ∷ before) course
+      by_house HouseIn j earlier = comes-in before course j
+      by_house mark j earlier = goes (House mark) (λ e. absurd (cc)) j earlier
+
+      by_mark : (mark : Mark) → Journey (mark ∷ before) course → ((c : Course) → Journey before c → Inv setting before c) → Inv setting (mark ∷ before) course
+      by_mark (House mark) j earlier = by_house mark j earlier
+      by_mark mark j earlier = goes mark (λ e. absurd (cc)) j earlier
+
+  ends-unlost : (journal : List Mark) (course : Course) → Inv setting journal course → is_lost (rows_of HOUSE (log_of_journal setting journal)) ≡ false
+  ends-unlost journal course (Past ended kept) = kept
+  ends-unlost journal course (Here told g said) = in-kept (rows_of HOUSE (log_of_journal setting journal)) g.inside
+
+pub house-stays : HouseStays
+house-stays policy pid picks replies journal course h =
+    let setting = by_lists policy pid picks replies in
+    let journey : Journey policy pid picks replies journal course = record {
+      lawful = h.lawful;
+      asked = h.asked;
+      waits = h.waits;
+      speaks = h.speaks;
+      others = h.others;
+      right = right-held policy pid picks replies journal h.lawful h.fresh;
+      small = remotes-held policy pid picks replies journal h.lawful h.fresh;
+      within = h.within;
+      reached = h.reached;
+    } in
+    ends-unlost policy pid picks replies journal course (journeys policy pid picks replies (heard-row policy pid) journal course journey)
