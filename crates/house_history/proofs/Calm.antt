@@ -85,8 +85,9 @@ views-append (l ∷ fs) bs (e ∷ es) gs a b = (a.0, views-append fs bs es gs a.
 
 -- ---- the same is seen of it
 
-acts-live : (live : LiveState) (acts acts' : List Act) (a : Acct) → adjusted acts' ≡ adjusted acts → delivered acts' ≡ delivered acts → LiveIs live acts a → LiveIs live acts' a
-acts-live live acts acts' a given came i = record {
+-- where so much came
+came-live : (live : LiveState) (acts acts' : List Act) (a : Acct) (n : ℕ) → adjusted acts' ≡ adjusted acts → length (delivered acts') ≤ n → LiveIs live acts a → LiveIs live acts' (record a { came = n })
+came-live live acts acts' a n given came i = record {
   remote = i.remote;
   room = i.room;
   maximum = i.maximum;
@@ -95,8 +96,11 @@ acts-live live acts acts' a given came i = record {
   close_heard = i.close_heard;
   failures = i.failures;
   given = given ∙ i.given;
-  came = subst (λ (d : List ℕ). length d ≤ a.came) (sym came) i.came;
+  came = came;
 }
+
+acts-live : (live : LiveState) (acts acts' : List Act) (a : Acct) → adjusted acts' ≡ adjusted acts → delivered acts' ≡ delivered acts → LiveIs live acts a → LiveIs live acts' a
+acts-live live acts acts' a given came i = came-live live acts acts' a a.came given (subst (λ (d : List ℕ). length d ≤ a.came) (sym came) i.came) i
 
 acts-view : (line : Line) (acts acts' : List Act) (v : View) → adjusted acts' ≡ adjusted acts → delivered acts' ≡ delivered acts → ViewOf line acts v → ViewOf line acts' v
 acts-view (Dialing dialog) acts acts' v given came i = (i.0, (given ∙ i.1.0, came ∙ i.1.1))
@@ -747,21 +751,8 @@ request-view true acts live a bound i =
 came-view : (n : ℕ) (acts acts' : List Act) (live : LiveState) (a : Acct) → adjusted acts' ≡ adjusted acts → length (delivered acts') ≤ length (delivered acts) + n → LiveIs live acts a
     → ViewOf (Live live) acts' (IsLive (record a { came = a.came + n }))
 came-view n acts acts' live a given more i =
-    let came = i.came in (
-      record a { came = a.came + n },
-      refl,
-      record {
-        remote = i.remote;
-        room = i.room;
-        maximum = i.maximum;
-        eof_said = i.eof_said;
-        close_said = i.close_said;
-        close_heard = i.close_heard;
-        failures = i.failures;
-        given = given ∙ i.given;
-        came = omega (arith, more, came);
-      },
-    )
+    let came = i.came in
+    (record a { came = a.came + n }, refl, came-live live acts acts' a (a.came + n) given (omega (arith, more, came)) i)
 
 -- data is delivered or not
 data-view : (line : Line) (s : Socket) (bytes : List ℕ) (acts : List Act) (v : View) → ViewOf line acts v
