@@ -8,15 +8,17 @@ use Rattle.ssh_grammar.specs.Frames.{frame_answer}
 use Rattle.ssh_grammar.specs.Said.{InProxy, parse}
 use Rattle.ssh_grammar.specs.SpellControl.{spell_answer}
 use Rattle.ssh_grammar.specs.declared.numbers.TheConstants.{VERSION}
-use Rattle.mux_outside.specs.HouseCalls.{Got, End, Failed, Hears, HouseCall, Joined, Marks, Turns, Writable}
+use Rattle.mux_outside.specs.HouseCalls.{Begins, Got, End, Failed, Hears, HouseCall, Joined, Marks, Turns, Writable}
 use Rattle.mux_outside.specs.HouseCalls as call
 use Rattle.mux_outside.specs.OwnStreams.{is_own}
 use Rattle.mux_outside.specs.Whose.{is_server}
 use Rattle.mux_outside.specs.declared.house.HouseReply.{HouseReply}
 use Rattle.mux_outside.specs.declared.house_mark.HouseMark.{HouseMark}
 use Rattle.mux_outside.specs.declared.house_mark.HouseMark.TheVariants.{HouseIn, HouseSaid, HouseTook, HouseAsked, HouseAnswer, HouseOrder}
+use Rattle.mux_outside.specs.declared.own_streams.TheConstants.{LAST_CLIENT}
 use Rattle.mux_outside.specs.declared.mark.Mark.{Mark}
 use Rattle.mux_outside.specs.declared.mark.Mark.TheVariants.{Waits, Accepts, Gets, Ends, Frees, Fails, Takes, Holds, WriteFails, Joins, House}
+use Rattle.mux_outside.specs.declared.starts.Starts.{Starts}
 use Rattle.mux_outside.specs.declared.turn.Want.TheVariants.{Read, WriteOnly}
 use Rattle.mux_history.specs.declared.limits.TheConstants.{HOUSE}
 use Rattle.mux_history.specs.Journal.{IsLawful, LawfulMark, bytes_in, bytes_of, is_accepted, is_own_stream, items_in, log_of_journal, new_heard, new_sayings, server_end, unless_own}
@@ -186,6 +188,10 @@ pub record IsPast (rows : List Row) : Type 0 where
   pub ended : is_ended rows ≡ true
   pub kept : is_lost (rows_of HOUSE rows) ≡ false
 
+-- a client that was accepted has another number
+client-other : (k : ℕ) → k ≤ LAST_CLIENT → (k == HOUSE) ≡ false
+client-other k least = grind (arith, nat_tests)
+
 module _ (policy : Policy) (pid : ℕ) (picks : List ℕ) (given : List HouseReply) where
   abbrev setting : Setting
   setting = by_lists policy pid picks given
@@ -284,7 +290,8 @@ module _ (policy : Policy) (pid : ℕ) (picks : List ℕ) (given : List HouseRep
     other : names_house mark ≡ false
     right : AtEach RightAt (log_of_journal setting (mark ∷ before))
     small : HeldSmall (log_of_journal setting before)
-    reached : Reaches first_course (calls_in setting before) course
+    calls : List HouseCall
+    reached : Reaches first_course calls course
     goes : Reaches course (calls_at setting before mark) new
 
   -- what its items leave
@@ -296,7 +303,7 @@ module _ (policy : Policy) (pid : ℕ) (picks : List ℕ) (given : List HouseRep
   other-mark : (before : List Mark) (mark : Mark) (course new : Course) (told : Told) → OneMore before mark course new → Going (log_of_journal setting before) course told → SaidSo course.desk.greeted (bytes_of HOUSE before)
       → bytes_in HOUSE mark ≡ [] → Each IsCalm (calls_at setting before mark) → Each IsOther (items_in before mark) → Inv setting (mark ∷ before) new
   other-mark before mark course new told one g said silent calm others =
-      quiet-step policy pid picks given before mark course new silent calm (all-sound (calls_in setting before) course one.reached) one.goes said
+      quiet-step policy pid picks given before mark course new silent calm (all-sound one.calls course one.reached) one.goes said
       (others-items policy pid picks given (items_in before mark) (log_of_journal setting before) course others (IsOn told g))
 
   server-mark : HeardRow policy pid → (before : List Mark) (bytes : List ℕ) (course new : Course) (told : Told) → OneMore before (Gets 0 bytes) course new → Going (log_of_journal setting before) course told → SaidSo course.desk.greeted (bytes_of HOUSE before)
@@ -306,9 +313,9 @@ module _ (policy : Policy) (pid : ℕ) (picks : List ℕ) (given : List HouseRep
       let size : total (new_heard was (was ++ bytes)) ≤ 327683 = heard-size was bytes (stream-bytes 0 before one.lawful_before) one.lawful.3 one.lawful.2 in
       let none : pending HOUSE (log_of_journal setting before) ≡ [] = none-before before (one.asked refl) one.waits in
       let room : length (pending HOUSE (log_of_journal setting before)) + 65 * total (new_heard was (was ++ bytes)) ≤ 33554432 = let l : length (pending HOUSE (log_of_journal setting before)) ≡ 0 = ap length none in omega (arith, size, l) in
-      quiet-step policy pid picks given before (Gets 0 bytes) course new refl tt (all-sound (calls_in setting before) course one.reached) one.goes said
+      quiet-step policy pid picks given before (Gets 0 bytes) course new refl tt (all-sound one.calls course one.reached) one.goes said
       (heard-items policy pid picks given heard (new_heard was (was ++ bytes)) (log_of_journal setting before) course (is-heard-all was bytes) (heard-sized was bytes) (is-bytes-all was bytes (stream-bytes 0 before one.lawful_before) one.lawful.3) one.right
-      (requests-few (calls_in setting before) course one.reached) (OnWith told g room))
+      (requests-few one.calls course one.reached) (OnWith told g room))
 
   gets-mark : HeardRow policy pid → (before : List Mark) (t : ℕ) (bytes : List ℕ) (course new : Course) (told : Told) → OneMore before (Gets t bytes) course new → Going (log_of_journal setting before) course told → SaidSo course.desk.greeted (bytes_of HOUSE before)
       → Inv setting (Gets t bytes ∷ before) new
@@ -352,7 +359,7 @@ module _ (policy : Policy) (pid : ℕ) (picks : List ℕ) (given : List HouseRep
   took-mark before size course new told one g said =
       let rows = log_of_journal setting before in
       let follows : Follows (Hears (take size (pending HOUSE rows))) course new = subst (λ (c : Course). Follows (Hears (take size (pending HOUSE rows))) course c) (sym one.goes.2) one.goes.1 in
-      let apart = distinct-of course.lives (channels-differ (calls_in setting before) course one.reached) in
+      let apart = distinct-of course.lives (channels-differ one.calls course one.reached) in
       let heard = hears course new size (pending HOUSE rows) told g.waits follows in
       let desk = desk-heard heard.heard course new heard.goes in
       after-is (House (HouseTook size)) before new (took-step setting rows course new size told apart g follows)
@@ -384,11 +391,11 @@ module _ (policy : Policy) (pid : ℕ) (picks : List ℕ) (given : List HouseRep
 
       by_request : (o : Option Forwarding) → find has_request course.desk.all ≡ o → course.desk.greeted ≡ true → SaysBy true o bytes course new → SaidSo true was → Inv setting (House (HouseSaid bytes) ∷ before) new
       by_request (Some f) found e says so =
-          let h = request-step policy pid picks given rows course new was bytes told f one.right g e (requests-few (calls_in setting before) course one.reached) one.speaks.heard one.lawful.3 one.lawful.2 so found says in
+          let h = request-step policy pid picks given rows course new was bytes told f one.right g e (requests-few one.calls course one.reached) one.speaks.heard one.lawful.3 one.lawful.2 so found says in
           ends h.after h.greeted h.said
       by_request None found e says so =
-          let sound = all-sound (calls_in setting before) course one.reached in
-          let h = relay-step policy pid picks given rows course new was bytes told one.right g e one.speaks.heard one.lawful.3 one.lawful.2 so sound.lives (numbers-small (calls_in setting before) course one.reached)
+          let sound = all-sound one.calls course one.reached in
+          let h = relay-step policy pid picks given rows course new was bytes told one.right g e one.speaks.heard one.lawful.3 one.lawful.2 so sound.lives (numbers-small one.calls course one.reached)
           (lives-small rows course told g one.speaks.heard one.small) says in
           ends h.after h.greeted h.so
 
@@ -410,7 +417,7 @@ module _ (policy : Policy) (pid : ℕ) (picks : List ℕ) (given : List HouseRep
   step : HeardRow policy pid → (before : List Mark) (mark : Mark) (course new : Course) (told : Told) → (mark ≡ House HouseIn → ⊥) → OneMore before mark course new → Going (log_of_journal setting before) course told → SaidSo course.desk.greeted (bytes_of HOUSE before)
       → Inv setting (mark ∷ before) new
   step heard before (Waits waiting want streams accepts) course new told other one g said = other-mark before (Waits waiting want streams accepts) course new told one g said refl tt tt
-  step heard before (Accepts k) course new told other one g said = other-mark before (Accepts k) course new told one g said refl tt (one.other, tt)
+  step heard before (Accepts k) course new told other one g said = other-mark before (Accepts k) course new told one g said refl tt (client-other k one.lawful.1, tt)
   step heard before (Gets t bytes) course new told other one g said = gets-mark heard before t bytes course new told one g said
   step heard before (Ends t) course new told other one g said = ends-mark before t course new told one g said
   step heard before (Frees t) course new told other one g said = other-mark before (Frees t) course new told one g said refl (if-calm t (Turns (Writable t)) tt) tt
@@ -460,10 +467,12 @@ module _ (policy : Policy) (pid : ℕ) (picks : List ℕ) (given : List HouseRep
     phase = (no-grant, record { channels = refl; asked = refl; forwardings = refl; silent = refl });
   }
 
-  let-in : (course : Course) → course ≡ first_course → Inv setting (House HouseIn ∷ []) course
-  let-in course e =
-      subst (λ (c : Course). Inv setting (House HouseIn ∷ []) c) (sym e)
-      (Here first-told (subst (λ (rows : List Row). Going rows first_course first-told) (sym first-log) first-going) refl)
+  -- the house began with some forwardings, and then it is let in
+  let-in : (starts : Starts) (course : Course) → Reaches first_course (Begins starts ∷ []) course → Inv setting (House HouseIn ∷ []) course
+  let-in starts course reached =
+      let c = calms first-own (Begins starts ∷ []) first_course course (tt, tt) (record { lives = tt; past = tt }) reached in
+      Here first-told (subst (λ (rows : List Row). Going rows course first-told) (sym first-log) (c.goes first-told first-going))
+      (subst (λ (b : Bool). SaidSo b []) (sym c.greeted) refl)
 
   -- ---- the whole journal
 
@@ -476,19 +485,20 @@ module _ (policy : Policy) (pid : ℕ) (picks : List ℕ) (given : List HouseRep
     pub right : AtEach RightAt (log_of_journal setting journal)
     pub small : AtEach HeldSmall (log_of_journal setting journal)
     pub within : is_accepted HOUSE journal ≡ true
-    pub reached : Reaches first_course (calls_in setting journal) course
+    pub starts : Starts
+    pub reached : Reaches first_course (Begins starts ∷ calls_in setting journal) course
 
   within-house : (mark : HouseMark) (before : List Mark) → (House mark ≡ House HouseIn → ⊥) → is_accepted HOUSE (House mark ∷ before) ≡ true → is_accepted HOUSE before ≡ true
   within-house HouseIn before other h = absurd (other refl)
   within-house mark before other h = h
 
   -- it was let in before
-  within-before : (mark : Mark) (before : List Mark) → (mark ≡ House HouseIn → ⊥) → names_house mark ≡ false → is_accepted HOUSE (mark ∷ before) ≡ true → is_accepted HOUSE before ≡ true
-  within-before (Accepts k) before other e h = sym (ap (λ (b : Bool). if b then true else is_accepted HOUSE before) e) ∙ h
+  within-before : (mark : Mark) (before : List Mark) → (mark ≡ House HouseIn → ⊥) → LawfulMark before mark → is_accepted HOUSE (mark ∷ before) ≡ true → is_accepted HOUSE before ≡ true
+  within-before (Accepts k) before other e h = sym (ap (λ (b : Bool). if b then true else is_accepted HOUSE before) (client-other k e.1)) ∙ h
   within-before (House mark) before other e h = within-house mark before other h
   within-before mark before other e h = h
 
-  before-more : (before : List Mark) (mark : Mark) (course : Course) → (mark ≡ House HouseIn → ⊥) → Journey (mark ∷ before) course → (h : Split (calls_in setting before) (calls_at setting before mark) first_course course) → Journey before h.middle
+  before-more : (before : List Mark) (mark : Mark) (course : Course) → (mark ≡ House HouseIn → ⊥) → (j : Journey (mark ∷ before) course) → (h : Split (Begins j.starts ∷ calls_in setting before) (calls_at setting before mark) first_course course) → Journey before h.middle
   before-more before mark course other j h = record {
     lawful = j.lawful.1;
     asked = j.asked.1;
@@ -497,11 +507,12 @@ module _ (policy : Policy) (pid : ℕ) (picks : List ℕ) (given : List HouseRep
     others = j.others.1;
     right = atEach-before RightAt setting mark before j.right;
     small = atEach-before HeldSmall setting mark before j.small;
-    within = within-before mark before other j.others.0 j.within;
+    within = within-before mark before other j.lawful.0 j.within;
+    starts = j.starts;
     reached = h.first;
   }
 
-  one-more : (before : List Mark) (mark : Mark) (course : Course) → Journey (mark ∷ before) course → (h : Split (calls_in setting before) (calls_at setting before mark) first_course course) → OneMore before mark h.middle course
+  one-more : (before : List Mark) (mark : Mark) (course : Course) → (j : Journey (mark ∷ before) course) → (h : Split (Begins j.starts ∷ calls_in setting before) (calls_at setting before mark) first_course course) → OneMore before mark h.middle course
   one-more before mark course j h = record {
     lawful = j.lawful.0;
     lawful_before = j.lawful.1;
@@ -511,12 +522,13 @@ module _ (policy : Policy) (pid : ℕ) (picks : List ℕ) (given : List HouseRep
     other = j.others.0;
     right = j.right;
     small = atEach-here HeldSmall (log_of_journal setting before) (atEach-before HeldSmall setting mark before j.small);
+    calls = Begins j.starts ∷ calls_in setting before;
     reached = h.first;
     goes = h.rest;
   }
 
   comes-in : (before : List Mark) (course : Course) → Journey (House HouseIn ∷ before) course → Inv setting (House HouseIn ∷ before) course
-  comes-in [] course j = let-in course j.reached
+  comes-in [] course j = let-in j.starts course j.reached
   comes-in (mark ∷ before) course j = absurd (let none = j.lawful.0 in cc)
 
   journeys : HeardRow policy pid → (journal : List Mark) (course : Course) → Journey journal course → Inv setting journal course
@@ -525,7 +537,7 @@ module _ (policy : Policy) (pid : ℕ) (picks : List ℕ) (given : List HouseRep
     where
       goes : (mark : Mark) → (mark ≡ House HouseIn → ⊥) → Journey (mark ∷ before) course → ((c : Course) → Journey before c → Inv setting before c) → Inv setting (mark ∷ before) course
       goes mark other j earlier =
-          let h = reach-split (calls_in setting before) (calls_at setting before mark) first_course course j.reached in
+          let h = reach-split (Begins j.starts ∷ calls_in setting before) (calls_at setting before mark) first_course course j.reached in
           next heard before mark h.middle course other (one-more before mark course j h) (earlier h.middle (before-more before mark course other j h))
 
       by_house : (mark : HouseMark) → Journey (House mark ∷ before) course → ((c : Course) → Journey before c → Inv setting before c) → Inv setting (House mark ∷ before) course
@@ -552,6 +564,7 @@ house-stays policy pid picks replies journal course h =
       right = right-held policy pid picks replies journal h.lawful h.fresh;
       small = remotes-held policy pid picks replies journal h.lawful h.fresh;
       within = h.within;
+      starts = h.starts;
       reached = h.reached;
     } in
     ends-unlost policy pid picks replies journal course (journeys policy pid picks replies (heard-row policy pid) journal course journey)

@@ -1,10 +1,12 @@
 -- What the history has of the house: no row drops it.
-use Rattle.std.specs.Prelude.{ℕ, ◌==◌, ◌≡◌, Bool, true, false, List}
+use Rattle.std.specs.Prelude.{ℕ, ◌==◌, ◌≡◌, Bool, true, false, List, ◌∷◌}
+use Rattle.mux_outside.specs.HouseCalls.{Begins}
+use Rattle.mux_outside.specs.declared.starts.Starts.{Starts}
 use Rattle.mux_outside.specs.declared.house_mark.HouseMark.{HouseMark}
 use Rattle.mux_outside.specs.declared.house_mark.HouseMark.TheVariants.{HouseAnswer}
 use Rattle.mux_outside.specs.declared.house.HouseReply.{HouseReply}
 use Rattle.mux_outside.specs.declared.mark.Mark.{Mark}
-use Rattle.mux_outside.specs.declared.mark.Mark.TheVariants.{Accepts, Gets, Ends, Frees, Fails, Takes, Holds, WriteFails, House}
+use Rattle.mux_outside.specs.declared.mark.Mark.TheVariants.{Gets, Ends, Frees, Fails, Takes, Holds, WriteFails, House}
 use Rattle.mux_history.specs.declared.limits.TheConstants.{HOUSE}
 use Rattle.mux_history.specs.Journal.{IsLawful, is_accepted, log_of_journal}
 use Rattle.mux_history.specs.Log.{Setting}
@@ -24,7 +26,6 @@ names_in (HouseAnswer client id reply) = client == HOUSE
 names_in mark = false
 
 abbrev pub names_house : Mark → Bool
-names_house (Accepts k) = k == HOUSE
 names_house (Gets t bytes) = t == HOUSE
 names_house (Ends t) = t == HOUSE
 names_house (Frees t) = t == HOUSE
@@ -39,8 +40,8 @@ abbrev pub IsOfOthers : List Mark → Mark → Type 0
 IsOfOthers before mark = names_house mark ≡ false
 
 -- a journal that a wire can give, in which a house was let in; what is promised of its waits and of
--- what the house says; no mark of the wire names the house; each number was fresh; and the calls of
--- the house that the journal has lead to this course
+-- what the house says; no mark of the wire names the house; each number was fresh; and the house
+-- began with some forwardings, behind which its calls that the journal has lead to this course
 pub record IsHoused (setting : Setting) (journal : List Mark) (course : Course) : Type 0 where
   pub lawful : IsLawful journal
   pub asked : Throughout ReadsWhenAsked journal
@@ -49,7 +50,8 @@ pub record IsHoused (setting : Setting) (journal : List Mark) (course : Course) 
   pub others : Throughout IsOfOthers journal
   pub within : is_accepted HOUSE journal ≡ true
   pub fresh : AreFresh (log_of_journal setting journal)
-  pub reached : Reaches first_course (calls_in setting journal) course
+  pub starts : Starts
+  pub reached : Reaches first_course (Begins starts ∷ calls_in setting journal) course
 
 -- then no row drops the house, whatever is permitted, numbers are picked, clients and the server say
 abbrev pub HouseStays : Type 0
