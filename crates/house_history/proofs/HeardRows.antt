@@ -666,3 +666,20 @@ heard-row policy pid pick rows p course told right going bytes few some short ro
     by_dest (ToClient k) e = by_client k (k == HOUSE) refl e
     by_dest Disconnects e = Ends refl lost
     by_dest (Breaks cause) e = Ends refl lost
+
+-- nothing that is heard is for a house that has no rows
+pub heard-client : (rows : List Row) (p : List ℕ) → rows_of HOUSE rows ≡ [] → ((heard_row rows p (dest rows p)).client == HOUSE) ≡ false
+heard-client rows p none = by_dest (dest rows p) refl
+  where
+    young : IsYoung (rows_of HOUSE rows)
+    young = subst IsYoung (sym none) (record { channels = refl; asked = refl; forwardings = refl; silent = refl })
+
+    by_client : (k : ℕ) (b : Bool) → (k == HOUSE) ≡ b → dest rows p ≡ ToClient k → ((row_of (Heard p) k (heard_for (rows_of k rows) p) (rows_of k rows)).client == HOUSE) ≡ false
+    by_client k false e to = ap (λ (j : ℕ). j == HOUSE) (row-client (Heard p) k (heard_for (rows_of k rows) p) (rows_of k rows)) ∙ e
+    by_client k true e to = absurd (dest-young rows p young (to ∙ ap (λ (j : ℕ). ToClient j) (same-number k HOUSE e)))
+
+    by_dest : (d : Dest) → dest rows p ≡ d → ((heard_row rows p d).client == HOUSE) ≡ false
+    by_dest ToMaster e = refl
+    by_dest (ToClient k) e = by_client k (k == HOUSE) refl e
+    by_dest Disconnects e = refl
+    by_dest (Breaks cause) e = refl

@@ -91,14 +91,17 @@ after-row row rows course other (IsOn told g) = by_case (is_end row.fate) refl
     by_case true e = IsOver (ap (λ (b : Bool). b || is_ended rows) e) (ap is_lost (others-stay row rows other) ∙ in-kept (rows_of HOUSE rows) g.inside)
     by_case false e = IsOn told (going-others row rows course told other e g)
 
+pub next-other : (policy : Policy) (pid : ℕ) (picks : List ℕ) (given : List HouseReply) (rows : List Row) (item : Item) → IsOther item → ((next_row (by_lists policy pid picks given) rows item).client == HOUSE) ≡ false
+next-other policy pid picks given rows item o =
+    other-row policy pid (pick_of (FromLists picks given) rows item) rows (with_reply (FromLists picks given) rows item) (reply-other picks given rows item o)
+
 pub others-item : (policy : Policy) (pid : ℕ) (picks : List ℕ) (given : List HouseReply) (item : Item) (rows : List Row) (course : Course) → IsOther item → After rows course
     → After (more_of (by_lists policy pid picks given) rows item) course
 others-item policy pid picks given item rows course o after = by_next (makes_next rows item)
   where
     by_next : (b : Bool) → After (elim b as (λ _. List Row) [ false ↦ rows | true ↦ next_row (by_lists policy pid picks given) rows item ∷ rows ]) course
     by_next false = after
-    by_next true = after-row (next_row (by_lists policy pid picks given) rows item) rows course
-        (other-row policy pid (pick_of (FromLists picks given) rows item) rows (with_reply (FromLists picks given) rows item) (reply-other picks given rows item o)) after
+    by_next true = after-row (next_row (by_lists policy pid picks given) rows item) rows course (next-other policy pid picks given rows item o) after
 
 pub others-items : (policy : Policy) (pid : ℕ) (picks : List ℕ) (given : List HouseReply) (items : List Item) (rows : List Row) (course : Course) → Each IsOther items → After rows course
     → After (more_all (by_lists policy pid picks given) rows items) course

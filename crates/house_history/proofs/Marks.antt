@@ -21,9 +21,9 @@ use Rattle.mux_outside.specs.declared.mark.Mark.TheVariants.{Waits, Accepts, Get
 use Rattle.mux_outside.specs.declared.starts.Starts.{Starts}
 use Rattle.mux_outside.specs.declared.turn.Want.TheVariants.{Read, WriteOnly}
 use Rattle.mux_history.specs.declared.limits.TheConstants.{HOUSE}
-use Rattle.mux_history.specs.Journal.{IsLawful, LawfulMark, bytes_in, bytes_of, is_accepted, is_own_stream, items_in, log_of_journal, new_heard, new_sayings, server_end, unless_own}
+use Rattle.mux_history.specs.Journal.{IsLawful, LawfulMark, bytes_in, bytes_of, is_accepted, is_own_stream, items_in, log_of_journal, new_heard, new_sayings, server_end, unless_own, LawfulHouse}
 use Rattle.mux_history.specs.Kept.{AtEach}
-use Rattle.mux_history.specs.Log.{Setting, is_took, makes_row, more_all, more_of, next_row}
+use Rattle.mux_history.specs.Log.{Setting, is_took, makes_row, more_all, more_of, next_row, makes_next}
 use Rattle.mux_history.specs.Pending.{pending}
 use Rattle.mux_history.specs.Policy.{Policy}
 use Rattle.mux_history.specs.Promises.{SpeaksInTime, Throughout, WaitsAt}
@@ -33,7 +33,7 @@ use Rattle.mux_history.specs.Wires.{FollowsRead, ReadsWhenAsked}
 use Rattle.mux_engine.specs.Called.{calls_at, calls_in, if_own}
 use Rattle.house_forward.specs.Lives.{Course, Follows, Life, Reaches, SaysBy, first_course}
 use Rattle.house_forward.proofs.Sound.{All, Sound, all-sound, follow-sound}
-use Rattle.house_history.specs.Runs.{HouseStays, IsOfOthers, names_house}
+use Rattle.house_history.specs.Runs.{HouseStays, IsOfOthers, names_house, names_in}
 use Rattle.house_history.proofs.Lists.{Each, each-found, each-front, found}
 use Rattle.house_history.proofs.Hearing.{NoGrant, Told, Waits as WaitsFor, hears, none-left}
 use Rattle.house_history.proofs.Requesting.{requests-few}
@@ -41,13 +41,13 @@ use Rattle.house_history.proofs.RowsOf.{heard-size, plain_row, total}
 use Rattle.house_history.proofs.AnswersOf.{atEach-before, atEach-here, heard-sized}
 use Rattle.house_history.proofs.Calm.{IsCalm, distinct-of}
 use Rattle.house_history.proofs.Going.{After, Going, IsOn, IsOver, RightAt, SaidSo, in-kept, others-stay, own-more}
-use Rattle.house_history.proofs.Items.{HeardRow, IsOther, OnWith, heard-items, is-bytes-all, is-heard-all, is-other-all, others-items}
+use Rattle.house_history.proofs.Items.{HeardRow, IsOther, OnWith, heard-items, is-bytes-all, is-heard-all, is-other-all, others-items, next-other, IsHeardItem}
 use Rattle.house_history.proofs.Takes.{calm-rest, calm-step, took-step}
 use Rattle.house_history.proofs.Desks.{desk-heard}
 use Rattle.house_history.proofs.Asks.{greets-step, request-step}
 use Rattle.house_history.proofs.Relays.{EachSmall, WindowIn, relay-step}
 use Rattle.house_history.proofs.Remotes.{IsSmallChannel, remotes-held, stream-bytes}
-use Rattle.house_history.proofs.HeardRows.{heard-row}
+use Rattle.house_history.proofs.HeardRows.{heard-client, heard-row}
 use Rattle.house_history.proofs.Right.{right-held}
 use Rattle.house_history.proofs.Readings.{SmallIn}
 use Rattle.house_history.proofs.Views.{IsOffered, View}
@@ -488,15 +488,15 @@ module _ (policy : Policy) (pid : ℕ) (picks : List ℕ) (given : List HouseRep
     pub starts : Starts
     pub reached : Reaches first_course (Begins starts ∷ calls_in setting journal) course
 
-  within-house : (mark : HouseMark) (before : List Mark) → (House mark ≡ House HouseIn → ⊥) → is_accepted HOUSE (House mark ∷ before) ≡ true → is_accepted HOUSE before ≡ true
-  within-house HouseIn before other h = absurd (other refl)
-  within-house mark before other h = h
+  same-house : (mark : HouseMark) (before : List Mark) → (House mark ≡ House HouseIn → ⊥) → is_accepted HOUSE (House mark ∷ before) ≡ is_accepted HOUSE before
+  same-house HouseIn before other = absurd (other refl)
+  same-house mark before other = refl
 
-  -- it was let in before
-  within-before : (mark : Mark) (before : List Mark) → (mark ≡ House HouseIn → ⊥) → LawfulMark before mark → is_accepted HOUSE (mark ∷ before) ≡ true → is_accepted HOUSE before ≡ true
-  within-before (Accepts k) before other e h = sym (ap (λ (b : Bool). if b then true else is_accepted HOUSE before) (client-other k e.1)) ∙ h
-  within-before (House mark) before other e h = within-house mark before other h
-  within-before mark before other e h = h
+  -- another mark doesn't let it in
+  same-within : (mark : Mark) (before : List Mark) → (mark ≡ House HouseIn → ⊥) → LawfulMark before mark → is_accepted HOUSE (mark ∷ before) ≡ is_accepted HOUSE before
+  same-within (Accepts k) before other e = ap (λ (b : Bool). if b then true else is_accepted HOUSE before) (client-other k e.1)
+  same-within (House mark) before other e = same-house mark before other
+  same-within mark before other e = refl
 
   before-more : (before : List Mark) (mark : Mark) (course : Course) → (mark ≡ House HouseIn → ⊥) → (j : Journey (mark ∷ before) course) → (h : Split (Begins j.starts ∷ calls_in setting before) (calls_at setting before mark) first_course course) → Journey before h.middle
   before-more before mark course other j h = record {
@@ -507,7 +507,7 @@ module _ (policy : Policy) (pid : ℕ) (picks : List ℕ) (given : List HouseRep
     others = j.others.1;
     right = atEach-before RightAt setting mark before j.right;
     small = atEach-before HeldSmall setting mark before j.small;
-    within = within-before mark before other j.lawful.0 j.within;
+    within = sym (same-within mark before other j.lawful.0) ∙ j.within;
     starts = j.starts;
     reached = h.first;
   }
@@ -552,10 +552,98 @@ module _ (policy : Policy) (pid : ℕ) (picks : List ℕ) (given : List HouseRep
   ends-unlost journal course (Past ended kept) = kept
   ends-unlost journal course (Here told g said) = in-kept (rows_of HOUSE (log_of_journal setting journal)) g.inside
 
+  -- ---- a house that was not let in has no rows
+
+  Nobody : List Row → Type 0
+  Nobody rows = rows_of HOUSE rows ≡ []
+
+  nobody-more : (item : Item) (rows : List Row) → ((next_row setting rows item).client == HOUSE) ≡ false → Nobody rows → Nobody (more_of setting rows item)
+  unfolding Nobody
+  nobody-more item rows other none = by_next (makes_next rows item)
+    where
+      by_next : (b : Bool) → rows_of HOUSE (elim b as (λ _. List Row) [ false ↦ rows | true ↦ next_row setting rows item ∷ rows ]) ≡ []
+      by_next false = none
+      by_next true = others-stay (next_row setting rows item) rows other ∙ none
+
+  nobody-others : (items : List Item) (rows : List Row) → Each IsOther items → Nobody rows → Nobody (more_all setting rows items)
+  nobody-others [] rows all none = none
+  nobody-others (item ∷ items) rows all none = nobody-others items (more_of setting rows item) all.1 (nobody-more item rows (next-other policy pid picks given rows item all.0) none)
+
+  heard-other : (rows : List Row) (item : Item) → IsHeardItem item → Nobody rows → ((next_row setting rows item).client == HOUSE) ≡ false
+  unfolding Nobody
+  heard-other rows (Heard p) is none = heard-client rows p none
+  heard-other rows (BadServer fault) is none = refl
+  heard-other rows item is none = absurd is
+
+  nobody-heard : (items : List Item) (rows : List Row) → Each IsHeardItem items → Nobody rows → Nobody (more_all setting rows items)
+  nobody-heard [] rows all none = none
+  nobody-heard (item ∷ items) rows all none = nobody-heard items (more_of setting rows item) all.1 (nobody-more item rows (heard-other rows item all.0 none) none)
+
+  nobody-gets : (before : List Mark) (t : ℕ) (bytes : List ℕ) → (t == HOUSE) ≡ false → Nobody (log_of_journal setting before) → Nobody (log_of_journal setting (Gets t bytes ∷ before))
+  nobody-gets before t bytes other none = by_server (is_server t)
+    where
+      rows : List Row
+      rows = log_of_journal setting before
+
+      by_server : (b : Bool) → Nobody (more_all setting rows (elim b as (λ _. List Item) [ true ↦ new_heard (bytes_of 0 before) (bytes_of 0 before ++ bytes) | false ↦ unless_own t (new_sayings t (bytes_of t before) (bytes_of t before ++ bytes)) ]))
+      by_server true = nobody-heard (new_heard (bytes_of 0 before) (bytes_of 0 before ++ bytes)) rows (is-heard-all (bytes_of 0 before) bytes) none
+      by_server false = nobody-others (unless_own t (new_sayings t (bytes_of t before) (bytes_of t before ++ bytes))) rows (gets-other t (bytes_of t before) bytes (is_own_stream t) other) none
+
+  nobody-house : (before : List Mark) (mark : HouseMark) → (mark ≡ HouseIn → ⊥) → LawfulHouse before mark → names_in mark ≡ false → is_accepted HOUSE before ≡ false → Nobody (log_of_journal setting before)
+      → Nobody (log_of_journal setting (House mark ∷ before))
+  nobody-house before HouseIn other lawful named out none = absurd (other refl)
+  nobody-house before (HouseSaid bytes) other lawful named out none = absurd (let here = lawful.0 in let bad : false ≡ true = sym out ∙ here in cc)
+  nobody-house before (HouseTook size) other lawful named out none = absurd (let bad : false ≡ true = sym out ∙ lawful in cc)
+  nobody-house before (HouseAsked client id opening ask reply) other lawful named out none = none
+  nobody-house before (HouseAnswer client id reply) other lawful named out none = nobody-others (HouseSays client id reply ∷ []) (log_of_journal setting before) (named, tt) none
+  nobody-house before (HouseOrder order number) other lawful named out none = none
+
+  nobody-mark : (before : List Mark) (mark : Mark) → (mark ≡ House HouseIn → ⊥) → LawfulMark before mark → names_house mark ≡ false → is_accepted HOUSE before ≡ false → Nobody (log_of_journal setting before)
+      → Nobody (log_of_journal setting (mark ∷ before))
+  nobody-mark before (Accepts k) other lawful named out none = nobody-others (Admit k ∷ []) (log_of_journal setting before) (client-other k lawful.1, tt) none
+  nobody-mark before (Gets t bytes) other lawful named out none = nobody-gets before t bytes named none
+  nobody-mark before (Ends t) other lawful named out none =
+      nobody-others (items_in before (Ends t)) (log_of_journal setting before) (ends-other t (parse InProxy (bytes_of 0 before)).rest (is_server t) (is_own_stream t) named) none
+  nobody-mark before (Fails t) other lawful named out none = nobody-others (items_in before (Fails t)) (log_of_journal setting before) (fails-other t (is_server t) (is_own_stream t) named) none
+  nobody-mark before (WriteFails t) other lawful named out none = nobody-others (items_in before (WriteFails t)) (log_of_journal setting before) (fails-other t (is_server t) (is_own_stream t) named) none
+  nobody-mark before (Takes t bytes) other lawful named out none = nobody-others (items_in before (Takes t bytes)) (log_of_journal setting before) (takes-other t (length bytes) (is_own_stream t) named) none
+  nobody-mark before (House mark) other lawful named out none = nobody-house before mark (λ e. other (ap House e)) lawful named out none
+  nobody-mark before (Waits waiting want streams accepts) other lawful named out none = none
+  nobody-mark before (Frees t) other lawful named out none = none
+  nobody-mark before (Holds t) other lawful named out none = none
+  nobody-mark before (Joins l t) other lawful named out none = none
+
+  nobody : (journal : List Mark) → IsLawful journal → Throughout IsOfOthers journal → is_accepted HOUSE journal ≡ false → Nobody (log_of_journal setting journal)
+  unfolding Nobody
+  nobody [] lawful others out = refl
+  nobody (mark ∷ before) lawful others out = by_mark mark lawful.0 others.0 out (λ (e : is_accepted HOUSE before ≡ false). nobody before lawful.1 others.1 e)
+    where
+      goes : (mark : Mark) → (mark ≡ House HouseIn → ⊥) → LawfulMark before mark → names_house mark ≡ false → is_accepted HOUSE (mark ∷ before) ≡ false → (is_accepted HOUSE before ≡ false → Nobody (log_of_journal setting before))
+          → Nobody (log_of_journal setting (mark ∷ before))
+      goes mark other lawful named out earlier =
+          let was = sym (same-within mark before other lawful) ∙ out in
+          nobody-mark before mark other lawful named was (earlier was)
+
+      by_house : (mark : HouseMark) → LawfulHouse before mark → names_in mark ≡ false → is_accepted HOUSE (House mark ∷ before) ≡ false → (is_accepted HOUSE before ≡ false → Nobody (log_of_journal setting before))
+          → Nobody (log_of_journal setting (House mark ∷ before))
+      by_house HouseIn lawful named out earlier = absurd (let bad : true ≡ false = out in cc)
+      by_house mark lawful named out earlier = goes (House mark) (λ e. absurd (cc)) lawful named out earlier
+
+      by_mark : (mark : Mark) → LawfulMark before mark → names_house mark ≡ false → is_accepted HOUSE (mark ∷ before) ≡ false → (is_accepted HOUSE before ≡ false → Nobody (log_of_journal setting before))
+          → Nobody (log_of_journal setting (mark ∷ before))
+      by_mark (House mark) lawful named out earlier = by_house mark lawful named out earlier
+      by_mark mark lawful named out earlier = goes mark (λ e. absurd (cc)) lawful named out earlier
+
+  unlost : (journal : List Mark) → IsLawful journal → Throughout IsOfOthers journal → is_accepted HOUSE journal ≡ false → is_lost (rows_of HOUSE (log_of_journal setting journal)) ≡ false
+  unfolding Nobody
+  unlost journal lawful others out = ap is_lost (nobody journal lawful others out)
+
 pub house-stays : HouseStays
-house-stays policy pid picks replies journal course h =
-    let setting = by_lists policy pid picks replies in
-    let journey : Journey policy pid picks replies journal course = record {
+house-stays policy pid picks replies journal course h = by_within (is_accepted HOUSE journal) refl
+  where
+    by_within : (b : Bool) → is_accepted HOUSE journal ≡ b → is_lost (rows_of HOUSE (log_of_journal (by_lists policy pid picks replies) journal)) ≡ false
+    by_within false out = unlost policy pid picks replies journal h.lawful h.others out
+    by_within true within = ends-unlost policy pid picks replies journal course (journeys policy pid picks replies (heard-row policy pid) journal course (record {
       lawful = h.lawful;
       asked = h.asked;
       waits = h.waits;
@@ -563,8 +651,7 @@ house-stays policy pid picks replies journal course h =
       others = h.others;
       right = right-held policy pid picks replies journal h.lawful h.fresh;
       small = remotes-held policy pid picks replies journal h.lawful h.fresh;
-      within = h.within;
+      within = within;
       starts = h.starts;
       reached = h.reached;
-    } in
-    ends-unlost policy pid picks replies journal course (journeys policy pid picks replies (heard-row policy pid) journal course journey)
+    }))

@@ -1,5 +1,5 @@
 -- What the history has of the house: no row drops it.
-use Rattle.std.specs.Prelude.{ℕ, ◌==◌, ◌≡◌, Bool, true, false, List, ◌∷◌}
+use Rattle.std.specs.Prelude.{ℕ, ◌==◌, ◌≡◌, Bool, false, List, ◌∷◌}
 use Rattle.mux_outside.specs.HouseCalls.{Begins}
 use Rattle.mux_outside.specs.declared.starts.Starts.{Starts}
 use Rattle.mux_outside.specs.declared.house_mark.HouseMark.{HouseMark}
@@ -8,7 +8,7 @@ use Rattle.mux_outside.specs.declared.house.HouseReply.{HouseReply}
 use Rattle.mux_outside.specs.declared.mark.Mark.{Mark}
 use Rattle.mux_outside.specs.declared.mark.Mark.TheVariants.{Gets, Ends, Frees, Fails, Takes, Holds, WriteFails, House}
 use Rattle.mux_history.specs.declared.limits.TheConstants.{HOUSE}
-use Rattle.mux_history.specs.Journal.{IsLawful, is_accepted, log_of_journal}
+use Rattle.mux_history.specs.Journal.{IsLawful, log_of_journal}
 use Rattle.mux_history.specs.Log.{Setting}
 use Rattle.mux_history.specs.Policy.{Policy}
 use Rattle.mux_history.specs.Promises.{SpeaksInTime, Throughout, WaitsAt}
@@ -39,8 +39,7 @@ names_house mark = false
 abbrev pub IsOfOthers : List Mark → Mark → Type 0
 IsOfOthers before mark = names_house mark ≡ false
 
--- a journal that a wire can give, in which a house was let in; what is promised of its waits and of
--- what the house says; no mark of the wire names the house; each number was fresh; and the house
+-- a journal that a wire can give; what is promised of its waits and of what the house says; no mark of the wire names the house; each number was fresh; and the house
 -- began with some forwardings, behind which its calls that the journal has lead to this course
 pub record IsHoused (setting : Setting) (journal : List Mark) (course : Course) : Type 0 where
   pub lawful : IsLawful journal
@@ -48,7 +47,6 @@ pub record IsHoused (setting : Setting) (journal : List Mark) (course : Course) 
   pub waits : Throughout (WaitsAt setting) journal
   pub speaks : Throughout (SpeaksInTime setting) journal
   pub others : Throughout IsOfOthers journal
-  pub within : is_accepted HOUSE journal ≡ true
   pub fresh : AreFresh (log_of_journal setting journal)
   pub starts : Starts
   pub reached : Reaches first_course (Begins starts ∷ calls_in setting journal) course
