@@ -39,8 +39,9 @@ names_house mark = false
 abbrev pub IsOfOthers : List Mark → Mark → Type 0
 IsOfOthers before mark = names_house mark ≡ false
 
--- a journal that a wire can give; what is promised of its waits and of what the house says; no mark of the wire names the house; each number was fresh; and the house
--- began with some forwardings, behind which its calls that the journal has lead to this course
+-- a journal that a wire can give; what is promised of its waits and of what the house says; no mark
+-- names the house; each number was fresh; and the house began with some forwardings, behind which its
+-- calls that the journal has lead to this course
 pub record IsHoused (setting : Setting) (journal : List Mark) (course : Course) : Type 0 where
   pub lawful : IsLawful journal
   pub asked : Throughout ReadsWhenAsked journal
