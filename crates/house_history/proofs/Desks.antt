@@ -67,7 +67,7 @@ message-heard (message.Request recipient kind want rest) old new h = same-desk o
 message-heard (message.Success recipient) old new h = same-desk old new (at-same recipient (message.Success recipient) old new h)
 message-heard (message.Failure recipient) old new h = same-desk old new (at-same recipient (message.Failure recipient) old new h)
 
-reading-heard : (p : List ℕ) (r : Result Said Bad) → reading p ≡ r → (old new : Course) → HearsReading r old new → DeskHeard (one-if (gist-reading p is_reply false)) old new
+pub reading-heard : (p : List ℕ) (r : Result Said Bad) → reading p ≡ r → (old new : Course) → HearsReading r old new → DeskHeard (one-if (gist-reading p is_reply false)) old new
 reading-heard p (Err bad) e old new h =
     let is : gist-reading p is_reply false ≡ false = rw (e, gist-reading) refl in
     subst (λ (b : Bool). DeskHeard (one-if b) old new) (sym is) (same-desk old new (ap (λ c. c.desk) h))

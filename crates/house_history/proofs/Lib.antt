@@ -24,5 +24,7 @@ pub mod Items
 pub mod HeardRows
 pub mod Remotes
 pub mod Asks
+pub mod Unasked
 pub mod Relays
 pub mod Marks
+pub mod Runs

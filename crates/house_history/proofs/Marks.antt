@@ -1,13 +1,15 @@
 -- The house stays, mark by mark.
 use Rattle.std.proofs.Common.{◌≡◌, ◌≤◌, ◌<◌, ◌+◌, ◌*◌, ◌^◌, ℕ, Bool, true, false, not, ◌&&◌, Option, Some, None, List, [], ◌∷◌, ◌++◌, refl, sym, ap, ◌∙◌, subst, arith, map, append-nil, length, inl}
-use Rattle.std.specs.Prelude.{◌==◌, find, take, if◌then◌else◌}
+use Rattle.std.specs.Prelude.{◌==◌, find, take, if◌then◌else◌, IsTrue}
+use Rattle.std.proofs.lemmas.Bool.{eqb-true}
 use Rattle.std.proofs.lemmas.Bool.Decides.{nat_tests}
-use Rattle.std.specs.List.{AllByRecursion}
+use Rattle.std.specs.List.{AllByRecursion, list_any}
 use Rattle.ssh_grammar.specs.Control.{Greets}
 use Rattle.ssh_grammar.specs.Frames.{frame_answer}
 use Rattle.ssh_grammar.specs.Said.{InProxy, parse}
 use Rattle.ssh_grammar.specs.SpellControl.{spell_answer}
 use Rattle.ssh_grammar.specs.declared.numbers.TheConstants.{VERSION}
+use Rattle.mux_outside.specs.Greeting.{GreetsFirst}
 use Rattle.mux_outside.specs.HouseCalls.{Begins, Got, End, Failed, Hears, HouseCall, Joined, Marks, Turns, Writable}
 use Rattle.mux_outside.specs.HouseCalls as call
 use Rattle.mux_outside.specs.OwnStreams.{is_own}
@@ -30,10 +32,14 @@ use Rattle.mux_history.specs.Promises.{SpeaksInTime, Throughout, WaitsAt}
 use Rattle.mux_history.specs.Rows.{Admit, BadServer, Gone, Heard, HouseSays, Item, Row, RunEnd, Says, ServerCut, ServerEnd, ServerFailed, Took, is_ended, is_lost, rows_of}
 use Rattle.mux_history.specs.Settings.{by_lists}
 use Rattle.mux_history.specs.Wires.{FollowsRead, ReadsWhenAsked}
+use Rattle.mux_clients.specs.Asked.{asked_of}
+use Rattle.mux_engine.specs.Answers.{AnswersDeferred, is_deferred}
 use Rattle.mux_engine.specs.Called.{calls_at, calls_in, if_own}
+use Rattle.mux_engine.specs.Places.{IsOfOthers, is_about}
+use Rattle.mux_engine.proofs.Greeting.{greets-before}
 use Rattle.house_forward.specs.Lives.{Course, Follows, Life, Reaches, SaysBy, first_course}
 use Rattle.house_forward.proofs.Sound.{All, Sound, all-sound, follow-sound}
-use Rattle.house_history.specs.Runs.{HouseStays, IsOfOthers, names_house, names_in}
+use Rattle.house_history.specs.Runs.{HouseStays}
 use Rattle.house_history.proofs.Lists.{Each, each-found, each-front, found}
 use Rattle.house_history.proofs.Hearing.{NoGrant, Told, Waits as WaitsFor, hears, none-left}
 use Rattle.house_history.proofs.Requesting.{requests-few}
@@ -49,6 +55,7 @@ use Rattle.house_history.proofs.Relays.{EachSmall, WindowIn, relay-step}
 use Rattle.house_history.proofs.Remotes.{IsSmallChannel, remotes-held, stream-bytes}
 use Rattle.house_history.proofs.HeardRows.{heard-client, heard-row}
 use Rattle.house_history.proofs.Right.{right-held}
+use Rattle.house_history.proofs.Unasked.{course-greets, house-unasked}
 use Rattle.house_history.proofs.Readings.{SmallIn}
 use Rattle.house_history.proofs.Views.{IsOffered, View}
 use Rattle.house_history.proofs.Fitting.{Entry, Fits, FitsAs, Owns, number-is, offered-at, owned-at}
@@ -62,6 +69,18 @@ use Rattle.house_forward.specs.Numbers.{channels_of}
 use Rattle.house_forward.proofs.Owning.{channels-differ, channels-small}
 use Rattle.mux_history.specs.Channels.{Channel, held_of, is_confirmed, is_number, is_up}
 use Rattle.std.proofs.lemmas.Bool.{and_parts}
+
+-- the mark names the house's own number: as that of a stream, or of a client that it answers
+abbrev names_in : HouseMark → Bool
+names_in (HouseAnswer client id reply) = client == HOUSE
+names_in mark = false
+
+abbrev names_house : Mark → Bool
+names_house (House mark) = names_in mark
+names_house mark = is_about HOUSE mark
+
+abbrev NamesOthers : List Mark → Mark → Type 0
+NamesOthers before mark = names_house mark ≡ false
 
 -- ---- the numbers that the server gave are small
 
@@ -481,7 +500,7 @@ module _ (policy : Policy) (pid : ℕ) (picks : List ℕ) (given : List HouseRep
     pub asked : Throughout ReadsWhenAsked journal
     pub waits : Throughout (WaitsAt setting) journal
     pub speaks : Throughout (SpeaksInTime setting) journal
-    pub others : Throughout IsOfOthers journal
+    pub others : Throughout NamesOthers journal
     pub right : AtEach RightAt (log_of_journal setting journal)
     pub small : AtEach HeldSmall (log_of_journal setting journal)
     pub within : is_accepted HOUSE journal ≡ true
@@ -613,7 +632,7 @@ module _ (policy : Policy) (pid : ℕ) (picks : List ℕ) (given : List HouseRep
   nobody-mark before (Holds t) other lawful named out none = none
   nobody-mark before (Joins l t) other lawful named out none = none
 
-  nobody : (journal : List Mark) → IsLawful journal → Throughout IsOfOthers journal → is_accepted HOUSE journal ≡ false → Nobody (log_of_journal setting journal)
+  nobody : (journal : List Mark) → IsLawful journal → Throughout NamesOthers journal → is_accepted HOUSE journal ≡ false → Nobody (log_of_journal setting journal)
   unfolding Nobody
   nobody [] lawful others out = refl
   nobody (mark ∷ before) lawful others out = by_mark mark lawful.0 others.0 out (λ (e : is_accepted HOUSE before ≡ false). nobody before lawful.1 others.1 e)
@@ -634,21 +653,47 @@ module _ (policy : Policy) (pid : ℕ) (picks : List ℕ) (given : List HouseRep
       by_mark (House mark) lawful named out earlier = by_house mark lawful named out earlier
       by_mark mark lawful named out earlier = goes mark (λ e. absurd (cc)) lawful named out earlier
 
-  unlost : (journal : List Mark) → IsLawful journal → Throughout IsOfOthers journal → is_accepted HOUSE journal ≡ false → is_lost (rows_of HOUSE (log_of_journal setting journal)) ≡ false
+  unlost : (journal : List Mark) → IsLawful journal → Throughout NamesOthers journal → is_accepted HOUSE journal ≡ false → is_lost (rows_of HOUSE (log_of_journal setting journal)) ≡ false
   unfolding Nobody
   unlost journal lawful others out = ap is_lost (nobody journal lawful others out)
+
+  -- no mark names the house, whose calls greet first
+  names-others : (journal : List Mark) → Throughout IsOfOthers journal → Throughout (AnswersDeferred setting) journal → GreetsFirst (calls_in setting journal) → Throughout NamesOthers journal
+  names-others [] others answered greets = tt
+  names-others (mark ∷ before) others answered greets = (by_mark mark others.0 answered.0, names-others before others.1 answered.1 earlier)
+    where
+      earlier : GreetsFirst (calls_in setting before)
+      earlier = greets-before (calls_in setting before) (calls_at setting before mark) greets
+
+      by_client : (client id : ℕ) → IsTrue (list_any (is_deferred client id) (asked_of (log_of_journal setting before))) → (b : Bool) → (client == HOUSE) ≡ b → b ≡ false
+      by_client client id due false e = refl
+      by_client client id due true e =
+          let same : client ≡ HOUSE = eqb-true client HOUSE e in
+          let none = house-unasked policy pid picks given before others.1 earlier id in
+          absurd (let bad : true ≡ false = sym due ∙ (ap (λ (k : ℕ). list_any (is_deferred k id) (asked_of (log_of_journal setting before))) same ∙ none) in cc)
+
+      by_house : (mark : HouseMark) → AnswersDeferred setting before (House mark) → NamesOthers before (House mark)
+      by_house (HouseAnswer client id reply) due = by_client client id due (client == HOUSE) refl
+      by_house mark due = refl
+
+      by_mark : (mark : Mark) → IsOfOthers before mark → AnswersDeferred setting before mark → NamesOthers before mark
+      by_mark (House mark) other due = by_house mark due
+      by_mark mark other due = other
 
 pub house-stays : HouseStays
 house-stays policy pid picks replies journal course h = by_within (is_accepted HOUSE journal) refl
   where
+    others : Throughout NamesOthers journal
+    others = names-others policy pid picks replies journal h.others h.answered (course-greets (Begins h.starts ∷ calls_in (by_lists policy pid picks replies) journal) first_course course refl h.reached)
+
     by_within : (b : Bool) → is_accepted HOUSE journal ≡ b → is_lost (rows_of HOUSE (log_of_journal (by_lists policy pid picks replies) journal)) ≡ false
-    by_within false out = unlost policy pid picks replies journal h.lawful h.others out
+    by_within false out = unlost policy pid picks replies journal h.lawful others out
     by_within true within = ends-unlost policy pid picks replies journal course (journeys policy pid picks replies (heard-row policy pid) journal course (record {
       lawful = h.lawful;
       asked = h.asked;
       waits = h.waits;
       speaks = h.speaks;
-      others = h.others;
+      others = others;
       right = right-held policy pid picks replies journal h.lawful h.fresh;
       small = remotes-held policy pid picks replies journal h.lawful h.fresh;
       within = within;

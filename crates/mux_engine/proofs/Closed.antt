@@ -24,6 +24,7 @@ use Rattle.mux_clients.proofs.Stood.{own_row}
 use Rattle.mux_machine.specs.State.{State, closed_by, first_of, is_here}
 use Rattle.mux_machine.specs.Events.{here}
 use Rattle.mux_machine.specs.Stands.{Closes, IsFirst, Stands, StandsFor, log, not_closed}
+use Rattle.mux_engine.specs.Answers.{EachDeferred}
 use Rattle.mux_engine.specs.Serving.{IsSound, IsUnseen, IsUnused, Serving}
 use Rattle.mux_engine.specs.Sides.{Housed, Resting, Side}
 use Rattle.mux_engine.proofs.Lists.{among-here, among-less, none-without, or-true, own-or-house, test-other, true-false, without-other}
@@ -176,6 +177,7 @@ serve-closed {May} {Rest} {before} {now} {policy} {pid} {start} {seen} {held} {f
       asked = v.asked ∙ sym asks;
       called = v.called;
       askers = v.askers;
+      deferred = subst (λ (l : List HouseMark). EachDeferred l now.asks) (sym asks) v.deferred;
       house_in = v.house_in;
       house_there = v.house_there;
       rested = v.rested;

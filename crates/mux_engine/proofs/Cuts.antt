@@ -24,6 +24,7 @@ use Rattle.mux_machine.specs.Stands.{RowsFit}
 use Rattle.mux_outside.specs.HouseCalls.{HouseCall, calls_of}
 use Rattle.mux_outside.proofs.HouseCalls.{calls-append}
 use Rattle.mux_engine.specs.Called.{calls_in}
+use Rattle.mux_engine.specs.Answers.{EachDeferred}
 use Rattle.mux_engine.specs.Places.{IsPlaced}
 use Rattle.mux_engine.specs.Run.{AsksOn, IsOfWire, RestedAt, is_by_house}
 use Rattle.mux_engine.specs.Serving.{IsLeft, Kept, Promised, Serving}
@@ -135,6 +136,7 @@ serve-told {May} {Rest} {before} {now} {policy} {pid} {start} {seen} {held} {fai
           let set : Setting = by_lists policy pid (v.picked ++ picks) (v.replies ++ later) in
           ap (λ (l : List HouseCall). calls_in set v.journal ++ l) (ap calls_of is ∙ calls-append now.unnoted more) ∙ (sym (append_assoc (calls_in set v.journal) (calls_of now.unnoted) (calls_of more)) ∙ (ap (λ (l : List HouseCall). l ++ calls_of more) (v.called picks later) ∙ sym calls));
       askers = subst (λ (l : List OpenAsk). All (λ (a : OpenAsk). IsTrue (is_accepted a.client v.journal)) l) (sym asks) v.askers;
+      deferred = subst (EachDeferred v.stands.asks) (sym asks) v.deferred;
       house_in = v.house_in ∙ sym within;
       house_there = λ e. v.house_there (sym within ∙ e);
     } v.hears (λ t a. inl a)

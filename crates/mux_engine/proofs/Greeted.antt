@@ -1,26 +1,17 @@
--- A house that greets first ends no run: what it says behind the greeting is read as frames of SSH
--- messages.
-use Rattle.std.proofs.Common.{◌≡◌, ◌≢◌, ℕ, zero, suc, Bool, true, false, List, [], ◌∷◌, ◌++◌, length, map, drop, Option, Some, None, refl, sym, ap, ◌∙◌, subst, inl, inr, ◌⊎◌, append_assoc, append-nil, cond}
-use Rattle.std.specs.Prelude.{◌==◌, nat_lt, IsTrue}
+-- A house that greets first ends no run.
+use Rattle.std.proofs.Common.{◌≡◌, ◌≢◌, ℕ, Bool, true, false, List, [], ◌∷◌, ◌++◌, length, map, drop, Option, Some, None, sym, ◌∙◌, subst}
+use Rattle.std.specs.Prelude.{◌==◌, nat_lt}
 use Rattle.std.specs.List.{list_any}
-use Rattle.std.proofs.lemmas.Bool.Decides.{eqb_tells}
-use Rattle.ssh_grammar.specs.declared.fault.BadFrame.{BadFrame}
-use Rattle.ssh_grammar.specs.declared.framing.Framing.TheVariants as framing
+use Rattle.std.proofs.lemmas.Bool.{eq-eqb}
 use Rattle.ssh_grammar.specs.declared.numbers.TheConstants.{VERSION}
 use Rattle.ssh_grammar.specs.Control.{Answer, Greets}
-use Rattle.ssh_grammar.specs.Frames.{cut, frame_answer}
-use Rattle.ssh_grammar.specs.Laws.{faults}
-use Rattle.ssh_grammar.specs.Said.{Saying, Body, Payload, BadFraming, InControl, InProxy, Parsed, parse, said}
-use Rattle.ssh_grammar.proofs.Parses.{parse-append}
-use Rattle.ssh_grammar.proofs.Said.{payloads}
+use Rattle.ssh_grammar.specs.Frames.{frame_answer}
+use Rattle.ssh_grammar.specs.Said.{Saying, Body, Payload, BadFraming, InProxy, parse, said}
 use Rattle.mux_outside.specs.Greeting.{GreetsFirst}
 use Rattle.mux_outside.specs.House.{HouseState}
 use Rattle.mux_outside.specs.Seen.{Seen}
-use Rattle.mux_outside.specs.HouseCalls.{Begins, HandsOn, Hears, HouseCall, Marks, Takes, Turns}
-use Rattle.mux_outside.specs.HouseCalls as call
+use Rattle.mux_outside.specs.HouseCalls.{HandsOn, HouseCall}
 use Rattle.mux_outside.specs.CallCounts.{CallCounts}
-use Rattle.mux_outside.specs.OwnStreams.{is_own}
-use Rattle.mux_outside.specs.declared.greeting.TheConstants.{GREETING}
 use Rattle.mux_outside.specs.declared.house.HouseReply.{HouseReply}
 use Rattle.mux_outside.specs.declared.house_mark.HouseMark.{HouseMark}
 use Rattle.mux_outside.specs.declared.house_mark.HouseMark.TheVariants.{HouseIn, HouseSaid, HouseTook, HouseAsked, HouseAnswer, HouseOrder}
@@ -30,9 +21,8 @@ use Rattle.mux_history.specs.declared.ended.Ended.{Ended}
 use Rattle.mux_history.specs.declared.ended.Ended.TheVariants as ended
 use Rattle.mux_history.specs.declared.limits.TheConstants.{HOUSE, MAX_CLIENTS}
 use Rattle.mux_history.specs.Controls.{answers_ask, answers_maybe, house_answer, greeted, house_says, in_proxy, said_body}
-use Rattle.mux_history.specs.Journal.{bytes_in, bytes_of, heard_item, house_items, house_said, is_own_stream, items_in, log_of_journal, new_heard, new_sayings, said_item, server_end, unless_own}
+use Rattle.mux_history.specs.Journal.{bytes_of, heard_item, house_items, house_said, is_own_stream, items_in, log_of_journal, new_heard, new_sayings, said_item, server_end, unless_own}
 use Rattle.mux_history.specs.Log.{Setting, admits, more_all, more_of, next_row, open_matters, row_of, said_by_client}
-use Rattle.mux_history.specs.Pending.{pending}
 use Rattle.mux_history.specs.Policy.{Policy}
 use Rattle.mux_history.specs.Promises.{Throughout}
 use Rattle.mux_history.specs.Promises.{EndsAs as AnswersAs}
@@ -41,116 +31,14 @@ use Rattle.mux_history.specs.Rows as row
 use Rattle.mux_history.specs.Said.{Outcome, silent, tells}
 use Rattle.mux_history.specs.Settings.{by_lists}
 use Rattle.mux_history.specs.Solo.{end_of}
-use Rattle.mux_engine.specs.Called.{HasSaidNothing, StandsGreeting, calls_at, calls_in, house_calls, is_piece}
+use Rattle.mux_engine.specs.Called.{HasSaidNothing, StandsGreeting, calls_at, calls_in, is_piece}
 use Rattle.mux_engine.specs.Came.{EndedBy, EndsFor, OverBy}
-use Rattle.mux_engine.specs.Places.{GivesOwn}
+use Rattle.mux_engine.specs.Places.{IsOfOthers}
 use Rattle.mux_engine.specs.Run.{IsRun}
 use Rattle.mux_engine.specs.Sides.{AtWaits}
 use Rattle.mux_engine.proofs.Fates.{EndsAs, EndsHeard, Fine, fine-payload, heard-ends, lives-as, one-ends, row-as, said-as, said-for}
-
--- ---- what the house said, by its calls
-
-abbrev piece : HouseCall → List ℕ
-piece (Marks (HouseSaid bytes)) = bytes
-piece call = []
-
-abbrev pieces : List HouseCall → List ℕ
-pieces [] = []
-pieces (call ∷ later) = piece call ++ pieces later
-
-pieces-append : (a b : List HouseCall) → pieces (a ++ b) ≡ pieces a ++ pieces b
-pieces-append [] b = refl
-pieces-append (call ∷ a) b = ap (λ l. piece call ++ l) (pieces-append a b) ∙ sym (append_assoc (piece call) (pieces a) (pieces b))
-
-own-pieces : (b : Bool) (one : HouseCall) → piece one ≡ [] → pieces (cond b (one ∷ []) []) ≡ []
-own-pieces true one none = ap (λ l. l ++ []) none
-own-pieces false one none = refl
-
--- the house itself has no stream that gives anything
-gives-other : (before : List Mark) (t : ℕ) (bytes : List ℕ) → GivesOwn before (mark.Gets t bytes) → t ≢ HOUSE
-gives-other before t bytes gives e = (gives (subst (λ (i : ℕ). IsTrue (is_own i)) (sym e) refl)).other e
-
-other-bytes : (t : ℕ) (bytes : List ℕ) → t ≢ HOUSE → bytes_in HOUSE (mark.Gets t bytes) ≡ []
-other-bytes t bytes ne = elim (eqb_tells t HOUSE) [
-  | inl p ↦ absurd (ne p.1)
-  | inr p ↦ ap (λ b. elim b as (λ _. List ℕ) [ true ↦ bytes | false ↦ [] ]) p.0
-]
-
-house-pieces : (waiting : List ℕ) (m : HouseMark) → pieces (house_calls waiting m) ≡ house_said m
-house-pieces waiting HouseIn = refl
-house-pieces waiting (HouseSaid bytes) = append-nil bytes
-house-pieces waiting (HouseTook size) = refl
-house-pieces waiting (HouseAsked client id opening ask reply) = refl
-house-pieces waiting (HouseAnswer client id reply) = refl
-house-pieces waiting (HouseOrder order number) = refl
-
-mark-pieces : (set : Setting) (before : List Mark) (m : Mark) → GivesOwn before m → pieces (calls_at set before m) ≡ bytes_in HOUSE m
-mark-pieces set before (mark.Waits waiting want streams listens) gives = refl
-mark-pieces set before (mark.Accepts k) gives = refl
-mark-pieces set before (mark.Gets t bytes) gives = own-pieces (is_own t) (Turns (call.Got t bytes)) refl ∙ sym (other-bytes t bytes (gives-other before t bytes gives))
-mark-pieces set before (mark.Ends t) gives = own-pieces (is_own t) (Turns (call.End t)) refl
-mark-pieces set before (mark.Frees t) gives = own-pieces (is_own t) (Turns (call.Writable t)) refl
-mark-pieces set before (mark.Fails t) gives = own-pieces (is_own t) (Turns (call.Failed t)) refl
-mark-pieces set before (mark.Takes t bytes) gives = own-pieces (is_own t) (Takes t (length bytes)) refl
-mark-pieces set before (mark.Holds t) gives = refl
-mark-pieces set before (mark.WriteFails t) gives = own-pieces (is_own t) (Turns (call.Failed t)) refl
-mark-pieces set before (mark.Joins l t) gives = refl
-mark-pieces set before (mark.House m) gives = house-pieces (pending HOUSE (log_of_journal set before)) m
-
-journal-pieces : (set : Setting) (journal : List Mark) → Throughout GivesOwn journal → bytes_of HOUSE journal ≡ pieces (calls_in set journal)
-journal-pieces set [] gives = refl
-journal-pieces set (m ∷ before) gives =
-    ap (λ l. l ++ bytes_in HOUSE m) (journal-pieces set before gives.1)
-    ∙ (ap (λ l. pieces (calls_in set before) ++ l) (sym (mark-pieces set before m gives.0)) ∙ sym (pieces-append (calls_in set before) (calls_at set before m)))
-
--- ---- which greet first
-
-greets-before : (a b : List HouseCall) → GreetsFirst (a ++ b) → GreetsFirst a
-greets-before [] b h = tt
-greets-before (Begins starts ∷ a) b h = greets-before a b h
-greets-before (Marks HouseIn ∷ a) b h = greets-before a b h
-greets-before (Marks (HouseSaid bytes) ∷ a) b h = h
-greets-before (Marks (HouseTook size) ∷ a) b h = greets-before a b h
-greets-before (Marks (HouseAsked client id opening ask reply) ∷ a) b h = greets-before a b h
-greets-before (Marks (HouseAnswer client id reply) ∷ a) b h = greets-before a b h
-greets-before (Marks (HouseOrder order number) ∷ a) b h = greets-before a b h
-greets-before (Hears bytes ∷ a) b h = greets-before a b h
-greets-before (Turns happening ∷ a) b h = greets-before a b h
-greets-before (Takes stream size ∷ a) b h = greets-before a b h
-
--- behind calls of which none gave a piece
-pub greets-behind : (a b : List HouseCall) → list_any is_piece a ≡ false → GreetsFirst (a ++ b) → GreetsFirst b
-greets-behind [] b none h = h
-greets-behind (Begins starts ∷ a) b none h = greets-behind a b none h
-greets-behind (Marks HouseIn ∷ a) b none h = greets-behind a b none h
-greets-behind (Marks (HouseSaid bytes) ∷ a) b none h = absurd (cc)
-greets-behind (Marks (HouseTook size) ∷ a) b none h = greets-behind a b none h
-greets-behind (Marks (HouseAsked client id opening ask reply) ∷ a) b none h = greets-behind a b none h
-greets-behind (Marks (HouseAnswer client id reply) ∷ a) b none h = greets-behind a b none h
-greets-behind (Marks (HouseOrder order number) ∷ a) b none h = greets-behind a b none h
-greets-behind (Hears bytes ∷ a) b none h = greets-behind a b none h
-greets-behind (Turns happening ∷ a) b none h = greets-behind a b none h
-greets-behind (Takes stream size ∷ a) b none h = greets-behind a b none h
-
--- nothing, or the greeting and more
-abbrev Greeting : List ℕ → Type 0
-Greeting bytes = (bytes ≡ []) ⊎ ((rest : List ℕ) × (bytes ≡ GREETING.now ++ rest))
-
-greeting-pieces : (calls : List HouseCall) → GreetsFirst calls → Greeting (pieces calls)
-greeting-pieces [] h = inl refl
-greeting-pieces (Begins starts ∷ later) h = greeting-pieces later h
-greeting-pieces (Marks HouseIn ∷ later) h = greeting-pieces later h
-greeting-pieces (Marks (HouseSaid bytes) ∷ later) h = inr (pieces later, ap (λ l. l ++ pieces later) h)
-greeting-pieces (Marks (HouseTook size) ∷ later) h = greeting-pieces later h
-greeting-pieces (Marks (HouseAsked client id opening ask reply) ∷ later) h = greeting-pieces later h
-greeting-pieces (Marks (HouseAnswer client id reply) ∷ later) h = greeting-pieces later h
-greeting-pieces (Marks (HouseOrder order number) ∷ later) h = greeting-pieces later h
-greeting-pieces (Hears bytes ∷ later) h = greeting-pieces later h
-greeting-pieces (Turns happening ∷ later) h = greeting-pieces later h
-greeting-pieces (Takes stream size ∷ later) h = greeting-pieces later h
-
-journal-greets : (set : Setting) (journal : List Mark) → Throughout GivesOwn journal → GreetsFirst (calls_in set journal) → Greeting (bytes_of HOUSE journal)
-journal-greets set journal gives greets = subst Greeting (sym (journal-pieces set journal gives)) (greeting-pieces (calls_in set journal) greets)
+use Rattle.mux_engine.proofs.Greeting.{AllSo, Greeting, greets-before, greets-behind, hello, journal-greets, proxy, so-drop, so-said}
+use Rattle.mux_engine.proofs.Lists.{true-false}
 
 -- ---- what is said so
 
@@ -158,36 +46,6 @@ journal-greets set journal gives greets = subst Greeting (sym (journal-pieces se
 abbrev Calm : Saying → Type 0
 Calm (Body body) = (pid k : ℕ) (given : Option HouseReply) (greeted : Bool) → Fine (said_body pid k given greeted body)
 Calm saying = Unit {0}
-
-abbrev AllCalm : List Saying → Type 0
-AllCalm [] = Unit {0}
-AllCalm (x ∷ xs) = Calm x × AllCalm xs
-
-calm-drop : (n : ℕ) (xs : List Saying) → AllCalm xs → AllCalm (drop n xs)
-calm-drop zero xs h = h
-calm-drop (suc n) [] h = tt
-calm-drop (suc n) (x ∷ xs) h = calm-drop n xs h.1
-
-calm-faults : (fault : Option BadFrame) → AllCalm (faults fault)
-calm-faults None = tt
-calm-faults (Some fault) = (tt, tt)
-
-calm-payloads : (payloads : List (List ℕ)) (fault : Option BadFrame) → AllCalm (map Payload payloads ++ faults fault)
-calm-payloads [] fault = calm-faults fault
-calm-payloads (p ∷ payloads) fault = (tt, calm-payloads payloads fault)
-
-calm-proxy : (bytes : List ℕ) → AllCalm (parse InProxy bytes).says
-calm-proxy bytes = subst AllCalm (sym (payloads bytes)) (calm-payloads (cut framing.Proxy bytes).frames (cut framing.Proxy bytes).fault)
-
--- the two messages of the greeting
-abbrev hello : List ℕ
-hello = 0 ∷ 0 ∷ 0 ∷ 1 ∷ 0 ∷ 0 ∷ 0 ∷ 4 ∷ []
-
-abbrev proxy : List ℕ
-proxy = 16 ∷ 0 ∷ 0 ∷ 15 ∷ 0 ∷ 0 ∷ 0 ∷ 0 ∷ []
-
-greeting-read : parse InControl GREETING.now ≡ record { says = Body hello ∷ Body proxy ∷ []; mode = InProxy; rest = [] }
-greeting-read = refl
 
 calm-hello : Calm (Body hello)
 calm-hello pid k given true = tt
@@ -197,12 +55,11 @@ calm-proxying : Calm (Body proxy)
 calm-proxying pid k given true = tt
 calm-proxying pid k given false = tt
 
-said-behind : (rest : List ℕ) → said (GREETING.now ++ rest) ≡ Body hello ∷ Body proxy ∷ (parse InProxy rest).says
-said-behind rest = ap (λ (p : Parsed). p.says) (parse-append InControl GREETING.now rest)
+abbrev AllCalm : List Saying → Type 0
+AllCalm = AllSo Calm
 
 calm-said : (bytes : List ℕ) → Greeting bytes → AllCalm (said bytes)
-calm-said bytes (inl none) = subst (λ l. AllCalm (said l)) (sym none) tt
-calm-said bytes (inr more) = subst (λ l. AllCalm (said l)) (sym more.1) (subst AllCalm (sym (said-behind more.0)) (calm-hello, (calm-proxying, calm-proxy more.0)))
+calm-said = so-said Calm calm-hello calm-proxying (λ p. tt) (λ fault. tt)
 
 -- ---- rows that don't end the run for the house
 
@@ -319,7 +176,7 @@ module _ (policy : Policy) (pid : ℕ) (picks : List ℕ) (given : List HouseRep
   -- all items of a mark
   spare-marked : (before : List Mark) (m : HouseMark) → AllCalm (said (bytes_of HOUSE before ++ house_said m)) → AllSpare (house_items before m)
   spare-marked before HouseIn calm = spare-admit HOUSE
-  spare-marked before (HouseSaid bytes) calm = spare-house (drop (length (said (bytes_of HOUSE before))) (said (bytes_of HOUSE before ++ bytes))) (calm-drop (length (said (bytes_of HOUSE before))) (said (bytes_of HOUSE before ++ bytes)) calm)
+  spare-marked before (HouseSaid bytes) calm = spare-house (drop (length (said (bytes_of HOUSE before))) (said (bytes_of HOUSE before ++ bytes))) (so-drop Calm (length (said (bytes_of HOUSE before))) (said (bytes_of HOUSE before ++ bytes)) calm)
   spare-marked before (HouseTook size) calm = (λ rows. tt, tt)
   spare-marked before (HouseAsked client id opening ask reply) calm = tt
   spare-marked before (HouseAnswer client id reply) calm = (spare-row (row.HouseSays client id reply) client (λ rows. house_says (rows_of client rows) id reply) (λ rows. fine-house (rows_of client rows) id reply), tt)
@@ -339,25 +196,25 @@ module _ (policy : Policy) (pid : ℕ) (picks : List ℕ) (given : List HouseRep
       by_stream true = spare-end (parse InProxy (bytes_of 0 before)).rest
       by_stream false = unless-spare (is_own_stream k) (Gone k ∷ []) (spare-gone k)
 
-  spare-in : (before : List Mark) (m : Mark) → GivesOwn before m → AllCalm (said (bytes_of HOUSE (m ∷ before))) → AllSpare (items_in before m)
-  spare-in before (mark.Waits waiting want streams listens) gives calm = tt
-  spare-in before (mark.Accepts k) gives calm = spare-admit k
-  spare-in before (mark.Gets k bytes) gives calm = spare-gets before k bytes (gives-other before k bytes gives)
-  spare-in before (mark.Ends k) gives calm = spare-ends before k
-  spare-in before (mark.Frees k) gives calm = tt
-  spare-in before (mark.Fails k) gives calm = spare-fails k
-  spare-in before (mark.Takes k bytes) gives calm = unless-spare (is_own_stream k) (row.Took k (length bytes) ∷ []) (λ rows. tt, tt)
-  spare-in before (mark.Holds k) gives calm = tt
-  spare-in before (mark.WriteFails k) gives calm = spare-fails k
-  spare-in before (mark.Joins l k) gives calm = tt
-  spare-in before (mark.House m) gives calm = spare-marked before m calm
+  spare-in : (before : List Mark) (m : Mark) → IsOfOthers before m → AllCalm (said (bytes_of HOUSE (m ∷ before))) → AllSpare (items_in before m)
+  spare-in before (mark.Waits waiting want streams listens) others calm = tt
+  spare-in before (mark.Accepts k) others calm = spare-admit k
+  spare-in before (mark.Gets k bytes) others calm = spare-gets before k bytes (λ e. true-false (sym (eq-eqb k HOUSE e) ∙ others))
+  spare-in before (mark.Ends k) others calm = spare-ends before k
+  spare-in before (mark.Frees k) others calm = tt
+  spare-in before (mark.Fails k) others calm = spare-fails k
+  spare-in before (mark.Takes k bytes) others calm = unless-spare (is_own_stream k) (row.Took k (length bytes) ∷ []) (λ rows. tt, tt)
+  spare-in before (mark.Holds k) others calm = tt
+  spare-in before (mark.WriteFails k) others calm = spare-fails k
+  spare-in before (mark.Joins l k) others calm = tt
+  spare-in before (mark.House m) others calm = spare-marked before m calm
 
   -- where the calls of the house greet first, no row ends the run for the house
-  pub other-ends : (journal : List Mark) → Throughout GivesOwn journal → GreetsFirst (calls_in set journal) → ByOther (end_of (log_of_journal set journal))
-  other-ends [] gives greets = tt
-  other-ends (m ∷ before) gives greets =
-      all-other (items_in before m) (log_of_journal set before) (spare-in before m gives.0 (calm-said (bytes_of HOUSE (m ∷ before)) (journal-greets set (m ∷ before) gives greets)))
-      (other-ends before gives.1 (greets-before (calls_in set before) (calls_at set before m) greets))
+  pub other-ends : (journal : List Mark) → Throughout IsOfOthers journal → GreetsFirst (calls_in set journal) → ByOther (end_of (log_of_journal set journal))
+  other-ends [] others greets = tt
+  other-ends (m ∷ before) others greets =
+      all-other (items_in before m) (log_of_journal set before) (spare-in before m others.0 (calm-said (bytes_of HOUSE (m ∷ before)) (journal-greets set (m ∷ before) others greets)))
+      (other-ends before others.1 (greets-before (calls_in set before) (calls_at set before m) greets))
 
 -- ---- the end of a run
 
@@ -393,5 +250,5 @@ run-came house stands' policy pid turns before now start seen refused answer a b
     other : answer ≢ ended.OutOfMemory → house.known.present ≡ true → ByOther (Some answer)
     other ne p = let was = silent p in
         answered-other turns run.journal refused (end_of (log_of_journal set run.journal)) answer (run.ends ne).end
-        (other-ends policy pid run.picks run.replies run.journal run.own_streams.gives
+        (other-ends policy pid run.picks run.replies run.journal run.own_streams.others
         (greets-since house.known.present house.stands stands' (calls_in set run.journal) was.0 was.1.0 was.1.1 (run.handed ne) (greets ne) p))

@@ -43,9 +43,8 @@ use Rattle.mux_engine.specs.Turns.{IsEventOf, IsOwnOf, failed_heard, held_heard,
 use Rattle.mux_engine.proofs.Cuts.{cut-here, cut-still}
 use Rattle.mux_engine.proofs.Called.{calling}
 use Rattle.mux_engine.proofs.Causes.{EndsSo}
-use Rattle.mux_engine.proofs.Lists.{among-last, among-other-last, or-last, true-false}
+use Rattle.mux_engine.proofs.Lists.{among-last, among-other-last, or-last, test-same, true-false}
 use Rattle.mux_engine.proofs.Marks.{serve-alone, serve-on}
-use Rattle.mux_engine.proofs.OwnMarks.{test-same}
 use Rattle.mux_engine.proofs.Owns.{among-one, end-numbers}
 use Rattle.mux_engine.proofs.OwnTurns.{client-frees, offered-again, own-ends, own-failed, own-frees, own-gets, own-joins}
 use Rattle.mux_engine.proofs.Told.{tells-none, told-none}

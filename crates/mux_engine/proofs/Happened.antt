@@ -24,6 +24,7 @@ use Rattle.mux_history.specs.Wires.{OfWire}
 use Rattle.mux_machine.specs.State.{State}
 use Rattle.mux_machine.specs.Events.{here}
 use Rattle.mux_machine.specs.Stands.{GoesBy}
+use Rattle.mux_engine.specs.Answers.{AnswersDeferred, EachDeferred}
 use Rattle.mux_engine.specs.Called.{calls_at}
 use Rattle.mux_engine.specs.Run.{RestedAt, is_by_house}
 use Rattle.mux_engine.specs.Serving.{IsFree, IsUnseen, IsUnused, Serving}
@@ -47,9 +48,10 @@ module _ {May : HouseReply → Type 0} {Rest : Resting} {before : Option (List H
   pub serve-event : {told told' : Option (List HouseMark)} {s' : State} (mark : Mark) (g : GoesBy May told told' v.picked v.replies s s' mark v.journal v.closed) (now' : Side) (seen' : Seen) (held' failed' : List ℕ) (given' : ℕ)
       → s'.core.policy ≡ s.core.policy → s'.pid ≡ s.pid → s.ended ≡ None → IsTold mark → ((t : ℕ) → among t (0 ∷ here s') ≡ false → among t todo ≡ false) → ((k : ℕ) → among k v.closed ≡ true → Spares k mark)
       → ((picks : List ℕ) (later : List HouseReply) → SpeaksInTime (by_lists policy pid ((v.picked ++ g.picks) ++ picks) ((v.replies ++ g.replies) ++ later)) v.journal mark)
-      → Notes now now' mark g.asks → ((set : Setting) → CallsOn now now' (calls_at set v.journal mark)) → All (λ (a : OpenAsk). IsTrue (is_accepted a.client (mark ∷ v.journal))) now'.asks → is_accepted HOUSE (mark ∷ v.journal) ≡ now'.let_in → (now'.let_in ≡ true → Rest.present ≡ true) → ((set : Setting) → RestedAt Rest.rests set before v.journal mark) → (Rest.present ≡ false → is_by_house mark ≡ false) → turns_in (mark ∷ v.journal) ≡ given'
+      → ((picks : List ℕ) (later : List HouseReply) → AnswersDeferred (by_lists policy pid ((v.picked ++ g.picks) ++ picks) ((v.replies ++ g.replies) ++ later)) v.journal mark)
+      → Notes now now' mark g.asks → ((set : Setting) → CallsOn now now' (calls_at set v.journal mark)) → All (λ (a : OpenAsk). IsTrue (is_accepted a.client (mark ∷ v.journal))) now'.asks → ((front : List HouseMark) → EachDeferred front now.asks → EachDeferred (front ++ g.asks) now'.asks) → is_accepted HOUSE (mark ∷ v.journal) ≡ now'.let_in → (now'.let_in ≡ true → Rest.present ≡ true) → ((set : Setting) → RestedAt Rest.rests set before v.journal mark) → (Rest.present ≡ false → is_by_house mark ≡ false) → turns_in (mark ∷ v.journal) ≡ given'
       → seen'.told ≡ option_map (λ m. m ++ mark ∷ []) seen.told → Placed s' v.journal seen seen' held' failed' mark → Serving May Rest before now' policy pid start seen' held' failed' given' (0 ∷ here s') s'
-  serve-event {s' = s'} mark g now' seen' held' failed' given' same_policy same_pid live is covers spares speaks notes called askers within there rested absent turns told placed =
+  serve-event {s' = s'} mark g now' seen' held' failed' given' same_policy same_pid live is covers spares speaks answers notes called askers deferred within there rested absent turns told placed =
       serve-next v now' seen' held' failed' given' (0 ∷ here s') s' mark g record {
         told = told;
         policy_is = same_policy;
@@ -57,13 +59,14 @@ module _ {May : HouseReply → Type 0} {Rest : Resting} {before : Option (List H
         notes = notes;
         called = λ picks later. called (by_lists policy pid ((v.picked ++ g.picks) ++ picks) ((v.replies ++ g.replies) ++ later));
         askers = askers;
+        deferred = deferred;
         house_in = within;
         house_there = there;
         rested = λ picks later. rested (by_lists policy pid ((v.picked ++ g.picks) ++ picks) ((v.replies ++ g.replies) ++ later));
         absent = absent;
         turns = turns;
         placed = placed;
-        sound = told-sound v mark g same_policy same_pid is placed.of_wire.lawful covers live spares speaks;
+        sound = told-sound v mark g same_policy same_pid is placed.of_wire.lawful covers live spares speaks answers;
       }
 
   -- ---- where the streams are then

@@ -1,6 +1,7 @@
 -- The house is let in, is handed what waits for it, and answers.
 use Rattle.std.proofs.Common.{◌≡◌, ◌≢◌, ◌≤◌, ◌<◌, ◌+◌, ℕ, Bool, true, false, ◌||◌, List, [], ◌∷◌, ◌++◌, length, Option, None, refl, sym, ap, ◌∙◌, subst, inl, arith, append-nil}
 use Rattle.std.specs.Prelude.{◌==◌, All, IsTrue, Result, Ok, Err}
+use Rattle.std.specs.List.{list_any}
 use Rattle.std.proofs.lemmas.List.Folds.{list_any-append}
 use Rattle.mux_outside.specs.House.{Known, OpenAsk, ReplyFits, without_ask}
 use Rattle.mux_outside.specs.HouseCalls.{HandsOn, Hears, HouseCall, calls_of}
@@ -21,12 +22,13 @@ use Rattle.mux_machine.specs.State.{State, queue_in, taken}
 use Rattle.mux_machine.specs.declared.event.Event.TheVariants.{Accepted, HouseSays}
 use Rattle.mux_machine.specs.Events.{EndsBy, Keeps, Tells, here}
 use Rattle.mux_machine.specs.Stands.{GoesAlone, GoesOn, Stands}
+use Rattle.mux_engine.specs.Answers.{EachDeferred, is_deferred}
 use Rattle.mux_engine.specs.Called.{Handed}
 use Rattle.mux_engine.specs.Serving.{Promised, Serving}
 use Rattle.mux_engine.specs.Sides.{Housed, Resting, SameHouse, SamePlaces, SameStreams, Side, noted, noting}
 use Rattle.mux_engine.proofs.Cuts.{serve-told}
 use Rattle.mux_engine.proofs.HouseTakes.{house-takes}
-use Rattle.mux_engine.proofs.HouseTurns.{accepted-zero, cut-answers, house-answers, house-let-in, reply-asked, rest-asked}
+use Rattle.mux_engine.proofs.HouseTurns.{accepted-zero, cut-answers, house-answers, house-let-in, reply-asked, reply-so, rest-so}
 use Rattle.mux_engine.proofs.Lists.{among-less, true-false, without-other}
 use Rattle.mux_engine.proofs.Noted.{seen-with}
 use Rattle.mux_engine.proofs.Offers.{Waiting}
@@ -117,12 +119,13 @@ same-noted {May} {Rest} {before} {policy} {pid} {start} {seen} {held} {failed} {
 -- ---- other asks are open
 
 module _ {May : HouseReply → Type 0} {Rest : Resting} {before : Option (List HouseMark)} {policy : Policy} {pid : ℕ} {start : Option (List Mark)} {seen : Seen} {held failed : List ℕ} {given : ℕ} {todo : List ℕ} {s : State} where
-  serve-asks : {now : Side} (v : Serving May Rest before now policy pid start seen held failed given todo s) (asks : List OpenAsk) → All (λ (a : OpenAsk). IsTrue (is_accepted a.client v.journal)) asks → Serving May Rest before (record now { asks = asks }) policy pid start seen held failed given todo s
-  serve-asks {now} v asks all = serve-as v (record now { asks = asks }) seen.listens todo record {
+  serve-asks : {now : Side} (v : Serving May Rest before now policy pid start seen held failed given todo s) (asks : List OpenAsk) → All (λ (a : OpenAsk). IsTrue (is_accepted a.client v.journal)) asks → EachDeferred v.stands.asks asks → Serving May Rest before (record now { asks = asks }) policy pid start seen held failed given todo s
+  serve-asks {now} v asks all deferred = serve-as v (record now { asks = asks }) seen.listens todo record {
     house = v.house;
     asked = v.asked;
     called = v.called;
     askers = all;
+    deferred = deferred;
     house_in = v.house_in;
     house_there = v.house_there;
   } v.hears (λ t a. inl a)
@@ -151,7 +154,8 @@ module _ {May : HouseReply → Type 0} {Rest : Resting} {before : Option (List H
       → Serving May Rest before (noting (HouseAnswer client id reply ∷ []) told' (record known { asks = without_ask client id known.asks }) (calls ++ calls_of (HouseAnswer client id reply ∷ []))) policy pid start seen held failed given todo s
   answer-told {told} {told'} {calls} known client id reply v h =
       let w = serve-told v (noting (HouseAnswer client id reply ∷ []) told' known (calls ++ calls_of (HouseAnswer client id reply ∷ []))) (HouseAnswer client id reply ∷ []) h refl refl refl refl refl in
-      serve-asks w (without_ask client id known.asks) (rest-asked w.journal client id known.asks w.askers)
+      serve-asks w (without_ask client id known.asks) (rest-so (λ (a : OpenAsk). IsTrue (is_accepted a.client w.journal)) client id known.asks w.askers)
+      (rest-so (λ (a : OpenAsk). IsTrue (list_any (is_deferred a.client a.id) w.stands.asks)) client id known.asks w.deferred)
 
   -- to a client that was accepted
   pub answer-asked : {told told' : Option (List HouseMark)} {calls : List HouseCall} (known : Known) (client id : ℕ) (reply : HouseReply) (v : Serving May Rest before (noted told known calls) policy pid start seen held failed given todo s) (h : TellsAsks told told' (HouseAnswer client id reply ∷ [])) → ReplyFits reply client id known.asks → is_accepted client (answer-told known client id reply v h).journal ≡ true
@@ -159,6 +163,13 @@ module _ {May : HouseReply → Type 0} {Rest : Resting} {before : Option (List H
   answer-asked {told} {told'} {calls} known client id reply v h fits =
       let w = serve-told v (noting (HouseAnswer client id reply ∷ []) told' known (calls ++ calls_of (HouseAnswer client id reply ∷ []))) (HouseAnswer client id reply ∷ []) h refl refl refl refl refl in
       reply-asked w.journal reply client id known.asks fits w.askers
+
+  -- to an ask that was put off
+  pub answer-deferred : {told told' : Option (List HouseMark)} {calls : List HouseCall} (known : Known) (client id : ℕ) (reply : HouseReply) (v : Serving May Rest before (noted told known calls) policy pid start seen held failed given todo s) (h : TellsAsks told told' (HouseAnswer client id reply ∷ [])) → ReplyFits reply client id known.asks → list_any (is_deferred client id) (answer-told known client id reply v h).stands.asks ≡ true
+  unfolding answer-told serve-asks serve-as
+  answer-deferred {told} {told'} {calls} known client id reply v h fits =
+      let w = serve-told v (noting (HouseAnswer client id reply ∷ []) told' known (calls ++ calls_of (HouseAnswer client id reply ∷ []))) (HouseAnswer client id reply ∷ []) h refl refl refl refl refl in
+      reply-so (λ k i. list_any (is_deferred k i) w.stands.asks ≡ true) reply client id known.asks fits w.deferred
 
 -- ---- it is let in
 
@@ -214,7 +225,7 @@ module _ {May : HouseReply → Type 0} {Rest : Resting} {before : Option (List H
       let asked : is_accepted client w.journal ≡ true = answer-asked known client id reply v h fits in
       let nz : client ≢ 0 = no-server-asked w client asked in
       subst (λ (k : Known). Serving May Rest before (noted told' k (calls ++ calls_of (HouseAnswer client id reply ∷ []))) policy pid start (seen-with (HouseAnswer client id reply ∷ []) seen) held failed given (0 ∷ here s') s') (sym e)
-      (house-answers w client id reply [] refl within asked live (reply-covers (here s) (here s') (stayed (HouseSays client id reply) (House (HouseAnswer client id reply)) s s' (nz, refl) tt (keeps.streams live))) (goes (House (HouseAnswer client id reply)) (nz, refl)) keeps)
+      (house-answers w client id reply [] refl within asked (answer-deferred known client id reply v h fits) live (reply-covers (here s) (here s') (stayed (HouseSays client id reply) (House (HouseAnswer client id reply)) s s' (nz, refl) tt (keeps.streams live))) (goes (House (HouseAnswer client id reply)) (nz, refl)) keeps)
 
   -- which doesn't end the run
   pub answered-live : {told : Option (List HouseMark)} {calls : List HouseCall} (known : Known) {todo : List ℕ} (v : Serving May Rest before (noted told known calls) policy pid start seen held failed given todo s) (s' : State) (client id : ℕ) (reply : HouseReply) → s.ended ≡ None → ReplyFits reply client id known.asks → ((mark : Mark) → Tells (HouseSays client id reply) mark → EndsBy (HouseSays client id reply) s s' mark) → s'.ended ≡ None
@@ -225,4 +236,4 @@ module _ {May : HouseReply → Type 0} {Rest : Resting} {before : Option (List H
 
   -- there was no memory for its answer
   pub cut-answered : {told told' : Option (List HouseMark)} {calls : List HouseCall} (known : Known) {todo : List ℕ} (v : Serving May Rest before (noted told known calls) policy pid start seen held failed given todo s) (client id : ℕ) (reply : HouseReply) → known.present ≡ true → ReplyFits reply client id known.asks → TellsAsks told told' (HouseAnswer client id reply ∷ []) → Promised May Rest before told' policy pid start (seen-with (HouseAnswer client id reply ∷ []) seen).told given
-  cut-answered known v client id reply within fits h = cut-answers (answer-told known client id reply v h) client id reply [] refl within (answer-asked known client id reply v h fits)
+  cut-answered known v client id reply within fits h = cut-answers (answer-told known client id reply v h) client id reply [] refl within (answer-asked known client id reply v h fits) (answer-deferred known client id reply v h fits)

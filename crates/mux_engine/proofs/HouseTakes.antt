@@ -30,6 +30,7 @@ use Rattle.mux_machine.proofs.Twins.{house-client, stands-alike}
 use Rattle.mux_engine.specs.Serving.{IsSound, Serving, is_open}
 use Rattle.mux_engine.specs.Sides.{Resting, Side}
 use Rattle.mux_engine.proofs.Called.{CallsOn, calls-heard}
+use Rattle.mux_engine.proofs.Deferred.{still-deferred}
 use Rattle.mux_engine.proofs.Lists.{among-open, test-other, true-false, without-other}
 use Rattle.mux_engine.proofs.Logs.{log-out, settled-as, took-log}
 use Rattle.mux_engine.proofs.Marks.{log-is, serve-alone}
@@ -92,6 +93,7 @@ module _ {May : HouseReply → Type 0} {Rest : Resting} {before : Option (List H
             let was : pending HOUSE (log_of_journal set v.journal) ≡ bytes = sym (waiting picks later ∙ ap (pending HOUSE) (log-is s policy pid (v.picked ++ picks) (v.replies ++ later) v.journal v.policy_is v.pid_is)) in
             subst (λ (l : List ℕ). CallsOn now (record now { unnoted = []; calls = now.calls ++ Hears bytes ∷ [] }) (Hears l ∷ [])) (sym (ap (take n) was ∙ take-all bytes)) (calls-heard now n bytes e);
         askers = askers-more v mark;
+        deferred = still-deferred now (record now { unnoted = []; calls = now.calls ++ Hears bytes ∷ [] }) [] refl;
         house_in = v.house_in;
         house_there = v.house_there;
         rested = λ picks later. tt;
@@ -104,7 +106,7 @@ module _ {May : HouseReply → Type 0} {Rest : Resting} {before : Option (List H
             let step : TakeStep HOUSE n (log_of_journal set v.journal) = take-leaves HOUSE n (log_of_journal set v.journal) in
             let was : pending HOUSE (log_of_journal set v.journal) ≡ bytes = sym (waiting picks later ∙ ap (pending HOUSE) (log-is s policy pid (v.picked ++ picks) (v.replies ++ later) v.journal v.policy_is v.pid_is)) in
             record {
-              promise = record { takes = tt; waits = tt; speaks = tt; open_streams = tt };
+              promise = record { takes = tt; waits = tt; speaks = tt; open_streams = tt; answers = tt };
               failed_out = λ t client w live. log-out set mark v.journal t (old.failed_out t client w (sym same.ended ∙ live));
               settled = λ t client a. elim (eqb_tells HOUSE t) [
                 | inl q ↦ inl (ap (λ i. pending i (log_of_journal set (mark ∷ v.journal))) (sym q.1) ∙ (ap (pending HOUSE) (took-log policy pid (v.picked ++ picks) (v.replies ++ later) (log_of_journal set v.journal) HOUSE n) ∙ (step.own ∙ (ap (drop n) was ∙ drop-all bytes))))
@@ -136,6 +138,7 @@ module _ {May : HouseReply → Type 0} {Rest : Resting} {before : Option (List H
           room = subst (λ (q : List ℕ). length q < READING_STOPS_AT) (subst (RowsFit (length v.picked) v.stands.asks s v.closed) (log-is s policy pid (v.picked ++ picks) (v.replies ++ later) v.journal v.policy_is v.pid_is) (v.stands.at picks later).rows).fit.up room;
           heard = handed-all v picks later;
         };
+        answers = λ set. tt;
         rested = λ set. tt;
         absent = λ e. true-false (sym (v.house_there within) ∙ e);
         turns = ap (λ n. n + 1) v.turns;
@@ -144,5 +147,5 @@ module _ {May : HouseReply → Type 0} {Rest : Resting} {before : Option (List H
         called = λ set. refl;
         house = refl;
         placed = λ s' arrives. placed-still v mark (seen-with (HouseSaid bytes ∷ []) seen) s' of refl refl refl refl refl (stayed e (Gets HOUSE bytes) s s' tells tt (arrives live)) (λ t. refl) (λ t. refl) (λ t. refl) (owns-plain v.journal seen (seen-with (HouseSaid bytes ∷ []) seen) mark tt v.places refl refl refl);
-        right = record { opened = tt; gives = tt; writes = tt; joins = tt };
+        right = record { opened = tt; gives = tt; writes = tt; joins = tt; others = refl };
       }

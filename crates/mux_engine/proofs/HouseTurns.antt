@@ -1,5 +1,5 @@
 -- What the house makes of what holds while a wire is served: it is let in, takes, speaks and answers.
-use Rattle.std.proofs.Common.{◌≡◌, ◌≢◌, ◌<◌, ℕ, Bool, true, false, ◌||◌, ◌&&◌, List, [], ◌∷◌, length, Option, None, refl, sym, ap, ◌∙◌, subst, inr, cond, arith, append-nil}
+use Rattle.std.proofs.Common.{◌≡◌, ◌≢◌, ◌<◌, ℕ, Bool, true, false, ◌||◌, ◌&&◌, List, [], ◌∷◌, ◌++◌, length, Option, None, refl, sym, ap, ◌∙◌, subst, inr, cond, arith, append-nil}
 use Rattle.std.specs.Prelude.{◌==◌, All, IsTrue}
 use Rattle.std.specs.List.{list_any}
 use Rattle.std.proofs.lemmas.Bool.{eqb-true}
@@ -23,14 +23,16 @@ use Rattle.mux_machine.specs.Events.{Keeps, here}
 use Rattle.mux_machine.specs.declared.event.Event.TheVariants.{Accepted, HouseSays}
 use Rattle.mux_machine.specs.Stands.{GoesOn}
 use Rattle.mux_machine.proofs.Twins.{house-client}
+use Rattle.mux_engine.specs.Answers.{is_deferred}
 use Rattle.mux_engine.specs.Serving.{Promised, Serving}
 use Rattle.mux_engine.specs.Sides.{Resting, Side}
 use Rattle.mux_engine.proofs.Asks.{goes-asked, goes-unasked, none-asked, unasked-none}
 use Rattle.mux_engine.proofs.Called.{calls-none, calls-told}
-use Rattle.mux_engine.proofs.Cuts.{cut-next, of-streams, on-next}
+use Rattle.mux_engine.proofs.Cuts.{cut-next, now-asked, of-streams, on-next}
+use Rattle.mux_engine.proofs.Deferred.{still-deferred}
 use Rattle.mux_engine.proofs.Happened.{placed-house-in, serve-event}
 use Rattle.mux_engine.proofs.Lists.{or-true, test-other, true-false}
-use Rattle.mux_engine.proofs.Marks.{Notes}
+use Rattle.mux_engine.proofs.Marks.{Notes, asked-at}
 use Rattle.mux_engine.proofs.Noted.{seen-with}
 use Rattle.mux_engine.proofs.Owns.{owns-plain}
 use Rattle.mux_engine.proofs.Places.{placed-still}
@@ -55,14 +57,15 @@ accepted-zero (Holds k ∷ j) l = accepted-zero j l.1
 accepted-zero (WriteFails k ∷ j) l = accepted-zero j l.1
 accepted-zero (Joins l' k ∷ j) l = accepted-zero j l.1
 
--- an open ask with this client is of one that was accepted
-asked-by : (journal : List Mark) (client id : ℕ) (asks : List OpenAsk) → list_any (is_ask client id) asks ≡ true → All (λ (a : OpenAsk). IsTrue (is_accepted a.client journal)) asks → is_accepted client journal ≡ true
-asked-by journal client id [] h all = true-false (sym h)
-asked-by journal client id (a ∷ asks) h all = by_head (a.client == client) refl (a.id == id) h (λ r. asked-by journal client id asks r (All-tail (λ (x : OpenAsk). IsTrue (is_accepted x.client journal)) a asks all))
+-- what is so of each open ask is so of one with this client and id
+asked-so : (P : ℕ → ℕ → Type 0) (client id : ℕ) (asks : List OpenAsk) → list_any (is_ask client id) asks ≡ true → All (λ (a : OpenAsk). P a.client a.id) asks → P client id
+asked-so P client id [] h all = true-false (sym h)
+asked-so P client id (a ∷ asks) h all = by_head (a.client == client) refl (a.id == id) refl h (λ r. asked-so P client id asks r (All-tail (λ (x : OpenAsk). P x.client x.id) a asks all))
   where
-    by_head : (b : Bool) → (a.client == client) ≡ b → (c : Bool) → ((b && c) || list_any (is_ask client id) asks) ≡ true → (list_any (is_ask client id) asks ≡ true → is_accepted client journal ≡ true) → is_accepted client journal ≡ true
-    by_head true e c h ih = subst (λ (i : ℕ). is_accepted i journal ≡ true) (eqb-true a.client client e) (All-head (λ (x : OpenAsk). IsTrue (is_accepted x.client journal)) a asks all)
-    by_head false e c h ih = ih h
+    by_head : (b : Bool) → (a.client == client) ≡ b → (c : Bool) → (a.id == id) ≡ c → ((b && c) || list_any (is_ask client id) asks) ≡ true → (list_any (is_ask client id) asks ≡ true → P client id) → P client id
+    by_head true e true f h ih = subst (λ (i : ℕ). P i id) (eqb-true a.client client e) (subst (P a.client) (eqb-true a.id id f) (All-head (λ (x : OpenAsk). P x.client x.id) a asks all))
+    by_head true e false f h ih = ih h
+    by_head false e c f h ih = ih h
 
 -- whatever else it asks
 any-less : (P Q : OpenAsk → Bool) (asks : List OpenAsk) → ((a : OpenAsk) → P a ≡ true → Q a ≡ true) → list_any P asks ≡ true → list_any Q asks ≡ true
@@ -77,19 +80,21 @@ and-first' : (a b : Bool) → (a && b) ≡ true → a ≡ true
 and-first' true b e = refl
 and-first' false b e = e
 
+pub reply-so : (P : ℕ → ℕ → Type 0) (reply : HouseReply) (client id : ℕ) (asks : List OpenAsk) → ReplyFits reply client id asks → All (λ (a : OpenAsk). P a.client a.id) asks → P client id
+reply-so P Done client id asks fits all = asked-so P client id asks fits all
+reply-so P Refused client id asks fits all = asked-so P client id asks fits all
+reply-so P (Port port) client id asks fits all = asked-so P client id asks (any-less (λ a. is_ask client id a && a.opening) (is_ask client id) asks (λ a h. and-first' (is_ask client id a) a.opening h) fits) all
+reply-so P Later client id asks fits all = absurd fits
+
+-- it is of one that was accepted
 pub reply-asked : (journal : List Mark) (reply : HouseReply) (client id : ℕ) (asks : List OpenAsk) → ReplyFits reply client id asks → All (λ (a : OpenAsk). IsTrue (is_accepted a.client journal)) asks → is_accepted client journal ≡ true
-reply-asked journal Done client id asks fits all = asked-by journal client id asks fits all
-reply-asked journal Refused client id asks fits all = asked-by journal client id asks fits all
-reply-asked journal (Port port) client id asks fits all = asked-by journal client id asks (any-less (λ a. is_ask client id a && a.opening) (is_ask client id) asks (λ a h. and-first' (is_ask client id a) a.opening h) fits) all
-reply-asked journal Later client id asks fits all = absurd fits
+reply-asked journal = reply-so (λ k i. is_accepted k journal ≡ true)
 
-pub rest-asked : (journal : List Mark) (client id : ℕ) (asks : List OpenAsk) → All (λ (a : OpenAsk). IsTrue (is_accepted a.client journal)) asks → All (λ (a : OpenAsk). IsTrue (is_accepted a.client journal)) (without_ask client id asks)
-rest-asked journal client id [] all = all
-rest-asked journal client id (a ∷ asks) all = by_head (rest-asked journal client id asks (All-tail (λ (x : OpenAsk). IsTrue (is_accepted x.client journal)) a asks all)) (is_ask client id a)
+-- and so of the others
+pub rest-so : (P : OpenAsk → Type 0) (client id : ℕ) (asks : List OpenAsk) → All P asks → All P (without_ask client id asks)
+rest-so P client id [] all = all
+rest-so P client id (a ∷ asks) all = by_head (rest-so P client id asks (All-tail P a asks all)) (is_ask client id a)
   where
-    P : OpenAsk → Type 0
-    P x = IsTrue (is_accepted x.client journal)
-
     by_head : All P (without_ask client id asks) → (b : Bool) → All P (cond b asks (a ∷ without_ask client id asks))
     by_head ih true = All-tail P a asks all
     by_head ih false = All-cons P a (without_ask client id asks) (All-head P a asks all) ih
@@ -124,37 +129,38 @@ module _ {May : HouseReply → Type 0} {Rest : Resting} {before : Option (List H
       let none = none-asked g1.asks (goes-asked (λ j. ⊥) g1 keeps.policy keeps.pid tt) in
       let g = goes-unasked {May = May} v.stands g1 none in
       serve-event v (House HouseIn) g (record now { let_in = true }) (seen-with (HouseIn ∷ []) seen) held failed given keeps.policy keeps.pid live tt covers
-      (λ j c e. true-false (sym c ∙ (ap (λ i. among i v.closed) (sym e) ∙ ((v.stands.at [] []).bytes.strange HOUSE (alone first)).not_closed_yet))) (λ picks later. tt)
+      (λ j c e. true-false (sym c ∙ (ap (λ i. among i v.closed) (sym e) ∙ ((v.stands.at [] []).bytes.strange HOUSE (alone first)).not_closed_yet))) (λ picks later. tt) (λ picks later. tt)
       (subst (Notes now (record now { let_in = true }) (House HouseIn)) (sym (unasked-none May v.stands g1 none)) (record { more = []; told_is = tells-none now.told; noted_is = sym (append-nil now.unnoted); asks_are = refl })) (λ set. calls-none now)
-      (askers-more v (House HouseIn)) refl (λ e. there) (λ set. tt) (λ e. true-false (sym there ∙ e)) v.turns refl
+      (askers-more v (House HouseIn)) (still-deferred now (record now { let_in = true }) g.asks refl) refl (λ e. there) (λ set. tt) (λ e. true-false (sym there ∙ e)) v.turns refl
       (placed-house-in v (seen-with (HouseIn ∷ []) seen) s' ((wire-keeps seen v.journal).note HouseIn first refl v.of_wire) refl refl refl refl refl (came (Accepted HOUSE) HOUSE s s' refl admitted (keeps.streams live))
       (owns-plain v.journal seen (seen-with (HouseIn ∷ []) seen) (House HouseIn) tt v.places refl refl refl))
 
   -- there was no memory to let it in
   pub cut-let-in : v.journal ≡ [] → Rest.present ≡ true → Promised May Rest before now.told policy pid start (seen-with (HouseIn ∷ []) seen).told given
   cut-let-in first there = cut-next v now.told (seen-with (HouseIn ∷ []) seen).told given (House HouseIn) [] now.unnoted refl (tells-none now.told) (sym (append-nil now.unnoted))
-      (of-streams seen.streams seen.blocked seen.last (House HouseIn ∷ v.journal) ((wire-keeps seen v.journal).note HouseIn first refl v.of_wire)) (record { opened = tt; gives = tt; writes = tt; joins = tt })
-      (let w : turns_in v.journal ≡ given = v.turns in omega arith) (λ set. tt) (λ e. true-false (sym there ∙ e)) (on-next v (House HouseIn)) (λ set. inr (0, refl)) (λ picks later. record { takes = tt; waits = tt; speaks = tt; open_streams = tt })
+      (of-streams seen.streams seen.blocked seen.last (House HouseIn ∷ v.journal) ((wire-keeps seen v.journal).note HouseIn first refl v.of_wire)) (record { opened = tt; gives = tt; writes = tt; joins = tt; others = refl })
+      (let w : turns_in v.journal ≡ given = v.turns in omega arith) (λ set. tt) (λ e. true-false (sym there ∙ e)) (on-next v (House HouseIn)) (λ set. inr (0, refl)) (λ picks later. record { takes = tt; waits = tt; speaks = tt; open_streams = tt; answers = tt })
 
   -- ---- it answers
 
-  pub house-answers : {May' : HouseReply → Type 0} {told told' : Option (List HouseMark)} {s' : State} (client id : ℕ) (reply : HouseReply) (rest : List HouseMark) → now.unnoted ≡ HouseAnswer client id reply ∷ rest → now.let_in ≡ true → is_accepted client v.journal ≡ true → s.ended ≡ None → ((t : ℕ) → among t (0 ∷ here s') ≡ false → among t todo ≡ false)
+  pub house-answers : {May' : HouseReply → Type 0} {told told' : Option (List HouseMark)} {s' : State} (client id : ℕ) (reply : HouseReply) (rest : List HouseMark) → now.unnoted ≡ HouseAnswer client id reply ∷ rest → now.let_in ≡ true → is_accepted client v.journal ≡ true → list_any (is_deferred client id) v.stands.asks ≡ true → s.ended ≡ None → ((t : ℕ) → among t (0 ∷ here s') ≡ false → among t todo ≡ false)
       → GoesOn May' told told' s s' (House (HouseAnswer client id reply)) → Keeps (HouseSays client id reply) s s' → Serving May Rest before (record now { unnoted = rest }) policy pid start (seen-with (HouseAnswer client id reply ∷ []) seen) held failed given (0 ∷ here s') s'
-  house-answers {s' = s'} client id reply rest e within asked live covers goes keeps =
+  house-answers {s' = s'} client id reply rest e within asked due live covers goes keeps =
       let m : HouseMark = HouseAnswer client id reply in
       let nz : client ≢ 0 = λ z. true-false (sym asked ∙ (ap (λ i. is_accepted i v.journal) z ∙ accepted-zero v.journal v.of_wire.lawful)) in
       let g1 = goes v.picked v.replies v.journal v.closed v.stands (nz, asked) in
       let none = none-asked g1.asks (goes-asked (λ j. ⊥) g1 keeps.policy keeps.pid tt) in
       let g = goes-unasked {May = May} v.stands g1 none in
       serve-event v (House m) g (record now { unnoted = rest }) (seen-with (m ∷ []) seen) held failed given keeps.policy keeps.pid live tt covers (λ j c. tt) (λ picks later. tt)
+      (λ picks later. ap (list_any (is_deferred client id)) (asked-at v g.picks g.replies (v.picked ++ g.picks) (v.replies ++ g.replies) refl refl picks later) ∙ due)
       (subst (Notes now (record now { unnoted = rest }) (House m)) (sym (unasked-none May v.stands g1 none)) (record { more = []; told_is = tells-none now.told; noted_is = sym e ∙ sym (append-nil now.unnoted); asks_are = refl }))
       (λ set. calls-told now (record now { unnoted = rest }) (m ∷ []) [] (sym e ∙ sym (append-nil now.unnoted)) (sym (append-nil now.calls)))
-      (askers-more v (House m)) v.house_in v.house_there (λ set. tt) (λ e. true-false (sym (v.house_there within) ∙ e)) v.turns refl
+      (askers-more v (House m)) (still-deferred now (record now { unnoted = rest }) g.asks refl) v.house_in v.house_there (λ set. tt) (λ e. true-false (sym (v.house_there within) ∙ e)) v.turns refl
       (placed-still v (House m) (seen-with (m ∷ []) seen) s' ((wire-keeps seen v.journal).note m asked refl v.of_wire) refl refl refl refl refl (stayed (HouseSays client id reply) (House m) s s' (nz, refl) tt (keeps.streams live)) (λ t. refl) (λ t. refl) (λ t. refl)
       (owns-plain v.journal seen (seen-with (m ∷ []) seen) (House m) tt v.places refl refl refl))
 
-  pub cut-answers : (client id : ℕ) (reply : HouseReply) (rest : List HouseMark) → now.unnoted ≡ HouseAnswer client id reply ∷ rest → now.let_in ≡ true → is_accepted client v.journal ≡ true → Promised May Rest before now.told policy pid start (seen-with (HouseAnswer client id reply ∷ []) seen).told given
-  cut-answers client id reply rest e within asked = let m : HouseMark = HouseAnswer client id reply in
+  pub cut-answers : (client id : ℕ) (reply : HouseReply) (rest : List HouseMark) → now.unnoted ≡ HouseAnswer client id reply ∷ rest → now.let_in ≡ true → is_accepted client v.journal ≡ true → list_any (is_deferred client id) v.stands.asks ≡ true → Promised May Rest before now.told policy pid start (seen-with (HouseAnswer client id reply ∷ []) seen).told given
+  cut-answers client id reply rest e within asked due = let m : HouseMark = HouseAnswer client id reply in
       cut-next v now.told (seen-with (m ∷ []) seen).told given (House m) [] rest refl (tells-none now.told) (sym e ∙ sym (append-nil now.unnoted))
-      (of-streams seen.streams seen.blocked seen.last (House m ∷ v.journal) ((wire-keeps seen v.journal).note m asked refl v.of_wire)) (record { opened = tt; gives = tt; writes = tt; joins = tt })
-      (let w : turns_in v.journal ≡ given = v.turns in omega arith) (λ set. tt) (λ e. true-false (sym (v.house_there within) ∙ e)) (on-next v (House m)) (λ set. inr (0, refl)) (λ picks later. record { takes = tt; waits = tt; speaks = tt; open_streams = tt })
+      (of-streams seen.streams seen.blocked seen.last (House m ∷ v.journal) ((wire-keeps seen v.journal).note m asked refl v.of_wire)) (record { opened = tt; gives = tt; writes = tt; joins = tt; others = refl })
+      (let w : turns_in v.journal ≡ given = v.turns in omega arith) (λ set. tt) (λ e. true-false (sym (v.house_there within) ∙ e)) (on-next v (House m)) (λ set. inr (0, refl)) (λ picks later. record { takes = tt; waits = tt; speaks = tt; open_streams = tt; answers = ap (list_any (is_deferred client id)) (now-asked v picks later) ∙ due })

@@ -8,12 +8,14 @@ mod Closed
 mod Comes
 mod Counting
 mod Cuts
+mod Deferred
 mod Ending
 mod Fates
 mod First
 mod Following
 mod Going
 mod Greeted
+pub mod Greeting
 mod Handed
 mod Happened
 mod Heeding

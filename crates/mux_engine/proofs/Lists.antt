@@ -21,6 +21,9 @@ true-false e = absurd (cc)
 pub test-other : (a b : ℕ) → a ≢ b → (a == b) ≡ false
 test-other a b ne = elim (eqb_tells a b) [ inl p ↦ absurd (ne p.1) | inr p ↦ p.0 ]
 
+pub test-same : (i : ℕ) → (i == i) ≡ true
+test-same i = elim (eqb_tells i i) [ inl q ↦ q.0 | inr q ↦ absurd (q.1 refl) ]
+
 test-swap : (a b : ℕ) → (a == b) ≡ (b == a)
 test-swap a b = elim (eqb_tells a b) [ inl t ↦ t.0 ∙ sym (eq-eqb b a (sym t.1)) | inr t ↦ t.0 ∙ sym (test-other b a (λ e. t.1 (sym e))) ]
 

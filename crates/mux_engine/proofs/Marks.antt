@@ -26,6 +26,7 @@ use Rattle.mux_machine.specs.State.{State}
 use Rattle.mux_machine.specs.Events.{here}
 use Rattle.mux_machine.specs.Stands.{GoesBy, Stands, StandsFor, log}
 use Rattle.mux_outside.specs.HouseCalls.{calls_of}
+use Rattle.mux_engine.specs.Answers.{AnswersDeferred, EachDeferred}
 use Rattle.mux_engine.specs.Called.{calls_at, calls_in}
 use Rattle.mux_engine.specs.Run.{Rested, RestedAt, is_by_house}
 use Rattle.mux_engine.specs.Serving.{IsFree, IsSound, IsUnseen, IsUnused, Kept, Serving}
@@ -73,6 +74,12 @@ rested-at {Rest = Rest} {before = before} {policy = policy} {pid = pid} v p r pi
     subst (λ ps. Rested Rest.rests (by_lists policy pid ps (replies' ++ later)) before v.journal) (sym (more-picks picked' v.picked p picks e))
     (subst (λ rs. Rested Rest.rests (by_lists policy pid (v.picked ++ (p ++ picks)) rs) before v.journal) (sym (more-picks replies' v.replies r later f)) (v.rested (p ++ picks) (r ++ later)))
 
+-- what the rows so far ask
+pub asked-at : {May : HouseReply → Type 0} {Rest : Resting} {before : Option (List HouseMark)} {now : Side} {policy : Policy} {pid : ℕ} {start : Option (List Mark)} {seen : Seen} {held failed : List ℕ} {given : ℕ} {todo : List ℕ} {s : State} (v : Serving May Rest before now policy pid start seen held failed given todo s) (p : List ℕ) (r : List HouseReply) (picked' : List ℕ) (replies' : List HouseReply)
+    → picked' ≡ v.picked ++ p → replies' ≡ v.replies ++ r → (picks : List ℕ) (later : List HouseReply) → asked_of (log_of_journal (by_lists policy pid (picked' ++ picks) (replies' ++ later)) v.journal) ≡ v.stands.asks
+asked-at {policy = policy} {pid = pid} {s = s} v p r picked' replies' e f picks later =
+    ap asked_of (sym (log-is s policy pid (picked' ++ picks) (replies' ++ later) v.journal v.policy_is v.pid_is)) ∙ (stood-at v.stands p r picked' replies' e f picks later).rows.asked_is
+
 -- ---- what is to be shown of a mark
 
 -- what was promised of it
@@ -81,11 +88,13 @@ pub record PromiseAt (setting : Setting) (before : List Mark) (mark : Mark) : Ty
   pub waits : WaitsAt setting before mark
   pub speaks : SpeaksInTime setting before mark
   pub open_streams : OpenAt setting before mark
+  pub answers : AnswersDeferred setting before mark
 
 pub kept-more : (setting : Setting) (journal : List Mark) (mark : Mark) → Kept setting journal → PromiseAt setting journal mark → Kept setting (mark ∷ journal)
 kept-more setting journal mark k p = record {
   written = record { takes = (p.takes, k.written.takes); waits = (p.waits, k.written.waits); speaks = (p.speaks, k.written.speaks) };
   open_streams = (p.open_streams, k.open_streams);
+  answers = (p.answers, k.answers);
 }
 
 -- and who is out and settled behind it
@@ -123,6 +132,7 @@ pub record Next (Rest : Resting) (before : Option (List HouseMark)) (now now' : 
   pub notes : Notes now now' mark asks
   pub called : (picks : List ℕ) (later : List HouseReply) → CallsOn now now' (calls_at (by_lists policy pid (picked ++ picks) (replies ++ later)) journal mark)
   pub askers : All (λ (a : OpenAsk). IsTrue (is_accepted a.client (mark ∷ journal))) now'.asks
+  pub deferred : (front : List HouseMark) → EachDeferred front now.asks → EachDeferred (front ++ asks) now'.asks
   pub house_in : is_accepted HOUSE (mark ∷ journal) ≡ now'.let_in
   pub house_there : now'.let_in ≡ true → Rest.present ≡ true
   pub rested : (picks : List ℕ) (later : List HouseReply) → RestedAt Rest.rests (by_lists policy pid (picked ++ picks) (replies ++ later)) before journal mark
@@ -178,6 +188,7 @@ serve-on {May} {Rest} {before} {now} {policy} {pid} {start} {seen} {held} {faile
       asked = ap asks_in (sym same) ∙ (filter-append Rattle.mux_history.specs.Promises.is_asked (house_marks v.journal ++ now.unnoted) n.notes.more ∙ (ap (λ l. l ++ asks_in n.notes.more) v.asked ∙ (ap (λ l. v.stands.asks ++ l) n.notes.asks_are ∙ sym a)));
       called = λ picks later. n.called picks later (calls_in (by_lists policy pid (picked' ++ picks) (replies' ++ later)) v.journal) (called-at v p r picked' replies' e f picks later);
       askers = n.askers;
+      deferred = subst (λ (l : List HouseMark). EachDeferred l now'.asks) (sym a) (n.deferred v.stands.asks v.deferred);
       house_in = n.house_in;
       house_there = n.house_there;
       rested = λ picks later. (n.rested picks later, rested-at v p r picked' replies' e f picks later);

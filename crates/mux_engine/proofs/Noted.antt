@@ -34,7 +34,7 @@ module _ {May : HouseReply → Type 0} {Rest : Resting} {before : Option (List H
       let m : HouseMark = HouseAsked client id opening ask reply in
       let alike = own-silent.asked v.journal client id opening ask reply in
       serve-quiet v (record now { unnoted = rest }) (seen-with (m ∷ []) seen) held failed given (House m)
-      (record { log = alike.log; blocked = λ t client. refl; unwritten = λ t client. refl; promise = λ set. record { takes = tt; waits = tt; speaks = tt; open_streams = tt }; rested = λ set. tt; absent = λ e. refl; house = refl })
+      (record { log = alike.log; blocked = λ t client. refl; unwritten = λ t client. refl; promise = λ set. record { takes = tt; waits = tt; speaks = tt; open_streams = tt; answers = tt }; rested = λ set. tt; absent = λ e. refl; house = refl })
       (stands-alike v.journal (House m ∷ v.journal) v.picked v.replies s v.closed alike v.stands)
       (record { more = []; told_is = tells-none now.told; noted_is = sym e ∙ sym (append-nil now.unnoted); asks_are = refl })
       (λ set. calls-told now (record now { unnoted = rest }) (m ∷ []) [] (sym e ∙ sym (append-nil now.unnoted)) (sym (append-nil now.calls)))

@@ -38,11 +38,12 @@ use Rattle.mux_engine.specs.Serving.{IsSound, Promised, Serving, is_open}
 use Rattle.mux_engine.specs.Sides.{Resting, Side}
 use Rattle.mux_engine.proofs.Called.{calls-none, calls-other}
 use Rattle.mux_engine.proofs.Cuts.{cut-next, cut-still, of-streams, on-next}
+use Rattle.mux_engine.proofs.Deferred.{still-deferred}
 use Rattle.mux_engine.proofs.Lists.{among-last, among-other-last, apart-or-left, not-own-stream, or-last, test-other, true-false, without-other}
 use Rattle.mux_engine.proofs.Logs.{blocked-other, failed-other, failed-pending, fails-failed, has-failed-other, holds-blocked, holds-failed, log-out, lost-out, settled-as, takes-failed, took-pending}
 use Rattle.mux_engine.proofs.Marks.{Next, log-is, sound-at, stood-at}
 use Rattle.mux_engine.proofs.Owns.{fails-placed, holds-placed, owns-as, takes-placed, writes-client}
-use Rattle.mux_engine.proofs.Places.{open-own, placed-by, placed-still, stream-open}
+use Rattle.mux_engine.proofs.Places.{house-other, open-own, placed-by, placed-still, stream-open}
 use Rattle.mux_engine.proofs.Quiet.{askers-more, notes-none}
 use Rattle.mux_engine.proofs.Told.{tells-none, told-none}
 
@@ -77,6 +78,7 @@ next-takes {May} {Rest} {before} {now} {policy} {pid} {start} {seen} {held} {fai
       notes = notes-none now mark refl;
       called = λ picks later. calls-other now k (call.Takes k (length (take n bytes))) (open-own v k opened ne);
       askers = askers-more v mark;
+      deferred = still-deferred now now [] refl;
       house_in = v.house_in;
       house_there = v.house_there;
       rested = λ picks later. tt;
@@ -84,7 +86,7 @@ next-takes {May} {Rest} {before} {now} {policy} {pid} {start} {seen} {held} {fai
       turns = v.turns;
       placed = placed-still v mark (seen_after_write (wrote.Took n) k bytes seen) s' ((wire-keeps seen v.journal).write (wrote.Took n) k bytes are (omega arith) (stream-open v k opened ne) (one, fits) v.of_wire)
           refl refl refl refl refl same.streams (λ t. refl) (λ t. refl) (λ t. refl)
-          (owns-as v.journal seen (seen_after_write (wrote.Took n) k bytes seen) mark v.places (takes-placed v.journal k (take n bytes) (writes-client v.journal k (open-own v k opened ne))) (λ o. refl) (λ l. refl) refl refl refl);
+          (owns-as v.journal seen (seen_after_write (wrote.Took n) k bytes seen) mark v.places (takes-placed v.journal k (take n bytes) (writes-client v.journal k (open-own v k opened ne)) (test-other k HOUSE ne)) (λ o. refl) (λ l. refl) refl refl refl);
       sound = λ picks later.
           let set : Setting = by_lists policy pid (v.picked ++ picks) (v.replies ++ later) in
           let old : IsSound set v.journal todo s = v.sound picks later in
@@ -94,6 +96,7 @@ next-takes {May} {Rest} {before} {now} {policy} {pid} {start} {seen} {held} {fai
               waits = tt;
               speaks = tt;
               open_streams = tt;
+              answers = tt;
             };
             failed_out = λ t client w live. elim (eqb_tells k t) [
               | inl q ↦ true-false (sym w ∙ takes-failed k t (take n bytes) v.journal true q.0)
@@ -119,6 +122,7 @@ next-holds {May} {Rest} {before} {now} {policy} {pid} {start} {seen} {held} {fai
       notes = notes-none now mark refl;
       called = λ picks later. calls-none now;
       askers = askers-more v mark;
+      deferred = still-deferred now now [] refl;
       house_in = v.house_in;
       house_there = v.house_there;
       rested = λ picks later. tt;
@@ -127,12 +131,12 @@ next-holds {May} {Rest} {before} {now} {policy} {pid} {start} {seen} {held} {fai
       placed = placed-by v mark (seen_after_write wrote.Later k bytes seen) (held ++ k ∷ []) failed s k there ((wire-keeps seen v.journal).write wrote.Later k bytes are some there tt v.of_wire)
           refl refl refl refl refl (ap (λ l. l ++ k ∷ []) v.held_is) (now-blocked ∙ sym (holds-blocked k k v.journal true (test-same k))) (λ t q. among-other-last k t seen.blocked q) (λ t q. blocked-other mark v.journal t tt q) (λ t. refl) (λ t q. refl)
           (λ own f. v.failed_are k own there f) (λ t a. a)
-          (owns-as v.journal seen (seen_after_write wrote.Later k bytes seen) mark v.places (holds-placed v.journal k (writes-client v.journal k (open-own v k opened ne))) (λ o. refl) (λ l. refl) refl refl refl);
+          (owns-as v.journal seen (seen_after_write wrote.Later k bytes seen) mark v.places (holds-placed v.journal k (writes-client v.journal k (open-own v k opened ne)) (test-other k HOUSE ne)) (λ o. refl) (λ l. refl) refl refl refl);
       sound = λ picks later.
           let set : Setting = by_lists policy pid (v.picked ++ picks) (v.replies ++ later) in
           let old : IsSound set v.journal todo s = v.sound picks later in
           record {
-            promise = record { takes = tt; waits = tt; speaks = tt; open_streams = tt };
+            promise = record { takes = tt; waits = tt; speaks = tt; open_streams = tt; answers = tt };
             failed_out = λ t client w live. elim (eqb_tells k t) [
               | inl q ↦ true-false (sym w ∙ holds-failed k t v.journal true q.0)
               | inr q ↦ log-out set mark v.journal t (old.failed_out t client (sym (failed-other mark v.journal t q.1) ∙ w) live)
@@ -164,6 +168,7 @@ next-fails {May} {Rest} {before} {now} {policy} {pid} {start} {seen} {held} {fai
       notes = subst (Rattle.mux_engine.proofs.Marks.Notes now now mark) (sym unasked) (notes-none now mark refl);
       called = λ picks later. calls-other now k (Turns (Failed k)) (open-own v k opened ne);
       askers = askers-more v mark;
+      deferred = still-deferred now now g.asks refl;
       house_in = v.house_in;
       house_there = v.house_there;
       rested = λ picks later. tt;
@@ -172,7 +177,7 @@ next-fails {May} {Rest} {before} {now} {policy} {pid} {start} {seen} {held} {fai
       placed = placed-by v mark (seen_after_write wrote.Failed k bytes seen) held failed s' k there ((wire-keeps seen v.journal).write wrote.Failed k bytes are some there tt v.of_wire)
           refl refl refl refl same v.held_is (v.blocked_is k there) (λ t q. refl) (λ t q. refl) (λ t. refl) (λ t q. has-failed-other k t v.journal q)
           (λ own f. true-false (sym own ∙ open-own v k opened ne)) (λ t a. a)
-          (owns-as v.journal seen (seen_after_write wrote.Failed k bytes seen) mark v.places (fails-placed v.journal k (writes-client v.journal k (open-own v k opened ne))) (λ o. refl) (λ l. refl) refl refl refl);
+          (owns-as v.journal seen (seen_after_write wrote.Failed k bytes seen) mark v.places (fails-placed v.journal k (writes-client v.journal k (open-own v k opened ne)) (test-other k HOUSE ne)) (λ o. refl) (λ l. refl) refl refl refl);
       sound = λ picks later.
           let ps : List ℕ = (v.picked ++ g.picks) ++ picks in
           let rs : List HouseReply = (v.replies ++ g.replies) ++ later in
@@ -181,7 +186,7 @@ next-fails {May} {Rest} {before} {now} {policy} {pid} {start} {seen} {held} {fai
           let live-rows : s.ended ≡ None → is_ended (log_of_journal set v.journal) ≡ false = λ l.
           sym (some-end (log_of_journal set v.journal)) ∙ ap is_some (ap end_of (sym (log-is s policy pid ps rs v.journal v.policy_is v.pid_is)) ∙ (sym (stood-at v.stands g.picks g.replies (v.picked ++ g.picks) (v.replies ++ g.replies) refl refl picks later).rows.ended_is ∙ l)) in
           record {
-            promise = record { takes = tt; waits = tt; speaks = tt; open_streams = tt };
+            promise = record { takes = tt; waits = tt; speaks = tt; open_streams = tt; answers = tt };
             failed_out = λ t client w live. elim (eqb_tells k t) [
               | inl q ↦ elim (eqb_tells k 0) [
                 | inl z ↦ absurd (over z.1 live)
@@ -211,15 +216,15 @@ wrote-of-wire {seen = seen} v answer k bytes there are some fits =
 pub cut-holds : {May : HouseReply → Type 0} {Rest : Resting} {before : Option (List HouseMark)} {now : Side} {policy : Policy} {pid : ℕ} {start : Option (List Mark)} {seen : Seen} {held failed : List ℕ} {given : ℕ} {todo : List ℕ} {s : State} (v : Serving May Rest before now policy pid start seen held failed given todo s) (seen' : Seen) (k : ℕ) (bytes : List ℕ)
     → (IsTrue (is_own k) → IsTaking k (own_in v.journal)) → among k seen.streams ≡ true → AreBytes bytes → 0 < length bytes → seen' ≡ seen_after_write wrote.Later k bytes seen → Promised May Rest before now.told policy pid start seen'.told given
 cut-holds {now = now} {given = given} v seen' k bytes takes there are some e =
-    cut-next v now.told seen'.told given (Holds k) [] now.unnoted (ap (λ (x : Seen). x.told) e) (tells-none now.told) (sym (append-nil now.unnoted)) (wrote-of-wire v wrote.Later k bytes there are some tt) (holds-placed v.journal k takes) (let w : turns_in v.journal ≡ given = v.turns in omega arith) (λ set. tt) (λ e. refl) (on-next v (Holds k))
-    (λ set. inr (0, refl)) (λ picks later. record { takes = tt; waits = tt; speaks = tt; open_streams = tt })
+    cut-next v now.told seen'.told given (Holds k) [] now.unnoted (ap (λ (x : Seen). x.told) e) (tells-none now.told) (sym (append-nil now.unnoted)) (wrote-of-wire v wrote.Later k bytes there are some tt) (holds-placed v.journal k takes (house-other v k there)) (let w : turns_in v.journal ≡ given = v.turns in omega arith) (λ set. tt) (λ e. refl) (on-next v (Holds k))
+    (λ set. inr (0, refl)) (λ picks later. record { takes = tt; waits = tt; speaks = tt; open_streams = tt; answers = tt })
 
 -- none for the event of a stream that failed
 pub cut-fails : {May : HouseReply → Type 0} {Rest : Resting} {before : Option (List HouseMark)} {now : Side} {policy : Policy} {pid : ℕ} {start : Option (List Mark)} {seen : Seen} {held failed : List ℕ} {given : ℕ} {todo : List ℕ} {s : State} (v : Serving May Rest before now policy pid start seen held failed given todo s) (seen' : Seen) (k : ℕ) (bytes : List ℕ)
     → (IsTrue (is_own k) → IsTaking k (own_in v.journal)) → among k seen.streams ≡ true → AreBytes bytes → 0 < length bytes → seen' ≡ seen_after_write wrote.Failed k bytes seen → Promised May Rest before now.told policy pid start seen'.told given
 cut-fails {now = now} {given = given} v seen' k bytes takes there are some e =
-    cut-next v now.told seen'.told given (WriteFails k) [] now.unnoted (ap (λ (x : Seen). x.told) e) (tells-none now.told) (sym (append-nil now.unnoted)) (wrote-of-wire v wrote.Failed k bytes there are some tt) (fails-placed v.journal k takes) (let w : turns_in v.journal ≡ given = v.turns in omega arith) (λ set. tt) (λ e. refl) (on-next v (WriteFails k))
-    (λ set. inr (0, refl)) (λ picks later. record { takes = tt; waits = tt; speaks = tt; open_streams = tt })
+    cut-next v now.told seen'.told given (WriteFails k) [] now.unnoted (ap (λ (x : Seen). x.told) e) (tells-none now.told) (sym (append-nil now.unnoted)) (wrote-of-wire v wrote.Failed k bytes there are some tt) (fails-placed v.journal k takes (house-other v k there)) (let w : turns_in v.journal ≡ given = v.turns in omega arith) (λ set. tt) (λ e. refl) (on-next v (WriteFails k))
+    (λ set. inr (0, refl)) (λ picks later. record { takes = tt; waits = tt; speaks = tt; open_streams = tt; answers = tt })
 
 -- none for the write
 pub cut-starved : {May : HouseReply → Type 0} {Rest : Resting} {before : Option (List HouseMark)} {now : Side} {policy : Policy} {pid : ℕ} {start : Option (List Mark)} {seen : Seen} {held failed : List ℕ} {given : ℕ} {todo : List ℕ} {s : State} (v : Serving May Rest before now policy pid start seen held failed given todo s) (seen' : Seen) (k : ℕ) (bytes : List ℕ) → seen' ≡ seen_after_write wrote.NoMemory k bytes seen → Promised May Rest before now.told policy pid start seen'.told given

@@ -15,8 +15,7 @@ use Rattle.mux_outside.specs.declared.own_streams.OwnStream.{OwnStream}
 use Rattle.mux_engine.specs.Orders.{HasOrdered, MadeBy, known_carried, own_carried, seen_carried}
 use Rattle.mux_engine.specs.Sides.{Housed}
 use Rattle.mux_engine.proofs.Closed.{was-among}
-use Rattle.mux_engine.proofs.Lists.{among-last, among-other-last, or-last, test-other, true-false, without-other}
-use Rattle.mux_engine.proofs.OwnMarks.{test-same}
+use Rattle.mux_engine.proofs.Lists.{among-last, among-other-last, or-last, test-other, test-same, true-false, without-other}
 use Rattle.mux_engine.proofs.Owns.{less-numbers, same-numbers}
 
 -- ---- lists of streams

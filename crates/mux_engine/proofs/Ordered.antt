@@ -82,7 +82,7 @@ module _ {May : HouseReply → Type 0} {Rest : Resting} {before : Option (List H
 
   -- an order changes nothing of which numbers are open, or as the wire does
   owns-order : (order : Order) (number : Option ℕ) (seen' : Seen) → seen'.own ≡ own_ordered order number seen.own → seen'.listeners ≡ listeners_ordered order number seen.listeners → filter is_own seen'.streams ≡ numbers_of seen'.own → Owns v.journal seen' (House (HouseOrder order number))
-  owns-order order number seen' own listeners streams = owns-by v.journal seen seen' (House (HouseOrder order number)) v.places record { opened = tt; gives = tt; writes = tt; joins = tt } own listeners streams
+  owns-order order number seen' own listeners streams = owns-by v.journal seen seen' (House (HouseOrder order number)) v.places record { opened = tt; gives = tt; writes = tt; joins = tt; others = refl } own listeners streams
 
   later-free : (n j : ℕ) → IsNewOwn seen.last_own n → IsFree n j → IsFree seen.last_own j
   later-free n j new (inl free) = inl (free.0, let a : n < j = free.1 in let b : seen.last_own < n = new.above in omega arith)
@@ -171,7 +171,7 @@ module _ {May : HouseReply → Type 0} {Rest : Resting} {before : Option (List H
       let mark : Mark = House (HouseOrder order number) in
       let alike = own-silent.ordered v.journal order number in
       serve-quiet v now' seen' held' failed' (given + 1) mark
-      (record { log = alike.log; blocked = blocked; unwritten = λ t client. refl; promise = λ set. record { takes = tt; waits = tt; speaks = tt; open_streams = tt }; rested = λ set. tt; absent = λ e. true-false (sym (v.house_there inside) ∙ e); house = refl })
+      (record { log = alike.log; blocked = blocked; unwritten = λ t client. refl; promise = λ set. record { takes = tt; waits = tt; speaks = tt; open_streams = tt; answers = tt }; rested = λ set. tt; absent = λ e. true-false (sym (v.house_there inside) ∙ e); house = refl })
       (stands-alike v.journal (mark ∷ v.journal) v.picked v.replies s v.closed alike v.stands) notes called asks within told (ap (λ n. n + 1) v.turns) placed
 
   abbrev done-side : Order → Option ℕ → Option (List HouseMark) → Side

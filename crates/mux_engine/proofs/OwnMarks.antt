@@ -1,8 +1,7 @@
 -- What the master's own streams make of what holds while a wire is served.
-use Rattle.std.proofs.Common.{◌≡◌, ◌≢◌, ◌<◌, ℕ, Bool, true, false, ◌||◌, List, [], ◌∷◌, ◌++◌, length, take, Option, refl, sym, ap, ◌∙◌, subst, inl, inr}
+use Rattle.std.proofs.Common.{◌≡◌, ◌≢◌, ◌<◌, ℕ, Bool, true, false, ◌||◌, List, [], ◌∷◌, ◌++◌, length, take, Option, refl, sym, ap, ◌∙◌, subst}
 use Rattle.std.specs.Prelude.{◌==◌, IsTrue}
 use Rattle.std.specs.Bool.{MatchBool}
-use Rattle.std.proofs.lemmas.Bool.Decides.{eqb_tells}
 use Rattle.std.proofs.lemmas.List.{length-take-le}
 use Rattle.ssh_fields.specs.Fields.{AreBytes}
 use Rattle.mux_outside.specs.HouseCalls.{Failed, Turns}
@@ -28,15 +27,12 @@ use Rattle.mux_engine.specs.Called.{if_own}
 use Rattle.mux_engine.specs.Serving.{Serving}
 use Rattle.mux_engine.specs.Sides.{Resting, Side}
 use Rattle.mux_engine.proofs.Called.{CallsOn, calling, calls-none, calls-own}
-use Rattle.mux_engine.proofs.Lists.{among-last, among-other-last, or-last, own-stream, true-false}
+use Rattle.mux_engine.proofs.Lists.{among-last, among-other-last, or-last, own-stream, test-same, true-false}
 use Rattle.mux_engine.proofs.Logs.{blocked-other, failed-other, has-failed-other, holds-blocked}
 use Rattle.mux_engine.proofs.Owns.{fails-placed, holds-placed, owns-as, takes-placed, taking}
-use Rattle.mux_engine.proofs.Places.{house-shut, placed-by, placed-still}
+use Rattle.mux_engine.proofs.Places.{house-other, house-shut, placed-by, placed-still}
 use Rattle.mux_engine.proofs.Quiet.{notes-calling, notes-none, serve-quiet}
 use Rattle.mux_engine.proofs.Silent.{holds-alike}
-
-pub test-same : (i : ℕ) → (i == i) ≡ true
-test-same i = elim (eqb_tells i i) [ inl q ↦ q.0 | inr q ↦ absurd (q.1 refl) ]
 
 module _ {May : HouseReply → Type 0} {Rest : Resting} {before : Option (List HouseMark)} {now : Side} {policy : Policy} {pid : ℕ} {start : Option (List Mark)} {seen : Seen} {held failed : List ℕ} {given : ℕ} {todo : List ℕ} {s : State}
     (v : Serving May Rest before now policy pid start seen held failed given todo s) (k : ℕ) (own : IsTrue (is_own k)) (found : among k seen.streams ≡ true) where
@@ -57,11 +53,11 @@ module _ {May : HouseReply → Type 0} {Rest : Resting} {before : Option (List H
       let alike = own-silent.takes v.journal k (take n bytes) own-is in
       subst (λ (x : Seen). Serving May Rest before (calling now (call.Takes k n ∷ [])) policy pid start x held failed given todo s) (sym e)
       (serve-quiet v (calling now (call.Takes k n ∷ [])) (seen_after_write (wrote.Took n) k bytes seen) held failed given mark
-      (record { log = alike.log; blocked = λ t client. refl; unwritten = λ t client. failed-other mark v.journal t (apart-own t client); promise = λ set. record { takes = takes-own set (take n bytes); waits = tt; speaks = tt; open_streams = tt }; rested = λ set. tt; absent = λ e. refl; house = refl })
+      (record { log = alike.log; blocked = λ t client. refl; unwritten = λ t client. failed-other mark v.journal t (apart-own t client); promise = λ set. record { takes = takes-own set (take n bytes); waits = tt; speaks = tt; open_streams = tt; answers = tt }; rested = λ set. tt; absent = λ e. refl; house = refl })
       (stands-alike v.journal (mark ∷ v.journal) v.picked v.replies s v.closed alike v.stands) (notes-calling now (call.Takes k n ∷ []) mark refl)
       (λ set. subst (λ (i : ℕ). CallsOn now (calling now (call.Takes k n ∷ [])) (if_own k (call.Takes k i))) (sym (length-take-le n bytes fits.1)) (calls-own now k (call.Takes k n) own none)) refl refl refl v.turns
       (placed-still v mark (seen_after_write (wrote.Took n) k bytes seen) s ((wire-keeps seen v.journal).write (wrote.Took n) k bytes are some found fits v.of_wire) refl refl refl refl refl refl (λ t. refl) (λ t. refl) (λ t. refl)
-      (owns-as v.journal seen (seen_after_write (wrote.Took n) k bytes seen) mark v.places (takes-placed v.journal k (take n bytes) (taking seen v.journal v.places k found unfinished)) (λ o. refl) (λ l. refl) refl refl refl)))
+      (owns-as v.journal seen (seen_after_write (wrote.Took n) k bytes seen) mark v.places (takes-placed v.journal k (take n bytes) (taking seen v.journal v.places k found unfinished) (house-other v k found)) (λ o. refl) (λ l. refl) refl refl refl)))
 
   -- it is blocked now
   pub own-holds : (bytes : List ℕ) (seen' : Seen) (held' : List ℕ) → is_finished k seen.own ≡ false → AreBytes bytes → 0 < length bytes → seen' ≡ seen_after_write wrote.Later k bytes seen → held' ≡ held ++ k ∷ [] → Serving May Rest before now policy pid start seen' held' failed given todo s
@@ -72,12 +68,12 @@ module _ {May : HouseReply → Type 0} {Rest : Resting} {before : Option (List H
       subst (λ (x : Seen). Serving May Rest before now policy pid start x held' failed given todo s) (sym e)
       (subst (λ (l : List ℕ). Serving May Rest before now policy pid start (seen_after_write wrote.Later k bytes seen) l failed given todo s) (sym h)
       (serve-quiet v now (seen_after_write wrote.Later k bytes seen) (held ++ k ∷ []) failed given mark
-      (record { log = alike.log; blocked = λ t client. blocked-other mark v.journal t tt (apart-own t client); unwritten = λ t client. failed-other mark v.journal t (apart-own t client); promise = λ set. record { takes = tt; waits = tt; speaks = tt; open_streams = tt }; rested = λ set. tt; absent = λ e. refl; house = refl })
+      (record { log = alike.log; blocked = λ t client. blocked-other mark v.journal t tt (apart-own t client); unwritten = λ t client. failed-other mark v.journal t (apart-own t client); promise = λ set. record { takes = tt; waits = tt; speaks = tt; open_streams = tt; answers = tt }; rested = λ set. tt; absent = λ e. refl; house = refl })
       (stands-alike v.journal (mark ∷ v.journal) v.picked v.replies s v.closed alike v.stands) (notes-none now mark refl) (λ set. calls-none now) refl refl refl v.turns
       (placed-by v mark (seen_after_write wrote.Later k bytes seen) (held ++ k ∷ []) failed s k found ((wire-keeps seen v.journal).write wrote.Later k bytes are some found tt v.of_wire)
       refl refl refl refl refl (ap (λ l. l ++ k ∷ []) v.held_is) (now-blocked ∙ sym (holds-blocked k k v.journal true (test-same k))) (λ t q. among-other-last k t seen.blocked q) (λ t q. blocked-other mark v.journal t tt q) (λ t. refl) (λ t q. refl)
       (λ is f. v.failed_are k is found f) (λ t a. a)
-      (owns-as v.journal seen (seen_after_write wrote.Later k bytes seen) mark v.places (holds-placed v.journal k (taking seen v.journal v.places k found unfinished)) (λ o. refl) (λ l. refl) refl refl refl))))
+      (owns-as v.journal seen (seen_after_write wrote.Later k bytes seen) mark v.places (holds-placed v.journal k (taking seen v.journal v.places k found unfinished) (house-other v k found)) (λ o. refl) (λ l. refl) refl refl refl))))
 
   -- it failed
   pub own-fails : (bytes : List ℕ) (seen' : Seen) (failed' : List ℕ) → is_finished k seen.own ≡ false → now.unnoted ≡ [] → AreBytes bytes → 0 < length bytes → seen' ≡ seen_after_write wrote.Failed k bytes seen → failed' ≡ failed ++ k ∷ [] → Serving May Rest before (calling now (Turns (Failed k) ∷ [])) policy pid start seen' held failed' given todo s
@@ -88,9 +84,9 @@ module _ {May : HouseReply → Type 0} {Rest : Resting} {before : Option (List H
       subst (λ (x : Seen). Serving May Rest before (calling now (Turns (Failed k) ∷ [])) policy pid start x held failed' given todo s) (sym e)
       (subst (λ (l : List ℕ). Serving May Rest before (calling now (Turns (Failed k) ∷ [])) policy pid start (seen_after_write wrote.Failed k bytes seen) held l given todo s) (sym f)
       (serve-quiet v (calling now (Turns (Failed k) ∷ [])) (seen_after_write wrote.Failed k bytes seen) held (failed ++ k ∷ []) given mark
-      (record { log = alike.log; blocked = λ t client. refl; unwritten = λ t client. failed-other mark v.journal t (apart-own t client); promise = λ set. record { takes = tt; waits = tt; speaks = tt; open_streams = tt }; rested = λ set. tt; absent = λ e. refl; house = refl })
+      (record { log = alike.log; blocked = λ t client. refl; unwritten = λ t client. failed-other mark v.journal t (apart-own t client); promise = λ set. record { takes = tt; waits = tt; speaks = tt; open_streams = tt; answers = tt }; rested = λ set. tt; absent = λ e. refl; house = refl })
       (stands-alike v.journal (mark ∷ v.journal) v.picked v.replies s v.closed alike v.stands) (notes-calling now (Turns (Failed k) ∷ []) mark refl) (λ set. calls-own now k (Turns (Failed k)) own none) refl refl refl v.turns
       (placed-by v mark (seen_after_write wrote.Failed k bytes seen) held (failed ++ k ∷ []) s k found ((wire-keeps seen v.journal).write wrote.Failed k bytes are some found tt v.of_wire)
       refl refl refl refl refl v.held_is (v.blocked_is k found) (λ t q. refl) (λ t q. refl) (λ t. refl) (λ t q. has-failed-other k t v.journal q)
       (λ is x. noted) (λ t a. among-last k t failed ∙ ap (λ b. b || ((k == t) || false)) a)
-      (owns-as v.journal seen (seen_after_write wrote.Failed k bytes seen) mark v.places (fails-placed v.journal k (taking seen v.journal v.places k found unfinished)) (λ o. refl) (λ l. refl) refl refl refl))))
+      (owns-as v.journal seen (seen_after_write wrote.Failed k bytes seen) mark v.places (fails-placed v.journal k (taking seen v.journal v.places k found unfinished) (house-other v k found)) (λ o. refl) (λ l. refl) refl refl refl))))

@@ -12,7 +12,7 @@ use Rattle.mux_outside.specs.declared.mark.Mark.TheVariants.{Waits, Accepts, Get
 use Rattle.mux_outside.specs.declared.own_streams.OwnStream.{OwnStream}
 use Rattle.mux_history.specs.declared.limits.TheConstants.{HOUSE}
 use Rattle.mux_engine.specs.Places.{HasPlaces, IsGiving, IsPlaced, IsTaking, KeepsOwn, listeners_marked, own_in, own_marked}
-use Rattle.mux_engine.proofs.Lists.{among-filter, true-false}
+use Rattle.mux_engine.proofs.Lists.{among-filter, test-other, true-false}
 
 -- all that is so of them behind a mark
 pub record Owns (journal : List Mark) (seen' : Seen) (mark : Mark) : Type 0 where
@@ -20,7 +20,7 @@ pub record Owns (journal : List Mark) (seen' : Seen) (mark : Mark) : Type 0 wher
   pub right : IsPlaced journal mark
 
 pub keeps-more : (journal : List Mark) (mark : Mark) → IsPlaced journal mark → KeepsOwn journal → KeepsOwn (mark ∷ journal)
-keeps-more journal mark p k = record { opened = (p.opened, k.opened); gives = (p.gives, k.gives); writes = (p.writes, k.writes); joins = (p.joins, k.joins) }
+keeps-more journal mark p k = record { opened = (p.opened, k.opened); gives = (p.gives, k.gives); writes = (p.writes, k.writes); joins = (p.joins, k.joins); others = (p.others, k.others) }
 
 -- behind one that changes them as the wire does
 pub owns-by : (journal : List Mark) (seen seen' : Seen) (mark : Mark) → HasPlaces seen journal → IsPlaced journal mark → seen'.own ≡ own_marked mark seen.own → seen'.listeners ≡ listeners_marked mark seen.listeners → filter is_own seen'.streams ≡ numbers_of seen'.own → Owns journal seen' mark
@@ -40,8 +40,8 @@ IsPlain (Waits waiting want streams listens) = ⊥
 IsPlain (Accepts k) = Unit {0}
 IsPlain (Gets t bytes) = ⊥
 IsPlain (Ends t) = ⊥
-IsPlain (Frees t) = Unit {0}
-IsPlain (Fails t) = Unit {0}
+IsPlain (Frees t) = (t == HOUSE) ≡ false
+IsPlain (Fails t) = (t == HOUSE) ≡ false
 IsPlain (Takes t bytes) = ⊥
 IsPlain (Holds t) = ⊥
 IsPlain (WriteFails t) = ⊥
@@ -122,28 +122,32 @@ client-apart seen journal p t client = sym (among-one t seen.own) ∙ (ap (among
 
 pub owns-plain : (journal : List Mark) (seen seen' : Seen) (mark : Mark) → IsPlain mark → HasPlaces seen journal → seen'.streams ≡ seen.streams → seen'.own ≡ seen.own → seen'.listeners ≡ seen.listeners → Owns journal seen' mark
 owns-plain journal seen seen' (Waits waiting want streams_open listens) plain p streams own listeners = absurd plain
-owns-plain journal seen seen' (Accepts k) plain p streams own listeners = owns-as journal seen seen' (Accepts k) p record { opened = tt; gives = tt; writes = tt; joins = tt } (λ o. refl) (λ l. refl) streams own listeners
+owns-plain journal seen seen' (Accepts k) plain p streams own listeners = owns-as journal seen seen' (Accepts k) p record { opened = tt; gives = tt; writes = tt; joins = tt; others = refl } (λ o. refl) (λ l. refl) streams own listeners
 owns-plain journal seen seen' (Gets t bytes) plain p streams own listeners = absurd plain
 owns-plain journal seen seen' (Ends t) plain p streams own listeners = absurd plain
-owns-plain journal seen seen' (Frees t) plain p streams own listeners = owns-as journal seen seen' (Frees t) p record { opened = tt; gives = tt; writes = tt; joins = tt } (λ o. refl) (λ l. refl) streams own listeners
-owns-plain journal seen seen' (Fails t) plain p streams own listeners = owns-as journal seen seen' (Fails t) p record { opened = tt; gives = tt; writes = tt; joins = tt } (λ o. refl) (λ l. refl) streams own listeners
+owns-plain journal seen seen' (Frees t) plain p streams own listeners = owns-as journal seen seen' (Frees t) p record { opened = tt; gives = tt; writes = tt; joins = tt; others = plain } (λ o. refl) (λ l. refl) streams own listeners
+owns-plain journal seen seen' (Fails t) plain p streams own listeners = owns-as journal seen seen' (Fails t) p record { opened = tt; gives = tt; writes = tt; joins = tt; others = plain } (λ o. refl) (λ l. refl) streams own listeners
 owns-plain journal seen seen' (Takes t bytes) plain p streams own listeners = absurd plain
 owns-plain journal seen seen' (Holds t) plain p streams own listeners = absurd plain
 owns-plain journal seen seen' (WriteFails t) plain p streams own listeners = absurd plain
 owns-plain journal seen seen' (Joins l t) plain p streams own listeners = absurd plain
-owns-plain journal seen seen' (House HouseIn) plain p streams own listeners = owns-as journal seen seen' (House HouseIn) p record { opened = tt; gives = tt; writes = tt; joins = tt } (λ o. refl) (λ l. refl) streams own listeners
-owns-plain journal seen seen' (House (HouseSaid bytes)) plain p streams own listeners = owns-as journal seen seen' (House (HouseSaid bytes)) p record { opened = tt; gives = tt; writes = tt; joins = tt } (λ o. refl) (λ l. refl) streams own listeners
-owns-plain journal seen seen' (House (HouseTook size)) plain p streams own listeners = owns-as journal seen seen' (House (HouseTook size)) p record { opened = tt; gives = tt; writes = tt; joins = tt } (λ o. refl) (λ l. refl) streams own listeners
-owns-plain journal seen seen' (House (HouseAsked client id opening ask reply)) plain p streams own listeners = owns-as journal seen seen' (House (HouseAsked client id opening ask reply)) p record { opened = tt; gives = tt; writes = tt; joins = tt } (λ o. refl) (λ l. refl) streams own listeners
-owns-plain journal seen seen' (House (HouseAnswer client id reply)) plain p streams own listeners = owns-as journal seen seen' (House (HouseAnswer client id reply)) p record { opened = tt; gives = tt; writes = tt; joins = tt } (λ o. refl) (λ l. refl) streams own listeners
+owns-plain journal seen seen' (House HouseIn) plain p streams own listeners = owns-as journal seen seen' (House HouseIn) p record { opened = tt; gives = tt; writes = tt; joins = tt; others = refl } (λ o. refl) (λ l. refl) streams own listeners
+owns-plain journal seen seen' (House (HouseSaid bytes)) plain p streams own listeners = owns-as journal seen seen' (House (HouseSaid bytes)) p record { opened = tt; gives = tt; writes = tt; joins = tt; others = refl } (λ o. refl) (λ l. refl) streams own listeners
+owns-plain journal seen seen' (House (HouseTook size)) plain p streams own listeners = owns-as journal seen seen' (House (HouseTook size)) p record { opened = tt; gives = tt; writes = tt; joins = tt; others = refl } (λ o. refl) (λ l. refl) streams own listeners
+owns-plain journal seen seen' (House (HouseAsked client id opening ask reply)) plain p streams own listeners = owns-as journal seen seen' (House (HouseAsked client id opening ask reply)) p record { opened = tt; gives = tt; writes = tt; joins = tt; others = refl } (λ o. refl) (λ l. refl) streams own listeners
+owns-plain journal seen seen' (House (HouseAnswer client id reply)) plain p streams own listeners = owns-as journal seen seen' (House (HouseAnswer client id reply)) p record { opened = tt; gives = tt; writes = tt; joins = tt; others = refl } (λ o. refl) (λ l. refl) streams own listeners
 owns-plain journal seen seen' (House (HouseOrder order number)) plain p streams own listeners = absurd plain
+
+-- a client and the server are not the house
+pub client-other : (k : ℕ) → is_own k ≡ false → (k == HOUSE) ≡ false
+client-other k client = test-other k HOUSE (λ e. true-false (sym (ap is_own e) ∙ client))
 
 -- a client or the server gives something, or no more
 pub gives-client : (journal : List Mark) (k : ℕ) (bytes : List ℕ) → is_own k ≡ false → IsPlaced journal (Gets k bytes)
-gives-client journal k bytes client = record { opened = tt; gives = λ own. true-false (sym own ∙ client); writes = tt; joins = tt }
+gives-client journal k bytes client = record { opened = tt; gives = λ own. true-false (sym own ∙ client); writes = tt; joins = tt; others = client-other k client }
 
 pub ends-client : (journal : List Mark) (k : ℕ) → is_own k ≡ false → IsPlaced journal (Ends k)
-ends-client journal k client = record { opened = tt; gives = λ own. true-false (sym own ∙ client); writes = tt; joins = tt }
+ends-client journal k client = record { opened = tt; gives = λ own. true-false (sym own ∙ client); writes = tt; joins = tt; others = client-other k client }
 
 pub owns-gets : (journal : List Mark) (seen seen' : Seen) (k : ℕ) (bytes : List ℕ) → HasPlaces seen journal → IsPlaced journal (Gets k bytes) → seen'.streams ≡ seen.streams → seen'.own ≡ seen.own → seen'.listeners ≡ seen.listeners → Owns journal seen' (Gets k bytes)
 owns-gets journal seen seen' k bytes p right = owns-as journal seen seen' (Gets k bytes) p right (λ o. refl) (λ l. refl)
@@ -155,25 +159,25 @@ owns-ends journal seen seen' k p right streams own listeners =
 -- a client came
 pub owns-accepts : (journal : List Mark) (seen seen' : Seen) (k : ℕ) → HasPlaces seen journal → is_own k ≡ false → seen'.streams ≡ seen.streams ++ k ∷ [] → seen'.own ≡ seen.own → seen'.listeners ≡ seen.listeners → Owns journal seen' (Accepts k)
 owns-accepts journal seen seen' k p client streams own listeners =
-    owns-by journal seen seen' (Accepts k) p record { opened = tt; gives = tt; writes = tt; joins = tt } own listeners (ap (filter is_own) streams ∙ (streams-client seen journal k p client ∙ ap numbers_of (sym own)))
+    owns-by journal seen seen' (Accepts k) p record { opened = tt; gives = tt; writes = tt; joins = tt; others = refl } own listeners (ap (filter is_own) streams ∙ (streams-client seen journal k p client ∙ ap numbers_of (sym own)))
 
 -- a socket was joined
 pub owns-joins : (journal : List Mark) (seen seen' : Seen) (l k : ℕ) → HasPlaces seen journal → IsTrue (among l seen.listeners) → is_own k ≡ true → seen'.streams ≡ seen.streams ++ k ∷ [] → seen'.own ≡ seen.own ++ new_stream k ∷ [] → seen'.listeners ≡ seen.listeners → Owns journal seen' (Joins l k)
 owns-joins journal seen seen' l k p listens is streams own listeners =
-    owns-by journal seen seen' (Joins l k) p record { opened = tt; gives = tt; writes = tt; joins = ap (among l) (sym p.listeners) ∙ listens } own listeners (ap (filter is_own) streams ∙ (streams-more seen journal k p is ∙ ap numbers_of (sym own)))
+    owns-by journal seen seen' (Joins l k) p record { opened = tt; gives = tt; writes = tt; joins = ap (among l) (sym p.listeners) ∙ listens; others = refl } own listeners (ap (filter is_own) streams ∙ (streams-more seen journal k p is ∙ ap numbers_of (sym own)))
 
 -- what is written
 pub writes-client : (journal : List Mark) (k : ℕ) → is_own k ≡ false → IsTrue (is_own k) → IsTaking k (own_in journal)
 writes-client journal k client own = true-false (sym own ∙ client)
 
-pub takes-placed : (journal : List Mark) (k : ℕ) (bytes : List ℕ) → (IsTrue (is_own k) → IsTaking k (own_in journal)) → IsPlaced journal (Takes k bytes)
-takes-placed journal k bytes takes = record { opened = tt; gives = tt; writes = takes; joins = tt }
+pub takes-placed : (journal : List Mark) (k : ℕ) (bytes : List ℕ) → (IsTrue (is_own k) → IsTaking k (own_in journal)) → (k == HOUSE) ≡ false → IsPlaced journal (Takes k bytes)
+takes-placed journal k bytes takes other = record { opened = tt; gives = tt; writes = takes; joins = tt; others = other }
 
-pub holds-placed : (journal : List Mark) (k : ℕ) → (IsTrue (is_own k) → IsTaking k (own_in journal)) → IsPlaced journal (Holds k)
-holds-placed journal k takes = record { opened = tt; gives = tt; writes = takes; joins = tt }
+pub holds-placed : (journal : List Mark) (k : ℕ) → (IsTrue (is_own k) → IsTaking k (own_in journal)) → (k == HOUSE) ≡ false → IsPlaced journal (Holds k)
+holds-placed journal k takes other = record { opened = tt; gives = tt; writes = takes; joins = tt; others = other }
 
-pub fails-placed : (journal : List Mark) (k : ℕ) → (IsTrue (is_own k) → IsTaking k (own_in journal)) → IsPlaced journal (WriteFails k)
-fails-placed journal k takes = record { opened = tt; gives = tt; writes = takes; joins = tt }
+pub fails-placed : (journal : List Mark) (k : ℕ) → (IsTrue (is_own k) → IsTaking k (own_in journal)) → (k == HOUSE) ≡ false → IsPlaced journal (WriteFails k)
+fails-placed journal k takes other = record { opened = tt; gives = tt; writes = takes; joins = tt; others = other }
 
 -- an open stream of the master's own that is not finished takes bytes
 pub taking : (seen : Seen) (journal : List Mark) → HasPlaces seen journal → (k : ℕ) → among k seen.streams ≡ true → is_finished k seen.own ≡ false → IsTrue (is_own k) → IsTaking k (own_in journal)
@@ -183,9 +187,8 @@ taking seen journal p k found unfinished own = record {
 }
 
 -- one that is not silent gives something
-pub giving : (seen : Seen) (journal : List Mark) → HasPlaces seen journal → (k : ℕ) → among k seen.streams ≡ true → among HOUSE seen.streams ≡ false → (IsTrue (is_own k) → is_silent k seen.own ≡ false) → IsTrue (is_own k) → IsGiving k (own_in journal)
-giving seen journal p k found shut loud own = record {
+pub giving : (seen : Seen) (journal : List Mark) → HasPlaces seen journal → (k : ℕ) → among k seen.streams ≡ true → (IsTrue (is_own k) → is_silent k seen.own ≡ false) → IsTrue (is_own k) → IsGiving k (own_in journal)
+giving seen journal p k found loud own = record {
   is = ap (is_one k) (sym p.own) ∙ own-open seen journal p k own found;
   speaks = ap (is_silent k) (sym p.own) ∙ loud own;
-  other = λ e. true-false (sym found ∙ (ap (λ i. among i seen.streams) e ∙ shut));
 }

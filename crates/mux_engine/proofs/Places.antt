@@ -79,6 +79,10 @@ module _ {May : HouseReply → Type 0} {Rest : Resting} {before : Option (List H
   pub house-shut : among HOUSE seen.streams ≡ false
   house-shut = (v.unused HOUSE (inr refl)).not_open
 
+  -- so an open stream is another
+  pub house-other : (k : ℕ) → among k seen.streams ≡ true → (k == HOUSE) ≡ false
+  house-other k found = test-other k HOUSE (λ e. true-false (sym found ∙ (ap (λ i. among i seen.streams) e ∙ house-shut)))
+
   -- a client that did not come yet has none of the streams
   pub apart-unseen : (k j : ℕ) → among k seen.streams ≡ true → seen.last < j → j ≤ LAST_CLIENT → k ≢ j
   apart-unseen k j found lt le e =

@@ -24,6 +24,7 @@ use Rattle.mux_engine.specs.Run.{RestedAt, is_by_house}
 use Rattle.mux_engine.specs.Serving.{IsSound, Serving}
 use Rattle.mux_engine.specs.Sides.{Resting, Side, house_mark}
 use Rattle.mux_engine.proofs.Called.{CallsOn, calling}
+use Rattle.mux_engine.proofs.Deferred.{still-deferred}
 use Rattle.mux_engine.proofs.Logs.{accepted-more, settled-as}
 use Rattle.mux_engine.proofs.Marks.{Notes, Placed, PromiseAt, serve-alone}
 use Rattle.mux_engine.proofs.Told.{tells-none}
@@ -61,6 +62,7 @@ module _ {May : HouseReply → Type 0} {Rest : Resting} {before : Option (List H
         notes = notes;
         called = λ picks later. called (by_lists policy pid (v.picked ++ picks) (v.replies ++ later));
         askers = subst (λ (l : List OpenAsk). All (λ (a : OpenAsk). IsTrue (is_accepted a.client (mark ∷ v.journal))) l) (sym asks) (askers-more mark);
+        deferred = still-deferred now now' [] asks;
         house_in = q.house ∙ (v.house_in ∙ sym within);
         house_there = λ e. v.house_there (sym within ∙ e);
         rested = λ picks later. q.rested (by_lists policy pid (v.picked ++ picks) (v.replies ++ later));

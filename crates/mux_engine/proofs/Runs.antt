@@ -1,6 +1,7 @@
 -- The start and the end of a run.
 use Rattle.std.proofs.Common.{◌≡◌, ◌≢◌, ◌≤◌, ℕ, Bool, true, false, List, [], ◌∷◌, ◌++◌, length, Option, refl, sym, ap, ◌∙◌, subst, inl, inr, ◌||◌, arith, append-nil}
-use Rattle.std.specs.Prelude.{◌==◌, filter, All}
+use Rattle.std.specs.List.{list_any}
+use Rattle.std.specs.Prelude.{◌==◌, filter, All, IsTrue}
 use Rattle.std.proofs.lemmas.List.Elements.{All-nil}
 use Rattle.mux_outside.specs.House.{OpenAsk}
 use Rattle.mux_outside.specs.HouseCalls.{HandsOn, HouseCall, calls_of}
@@ -29,6 +30,7 @@ use Rattle.mux_clients.specs.Asked.{asked_of, TellsAsks}
 use Rattle.mux_machine.specs.State.{State, numbers}
 use Rattle.mux_machine.specs.Events.{here}
 use Rattle.mux_machine.specs.Stands.{Stands, StandsFor, log}
+use Rattle.mux_engine.specs.Answers.{EachDeferred, is_deferred}
 use Rattle.mux_engine.specs.Called.{calls_in}
 use Rattle.mux_engine.specs.Places.{HasPlaces, KeepsOwn}
 use Rattle.mux_engine.specs.Run.{AsksOn, EndsRight, IsOfWire, IsRun, Rested, is_by_house}
@@ -84,6 +86,7 @@ run-of May Rest stands stands' present before now policy pid turns start seen re
   may = may;
   written = kept.written;
   open_streams = kept.open_streams;
+  answered = kept.answers;
   own_streams = own_streams;
   places = places;
   is_log = is;
@@ -186,7 +189,7 @@ promised-more given more le p = record {
 -- ---- the start
 
 of-nothing : (setting : Setting) → Kept setting []
-of-nothing setting = record { written = record { takes = tt; waits = tt; speaks = tt }; open_streams = tt }
+of-nothing setting = record { written = record { takes = tt; waits = tt; speaks = tt }; open_streams = tt; answers = tt }
 
 -- there was no memory for an engine
 pub starts-starved : (May : HouseReply → Type 0) (Rest : Resting) (house : Option (List HouseMark)) (policy : Policy) (pid : ℕ) (told : Option (List Mark)) (given : ℕ) → Promised May Rest house house policy pid told told given
@@ -206,7 +209,7 @@ starts-starved May Rest house policy pid told given = record {
   absent = λ e. All-nil (λ (mark : Mark). is_by_house mark ≡ false);
   tells = sym (told-none told);
   of_wire = record { lawful = tt; asked = tt };
-  own_streams = record { opened = tt; gives = tt; writes = tt; joins = tt };
+  own_streams = record { opened = tt; gives = tt; writes = tt; joins = tt; others = tt };
   turns = (omega arith);
   left = λ picks later. record { kept = of-nothing (by_lists policy pid picks later); rows = []; is_log = inl refl; fresh = tt; taken_is = refl; given_is = refl; asked_is = refl };
 }
@@ -230,6 +233,7 @@ starts May Rest now policy pid seen s stands e f clients refused unasked noted o
         asked = ap asks_in noted ∙ sym asks;
         called = λ picks later. ap calls_of noted ∙ sym uncalled;
         askers = subst (λ (l : List OpenAsk). All (λ (a : OpenAsk). false ≡ true) l) (sym unasked) (All-nil (λ (a : OpenAsk). false ≡ true));
+        deferred = subst (λ (l : List OpenAsk). EachDeferred stands.asks l) (sym unasked) (All-nil (λ (a : OpenAsk). IsTrue (list_any (is_deferred a.client a.id) stands.asks)));
         house_in = sym outside;
         house_there = λ e. true-false (sym e ∙ outside);
         rested = λ picks later. tt;
@@ -237,7 +241,7 @@ starts May Rest now policy pid seen s stands e f clients refused unasked noted o
         tells = sym (told-none seen.told);
         of_wire = subst (λ (l : List ℕ). OfWire l seen.blocked seen.last []) (sym streams) (subst (λ (l : List ℕ). OfWire (0 ∷ []) l seen.last []) (sym blocked) (wire-keeps seen []).none);
         places = record { own = own; listeners = listeners; streams = ap (filter is_own) streams ∙ sym (ap numbers_of own) };
-        own_streams = record { opened = tt; gives = tt; writes = tt; joins = tt };
+        own_streams = record { opened = tt; gives = tt; writes = tt; joins = tt; others = tt };
         turns = refl;
         open_are = ap not_own (streams ∙ ap (λ l. 0 ∷ l) (sym none));
         apart = λ k a. true-false (sym a ∙ ap (among k) none);

@@ -15,6 +15,7 @@ use Rattle.mux_history.specs.Journal.{is_accepted}
 use Rattle.mux_history.specs.Promises.{IsSettled}
 use Rattle.mux_clients.specs.Asked.{TellsAsks}
 use Rattle.mux_machine.specs.State.{State}
+use Rattle.mux_engine.specs.Answers.{EachDeferred}
 use Rattle.mux_engine.specs.Called.{calls_in}
 use Rattle.mux_engine.specs.Serving.{IsSound, IsUnused, Serving}
 use Rattle.mux_engine.specs.Sides.{Resting, Side, asks_in, house_marks}
@@ -26,12 +27,13 @@ module _ {May : HouseReply → Type 0} {Rest : Resting} {before : Option (List H
     pub asked : asks_in (house_marks v.journal ++ now'.unnoted) ≡ v.stands.asks
     pub called : (picks : List ℕ) (later : List HouseReply) → calls_in (by_lists policy pid (v.picked ++ picks) (v.replies ++ later)) v.journal ++ calls_of now'.unnoted ≡ now'.calls
     pub askers : All (λ (a : OpenAsk). IsTrue (is_accepted a.client v.journal)) now'.asks
+    pub deferred : EachDeferred v.stands.asks now'.asks
     pub house_in : is_accepted HOUSE v.journal ≡ now'.let_in
     pub house_there : now'.let_in ≡ true → Rest.present ≡ true
 
   -- as before
   pub still-noted : (v : Serving May Rest before now policy pid start seen held failed given todo s) → IsNoted v now
-  still-noted v = record { house = v.house; asked = v.asked; called = v.called; askers = v.askers; house_in = v.house_in; house_there = v.house_there }
+  still-noted v = record { house = v.house; asked = v.asked; called = v.called; askers = v.askers; deferred = v.deferred; house_in = v.house_in; house_there = v.house_there }
 
   -- these streams are to be offered what waits for them: another was so before, or is settled
   abbrev pub Covers : Serving May Rest before now policy pid start seen held failed given todo s → List ℕ → Type 0
@@ -53,6 +55,7 @@ module _ {May : HouseReply → Type 0} {Rest : Resting} {before : Option (List H
     asked = noted.asked;
     called = noted.called;
     askers = noted.askers;
+    deferred = noted.deferred;
     house_in = noted.house_in;
     house_there = noted.house_there;
     rested = v.rested;

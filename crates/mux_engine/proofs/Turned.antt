@@ -28,6 +28,7 @@ use Rattle.mux_machine.specs.Events.{Arrives, SameStreams, Tells, here}
 use Rattle.mux_machine.specs.Stands.{AsksFirst, CutsShort, GoesBy, IsAllowed, log}
 use Rattle.mux_machine.specs.Twins.{AreAlike}
 use Rattle.mux_machine.proofs.Twins.{stands-alike}
+use Rattle.mux_engine.specs.Answers.{AnswersDeferred, EachDeferred}
 use Rattle.mux_engine.specs.Asking.{HeedsSo}
 use Rattle.mux_engine.specs.Called.{calls_at}
 use Rattle.mux_engine.specs.Places.{IsPlaced}
@@ -38,6 +39,7 @@ use Rattle.mux_engine.proofs.Asks.{EachAsked, SaidBy, all-asks, asked-accepted, 
 use Rattle.mux_engine.proofs.Called.{CallsOn, calls-told}
 use Rattle.mux_engine.proofs.Causes.{EndsSo, event-by}
 use Rattle.mux_engine.proofs.Cuts.{cut-next, now-asked, of-streams}
+use Rattle.mux_engine.proofs.Deferred.{asked-deferred}
 use Rattle.mux_engine.proofs.Happened.{serve-event}
 use Rattle.mux_engine.proofs.Logs.{accepted-more}
 use Rattle.mux_engine.proofs.Marks.{Placed, log-is}
@@ -120,6 +122,7 @@ module _ {May : HouseReply → Type 0} {Rest : Resting} {before : Option (List H
     pub said : SaidBy (λ k. is_accepted k (mark ∷ v.journal) ≡ true) mark
     pub spares : (k : ℕ) → among k v.closed ≡ true → Spares k mark
     pub speaks : (picks : List ℕ) (later : List HouseReply) → SpeaksInTime (by_lists policy pid (v.picked ++ picks) (v.replies ++ later)) v.journal mark
+    pub answers : (set : Setting) → AnswersDeferred set v.journal mark
     pub rested : (set : Setting) → RestedAt Rest.rests set before v.journal mark
     pub absent : Rest.present ≡ false → is_by_house mark ≡ false
     pub turns : turns_in (mark ∷ v.journal) ≡ given'
@@ -138,10 +141,11 @@ module _ {May : HouseReply → Type 0} {Rest : Resting} {before : Option (List H
       let listed : asks ≡ g.asks = asks-are asks g.asks g.told in
       let each : EachAsked (λ k. is_accepted k (at.mark ∷ v.journal) ≡ true) asks = subst (EachAsked (λ k. is_accepted k (at.mark ∷ v.journal) ≡ true)) (sym listed) (goes-asked (λ k. is_accepted k (at.mark ∷ v.journal) ≡ true) g h.keeps.policy h.keeps.pid at.said) in
       let now' : Side = record { told = told'; asks = (known_after asks known).asks; unnoted = asks; let_in = now.let_in; calls = now.calls ++ calls_of asks } in
-      let first : Serving May Rest before now' policy pid start seen' held failed given' (0 ∷ here s') s' = serve-event v at.mark g now' seen' held failed given' h.keeps.policy h.keeps.pid live at.is (λ t a. refl) at.spares (λ picks later. subst (λ (ps : List ℕ). SpeaksInTime (by_lists policy pid ps ((v.replies ++ g.replies) ++ later)) v.journal at.mark) (sym (append_assoc v.picked g.picks picks)) (subst (λ (rs : List HouseReply). SpeaksInTime (by_lists policy pid (v.picked ++ (g.picks ++ picks)) rs) v.journal at.mark) (sym (append_assoc v.replies g.replies later)) (at.speaks (g.picks ++ picks) (g.replies ++ later))))
+      let first : Serving May Rest before now' policy pid start seen' held failed given' (0 ∷ here s') s' = serve-event v at.mark g now' seen' held failed given' h.keeps.policy h.keeps.pid live at.is (λ t a. refl) at.spares (λ picks later. subst (λ (ps : List ℕ). SpeaksInTime (by_lists policy pid ps ((v.replies ++ g.replies) ++ later)) v.journal at.mark) (sym (append_assoc v.picked g.picks picks)) (subst (λ (rs : List HouseReply). SpeaksInTime (by_lists policy pid (v.picked ++ (g.picks ++ picks)) rs) v.journal at.mark) (sym (append_assoc v.replies g.replies later)) (at.speaks (g.picks ++ picks) (g.replies ++ later)))) (λ picks later. at.answers (by_lists policy pid ((v.picked ++ g.picks) ++ picks) ((v.replies ++ g.replies) ++ later)))
       (record { more = asks; told_is = subst (λ (t : Option (List HouseMark)). TellsAsks t told' asks) (sym same_told) h.told_is; noted_is = ap (λ l. l ++ asks) at.plain; asks_are = all-asks (λ k. is_accepted k (at.mark ∷ v.journal) ≡ true) asks each ∙ listed })
       (λ set. subst (CallsOn now now') (sym (at.called set)) (calls-told now now' (house_mark at.mark) asks (ap (λ l. l ++ asks) at.plain) refl))
       (asked-accepted (at.mark ∷ v.journal) asks known each (subst (λ l. All (λ a. IsTrue (is_accepted a.client (at.mark ∷ v.journal))) l) same_asks (λ k d lt. accepted-more at.mark v.journal _ (v.askers k d lt))))
+      (λ front all. subst (λ (l : List HouseMark). EachDeferred (front ++ l) (known_after asks known).asks) listed (asked-deferred front asks known (subst (EachDeferred front) same_asks all)))
       (at.house ∙ v.house_in) v.house_there at.rested at.absent at.turns at.marks (at.placed s' h.keeps.streams) in
       subst (λ (x : Seen). Serving May Rest before (record { told = told'; asks = known'.asks; unnoted = drop n asks; let_in = now.let_in; calls = now.calls ++ calls_of asks }) policy pid start x held failed given' (0 ∷ here s') s') (sym h.seen_is)
       (subst (λ (k : Known). Serving May Rest before (record { told = told'; asks = k.asks; unnoted = drop n asks; let_in = now.let_in; calls = now.calls ++ calls_of asks }) policy pid start (seen-with (take n asks) seen') held failed given' (0 ∷ here s') s') (sym h.known_is)
@@ -179,4 +183,4 @@ module _ {May : HouseReply → Type 0} {Rest : Resting} {before : Option (List H
   event-cut e seen' given' at told' cut =
       let a : AsksFirst May now.told told' v.picked v.replies s at.twin v.journal = cut at.twin at.tells v.picked v.replies v.journal v.closed v.stands at.allowed in
       cut-next v told' seen'.told given' at.mark a.asks a.asks at.marks a.told (ap (λ l. l ++ a.asks) at.plain) (of-streams seen'.streams seen'.blocked seen'.last (at.mark ∷ v.journal) at.of_wire) at.right
-      (let w : turns_in (at.mark ∷ v.journal) ≡ given' = at.turns in omega arith) at.rested at.absent (cut-asks e seen' given' at told' a) at.cut (λ picks later. told-promise _ at.mark v.journal at.is (at.speaks picks later))
+      (let w : turns_in (at.mark ∷ v.journal) ≡ given' = at.turns in omega arith) at.rested at.absent (cut-asks e seen' given' at told' a) at.cut (λ picks later. told-promise _ at.mark v.journal at.is (at.speaks picks later) (at.answers (by_lists policy pid (v.picked ++ picks) (v.replies ++ later))))

@@ -20,6 +20,7 @@ use Rattle.mux_history.proofs.Bools.{or-left, or-right}
 use Rattle.mux_machine.specs.State.{State, is_here}
 use Rattle.mux_machine.specs.Events.{here}
 use Rattle.mux_machine.specs.Stands.{GoesBy, RowsFit}
+use Rattle.mux_engine.specs.Answers.{AnswersDeferred}
 use Rattle.mux_engine.specs.Serving.{IsSound, Serving}
 use Rattle.mux_engine.specs.Sides.{Resting, Side}
 use Rattle.mux_engine.proofs.Lists.{among-open, true-false}
@@ -61,13 +62,13 @@ told-failed (Fails k) journal t h = refl
 told-failed (House m) journal t h = refl
 told-failed mark journal t h = absurd h
 
-pub told-promise : (set : Setting) (mark : Mark) (journal : List Mark) → IsTold mark → SpeaksInTime set journal mark → PromiseAt set journal mark
-told-promise set (Accepts k) journal h speaks = record { takes = tt; waits = tt; speaks = tt; open_streams = tt }
-told-promise set (Gets k bytes) journal h speaks = record { takes = tt; waits = tt; speaks = tt; open_streams = tt }
-told-promise set (Ends k) journal h speaks = record { takes = tt; waits = tt; speaks = tt; open_streams = tt }
-told-promise set (Fails k) journal h speaks = record { takes = tt; waits = tt; speaks = tt; open_streams = tt }
-told-promise set (House m) journal h speaks = record { takes = tt; waits = tt; speaks = speaks; open_streams = tt }
-told-promise set mark journal h speaks = absurd h
+pub told-promise : (set : Setting) (mark : Mark) (journal : List Mark) → IsTold mark → SpeaksInTime set journal mark → AnswersDeferred set journal mark → PromiseAt set journal mark
+told-promise set (Accepts k) journal h speaks answers = record { takes = tt; waits = tt; speaks = tt; open_streams = tt; answers = tt }
+told-promise set (Gets k bytes) journal h speaks answers = record { takes = tt; waits = tt; speaks = tt; open_streams = tt; answers = tt }
+told-promise set (Ends k) journal h speaks answers = record { takes = tt; waits = tt; speaks = tt; open_streams = tt; answers = tt }
+told-promise set (Fails k) journal h speaks answers = record { takes = tt; waits = tt; speaks = tt; open_streams = tt; answers = tt }
+told-promise set (House m) journal h speaks answers = record { takes = tt; waits = tt; speaks = speaks; open_streams = tt; answers = answers }
+told-promise set mark journal h speaks answers = absurd h
 
 module _ {May : HouseReply → Type 0} {Rest : Resting} {before : Option (List HouseMark)} {now : Side} {policy : Policy} {pid : ℕ} {start : Option (List Mark)} {seen : Seen} {held failed : List ℕ} {given : ℕ} {todo : List ℕ} {s : State}
     (v : Serving May Rest before now policy pid start seen held failed given todo s) {told told' : Option (List HouseMark)} {s' : State} (mark : Mark) (g : GoesBy May told told' v.picked v.replies s s' mark v.journal v.closed)
@@ -115,11 +116,11 @@ module _ {May : HouseReply → Type 0} {Rest : Resting} {before : Option (List H
           ((sound-at v g.picks g.replies (v.picked ++ g.picks) (v.replies ++ g.replies) refl refl picks later).settled t client (covers t a))
 
   -- all of it, where the run went on before
-  pub told-sound : s.ended ≡ None → ((k : ℕ) → among k v.closed ≡ true → Spares k mark) → ((picks : List ℕ) (later : List HouseReply) → SpeaksInTime (setting picks later) v.journal mark) → (picks : List ℕ) (later : List HouseReply) → SoundAt (setting picks later) v.journal mark (0 ∷ here s') s'
-  told-sound live spares speaks picks later =
+  pub told-sound : s.ended ≡ None → ((k : ℕ) → among k v.closed ≡ true → Spares k mark) → ((picks : List ℕ) (later : List HouseReply) → SpeaksInTime (setting picks later) v.journal mark) → ((picks : List ℕ) (later : List HouseReply) → AnswersDeferred (setting picks later) v.journal mark) → (picks : List ℕ) (later : List HouseReply) → SoundAt (setting picks later) v.journal mark (0 ∷ here s') s'
+  told-sound live spares speaks answers picks later =
       let old : IsSound (setting picks later) v.journal todo s = sound-at v g.picks g.replies (v.picked ++ g.picks) (v.replies ++ g.replies) refl refl picks later in
       record {
-        promise = told-promise (setting picks later) mark v.journal is (speaks picks later);
+        promise = told-promise (setting picks later) mark v.journal is (speaks picks later) (answers picks later);
         failed_out = λ t client w on. log-out (setting picks later) mark v.journal t (old.failed_out t client (sym (told-failed mark v.journal t is) ∙ w) live);
         settled = λ t client a. rest-settled spares picks later t client a;
       }

@@ -36,6 +36,7 @@ use Rattle.mux_engine.specs.Sides.{Resting, Side, house_marks}
 use Rattle.mux_engine.specs.Turns.{want_of}
 use Rattle.mux_engine.proofs.Called.{calls-none}
 use Rattle.mux_engine.proofs.Closed.{both-tests}
+use Rattle.mux_engine.proofs.Deferred.{still-deferred}
 use Rattle.mux_engine.proofs.Lists.{among-filter, among-open, and-first, and-second, not-own-stream, open-here, true-false}
 use Rattle.mux_engine.proofs.Marks.{log-is, serve-alone}
 use Rattle.mux_engine.proofs.Owns.{among-one, owns-as}
@@ -285,6 +286,7 @@ module _ {May : HouseReply → Type 0} {Rest : Resting} {before : Option (List H
         notes = notes-none now wait-mark refl;
         called = λ picks later. calls-none now;
         askers = askers-more v wait-mark;
+        deferred = still-deferred now now [] refl;
         house_in = v.house_in;
         house_there = v.house_there;
         rested = λ picks later.
@@ -305,11 +307,11 @@ module _ {May : HouseReply → Type 0} {Rest : Resting} {before : Option (List H
           holds = v.of_wire.holds;
           below = v.of_wire.below;
         } refl refl refl refl refl refl (λ t. refl) (λ t. refl) (λ t. refl)
-            (owns-as v.journal seen seen-waiting wait-mark v.places (record { opened = v.places.streams ∙ ap numbers_of v.places.own; gives = tt; writes = tt; joins = tt }) (λ o. refl) (λ l. refl) refl refl refl);
+            (owns-as v.journal seen seen-waiting wait-mark v.places (record { opened = v.places.streams ∙ ap numbers_of v.places.own; gives = tt; writes = tt; joins = tt; others = refl }) (λ o. refl) (λ l. refl) refl refl refl);
         sound = λ picks later.
             let old : IsSound (setting picks later) v.journal [] s = v.sound picks later in
             record {
-              promise = record { takes = tt; waits = waits-right picks later; speaks = tt; open_streams = open-right hears picks later };
+              promise = record { takes = tt; waits = waits-right picks later; speaks = tt; open_streams = open-right hears picks later; answers = tt };
               failed_out = old.failed_out;
               settled = old.settled;
             };

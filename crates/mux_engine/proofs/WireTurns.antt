@@ -31,7 +31,7 @@ use Rattle.mux_engine.specs.Turns.{IsEventOf, want_of}
 use Rattle.mux_engine.proofs.Happened.{placed-accepts, placed-ends, placed-fails, placed-gets}
 use Rattle.mux_engine.proofs.Lists.{not-own-stream, test-other, true-false}
 use Rattle.mux_engine.proofs.Marks.{serve-alone, serve-on}
-use Rattle.mux_engine.proofs.Owns.{ends-client, gives-client, owns-accepts, owns-ends, owns-gets, owns-plain}
+use Rattle.mux_engine.proofs.Owns.{client-other, ends-client, gives-client, owns-accepts, owns-ends, owns-gets, owns-plain}
 use Rattle.mux_engine.proofs.Places.{at-stream, open-stream}
 use Rattle.mux_engine.proofs.Turned.{EventAt, came, stayed}
 use Rattle.mux_engine.proofs.Waits.{Offered, all-waiting, seen-waiting, wait-mark, waited, waiting-blocked}
@@ -94,6 +94,7 @@ module _ {May : HouseReply → Type 0} {Rest : Resting} {before : Option (List H
         said = tt;
         spares = λ j c e. true-false (sym c ∙ (ap (λ i. among i v.closed) (sym e) ∙ ((v.stands.at [] []).bytes.strange k new.not_accepted).not_closed_yet));
         speaks = λ picks later. tt;
+        answers = λ set. tt;
         rested = λ set. tt;
         absent = λ e. refl;
         turns = now-waiting.turns;
@@ -117,6 +118,7 @@ module _ {May : HouseReply → Type 0} {Rest : Resting} {before : Option (List H
     said = λ nz. accepted k next.0 fits.1 nz;
     spares = λ j c. tt;
     speaks = λ picks later. tt;
+    answers = λ set. tt;
     rested = λ set. tt;
     absent = λ e. refl;
     turns = now-waiting.turns;
@@ -140,6 +142,7 @@ module _ {May : HouseReply → Type 0} {Rest : Resting} {before : Option (List H
     said = tt;
     spares = λ j c. tt;
     speaks = λ picks later. tt;
+    answers = λ set. tt;
     rested = λ set. tt;
     absent = λ e. refl;
     turns = now-waiting.turns;
@@ -163,6 +166,7 @@ module _ {May : HouseReply → Type 0} {Rest : Resting} {before : Option (List H
     said = tt;
     spares = λ j c. tt;
     speaks = λ picks later. tt;
+    answers = λ set. tt;
     rested = λ set. tt;
     absent = λ e. refl;
     turns = now-waiting.turns;
@@ -171,8 +175,8 @@ module _ {May : HouseReply → Type 0} {Rest : Resting} {before : Option (List H
     cut = λ set. inr (0, refl);
     house = refl;
     placed = λ s' arrives. placed-fails now-waiting (seen-then (turn.Failed k) bytes) s' failed k fits (of-turn (turn.Failed k) bytes are fits own_fits) refl refl refl refl refl (stayed e (Fails k) s s' next.1 tt (arrives live)) (λ own. true-false (sym own ∙ next.0)) (λ t a. a)
-        (owns-plain now-waiting.journal (seen-waiting v none admitted live o) (seen-then (turn.Failed k) bytes) (Fails k) tt now-waiting.places refl refl refl);
-    right = record { opened = tt; gives = tt; writes = tt; joins = tt };
+        (owns-plain now-waiting.journal (seen-waiting v none admitted live o) (seen-then (turn.Failed k) bytes) (Fails k) (client-other k next.0) now-waiting.places refl refl refl);
+    right = record { opened = tt; gives = tt; writes = tt; joins = tt; others = client-other k next.0 };
   }
   event-at (turn.Writable k) bytes e are fits own_fits next = absurd next
   event-at (turn.Joined l k) bytes e are fits own_fits next = absurd next

@@ -1,11 +1,11 @@
 -- What the marks of a journal leave open of the master's own listeners and streams.
-use Rattle.std.specs.Prelude.{◌≡◌, ◌≢◌, ℕ, true, false, List, [], ◌∷◌, ◌++◌, filter, Option, Some, IsTrue}
+use Rattle.std.specs.Prelude.{◌==◌, ◌≡◌, ℕ, Bool, true, false, List, [], ◌∷◌, ◌++◌, filter, Option, Some, IsTrue}
 use Rattle.mux_outside.specs.OwnStreams.{is_finished, is_one, is_own, is_silent, new_stream, numbers_of, with_end, with_finish, with_pause, without_stream}
 use Rattle.mux_outside.specs.Seen.{Seen}
 use Rattle.mux_outside.specs.Streams.{among, without}
 use Rattle.mux_outside.specs.declared.house_mark.HouseMark.TheVariants.{HouseOrder}
 use Rattle.mux_outside.specs.declared.mark.Mark.{Mark}
-use Rattle.mux_outside.specs.declared.mark.Mark.TheVariants.{Waits, Gets, Ends, Takes, Holds, WriteFails, Joins, House}
+use Rattle.mux_outside.specs.declared.mark.Mark.TheVariants.{Waits, Gets, Ends, Frees, Fails, Takes, Holds, WriteFails, Joins, House}
 use Rattle.mux_outside.specs.declared.order.Order.{Order}
 use Rattle.mux_outside.specs.declared.order.Order.TheVariants.{Listen, Connect, Unlisten, Pause, Resume, Finish, Close}
 use Rattle.mux_outside.specs.declared.own_streams.OwnStream.{OwnStream}
@@ -56,12 +56,10 @@ OpenOwn before (Waits waiting want streams listens) =
     filter is_own streams ≡ numbers_of (own_in before)
 OpenOwn before mark = Unit {0}
 
--- it is one of these that gives something: it is not paused, and has not ended; and it is not the
--- house, which has no stream
+-- it is one of these that gives something: it is not paused, and has not ended
 pub record IsGiving (t : ℕ) (own : List OwnStream) : Type 0 where
   pub is : IsTrue (is_one t own)
   pub speaks : is_silent t own ≡ false
-  pub other : t ≢ HOUSE
 
 -- what an own stream gives comes from one that gives something
 abbrev pub GivesOwn : List Mark → Mark → Type 0
@@ -86,12 +84,28 @@ abbrev pub JoinsOwn : List Mark → Mark → Type 0
 JoinsOwn before (Joins l t) = IsTrue (among l (listeners_in before))
 JoinsOwn before mark = Unit {0}
 
+-- it tells what happened to this stream
+abbrev pub is_about : ℕ → Mark → Bool
+is_about t (Gets stream bytes) = stream == t
+is_about t (Ends stream) = stream == t
+is_about t (Frees stream) = stream == t
+is_about t (Fails stream) = stream == t
+is_about t (Takes stream bytes) = stream == t
+is_about t (Holds stream) = stream == t
+is_about t (WriteFails stream) = stream == t
+is_about t mark = false
+
+-- nothing ever happens to a stream with the number of the house, which has none
+abbrev pub IsOfOthers : List Mark → Mark → Type 0
+IsOfOthers before mark = is_about HOUSE mark ≡ false
+
 -- all of it
 pub record IsPlaced (before : List Mark) (mark : Mark) : Type 0 where
   pub opened : OpenOwn before mark
   pub gives : GivesOwn before mark
   pub writes : WritesOwn before mark
   pub joins : JoinsOwn before mark
+  pub others : IsOfOthers before mark
 
 -- each of it throughout
 pub record KeepsOwn (journal : List Mark) : Type 0 where
@@ -99,6 +113,7 @@ pub record KeepsOwn (journal : List Mark) : Type 0 where
   pub gives : Throughout GivesOwn journal
   pub writes : Throughout WritesOwn journal
   pub joins : Throughout JoinsOwn journal
+  pub others : Throughout IsOfOthers journal
 
 -- ---- a wire behind its marks
 

@@ -29,6 +29,7 @@ use Rattle.mux_bounds.specs.Bounds.{IsLog, RestsShort, StaysBelow}
 use Rattle.mux_bounds.specs.Few.{ChannelsBounded, ForwardingsBounded, LeavesNothing, MattersBounded, RequestsBounded, UnansweredBounded}
 use Rattle.mux_clients.specs.Asked.{asked_of, TellsAsks}
 use Rattle.mux_clients.specs.Starved.{BeginsWith}
+use Rattle.mux_engine.specs.Answers.{AnswersDeferred}
 use Rattle.mux_engine.specs.Called.{calls_in}
 use Rattle.mux_engine.specs.Places.{HasPlaces, KeepsOwn, listeners_in, own_in}
 use Rattle.mux_engine.specs.Rests.{refusal_after}
@@ -113,8 +114,10 @@ pub record AsksOn (May : HouseReply → Type 0) (policy : Policy) (pid : ℕ) (p
 -- But for want of memory the house was handed on all that the journal has for it, once and in the
 -- order of the journal. The master's own listeners and streams are at each mark those that the
 -- house's orders leave open: at each wait these streams stand among the open ones, and the house
--- knows both; one that is paused gives nothing, and one that is finished is not written to. But for
--- want of memory they are at the end, too, those of the wire, of which `seen` is seen then.
+-- knows both; one that is paused gives nothing, and one that is finished is not written to. The house
+-- has no stream itself, and answers only what the rows so far ask and it put off. But for want of
+-- memory these streams and listeners are at the end, too, those of the wire, of which `seen` is seen
+-- then.
 pub record IsRun (May : HouseReply → Type 0)
     (Rest : AtWaits)
     (stands stands' : List HouseCall → Type 0) (present : Bool) (policy : Policy) (pid turns : ℕ)
@@ -129,6 +132,7 @@ pub record IsRun (May : HouseReply → Type 0)
   pub may : MayGive May replies
   pub written : Written (by_lists policy pid picks replies) journal
   pub open_streams : OpenStreams (by_lists policy pid picks replies) journal
+  pub answered : Throughout (AnswersDeferred (by_lists policy pid picks replies)) journal
   pub own_streams : KeepsOwn journal
   pub places : answer ≢ OutOfMemory → HasPlaces seen journal
   pub is_log : IsLog (by_lists policy pid picks replies) journal rows

@@ -22,13 +22,14 @@ use Rattle.mux_history.specs.Log.{Setting}
 use Rattle.mux_history.specs.Settings.{by_lists}
 use Rattle.mux_history.specs.Right.{AreFresh}
 use Rattle.mux_history.specs.Journal.{Tells, is_accepted, is_blocked, is_own_stream, log_of_journal}
-use Rattle.mux_history.specs.Promises.{IsSettled, MayGive, OpenStreams, Written, has_failed, not_own, turns_in, write_failed}
+use Rattle.mux_history.specs.Promises.{IsSettled, MayGive, OpenStreams, Throughout, Written, has_failed, not_own, turns_in, write_failed}
 use Rattle.mux_history.specs.Wires.{OfWire}
 use Rattle.mux_bounds.specs.Bounds.{IsLog}
 use Rattle.mux_clients.specs.Asked.{asked_of, TellsAsks}
 use Rattle.mux_machine.specs.State.{State, is_here, queue_in}
 use Rattle.mux_machine.specs.Events.{here}
 use Rattle.mux_machine.specs.Stands.{Stands}
+use Rattle.mux_engine.specs.Answers.{AnswersDeferred, EachDeferred}
 use Rattle.mux_engine.specs.Called.{Handed, calls_in}
 use Rattle.mux_engine.specs.Places.{HasPlaces, KeepsOwn}
 use Rattle.mux_engine.specs.Rests.{refusal_after}
@@ -49,6 +50,7 @@ pub record CanBeOffered (stream : ℕ) (s : State) : Type 0 where
 pub record Kept (setting : Setting) (journal : List Mark) : Type 0 where
   pub written : Written setting journal
   pub open_streams : OpenStreams setting journal
+  pub answers : Throughout (AnswersDeferred setting) journal
 
 -- all that was promised so far: while the run goes on, a client to whose stream a write failed is
 -- out; and the streams that are not in `todo` were offered what waits for them. No row tells of the
@@ -105,6 +107,7 @@ pub record Serving (May : HouseReply → Type 0) (Rest : Resting)
       → calls_in (by_lists policy pid (picked ++ picks) (replies ++ given_later)) journal
       ++ calls_of now.unnoted ≡ now.calls
   pub askers : All (λ (a : OpenAsk). IsTrue (is_accepted a.client journal)) now.asks
+  pub deferred : EachDeferred stands.asks now.asks
   pub house_in : is_accepted HOUSE journal ≡ now.let_in
   pub house_there : now.let_in ≡ true → Rest.present ≡ true
   pub rested : (picks : List ℕ) (given_later : List HouseReply)

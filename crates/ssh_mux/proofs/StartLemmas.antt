@@ -102,6 +102,7 @@ module _ (May : HouseReply → Type 0) (R R' : AtWaits) (stands begun stands' : 
     may = h.may;
     written = h.written;
     open_streams = h.open_streams;
+    answered = h.answered;
     own_streams = h.own_streams;
     places = h.places;
     is_log = h.is_log;
