@@ -28,8 +28,9 @@ pub fn relays_of_a_quiet_house_rest()
 {}
 
 /// Channel numbers and streams are each one's own: no two relays of the house have the same channel
-/// number, and each is a uint32; and its relays have exactly the streams that were joined or connected and not closed since,
-/// of which no two are the same, since each came with a number that no open one had.
+/// number, and each is a uint32; and its relays have exactly the streams that were joined or
+/// connected and not closed since, of which no two are the same, since each came with a number that
+/// no open one had.
 pub fn each_relay_has_its_own_channel_and_stream()
     ensures channels { ChannelsDiffer }
     ensures small { ChannelsAreSmall }

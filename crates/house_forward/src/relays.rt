@@ -1,5 +1,5 @@
 //! The relays of the house, each with its stream.
-ghost use Rattle.std.specs.Prelude.{◌≡◌, ◌≤◌, ◌<◌, ◌^◌, ◌+◌, ◌++◌, ◌∷◌, [], ℕ, true, false, not, length, map, find, ◌==◌, IfOk, IfSome, OnOk, OnErr, OnSome, None, Some, Ok};
+ghost use Rattle.std.specs.Prelude.{◌≡◌, ◌≤◌, ◌<◌, ◌^◌, ◌%◌, ◌+◌, ◌++◌, ◌∷◌, [], ℕ, true, false, not, length, map, find, ◌==◌, IfOk, IfSome, OnOk, OnErr, OnSome, None, Some, Ok};
 ghost use Rattle.std.specs.List.{All, list_any, position, sum_by};
 ghost use Rattle.std.specs.Option.{option_copied};
 ghost use Rattle.mux_outside.specs.House.{SaysFits, says_nothing, gives_none, order_marks, OrderFits, Known as TheKnown, known_after_order, queue_after_took};
@@ -58,6 +58,7 @@ impl Relays {
         requires free { is_taken link.stream (streams_of self.old.all.items) ≡ false }
         ensures ok { OnOk result (self.new.all.items ≡ self.old.all.items ++ link ∷ []) }
         ensures err { OnErr result (self.new.all.items ≡ self.old.all.items) }
+        ensures next { OnOk result (self.new.next ≡ (link.relay.number + 1) % 2 ^ 32) }
     {
         let number = link.relay.number;
         self.places.room(self.all.len().saturating_add(1))?;
@@ -204,7 +205,8 @@ impl Relays {
 
     /// A stream takes a step.
     pub fn step(&mut self, stream: u64, step: Step)
-        ensures { self.new.all.items ≡ map (link_after step stream) self.old.all.items }
+        ensures steps { self.new.all.items ≡ map (link_after step stream) self.old.all.items }
+        ensures next { self.new.next ≡ self.old.next }
     {
         step_all(&mut self.all, stream, step);
     }
@@ -219,6 +221,7 @@ impl Relays {
             self.old.all.items self.new.all.items) }
         ensures streams { streams_of self.new.all.items ≡ streams_of self.old.all.items }
         ensures count { length self.new.all.items ≡ length self.old.all.items }
+        ensures next { self.new.next ≡ self.old.next }
     {
         let free = !self.is_full();
         let Some(i) = self.place_of(stream) else {
@@ -237,6 +240,7 @@ impl Relays {
         ensures queues { (t : ℕ) → queue_in (find (is_of t) self.new.all.items)
             ≡ queue_after_took stream n t (queue_in (find (is_of t) self.old.all.items)) }
         ensures due { sum_by link_due self.new.all.items ≡ sum_by link_due self.old.all.items }
+        ensures next { self.new.next ≡ self.old.next }
     {
         let Some(i) = self.place_of(stream) else {
             return;
@@ -287,6 +291,7 @@ impl Relays {
         ensures streams { streams_of self.new.all.items ≡ streams_of self.old.all.items }
         ensures due { sum_by link_due self.new.all.items ≡ sum_by link_due self.old.all.items }
         ensures count { length self.new.all.items ≤ length self.old.all.items }
+        ensures next { self.new.next ≡ self.old.next }
     {
         if let Some(i) = self.left() {
             self.all.remove(i);
@@ -320,6 +325,7 @@ impl Relays {
             ≤ sum_by link_due self.old.all.items }
         ensures makes { MakesAt (position is_awaited self.old.all.items) stream
             self.old.all.items self.new.all.items }
+        ensures next { self.new.next ≡ self.old.next }
     {
         let Some(i) = self.awaited() else {
             return;
@@ -376,6 +382,7 @@ impl Relays {
             (HearsOn message.now) self.old.all.items self.new.all.items) }
         ensures streams { streams_of self.new.all.items ≡ streams_of self.old.all.items }
         ensures count { length self.new.all.items ≤ length self.old.all.items }
+        ensures next { self.new.next ≡ self.old.next }
     {
         let Some(i) = self.place(number) else {
             return Ok(());
@@ -392,6 +399,7 @@ impl Relays {
             self.old.all.items self.new.all.items) }
         ensures streams { streams_of self.new.all.items ≡ streams_of self.old.all.items }
         ensures count { length self.new.all.items ≡ length self.old.all.items }
+        ensures next { self.new.next ≡ self.old.next }
     {
         let link = &mut self.all[i];
         link.hears(message)

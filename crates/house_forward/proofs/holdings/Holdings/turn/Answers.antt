@@ -20,15 +20,15 @@ got-requires-clause-rests c =
 
 pub returns-in-End-clause-known : goal.returns-in-End-clause-known
 returns-in-End-clause-known c =
-    rw (c.in-End.is, c.step.ensures, ended-streams c.in-End.stream c.args.self.now.relays.all.items) refl
+    rw (c.in-End.is, c.step.ensures.steps, ended-streams c.in-End.stream c.args.self.now.relays.all.items) refl
 
 pub returns-in-Writable-clause-known : goal.returns-in-Writable-clause-known
 returns-in-Writable-clause-known c =
-    rw (c.in-Writable.is, c.step-in-Writable.ensures, writable-streams c.in-Writable.stream c.args.self.now.relays.all.items) refl
+    rw (c.in-Writable.is, c.step-in-Writable.ensures.steps, writable-streams c.in-Writable.stream c.args.self.now.relays.all.items) refl
 
 pub returns-in-Failed-clause-known : goal.returns-in-Failed-clause-known
 returns-in-Failed-clause-known c =
-    rw (c.in-Failed.is, c.step-in-Failed.ensures, failed-streams c.in-Failed.stream c.args.self.now.relays.all.items) refl
+    rw (c.in-Failed.is, c.step-in-Failed.ensures.steps, failed-streams c.in-Failed.stream c.args.self.now.relays.all.items) refl
 
 pub returns-in-Joined-clause-follows : goal.returns-in-Joined-clause-follows
 returns-in-Joined-clause-follows c =
@@ -56,16 +56,16 @@ returns-in-Got-clause-follows c =
 pub returns-in-End-clause-follows : goal.returns-in-End-clause-follows
 returns-in-End-clause-follows c =
     let now = c.args.self.now in
-    rw (c.in-End.is, c.step.ensures) (ends c.in-End.stream now.relays.all.items now.framer now.stage (desk_of now.gateway now.greeted now.forwardings now.asks))
+    rw (c.in-End.is, c.step.ensures.steps) (ends c.in-End.stream now.relays.all.items now.framer now.stage (desk_of now.gateway now.greeted now.forwardings now.asks))
 
 pub returns-in-Writable-clause-follows : goal.returns-in-Writable-clause-follows
 returns-in-Writable-clause-follows c =
     let now = c.args.self.now in
-    rw (c.in-Writable.is, c.step-in-Writable.ensures)
+    rw (c.in-Writable.is, c.step-in-Writable.ensures.steps)
     (is-writable c.in-Writable.stream now.relays.all.items now.framer now.stage (desk_of now.gateway now.greeted now.forwardings now.asks))
 
 pub returns-in-Failed-clause-follows : goal.returns-in-Failed-clause-follows
 returns-in-Failed-clause-follows c =
     let now = c.args.self.now in
-    rw (c.in-Failed.is, c.step-in-Failed.ensures)
+    rw (c.in-Failed.is, c.step-in-Failed.ensures.steps)
     (fails c.in-Failed.stream now.relays.all.items now.framer now.stage (desk_of now.gateway now.greeted now.forwardings now.asks))
