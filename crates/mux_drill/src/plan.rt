@@ -23,14 +23,16 @@ impl Plan {
         ensures sound { IfOk result (λ plan. IfSome plan IsPlan) }
     {
         let words = words_of(alloc, text)?;
-        let plan = plan_in(drill_of(words.as_slice()));
+        let command = drill_of(words.as_slice());
+        let plan = plan_in(&command);
+        drop(command);
         Ok(plan)
     }
 }
 
 // The plan of a command that is a drill.
-fn plan_in(command: Result<Command, UsageError>) -> Option<Plan>
-    ensures { result ≡ plan_in command }
+fn plan_in(command: &Result<Command, UsageError>) -> Option<Plan>
+    ensures { result ≡ plan_in command.now }
 {
     match command {
         Ok(
@@ -40,9 +42,9 @@ fn plan_in(command: Result<Command, UsageError>) -> Option<Plan>
                 messages,
             },
         ) => Some(Plan {
-            seed,
-            clients,
-            messages,
+            seed: *seed,
+            clients: *clients,
+            messages: *messages,
         }),
         Ok(Command::List(_)) => None,
         Ok(Command::Master { .. }) => None,

@@ -1,8 +1,7 @@
 //! What came of a row, as lines.
-use crate::marks::add_marks;
+use crate::marks::{add_marks, heard, tell_streams};
 use crate::play::Played;
-use crate::scripted::took_line;
-use crate::spelling::escape;
+use crate::spelling::{add_number, escape, spell_frames};
 use mux_outside::{OpenCall, WireLog};
 use ssh_fields::{OutOfMemory, Text, Texts};
 use std::alloc::Global;
@@ -25,49 +24,69 @@ pub fn lines_of(alloc: Global, played: &Played, log: &WireLog) -> Result<Texts, 
 /// joined.
 pub fn summary_of(alloc: Global, played: &Played, log: &WireLog) -> Result<Texts, OutOfMemory> {
     let mut lines = Texts::new(alloc);
-    let status = format!(in alloc; "status {}", played.status.code())?;
-    lines.push(Text::copy(alloc, status.as_bytes())?)?;
-    add_text(&mut lines, alloc, b"out ", played.out.taken())?;
-    add_text(&mut lines, alloc, b"err ", played.err.taken())?;
+    add_answer(&mut lines, alloc, played)?;
+    add_openings(&mut lines, alloc, log)?;
+    Ok(lines)
+}
+
+// Adds the status, what both outputs took, and which commands were run.
+fn add_answer(lines: &mut Texts, alloc: Global, played: &Played) -> Result<(), OutOfMemory> {
+    lines.push(status_line(alloc, played)?)?;
+    add_text(lines, alloc, b"out ", played.out.taken())?;
+    add_text(lines, alloc, b"err ", played.err.taken())?;
     for command in played.runner.ran().as_slice() {
-        add_text(&mut lines, alloc, b"ran ", command.as_bytes())?;
+        add_text(lines, alloc, b"ran ", command.as_bytes())?;
     }
+    Ok(())
+}
+
+// The line of the status.
+fn status_line(alloc: Global, played: &Played) -> Result<Text, OutOfMemory> {
+    let mut line = Text::copy(alloc, b"status")?;
+    add_number(&mut line, alloc, u64::from(played.status.code()))?;
+    Ok(line)
+}
+
+// Adds how the wire was opened or joined.
+fn add_openings(lines: &mut Texts, alloc: Global, log: &WireLog) -> Result<(), OutOfMemory> {
     for opening in log.openings() {
         lines.push(opening_line(alloc, opening)?)?;
     }
     for joining in log.joinings() {
-        lines.push(joining_line(alloc, joining)?)?;
+        add_text(lines, alloc, b"joined ", joining.as_bytes())?;
     }
-    Ok(lines)
+    Ok(())
 }
 
-// A line of a text that isn't empty.
+// Adds a line of a text that isn't empty.
 fn add_text(lines: &mut Texts, alloc: Global, head: &[u8], text: &[u8]) -> Result<(), OutOfMemory> {
     if text.is_empty() {
         return Ok(());
     }
-    let mut line = Text::copy(alloc, head)?;
-    escape(&mut line, text)?;
-    lines.push(line)
+    lines.push(text_line(alloc, head, text)?)
 }
 
-// How the wire was opened.
+// The line of a text.
+fn text_line(alloc: Global, head: &[u8], text: &[u8]) -> Result<Text, OutOfMemory> {
+    let mut line = Text::new(alloc);
+    tell_text(&mut line, head, text)?;
+    Ok(line)
+}
+
+// Tells a text behind what is said of it.
+fn tell_text(line: &mut Text, head: &[u8], text: &[u8]) -> Result<(), OutOfMemory> {
+    line.add(head)?;
+    escape(line, text)
+}
+
+// The line of how the wire was opened.
 fn opening_line(alloc: Global, opening: &OpenCall) -> Result<Text, OutOfMemory> {
-    let mut line = Text::copy(alloc, b"opened ")?;
-    escape(&mut line, opening.control.as_bytes())?;
-    line.add(b" over ")?;
-    escape(&mut line, opening.transport.as_bytes())?;
+    let mut line = text_line(alloc, b"opened ", opening.control.as_bytes())?;
+    tell_text(&mut line, b" over ", opening.transport.as_bytes())?;
     Ok(line)
 }
 
-// Where the wire was joined.
-fn joining_line(alloc: Global, joining: &Text) -> Result<Text, OutOfMemory> {
-    let mut line = Text::copy(alloc, b"joined ")?;
-    escape(&mut line, joining.as_bytes())?;
-    Ok(line)
-}
-
-// What each stream of these took.
+// Adds what each stream of these took.
 fn add_takings(
     lines: &mut Texts,
     alloc: Global,
@@ -76,29 +95,46 @@ fn add_takings(
     last: u64,
 ) -> Result<(), OutOfMemory> {
     for stream in first..=last {
-        let bytes = log.taken(stream)?;
-        if !bytes.as_bytes().is_empty() {
-            let number = format!(in alloc; "{stream}")?;
-            lines.push(took_line(alloc, number.as_str(), bytes.as_bytes())?)?;
-        }
+        add_taking(lines, alloc, stream, &log.taken(stream)?)?;
     }
     Ok(())
 }
 
-// What each stream took, the master's own behind the others, and the streams that are open.
+// Adds what a stream took, where that is anything.
+fn add_taking(
+    lines: &mut Texts,
+    alloc: Global,
+    stream: u64,
+    bytes: &Text,
+) -> Result<(), OutOfMemory> {
+    if bytes.as_bytes().is_empty() {
+        return Ok(());
+    }
+    lines.push(taken_line(alloc, stream, bytes.as_bytes())?)
+}
+
+// The line of what a stream took.
+fn taken_line(alloc: Global, stream: u64, bytes: &[u8]) -> Result<Text, OutOfMemory> {
+    let mut line = Text::copy(alloc, b"took")?;
+    add_number(&mut line, alloc, stream)?;
+    spell_frames(&mut line, bytes)?;
+    Ok(line)
+}
+
+// Adds what each stream took, the master's own behind the others, and the streams that are open.
 fn add_taken(lines: &mut Texts, alloc: Global, log: &WireLog) -> Result<(), OutOfMemory> {
     if log.openings().is_empty() && log.joinings().is_empty() {
         return Ok(());
     }
     add_takings(lines, alloc, log, 0, log.last())?;
     add_takings(lines, alloc, log, FIRST_OWN, log.state().last_own())?;
-    let mut line = Text::copy(alloc, b"left")?;
-    for stream in log.streams().as_slice() {
-        let number = format!(in alloc; " {stream}")?;
-        line.add(number.as_bytes())?;
-    }
-    if !log.is_listening() {
-        line.add(b" deaf")?;
-    }
-    lines.push(line)
+    lines.push(left_line(alloc, log)?)
+}
+
+// The line of the streams that are open.
+fn left_line(alloc: Global, log: &WireLog) -> Result<Text, OutOfMemory> {
+    let mut line = Text::new(alloc);
+    tell_streams(&mut line, alloc, b"left", log.streams())?;
+    line.add(heard(log.is_listening()))?;
+    Ok(line)
 }

@@ -16,6 +16,7 @@ mod trouble;
 
 use std::io;
 use table::Table;
+use trouble::Trouble;
 
 fn main(rt: HostRuntime) -> io::Result<()> {
     let mut table = Table::new(rt.alloc());
@@ -34,8 +35,10 @@ fn play_rows(rt: &HostRuntime, table: &mut Table) -> io::Result<()> {
 fn play_lines(rt: &HostRuntime, table: &mut Table) -> io::Result<()> {
     for line in rt.lines(rt.alloc()) {
         let line = line?;
-        let told = table.take(line.as_str());
-        tell(rt, told)?;
+        match table.take(line.as_str()) {
+            Err(Trouble::Unread) => println!(rt; "a line isn't read: {line}")?,
+            told => tell(rt, told)?,
+        }
     }
     Ok(())
 }
@@ -50,7 +53,7 @@ fn sum_up(rt: &HostRuntime, table: &Table) -> io::Result<()> {
 }
 
 // Prints what a row came to, where it isn't what was written.
-fn tell(rt: &HostRuntime, told: Result<Option<String>, trouble::Trouble>) -> io::Result<()> {
+fn tell(rt: &HostRuntime, told: Result<Option<String>, Trouble>) -> io::Result<()> {
     match told {
         Ok(None) => Ok(()),
         Ok(Some(text)) => print!(rt; "{text}"),

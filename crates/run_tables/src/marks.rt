@@ -1,5 +1,5 @@
 //! The marks of a wire as lines.
-use crate::spelling::escape;
+use crate::spelling::{add_number, escape};
 use mux_outside::{HouseMark, KeptStreams, Mark, Order, Want};
 use ssh_fields::{OutOfMemory, Text, Texts};
 use std::alloc::Global;
@@ -14,119 +14,155 @@ pub fn add_marks(lines: &mut Texts, alloc: Global, marks: &[Mark]) -> Result<(),
 
 // The line of a mark.
 fn mark_line(alloc: Global, mark: &Mark) -> Result<Text, OutOfMemory> {
+    let mut line = Text::new(alloc);
+    tell_mark(&mut line, alloc, mark)?;
+    Ok(line)
+}
+
+// Tells a mark.
+fn tell_mark(line: &mut Text, alloc: Global, mark: &Mark) -> Result<(), OutOfMemory> {
     match mark {
         Mark::Waits(waiting, want, open, listens) => {
-            wait_line(alloc, waiting, *want, open, *listens)
+            tell_wait(line, alloc, waiting, *want, open, *listens)
         }
-        Mark::Accepts(stream) => stream_line(alloc, b"accepts", *stream),
-        Mark::Gets(stream, bytes) => bytes_line(alloc, b"gets", *stream, bytes),
-        Mark::Ends(stream) => stream_line(alloc, b"ends", *stream),
-        Mark::Frees(stream) => stream_line(alloc, b"frees", *stream),
-        Mark::Fails(stream) => stream_line(alloc, b"fails", *stream),
-        Mark::Takes(stream, bytes) => bytes_line(alloc, b"takes", *stream, bytes),
-        Mark::Holds(stream) => stream_line(alloc, b"holds", *stream),
-        Mark::WriteFails(stream) => stream_line(alloc, b"loses", *stream),
-        Mark::Joins(listener, stream) => join_line(alloc, *listener, *stream),
-        Mark::House(mark) => house_line(alloc, mark.as_mark()),
+        Mark::Accepts(stream) => tell_stream(line, alloc, b"accepts", *stream),
+        Mark::Gets(stream, bytes) => tell_bytes(line, alloc, b"gets", *stream, bytes),
+        Mark::Ends(stream) => tell_stream(line, alloc, b"ends", *stream),
+        Mark::Frees(stream) => tell_stream(line, alloc, b"frees", *stream),
+        Mark::Fails(stream) => tell_stream(line, alloc, b"fails", *stream),
+        Mark::Takes(stream, bytes) => tell_bytes(line, alloc, b"takes", *stream, bytes),
+        Mark::Holds(stream) => tell_stream(line, alloc, b"holds", *stream),
+        Mark::WriteFails(stream) => tell_stream(line, alloc, b"loses", *stream),
+        Mark::Joins(listener, stream) => tell_join(line, alloc, *listener, *stream),
+        Mark::House(mark) => tell_house(line, alloc, mark.as_mark()),
     }
 }
 
-// The line of a wait: the streams that are open; behind `for` those that are waited for, `only`
-// where nothing else is wanted; `deaf` where no client is accepted.
-fn wait_line(
+// Tells a wait: the streams that are open; behind `for` those that are waited for, `only` where
+// nothing else is wanted; `deaf` where no client is accepted.
+fn tell_wait(
+    line: &mut Text,
     alloc: Global,
     waiting: &KeptStreams,
     want: Want,
     open: &KeptStreams,
     listens: bool,
-) -> Result<Text, OutOfMemory> {
-    let mut line = Text::copy(alloc, b"waits")?;
-    add_numbers(&mut line, alloc, open)?;
+) -> Result<(), OutOfMemory> {
+    tell_streams(line, alloc, b"waits", open)?;
     if !waiting.as_slice().is_empty() {
-        line.add(b" for")?;
-        add_numbers(&mut line, alloc, waiting)?;
+        tell_streams(line, alloc, b" for", waiting)?;
     }
-    if want == Want::WriteOnly {
-        line.add(b" only")?;
-    }
-    if !listens {
-        line.add(b" deaf")?;
-    }
-    Ok(line)
+    line.add(wanted(want))?;
+    line.add(heard(listens))
 }
 
-// Adds the numbers of streams.
-fn add_numbers(line: &mut Text, alloc: Global, streams: &KeptStreams) -> Result<(), OutOfMemory> {
+// What is said where nothing else is wanted.
+fn wanted(want: Want) -> &'static [u8] {
+    if want == Want::WriteOnly {
+        b" only"
+    } else {
+        b""
+    }
+}
+
+/// What is said where no client is accepted.
+pub fn heard(listens: bool) -> &'static [u8] {
+    if listens { b"" } else { b" deaf" }
+}
+
+/// Tells the numbers of streams behind what is said of them.
+pub fn tell_streams(
+    line: &mut Text,
+    alloc: Global,
+    head: &[u8],
+    streams: &KeptStreams,
+) -> Result<(), OutOfMemory> {
+    line.add(head)?;
     for stream in streams.as_slice() {
-        let number = format!(in alloc; " {stream}")?;
-        line.add(number.as_bytes())?;
+        add_number(line, alloc, *stream)?;
     }
     Ok(())
 }
 
-// The line of a socket that is joined: its listener and its stream.
-fn join_line(alloc: Global, listener: u64, stream: u64) -> Result<Text, OutOfMemory> {
-    let mut line = stream_line(alloc, b"joins", listener)?;
-    let number = format!(in alloc; " {stream}")?;
-    line.add(number.as_bytes())?;
-    Ok(line)
+// Tells a socket that is joined: its listener and its stream.
+fn tell_join(
+    line: &mut Text,
+    alloc: Global,
+    listener: u64,
+    stream: u64,
+) -> Result<(), OutOfMemory> {
+    tell_stream(line, alloc, b"joins", listener)?;
+    add_number(line, alloc, stream)
 }
 
-// The line of a house's mark.
-fn house_line(alloc: Global, mark: &HouseMark) -> Result<Text, OutOfMemory> {
+// Tells a house's mark.
+fn tell_house(line: &mut Text, alloc: Global, mark: &HouseMark) -> Result<(), OutOfMemory> {
     match mark {
-        HouseMark::HouseIn => Text::copy(alloc, b"house in"),
-        HouseMark::HouseSaid(_) => Text::copy(alloc, b"house said"),
-        HouseMark::HouseTook(_) => Text::copy(alloc, b"house took"),
-        HouseMark::HouseAsked { .. } => Text::copy(alloc, b"house asked"),
-        HouseMark::HouseAnswer { .. } => Text::copy(alloc, b"house answer"),
+        HouseMark::HouseIn => line.add(b"house in"),
+        HouseMark::HouseSaid(_) => line.add(b"house said"),
+        HouseMark::HouseTook(_) => line.add(b"house took"),
+        HouseMark::HouseAsked { .. } => line.add(b"house asked"),
+        HouseMark::HouseAnswer { .. } => line.add(b"house answer"),
         HouseMark::HouseOrder { order, number } => {
-            let mut line = order_line(alloc, order)?;
-            if let Some(made) = *number {
-                let made = format!(in alloc; " as {made}")?;
-                line.add(made.as_bytes())?;
-            }
-            Ok(line)
+            tell_order(line, alloc, order)?;
+            tell_made(line, alloc, *number)
         }
     }
 }
 
-// The line of an order of a house.
-fn order_line(alloc: Global, order: &Order) -> Result<Text, OutOfMemory> {
-    match order {
-        Order::Listen { host, port } => place_line(alloc, b"house listens", host, *port),
-        Order::Connect { host, port } => place_line(alloc, b"house connects", host, *port),
-        Order::Unlisten(listener) => stream_line(alloc, b"house unlistens", *listener),
-        Order::Pause(stream) => stream_line(alloc, b"house pauses", *stream),
-        Order::Resume(stream) => stream_line(alloc, b"house resumes", *stream),
-        Order::Finish(stream) => stream_line(alloc, b"house finishes", *stream),
-        Order::Close(stream) => stream_line(alloc, b"house closes", *stream),
+// Tells the number of what an order made.
+fn tell_made(line: &mut Text, alloc: Global, number: Option<u64>) -> Result<(), OutOfMemory> {
+    match number {
+        Some(made) => tell_stream(line, alloc, b" as", made),
+        None => Ok(()),
     }
 }
 
-// The line of a host and a port.
-fn place_line(alloc: Global, head: &[u8], host: &Text, port: u32) -> Result<Text, OutOfMemory> {
-    let mut line = Text::copy(alloc, head)?;
-    line.add(b" ")?;
-    escape(&mut line, host.as_bytes())?;
-    let number = format!(in alloc; " {port}")?;
-    line.add(number.as_bytes())?;
-    Ok(line)
+// Tells the order of a house.
+fn tell_order(line: &mut Text, alloc: Global, order: &Order) -> Result<(), OutOfMemory> {
+    match order {
+        Order::Listen { host, port } => tell_place(line, alloc, b"house listens ", host, *port),
+        Order::Connect { host, port } => tell_place(line, alloc, b"house connects ", host, *port),
+        Order::Unlisten(listener) => tell_stream(line, alloc, b"house unlistens", *listener),
+        Order::Pause(stream) => tell_stream(line, alloc, b"house pauses", *stream),
+        Order::Resume(stream) => tell_stream(line, alloc, b"house resumes", *stream),
+        Order::Finish(stream) => tell_stream(line, alloc, b"house finishes", *stream),
+        Order::Close(stream) => tell_stream(line, alloc, b"house closes", *stream),
+    }
 }
 
-// The line of what happened to a stream.
-fn stream_line(alloc: Global, head: &[u8], stream: u64) -> Result<Text, OutOfMemory> {
-    let mut line = Text::copy(alloc, head)?;
-    let number = format!(in alloc; " {stream}")?;
-    line.add(number.as_bytes())?;
-    Ok(line)
+// Tells a host and a port behind what is said of them.
+fn tell_place(
+    line: &mut Text,
+    alloc: Global,
+    head: &[u8],
+    host: &Text,
+    port: u32,
+) -> Result<(), OutOfMemory> {
+    line.add(head)?;
+    escape(line, host.as_bytes())?;
+    add_number(line, alloc, u64::from(port))
+}
+
+// Tells what happened to a stream.
+fn tell_stream(
+    line: &mut Text,
+    alloc: Global,
+    head: &[u8],
+    stream: u64,
+) -> Result<(), OutOfMemory> {
+    line.add(head)?;
+    add_number(line, alloc, stream)
 }
 
 // The same with a count of bytes.
-fn bytes_line(alloc: Global, head: &[u8], stream: u64, bytes: &Text) -> Result<Text, OutOfMemory> {
-    let mut line = stream_line(alloc, head, stream)?;
-    let count = bytes.as_bytes().len();
-    let number = format!(in alloc; " {count}")?;
-    line.add(number.as_bytes())?;
-    Ok(line)
+fn tell_bytes(
+    line: &mut Text,
+    alloc: Global,
+    head: &[u8],
+    stream: u64,
+    bytes: &Text,
+) -> Result<(), OutOfMemory> {
+    tell_stream(line, alloc, head, stream)?;
+    add_number(line, alloc, bytes.as_bytes().len() as u64)
 }

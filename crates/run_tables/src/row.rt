@@ -1,11 +1,12 @@
 //! One row: what a run is to be played over, and what must come of it.
-use crate::facts::{ann, forget_fact, set_fact, set_variable};
-use crate::scripted::{add_writes, bytes_of, step_of, took_line};
-use crate::spelling::unescape;
+use crate::facts::{ann, fact, forget_fact};
+use crate::scripted::{add_writes, bytes_of, number_of, step_of, tell_taken};
+use crate::spelling::{add_unescaped, unescape};
+use crate::trouble::Trouble;
 use mux_outside::{
     Calls, CommandStatus, Facts, Pair, Pairs, Statuses, Step, Steps, WriteEntry, Writes,
 };
-use ssh_fields::{OutOfMemory, Text, Texts};
+use ssh_fields::{Text, Texts};
 use std::alloc::Global;
 
 /// What a scripted wire does: its steps, how its writes are answered, and which calls of `open`,
@@ -47,7 +48,7 @@ pub struct Row {
 
 impl Row {
     /// A row of this name, which says nothing yet.
-    pub fn new(alloc: Global, name: Text) -> Result<Row, OutOfMemory> {
+    pub fn new(alloc: Global, name: Text) -> Result<Row, Trouble> {
         Ok(Row {
             alloc,
             name,
@@ -73,14 +74,12 @@ impl Row {
         })
     }
 
-    /// Takes a line of the row: whether it is read. `names` are names of bytes.
-    pub fn take(&mut self, line: &str, names: &Pairs) -> Result<bool, OutOfMemory> {
+    /// Takes a line of the row. `names` are names of bytes.
+    pub fn take(&mut self, line: &str, names: &Pairs) -> Result<(), Trouble> {
         let (head, rest) = line.split_once(' ').unwrap_or((line, ""));
         match head {
             ">" => self.take_expected(rest, names),
-            "turns" => Ok(self.take_turns(rest)),
-            "marks" => Ok(self.take_marks(rest)),
-            "house" => Ok(self.take_house(rest)),
+            "turns" | "marks" | "house" => self.take_whole(head, rest),
             "fails" => self.take_fails(rest),
             "fact" | "no" | "var" => self.take_known(head, rest),
             "drill" | "writes" => self.take_script(head, rest),
@@ -89,8 +88,19 @@ impl Row {
         }
     }
 
+    // What is said of the run as a whole: how many turns there are, that the marks are told, that
+    // the master has forwardings of its own.
+    fn take_whole(&mut self, head: &str, rest: &str) -> Result<(), Trouble> {
+        match head {
+            "turns" => self.turns = number_of(rest)?,
+            "marks" => self.marks = true,
+            _ => self.house = true,
+        }
+        Ok(())
+    }
+
     // What the run is given: its words, files and commands.
-    fn take_given(&mut self, head: &str, rest: &str) -> Result<bool, OutOfMemory> {
+    fn take_given(&mut self, head: &str, rest: &str) -> Result<(), Trouble> {
         match head {
             "words" => self.take_words(rest),
             "file" => self.take_file(rest),
@@ -100,186 +110,144 @@ impl Row {
     }
 
     // What is known of the machine.
-    fn take_known(&mut self, head: &str, rest: &str) -> Result<bool, OutOfMemory> {
+    fn take_known(&mut self, head: &str, rest: &str) -> Result<(), Trouble> {
         match head {
             "fact" => self.take_fact(rest),
-            "no" => Ok(forget_fact(&mut self.facts, rest)),
+            "no" => forget_fact(&mut self.facts, rest),
             _ => self.take_variable(rest),
         }
     }
 
     // What is said of the wire as a whole.
-    fn take_script(&mut self, head: &str, rest: &str) -> Result<bool, OutOfMemory> {
+    fn take_script(&mut self, head: &str, rest: &str) -> Result<(), Trouble> {
         if head == "writes" {
-            return self.take_writes(rest);
+            return add_writes(&mut self.script()?.writes, rest);
         }
         self.script = None;
-        Ok(rest.is_empty())
+        Ok(())
+    }
+
+    // What the wire does.
+    fn script(&mut self) -> Result<&mut Script, Trouble> {
+        self.script.as_mut().ok_or(Trouble::Unread)
     }
 
     // The words of the run.
-    fn take_words(&mut self, rest: &str) -> Result<bool, OutOfMemory> {
+    fn take_words(&mut self, rest: &str) -> Result<(), Trouble> {
         for word in rest.split_whitespace() {
-            let Some(word) = unescape(self.alloc, word)? else {
-                return Ok(false);
-            };
-            self.words.push(word)?;
+            self.words.push(unescape(self.alloc, word)?)?;
         }
-        Ok(true)
+        Ok(())
     }
 
     // Two texts with a space between them.
-    fn two_texts(&self, rest: &str) -> Result<Option<(Text, Text)>, OutOfMemory> {
-        let (first, second) = rest.split_once(' ').unwrap_or((rest, ""));
-        let Some(first) = unescape(self.alloc, first)? else {
-            return Ok(None);
-        };
-        let Some(second) = unescape(self.alloc, second)? else {
-            return Ok(None);
-        };
-        Ok(Some((first, second)))
+    fn pair_in(&self, rest: &str) -> Result<Pair, Trouble> {
+        let (name, value) = rest.split_once(' ').unwrap_or((rest, ""));
+        Ok(Pair {
+            name: unescape(self.alloc, name)?,
+            value: unescape(self.alloc, value)?,
+        })
     }
 
     // A file by its path and its text.
-    fn take_file(&mut self, rest: &str) -> Result<bool, OutOfMemory> {
-        let Some((name, value)) = self.two_texts(rest)? else {
-            return Ok(false);
-        };
-        self.files.push(Pair { name, value })?;
-        Ok(true)
+    fn take_file(&mut self, rest: &str) -> Result<(), Trouble> {
+        let file = self.pair_in(rest)?;
+        self.files.push(file)?;
+        Ok(())
     }
 
     // A file by its path, how often its text stands there, and that text.
-    fn take_fill(&mut self, rest: &str) -> Result<bool, OutOfMemory> {
+    fn take_fill(&mut self, rest: &str) -> Result<(), Trouble> {
         let (name, rest) = rest.split_once(' ').unwrap_or((rest, ""));
         let (count, text) = rest.split_once(' ').unwrap_or((rest, ""));
-        let Some(name) = unescape(self.alloc, name)? else {
-            return Ok(false);
-        };
-        let Ok(count) = count.parse::<u64>() else {
-            return Ok(false);
-        };
-        let Some(text) = unescape(self.alloc, text)? else {
-            return Ok(false);
-        };
-        let mut value = Text::new(self.alloc);
-        for _ in 0..count {
-            value.add(text.as_bytes())?;
-        }
+        let value = self.filled(number_of(count)?, text)?;
+        let name = unescape(self.alloc, name)?;
         self.files.push(Pair { name, value })?;
-        Ok(true)
+        Ok(())
+    }
+
+    // A text so often.
+    fn filled(&self, count: u64, text: &str) -> Result<Text, Trouble> {
+        let mut filled = Text::new(self.alloc);
+        for _ in 0..count {
+            add_unescaped(&mut filled, text.as_bytes())?;
+        }
+        Ok(filled)
     }
 
     // A command by its status and its text.
-    fn take_command(&mut self, rest: &str) -> Result<bool, OutOfMemory> {
+    fn take_command(&mut self, rest: &str) -> Result<(), Trouble> {
         let (status, command) = rest.split_once(' ').unwrap_or((rest, ""));
-        let Ok(status) = status.parse::<u8>() else {
-            return Ok(false);
-        };
-        let Some(command) = unescape(self.alloc, command)? else {
-            return Ok(false);
-        };
+        let status = status_of(status)?;
+        let command = unescape(self.alloc, command)?;
         self.commands.push(CommandStatus { command, status })?;
-        Ok(true)
+        Ok(())
     }
 
     // A fact by its name and its value.
-    fn take_fact(&mut self, rest: &str) -> Result<bool, OutOfMemory> {
+    fn take_fact(&mut self, rest: &str) -> Result<(), Trouble> {
         let (name, value) = rest.split_once(' ').unwrap_or((rest, ""));
-        let Some(value) = unescape(self.alloc, value)? else {
-            return Ok(false);
-        };
-        Ok(set_fact(&mut self.facts, name, value))
+        *fact(&mut self.facts, name)? = Some(unescape(self.alloc, value)?);
+        Ok(())
     }
 
     // A variable of the environment.
-    fn take_variable(&mut self, rest: &str) -> Result<bool, OutOfMemory> {
-        let Some((name, value)) = self.two_texts(rest)? else {
-            return Ok(false);
-        };
-        set_variable(&mut self.facts, name, value)?;
-        Ok(true)
-    }
-
-    // How writes are answered, one by one.
-    fn take_writes(&mut self, rest: &str) -> Result<bool, OutOfMemory> {
-        match &mut self.script {
-            Some(script) => add_writes(&mut script.writes, rest),
-            None => Ok(false),
-        }
+    fn take_variable(&mut self, rest: &str) -> Result<(), Trouble> {
+        let variable = self.pair_in(rest)?;
+        self.facts.vars.push(variable)?;
+        Ok(())
     }
 
     // The calls of an object that fail.
-    fn take_fails(&mut self, rest: &str) -> Result<bool, OutOfMemory> {
+    fn take_fails(&mut self, rest: &str) -> Result<(), Trouble> {
         let (object, numbers) = rest.split_once(' ').unwrap_or((rest, ""));
-        let calls = match object {
-            "open" => match &mut self.script {
-                Some(script) => &mut script.fails,
-                None => return Ok(false),
-            },
-            "file" => &mut self.fails.file,
-            "command" => &mut self.fails.command,
-            "out" => &mut self.fails.out,
-            "err" => &mut self.fails.err,
-            _ => return Ok(false),
-        };
+        let calls = self.calls(object)?;
         for number in numbers.split_whitespace() {
-            let Ok(number) = number.parse::<u64>() else {
-                return Ok(false);
-            };
-            calls.push(number)?;
+            calls.push(number_of(number)?)?;
         }
-        Ok(true)
+        Ok(())
     }
 
-    // How many turns there are.
-    fn take_turns(&mut self, rest: &str) -> bool {
-        match rest.parse::<u64>() {
-            Ok(turns) => {
-                self.turns = turns;
-                true
-            }
-            Err(_) => false,
+    // The failing calls of an object.
+    fn calls(&mut self, object: &str) -> Result<&mut Calls, Trouble> {
+        match object {
+            "open" => Ok(&mut self.script()?.fails),
+            "file" => Ok(&mut self.fails.file),
+            "command" => Ok(&mut self.fails.command),
+            "out" => Ok(&mut self.fails.out),
+            "err" => Ok(&mut self.fails.err),
+            _ => Err(Trouble::Unread),
         }
-    }
-
-    // That the marks are told.
-    fn take_marks(&mut self, rest: &str) -> bool {
-        self.marks = true;
-        rest.is_empty()
-    }
-
-    // That the master has forwardings of its own.
-    fn take_house(&mut self, rest: &str) -> bool {
-        self.house = true;
-        rest.is_empty()
     }
 
     // A step of the wire.
-    fn take_step(&mut self, head: &str, rest: &str, names: &Pairs) -> Result<bool, OutOfMemory> {
-        let Some(step) = step_of(self.alloc, head, rest, names)? else {
-            return Ok(false);
-        };
-        let Some(script) = &mut self.script else {
-            return Ok(false);
-        };
-        script.steps.push(step)?;
-        Ok(true)
+    fn take_step(&mut self, head: &str, rest: &str, names: &Pairs) -> Result<(), Trouble> {
+        let step = step_of(self.alloc, head, rest, names)?;
+        self.script()?.steps.push(step)?;
+        Ok(())
     }
 
     // A line that must come; that of bytes is spelled as they are shown.
-    fn take_expected(&mut self, rest: &str, names: &Pairs) -> Result<bool, OutOfMemory> {
-        let line = match rest.strip_prefix("took ") {
-            None => Text::copy(self.alloc, rest.as_bytes())?,
-            Some(took) => {
-                let (stream, bytes) = took.split_once(' ').unwrap_or((took, ""));
-                let Some(bytes) = bytes_of(self.alloc, bytes, names)? else {
-                    return Ok(false);
-                };
-                took_line(self.alloc, stream, bytes.as_bytes())?
-            }
-        };
+    fn take_expected(&mut self, rest: &str, names: &Pairs) -> Result<(), Trouble> {
+        let mut line = Text::new(self.alloc);
+        match rest.strip_prefix("took ") {
+            None => line.add(rest.as_bytes())?,
+            Some(took) => expect_taken(&mut line, self.alloc, took, names)?,
+        }
         self.expected.push(line)?;
-        Ok(true)
+        Ok(())
     }
+}
+
+// The line of what a stream must take.
+fn expect_taken(line: &mut Text, alloc: Global, took: &str, names: &Pairs) -> Result<(), Trouble> {
+    let (stream, bytes) = took.split_once(' ').unwrap_or((took, ""));
+    let bytes = bytes_of(alloc, bytes, names)?;
+    tell_taken(line, stream.as_bytes(), bytes.as_bytes())?;
+    Ok(())
+}
+
+// The status of a command.
+fn status_of(word: &str) -> Result<u8, Trouble> {
+    word.parse::<u8>().map_err(|_| Trouble::Unread)
 }

@@ -1,104 +1,105 @@
 //! What the lines of a row say of a scripted wire: steps, answers to writes, and bytes.
-use crate::spelling::{add_hex, spell_frames, unescape};
+use crate::spelling::{add_hex, add_unescaped, spell_frames};
+use crate::trouble::Trouble;
 use mux_outside::{Pairs, Step, WriteEntry, Writes};
 use ssh_fields::{OutOfMemory, Text};
 use std::alloc::Global;
 
-/// Adds answers to writes: whether each word says one.
-pub fn add_writes(writes: &mut Writes, words: &str) -> Result<bool, OutOfMemory> {
+/// Adds answers to writes, one a word.
+pub fn add_writes(writes: &mut Writes, words: &str) -> Result<(), Trouble> {
     for word in words.split_whitespace() {
-        let Some(entry) = write_entry(word) else {
-            return Ok(false);
-        };
-        writes.push(entry)?;
+        writes.push(write_entry(word)?)?;
     }
-    Ok(true)
+    Ok(())
 }
 
 // How a write is answered that a word says.
-fn write_entry(word: &str) -> Option<WriteEntry> {
+fn write_entry(word: &str) -> Result<WriteEntry, Trouble> {
     match word {
-        "all" => Some(WriteEntry::All),
-        "later" => Some(WriteEntry::Later),
-        "fail" => Some(WriteEntry::Fail),
-        number => number.parse::<usize>().ok().map(WriteEntry::Some),
+        "all" => Ok(WriteEntry::All),
+        "later" => Ok(WriteEntry::Later),
+        "fail" => Ok(WriteEntry::Fail),
+        number => match number.parse::<usize>() {
+            Ok(count) => Ok(WriteEntry::Some(count)),
+            Err(_) => Err(Trouble::Unread),
+        },
     }
+}
+
+/// A number.
+pub fn number_of(word: &str) -> Result<u64, Trouble> {
+    word.parse::<u64>().map_err(|_| Trouble::Unread)
 }
 
 /// The step that a line says.
-pub fn step_of(
-    alloc: Global,
-    head: &str,
-    rest: &str,
-    names: &Pairs,
-) -> Result<Option<Step>, OutOfMemory> {
+pub fn step_of(alloc: Global, head: &str, rest: &str, names: &Pairs) -> Result<Step, Trouble> {
     if head == "accept" {
-        return Ok(Some(Step::Accept));
+        return Ok(Step::Accept);
     }
     let (stream, bytes) = rest.split_once(' ').unwrap_or((rest, ""));
-    let Ok(stream) = stream.parse::<u64>() else {
-        return Ok(None);
-    };
-    Ok(match head {
-        "bytes" => bytes_of(alloc, bytes, names)?.map(|bytes| Step::Bytes(stream, bytes)),
-        "end" => Some(Step::End(stream)),
-        "fail" => Some(Step::Fail(stream)),
-        "free" => Some(Step::Writable(stream)),
-        "join" => bytes.parse::<u64>().ok().map(|own| Step::Join(stream, own)),
-        _ => None,
-    })
+    stream_step(alloc, head, number_of(stream)?, bytes, names)
 }
 
-/// The line of what a stream took.
-pub fn took_line(alloc: Global, stream: &str, bytes: &[u8]) -> Result<Text, OutOfMemory> {
-    let mut line = Text::copy(alloc, b"took ")?;
-    line.add(stream.as_bytes())?;
-    line.add(spell_frames(alloc, bytes)?.as_bytes())?;
-    Ok(line)
+// The step of a stream.
+fn stream_step(
+    alloc: Global,
+    head: &str,
+    stream: u64,
+    bytes: &str,
+    names: &Pairs,
+) -> Result<Step, Trouble> {
+    match head {
+        "bytes" => Ok(Step::Bytes(stream, bytes_of(alloc, bytes, names)?)),
+        "end" => Ok(Step::End(stream)),
+        "fail" => Ok(Step::Fail(stream)),
+        "free" => Ok(Step::Writable(stream)),
+        "join" => Ok(Step::Join(stream, number_of(bytes)?)),
+        _ => Err(Trouble::Unread),
+    }
+}
+
+/// Tells what a stream took.
+pub fn tell_taken(line: &mut Text, stream: &[u8], bytes: &[u8]) -> Result<(), OutOfMemory> {
+    line.add(b"took ")?;
+    line.add(stream)?;
+    spell_frames(line, bytes)
 }
 
 /// The bytes that words spell: each a name, a text behind `'`, or digits of base 16; a number and
 /// `*` before it say how often.
-pub fn bytes_of(alloc: Global, words: &str, names: &Pairs) -> Result<Option<Text>, OutOfMemory> {
+pub fn bytes_of(alloc: Global, words: &str, names: &Pairs) -> Result<Text, Trouble> {
     let mut out = Text::new(alloc);
+    add_words(&mut out, words, names)?;
+    Ok(out)
+}
+
+// Adds the bytes of words.
+fn add_words(out: &mut Text, words: &str, names: &Pairs) -> Result<(), Trouble> {
     for word in words.split_whitespace() {
-        if !add_word(&mut out, alloc, word, names)? {
-            return Ok(None);
-        }
+        add_word(out, word, names)?;
     }
-    Ok(Some(out))
+    Ok(())
 }
 
-// Adds the bytes of a word, as often as it says: whether it spells any.
-fn add_word(out: &mut Text, alloc: Global, word: &str, names: &Pairs) -> Result<bool, OutOfMemory> {
+// Adds the bytes of a word, as often as it says.
+fn add_word(out: &mut Text, word: &str, names: &Pairs) -> Result<(), Trouble> {
     let (count, one) = word.split_once('*').unwrap_or(("", ""));
-    let Ok(count) = count.parse::<u64>() else {
-        return add_once(out, alloc, word, names);
+    let Ok(count) = number_of(count) else {
+        return add_once(out, word, names);
     };
-    let mut bytes = Text::new(alloc);
-    if !add_once(&mut bytes, alloc, one, names)? {
-        return Ok(false);
-    }
     for _ in 0..count {
-        out.add(bytes.as_bytes())?;
+        add_once(out, one, names)?;
     }
-    Ok(true)
+    Ok(())
 }
 
-// Adds the bytes of a word once: whether it spells any.
-fn add_once(out: &mut Text, alloc: Global, word: &str, names: &Pairs) -> Result<bool, OutOfMemory> {
+// Adds the bytes of a word once.
+fn add_once(out: &mut Text, word: &str, names: &Pairs) -> Result<(), Trouble> {
     if let Some(text) = word.strip_prefix("'") {
-        let Some(text) = unescape(alloc, text)? else {
-            return Ok(false);
-        };
-        out.add(text.as_bytes())?;
-        return Ok(true);
+        return add_unescaped(out, text.as_bytes());
     }
     match value_of(names, word.as_bytes()) {
-        Some(bytes) => {
-            out.add(bytes)?;
-            Ok(true)
-        }
+        Some(bytes) => Ok(out.add(bytes)?),
         None => add_hex(out, word.as_bytes()),
     }
 }

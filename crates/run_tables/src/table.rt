@@ -43,49 +43,45 @@ impl Table {
     /// Takes a line. `row NAME` ends the row before, which is played: what came of it, where it
     /// isn't what was written. `let NAME BYTES` names bytes.
     pub fn take(&mut self, line: &str) -> Result<Option<String>, Trouble> {
-        if let Some(name) = line.strip_prefix("row ") {
-            let told = self.finish()?;
-            self.begin(name)?;
-            return Ok(told);
+        match line.strip_prefix("row ") {
+            Some(name) => self.next_row(name),
+            None => {
+                self.read(line)?;
+                Ok(None)
+            }
         }
-        if self.is_read(line)? {
-            return Ok(None);
-        }
-        Err(Trouble::Unread(String::from_str(self.alloc, line)?))
     }
 
-    // Begins a row of this name.
-    fn begin(&mut self, name: &str) -> Result<(), Trouble> {
+    // Ends the row before, and begins one of this name.
+    fn next_row(&mut self, name: &str) -> Result<Option<String>, Trouble> {
         let name = Text::copy(self.alloc, name.as_bytes())?;
-        self.row = Some(Row::new(self.alloc, name)?);
-        Ok(())
+        let row = Row::new(self.alloc, name)?;
+        let told = self.finish();
+        self.row = Some(row);
+        told
     }
 
-    // Takes a line that begins no row: whether it is read.
-    fn is_read(&mut self, line: &str) -> Result<bool, Trouble> {
+    // Takes a line that begins no row.
+    fn read(&mut self, line: &str) -> Result<(), Trouble> {
         if line.is_empty() || line.starts_with('#') {
-            return Ok(true);
+            return Ok(());
         }
         if let Some(rest) = line.strip_prefix("let ") {
             return self.name_bytes(rest);
         }
         match &mut self.row {
-            Some(row) => Ok(row.take(line, &self.names)?),
-            None => Ok(false),
+            Some(row) => row.take(line, &self.names),
+            None => Err(Trouble::Unread),
         }
     }
 
-    // Names bytes: whether they are read.
-    fn name_bytes(&mut self, rest: &str) -> Result<bool, Trouble> {
-        let Some((name, words)) = rest.split_once(' ') else {
-            return Ok(false);
-        };
-        let Some(value) = bytes_of(self.alloc, words, &self.names)? else {
-            return Ok(false);
-        };
+    // Names bytes.
+    fn name_bytes(&mut self, rest: &str) -> Result<(), Trouble> {
+        let (name, words) = rest.split_once(' ').ok_or(Trouble::Unread)?;
+        let value = bytes_of(self.alloc, words, &self.names)?;
         let name = Text::copy(self.alloc, name.as_bytes())?;
         self.names.push(Pair { name, value })?;
-        Ok(true)
+        Ok(())
     }
 
     /// Plays the last row: what came of it, where it isn't what was written.

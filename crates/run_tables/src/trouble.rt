@@ -3,10 +3,10 @@ use std::alloc::AllocError;
 use thiserror::Error;
 
 /// Why a line of a table can't be taken.
-#[derive(Debug, Error, Drop)]
+#[derive(Clone, Copy, Debug, Error)]
 pub enum Trouble {
-    #[error("a line isn't read: {0}")]
-    Unread(String),
+    #[error("a line isn't read")]
+    Unread,
     #[error("out of memory")]
     OutOfMemory,
 }

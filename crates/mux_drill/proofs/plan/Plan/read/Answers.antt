@@ -15,11 +15,11 @@ is_plan_of text words slice plan split same is = is ∙ ap (λ (ws : List (List 
 pub returns-clause-exact : goal.returns-clause-exact
 returns-clause-exact c =
     is_plan_of c.args.text.now c.in_ok-words.words.items c.as_slice.result.now _ c.in_ok-words.ensures c.as_slice.ensures.value
-    (c.plan_in-plan.ensures ∙ ap plan_in c.drill_of.ensures)
+    (c.plan_in-plan.ensures ∙ ap plan_in c.drill_of-command.ensures)
 
 pub returns-clause-sound : goal.returns-clause-sound
 returns-clause-sound c =
     let is = is_plan_of c.args.text.now c.in_ok-words.words.items c.as_slice.result.now c.plan_in-plan.result c.in_ok-words.ensures c.as_slice.ensures.value
-    (c.plan_in-plan.ensures ∙ ap plan_in c.drill_of.ensures) in
+    (c.plan_in-plan.ensures ∙ ap plan_in c.drill_of-command.ensures) in
     let P : Option Plan → Type 0 = λ plan. IfSome plan IsPlan in
     subst P (sym is) (plan_sound c.args.text.now)
