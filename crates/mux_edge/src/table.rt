@@ -83,12 +83,23 @@ impl Table {
         Ok(table)
     }
 
+    // No stream yet.
     fn new<N: Net>(rt: &N, alloc: Global) -> io::Result<Table>
         ensures { IfOk result (λ table. IsNone table.listener) }
     {
-        Ok(Table {
-            poll: Poll::new(rt)?,
-            events: Events::with_capacity(alloc, EVENTS)?,
+        let poll = Poll::new(rt)?;
+        let events = Events::with_capacity(alloc, EVENTS)?;
+        let spare = Piece::new(alloc).map_err(|_| AllocError)?;
+        Ok(Table::over(alloc, poll, events, spare))
+    }
+
+    // No stream yet, over this.
+    fn over(alloc: Global, poll: Poll, events: Events, spare: Piece) -> Table
+        ensures { IsNone result.listener }
+    {
+        Table {
+            poll,
+            events,
             listener: None,
             entries: IndexMap::new(alloc),
             doors: IndexMap::new(alloc),
@@ -96,8 +107,8 @@ impl Table {
             joins_pause: false,
             ready: Queue::new(alloc),
             shares: Shares::new(),
-            spare: Piece::new(alloc).map_err(|_| AllocError)?,
-        })
+            spare,
+        }
     }
 
     /// Takes a stream in, with room for all that can be ready. Whoever is a client may pass

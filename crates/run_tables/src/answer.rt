@@ -134,7 +134,7 @@ fn add_taken(lines: &mut Texts, alloc: Global, log: &WireLog) -> Result<(), OutO
 // The line of the streams that are open.
 fn left_line(alloc: Global, log: &WireLog) -> Result<Text, OutOfMemory> {
     let mut line = Text::new(alloc);
-    tell_streams(&mut line, alloc, b"left", log.streams())?;
+    tell_streams(&mut line, alloc, b"left", log.streams().as_slice())?;
     line.add(heard(log.is_listening()))?;
     Ok(line)
 }

@@ -20,7 +20,9 @@ use trouble::Trouble;
 
 fn main(rt: HostRuntime) -> io::Result<()> {
     let mut table = Table::new(rt.alloc());
-    play_rows(&rt, &mut table)
+    let played = play_rows(&rt, &mut table);
+    drop(table);
+    played
 }
 
 // Plays all rows of standard input.

@@ -48,9 +48,9 @@ fn tell_wait(
     open: &KeptStreams,
     listens: bool,
 ) -> Result<(), OutOfMemory> {
-    tell_streams(line, alloc, b"waits", open)?;
+    tell_streams(line, alloc, b"waits", open.as_slice())?;
     if !waiting.as_slice().is_empty() {
-        tell_streams(line, alloc, b" for", waiting)?;
+        tell_streams(line, alloc, b" for", waiting.as_slice())?;
     }
     line.add(wanted(want))?;
     line.add(heard(listens))
@@ -75,10 +75,10 @@ pub fn tell_streams(
     line: &mut Text,
     alloc: Global,
     head: &[u8],
-    streams: &KeptStreams,
+    streams: &[u64],
 ) -> Result<(), OutOfMemory> {
     line.add(head)?;
-    for stream in streams.as_slice() {
+    for stream in streams {
         add_number(line, alloc, *stream)?;
     }
     Ok(())

@@ -3,9 +3,7 @@ use crate::answer::{lines_of, summary_of};
 use crate::row::Row;
 use house_forward::Forwarder;
 use mux_drill::DrillWire;
-use mux_outside::{
-    Facts, House, KeptNotes, ListSink, MapFiles, MapRunner, NoHouse, ScriptWire, Wire,
-};
+use mux_outside::{House, KeptNotes, ListSink, MapFiles, MapRunner, NoHouse, ScriptWire, Wire};
 use ssh_fields::{OutOfMemory, Texts};
 use ssh_mux::{Status, run};
 use std::alloc::Global;
@@ -22,7 +20,7 @@ pub struct Played {
 }
 
 /// Plays a row: the lines of what came of it. Of a drill what its streams took isn't shown.
-pub fn play(alloc: Global, mut row: Row) -> Result<Texts, OutOfMemory> {
+pub fn play(alloc: Global, row: &mut Row) -> Result<Texts, OutOfMemory> {
     match row.script.take() {
         Some(script) => {
             let mut wire = ScriptWire::new(alloc, script.steps, script.writes, script.fails);
@@ -35,7 +33,7 @@ pub fn play(alloc: Global, mut row: Row) -> Result<Texts, OutOfMemory> {
 }
 
 // Plays a row over a wire in memory: the lines of what came of it.
-fn drill_lines(alloc: Global, row: Row) -> Result<Texts, OutOfMemory> {
+fn drill_lines(alloc: Global, row: &mut Row) -> Result<Texts, OutOfMemory> {
     let mut wire = DrillWire::new(alloc);
     let played = play_over(alloc, row, &mut wire, &mut NoHouse);
     let lines = summary_of(alloc, &played, wire.log());
@@ -45,7 +43,11 @@ fn drill_lines(alloc: Global, row: Row) -> Result<Texts, OutOfMemory> {
 }
 
 // Plays a row over this wire: the lines of what came of it.
-fn scripted_lines(alloc: Global, row: Row, wire: &mut ScriptWire) -> Result<Texts, OutOfMemory> {
+fn scripted_lines(
+    alloc: Global,
+    row: &mut Row,
+    wire: &mut ScriptWire,
+) -> Result<Texts, OutOfMemory> {
     let played = play_scripted(alloc, row, wire)?;
     let lines = lines_of(alloc, &played, wire.log());
     drop(played);
@@ -53,49 +55,28 @@ fn scripted_lines(alloc: Global, row: Row, wire: &mut ScriptWire) -> Result<Text
 }
 
 // Plays a row over this wire, with forwardings of the master's own where it asks for them.
-fn play_scripted(alloc: Global, row: Row, wire: &mut ScriptWire) -> Result<Played, OutOfMemory> {
+fn play_scripted(
+    alloc: Global,
+    row: &mut Row,
+    wire: &mut ScriptWire,
+) -> Result<Played, OutOfMemory> {
     if !row.house {
         return Ok(play_over(alloc, row, wire, &mut NoHouse));
     }
-    match Forwarder::new(alloc, KeptNotes::new(alloc)) {
-        Ok(mut house) => {
-            let played = play_over(alloc, row, wire, &mut house);
-            drop(house);
-            Ok(played)
-        }
-        Err(e) => {
-            drop(row);
-            Err(e)
-        }
-    }
+    let mut house = Forwarder::new(alloc, KeptNotes::new(alloc))?;
+    let played = play_over(alloc, row, wire, &mut house);
+    drop(house);
+    Ok(played)
 }
 
 // Plays a row over this wire and this house.
-fn play_over<W: Wire, H: House>(alloc: Global, row: Row, wire: &mut W, house: &mut H) -> Played
+fn play_over<W: Wire, H: House>(alloc: Global, row: &mut Row, wire: &mut W, house: &mut H) -> Played
     requires { H.fresh house.old }
 {
-    let fails = row.fails;
-    let mut files = MapFiles::new(alloc, row.files, fails.file);
-    let mut runner = MapRunner::new(alloc, row.commands, fails.command);
-    let mut out = ListSink::new(alloc, fails.out);
-    let mut err = ListSink::new(alloc, fails.err);
-    let given = Given {
-        words: row.words,
-        facts: row.facts,
-        turns: row.turns,
-    };
-    let status = status_over(
-        alloc,
-        &given,
-        wire,
-        &mut files,
-        &mut runner,
-        &mut out,
-        &mut err,
-        house,
-    );
-    drop(given);
-    drop(files);
+    let mut runner = row.runner();
+    let mut out = row.out();
+    let mut err = row.err();
+    let status = play_with(alloc, row, wire, &mut runner, &mut out, &mut err, house);
     Played {
         status,
         runner,
@@ -105,18 +86,28 @@ fn play_over<W: Wire, H: House>(alloc: Global, row: Row, wire: &mut W, house: &m
     }
 }
 
-// What a run is given beside its outside.
-#[derive(Drop)]
-struct Given {
-    words: Texts,
-    facts: Facts,
-    turns: u64,
+// The status of a row that is played over this wire, its files and this house.
+fn play_with<W: Wire, H: House>(
+    alloc: Global,
+    row: &mut Row,
+    wire: &mut W,
+    runner: &mut MapRunner,
+    out: &mut ListSink,
+    err: &mut ListSink,
+    house: &mut H,
+) -> Status
+    requires { H.fresh house.old }
+{
+    let mut files = row.files();
+    let status = status_over(alloc, row, wire, &mut files, runner, out, err, house);
+    drop(files);
+    status
 }
 
 // The status of a run, by itself: nothing else is proved beside the clauses of `run`.
 fn status_over<W: Wire, H: House>(
     alloc: Global,
-    given: &Given,
+    row: &Row,
     wire: &mut W,
     files: &mut MapFiles,
     runner: &mut MapRunner,
@@ -127,15 +118,6 @@ fn status_over<W: Wire, H: House>(
     requires { H.fresh house.old }
 {
     run(
-        alloc,
-        &given.words,
-        &given.facts,
-        wire,
-        files,
-        runner,
-        out,
-        err,
-        house,
-        given.turns,
+        alloc, &row.words, &row.facts, wire, files, runner, out, err, house, row.turns,
     )
 }

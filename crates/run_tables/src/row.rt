@@ -4,10 +4,12 @@ use crate::scripted::{add_writes, bytes_of, number_of, step_of, tell_taken};
 use crate::spelling::{add_unescaped, unescape};
 use crate::trouble::Trouble;
 use mux_outside::{
-    Calls, CommandStatus, Facts, Pair, Pairs, Statuses, Step, Steps, WriteEntry, Writes,
+    Calls, CommandStatus, Facts, ListSink, MapFiles, MapRunner, Pair, Pairs, Statuses, Steps,
+    Writes,
 };
 use ssh_fields::{Text, Texts};
 use std::alloc::Global;
+use std::mem;
 
 /// What a scripted wire does: its steps, how its writes are answered, and which calls of `open`,
 /// `join`, `listen` and `connect` fail.
@@ -72,6 +74,32 @@ impl Row {
             house: false,
             expected: Texts::new(alloc),
         })
+    }
+
+    /// Its files, which it has no longer.
+    pub fn files(&mut self) -> MapFiles {
+        let files = mem::replace(&mut self.files, Pairs::new(self.alloc));
+        MapFiles::new(self.alloc, files, taken(self.alloc, &mut self.fails.file))
+    }
+
+    /// Its commands, which it has no longer.
+    pub fn runner(&mut self) -> MapRunner {
+        let commands = mem::replace(&mut self.commands, Statuses::new(self.alloc));
+        MapRunner::new(
+            self.alloc,
+            commands,
+            taken(self.alloc, &mut self.fails.command),
+        )
+    }
+
+    /// What stands in for its output.
+    pub fn out(&mut self) -> ListSink {
+        ListSink::new(self.alloc, taken(self.alloc, &mut self.fails.out))
+    }
+
+    /// What stands in for its standard error.
+    pub fn err(&mut self) -> ListSink {
+        ListSink::new(self.alloc, taken(self.alloc, &mut self.fails.err))
     }
 
     /// Takes a line of the row. `names` are names of bytes.
@@ -245,6 +273,11 @@ fn expect_taken(line: &mut Text, alloc: Global, took: &str, names: &Pairs) -> Re
     let bytes = bytes_of(alloc, bytes, names)?;
     tell_taken(line, stream.as_bytes(), bytes.as_bytes())?;
     Ok(())
+}
+
+// Calls, which are taken out of where they stood.
+fn taken(alloc: Global, calls: &mut Calls) -> Calls {
+    mem::replace(calls, Calls::new(alloc))
 }
 
 // The status of a command.

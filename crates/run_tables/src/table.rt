@@ -6,7 +6,7 @@ use crate::trouble::Trouble;
 use mux_outside::{Pair, Pairs};
 use ssh_fields::{Text, Texts};
 use std::alloc::Global;
-use std::{mem, str};
+use std::str;
 
 /// A table that is being read.
 #[derive(Drop)]
@@ -54,11 +54,16 @@ impl Table {
 
     // Ends the row before, and begins one of this name.
     fn next_row(&mut self, name: &str) -> Result<Option<String>, Trouble> {
-        let name = Text::copy(self.alloc, name.as_bytes())?;
-        let row = Row::new(self.alloc, name)?;
         let told = self.finish();
-        self.row = Some(row);
+        self.begin(name)?;
         told
+    }
+
+    // Begins a row of this name.
+    fn begin(&mut self, name: &str) -> Result<(), Trouble> {
+        let row = row_of(self.alloc, name)?;
+        drop(self.row.replace(row));
+        Ok(())
     }
 
     // Takes a line that begins no row.
@@ -79,8 +84,8 @@ impl Table {
     fn name_bytes(&mut self, rest: &str) -> Result<(), Trouble> {
         let (name, words) = rest.split_once(' ').ok_or(Trouble::Unread)?;
         let value = bytes_of(self.alloc, words, &self.names)?;
-        let name = Text::copy(self.alloc, name.as_bytes())?;
-        self.names.push(Pair { name, value })?;
+        let named = pair_of(self.alloc, name, value)?;
+        self.names.push(named)?;
         Ok(())
     }
 
@@ -89,32 +94,35 @@ impl Table {
         let Some(mut row) = self.row.take() else {
             return Ok(None);
         };
-        let name = mem::replace(&mut row.name, Text::new(self.alloc));
-        let expected = mem::replace(&mut row.expected, Texts::new(self.alloc));
-        let told = self.compare(row, &name, &expected);
-        drop(name);
-        drop(expected);
+        let told = self.compare(&mut row);
+        drop(row);
         told
     }
 
-    // Plays a row of this name: what came of it, where it isn't what was expected.
-    fn compare(
-        &mut self,
-        row: Row,
-        name: &Text,
-        expected: &Texts,
-    ) -> Result<Option<String>, Trouble> {
+    // Plays a row: what came of it, where it isn't what was expected.
+    fn compare(&mut self, row: &mut Row) -> Result<Option<String>, Trouble> {
         let lines = play(self.alloc, row)?;
         self.rows = self.rows.saturating_add(1);
-        let told = if are_same(&lines, expected) {
+        let told = if are_same(&lines, &row.expected) {
             self.as_written = self.as_written.saturating_add(1);
             Ok(None)
         } else {
-            told_of(self.alloc, name, &lines).map(Some)
+            told_of(self.alloc, &row.name, &lines).map(Some)
         };
         drop(lines);
         told
     }
+}
+
+// A row of this name.
+fn row_of(alloc: Global, name: &str) -> Result<Row, Trouble> {
+    Row::new(alloc, Text::copy(alloc, name.as_bytes())?)
+}
+
+// Bytes with a name.
+fn pair_of(alloc: Global, name: &str, value: Text) -> Result<Pair, Trouble> {
+    let name = Text::copy(alloc, name.as_bytes())?;
+    Ok(Pair { name, value })
 }
 
 // Whether two lists of lines are the same.

@@ -1,5 +1,6 @@
 ghost use Rattle.std.specs.Bool.{OnTrue};
-ghost use Rattle.std.specs.Prelude.{◌≡◌};
+ghost use Rattle.std.specs.Prelude.{◌≡◌, Ok};
+ghost use Rattle.conf_rules.specs.Reading.{reading};
 ghost use Rattle.ssh_mux.specs.Answers.{Leaves, is_silent, so_far};
 ghost use Rattle.ssh_mux.specs.Err.{IsToldBy};
 ghost use Rattle.ssh_mux.specs.Looks.{coming_of_words};
@@ -91,18 +92,52 @@ fn obey<W: Wire, F: Files, R: Runner, S: Sink, H: House>(
         (wire.new ≡ wire.old) (house.new ≡ house.old) }
 {
     let command = read_words(alloc, words)?;
+    let ended = act(
+        alloc, &command, words, facts, wire, files, runner, out, house, turns,
+    );
+    drop(command);
+    ended
+}
+
+// Does what a command asks for, which is what the words say.
+fn act<W: Wire, F: Files, R: Runner, S: Sink, H: House>(
+    alloc: Global,
+    command: &Command,
+    words: &Texts,
+    facts: &Facts,
+    wire: &mut W,
+    files: &mut F,
+    runner: &mut R,
+    out: &mut S,
+    house: &mut H,
+    turns: u64,
+) -> Result<Status, Ending>
+    requires read { reading words.now ≡ Ok command.now }
+    requires fresh { H.fresh house.old }
+    ensures runs { (status : TheStatus) (err told : OutState) → IsToldBy result status err told
+        → Runs words.now facts.now
+        (world (sockets W.Wire H.Asks.own wire.old house.old)
+        (sources F.Files R.Runner files.old runner.old) (output S.Sink out.old) err)
+        H.may H.state turns status
+        (world (sockets W.Wire H.Asks.own wire.new house.new)
+        (sources F.Files R.Runner files.new runner.new) (output S.Sink out.new) told) }
+    ensures leaves { Leaves
+        (coming_of_words (sources F.Files R.Runner files.old runner.old) facts.now words.now)
+        (so_far result) (out.new ≡ out.old) (files.new ≡ files.old) (runner.new ≡ runner.old)
+        (wire.new ≡ wire.old) (house.new ≡ house.old) }
+{
     match command {
-        Command::List(asked) => list(alloc, &asked, facts, files, runner, out),
+        Command::List(asked) => list(alloc, asked, facts, files, runner, out),
         Command::Master {
             asked,
             transport,
             opens,
             listens,
         } => share(
-            alloc, &asked, &transport, &opens, &listens, facts, wire, files, runner, house, turns,
+            alloc, asked, transport, opens, listens, facts, wire, files, runner, house, turns,
         ),
         Command::Control { asked, control } => ask_master(
-            alloc, &asked, control, facts, wire, files, runner, out, turns,
+            alloc, asked, *control, facts, wire, files, runner, out, turns,
         ),
         Command::Drill { .. } => drill(alloc, words, wire, out, turns),
     }
