@@ -5,7 +5,7 @@ ghost use Rattle.conf_command.specs.Shown.{letter_of};
 use crate::act::Mode;
 
 /// What takes a value.
-#[derive(Clone, Copy, Debug, Drop)]
+#[derive(Clone, Copy, Drop)]
 pub enum Takes {
     /// An option of a key.
     Key(&'static [u8]),

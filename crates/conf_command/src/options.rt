@@ -16,7 +16,7 @@ use ssh_fields::{OutOfMemory, Text, Texts};
 use std::alloc::Global;
 
 /// What the next word is.
-#[derive(Clone, Copy, Debug, Drop)]
+#[derive(Clone, Copy, Drop)]
 pub enum Next {
     /// Any word.
     Free,

@@ -28,7 +28,7 @@ pub struct FwdAsk<'a> {
 }
 
 /// The answer to a client's ask.
-#[derive(Clone, Copy, Debug, PartialEq, Eq)]
+#[derive(Clone, Copy, PartialEq, Eq)]
 pub enum HouseReply {
     /// It is done.
     Done,

@@ -9,7 +9,7 @@ use mux_history::limits::MAX_CHANNEL_REQUESTS;
 use ssh_grammar::Breach;
 
 /// What the sender of a direction may still send.
-#[derive(Clone, Copy, Debug, PartialEq, Eq)]
+#[derive(Clone, Copy, PartialEq, Eq)]
 pub enum Speech {
     /// Anything.
     Speaking,
@@ -30,7 +30,7 @@ pub fn is_closed(speech: Speech) -> bool
 }
 
 /// One direction of a confirmed channel.
-#[derive(Clone, Copy, Debug, PartialEq, Eq)]
+#[derive(Clone, Copy, PartialEq, Eq)]
 pub struct Account {
     /// How many bytes of data the receiver takes for now.
     pub room: u32,

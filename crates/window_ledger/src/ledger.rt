@@ -14,7 +14,7 @@ use crate::act::Act;
 use ssh_grammar::{Breach, Side};
 
 /// How a channel stands.
-#[derive(Clone, Copy, Debug, PartialEq, Eq)]
+#[derive(Clone, Copy, PartialEq, Eq)]
 enum State {
     /// One side has opened it, with its own window and maximum; the other hasn't answered.
     Opened { by: Side, window: u32, maximum: u32 },
@@ -66,7 +66,7 @@ fn left(state: State) -> State
 }
 
 /// The account of one channel. `way` is the direction of a message.
-#[derive(Clone, Copy, Debug, PartialEq, Eq)]
+#[derive(Clone, Copy, PartialEq, Eq)]
 pub struct Ledger {
     state: State,
 }
