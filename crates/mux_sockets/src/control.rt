@@ -68,20 +68,39 @@ pub fn listen_beside<R: Files + Net + Clone + Drop>(
     alloc: Global,
     path: &str,
 ) -> io::Result<Unnamed<R>> {
-    // A name that is too long or taken is refused before anything is done. `publish` refuses a
-    // taken one too.
+    refuse_taken(rt, path)?;
+    let (socket, temporary) = bind_beside(rt, alloc, path)?;
+    listen_at(rt, temporary.path.as_str(), &socket)?;
+    unnamed_of(rt, socket, temporary)
+}
+
+// A name that is too long or taken is refused before anything is done. `publish` refuses a taken
+// one too.
+fn refuse_taken<R: Files>(rt: &R, path: &str) -> io::Result<()> {
     let _ = SocketAddr::from_pathname(path)?;
     if fs::symlink_metadata(rt, path).is_ok() {
         return Err(io::Error::from(io::ErrorKind::AlreadyExists));
     }
-    let (socket, temporary) = bind_beside(rt, alloc, path)?;
-    let name = temporary.path.as_str();
-    // Before it listens, nobody can connect: so the mode comes first.
+    Ok(())
+}
+
+// Has a socket listen that has this name. Before it listens, nobody can connect: so the mode comes
+// first.
+fn listen_at<R: Files>(rt: &R, name: &str, socket: &OwnedFd) -> io::Result<()> {
     fs::set_permissions(rt, name, owner_only())?;
     if listen(socket.as_raw_fd(), BACKLOG) < 0 {
         return Err(io::Error::from(io::ErrorKind::Other));
     }
-    let found = fs::symlink_metadata(rt, name)?;
+    Ok(())
+}
+
+// A socket that listens under a temporary name.
+fn unnamed_of<R: Files + Net + Clone + Drop>(
+    rt: &R,
+    socket: OwnedFd,
+    temporary: Temporary<R>,
+) -> io::Result<Unnamed<R>> {
+    let found = fs::symlink_metadata(rt, temporary.path.as_str())?;
     let listener = net::UnixListener::from(socket);
     listener.set_nonblocking(true)?;
     Ok(Unnamed {
@@ -92,36 +111,59 @@ pub fn listen_beside<R: Files + Net + Clone + Drop>(
     })
 }
 
-// Binds a socket to the first temporary name that is free.
+// Binds a socket to the first temporary name beside the path that is free.
 fn bind_beside<R: Files + Net + Clone + Drop>(
     rt: &R,
     alloc: Global,
     path: &str,
 ) -> io::Result<(OwnedFd, Temporary<R>)> {
-    let folder = match path.rsplit_once('/') {
-        Some((folder, _)) => format!(in alloc; "{folder}/")?,
-        None => String::new(alloc),
-    };
+    let folder = folder_of(alloc, path)?;
     for number in 0..TRIES {
         let name = temporary_name(alloc, folder.as_str(), number)?;
-        if name.as_str() == path {
-            continue;
-        }
-        let owner = rt.clone()?;
-        let socket = rt.unix_socket()?;
-        match rt.bind_unix(socket.as_fd(), &SocketAddr::from_pathname(name.as_str())?) {
-            Ok(()) => {
-                let temporary = Temporary {
-                    rt: owner,
-                    path: name,
-                };
-                return Ok((socket, temporary));
-            }
-            Err(e) if e.kind() == io::ErrorKind::AddrInUse => {}
-            Err(e) => return Err(e),
+        if let Some(bound) = bound_at(rt, name, path)? {
+            return Ok(bound);
         }
     }
     Err(io::Error::from(io::ErrorKind::AddrInUse))
+}
+
+// The folder of a path, with its slash.
+fn folder_of(alloc: Global, path: &str) -> io::Result<String> {
+    match path.rsplit_once('/') {
+        Some((folder, _)) => Ok(format!(in alloc; "{folder}/")?),
+        None => Ok(String::new(alloc)),
+    }
+}
+
+// A socket that is bound to a temporary name, where that is free, and not the path itself.
+fn bound_at<R: Files + Net + Clone + Drop>(
+    rt: &R,
+    name: String,
+    path: &str,
+) -> io::Result<Option<(OwnedFd, Temporary<R>)>> {
+    if name.as_str() == path {
+        return Ok(None);
+    }
+    let owner = rt.clone()?;
+    let socket = rt.unix_socket()?;
+    if !is_bound(rt, &socket, name.as_str())? {
+        return Ok(None);
+    }
+    let temporary = Temporary {
+        rt: owner,
+        path: name,
+    };
+    Ok(Some((socket, temporary)))
+}
+
+// Binds a socket to a name: whether that was free.
+fn is_bound<R: Files + Net>(rt: &R, socket: &OwnedFd, name: &str) -> io::Result<bool> {
+    let address = SocketAddr::from_pathname(name)?;
+    match rt.bind_unix(socket.as_fd(), &address) {
+        Ok(()) => Ok(true),
+        Err(e) if e.kind() == io::ErrorKind::AddrInUse => Ok(false),
+        Err(e) => Err(e),
+    }
 }
 
 // A temporary name in a folder: with the process's number, and shorter where that fits no address.

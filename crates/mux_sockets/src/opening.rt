@@ -1,5 +1,5 @@
 //! How a wire opens its sockets.
-ghost use Rattle.std.specs.Prelude.{◌≡◌, ◌≢◌, Err, IfOk, IsErr, IsNone, IsSome, IsUtf8};
+ghost use Rattle.std.specs.Prelude.{◌≡◌, ◌≢◌, Err, IfOk, IsErr, IsNone, IsSome, IsUtf8, OnOk};
 ghost use Rattle.std.specs.IoError.{error_kind};
 
 use crate::control::{Control, Unnamed, listen_beside};
@@ -45,8 +45,14 @@ fn open_at<R: Files + Net + Clone + Drop>(
     ensures { IfOk result (λ opened. IsSome opened.1.listener) }
 {
     let unnamed = listen_beside(rt, alloc, path).map_err(|e| fault_of(&e, Fault::Control))?;
-    let table = connected(rt, alloc, transport).map_err(|e| fault_of(&e, Fault::Transport))?;
-    publish(rt, alloc, path, unnamed, table).map_err(|e| fault_of(&e, Fault::Control))
+    let mut table = connected(rt, alloc, transport).map_err(|e| fault_of(&e, Fault::Transport))?;
+    match publish(rt, alloc, path, unnamed, &mut table) {
+        Ok(control) => Ok((control, table)),
+        Err(e) => {
+            drop(table);
+            Err(fault_of(&e, Fault::Control))
+        }
+    }
 }
 
 // Gives the control socket its name, and takes it in.
@@ -55,13 +61,13 @@ fn publish<R: Files + Net + Clone + Drop>(
     alloc: Global,
     path: &str,
     unnamed: Unnamed<R>,
-    mut table: Table,
-) -> io::Result<(Control<R>, Table)>
-    ensures { IfOk result (λ opened. IsSome opened.1.listener) }
+    table: &mut Table,
+) -> io::Result<Control<R>>
+    ensures { OnOk result (IsSome table.new.listener) }
 {
     let (listener, control) = unnamed.publish(rt, alloc, path)?;
     table.listen_to_clients(listener)?;
-    Ok((control, table))
+    Ok(control)
 }
 
 /// Connects to another master's control socket. Nothing listens, and nothing has a name.

@@ -51,14 +51,25 @@ fn finish<R: Net>(rt: &R, alloc: Global, stream: &mut TcpStream) -> io::Result<(
     let mut events = Events::with_capacity(alloc, 4)?;
     poll.registry()
         .register(stream, Token(0), Interest::WRITABLE)?;
+    wait_until_made(&mut poll, &mut events, stream)?;
+    poll.registry().deregister(stream)
+}
+
+// Waits until the connection of a stream is made that the system tells of.
+fn wait_until_made(poll: &mut Poll, events: &mut Events, stream: &TcpStream) -> io::Result<()> {
     for _ in 0..CONNECT_SECONDS {
-        poll.poll(&mut events, Some(Duration::from_secs(1)))?;
-        if let Some(e) = stream.take_error()? {
-            return Err(e);
-        }
-        if stream.peer_addr().is_ok() {
-            return poll.registry().deregister(stream);
+        poll.poll(events, Some(Duration::from_secs(1)))?;
+        if is_made(stream)? {
+            return Ok(());
         }
     }
     Err(io::Error::from(io::ErrorKind::TimedOut))
+}
+
+// Whether a connection is made. `Err`: it can't be.
+fn is_made(stream: &TcpStream) -> io::Result<bool> {
+    match stream.take_error()? {
+        Some(e) => Err(e),
+        None => Ok(stream.peer_addr().is_ok()),
+    }
 }

@@ -113,12 +113,20 @@ fn spawn<P: Processes>(
     requires { is_name name.now ≡ true }
 {
     let mut getent = getent_of(alloc, name)?;
-    getent.stdin(Stdio::null());
-    getent.stdout(Stdio::from(OwnedFd::from(output)));
-    getent.stderr(Stdio::null());
-    Ok(Worker {
-        child: getent.spawn(rt)?,
-    })
+    let child = started(rt, &mut getent, output)?;
+    Ok(Worker { child })
+}
+
+// The child of a command, which writes to this.
+fn started<P: Processes>(
+    rt: &P,
+    command: &mut Command,
+    output: net::UnixStream,
+) -> io::Result<Child<P::Started>> {
+    command.stdin(Stdio::null());
+    command.stdout(Stdio::from(OwnedFd::from(output)));
+    command.stderr(Stdio::null());
+    command.spawn(rt)
 }
 
 // The command for a name that is still bytes.
