@@ -27,7 +27,7 @@ ask_master-requires g c = record { named = names-forwards _ _ _ (rw c.in-Control
 
 pub returns-in-List-clause-runs : goal.returns-in-List-clause-runs
 returns-in-List-clause-runs g c = let e = rw c.in-List.is at c.requires.read in obeyed-runs c.args.words.now c.args.facts.now c.args.turns g.H.Asks.may g.H.Asks.state (sources g.F.Files g.R.Runner c.args.files.now c.args.runner.now) (sources g.F.Files g.R.Runner c.list.new.files c.list.new.runner) (sockets g.W.Wire g.H.Asks c.args.wire.now c.args.house.now) (sockets g.W.Wire g.H.Asks c.args.wire.now c.args.house.now) (output g.S.Sink c.args.out.now) (output g.S.Sink c.list.new.out) _ _ _ c.list.result (of-read _ _ _ e) (list-told _ _ _ e) (for-read _ _ _ e)
-    (list-obeyed c.args.words.now (pid_of c.args.facts.now.pid) c.args.turns g.H.Asks.may g.H.Asks.state c.args.facts.now c.in-List.asked.now c.list.result (sources g.F.Files g.R.Runner c.args.files.now c.args.runner.now) (sources g.F.Files g.R.Runner c.list.new.files c.list.new.runner) (sockets g.W.Wire g.H.Asks c.args.wire.now c.args.house.now) (output g.S.Sink c.args.out.now) (output g.S.Sink c.list.new.out) c.list.ensures.looks c.list.ensures.out c.list.ensures.out_cause c.list.ensures.once (same_told _ g.S.Sink.told _ _ c.list.ensures.unwritten))
+    (list-obeyed c.args.words.now (pid_of c.args.facts.now.pid) c.args.turns g.H.Asks.may g.H.Asks.state c.args.facts.now c.in-List.asked c.list.result (sources g.F.Files g.R.Runner c.args.files.now c.args.runner.now) (sources g.F.Files g.R.Runner c.list.new.files c.list.new.runner) (sockets g.W.Wire g.H.Asks c.args.wire.now c.args.house.now) (output g.S.Sink c.args.out.now) (output g.S.Sink c.list.new.out) c.list.ensures.looks c.list.ensures.out c.list.ensures.out_cause c.list.ensures.once (same_told _ g.S.Sink.told _ _ c.list.ensures.unwritten))
 
 pub returns-in-List-clause-leaves : goal.returns-in-List-clause-leaves
 returns-in-List-clause-leaves g c = record {
@@ -41,7 +41,7 @@ returns-in-List-clause-leaves g c = record {
 
 pub returns-in-Master-clause-runs : goal.returns-in-Master-clause-runs
 returns-in-Master-clause-runs g c = let e = rw c.in-Master.is at c.requires.read in obeyed-runs c.args.words.now c.args.facts.now c.args.turns g.H.Asks.may g.H.Asks.state (sources g.F.Files g.R.Runner c.args.files.now c.args.runner.now) (sources g.F.Files g.R.Runner c.share.new.files c.share.new.runner) (sockets g.W.Wire g.H.Asks c.args.wire.now c.args.house.now) (sockets g.W.Wire g.H.Asks c.share.new.wire c.share.new.house) (output g.S.Sink c.args.out.now) (output g.S.Sink c.args.out.now) _ _ _ c.share.result (of-read _ _ _ e) (master-told _ _ _ _ _ _ e) (for-read _ _ _ e)
-    (master-obeyed c.args.words.now (pid_of c.args.facts.now.pid) c.args.turns g.H.Asks.may g.H.Asks.state c.args.facts.now c.in-Master.asked.now c.in-Master.transport.now c.in-Master.opens.now c.in-Master.listens.now c.share.result (sources g.F.Files g.R.Runner c.args.files.now c.args.runner.now) (sources g.F.Files g.R.Runner c.share.new.files c.share.new.runner) (sockets g.W.Wire g.H.Asks c.args.wire.now c.args.house.now) (sockets g.W.Wire g.H.Asks c.share.new.wire c.share.new.house) (output g.S.Sink c.args.out.now) c.share.ensures.looks c.share.ensures.leaves (both-shown _ g.W.Wire.state (λ h. (g.H.Asks.state h).told) _ _ _ _ c.share.ensures.untouched))
+    (master-obeyed c.args.words.now (pid_of c.args.facts.now.pid) c.args.turns g.H.Asks.may g.H.Asks.state c.args.facts.now c.in-Master.asked c.in-Master.transport c.in-Master.opens c.in-Master.listens c.share.result (sources g.F.Files g.R.Runner c.args.files.now c.args.runner.now) (sources g.F.Files g.R.Runner c.share.new.files c.share.new.runner) (sockets g.W.Wire g.H.Asks c.args.wire.now c.args.house.now) (sockets g.W.Wire g.H.Asks c.share.new.wire c.share.new.house) (output g.S.Sink c.args.out.now) c.share.ensures.looks c.share.ensures.leaves (both-shown _ g.W.Wire.state (λ h. (g.H.Asks.state h).told) _ _ _ _ c.share.ensures.untouched))
 
 pub returns-in-Master-clause-leaves : goal.returns-in-Master-clause-leaves
 returns-in-Master-clause-leaves g c = record {
@@ -49,21 +49,21 @@ returns-in-Master-clause-leaves g c = record {
   unlisted = on_false _ _;
   files = rw (of-read _ _ _ (rw c.in-Master.is at c.requires.read)) (not_false _ _ (master-looks _ _ _ _ _));
   runner = rw (of-read _ _ _ (rw c.in-Master.is at c.requires.read)) (not_false _ _ (master-looks _ _ _ _ _));
-  wire = rw (of-read _ _ _ (rw c.in-Master.is at c.requires.read)) (or-else (touches (coming (sources g.F.Files g.R.Runner c.args.files.now c.args.runner.now) c.args.facts.now (commands.Master c.in-Master.asked.now c.in-Master.transport.now c.in-Master.opens.now c.in-Master.listens.now)) (so_far c.share.result)) (may_ask (coming (sources g.F.Files g.R.Runner c.args.files.now c.args.runner.now) c.args.facts.now (commands.Master c.in-Master.asked.now c.in-Master.transport.now c.in-Master.opens.now c.in-Master.listens.now)) (so_far c.share.result)) (c.share.new.wire ≡ c.args.wire.now) (untouched (may_open (so_far c.share.result)) (opens (coming (sources g.F.Files g.R.Runner c.args.files.now c.args.runner.now) c.args.facts.now (commands.Master c.in-Master.asked.now c.in-Master.transport.now c.in-Master.opens.now c.in-Master.listens.now))) (drills (coming (sources g.F.Files g.R.Runner c.args.files.now c.args.runner.now) c.args.facts.now (commands.Master c.in-Master.asked.now c.in-Master.transport.now c.in-Master.opens.now c.in-Master.listens.now))) (c.share.new.wire ≡ c.args.wire.now) (first-still _ _ _ c.share.ensures.untouched)));
+  wire = rw (of-read _ _ _ (rw c.in-Master.is at c.requires.read)) (or-else (touches (coming (sources g.F.Files g.R.Runner c.args.files.now c.args.runner.now) c.args.facts.now (commands.Master c.in-Master.asked c.in-Master.transport c.in-Master.opens c.in-Master.listens)) (so_far c.share.result)) (may_ask (coming (sources g.F.Files g.R.Runner c.args.files.now c.args.runner.now) c.args.facts.now (commands.Master c.in-Master.asked c.in-Master.transport c.in-Master.opens c.in-Master.listens)) (so_far c.share.result)) (c.share.new.wire ≡ c.args.wire.now) (untouched (may_open (so_far c.share.result)) (opens (coming (sources g.F.Files g.R.Runner c.args.files.now c.args.runner.now) c.args.facts.now (commands.Master c.in-Master.asked c.in-Master.transport c.in-Master.opens c.in-Master.listens))) (drills (coming (sources g.F.Files g.R.Runner c.args.files.now c.args.runner.now) c.args.facts.now (commands.Master c.in-Master.asked c.in-Master.transport c.in-Master.opens c.in-Master.listens))) (c.share.new.wire ≡ c.args.wire.now) (first-still _ _ _ c.share.ensures.untouched)));
   house = rw (of-read _ _ _ (rw c.in-Master.is at c.requires.read)) (second-still _ _ _ c.share.ensures.untouched);
 }
 
 pub returns-in-Control-clause-runs : goal.returns-in-Control-clause-runs
 returns-in-Control-clause-runs g c = let e = rw c.in-Control.is at c.requires.read in obeyed-runs c.args.words.now c.args.facts.now c.args.turns g.H.Asks.may g.H.Asks.state (sources g.F.Files g.R.Runner c.args.files.now c.args.runner.now) (sources g.F.Files g.R.Runner c.ask_master.new.files c.ask_master.new.runner) (sockets g.W.Wire g.H.Asks c.args.wire.now c.args.house.now) (sockets g.W.Wire g.H.Asks c.ask_master.new.wire c.args.house.now) (output g.S.Sink c.args.out.now) (output g.S.Sink c.ask_master.new.out) _ _ _ c.ask_master.result (of-read _ _ _ e) (client-told _ _ _ _ e) (for-read _ _ _ e)
-    (client-obeyed c.args.words.now (pid_of c.args.facts.now.pid) c.args.turns g.H.Asks.may g.H.Asks.state c.args.facts.now c.in-Control.asked.now c.in-Control.control.now c.ask_master.result (sources g.F.Files g.R.Runner c.args.files.now c.args.runner.now) (sources g.F.Files g.R.Runner c.ask_master.new.files c.ask_master.new.runner) (g.W.Wire.state c.args.wire.now) (g.W.Wire.state c.ask_master.new.wire) (g.W.Wire.faults c.args.wire.now) (g.W.Wire.faults c.ask_master.new.wire) (g.H.Asks.state c.args.house.now) (output g.S.Sink c.args.out.now) (output g.S.Sink c.ask_master.new.out) c.ask_master.ensures.looks c.ask_master.ensures.leaves (both-shown _ g.W.Wire.state g.S.Sink.told _ _ _ _ c.ask_master.ensures.untouched))
+    (client-obeyed c.args.words.now (pid_of c.args.facts.now.pid) c.args.turns g.H.Asks.may g.H.Asks.state c.args.facts.now c.in-Control.asked c.in-Control.control c.ask_master.result (sources g.F.Files g.R.Runner c.args.files.now c.args.runner.now) (sources g.F.Files g.R.Runner c.ask_master.new.files c.ask_master.new.runner) (g.W.Wire.state c.args.wire.now) (g.W.Wire.state c.ask_master.new.wire) (g.W.Wire.faults c.args.wire.now) (g.W.Wire.faults c.ask_master.new.wire) (g.H.Asks.state c.args.house.now) (output g.S.Sink c.args.out.now) (output g.S.Sink c.ask_master.new.out) c.ask_master.ensures.looks c.ask_master.ensures.leaves (both-shown _ g.W.Wire.state g.S.Sink.told _ _ _ _ c.ask_master.ensures.untouched))
 
 pub returns-in-Control-clause-leaves : goal.returns-in-Control-clause-leaves
 returns-in-Control-clause-leaves g c = record {
-  unwritten = rw (of-read _ _ _ (rw c.in-Control.is at c.requires.read)) (else-or (may_write (so_far c.ask_master.result)) (may_ask (coming (sources g.F.Files g.R.Runner c.args.files.now c.args.runner.now) c.args.facts.now (commands.Control c.in-Control.asked.now c.in-Control.control.now)) (so_far c.ask_master.result)) (c.ask_master.new.out ≡ c.args.out.now) (second-still _ _ _ c.ask_master.ensures.untouched));
-  unlisted = rw (of-read _ _ _ (rw c.in-Control.is at c.requires.read)) (unlisted-client (machine_of_sources (sources g.F.Files g.R.Runner c.args.files.now c.args.runner.now) c.args.facts.now) c.in-Control.asked.now c.in-Control.control.now (so_far c.ask_master.result) (c.ask_master.new.out ≡ c.args.out.now) (second-still _ _ _ c.ask_master.ensures.untouched));
+  unwritten = rw (of-read _ _ _ (rw c.in-Control.is at c.requires.read)) (else-or (may_write (so_far c.ask_master.result)) (may_ask (coming (sources g.F.Files g.R.Runner c.args.files.now c.args.runner.now) c.args.facts.now (commands.Control c.in-Control.asked c.in-Control.control)) (so_far c.ask_master.result)) (c.ask_master.new.out ≡ c.args.out.now) (second-still _ _ _ c.ask_master.ensures.untouched));
+  unlisted = rw (of-read _ _ _ (rw c.in-Control.is at c.requires.read)) (unlisted-client (machine_of_sources (sources g.F.Files g.R.Runner c.args.files.now c.args.runner.now) c.args.facts.now) c.in-Control.asked c.in-Control.control (so_far c.ask_master.result) (c.ask_master.new.out ≡ c.args.out.now) (second-still _ _ _ c.ask_master.ensures.untouched));
   files = rw (of-read _ _ _ (rw c.in-Control.is at c.requires.read)) (not_false _ _ (client-looks _ _ _));
   runner = rw (of-read _ _ _ (rw c.in-Control.is at c.requires.read)) (not_false _ _ (client-looks _ _ _));
-  wire = rw (of-read _ _ _ (rw c.in-Control.is at c.requires.read)) (else-or (touches (coming (sources g.F.Files g.R.Runner c.args.files.now c.args.runner.now) c.args.facts.now (commands.Control c.in-Control.asked.now c.in-Control.control.now)) (so_far c.ask_master.result)) (may_ask (coming (sources g.F.Files g.R.Runner c.args.files.now c.args.runner.now) c.args.facts.now (commands.Control c.in-Control.asked.now c.in-Control.control.now)) (so_far c.ask_master.result)) (c.ask_master.new.wire ≡ c.args.wire.now) (first-still _ _ _ c.ask_master.ensures.untouched));
+  wire = rw (of-read _ _ _ (rw c.in-Control.is at c.requires.read)) (else-or (touches (coming (sources g.F.Files g.R.Runner c.args.files.now c.args.runner.now) c.args.facts.now (commands.Control c.in-Control.asked c.in-Control.control)) (so_far c.ask_master.result)) (may_ask (coming (sources g.F.Files g.R.Runner c.args.files.now c.args.runner.now) c.args.facts.now (commands.Control c.in-Control.asked c.in-Control.control)) (so_far c.ask_master.result)) (c.ask_master.new.wire ≡ c.args.wire.now) (first-still _ _ _ c.ask_master.ensures.untouched));
   house = on_false _ _;
 }
 

@@ -19,9 +19,6 @@ use Rattle.ssh_mux.proofs.RefusalLemmas.{list-looks, master-looks}
 use Rattle.ssh_mux.proofs.StillLemmas.{both-shown, else-or, first-still, not_false, on_false, or-else, second-still, untouched}
 use Rattle.ssh_mux.proofs.program.obey.Goals as goal
 
-pub act-requires : goal.act-requires
-act-requires g c = record { read = c.in_ok-command.ensures.exact; fresh = c.requires.fresh }
-
 pub returns-in_err-command-clause-runs : goal.returns-in_err-command-clause-runs
 returns-in_err-command-clause-runs g c = let p = err_from_is_err_and c.from_residual.result c.from_residual.ensures.1 in rw (p.1, p.2) (obeyed-runs c.args.words.now c.args.facts.now c.args.turns g.H.Asks.may g.H.Asks.state (sources g.F.Files g.R.Runner c.args.files.now c.args.runner.now) (sources g.F.Files g.R.Runner c.args.files.now c.args.runner.now) (sockets g.W.Wire g.H.Asks c.args.wire.now c.args.house.now) (sockets g.W.Wire g.H.Asks c.args.wire.now c.args.house.now) (output g.S.Sink c.args.out.now) (output g.S.Sink c.args.out.now) _ _ _ _ refl refl refl (misread-obeyed c.args.words.now (pid_of c.args.facts.now.pid) c.args.turns g.H.Asks.may g.H.Asks.state (machine_of_sources (sources g.F.Files g.R.Runner c.args.files.now c.args.runner.now) c.args.facts.now) _ (sources g.F.Files g.R.Runner c.args.files.now c.args.runner.now) (sockets g.W.Wire g.H.Asks c.args.wire.now c.args.house.now) (output g.S.Sink c.args.out.now) c.in_err-command.ensures.exact))
 
