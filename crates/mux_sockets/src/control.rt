@@ -74,8 +74,8 @@ pub fn listen_beside<R: Files + Net + Clone + Drop>(
     unnamed_of(rt, socket, temporary)
 }
 
-// A name that is too long or taken is refused before anything is done. `publish` refuses a taken
-// one too.
+// Refuses a name that is too long or taken, before anything is done. `publish` refuses a taken one
+// too.
 fn refuse_taken<R: Files>(rt: &R, path: &str) -> io::Result<()> {
     let _ = SocketAddr::from_pathname(path)?;
     if fs::symlink_metadata(rt, path).is_ok() {
@@ -84,8 +84,7 @@ fn refuse_taken<R: Files>(rt: &R, path: &str) -> io::Result<()> {
     Ok(())
 }
 
-// Has a socket listen that has this name. Before it listens, nobody can connect: so the mode comes
-// first.
+// Has a socket of this name listen. Before it listens, nobody can connect: so the mode comes first.
 fn listen_at<R: Files>(rt: &R, name: &str, socket: &OwnedFd) -> io::Result<()> {
     fs::set_permissions(rt, name, owner_only())?;
     if listen(socket.as_raw_fd(), BACKLOG) < 0 {

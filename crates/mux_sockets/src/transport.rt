@@ -45,7 +45,7 @@ pub fn connect_unix<R: Files + Net>(rt: &R, path: &[u8]) -> io::Result<Stream>
     Ok(Stream::Unix(mio::net::UnixStream::from_std(stream)))
 }
 
-// Waits until the connection is made.
+// Waits, with a poll of its own, until the connection is made.
 fn finish<R: Net>(rt: &R, alloc: Global, stream: &mut TcpStream) -> io::Result<()> {
     let mut poll = Poll::new(rt)?;
     let mut events = Events::with_capacity(alloc, 4)?;
@@ -55,7 +55,7 @@ fn finish<R: Net>(rt: &R, alloc: Global, stream: &mut TcpStream) -> io::Result<(
     poll.registry().deregister(stream)
 }
 
-// Waits until the connection of a stream is made that the system tells of.
+// Waits until the connection is made.
 fn wait_until_made(poll: &mut Poll, events: &mut Events, stream: &TcpStream) -> io::Result<()> {
     for _ in 0..CONNECT_SECONDS {
         poll.poll(events, Some(Duration::from_secs(1)))?;

@@ -1,13 +1,13 @@
 //! One row: what a run is to be played over, and what must come of it.
 use crate::facts::{ann, fact, forget_fact};
 use crate::scripted::{add_writes, bytes_of, number_of, step_of, tell_taken};
-use crate::spelling::{add_unescaped, unescape};
+use crate::spelling::unescape;
 use crate::trouble::Trouble;
 use mux_outside::{
     Calls, CommandStatus, Facts, ListSink, MapFiles, MapRunner, Pair, Pairs, Statuses, Steps,
     Writes,
 };
-use ssh_fields::{Text, Texts};
+use ssh_fields::{OutOfMemory, Text, Texts};
 use std::alloc::Global;
 use std::mem;
 
@@ -188,19 +188,11 @@ impl Row {
     fn take_fill(&mut self, rest: &str) -> Result<(), Trouble> {
         let (name, rest) = rest.split_once(' ').unwrap_or((rest, ""));
         let (count, text) = rest.split_once(' ').unwrap_or((rest, ""));
-        let value = self.filled(number_of(count)?, text)?;
+        let text = unescape(self.alloc, text)?;
+        let value = repeated(self.alloc, number_of(count)?, text.as_bytes())?;
         let name = unescape(self.alloc, name)?;
         self.files.push(Pair { name, value })?;
         Ok(())
-    }
-
-    // A text so often.
-    fn filled(&self, count: u64, text: &str) -> Result<Text, Trouble> {
-        let mut filled = Text::new(self.alloc);
-        for _ in 0..count {
-            add_unescaped(&mut filled, text.as_bytes())?;
-        }
-        Ok(filled)
     }
 
     // A command by its status and its text.
@@ -278,6 +270,15 @@ fn expect_taken(line: &mut Text, alloc: Global, took: &str, names: &Pairs) -> Re
 // Calls, which are taken out of where they stood.
 fn taken(alloc: Global, calls: &mut Calls) -> Calls {
     mem::replace(calls, Calls::new(alloc))
+}
+
+// Bytes so often.
+fn repeated(alloc: Global, count: u64, bytes: &[u8]) -> Result<Text, OutOfMemory> {
+    let mut repeated = Text::new(alloc);
+    for _ in 0..count {
+        repeated.add(bytes)?;
+    }
+    Ok(repeated)
 }
 
 // The status of a command.
