@@ -121,8 +121,9 @@ impl Row {
     fn take_whole(&mut self, head: &str, rest: &str) -> Result<(), Trouble> {
         match head {
             "turns" => self.turns = number_of(rest)?,
-            "marks" => self.marks = true,
-            _ => self.house = true,
+            "marks" if rest.is_empty() => self.marks = true,
+            "house" if rest.is_empty() => self.house = true,
+            _ => return Err(Trouble::Unread),
         }
         Ok(())
     }
@@ -150,6 +151,9 @@ impl Row {
     fn take_script(&mut self, head: &str, rest: &str) -> Result<(), Trouble> {
         if head == "writes" {
             return add_writes(&mut self.script()?.writes, rest);
+        }
+        if !rest.is_empty() {
+            return Err(Trouble::Unread);
         }
         self.script = None;
         Ok(())
