@@ -156,10 +156,10 @@ fn at_most_1024_requests_of_a_direction_are_unanswered(rt: HostRuntime) {
 #[test]
 fn a_client_that_is_lost_leaves_its_close(rt: HostRuntime) {
     let mut ledger = Ledger::opened(Up, 1, 2);
-    assert!(rt; ledger.left() == ledger && !ledger.said_close());
+    assert!(rt; ledger.left() == ledger && !ledger.sent_close());
     ledger.confirm(3, 4);
     let mut closed = ledger;
     assert_eq!(rt; closed.take(Up, Close), Ok(()));
-    assert_eq!(rt; (ledger.said_close(), closed.said_close()), (false, true));
+    assert_eq!(rt; (ledger.sent_close(), closed.sent_close()), (false, true));
     assert!(rt; ledger.left() == closed && closed.left() == closed);
 }

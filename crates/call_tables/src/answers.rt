@@ -1,7 +1,7 @@
 ghost use Rattle.std.specs.Prelude.{IfSome};
 ghost use Rattle.global_replies.specs.Asks.{IsShort, what_of};
 
-use Step::{Refused, Replied, Sent};
+use CallStep::{Refused, Replied, Sent};
 use conn_messages::{Key, OwnKey};
 use global_replies::{Ask, Askers, ClientAnswers};
 use mux_history::limits::MAX_ADDRESS;
@@ -126,7 +126,7 @@ fn replies_answer_the_requests_in_their_order(rt: HostRuntime) -> Result<(), Out
 
 /// What happens to a client's requests.
 #[derive(Clone, Copy)]
-enum Step {
+enum CallStep {
     /// One is sent.
     Sent,
     /// One is refused, now or later.
@@ -136,7 +136,7 @@ enum Step {
 }
 
 /// With each step, how many have no answer then.
-const STEPS: [(Step, u32); 14] = [
+const STEPS: [(CallStep, u32); 14] = [
     (Replied { refusals: 0 }, 0),
     (Refused { now: true }, 0),
     (Sent, 1),
@@ -156,7 +156,7 @@ const STEPS: [(Step, u32); 14] = [
 /// The place of the first step that goes otherwise.
 fn follow(
     answers: &mut ClientAnswers,
-    steps: &[(Step, u32)],
+    steps: &[(CallStep, u32)],
 ) -> Result<Option<usize>, OutOfMemory> {
     for (i, (step, waiting)) in steps.iter().enumerate() {
         let right = match *step {

@@ -149,7 +149,7 @@ impl Talk {
     }
 
     /// Whether the dialog, given a piece, answers nothing but this reply, and that once.
-    fn hears(&mut self, piece: &[u8], reply: &[u8]) -> bool {
+    fn receives(&mut self, piece: &[u8], reply: &[u8]) -> bool {
         self.data = self
             .data
             .saturating_add(piece.len() - self.dialog.push(piece));
@@ -173,7 +173,7 @@ impl Talk {
 fn goes_in_pieces(row: &Row, size: usize) -> bool {
     let mut talk = Talk::new();
     for piece in row.0.chunks(size.max(1)) {
-        if !talk.hears(piece, row.1) {
+        if !talk.receives(piece, row.1) {
             return false;
         }
     }
@@ -185,9 +185,9 @@ fn goes_in_three(row: &Row, first: usize, second: usize) -> bool {
     let mut talk = Talk::new();
     let (front, back) = row.0.split_at(second.min(row.0.len()));
     let (front, middle) = front.split_at(first.min(front.len()));
-    talk.hears(front, row.1)
-        && talk.hears(middle, row.1)
-        && talk.hears(back, row.1)
+    talk.receives(front, row.1)
+        && talk.receives(middle, row.1)
+        && talk.receives(back, row.1)
         && talk.ends(row)
 }
 

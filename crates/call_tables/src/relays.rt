@@ -1,7 +1,7 @@
 use Event::{
     Closed, Confirmed, Data, End, Eof, Failed, Got, Made, Refused, Request, Room, Took, Writable,
 };
-use house_relay::{Relay, Saying};
+use house_relay::{Outgoing, Relay};
 use mux_outside::{Order, OwnStream};
 use ssh_fields::{OutOfMemory, Text};
 use std::alloc::Global;
@@ -182,7 +182,7 @@ const DIALED: [Row; 10] = [
 ];
 
 /// A dialog that asks for a channel where none is free.
-const CROWDED: [Row; 1] = [(
+const DIALOGS_FULL: [Row; 1] = [(
     &[Got(b"\x04\x01\x00\x50\x0a\x00\x00\x05\x00GET")],
     b"|shut;",
 )];
@@ -221,16 +221,16 @@ impl Bench {
     }
 
     /// Notes what it says.
-    fn note_saying(&mut self, saying: Saying) -> Result<(), OutOfMemory> {
-        match saying {
-            Saying::Open => self.note_open(),
-            Saying::Confirmation => self.word(b"confirmation", b""),
-            Saying::OpenFailure => self.word(b"open failure", b""),
-            Saying::Close => self.word(b"close", b""),
-            Saying::Failure => self.word(b"failure", b""),
-            Saying::Eof => self.word(b"eof", b""),
-            Saying::Adjust(n) => self.number(b"adjust", n),
-            Saying::Data(n) => {
+    fn note_sending(&mut self, outgoing: Outgoing) -> Result<(), OutOfMemory> {
+        match outgoing {
+            Outgoing::Open => self.note_open(),
+            Outgoing::Confirmation => self.word(b"confirmation", b""),
+            Outgoing::OpenFailure => self.word(b"open failure", b""),
+            Outgoing::Close => self.word(b"close", b""),
+            Outgoing::Failure => self.word(b"failure", b""),
+            Outgoing::Eof => self.word(b"eof", b""),
+            Outgoing::Adjust(n) => self.number(b"adjust", n),
+            Outgoing::Data(n) => {
                 let held = Text::copy(self.alloc, self.relay.held.front())?;
                 let n = held.as_bytes().len().min(n as usize);
                 self.word(b"data", &held.as_bytes()[..n])
@@ -240,7 +240,7 @@ impl Bench {
 
     fn note_open(&mut self) -> Result<(), OutOfMemory> {
         let mut end = Text::new(self.alloc);
-        if let house_relay::Line::Asked { host, port, .. } = &self.relay.line {
+        if let house_relay::ChannelState::Asked { host, port, .. } = &self.relay.line {
             end.add(host.as_bytes())?;
             let digits = format!(in self.alloc; " {port}")?;
             end.add(digits.as_bytes())?;
@@ -251,10 +251,10 @@ impl Bench {
     /// Says what it has to say next: whether there was something.
     fn says(&mut self) -> Result<bool, OutOfMemory> {
         match self.relay.says() {
-            Some(saying) => {
-                self.note_saying(saying)?;
-                if self.relay.says() == Some(saying) {
-                    self.relay.said(saying);
+            Some(outgoing) => {
+                self.note_sending(outgoing)?;
+                if self.relay.says() == Some(outgoing) {
+                    self.relay.said(outgoing);
                 }
                 Ok(true)
             }
@@ -325,13 +325,13 @@ impl Bench {
             Made(is) => self.relay.made(if is { Some(STREAM) } else { None }),
             Confirmed(window) => self.relay.confirmed(5, window, 32_768)?,
             Refused(reason) => self.relay.refused(reason)?,
-            Room(n) => self.relay.hears_room(n),
+            Room(n) => self.relay.receives_room(n),
             Data(bytes) => {
-                self.relay.hears_data(bytes)?;
+                self.relay.receives_data(bytes)?;
             }
-            Eof => self.relay.hears_eof(),
-            Closed => self.relay.hears_close(),
-            Request(want) => self.relay.hears_request(want),
+            Eof => self.relay.receives_eof(),
+            Closed => self.relay.receives_close(),
+            Request(want) => self.relay.receives_request(want),
         }
         Ok(())
     }
@@ -394,7 +394,7 @@ fn dialogs_in_front_of_a_relay(rt: HostRuntime) -> Result<(), Fail> {
             row,
         )?;
     }
-    for row in CROWDED.iter() {
+    for row in DIALOGS_FULL.iter() {
         play(
             &rt,
             rt.alloc(),

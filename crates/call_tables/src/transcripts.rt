@@ -186,9 +186,9 @@ impl Bench {
             return Err(Fail::new("a long payload"));
         }
         if speaker == "server" {
-            return self.hear(payload, up);
+            return self.receive(payload, up);
         }
-        self.say(speaker.parse::<u64>()?, payload, up)
+        self.send(speaker.parse::<u64>()?, payload, up)
     }
 
     fn admit(&mut self, client: u64) -> Result<String, Fail> {
@@ -206,7 +206,7 @@ impl Bench {
         Ok(String::from_str(self.alloc, "done")?)
     }
 
-    fn say(&mut self, client: u64, payload: Vec<u8>, up: &mut Queue) -> Result<String, Fail>
+    fn send(&mut self, client: u64, payload: Vec<u8>, up: &mut Queue) -> Result<String, Fail>
         requires { vec_len payload ≤ 1024 }
     {
         let mut payload = payload;
@@ -214,7 +214,7 @@ impl Bench {
         shown_verdict(self.alloc, &verdict)
     }
 
-    fn hear(&mut self, payload: Vec<u8>, up: &mut Queue) -> Result<String, Fail>
+    fn receive(&mut self, payload: Vec<u8>, up: &mut Queue) -> Result<String, Fail>
         requires { vec_len payload ≤ 1024 }
     {
         let mut payload = payload;

@@ -10,7 +10,7 @@ use Rattle.ssh_grammar.specs.SpellMessage.{cancel_forward, client_is_gone, close
 use Rattle.mux_history.specs.Channels.{Channel, any_act, any_by, is_closes, is_confirmed, is_fails, is_held, is_up}
 use Rattle.mux_history.specs.Farewell.{cancel_live, leave_channel, leave_forwarding, to_number}
 use Rattle.mux_history.specs.Forwardings.{Forwarding}
-use Rattle.mux_history.specs.Gist.{Closes, Fails}
+use Rattle.mux_history.specs.Summary.{Closes, Fails}
 use Rattle.mux_history.specs.Laws.{with_act}
 use Rattle.mux_history.proofs.Finds.{filter-no, filter-yes}
 use Rattle.window_ledger.specs.declared.ledger.Ledger.{Ledger}
@@ -42,14 +42,14 @@ sent_for b c d o = elim b as (λ _. List (List ℕ)) [
 same-farewell : (e : Entry) (x : Channel) → Fits e x → farewell_of e ≡ leave_channel x
 same-farewell e x fits = by_case (confirmed e.ledger) refl
   where
-    by_case : (b : Bool) → confirmed e.ledger ≡ b → sent_for (confirmed e.ledger) (account.said_close e.ledger) (is_up e.channel.by) e.channel.remote ≡ sent_for (is_confirmed x) (any_by Up is_closes x.acts) (is_up x.by) x.remote
+    by_case : (b : Bool) → confirmed e.ledger ≡ b → sent_for (confirmed e.ledger) (account.sent_close e.ledger) (is_up e.channel.by) e.channel.remote ≡ sent_for (is_confirmed x) (any_by Up is_closes x.acts) (is_up x.by) x.remote
     by_case true h =
-        ap (λ b. sent_for b (account.said_close e.ledger) (is_up e.channel.by) e.channel.remote) h
+        ap (λ b. sent_for b (account.sent_close e.ledger) (is_up e.channel.by) e.channel.remote) h
         ∙ (ap (λ c. sent_for true c (is_up e.channel.by) e.channel.remote) (said-is e.ledger.state x fits.ledger)
         ∙ (ap (λ o. sent_for true (any_by Up is_closes x.acts) (is_up x.by) o) fits.remote
         ∙ ap (λ b. sent_for b (any_by Up is_closes x.acts) (is_up x.by) x.remote) (sym h ∙ so-confirmed e x fits)))
     by_case false h =
-        ap (λ b. sent_for b (account.said_close e.ledger) (is_up e.channel.by) e.channel.remote) h
+        ap (λ b. sent_for b (account.sent_close e.ledger) (is_up e.channel.by) e.channel.remote) h
         ∙ (ap (λ by. sent_for false (any_by Up is_closes x.acts) (is_up by) e.channel.remote) fits.by
         ∙ (ap (λ o. sent_for false (any_by Up is_closes x.acts) (is_up x.by) o) fits.remote
         ∙ ap (λ b. sent_for b (any_by Up is_closes x.acts) (is_up x.by) x.remote) (sym h ∙ so-confirmed e x fits)))

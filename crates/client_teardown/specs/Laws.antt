@@ -5,7 +5,7 @@ use Rattle.ssh_grammar.specs.Messages as grammar
 use Rattle.mux_history.specs.Channels.{Channel, any_by, is_closes, is_confirmed, is_held, is_up}
 use Rattle.mux_history.specs.Farewell as history
 use Rattle.mux_history.specs.Forwardings.{Forwarding}
-use Rattle.mux_history.specs.Gist.{Closes, Confirmation, Fails}
+use Rattle.mux_history.specs.Summary.{Closes, Confirmation, Fails}
 use Rattle.mux_history.specs.Keys.{bound}
 use Rattle.mux_history.specs.Laws.{with_act}
 use Rattle.mux_history.specs.Rows.{Row}

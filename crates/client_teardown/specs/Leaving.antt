@@ -32,7 +32,7 @@ Sends payloads up up' = up'.waiting ≡ up.waiting ++ joined (map frame_payload 
 -- server's open without an answer
 abbrev pub farewell_for : Channel → Ledger → List (List ℕ)
 farewell_for c ledger = elim (confirmed ledger) [
-  | true ↦ elim (account.said_close ledger) [ true ↦ [] | false ↦ to_number c.remote close ]
+  | true ↦ elim (account.sent_close ledger) [ true ↦ [] | false ↦ to_number c.remote close ]
   | false ↦ elim (is_up c.by)
       [ true ↦ [] | false ↦ to_number c.remote (λ s. open_failure s CONNECT_FAILED client_is_gone) ]
 ]

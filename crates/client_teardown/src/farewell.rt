@@ -32,7 +32,7 @@ fn farewell_for(channel: &Channel, ledger: &Ledger) -> Option<Small>
 {
     let remote = channel.remote?;
     if ledger.confirmed() {
-        if ledger.said_close() {
+        if ledger.sent_close() {
             return None;
         }
         return Some(close(remote));

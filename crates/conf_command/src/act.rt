@@ -1,4 +1,4 @@
-use conf_rules::{AskedLine, ConfigFrom, Control, Usage};
+use conf_rules::{AskedLine, ConfigFrom, MasterCommand, Usage};
 use ssh_fields::Text;
 
 /// What is to be done.
@@ -24,7 +24,7 @@ pub enum Act {
         entry: Text,
     },
     /// What a running master is asked.
-    Controls(Control),
+    Controls(MasterCommand),
     Goes(Text),
     Fails(Usage),
 }

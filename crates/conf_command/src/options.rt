@@ -11,7 +11,7 @@ use crate::forwardings::forward_words;
 use crate::letters::{Letter, Takes, meaning_of};
 use crate::step::{Step, Steps};
 use conf_lexer::first;
-use conf_rules::{AskedLine, ConfigFrom, Control, Usage};
+use conf_rules::{AskedLine, ConfigFrom, MasterCommand, Usage};
 use ssh_fields::{OutOfMemory, Text, Texts};
 use std::alloc::Global;
 
@@ -87,23 +87,23 @@ fn file_named(alloc: Global, value: &[u8]) -> Result<ConfigFrom, OutOfMemory>
 }
 
 /// What a running master is asked by a value, if it names that.
-fn control_named(value: &[u8]) -> Option<Control>
+fn control_named(value: &[u8]) -> Option<MasterCommand>
     ensures { result ≡ control_among controls value.now }
 {
     if is_same(value, b"check") {
-        return Some(Control::Check);
+        return Some(MasterCommand::Check);
     }
     if is_same(value, b"exit") {
-        return Some(Control::Exit);
+        return Some(MasterCommand::Exit);
     }
     if is_same(value, b"stop") {
-        return Some(Control::Stop);
+        return Some(MasterCommand::Stop);
     }
     if is_same(value, b"forward") {
-        return Some(Control::Forward);
+        return Some(MasterCommand::Forward);
     }
     if is_same(value, b"cancel") {
-        return Some(Control::Cancel);
+        return Some(MasterCommand::Cancel);
     }
     None
 }
@@ -161,7 +161,7 @@ fn take(
                 },
             ))
         }
-        Takes::Control => {
+        Takes::MasterCommand => {
             steps.push(Step::new(here, Act::Chooses(Mode::Client)))?;
             steps.push(control_step(at, value))
         }

@@ -4,7 +4,7 @@ ghost use Rattle.conf_rules.specs.Options.{Free, Step};
 ghost use Rattle.conf_rules.specs.Permissions.{bad_entry, earlier};
 ghost use Rattle.conf_rules.specs.declared.command.Command.{Command};
 ghost use Rattle.conf_rules.specs.declared.command.Command.TheVariants as commands;
-ghost use Rattle.conf_rules.specs.declared.control.Control.TheVariants.{Check};
+ghost use Rattle.conf_rules.specs.declared.control.MasterCommand.TheVariants.{Check};
 ghost use Rattle.conf_rules.specs.Reading.{reading, drill_of};
 ghost use Rattle.conf_command.specs.declared.reader.WordsError.TheVariants as words_errors;
 ghost use Rattle.conf_command.specs.Results.{Gives, Fails};
@@ -158,7 +158,7 @@ fn client_of(alloc: Global, end: u64, host: &[u8], steps: &[Step]) -> Result<Com
     if is_about_forwardings(control) && !names_forwarding(steps) {
         return Err(refused(end, Usage::NoForward));
     }
-    Ok(Command::Control {
+    Ok(Command::MasterCommand {
         asked: asked_of(alloc, host, steps)?,
         control,
     })

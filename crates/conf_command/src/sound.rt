@@ -1,7 +1,7 @@
 ghost use Rattle.std.specs.Prelude.{◌≡◌, ℕ, [], ◌∷◌, ◌++◌, List, IfOk, OnOk, None, flat_map};
 ghost use Rattle.std.specs.Option.{option_copied};
 ghost use Rattle.std.specs.List.{list_any};
-ghost use Rattle.conf_rules.specs.declared.control.Control.TheVariants.{Check};
+ghost use Rattle.conf_rules.specs.declared.control.MasterCommand.TheVariants.{Check};
 ghost use Rattle.conf_rules.specs.declared.asked.ConfigFrom.TheVariants.{Standard};
 ghost use Rattle.conf_rules.specs.CommandLine.{line_in, destination_line, from_in, transport_in, control_in, is_forwarding, asks_forwarding, is_about_forwardings, host_in, asked_of};
 ghost use Rattle.conf_rules.specs.Destinations.{destination};
@@ -12,7 +12,7 @@ use crate::bytes::{copied, is_same};
 use crate::destinations::destination_in;
 use crate::options::key_line;
 use crate::step::Step;
-use conf_rules::{Asked, AskedLine, AskedLines, ConfigFrom, Control};
+use conf_rules::{Asked, AskedLine, AskedLines, ConfigFrom, MasterCommand};
 use ssh_fields::{OutOfMemory, Text};
 use std::alloc::Global;
 
@@ -134,10 +134,10 @@ pub fn transport_in(alloc: Global, steps: &[Step]) -> Result<Option<Text>, OutOf
 }
 
 /// What a running master is asked: the last one named counts.
-pub fn control_in(steps: &[Step]) -> Control
+pub fn control_in(steps: &[Step]) -> MasterCommand
     ensures { result ≡ control_in Check steps.now }
 {
-    let mut control = Control::Check;
+    let mut control = MasterCommand::Check;
     for step in steps {
         if let Act::Controls(named) = step.act() {
             control = *named;
@@ -179,11 +179,11 @@ pub fn names_forwarding(steps: &[Step]) -> bool
 }
 
 /// Whether a command is about the forwardings that are named.
-pub fn is_about_forwardings(control: Control) -> bool
+pub fn is_about_forwardings(control: MasterCommand) -> bool
     ensures { result ≡ is_about_forwardings control }
 {
     match control {
-        Control::Forward | Control::Cancel => true,
+        MasterCommand::Forward | MasterCommand::Cancel => true,
         _ => false,
     }
 }

@@ -12,14 +12,14 @@ use Rattle.conf_rules.specs.declared.causes.Cause.{Cause}
 use Rattle.conf_rules.specs.declared.causes.Cause.TheVariants as causes
 use Rattle.conf_rules.specs.declared.causes.ResolveError.{ResolveError}
 use Rattle.conf_rules.specs.declared.causes.ResolveError.TheVariants as resolve_errors
-use Rattle.conf_rules.specs.declared.entry.Entry.{Entry}
-use Rattle.conf_rules.specs.declared.entry.Entry.TheVariants.{Nothing, Host, Match, Gives}
+use Rattle.conf_rules.specs.declared.entry.LineContent.{LineContent}
+use Rattle.conf_rules.specs.declared.entry.LineContent.TheVariants.{Nothing, Host, Match, Gives}
 use Rattle.conf_rules.specs.declared.key_kind.KeyKind.{KeyKind}
 use Rattle.conf_rules.specs.declared.key_kind.KeyKind.TheVariants as kinds
 use Rattle.conf_rules.specs.Results.{as_error}
 use Rattle.conf_rules.specs.Texts.{Bytes}
 use Rattle.conf_rules.specs.Heads.{Heading, Comment, Says, head_of}
-use Rattle.conf_rules.specs.Told.{Told}
+use Rattle.conf_rules.specs.Recorded.{Recorded}
 use Rattle.conf_rules.specs.Includes.{CommandLine}
 use Rattle.conf_rules.specs.Sources.{Line, Content, Spelled, Parts, Refused, asked_line}
 use Rattle.conf_rules.specs.Rows.{Row, Pass, First, Second, Place, given, entry_gives, value, word_in}
@@ -55,12 +55,12 @@ asked-file (asks.Parts word keyword words) = refl
 
 -- ---- what it says
 
-unknown-plain : (t : Bool) (keyword : Bytes) (words : SplitWords) (e : Entry) → Rattle.conf_rules.specs.Entries.unknown_entry t keyword words ≡ Ok e → opens e ≡ false
+unknown-plain : (t : Bool) (keyword : Bytes) (words : SplitWords) (e : LineContent) → Rattle.conf_rules.specs.Entries.unknown_entry t keyword words ≡ Ok e → opens e ≡ false
 unfolding opens
 unknown-plain true keyword words e h = let a = bind-ok words _ e h in let k : Nothing ≡ e = cc in sym (ap opens k)
 unknown-plain false keyword words e h = absurd cc
 
-keyword-plain : (ignored : Option Bytes) (keyword rest : Bytes) (words : SplitWords) (m : KeyKind) (e : Entry) → keyword_entry ignored CommandLine keyword rest words m ≡ Ok e → opens e ≡ false
+keyword-plain : (ignored : Option Bytes) (keyword rest : Bytes) (words : SplitWords) (m : KeyKind) (e : LineContent) → keyword_entry ignored CommandLine keyword rest words m ≡ Ok e → opens e ≡ false
 unfolding opens
 keyword-plain ignored keyword rest words (kinds.Key key) e h =
     let a = bind-ok (Rattle.conf_rules.specs.Entries.key_words (Rattle.conf_rules.specs.Kinds.is_raw key) words) _ e h in
@@ -72,13 +72,13 @@ keyword-plain ignored keyword rest words kinds.Include e h = absurd cc
 keyword-plain ignored keyword rest words kinds.Unchecked e h = let k : Nothing ≡ e = cc in sym (ap opens k)
 keyword-plain ignored keyword rest words kinds.Unknown e h = unknown-plain (Rattle.conf_rules.specs.Entries.takes_keyword ignored keyword) keyword words e h
 
-heading-plain : (ignored : Option Bytes) (heading : Heading) (e : Entry) → headed_entry ignored CommandLine heading ≡ Ok e → opens e ≡ false
+heading-plain : (ignored : Option Bytes) (heading : Heading) (e : LineContent) → headed_entry ignored CommandLine heading ≡ Ok e → opens e ≡ false
 unfolding opens
 heading-plain ignored Comment e h = let k : Nothing ≡ e = cc in sym (ap opens k)
 heading-plain ignored (Says keyword rest) e h = keyword-plain ignored keyword rest (split rest) (meaning_of keyword) e h
 
 -- a line of the command line opens no block
-pub content-plain : (ignored : Option Bytes) (content : Content) (e : Entry) → content_entry ignored CommandLine content ≡ Ok e → opens e ≡ false
+pub content-plain : (ignored : Option Bytes) (content : Content) (e : LineContent) → content_entry ignored CommandLine content ≡ Ok e → opens e ≡ false
 content-plain ignored (Spelled bytes) e h = let a = bind-ok (as_error causes.Lex (head_of bytes)) (headed_entry ignored CommandLine) e h in heading-plain ignored a.0 e a.2
 content-plain ignored (Parts keyword words) e h = keyword-plain ignored keyword [] (Ok words) (meaning_of keyword) e h
 content-plain ignored (Refused cause) e h = absurd cc
@@ -94,30 +94,30 @@ asked-says rows l = ap (λ s. content_entry (word_in (value keys.IgnoreUnknown r
 unfoldable pub asked_with : Line → Bool → Effect → Row
 asked_with line again effect = row_with line true again effect
 
-no-limit : (told : Told) (line : Line) (place : ℕ) → line.source ≡ CommandLine → Rattle.conf_rules.specs.Resolution.is_past_limit told line place ≡ false
-no-limit told line place h = rw h refl
+no-limit : (recorded : Recorded) (line : Line) (place : ℕ) → line.source ≡ CommandLine → Rattle.conf_rules.specs.Resolution.is_past_limit recorded line place ≡ false
+no-limit recorded line place h = rw h refl
 
 no-blocks : (rows : List Row) (pass : Pass) (line : Line) → line.blocks ≡ [] → is_active rows pass line ≡ true
 no-blocks rows pass line h = rw h refl
 
-pub asked-row-is : (told : Told) (pass : Pass) (rows : List Row) (place : ℕ) (l : AskedLine) → next_row told pass rows place (asked_line l) ≡ asked_with (asked_line l) (active_before pass place) (effect_of told pass rows true (entry_of rows (asked_line l)))
+pub asked-row-is : (recorded : Recorded) (pass : Pass) (rows : List Row) (place : ℕ) (l : AskedLine) → next_row recorded pass rows place (asked_line l) ≡ asked_with (asked_line l) (active_before pass place) (effect_of recorded pass rows true (entry_of rows (asked_line l)))
 unfolding next_row row_of asked_with
-asked-row-is told pass rows place l = rw (no-blocks rows pass (asked_line l) (asked-blocks l), no-limit told (asked_line l) place (asked-source l)) refl
+asked-row-is recorded pass rows place l = rw (no-blocks rows pass (asked_line l) (asked-blocks l), no-limit recorded (asked_line l) place (asked-source l)) refl
 
-plain-effect : (told : Told) (pass : Pass) (rows : List Row) (e : Entry) → opens e ≡ false → effect_of told pass rows true (Ok e) ≡ no_block (Ok e)
+plain-effect : (recorded : Recorded) (pass : Pass) (rows : List Row) (e : LineContent) → opens e ≡ false → effect_of recorded pass rows true (Ok e) ≡ no_block (Ok e)
 unfolding opens
-plain-effect told pass rows Nothing h = refl
-plain-effect told pass rows (Gives key v) h = refl
-plain-effect told pass rows (Host ps) h = absurd cc
-plain-effect told pass rows (Match cs) h = absurd cc
+plain-effect recorded pass rows Nothing h = refl
+plain-effect recorded pass rows (Gives key v) h = refl
+plain-effect recorded pass rows (Host ps) h = absurd cc
+plain-effect recorded pass rows (Match cs) h = absurd cc
 
 -- the row of one that says this
-pub asked-row-says : (told : Told) (pass : Pass) (rows : List Row) (place : ℕ) (l : AskedLine) (e : Entry) → entry_of rows (asked_line l) ≡ Ok e
-    → next_row told pass rows place (asked_line l) ≡ row_with (asked_line l) true (active_before pass place) (no_block (Ok e))
+pub asked-row-says : (recorded : Recorded) (pass : Pass) (rows : List Row) (place : ℕ) (l : AskedLine) (e : LineContent) → entry_of rows (asked_line l) ≡ Ok e
+    → next_row recorded pass rows place (asked_line l) ≡ row_with (asked_line l) true (active_before pass place) (no_block (Ok e))
 unfolding asked_with
-asked-row-says told pass rows place l e h =
+asked-row-says recorded pass rows place l e h =
     let plain : opens e ≡ false = content-plain (word_in (value keys.IgnoreUnknown rows)) (asked_line l).content e (sym (asked-says rows l) ∙ h) in
-    asked-row-is told pass rows place l ∙ ap (λ r. row_with (asked_line l) true (active_before pass place) (effect_of told pass rows true r)) h ∙ ap (row_with (asked_line l) true (active_before pass place)) (plain-effect told pass rows e plain)
+    asked-row-is recorded pass rows place l ∙ ap (λ r. row_with (asked_line l) true (active_before pass place) (effect_of recorded pass rows true r)) h ∙ ap (row_with (asked_line l) true (active_before pass place)) (plain-effect recorded pass rows e plain)
 
 -- one of the command line collects nothing for a second pass
 pub asked-collected : (row : Row) (l : AskedLine) → row.line ≡ asked_line l → collected row ≡ []
@@ -125,7 +125,7 @@ asked-collected row l h =
     let is : is_asked row.line.source ≡ true = ap (λ (x : Line). is_asked x.source) h ∙ ap is_asked (asked-source l) in
     rw is refl
 
-pub plain-wants : (e : Entry) → opens e ≡ false → asks_again (Ok e) ≡ false
+pub plain-wants : (e : LineContent) → opens e ≡ false → asks_again (Ok e) ≡ false
 unfolding opens
 plain-wants Nothing h = refl
 plain-wants (Gives key v) h = refl
@@ -134,14 +134,14 @@ plain-wants (Match cs) h = absurd cc
 
 -- ---- one line
 
-pub asked-taken : (told : Told) (fold new : Fold) (rows : List Row) (l : AskedLine) (e : Entry) → Stands told First fold rows [] → content_entry (word_in (setting keys.IgnoreUnknown fold)) CommandLine (asked_line l).content ≡ Ok e
+pub asked-taken : (recorded : Recorded) (fold new : Fold) (rows : List Row) (l : AskedLine) (e : LineContent) → Stands recorded First fold rows [] → content_entry (word_in (setting keys.IgnoreUnknown fold)) CommandLine (asked_line l).content ≡ Ok e
     → ((gs : List Given) → Keeps fold.settings gs → Keeps new.settings (gs ++ entry_gives false (Ok e))) → new ≡ record fold { settings = new.settings }
-    → TakesAsked told rows (asked_line l) (Ok tt) new
-asked-taken told fold new rows l e s says keeps others =
-    let here : entry_of rows (asked_line l) ≡ Ok e = asked-says rows l ∙ ap (λ v. content_entry (word_in v) CommandLine (asked_line l).content) (sym (setting-value told First fold rows [] keys.IgnoreUnknown s)) ∙ says in
+    → TakesAsked recorded rows (asked_line l) (Ok tt) new
+asked-taken recorded fold new rows l e s says keeps others =
+    let here : entry_of rows (asked_line l) ≡ Ok e = asked-says rows l ∙ ap (λ v. content_entry (word_in v) CommandLine (asked_line l).content) (sym (setting-value recorded First fold rows [] keys.IgnoreUnknown s)) ∙ says in
     let plain : opens e ≡ false = content-plain (word_in (setting keys.IgnoreUnknown fold)) (asked_line l).content e says in
-    let row = asked_row told rows (asked_line l) in
-    let is : row ≡ row_with (asked_line l) true false (no_block (Ok e)) = asked-row-says told First rows (length rows) l e here in
+    let row = asked_row recorded rows (asked_line l) in
+    let is : row ≡ row_with (asked_line l) true false (no_block (Ok e)) = asked-row-says recorded First rows (length rows) l e here in
     let gives : given row ≡ entry_gives false (Ok e) = ap given is in (
       ap (λ (r : Row). is_refused r.entry) is,
       record {
@@ -152,35 +152,35 @@ asked-taken told fold new rows l e s says keeps others =
         again = ap (λ (f : Fold). f.asks_again) others ∙ s.again ∙ sym (wants-more rows row ∙ ap (λ b. list_any wants_second rows || b) (ap wants_second is ∙ plain-wants e plain) ∙ or-false (list_any wants_second rows));
         in_pass = record {
           name = ap (λ (f : Fold). f.name) others ∙ s.in_pass.name;
-          active = ap (λ (f : Fold). f.were_active) others ∙ s.in_pass.active ∙ sym (collected-more rows row ∙ ap (λ xs. flat_map collected rows ++ xs) (asked-collected row l (row-line told First rows (length rows) (asked_line l))) ∙ append-nil (flat_map collected rows));
+          active = ap (λ (f : Fold). f.were_active) others ∙ s.in_pass.active ∙ sym (collected-more rows row ∙ ap (λ xs. flat_map collected rows ++ xs) (asked-collected row l (row-line recorded First rows (length rows) (asked_line l))) ∙ append-nil (flat_map collected rows));
         };
       },
     )
 
-asked-refused-row : (told : Told) (rows : List Row) (l : AskedLine) (c : Cause) → entry_of rows (asked_line l) ≡ Err c → (asked_row told rows (asked_line l)).entry ≡ Err c
+asked-refused-row : (recorded : Recorded) (rows : List Row) (l : AskedLine) (c : Cause) → entry_of rows (asked_line l) ≡ Err c → (asked_row recorded rows (asked_line l)).entry ≡ Err c
 unfolding asked_with
-asked-refused-row told rows l c h = ap (λ (r : Row). r.entry) (asked-row-is told First rows (length rows) l) ∙ ap (λ r. (effect_of told First rows true r).entry) h
+asked-refused-row recorded rows l c h = ap (λ (r : Row). r.entry) (asked-row-is recorded First rows (length rows) l) ∙ ap (λ r. (effect_of recorded First rows true r).entry) h
 
-pub asked-refused : (told : Told) (fold new : Fold) (rows : List Row) (l : AskedLine) (e : LineError) (number : ℕ) (d : ResolveError) → Stands told First fold rows [] → FailsLine e (content_entry (word_in (setting keys.IgnoreUnknown fold)) CommandLine (asked_line l).content)
-    → number ≡ (asked_line l).number → Refuses e (codes "command line") number d → TakesAsked told rows (asked_line l) (Err d) new
-asked-refused told fold new rows l e number resolve_errors.OutOfMemory s f at r = tt
-asked-refused told fold new rows l line_errors.OutOfMemory number (resolve_errors.At file n cause) s f at r = absurd cc
-asked-refused told fold new rows l (line_errors.Refused c) number (resolve_errors.At file n cause) s f at r =
-    let here : entry_of rows (asked_line l) ≡ Err c = asked-says rows l ∙ ap (λ v. content_entry (word_in v) CommandLine (asked_line l).content) (sym (setting-value told First fold rows [] keys.IgnoreUnknown s)) ∙ f in
-    ap (refusal_at (asked_line l)) (asked-refused-row told rows l c here)
+pub asked-refused : (recorded : Recorded) (fold new : Fold) (rows : List Row) (l : AskedLine) (e : LineError) (number : ℕ) (d : ResolveError) → Stands recorded First fold rows [] → FailsLine e (content_entry (word_in (setting keys.IgnoreUnknown fold)) CommandLine (asked_line l).content)
+    → number ≡ (asked_line l).number → Refuses e (codes "command line") number d → TakesAsked recorded rows (asked_line l) (Err d) new
+asked-refused recorded fold new rows l e number resolve_errors.OutOfMemory s f at r = tt
+asked-refused recorded fold new rows l line_errors.OutOfMemory number (resolve_errors.At file n cause) s f at r = absurd cc
+asked-refused recorded fold new rows l (line_errors.Refused c) number (resolve_errors.At file n cause) s f at r =
+    let here : entry_of rows (asked_line l) ≡ Err c = asked-says rows l ∙ ap (λ v. content_entry (word_in v) CommandLine (asked_line l).content) (sym (setting-value recorded First fold rows [] keys.IgnoreUnknown s)) ∙ f in
+    ap (refusal_at (asked_line l)) (asked-refused-row recorded rows l c here)
     ∙ ap (λ x. Some x) (ap (λ x. resolve_errors.At x (asked_line l).number c) (asked-file l) ∙ ap (λ x. resolve_errors.At (codes "command line") x c) (sym at) ∙ sym r)
 
 -- ---- all of them
 
 -- what a fold stands for before some of them
-pub record SoFar (told : Told) (fold : Fold) (lines : List AskedLine) : Type 0 where
+pub record SoFar (recorded : Recorded) (fold : Fold) (lines : List AskedLine) : Type 0 where
   pub rows : List Row
-  pub stands : Stands told First fold rows []
+  pub stands : Stands recorded First fold rows []
   pub none : refusal_in rows ≡ None
-  pub is : from told First rows (length rows) (map asked_line lines) ≡ asked_rows told
+  pub is : from recorded First rows (length rows) (map asked_line lines) ≡ asked_rows recorded
 
-pub begins : (told : Told) (fold : Fold) → IsEmpty told.asked.original fold → SoFar told fold told.asked.lines
-begins told fold e = record {
+pub begins : (recorded : Recorded) (fold : Fold) → IsEmpty recorded.asked.original fold → SoFar recorded fold recorded.asked.lines
+begins recorded fold e = record {
   rows = [];
   stands = record {
     original = e.original_is;
@@ -200,28 +200,28 @@ begins told fold e = record {
     nothing-kept Rattle.conf_rules.specs.Kinds.Patterns key = refl
     nothing-kept Rattle.conf_rules.specs.Kinds.Shared key = refl
 
-pub goes-on : (told : Told) (fold new : Fold) (l : AskedLine) (ls : List AskedLine) → (s : SoFar told fold (l ∷ ls)) → TakesAsked told s.rows (asked_line l) (Ok tt) new → SoFar told new ls
-goes-on told fold new l ls s t =
-    let row = asked_row told s.rows (asked_line l) in
+pub goes-on : (recorded : Recorded) (fold new : Fold) (l : AskedLine) (ls : List AskedLine) → (s : SoFar recorded fold (l ∷ ls)) → TakesAsked recorded s.rows (asked_line l) (Ok tt) new → SoFar recorded new ls
+goes-on recorded fold new l ls s t =
+    let row = asked_row recorded s.rows (asked_line l) in
     let k : length (s.rows ++ row ∷ []) ≡ length s.rows + 1 = length-append s.rows (row ∷ []) in
     record {
       rows = s.rows ++ row ∷ [];
       stands = t.1;
-      none = behind-ok told First s.rows (length s.rows) (asked_line l) s.none t.0;
-      is = ap (λ n. from told First (s.rows ++ row ∷ []) n (map asked_line ls)) k ∙ sym (rows-on told First s.rows (length s.rows) (asked_line l) (map asked_line ls) t.0) ∙ s.is;
+      none = behind-ok recorded First s.rows (length s.rows) (asked_line l) s.none t.0;
+      is = ap (λ n. from recorded First (s.rows ++ row ∷ []) n (map asked_line ls)) k ∙ sym (rows-on recorded First s.rows (length s.rows) (asked_line l) (map asked_line ls) t.0) ∙ s.is;
     }
 
-pub stops : (told : Told) (fold new : Fold) (l : AskedLine) (ls : List AskedLine) (e : ResolveError) → (s : SoFar told fold (l ∷ ls)) → TakesAsked told s.rows (asked_line l) (Err e) new → IsBegun told (Err e)
-stops told fold new l ls resolve_errors.OutOfMemory s t = tt
-stops told fold new l ls (resolve_errors.At file number cause) s t =
-    let row = asked_row told s.rows (asked_line l) in
+pub stops : (recorded : Recorded) (fold new : Fold) (l : AskedLine) (ls : List AskedLine) (e : ResolveError) → (s : SoFar recorded fold (l ∷ ls)) → TakesAsked recorded s.rows (asked_line l) (Err e) new → IsBegun recorded (Err e)
+stops recorded fold new l ls resolve_errors.OutOfMemory s t = tt
+stops recorded fold new l ls (resolve_errors.At file number cause) s t =
+    let row = asked_row recorded s.rows (asked_line l) in
     let refused : is_refused row.entry ≡ true = some-refused (asked_line l) row.entry _ t in
-    ap refusal_in (sym s.is ∙ rows-end told First s.rows (length s.rows) (asked_line l) (map asked_line ls) refused) ∙ refusal-behind s.rows row s.none
-    ∙ ap (λ x. refusal_at x row.entry) (row-line told First s.rows (length s.rows) (asked_line l)) ∙ t
+    ap refusal_in (sym s.is ∙ rows-end recorded First s.rows (length s.rows) (asked_line l) (map asked_line ls) refused) ∙ refusal-behind s.rows row s.none
+    ∙ ap (λ x. refusal_at x row.entry) (row-line recorded First s.rows (length s.rows) (asked_line l)) ∙ t
 
-pub ends : (told : Told) (fold : Fold) → SoFar told fold [] → IsBegun told (Ok fold)
+pub ends : (recorded : Recorded) (fold : Fold) → SoFar recorded fold [] → IsBegun recorded (Ok fold)
 unfolding rows_from
-ends told fold s = (subst (λ rows. Stands told First fold rows []) s.is s.stands, ap refusal_in (sym s.is) ∙ s.none)
+ends recorded fold s = (subst (λ rows. Stands recorded First fold rows []) s.is s.stands, ap refusal_in (sym s.is) ∙ s.none)
 
 -- the next of some lines, and those behind it
 pub next-asked : (lines items : List AskedLine) (i : ℕ) (x : AskedLine) → items ≡ lines → i < length items → x ≡ get_or items i x → drop i lines ≡ x ∷ drop (i + 1) lines

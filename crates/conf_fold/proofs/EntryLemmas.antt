@@ -9,12 +9,12 @@ use Rattle.conf_rules.specs.declared.criterion.Criterion.{Criterion}
 use Rattle.conf_rules.specs.declared.causes.Cause.{Cause}
 use Rattle.conf_rules.specs.declared.causes.TokenError.{TokenError}
 use Rattle.conf_rules.specs.declared.causes.Cause.TheVariants as causes
-use Rattle.conf_rules.specs.declared.entry.Entry.{Entry}
-use Rattle.conf_rules.specs.declared.entry.Entry.TheVariants.{Nothing, Host, Match, Gives}
+use Rattle.conf_rules.specs.declared.entry.LineContent.{LineContent}
+use Rattle.conf_rules.specs.declared.entry.LineContent.TheVariants.{Nothing, Host, Match, Gives}
 use Rattle.conf_rules.specs.Results.{◌>>=◌, as_error}
 use Rattle.conf_rules.specs.Texts.{Bytes, same_word, lower}
 use Rattle.conf_rules.specs.Heads.{Says}
-use Rattle.conf_rules.specs.Told.{Told}
+use Rattle.conf_rules.specs.Recorded.{Recorded}
 use Rattle.conf_rules.specs.Evaluation.{verdict}
 use Rattle.conf_rules.specs.Includes.{Source, CommandLine, UserFile, SystemFile}
 use Rattle.conf_rules.specs.Sources.{Line}
@@ -56,15 +56,15 @@ line-says rows line given blocks is =
     ∙ ap (λ h. as_error causes.Lex h >>= headed_entry ignored line.source) is.says
     ∙ entry-any-file ignored line.source given.keyword given.rest (split given.rest) (meaning_of given.keyword) is.asked
 
-pub entry-same : (told : Told) (pass : Pass) (fold : Fold) (rows : List Row) (blocks : Blocks) (line : Line) (given : ConfLine)
-    → Stands told pass fold rows blocks → IsLine given blocks line → entry_of rows line ≡ entry_so_far fold given
+pub entry-same : (recorded : Recorded) (pass : Pass) (fold : Fold) (rows : List Row) (blocks : Blocks) (line : Line) (given : ConfLine)
+    → Stands recorded pass fold rows blocks → IsLine given blocks line → entry_of rows line ≡ entry_so_far fold given
 unfolding entry_so_far
-entry-same told pass fold rows blocks line given s is =
+entry-same recorded pass fold rows blocks line given s is =
     line-says rows line given blocks is
-    ∙ ap (λ v. headed_entry (word_in v) UserFile (Says given.keyword given.rest)) (sym (setting-value told pass fold rows blocks keys.IgnoreUnknown s))
+    ∙ ap (λ v. headed_entry (word_in v) UserFile (Says given.keyword given.rest)) (sym (setting-value recorded pass fold rows blocks keys.IgnoreUnknown s))
 
 -- whether an entry opens a block
-unfoldable pub opens : Entry → Bool
+unfoldable pub opens : LineContent → Bool
 opens (Host patterns) = true
 opens (Match criteria) = true
 opens entry = false
@@ -118,7 +118,7 @@ opens-by keyword false false h k = sym (no-block keyword h k)
 pub opens-meaning : (keyword : Bytes) → opens_block keyword ≡ is_block (meaning_of keyword)
 opens-meaning keyword = opens-by keyword (same_word keyword (codes "host")) (same_word keyword (codes "match")) refl refl
 
-pub said-opens : (ignored : Option Bytes) (keyword rest : Bytes) (words : SplitWords) (m : KeyKind) (e : Entry) → keyword_entry ignored UserFile keyword rest words m ≡ Ok e → is_block m ≡ opens e
+pub said-opens : (ignored : Option Bytes) (keyword rest : Bytes) (words : SplitWords) (m : KeyKind) (e : LineContent) → keyword_entry ignored UserFile keyword rest words m ≡ Ok e → is_block m ≡ opens e
 unfolding is_block opens
 said-opens ignored keyword rest words (kinds.Key key) e h =
     let a = bind-ok (Rattle.conf_rules.specs.Entries.key_words (Rattle.conf_rules.specs.Kinds.is_raw key) words) _ e h in
@@ -138,7 +138,7 @@ said-opens ignored keyword rest words kinds.Unknown e h = ignored-opens (Rattle.
     ignored-opens false h = absurd cc
 
 -- a line's keyword opens a block exactly where what it says does
-pub entry-opens : (fold : Fold) (l : ConfLine) (e : Entry) → entry_so_far fold l ≡ Ok e → opens_block l.keyword ≡ opens e
+pub entry-opens : (fold : Fold) (l : ConfLine) (e : LineContent) → entry_so_far fold l ≡ Ok e → opens_block l.keyword ≡ opens e
 unfolding entry_so_far
 entry-opens fold l e h = opens-meaning l.keyword ∙ said-opens (word_in (setting keys.IgnoreUnknown fold)) l.keyword l.rest (split l.rest) (meaning_of l.keyword) e h
 
@@ -164,18 +164,18 @@ pub tested-collects : (h : Result Bool TokenError) (ran : List Bytes) (cs : List
 tested-collects (Ok b) ran cs = refl
 tested-collects (Err e) ran cs = refl
 
-pub effect-collects : (told : Told) (pass : Pass) (rows : List Row) (active : Bool) (r : Result Entry Cause) → collects (effect_of told pass rows active r).entry ≡ collects r
-effect-collects told pass rows active (Err c) = elim active as (λ a. collects (effect_of told pass rows a (Err c)).entry ≡ false) [ true ↦ refl | false ↦ refl ]
-effect-collects told pass rows active (Ok Nothing) = elim active as (λ a. collects (effect_of told pass rows a (Ok Nothing)).entry ≡ false) [ true ↦ refl | false ↦ refl ]
-effect-collects told pass rows active (Ok (Gives k v)) = elim active as (λ a. collects (effect_of told pass rows a (Ok (Gives k v))).entry ≡ is_collected k) [ true ↦ refl | false ↦ refl ]
-effect-collects told pass rows active (Ok (Host ps)) = elim active as (λ a. collects (effect_of told pass rows a (Ok (Host ps))).entry ≡ false) [ true ↦ refl | false ↦ refl ]
-effect-collects told pass rows true (Ok (Match cs)) = tested-collects (verdict told.status (seen_at told pass rows) cs).holds _ cs
-effect-collects told pass rows false (Ok (Match cs)) = refl
+pub effect-collects : (recorded : Recorded) (pass : Pass) (rows : List Row) (active : Bool) (r : Result LineContent Cause) → collects (effect_of recorded pass rows active r).entry ≡ collects r
+effect-collects recorded pass rows active (Err c) = elim active as (λ a. collects (effect_of recorded pass rows a (Err c)).entry ≡ false) [ true ↦ refl | false ↦ refl ]
+effect-collects recorded pass rows active (Ok Nothing) = elim active as (λ a. collects (effect_of recorded pass rows a (Ok Nothing)).entry ≡ false) [ true ↦ refl | false ↦ refl ]
+effect-collects recorded pass rows active (Ok (Gives k v)) = elim active as (λ a. collects (effect_of recorded pass rows a (Ok (Gives k v))).entry ≡ is_collected k) [ true ↦ refl | false ↦ refl ]
+effect-collects recorded pass rows active (Ok (Host ps)) = elim active as (λ a. collects (effect_of recorded pass rows a (Ok (Host ps))).entry ≡ false) [ true ↦ refl | false ↦ refl ]
+effect-collects recorded pass rows true (Ok (Match cs)) = tested-collects (verdict recorded.status (seen_at recorded pass rows) cs).holds _ cs
+effect-collects recorded pass rows false (Ok (Match cs)) = refl
 
 -- the row of a given line collects where the line does
-pub row-collects : (told : Told) (pass : Pass) (rows : List Row) (place : ℕ) (line : Line) → is_past_limit told line place ≡ false
-    → collects (row_of told entry_of rows (record { pass = pass; line = place }) line).entry ≡ collects (entry_of rows line)
+pub row-collects : (recorded : Recorded) (pass : Pass) (rows : List Row) (place : ℕ) (line : Line) → is_past_limit recorded line place ≡ false
+    → collects (row_of recorded entry_of rows (record { pass = pass; line = place }) line).entry ≡ collects (entry_of rows line)
 unfolding row_of
-row-collects told pass rows place line within =
-    effect-collects told pass rows (is_active rows pass line) (counted told entry_of rows line place)
-    ∙ ap collects (let k : counted told entry_of rows line place ≡ entry_of rows line = rw within refl in k)
+row-collects recorded pass rows place line within =
+    effect-collects recorded pass rows (is_active rows pass line) (counted recorded entry_of rows line place)
+    ∙ ap collects (let k : counted recorded entry_of rows line place ≡ entry_of rows line = rw within refl in k)

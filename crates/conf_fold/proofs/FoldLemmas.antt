@@ -7,10 +7,10 @@ use Rattle.conf_rules.specs.declared.criterion.Criterion.{Criterion}
 use Rattle.conf_rules.specs.declared.causes.Cause.{Cause}
 use Rattle.conf_rules.specs.declared.causes.TokenError.{TokenError}
 use Rattle.conf_rules.specs.declared.causes.Cause.TheVariants as causes
-use Rattle.conf_rules.specs.declared.entry.Entry.{Entry}
-use Rattle.conf_rules.specs.declared.entry.Entry.TheVariants.{Nothing, Host, Match}
+use Rattle.conf_rules.specs.declared.entry.LineContent.{LineContent}
+use Rattle.conf_rules.specs.declared.entry.LineContent.TheVariants.{Nothing, Host, Match}
 use Rattle.conf_rules.specs.Texts.{Bytes}
-use Rattle.conf_rules.specs.Told.{Told}
+use Rattle.conf_rules.specs.Recorded.{Recorded}
 use Rattle.conf_rules.specs.Patterns.{answer_of, is_yes}
 use Rattle.conf_rules.specs.Evaluation.{verdict}
 use Rattle.conf_rules.specs.Sources.{Line}
@@ -31,140 +31,140 @@ use Rattle.conf_fold.proofs.RowLemmas.{line-active, said, row-said, or-false, Mo
 
 -- ---- a line that says nothing
 
-pub folds-nothing : (told : Told) (pass : Pass) (fold new : Fold) (rows : List Row) (blocks : Blocks) (l : ConfLine) (place : ℕ) (line : Line)
-    → Stands told pass fold rows blocks → IsNext told pass rows blocks l place line → entry_so_far fold l ≡ Ok Nothing
+pub folds-nothing : (recorded : Recorded) (pass : Pass) (fold new : Fold) (rows : List Row) (blocks : Blocks) (l : ConfLine) (place : ℕ) (line : Line)
+    → Stands recorded pass fold rows blocks → IsNext recorded pass rows blocks l place line → entry_so_far fold l ≡ Ok Nothing
     → (l.opens ≡ false → l.depth < length fold.applies) → new ≡ record fold { applies = entered l.depth l.opens fold.applies }
-    → (is_refused (next_row told pass rows place line).entry ≡ false) × Stands told pass new (rows ++ next_row told pass rows place line ∷ []) (open_behind l place blocks)
+    → (is_refused (next_row recorded pass rows place line).entry ≡ false) × Stands recorded pass new (rows ++ next_row recorded pass rows place line ∷ []) (open_behind l place blocks)
 unfolding opens said
-folds-nothing told pass fold new rows blocks l place line s n e known new-is =
-    let says : entry_of rows line ≡ Ok Nothing = entry-same told pass fold rows blocks line l s n.is_line ∙ e in
+folds-nothing recorded pass fold new rows blocks l place line s n e known new-is =
+    let says : entry_of rows line ≡ Ok Nothing = entry-same recorded pass fold rows blocks line l s n.is_line ∙ e in
     let active = is_active rows pass line in
-    let row : Row = said told pass rows place line active Nothing in
-    let here : next_row told pass rows place line ≡ row = row-said told pass rows blocks l place line Nothing n says in
-    let effect : effect_of told pass rows active (Ok Nothing) ≡ no_block (Ok Nothing) = nothing-effect told pass rows active in
+    let row : Row = said recorded pass rows place line active Nothing in
+    let here : next_row recorded pass rows place line ≡ row = row-said recorded pass rows blocks l place line Nothing n says in
+    let effect : effect_of recorded pass rows active (Ok Nothing) ≡ no_block (Ok Nothing) = nothing-effect recorded pass rows active in
     let entry : row.entry ≡ Ok Nothing = ap (λ (f : Effect). f.entry) effect in
-    let more : More told pass fold new rows blocks l place row = record {
+    let more : More recorded pass fold new rows blocks l place row = record {
       original = ap (λ (f : Fold). f.original) new-is;
       keeps = rw (ap (λ (f : Fold). f.settings) new-is, nothing-given row.active row.again row.entry entry, append-nil (flat_map given rows)) s.keeps;
-      applies = ap (λ (f : Fold). f.applies) new-is ∙ marks-same told pass fold rows blocks l place row s (entry-opens fold l Nothing e) known;
+      applies = ap (λ (f : Fold). f.applies) new-is ∙ marks-same recorded pass fold rows blocks l place row s (entry-opens fold l Nothing e) known;
       again = ap (λ (f : Fold). f.asks_again) new-is ∙ sym (ap (λ r. fold.asks_again || asks_again r) entry ∙ or-false fold.asks_again);
-      in_pass = in-pass-same told pass fold new (rows ++ row ∷ []) (pass-idle told pass fold rows blocks l place line row s.in_pass n (ap collects entry) (ap collects says)) (ap (λ (f : Fold). f.name) new-is) (ap (λ (f : Fold). f.were_active) new-is) (ap (λ (f : Fold). f.seen) new-is);
+      in_pass = in-pass-same recorded pass fold new (rows ++ row ∷ []) (pass-idle recorded pass fold rows blocks l place line row s.in_pass n (ap collects entry) (ap collects says)) (ap (λ (f : Fold). f.name) new-is) (ap (λ (f : Fold). f.were_active) new-is) (ap (λ (f : Fold). f.seen) new-is);
     } in
-    (rw here (ap is_refused entry), rw here (stands-more told pass fold new rows blocks l place row s n.at more))
+    (rw here (ap is_refused entry), rw here (stands-more recorded pass fold new rows blocks l place row s n.at more))
   where
-    nothing-effect : (told : Told) (pass : Pass) (rows : List Row) (active : Bool) → effect_of told pass rows active (Ok Nothing) ≡ no_block (Ok Nothing)
-    nothing-effect told pass rows true = refl
-    nothing-effect told pass rows false = refl
+    nothing-effect : (recorded : Recorded) (pass : Pass) (rows : List Row) (active : Bool) → effect_of recorded pass rows active (Ok Nothing) ≡ no_block (Ok Nothing)
+    nothing-effect recorded pass rows true = refl
+    nothing-effect recorded pass rows false = refl
 
-    nothing-given : (active again : Bool) (r : Result Entry Cause) → r ≡ Ok Nothing → cond active (entry_gives again r) [] ≡ []
+    nothing-given : (active again : Bool) (r : Result LineContent Cause) → r ≡ Ok Nothing → cond active (entry_gives again r) [] ≡ []
     nothing-given true again r h = ap (entry_gives again) h
     nothing-given false again r h = refl
 
 -- a row that gives nothing
-pub gives-nothing : (active again : Bool) (r : Result Entry Cause) → entry_gives again r ≡ [] → cond active (entry_gives again r) [] ≡ []
+pub gives-nothing : (active again : Bool) (r : Result LineContent Cause) → entry_gives again r ≡ [] → cond active (entry_gives again r) [] ≡ []
 gives-nothing true again r h = h
 gives-nothing false again r h = refl
 
 -- ---- a Host line
 
-pub folds-block : (told : Told) (pass : Pass) (fold new : Fold) (rows : List Row) (blocks : Blocks) (l : ConfLine) (place : ℕ) (line : Line) (ps : List Bytes)
-    → Stands told pass fold rows blocks → IsNext told pass rows blocks l place line → entry_so_far fold l ≡ Ok (Host ps)
+pub folds-block : (recorded : Recorded) (pass : Pass) (fold new : Fold) (rows : List Row) (blocks : Blocks) (l : ConfLine) (place : ℕ) (line : Line) (ps : List Bytes)
+    → Stands recorded pass fold rows blocks → IsNext recorded pass rows blocks l place line → entry_so_far fold l ≡ Ok (Host ps)
     → new ≡ record fold { applies = take l.depth fold.applies ++ is_yes (answer_of ps (block_name fold)) ∷ [] }
-    → (is_refused (next_row told pass rows place line).entry ≡ false) × Stands told pass new (rows ++ next_row told pass rows place line ∷ []) (open_behind l place blocks)
+    → (is_refused (next_row recorded pass rows place line).entry ≡ false) × Stands recorded pass new (rows ++ next_row recorded pass rows place line ∷ []) (open_behind l place blocks)
 unfolding opens said
-folds-block told pass fold new rows blocks l place line ps s n e new-is =
-    let says : entry_of rows line ≡ Ok (Host ps) = entry-same told pass fold rows blocks line l s n.is_line ∙ e in
+folds-block recorded pass fold new rows blocks l place line ps s n e new-is =
+    let says : entry_of rows line ≡ Ok (Host ps) = entry-same recorded pass fold rows blocks line l s n.is_line ∙ e in
     let active = is_active rows pass line in
-    let row : Row = said told pass rows place line active (Host ps) in
-    let here : next_row told pass rows place line ≡ row = row-said told pass rows blocks l place line (Host ps) n says in
-    let name : is_yes (answer_of ps (block_name fold)) ≡ is_yes (answer_of ps (name_in_pass told pass)) = ap (λ o. is_yes (answer_of ps o)) (name-same told pass fold rows blocks s) in
-    let effect : effect_of told pass rows active (Ok (Host ps)) ≡ record { entry = Ok (Host ps); applies = is_yes (answer_of ps (name_in_pass told pass)); ran = [] } = block-effect told pass rows active ps in
+    let row : Row = said recorded pass rows place line active (Host ps) in
+    let here : next_row recorded pass rows place line ≡ row = row-said recorded pass rows blocks l place line (Host ps) n says in
+    let name : is_yes (answer_of ps (block_name fold)) ≡ is_yes (answer_of ps (name_in_pass recorded pass)) = ap (λ o. is_yes (answer_of ps o)) (name-same recorded pass fold rows blocks s) in
+    let effect : effect_of recorded pass rows active (Ok (Host ps)) ≡ record { entry = Ok (Host ps); applies = is_yes (answer_of ps (name_in_pass recorded pass)); ran = [] } = block-effect recorded pass rows active ps in
     let entry : row.entry ≡ Ok (Host ps) = ap (λ (f : Effect). f.entry) effect in
-    let more : More told pass fold new rows blocks l place row = record {
+    let more : More recorded pass fold new rows blocks l place row = record {
       original = ap (λ (f : Fold). f.original) new-is;
       keeps = rw (ap (λ (f : Fold). f.settings) new-is, gives-nothing row.active row.again row.entry (ap (entry_gives row.again) entry), append-nil (flat_map given rows)) s.keeps;
-      applies = ap (λ (f : Fold). f.applies) new-is ∙ ap (λ b. take l.depth fold.applies ++ b ∷ []) (name ∙ sym (ap (λ (f : Effect). f.applies) effect)) ∙ marks-opened told pass fold rows blocks l place row s (entry-opens fold l (Host ps) e) n.at;
+      applies = ap (λ (f : Fold). f.applies) new-is ∙ ap (λ b. take l.depth fold.applies ++ b ∷ []) (name ∙ sym (ap (λ (f : Effect). f.applies) effect)) ∙ marks-opened recorded pass fold rows blocks l place row s (entry-opens fold l (Host ps) e) n.at;
       again = ap (λ (f : Fold). f.asks_again) new-is ∙ sym (ap (λ r. fold.asks_again || asks_again r) entry ∙ or-false fold.asks_again);
-      in_pass = in-pass-same told pass fold new (rows ++ row ∷ []) (pass-idle told pass fold rows blocks l place line row s.in_pass n (ap collects entry) (ap collects says)) (ap (λ (f : Fold). f.name) new-is) (ap (λ (f : Fold). f.were_active) new-is) (ap (λ (f : Fold). f.seen) new-is);
+      in_pass = in-pass-same recorded pass fold new (rows ++ row ∷ []) (pass-idle recorded pass fold rows blocks l place line row s.in_pass n (ap collects entry) (ap collects says)) (ap (λ (f : Fold). f.name) new-is) (ap (λ (f : Fold). f.were_active) new-is) (ap (λ (f : Fold). f.seen) new-is);
     } in
-    (rw here (ap is_refused entry), rw here (stands-more told pass fold new rows blocks l place row s n.at more))
+    (rw here (ap is_refused entry), rw here (stands-more recorded pass fold new rows blocks l place row s n.at more))
   where
-    block-effect : (told : Told) (pass : Pass) (rows : List Row) (active : Bool) (ps : List Bytes) → effect_of told pass rows active (Ok (Host ps)) ≡ record { entry = Ok (Host ps); applies = is_yes (answer_of ps (name_in_pass told pass)); ran = [] }
-    block-effect told pass rows true ps = refl
-    block-effect told pass rows false ps = refl
+    block-effect : (recorded : Recorded) (pass : Pass) (rows : List Row) (active : Bool) (ps : List Bytes) → effect_of recorded pass rows active (Ok (Host ps)) ≡ record { entry = Ok (Host ps); applies = is_yes (answer_of ps (name_in_pass recorded pass)); ran = [] }
+    block-effect recorded pass rows true ps = refl
+    block-effect recorded pass rows false ps = refl
 
 -- ---- a Match line
 
 -- what an effect is where criteria were evaluated, or not
-pub tests-effect : (told : Told) (pass : Pass) (rows : List Row) (active : Bool) (cs : List Criterion) (b : Bool)
-    → (active ≡ true → (verdict told.status (seen_at told pass rows) cs).holds ≡ Ok b) → (active ≡ false → b ≡ false)
-    → ((effect_of told pass rows active (Ok (Match cs))).entry ≡ Ok (Match cs)) × ((effect_of told pass rows active (Ok (Match cs))).applies ≡ b)
-tests-effect told pass rows true cs b held none = let h = held refl in (rw h refl, rw h refl)
-tests-effect told pass rows false cs b held none = (refl, sym (none refl))
+pub tests-effect : (recorded : Recorded) (pass : Pass) (rows : List Row) (active : Bool) (cs : List Criterion) (b : Bool)
+    → (active ≡ true → (verdict recorded.status (seen_at recorded pass rows) cs).holds ≡ Ok b) → (active ≡ false → b ≡ false)
+    → ((effect_of recorded pass rows active (Ok (Match cs))).entry ≡ Ok (Match cs)) × ((effect_of recorded pass rows active (Ok (Match cs))).applies ≡ b)
+tests-effect recorded pass rows true cs b held none = let h = held refl in (rw h refl, rw h refl)
+tests-effect recorded pass rows false cs b held none = (refl, sym (none refl))
 
 pub and-one : (b : Bool) → (b && true) ≡ b
 and-one true = refl
 and-one false = refl
 
 -- where a Match line stands, all its marks are below its own file
-pub tests-active : (told : Told) (pass : Pass) (fold : Fold) (rows : List Row) (blocks : Blocks) (line : Line) (l : ConfLine) (cs : List Criterion)
-    → Stands told pass fold rows blocks → IsLine l blocks line → entry_so_far fold l ≡ Ok (Match cs) → is_active rows pass line ≡ list_all (λ m. m) (take l.depth fold.applies)
+pub tests-active : (recorded : Recorded) (pass : Pass) (fold : Fold) (rows : List Row) (blocks : Blocks) (line : Line) (l : ConfLine) (cs : List Criterion)
+    → Stands recorded pass fold rows blocks → IsLine l blocks line → entry_so_far fold l ≡ Ok (Match cs) → is_active rows pass line ≡ list_all (λ m. m) (take l.depth fold.applies)
 unfolding opens
-tests-active told pass fold rows blocks line l cs s is e =
-    line-active told pass fold rows blocks line l s is
+tests-active recorded pass fold rows blocks line l cs s is e =
+    line-active recorded pass fold rows blocks line l s is
     ∙ ap (λ o. list_all (λ m. m) (take l.depth fold.applies) && cond o true (own_mark l.depth l.opens fold.applies)) (entry-opens fold l (Match cs) e)
     ∙ and-one (list_all (λ m. m) (take l.depth fold.applies))
 
-pub folds-tests : (told : Told) (pass : Pass) (fold new : Fold) (rows : List Row) (blocks : Blocks) (l : ConfLine) (place : ℕ) (line : Line) (cs : List Criterion) (b : Bool)
-    → Stands told pass fold rows blocks → IsNext told pass rows blocks l place line → entry_so_far fold l ≡ Ok (Match cs)
-    → (list_all (λ m. m) (take l.depth fold.applies) ≡ true → (verdict told.status (view_of fold told.facts) cs).holds ≡ Ok b) → (list_all (λ m. m) (take l.depth fold.applies) ≡ false → b ≡ false)
+pub folds-tests : (recorded : Recorded) (pass : Pass) (fold new : Fold) (rows : List Row) (blocks : Blocks) (l : ConfLine) (place : ℕ) (line : Line) (cs : List Criterion) (b : Bool)
+    → Stands recorded pass fold rows blocks → IsNext recorded pass rows blocks l place line → entry_so_far fold l ≡ Ok (Match cs)
+    → (list_all (λ m. m) (take l.depth fold.applies) ≡ true → (verdict recorded.status (view_of fold recorded.facts) cs).holds ≡ Ok b) → (list_all (λ m. m) (take l.depth fold.applies) ≡ false → b ≡ false)
     → new ≡ record fold { applies = take l.depth fold.applies ++ b ∷ []; asks_again = fold.asks_again || list_any is_final cs }
-    → (is_refused (next_row told pass rows place line).entry ≡ false) × Stands told pass new (rows ++ next_row told pass rows place line ∷ []) (open_behind l place blocks)
+    → (is_refused (next_row recorded pass rows place line).entry ≡ false) × Stands recorded pass new (rows ++ next_row recorded pass rows place line ∷ []) (open_behind l place blocks)
 unfolding opens said
-folds-tests told pass fold new rows blocks l place line cs b s n e held none new-is =
-    let says : entry_of rows line ≡ Ok (Match cs) = entry-same told pass fold rows blocks line l s n.is_line ∙ e in
+folds-tests recorded pass fold new rows blocks l place line cs b s n e held none new-is =
+    let says : entry_of rows line ≡ Ok (Match cs) = entry-same recorded pass fold rows blocks line l s n.is_line ∙ e in
     let active = is_active rows pass line in
-    let active-is : active ≡ list_all (λ m. m) (take l.depth fold.applies) = tests-active told pass fold rows blocks line l cs s n.is_line e in
-    let row : Row = said told pass rows place line active (Match cs) in
-    let here : next_row told pass rows place line ≡ row = row-said told pass rows blocks l place line (Match cs) n says in
-    let effect = tests-effect told pass rows active cs b
-    (λ a. ap (λ v. (verdict told.status v cs).holds) (sym (view-same told pass fold rows blocks s)) ∙ held (sym active-is ∙ a))
+    let active-is : active ≡ list_all (λ m. m) (take l.depth fold.applies) = tests-active recorded pass fold rows blocks line l cs s n.is_line e in
+    let row : Row = said recorded pass rows place line active (Match cs) in
+    let here : next_row recorded pass rows place line ≡ row = row-said recorded pass rows blocks l place line (Match cs) n says in
+    let effect = tests-effect recorded pass rows active cs b
+    (λ a. ap (λ v. (verdict recorded.status v cs).holds) (sym (view-same recorded pass fold rows blocks s)) ∙ held (sym active-is ∙ a))
     (λ a. none (sym active-is ∙ a)) in
     let entry : row.entry ≡ Ok (Match cs) = effect.0 in
-    let more : More told pass fold new rows blocks l place row = record {
+    let more : More recorded pass fold new rows blocks l place row = record {
       original = ap (λ (f : Fold). f.original) new-is;
       keeps = rw (ap (λ (f : Fold). f.settings) new-is, gives-nothing row.active row.again row.entry (ap (entry_gives row.again) entry), append-nil (flat_map given rows)) s.keeps;
-      applies = ap (λ (f : Fold). f.applies) new-is ∙ ap (λ b. take l.depth fold.applies ++ b ∷ []) (sym effect.1) ∙ marks-opened told pass fold rows blocks l place row s (entry-opens fold l (Match cs) e) n.at;
+      applies = ap (λ (f : Fold). f.applies) new-is ∙ ap (λ b. take l.depth fold.applies ++ b ∷ []) (sym effect.1) ∙ marks-opened recorded pass fold rows blocks l place row s (entry-opens fold l (Match cs) e) n.at;
       again = ap (λ (f : Fold). f.asks_again) new-is ∙ sym (ap (λ r. fold.asks_again || asks_again r) entry);
-      in_pass = in-pass-same told pass fold new (rows ++ row ∷ []) (pass-idle told pass fold rows blocks l place line row s.in_pass n (ap collects entry) (ap collects says)) (ap (λ (f : Fold). f.name) new-is) (ap (λ (f : Fold). f.were_active) new-is) (ap (λ (f : Fold). f.seen) new-is);
+      in_pass = in-pass-same recorded pass fold new (rows ++ row ∷ []) (pass-idle recorded pass fold rows blocks l place line row s.in_pass n (ap collects entry) (ap collects says)) (ap (λ (f : Fold). f.name) new-is) (ap (λ (f : Fold). f.were_active) new-is) (ap (λ (f : Fold). f.seen) new-is);
     } in
-    (rw here (ap is_refused entry), rw here (stands-more told pass fold new rows blocks l place row s n.at more))
+    (rw here (ap is_refused entry), rw here (stands-more recorded pass fold new rows blocks l place row s n.at more))
 
 -- ---- refusals of criteria
 
-pub refused-effect : (told : Told) (pass : Pass) (rows : List Row) (active : Bool) (cs : List Criterion) (t : TokenError) → active ≡ true → (verdict told.status (seen_at told pass rows) cs).holds ≡ Err t
-    → (effect_of told pass rows active (Ok (Match cs))).entry ≡ Err (causes.Token t)
-refused-effect told pass rows true cs t a h = rw h refl
-refused-effect told pass rows false cs t a h = absurd cc
+pub refused-effect : (recorded : Recorded) (pass : Pass) (rows : List Row) (active : Bool) (cs : List Criterion) (t : TokenError) → active ≡ true → (verdict recorded.status (seen_at recorded pass rows) cs).holds ≡ Err t
+    → (effect_of recorded pass rows active (Ok (Match cs))).entry ≡ Err (causes.Token t)
+refused-effect recorded pass rows true cs t a h = rw h refl
+refused-effect recorded pass rows false cs t a h = absurd cc
 
-pub token-refused : (told : Told) (pass : Pass) (fold : Fold) (rows : List Row) (blocks : Blocks) (l : ConfLine) (place : ℕ) (line : Line) (cs : List Criterion) (t : TokenError)
-    → Stands told pass fold rows blocks → IsNext told pass rows blocks l place line → entry_so_far fold l ≡ Ok (Match cs)
-    → list_all (λ m. m) (take l.depth fold.applies) ≡ true → (verdict told.status (view_of fold told.facts) cs).holds ≡ Err t
-    → (next_row told pass rows place line).entry ≡ Err (causes.Token t)
+pub token-refused : (recorded : Recorded) (pass : Pass) (fold : Fold) (rows : List Row) (blocks : Blocks) (l : ConfLine) (place : ℕ) (line : Line) (cs : List Criterion) (t : TokenError)
+    → Stands recorded pass fold rows blocks → IsNext recorded pass rows blocks l place line → entry_so_far fold l ≡ Ok (Match cs)
+    → list_all (λ m. m) (take l.depth fold.applies) ≡ true → (verdict recorded.status (view_of fold recorded.facts) cs).holds ≡ Err t
+    → (next_row recorded pass rows place line).entry ≡ Err (causes.Token t)
 unfolding said
-token-refused told pass fold rows blocks l place line cs t s n e a h =
-    let says : entry_of rows line ≡ Ok (Match cs) = entry-same told pass fold rows blocks line l s n.is_line ∙ e in
-    ap (λ (r : Row). r.entry) (row-said told pass rows blocks l place line (Match cs) n says)
-    ∙ refused-effect told pass rows (is_active rows pass line) cs t (tests-active told pass fold rows blocks line l cs s n.is_line e ∙ a)
-    (ap (λ v. (verdict told.status v cs).holds) (sym (view-same told pass fold rows blocks s)) ∙ h)
+token-refused recorded pass fold rows blocks l place line cs t s n e a h =
+    let says : entry_of rows line ≡ Ok (Match cs) = entry-same recorded pass fold rows blocks line l s n.is_line ∙ e in
+    ap (λ (r : Row). r.entry) (row-said recorded pass rows blocks l place line (Match cs) n says)
+    ∙ refused-effect recorded pass rows (is_active rows pass line) cs t (tests-active recorded pass fold rows blocks line l cs s n.is_line e ∙ a)
+    (ap (λ v. (verdict recorded.status v cs).holds) (sym (view-same recorded pass fold rows blocks s)) ∙ h)
 
 pub no-fault : (b : Bool) → b ≡ true → b ≡ false → ⊥
 no-fault b e f = let k : true ≡ false = sym e ∙ f in cc
 
-pub tests-refused : (told : Told) (pass : Pass) (fold new : Fold) (rows : List Row) (blocks : Blocks) (l : ConfLine) (place : ℕ) (line : Line) (cs : List Criterion) (e : LineError)
-    → Stands told pass fold rows blocks → IsNext told pass rows blocks l place line → entry_so_far fold l ≡ Ok (Match cs)
-    → list_all (λ m. m) (take l.depth fold.applies) ≡ true → Evaluated (Err e) (verdict told.status (view_of fold told.facts) cs).holds
-    → FoldsEntry told pass rows blocks l place line (Err e) new
-tests-refused told pass fold new rows blocks l place line cs line_errors.OutOfMemory s n e a v = tt
-tests-refused told pass fold new rows blocks l place line cs (line_errors.Refused (causes.Token t)) s n e a v = λ f. token-refused told pass fold rows blocks l place line cs t s n e a v
-tests-refused told pass fold new rows blocks l place line cs (line_errors.Refused cause) s n e a v = λ f. absurd (no-fault (is_fault cause) v f)
+pub tests-refused : (recorded : Recorded) (pass : Pass) (fold new : Fold) (rows : List Row) (blocks : Blocks) (l : ConfLine) (place : ℕ) (line : Line) (cs : List Criterion) (e : LineError)
+    → Stands recorded pass fold rows blocks → IsNext recorded pass rows blocks l place line → entry_so_far fold l ≡ Ok (Match cs)
+    → list_all (λ m. m) (take l.depth fold.applies) ≡ true → Evaluated (Err e) (verdict recorded.status (view_of fold recorded.facts) cs).holds
+    → FoldsEntry recorded pass rows blocks l place line (Err e) new
+tests-refused recorded pass fold new rows blocks l place line cs line_errors.OutOfMemory s n e a v = tt
+tests-refused recorded pass fold new rows blocks l place line cs (line_errors.Refused (causes.Token t)) s n e a v = λ f. token-refused recorded pass fold rows blocks l place line cs t s n e a v
+tests-refused recorded pass fold new rows blocks l place line cs (line_errors.Refused cause) s n e a v = λ f. absurd (no-fault (is_fault cause) v f)

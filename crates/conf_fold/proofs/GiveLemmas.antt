@@ -5,9 +5,9 @@ use Rattle.std.specs.List.{list_all, slice_get}
 use Rattle.std.proofs.lemmas.List.{length-append}
 use Rattle.conf_rules.specs.declared.key.Key.{Key}
 use Rattle.conf_rules.specs.declared.value.Value.{Value}
-use Rattle.conf_rules.specs.declared.entry.Entry.TheVariants.{Gives}
+use Rattle.conf_rules.specs.declared.entry.LineContent.TheVariants.{Gives}
 use Rattle.conf_rules.specs.Texts.{Bytes}
-use Rattle.conf_rules.specs.Told.{Told}
+use Rattle.conf_rules.specs.Recorded.{Recorded}
 use Rattle.conf_rules.specs.Sources.{Line}
 use Rattle.conf_rules.specs.Rows.{Row, Pass, First, Second, is_collected, given}
 use Rattle.conf_rules.specs.Entries.{entry_of}
@@ -22,18 +22,18 @@ use Rattle.conf_fold.proofs.RowLemmas.{here-collects, one-collected, again-line,
 
 -- ---- a line of a key
 
-pub gives-effect : (told : Told) (pass : Pass) (rows : List Row) (active : Bool) (key : Key) (v : Value) → effect_of told pass rows active (Ok (Gives key v)) ≡ no_block (Ok (Gives key v))
-gives-effect told pass rows true key v = refl
-gives-effect told pass rows false key v = refl
+pub gives-effect : (recorded : Recorded) (pass : Pass) (rows : List Row) (active : Bool) (key : Key) (v : Value) → effect_of recorded pass rows active (Ok (Gives key v)) ≡ no_block (Ok (Gives key v))
+gives-effect recorded pass rows true key v = refl
+gives-effect recorded pass rows false key v = refl
 
 -- the row of a line that gives a value
 abbrev pub giving : Pass → ℕ → Line → Bool → Key → Value → Row
 giving pass place line active key v = record { line = line; entry = Ok (Gives key v); applies = false; active = active; again = active_before pass place; ran = [] }
 
 -- what counts is what the row gives, and what is kept of the pass goes on
-pub record Counts (told : Told) (pass : Pass) (fold : Fold) (rows : List Row) (key : Key) (active : Bool) (v : Value) (row : Row) : Type 0 where
+pub record Counts (recorded : Recorded) (pass : Pass) (fold : Fold) (rows : List Row) (key : Key) (active : Bool) (v : Value) (row : Row) : Type 0 where
   pub counts : if_counts (does_count key active fold) key v ≡ given row
-  pub in_pass : InPass told pass (noted key active fold) (rows ++ row ∷ [])
+  pub in_pass : InPass recorded pass (noted key active fold) (rows ++ row ∷ [])
 
 pub counts-none : (active again : Bool) (key : Key) (v : Value) (k : Bool) → if_counts active key v ≡ cond active (cond (again && false) [] ((key, v) ∷ [])) []
 counts-none true true key v k = refl
@@ -46,12 +46,12 @@ counts-again true false key v = refl
 counts-again false again key v = refl
 
 -- where the key doesn't collect
-pub counts-plain : (told : Told) (pass : Pass) (fold : Fold) (rows : List Row) (blocks : Blocks) (l : ConfLine) (place : ℕ) (line : Line) (key : Key) (v : Value) (active : Bool) → is_collected key ≡ false
-    → InPass told pass fold rows → IsNext told pass rows blocks l place line → entry_of rows line ≡ Ok (Gives key v)
-    → Counts told pass fold rows key active v (giving pass place line active key v)
-counts-plain told pass fold rows blocks l place line key v active h p n e = record {
+pub counts-plain : (recorded : Recorded) (pass : Pass) (fold : Fold) (rows : List Row) (blocks : Blocks) (l : ConfLine) (place : ℕ) (line : Line) (key : Key) (v : Value) (active : Bool) → is_collected key ≡ false
+    → InPass recorded pass fold rows → IsNext recorded pass rows blocks l place line → entry_of rows line ≡ Ok (Gives key v)
+    → Counts recorded pass fold rows key active v (giving pass place line active key v)
+counts-plain recorded pass fold rows blocks l place line key v active h p n e = record {
   counts = rw h (counts-none active (active_before pass place) key v true);
-  in_pass = rw h (pass-idle told pass fold rows blocks l place line (giving pass place line active key v) p n h (ap collects e ∙ h));
+  in_pass = rw h (pass-idle recorded pass fold rows blocks l place line (giving pass place line active key v) p n h (ap collects e ∙ h));
 }
 
 pub noted-none : (n : Option Bytes) (w : Option Bool) (active : Bool) (f : Fold) → n ≡ None
@@ -66,9 +66,9 @@ noted-some (Some n) None active f m b e h = absurd cc
 noted-some (Some n) (Some was) active f m b e h = refl
 
 -- where it does, in the first pass
-pub counts-first : (told : Told) (fold : Fold) (rows : List Row) (place : ℕ) (line : Line) (key : Key) (v : Value) (active : Bool) → is_asked line.source ≡ false → is_collected key ≡ true
-    → InFirst fold rows → Counts told First fold rows key active v (giving First place line active key v)
-counts-first told fold rows place line key v active asked h p =
+pub counts-first : (recorded : Recorded) (fold : Fold) (rows : List Row) (place : ℕ) (line : Line) (key : Key) (v : Value) (active : Bool) → is_asked line.source ≡ false → is_collected key ≡ true
+    → InFirst fold rows → Counts recorded First fold rows key active v (giving First place line active key v)
+counts-first recorded fold rows place line key v active asked h p =
     let noted-is : noted key active fold ≡ record fold { were_active = fold.were_active ++ active ∷ [] } = rw h (noted-none fold.name (slice_get fold.were_active fold.seen) active fold p.name) in
     let row = giving First place line active key v in
     let marks : collected row ≡ active ∷ [] = one-collected row (here-collects row asked ∙ h) in
@@ -78,15 +78,15 @@ counts-first told fold rows place line key v active asked h p =
     }
 
 -- and in the second
-pub counts-second : (told : Told) (fold : Fold) (rows before : List Row) (blocks : Blocks) (l : ConfLine) (place : ℕ) (line : Line) (key : Key) (v : Value) (active : Bool) → is_collected key ≡ true
-    → InSecond told fold rows before → IsNext told (Second before) rows blocks l place line → entry_of rows line ≡ Ok (Gives key v)
-    → Counts told (Second before) fold rows key active v (giving (Second before) place line active key v)
+pub counts-second : (recorded : Recorded) (fold : Fold) (rows before : List Row) (blocks : Blocks) (l : ConfLine) (place : ℕ) (line : Line) (key : Key) (v : Value) (active : Bool) → is_collected key ≡ true
+    → InSecond recorded fold rows before → IsNext recorded (Second before) rows blocks l place line → entry_of rows line ≡ Ok (Gives key v)
+    → Counts recorded (Second before) fold rows key active v (giving (Second before) place line active key v)
 unfolding again-row
-counts-second told fold rows before blocks l place line key v active h p n e =
-    let b : Row = again-row told before rows blocks l place line n in
+counts-second recorded fold rows before blocks l place line key v active h p n e =
+    let b : Row = again-row recorded before rows blocks l place line n in
     let row = giving (Second before) place line active key v in
-    let b-collects : collects b.entry ≡ true = row-collects told First (take place before) place line n.within ∙ line-collects (take place before) rows line l blocks n.is_line ∙ ap collects e ∙ h in
-    let b-here : collects_here b ≡ true = here-collects b (ap (λ (x : Line). is_asked x.source) (again-line told before rows blocks l place line n) ∙ n.is_line.asked) ∙ b-collects in
+    let b-collects : collects b.entry ≡ true = row-collects recorded First (take place before) place line n.within ∙ line-collects (take place before) rows line l blocks n.is_line ∙ ap collects e ∙ h in
+    let b-here : collects_here b ≡ true = here-collects b (ap (λ (x : Line). is_asked x.source) (again-line recorded before rows blocks l place line n) ∙ n.is_line.asked) ∙ b-collects in
     let was : slice_get fold.were_active fold.seen ≡ Some b.active =
     ap (λ xs. slice_get xs fold.seen) p.active ∙ ap (slice_get (flat_map collected before)) (p.seen place n.at) ∙ mark-at before place b n.again b-here in
     let again-is : active_before (Second before) place ≡ b.active = ap is_active_row n.again in
@@ -106,12 +106,12 @@ counts-second told fold rows before blocks l place line key v active h p n e =
       });
     }
 
-pub counts-in : (told : Told) (pass : Pass) (fold : Fold) (rows : List Row) (blocks : Blocks) (l : ConfLine) (place : ℕ) (line : Line) (key : Key) (v : Value) (active t : Bool) → is_collected key ≡ t
-    → InPass told pass fold rows → IsNext told pass rows blocks l place line → entry_of rows line ≡ Ok (Gives key v)
-    → Counts told pass fold rows key active v (giving pass place line active key v)
-counts-in told pass fold rows blocks l place line key v active false h p n e = counts-plain told pass fold rows blocks l place line key v active h p n e
-counts-in told First fold rows blocks l place line key v active true h p n e = counts-first told fold rows place line key v active n.is_line.asked h p
-counts-in told (Second before) fold rows blocks l place line key v active true h p n e = counts-second told fold rows before blocks l place line key v active h p n e
+pub counts-in : (recorded : Recorded) (pass : Pass) (fold : Fold) (rows : List Row) (blocks : Blocks) (l : ConfLine) (place : ℕ) (line : Line) (key : Key) (v : Value) (active t : Bool) → is_collected key ≡ t
+    → InPass recorded pass fold rows → IsNext recorded pass rows blocks l place line → entry_of rows line ≡ Ok (Gives key v)
+    → Counts recorded pass fold rows key active v (giving pass place line active key v)
+counts-in recorded pass fold rows blocks l place line key v active false h p n e = counts-plain recorded pass fold rows blocks l place line key v active h p n e
+counts-in recorded First fold rows blocks l place line key v active true h p n e = counts-first recorded fold rows place line key v active n.is_line.asked h p
+counts-in recorded (Second before) fold rows blocks l place line key v active true h p n e = counts-second recorded fold rows before blocks l place line key v active h p n e
 
 -- what noting leaves alone
 pub record Alone (f g : Fold) : Type 0 where
@@ -125,35 +125,35 @@ alone-by true None w active f = record { original = refl; applies = refl; again 
 alone-by true (Some m) None active f = record { original = refl; applies = refl; again = refl }
 alone-by true (Some m) (Some was) active f = record { original = refl; applies = refl; again = refl }
 
-pub folds-gives : (told : Told) (pass : Pass) (fold mid new : Fold) (rows : List Row) (blocks : Blocks) (l : ConfLine) (place : ℕ) (line : Line) (key : Key) (v : Value) (active : Bool)
-    → Stands told pass fold rows blocks → IsNext told pass rows blocks l place line → entry_so_far fold l ≡ Ok (Gives key v) → (l.opens ≡ false → l.depth < length fold.applies)
+pub folds-gives : (recorded : Recorded) (pass : Pass) (fold mid new : Fold) (rows : List Row) (blocks : Blocks) (l : ConfLine) (place : ℕ) (line : Line) (key : Key) (v : Value) (active : Bool)
+    → Stands recorded pass fold rows blocks → IsNext recorded pass rows blocks l place line → entry_so_far fold l ≡ Ok (Gives key v) → (l.opens ≡ false → l.depth < length fold.applies)
     → active ≡ (list_all (λ m. m) (take l.depth fold.applies) && own_mark l.depth l.opens fold.applies)
     → mid ≡ record fold { applies = entered l.depth l.opens fold.applies }
     → ((gs : List Given) → Keeps mid.settings gs → Keeps new.settings (gs ++ if_counts (does_count key active mid) key v))
     → new ≡ record (noted key active mid) { settings = new.settings }
-    → (is_refused (next_row told pass rows place line).entry ≡ false) × Stands told pass new (rows ++ next_row told pass rows place line ∷ []) (open_behind l place blocks)
+    → (is_refused (next_row recorded pass rows place line).entry ≡ false) × Stands recorded pass new (rows ++ next_row recorded pass rows place line ∷ []) (open_behind l place blocks)
 unfolding opens said
-folds-gives told pass fold mid new rows blocks l place line key v active s n e known active-is mid-is keeps others =
-    let says : entry_of rows line ≡ Ok (Gives key v) = entry-same told pass fold rows blocks line l s n.is_line ∙ e in
+folds-gives recorded pass fold mid new rows blocks l place line key v active s n e known active-is mid-is keeps others =
+    let says : entry_of rows line ≡ Ok (Gives key v) = entry-same recorded pass fold rows blocks line l s n.is_line ∙ e in
     let row : Row = giving pass place line active key v in
     let is-active : is_active rows pass line ≡ active =
-    line-active told pass fold rows blocks line l s n.is_line
+    line-active recorded pass fold rows blocks line l s n.is_line
     ∙ ap (λ o. list_all (λ m. m) (take l.depth fold.applies) && cond o true (own_mark l.depth l.opens fold.applies)) (entry-opens fold l (Gives key v) e) ∙ sym active-is in
-    let here : next_row told pass rows place line ≡ row =
-    row-said told pass rows blocks l place line (Gives key v) n says
-    ∙ ap (λ f. row_with line (is_active rows pass line) (active_before pass place) f) (gives-effect told pass rows (is_active rows pass line) key v)
+    let here : next_row recorded pass rows place line ≡ row =
+    row-said recorded pass rows blocks l place line (Gives key v) n says
+    ∙ ap (λ f. row_with line (is_active rows pass line) (active_before pass place) f) (gives-effect recorded pass rows (is_active rows pass line) key v)
     ∙ ap (λ a. row_with line a (active_before pass place) (no_block (Ok (Gives key v)))) is-active in
-    let in-mid : InPass told pass mid rows = in-pass-same told pass fold mid rows s.in_pass (ap (λ (f : Fold). f.name) mid-is) (ap (λ (f : Fold). f.were_active) mid-is) (ap (λ (f : Fold). f.seen) mid-is) in
-    let counts : Counts told pass mid rows key active v row = counts-in told pass mid rows blocks l place line key v active (is_collected key) refl in-mid n says in
+    let in-mid : InPass recorded pass mid rows = in-pass-same recorded pass fold mid rows s.in_pass (ap (λ (f : Fold). f.name) mid-is) (ap (λ (f : Fold). f.were_active) mid-is) (ap (λ (f : Fold). f.seen) mid-is) in
+    let counts : Counts recorded pass mid rows key active v row = counts-in recorded pass mid rows blocks l place line key v active (is_collected key) refl in-mid n says in
     let alone : Alone mid (noted key active mid) = alone-by (is_collected key) mid.name (slice_get mid.were_active mid.seen) active mid in
     let kept : Keeps mid.settings (flat_map given rows) = rw (ap (λ (f : Fold). f.settings) mid-is) s.keeps in
-    let more : More told pass fold new rows blocks l place row = record {
+    let more : More recorded pass fold new rows blocks l place row = record {
       original = ap (λ (f : Fold). f.original) others ∙ alone.original ∙ ap (λ (f : Fold). f.original) mid-is;
       keeps = rw counts.counts at (keeps (flat_map given rows) kept);
-      applies = ap (λ (f : Fold). f.applies) others ∙ alone.applies ∙ ap (λ (f : Fold). f.applies) mid-is ∙ marks-same told pass fold rows blocks l place row s (entry-opens fold l (Gives key v) e) known;
+      applies = ap (λ (f : Fold). f.applies) others ∙ alone.applies ∙ ap (λ (f : Fold). f.applies) mid-is ∙ marks-same recorded pass fold rows blocks l place row s (entry-opens fold l (Gives key v) e) known;
       again = ap (λ (f : Fold). f.asks_again) others ∙ alone.again ∙ ap (λ (f : Fold). f.asks_again) mid-is ∙ sym (or-false fold.asks_again);
-      in_pass = in-pass-same told pass (noted key active mid) new (rows ++ row ∷ []) counts.in_pass (ap (λ (f : Fold). f.name) others) (ap (λ (f : Fold). f.were_active) others) (ap (λ (f : Fold). f.seen) others);
+      in_pass = in-pass-same recorded pass (noted key active mid) new (rows ++ row ∷ []) counts.in_pass (ap (λ (f : Fold). f.name) others) (ap (λ (f : Fold). f.were_active) others) (ap (λ (f : Fold). f.seen) others);
     } in
-    (rw here refl, rw here (stands-more told pass fold new rows blocks l place row s n.at more))
+    (rw here refl, rw here (stands-more recorded pass fold new rows blocks l place row s n.at more))
 
 -- an evaluation that failed

@@ -3,8 +3,8 @@ use Rattle.std.proofs.Common.{◌≡◌, ℕ, ◌+◌, Bool, true, false, cond, 
 use Rattle.std.proofs.lemmas.List.{append-nil}
 use Rattle.conf_rules.specs.declared.causes.Cause.{Cause}
 use Rattle.conf_rules.specs.declared.causes.ResolveError.{ResolveError}
-use Rattle.conf_rules.specs.declared.entry.Entry.{Entry}
-use Rattle.conf_rules.specs.Told.{Told}
+use Rattle.conf_rules.specs.declared.entry.LineContent.{LineContent}
+use Rattle.conf_rules.specs.Recorded.{Recorded}
 use Rattle.conf_rules.specs.Sources.{Line}
 use Rattle.conf_rules.specs.Rows.{Row, Pass}
 use Rattle.conf_rules.specs.Entries.{entry_of}
@@ -12,8 +12,8 @@ use Rattle.conf_rules.specs.Resolution.{row_of, rows_from, is_refused, refusal_a
 use Rattle.conf_fold.specs.Stands.{next_row}
 
 -- the rows of lines from a place on, behind others
-abbrev pub from : Told → Pass → List Row → ℕ → List Line → List Row
-from told pass rows place lines = rows_from told entry_of rows (record { pass = pass; line = place }) lines
+abbrev pub from : Recorded → Pass → List Row → ℕ → List Line → List Row
+from recorded pass rows place lines = rows_from recorded entry_of rows (record { pass = pass; line = place }) lines
 
 -- ---- refusals
 
@@ -30,15 +30,15 @@ pub refusal-behind : (rows : List Row) (row : Row) → refusal_in rows ≡ None 
 refusal-behind [] row none = later-none (refusal_at row.line row.entry)
 refusal-behind (p ∷ ps) row none = behind-first _ (refusal_in ps) (refusal_in (ps ++ row ∷ [])) (refusal-behind ps row) (refusal_at p.line p.entry) none
 
-pub ok-none : (line : Line) (r : Result Entry Cause) → is_refused r ≡ false → refusal_at line r ≡ None
+pub ok-none : (line : Line) (r : Result LineContent Cause) → is_refused r ≡ false → refusal_at line r ≡ None
 ok-none line (Ok e) h = refl
 ok-none line (Err c) h = absurd cc
 
-pub some-refused : (line : Line) (r : Result Entry Cause) (e : ResolveError) → refusal_at line r ≡ Some e → is_refused r ≡ true
+pub some-refused : (line : Line) (r : Result LineContent Cause) (e : ResolveError) → refusal_at line r ≡ Some e → is_refused r ≡ true
 some-refused line (Ok x) e h = absurd cc
 some-refused line (Err c) e h = refl
 
-pub not-none : (line : Line) (r : Result Entry Cause) → is_refused r ≡ true → refusal_at line r ≡ None → ⊥
+pub not-none : (line : Line) (r : Result LineContent Cause) → is_refused r ≡ true → refusal_at line r ≡ None → ⊥
 not-none line (Ok e) h n = absurd cc
 not-none line (Err c) h n = absurd cc
 
@@ -56,34 +56,34 @@ none-parts (x ∷ xs) ys h = let k = first-none (refusal_at x.line x.entry) (ref
 
 -- ---- one row
 
-pub rows-step : (told : Told) (pass : Pass) (rows : List Row) (place : ℕ) (line : Line) (more : List Line)
-    → from told pass rows place (line ∷ more)
-    ≡ cond (is_refused (next_row told pass rows place line).entry) (rows ++ next_row told pass rows place line ∷ []) (from told pass (rows ++ next_row told pass rows place line ∷ []) (place + 1) more)
+pub rows-step : (recorded : Recorded) (pass : Pass) (rows : List Row) (place : ℕ) (line : Line) (more : List Line)
+    → from recorded pass rows place (line ∷ more)
+    ≡ cond (is_refused (next_row recorded pass rows place line).entry) (rows ++ next_row recorded pass rows place line ∷ []) (from recorded pass (rows ++ next_row recorded pass rows place line ∷ []) (place + 1) more)
 unfolding rows_from next_row
-rows-step told pass rows place line more = refl
+rows-step recorded pass rows place line more = refl
 
-pub rows-on : (told : Told) (pass : Pass) (rows : List Row) (place : ℕ) (line : Line) (more : List Line) → is_refused (next_row told pass rows place line).entry ≡ false
-    → from told pass rows place (line ∷ more) ≡ from told pass (rows ++ next_row told pass rows place line ∷ []) (place + 1) more
-rows-on told pass rows place line more ok = rows-step told pass rows place line more ∙ rw ok refl
+pub rows-on : (recorded : Recorded) (pass : Pass) (rows : List Row) (place : ℕ) (line : Line) (more : List Line) → is_refused (next_row recorded pass rows place line).entry ≡ false
+    → from recorded pass rows place (line ∷ more) ≡ from recorded pass (rows ++ next_row recorded pass rows place line ∷ []) (place + 1) more
+rows-on recorded pass rows place line more ok = rows-step recorded pass rows place line more ∙ rw ok refl
 
-pub rows-end : (told : Told) (pass : Pass) (rows : List Row) (place : ℕ) (line : Line) (more : List Line) → is_refused (next_row told pass rows place line).entry ≡ true
-    → from told pass rows place (line ∷ more) ≡ rows ++ next_row told pass rows place line ∷ []
-rows-end told pass rows place line more refused = rows-step told pass rows place line more ∙ rw refused refl
+pub rows-end : (recorded : Recorded) (pass : Pass) (rows : List Row) (place : ℕ) (line : Line) (more : List Line) → is_refused (next_row recorded pass rows place line).entry ≡ true
+    → from recorded pass rows place (line ∷ more) ≡ rows ++ next_row recorded pass rows place line ∷ []
+rows-end recorded pass rows place line more refused = rows-step recorded pass rows place line more ∙ rw refused refl
 
-pub row-line : (told : Told) (pass : Pass) (rows : List Row) (place : ℕ) (line : Line) → (next_row told pass rows place line).line ≡ line
+pub row-line : (recorded : Recorded) (pass : Pass) (rows : List Row) (place : ℕ) (line : Line) → (next_row recorded pass rows place line).line ≡ line
 unfolding next_row row_of
-row-line told pass rows place line = refl
+row-line recorded pass rows place line = refl
 
-pub behind-ok : (told : Told) (pass : Pass) (rows : List Row) (place : ℕ) (x : Line) → refusal_in rows ≡ None → is_refused (next_row told pass rows place x).entry ≡ false → refusal_in (rows ++ next_row told pass rows place x ∷ []) ≡ None
-behind-ok told pass rows place x none h = refusal-behind rows (next_row told pass rows place x) none ∙ ok-none (next_row told pass rows place x).line (next_row told pass rows place x).entry h
+pub behind-ok : (recorded : Recorded) (pass : Pass) (rows : List Row) (place : ℕ) (x : Line) → refusal_in rows ≡ None → is_refused (next_row recorded pass rows place x).entry ≡ false → refusal_in (rows ++ next_row recorded pass rows place x ∷ []) ≡ None
+behind-ok recorded pass rows place x none h = refusal-behind rows (next_row recorded pass rows place x) none ∙ ok-none (next_row recorded pass rows place x).line (next_row recorded pass rows place x).entry h
 
 -- the rows before stand first
-pub from-front : (told : Told) (pass : Pass) (lines : List Line) (rows : List Row) (place : ℕ) → (more : List Row) × (from told pass rows place lines ≡ rows ++ more)
+pub from-front : (recorded : Recorded) (pass : Pass) (lines : List Line) (rows : List Row) (place : ℕ) → (more : List Row) × (from recorded pass rows place lines ≡ rows ++ more)
 unfolding rows_from
-from-front told pass [] rows place = ([], sym (append-nil rows))
-from-front told pass (x ∷ xs) rows place = on (is_refused (next_row told pass rows place x).entry) refl (from-front told pass xs (rows ++ next_row told pass rows place x ∷ []) (place + 1))
+from-front recorded pass [] rows place = ([], sym (append-nil rows))
+from-front recorded pass (x ∷ xs) rows place = on (is_refused (next_row recorded pass rows place x).entry) refl (from-front recorded pass xs (rows ++ next_row recorded pass rows place x ∷ []) (place + 1))
   where
-    on : (t : Bool) → is_refused (next_row told pass rows place x).entry ≡ t → (more : List Row) × (from told pass (rows ++ next_row told pass rows place x ∷ []) (place + 1) xs ≡ (rows ++ next_row told pass rows place x ∷ []) ++ more)
-        → (more : List Row) × (from told pass rows place (x ∷ xs) ≡ rows ++ more)
-    on true h later = (next_row told pass rows place x ∷ [], rows-end told pass rows place x xs h)
-    on false h later = (next_row told pass rows place x ∷ later.0, rows-on told pass rows place x xs h ∙ later.1 ∙ append_assoc rows (next_row told pass rows place x ∷ []) later.0)
+    on : (t : Bool) → is_refused (next_row recorded pass rows place x).entry ≡ t → (more : List Row) × (from recorded pass (rows ++ next_row recorded pass rows place x ∷ []) (place + 1) xs ≡ (rows ++ next_row recorded pass rows place x ∷ []) ++ more)
+        → (more : List Row) × (from recorded pass rows place (x ∷ xs) ≡ rows ++ more)
+    on true h later = (next_row recorded pass rows place x ∷ [], rows-end recorded pass rows place x xs h)
+    on false h later = (next_row recorded pass rows place x ∷ later.0, rows-on recorded pass rows place x xs h ∙ later.1 ∙ append_assoc rows (next_row recorded pass rows place x ∷ []) later.0)

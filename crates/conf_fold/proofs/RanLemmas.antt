@@ -9,10 +9,10 @@ use Rattle.conf_rules.specs.declared.causes.Cause.TheVariants as causes
 use Rattle.conf_rules.specs.declared.causes.TokenError.{TokenError}
 use Rattle.conf_rules.specs.declared.causes.ResolveError.{ResolveError}
 use Rattle.conf_rules.specs.declared.causes.ResolveError.TheVariants as resolve_errors
-use Rattle.conf_rules.specs.declared.entry.Entry.{Entry}
-use Rattle.conf_rules.specs.declared.entry.Entry.TheVariants.{Nothing, Host, Match, Gives}
+use Rattle.conf_rules.specs.declared.entry.LineContent.{LineContent}
+use Rattle.conf_rules.specs.declared.entry.LineContent.TheVariants.{Nothing, Host, Match, Gives}
 use Rattle.conf_rules.specs.Texts.{Bytes}
-use Rattle.conf_rules.specs.Told.{Told}
+use Rattle.conf_rules.specs.Recorded.{Recorded}
 use Rattle.conf_rules.specs.Diagnostics.{is_fault}
 use Rattle.conf_rules.specs.Evaluation.{verdict}
 use Rattle.conf_rules.specs.Sources.{Line}
@@ -59,68 +59,68 @@ ran-weaker false false old new commands h r = r
 -- ---- the commands of a row
 
 -- what is no Match line runs nothing
-pub effect-quiet : (told : Told) (pass : Pass) (rows : List Row) (active : Bool) (e : Entry) → ((cs : List Criterion) → e ≡ Match cs → ⊥) → (effect_of told pass rows active (Ok e)).ran ≡ []
-effect-quiet told pass rows true Nothing h = refl
-effect-quiet told pass rows false Nothing h = refl
-effect-quiet told pass rows true (Host ps) h = refl
-effect-quiet told pass rows false (Host ps) h = refl
-effect-quiet told pass rows true (Gives k v) h = refl
-effect-quiet told pass rows false (Gives k v) h = refl
-effect-quiet told pass rows active (Match cs) h = absurd (h cs refl)
+pub effect-quiet : (recorded : Recorded) (pass : Pass) (rows : List Row) (active : Bool) (e : LineContent) → ((cs : List Criterion) → e ≡ Match cs → ⊥) → (effect_of recorded pass rows active (Ok e)).ran ≡ []
+effect-quiet recorded pass rows true Nothing h = refl
+effect-quiet recorded pass rows false Nothing h = refl
+effect-quiet recorded pass rows true (Host ps) h = refl
+effect-quiet recorded pass rows false (Host ps) h = refl
+effect-quiet recorded pass rows true (Gives k v) h = refl
+effect-quiet recorded pass rows false (Gives k v) h = refl
+effect-quiet recorded pass rows active (Match cs) h = absurd (h cs refl)
 
-pub quiet-row : (told : Told) (pass : Pass) (fold : Fold) (rows : List Row) (blocks : Blocks) (l : ConfLine) (place : ℕ) (line : Line) (e : Entry)
-    → Stands told pass fold rows blocks → IsNext told pass rows blocks l place line → entry_so_far fold l ≡ Ok e → ((cs : List Criterion) → e ≡ Match cs → ⊥) → (next_row told pass rows place line).ran ≡ []
+pub quiet-row : (recorded : Recorded) (pass : Pass) (fold : Fold) (rows : List Row) (blocks : Blocks) (l : ConfLine) (place : ℕ) (line : Line) (e : LineContent)
+    → Stands recorded pass fold rows blocks → IsNext recorded pass rows blocks l place line → entry_so_far fold l ≡ Ok e → ((cs : List Criterion) → e ≡ Match cs → ⊥) → (next_row recorded pass rows place line).ran ≡ []
 unfolding said
-quiet-row told pass fold rows blocks l place line e s n h other =
-    let says : entry_of rows line ≡ Ok e = entry-same told pass fold rows blocks line l s n.is_line ∙ h in
-    ap (λ (r : Row). r.ran) (row-said told pass rows blocks l place line e n says) ∙ effect-quiet told pass rows (is_active rows pass line) e other
+quiet-row recorded pass fold rows blocks l place line e s n h other =
+    let says : entry_of rows line ≡ Ok e = entry-same recorded pass fold rows blocks line l s n.is_line ∙ h in
+    ap (λ (r : Row). r.ran) (row-said recorded pass rows blocks l place line e n says) ∙ effect-quiet recorded pass rows (is_active rows pass line) e other
 
 tested-ran : (h : Result Bool TokenError) (ran : List Bytes) (cs : List Criterion) → (tested (record { holds = h; ran = ran }) (Match cs)).ran ≡ ran
 tested-ran (Ok b) ran cs = refl
 tested-ran (Err e) ran cs = refl
 
-tests-run : (told : Told) (pass : Pass) (rows : List Row) (active : Bool) (cs : List Criterion) → active ≡ true → (effect_of told pass rows active (Ok (Match cs))).ran ≡ (verdict told.status (seen_at told pass rows) cs).ran
-tests-run told pass rows true cs h = tested-ran (verdict told.status (seen_at told pass rows) cs).holds _ cs
-tests-run told pass rows false cs h = absurd cc
+tests-run : (recorded : Recorded) (pass : Pass) (rows : List Row) (active : Bool) (cs : List Criterion) → active ≡ true → (effect_of recorded pass rows active (Ok (Match cs))).ran ≡ (verdict recorded.status (seen_at recorded pass rows) cs).ran
+tests-run recorded pass rows true cs h = tested-ran (verdict recorded.status (seen_at recorded pass rows) cs).holds _ cs
+tests-run recorded pass rows false cs h = absurd cc
 
-tests-idle : (told : Told) (pass : Pass) (rows : List Row) (active : Bool) (cs : List Criterion) → active ≡ false → (effect_of told pass rows active (Ok (Match cs))).ran ≡ []
-tests-idle told pass rows true cs h = absurd cc
-tests-idle told pass rows false cs h = refl
+tests-idle : (recorded : Recorded) (pass : Pass) (rows : List Row) (active : Bool) (cs : List Criterion) → active ≡ false → (effect_of recorded pass rows active (Ok (Match cs))).ran ≡ []
+tests-idle recorded pass rows true cs h = absurd cc
+tests-idle recorded pass rows false cs h = refl
 
 -- a Match line runs what its criteria reach, where it is active
-pub tests-ran : (told : Told) (pass : Pass) (fold : Fold) (rows : List Row) (blocks : Blocks) (l : ConfLine) (place : ℕ) (line : Line) (cs : List Criterion) (t b : Bool) (old new : Commands)
-    → Stands told pass fold rows blocks → IsNext told pass rows blocks l place line → entry_so_far fold l ≡ Ok (Match cs) → t ≡ list_all (λ m. m) (take l.depth fold.applies)
-    → (t ≡ true → RanUnless b old new (verdict told.status (view_of fold told.facts) cs).ran) → (t ≡ false → new ≡ old)
-    → RanUnless b old new (next_row told pass rows place line).ran
+pub tests-ran : (recorded : Recorded) (pass : Pass) (fold : Fold) (rows : List Row) (blocks : Blocks) (l : ConfLine) (place : ℕ) (line : Line) (cs : List Criterion) (t b : Bool) (old new : Commands)
+    → Stands recorded pass fold rows blocks → IsNext recorded pass rows blocks l place line → entry_so_far fold l ≡ Ok (Match cs) → t ≡ list_all (λ m. m) (take l.depth fold.applies)
+    → (t ≡ true → RanUnless b old new (verdict recorded.status (view_of fold recorded.facts) cs).ran) → (t ≡ false → new ≡ old)
+    → RanUnless b old new (next_row recorded pass rows place line).ran
 unfolding said
-tests-ran told pass fold rows blocks l place line cs t b old new s n e a ran quiet =
-    let says : entry_of rows line ≡ Ok (Match cs) = entry-same told pass fold rows blocks line l s n.is_line ∙ e in
-    let active : is_active rows pass line ≡ t = tests-active told pass fold rows blocks line l cs s n.is_line e ∙ sym a in
-    let row = ap (λ (r : Row). r.ran) (row-said told pass rows blocks l place line (Match cs) n says) in
+tests-ran recorded pass fold rows blocks l place line cs t b old new s n e a ran quiet =
+    let says : entry_of rows line ≡ Ok (Match cs) = entry-same recorded pass fold rows blocks line l s n.is_line ∙ e in
+    let active : is_active rows pass line ≡ t = tests-active recorded pass fold rows blocks line l cs s n.is_line e ∙ sym a in
+    let row = ap (λ (r : Row). r.ran) (row-said recorded pass rows blocks l place line (Match cs) n says) in
     on t refl active row
   where
-    on : (u : Bool) → t ≡ u → is_active rows pass line ≡ t → (next_row told pass rows place line).ran ≡ (effect_of told pass rows (is_active rows pass line) (Ok (Match cs))).ran → RanUnless b old new (next_row told pass rows place line).ran
+    on : (u : Bool) → t ≡ u → is_active rows pass line ≡ t → (next_row recorded pass rows place line).ran ≡ (effect_of recorded pass rows (is_active rows pass line) (Ok (Match cs))).ran → RanUnless b old new (next_row recorded pass rows place line).ran
     on true is active row =
-        let commands : (verdict told.status (view_of fold told.facts) cs).ran ≡ (next_row told pass rows place line).ran =
-        ap (λ v. (verdict told.status v cs).ran) (view-same told pass fold rows blocks s) ∙ sym (row ∙ tests-run told pass rows (is_active rows pass line) cs (active ∙ is)) in
+        let commands : (verdict recorded.status (view_of fold recorded.facts) cs).ran ≡ (next_row recorded pass rows place line).ran =
+        ap (λ v. (verdict recorded.status v cs).ran) (view-same recorded pass fold rows blocks s) ∙ sym (row ∙ tests-run recorded pass rows (is_active rows pass line) cs (active ∙ is)) in
         subst (RanUnless b old new) commands (ran is)
-    on false is active row = ran-none b old new _ (row ∙ tests-idle told pass rows (is_active rows pass line) cs (active ∙ is)) (quiet is)
+    on false is active row = ran-none b old new _ (row ∙ tests-idle recorded pass rows (is_active rows pass line) cs (active ∙ is)) (quiet is)
 
-refused-quiet : (told : Told) (pass : Pass) (rows : List Row) (active : Bool) (c : Cause) → (effect_of told pass rows active (Err c)).ran ≡ []
-refused-quiet told pass rows true c = refl
-refused-quiet told pass rows false c = refl
+refused-quiet : (recorded : Recorded) (pass : Pass) (rows : List Row) (active : Bool) (c : Cause) → (effect_of recorded pass rows active (Err c)).ran ≡ []
+refused-quiet recorded pass rows true c = refl
+refused-quiet recorded pass rows false c = refl
 
 pub some-broken : (old new : Commands) (commands : List Bytes) → new ≡ old → RanSome old new commands
 some-broken old new commands k = record { done = []; others = commands; parts = refl; ran = k ∙ none-behind old }
 
 -- a line that says nothing that can be read runs nothing
-pub refused-ran : (told : Told) (pass : Pass) (fold : Fold) (rows : List Row) (blocks : Blocks) (l : ConfLine) (place : ℕ) (line : Line) (e : LineError) (old new : Commands)
-    → Stands told pass fold rows blocks → IsNext told pass rows blocks l place line → FailsLine e (entry_so_far fold l) → new ≡ old → RanUnless (breaks_line {A = Unit {0}} (Err e)) old new (next_row told pass rows place line).ran
+pub refused-ran : (recorded : Recorded) (pass : Pass) (fold : Fold) (rows : List Row) (blocks : Blocks) (l : ConfLine) (place : ℕ) (line : Line) (e : LineError) (old new : Commands)
+    → Stands recorded pass fold rows blocks → IsNext recorded pass rows blocks l place line → FailsLine e (entry_so_far fold l) → new ≡ old → RanUnless (breaks_line {A = Unit {0}} (Err e)) old new (next_row recorded pass rows place line).ran
 unfolding next_row Rattle.conf_rules.specs.Resolution.row_of
-refused-ran told pass fold rows blocks l place line line_errors.OutOfMemory old new s n f k = some-broken old new _ k
-refused-ran told pass fold rows blocks l place line (line_errors.Refused c) old new s n f k =
-    let says : entry_of rows line ≡ Err c = entry-same told pass fold rows blocks line l s n.is_line ∙ f in
-    ran-none (is_fault c) old new _ (rw (n.within, says) (refused-quiet told pass rows (is_active rows pass line) c)) k
+refused-ran recorded pass fold rows blocks l place line line_errors.OutOfMemory old new s n f k = some-broken old new _ k
+refused-ran recorded pass fold rows blocks l place line (line_errors.Refused c) old new s n f k =
+    let says : entry_of rows line ≡ Err c = entry-same recorded pass fold rows blocks line l s n.is_line ∙ f in
+    ran-none (is_fault c) old new _ (rw (n.within, says) (refused-quiet recorded pass rows (is_active rows pass line) c)) k
 
 -- ---- a command that could not be run
 
@@ -131,18 +131,18 @@ failed-in (line_errors.Refused causes.RunFault) old new a b h f = subst (FailsOn
 failed-in (line_errors.Refused c) old new a b h f = tt
 
 -- where the runner failed at a Match line, it failed at one of the commands of its row
-pub tests-broken : (told : Told) (pass : Pass) (fold : Fold) (rows : List Row) (blocks : Blocks) (l : ConfLine) (place : ℕ) (line : Line) (cs : List Criterion) (e : LineError) (t : Bool) (old new : Commands)
-    → Stands told pass fold rows blocks → IsNext told pass rows blocks l place line → entry_so_far fold l ≡ Ok (Match cs) → t ≡ list_all (λ m. m) (take l.depth fold.applies)
-    → (t ≡ true → FailsInLine {A = Bool} (Err e) old new (verdict told.status (view_of fold told.facts) cs).ran) → (t ≡ false → failing e ≡ Ok false)
-    → FailsInLine {A = Unit {0}} (Err e) old new (next_row told pass rows place line).ran
+pub tests-broken : (recorded : Recorded) (pass : Pass) (fold : Fold) (rows : List Row) (blocks : Blocks) (l : ConfLine) (place : ℕ) (line : Line) (cs : List Criterion) (e : LineError) (t : Bool) (old new : Commands)
+    → Stands recorded pass fold rows blocks → IsNext recorded pass rows blocks l place line → entry_so_far fold l ≡ Ok (Match cs) → t ≡ list_all (λ m. m) (take l.depth fold.applies)
+    → (t ≡ true → FailsInLine {A = Bool} (Err e) old new (verdict recorded.status (view_of fold recorded.facts) cs).ran) → (t ≡ false → failing e ≡ Ok false)
+    → FailsInLine {A = Unit {0}} (Err e) old new (next_row recorded pass rows place line).ran
 unfolding said
-tests-broken told pass fold rows blocks l place line cs e false old new s n h a failed idle = absurd (let k = idle refl in cc)
-tests-broken told pass fold rows blocks l place line cs e true old new s n h a failed idle =
-    let says : entry_of rows line ≡ Ok (Match cs) = entry-same told pass fold rows blocks line l s n.is_line ∙ h in
-    let active : is_active rows pass line ≡ true = tests-active told pass fold rows blocks line l cs s n.is_line h ∙ sym a in
-    let row = ap (λ (r : Row). r.ran) (row-said told pass rows blocks l place line (Match cs) n says) in
-    let commands : (verdict told.status (view_of fold told.facts) cs).ran ≡ (next_row told pass rows place line).ran =
-    ap (λ v. (verdict told.status v cs).ran) (view-same told pass fold rows blocks s) ∙ sym (row ∙ tests-run told pass rows (is_active rows pass line) cs active) in
+tests-broken recorded pass fold rows blocks l place line cs e false old new s n h a failed idle = absurd (let k = idle refl in cc)
+tests-broken recorded pass fold rows blocks l place line cs e true old new s n h a failed idle =
+    let says : entry_of rows line ≡ Ok (Match cs) = entry-same recorded pass fold rows blocks line l s n.is_line ∙ h in
+    let active : is_active rows pass line ≡ true = tests-active recorded pass fold rows blocks line l cs s n.is_line h ∙ sym a in
+    let row = ap (λ (r : Row). r.ran) (row-said recorded pass rows blocks l place line (Match cs) n says) in
+    let commands : (verdict recorded.status (view_of fold recorded.facts) cs).ran ≡ (next_row recorded pass rows place line).ran =
+    ap (λ v. (verdict recorded.status v cs).ran) (view-same recorded pass fold rows blocks s) ∙ sym (row ∙ tests-run recorded pass rows (is_active rows pass line) cs active) in
     failed-in e old new _ _ commands (failed refl)
 
 -- the same of a refusal with its place

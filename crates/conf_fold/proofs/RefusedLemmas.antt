@@ -6,8 +6,8 @@ use Rattle.conf_rules.specs.declared.key.Key.{Key}
 use Rattle.conf_rules.specs.declared.criterion.Criterion.{Criterion}
 use Rattle.conf_rules.specs.declared.causes.Cause.{Cause}
 use Rattle.conf_rules.specs.declared.causes.ResolveError.TheVariants as resolve_errors
-use Rattle.conf_rules.specs.declared.entry.Entry.TheVariants.{Match}
-use Rattle.conf_rules.specs.Told.{Told}
+use Rattle.conf_rules.specs.declared.entry.LineContent.TheVariants.{Match}
+use Rattle.conf_rules.specs.Recorded.{Recorded}
 use Rattle.conf_rules.specs.Evaluation.{verdict}
 use Rattle.conf_rules.specs.Sources.{Line}
 use Rattle.conf_rules.specs.Rows.{Row, Pass, is_collected}
@@ -32,43 +32,43 @@ abbrev pub failing : LineError → Result Bool LineError
 failing e = Err e
 
 -- where an evaluation failed, the line was active
-pub tests-failed : (told : Told) (pass : Pass) (fold new : Fold) (rows : List Row) (blocks : Blocks) (l : ConfLine) (place : ℕ) (line : Line) (cs : List Criterion) (e : LineError) (t : Bool)
-    → Stands told pass fold rows blocks → IsNext told pass rows blocks l place line → entry_so_far fold l ≡ Ok (Match cs)
-    → t ≡ list_all (λ m. m) (take l.depth fold.applies) → (t ≡ true → Evaluated (Err e) (verdict told.status (view_of fold told.facts) cs).holds) → (t ≡ false → failing e ≡ Ok false)
-    → FoldsEntry told pass rows blocks l place line (Err e) new
-tests-failed told pass fold new rows blocks l place line cs e true s n h t v idle = tests-refused told pass fold new rows blocks l place line cs e s n h (sym t) (v refl)
-tests-failed told pass fold new rows blocks l place line cs e false s n h t v idle = absurd (let k = idle refl in cc)
+pub tests-failed : (recorded : Recorded) (pass : Pass) (fold new : Fold) (rows : List Row) (blocks : Blocks) (l : ConfLine) (place : ℕ) (line : Line) (cs : List Criterion) (e : LineError) (t : Bool)
+    → Stands recorded pass fold rows blocks → IsNext recorded pass rows blocks l place line → entry_so_far fold l ≡ Ok (Match cs)
+    → t ≡ list_all (λ m. m) (take l.depth fold.applies) → (t ≡ true → Evaluated (Err e) (verdict recorded.status (view_of fold recorded.facts) cs).holds) → (t ≡ false → failing e ≡ Ok false)
+    → FoldsEntry recorded pass rows blocks l place line (Err e) new
+tests-failed recorded pass fold new rows blocks l place line cs e true s n h t v idle = tests-refused recorded pass fold new rows blocks l place line cs e s n h (sym t) (v refl)
+tests-failed recorded pass fold new rows blocks l place line cs e false s n h t v idle = absurd (let k = idle refl in cc)
 
 -- ---- refusals
 
-pub refused-row : (told : Told) (pass : Pass) (rows : List Row) (active : Bool) (c : Cause) → (effect_of told pass rows active (Err c)).entry ≡ Err c
-refused-row told pass rows true c = refl
-refused-row told pass rows false c = refl
+pub refused-row : (recorded : Recorded) (pass : Pass) (rows : List Row) (active : Bool) (c : Cause) → (effect_of recorded pass rows active (Err c)).entry ≡ Err c
+refused-row recorded pass rows true c = refl
+refused-row recorded pass rows false c = refl
 
 -- what a line can't say is refused in its row
-pub entry-refused : (told : Told) (pass : Pass) (fold new : Fold) (rows : List Row) (blocks : Blocks) (l : ConfLine) (place : ℕ) (line : Line) (e : LineError)
-    → Stands told pass fold rows blocks → IsNext told pass rows blocks l place line → Rattle.conf_fold.specs.Results.FailsLine e (entry_so_far fold l) → FoldsEntry told pass rows blocks l place line (Err e) new
+pub entry-refused : (recorded : Recorded) (pass : Pass) (fold new : Fold) (rows : List Row) (blocks : Blocks) (l : ConfLine) (place : ℕ) (line : Line) (e : LineError)
+    → Stands recorded pass fold rows blocks → IsNext recorded pass rows blocks l place line → Rattle.conf_fold.specs.Results.FailsLine e (entry_so_far fold l) → FoldsEntry recorded pass rows blocks l place line (Err e) new
 unfolding next_row row_of
-entry-refused told pass fold new rows blocks l place line line_errors.OutOfMemory s n f = tt
-entry-refused told pass fold new rows blocks l place line (line_errors.Refused c) s n f = λ fault.
-    let says : entry_of rows line ≡ Err c = entry-same told pass fold rows blocks line l s n.is_line ∙ f in
-    rw (n.within, says) (refused-row told pass rows (is_active rows pass line) c)
+entry-refused recorded pass fold new rows blocks l place line line_errors.OutOfMemory s n f = tt
+entry-refused recorded pass fold new rows blocks l place line (line_errors.Refused c) s n f = λ fault.
+    let says : entry_of rows line ≡ Err c = entry-same recorded pass fold rows blocks line l s n.is_line ∙ f in
+    rw (n.within, says) (refused-row recorded pass rows (is_active rows pass line) c)
 
 -- a refusal with its file and number
-pub placed-refusal : (told : Told) (pass : Pass) (rows : List Row) (blocks : Blocks) (l : ConfLine) (place : ℕ) (line : Line) (e : LineError) (d : Rattle.conf_rules.specs.declared.causes.ResolveError.ResolveError) (new : Fold)
-    → IsLine l blocks line → Rattle.conf_reader.specs.Results.Refuses e l.file l.number d → FoldsEntry told pass rows blocks l place line (Err e) new → Rattle.conf_fold.specs.Stands.Folds told pass rows blocks l place line (Err d) new
-placed-refusal told pass rows blocks l place line e resolve_errors.OutOfMemory new is r f = tt
-placed-refusal told pass rows blocks l place line line_errors.OutOfMemory (resolve_errors.At file number cause) new is r f = absurd cc
-placed-refusal told pass rows blocks l place line (line_errors.Refused c) (resolve_errors.At file number cause) new is r f = λ fault.
+pub placed-refusal : (recorded : Recorded) (pass : Pass) (rows : List Row) (blocks : Blocks) (l : ConfLine) (place : ℕ) (line : Line) (e : LineError) (d : Rattle.conf_rules.specs.declared.causes.ResolveError.ResolveError) (new : Fold)
+    → IsLine l blocks line → Rattle.conf_reader.specs.Results.Refuses e l.file l.number d → FoldsEntry recorded pass rows blocks l place line (Err e) new → Rattle.conf_fold.specs.Stands.Folds recorded pass rows blocks l place line (Err d) new
+placed-refusal recorded pass rows blocks l place line e resolve_errors.OutOfMemory new is r f = tt
+placed-refusal recorded pass rows blocks l place line line_errors.OutOfMemory (resolve_errors.At file number cause) new is r f = absurd cc
+placed-refusal recorded pass rows blocks l place line (line_errors.Refused c) (resolve_errors.At file number cause) new is r f = λ fault.
     let same : cause ≡ c = cc in
     let at : resolve_errors.At line.file line.number c ≡ resolve_errors.At file number cause = ap (λ x. resolve_errors.At x line.number c) is.file ∙ ap (λ x. resolve_errors.At l.file x c) is.number ∙ sym r in
     ap (Rattle.conf_rules.specs.Resolution.refusal_at line) (f (sym (ap is_fault same) ∙ fault)) ∙ ap (λ x. Some x) at
 
 -- the same of what came of a line
-pub placed-folds : (told : Told) (pass : Pass) (rows : List Row) (blocks : Blocks) (l : ConfLine) (place : ℕ) (line : Line) (taken : Result (Unit {0}) LineError) (new : Fold)
-    → IsLine l blocks line → FoldsEntry told pass rows blocks l place line taken new → Rattle.conf_fold.specs.Stands.Folds told pass rows blocks l place line (as_error (λ e. refused_at e l.file l.number) taken) new
-placed-folds told pass rows blocks l place line (Ok x) new is f = f
-placed-folds told pass rows blocks l place line (Err e) new is f = placed-refusal told pass rows blocks l place line e (refused_at e l.file l.number) new is (refuses-at e l.file l.number (refused_at e l.file l.number) refl) f
+pub placed-folds : (recorded : Recorded) (pass : Pass) (rows : List Row) (blocks : Blocks) (l : ConfLine) (place : ℕ) (line : Line) (taken : Result (Unit {0}) LineError) (new : Fold)
+    → IsLine l blocks line → FoldsEntry recorded pass rows blocks l place line taken new → Rattle.conf_fold.specs.Stands.Folds recorded pass rows blocks l place line (as_error (λ e. refused_at e l.file l.number) taken) new
+placed-folds recorded pass rows blocks l place line (Ok x) new is f = f
+placed-folds recorded pass rows blocks l place line (Err e) new is f = placed-refusal recorded pass rows blocks l place line e (refused_at e l.file l.number) new is (refuses-at e l.file l.number (refused_at e l.file l.number) refl) f
 
 -- ---- how many marks there are
 

@@ -5,8 +5,8 @@ use Rattle.std.specs.List.{list_all, list_any, slice_get}
 use Rattle.std.proofs.lemmas.List.{map-append, take-map, append-nil, length-append}
 use Rattle.std.proofs.lemmas.List.Folds.{list_any-append}
 use Rattle.std.proofs.lemmas.Grind.{flat_map-append}
-use Rattle.conf_rules.specs.declared.entry.Entry.{Entry}
-use Rattle.conf_rules.specs.Told.{Told}
+use Rattle.conf_rules.specs.declared.entry.LineContent.{LineContent}
+use Rattle.conf_rules.specs.Recorded.{Recorded}
 use Rattle.conf_rules.specs.Sources.{Line, block_behind}
 use Rattle.conf_rules.specs.Rows.{Row, Pass, First, Second, given}
 use Rattle.conf_rules.specs.Entries.{entry_of}
@@ -22,23 +22,23 @@ use Rattle.conf_fold.proofs.EntryLemmas.{line-collects, row-collects}
 -- ---- the row of a line
 
 -- a line is active where the marks of its files are set
-pub line-active : (told : Told) (pass : Pass) (fold : Fold) (rows : List Row) (blocks : Blocks) (line : Line) (given : ConfLine)
-    → Stands told pass fold rows blocks → IsLine given blocks line
+pub line-active : (recorded : Recorded) (pass : Pass) (fold : Fold) (rows : List Row) (blocks : Blocks) (line : Line) (given : ConfLine)
+    → Stands recorded pass fold rows blocks → IsLine given blocks line
     → is_active rows pass line ≡ (list_all (λ m. m) (take given.depth fold.applies) && cond (opens_block given.keyword) true (own_mark given.depth given.opens fold.applies))
-line-active told pass fold rows blocks line given s is =
+line-active recorded pass fold rows blocks line given s is =
     ap (list_all (applies_at rows pass)) is.stands
     ∙ active-marked rows pass given.depth (opens_block given.keyword) blocks (own_of given blocks)
     ∙ ap (λ x. list_all (λ m. m) (take given.depth (map (open_applies rows pass) blocks)) && cond (opens_block given.keyword) true x) (own-marked rows pass given.opens given.depth blocks)
     ∙ ap (λ ms. list_all (λ m. m) (take given.depth ms) && cond (opens_block given.keyword) true (own_mark given.depth given.opens ms)) (sym s.applies)
 
 -- the row of a line that says this
-unfoldable pub said : Told → Pass → List Row → ℕ → Line → Bool → Entry → Row
-said told pass rows place line active e = row_with line active (active_before pass place) (effect_of told pass rows active (Ok e))
+unfoldable pub said : Recorded → Pass → List Row → ℕ → Line → Bool → LineContent → Row
+said recorded pass rows place line active e = row_with line active (active_before pass place) (effect_of recorded pass rows active (Ok e))
 
-pub row-said : (told : Told) (pass : Pass) (rows : List Row) (blocks : Blocks) (given : ConfLine) (place : ℕ) (line : Line) (e : Entry)
-    → IsNext told pass rows blocks given place line → entry_of rows line ≡ Ok e → next_row told pass rows place line ≡ said told pass rows place line (is_active rows pass line) e
+pub row-said : (recorded : Recorded) (pass : Pass) (rows : List Row) (blocks : Blocks) (given : ConfLine) (place : ℕ) (line : Line) (e : LineContent)
+    → IsNext recorded pass rows blocks given place line → entry_of rows line ≡ Ok e → next_row recorded pass rows place line ≡ said recorded pass rows place line (is_active rows pass line) e
 unfolding next_row row_of said
-row-said told pass rows blocks given place line e next h = rw (next.within, h) refl
+row-said recorded pass rows blocks given place line e next h = rw (next.within, h) refl
 
 -- ---- one more row
 
@@ -60,17 +60,17 @@ behind-before rows row pass true place own e h = let k : length (rows ++ row ∷
 behind-before rows row pass false place own e h = h
 
 -- what stands behind one more row
-pub record More (told : Told) (pass : Pass) (fold new : Fold) (rows : List Row) (blocks : Blocks) (l : ConfLine) (place : ℕ) (row : Row) : Type 0 where
+pub record More (recorded : Recorded) (pass : Pass) (fold new : Fold) (rows : List Row) (blocks : Blocks) (l : ConfLine) (place : ℕ) (row : Row) : Type 0 where
   pub original : new.original ≡ fold.original
   pub keeps : Keeps new.settings (flat_map given rows ++ given row)
   pub applies : new.applies ≡ map (open_applies (rows ++ row ∷ []) pass) (open_behind l place blocks)
   pub again : new.asks_again ≡ (fold.asks_again || wants_second row)
-  pub in_pass : InPass told pass new (rows ++ row ∷ [])
+  pub in_pass : InPass recorded pass new (rows ++ row ∷ [])
 
-pub stands-more : (told : Told) (pass : Pass) (fold new : Fold) (rows : List Row) (blocks : Blocks) (l : ConfLine) (place : ℕ) (row : Row)
-    → Stands told pass fold rows blocks → length rows ≡ start_of pass + place → More told pass fold new rows blocks l place row
-    → Stands told pass new (rows ++ row ∷ []) (open_behind l place blocks)
-stands-more told pass fold new rows blocks l place row s e m = record {
+pub stands-more : (recorded : Recorded) (pass : Pass) (fold new : Fold) (rows : List Row) (blocks : Blocks) (l : ConfLine) (place : ℕ) (row : Row)
+    → Stands recorded pass fold rows blocks → length rows ≡ start_of pass + place → More recorded pass fold new rows blocks l place row
+    → Stands recorded pass new (rows ++ row ∷ []) (open_behind l place blocks)
+stands-more recorded pass fold new rows blocks l place row s e m = record {
   original = m.original ∙ s.original;
   keeps = rw (given-more rows row) m.keeps;
   applies = m.applies;
@@ -84,10 +84,10 @@ stands-more told pass fold new rows blocks l place row s e m = record {
 }
 
 -- the marks behind a line that opens no block
-pub marks-same : (told : Told) (pass : Pass) (fold : Fold) (rows : List Row) (blocks : Blocks) (l : ConfLine) (place : ℕ) (row : Row)
-    → Stands told pass fold rows blocks → opens_block l.keyword ≡ false → (l.opens ≡ false → l.depth < length fold.applies)
+pub marks-same : (recorded : Recorded) (pass : Pass) (fold : Fold) (rows : List Row) (blocks : Blocks) (l : ConfLine) (place : ℕ) (row : Row)
+    → Stands recorded pass fold rows blocks → opens_block l.keyword ≡ false → (l.opens ≡ false → l.depth < length fold.applies)
     → entered l.depth l.opens fold.applies ≡ map (open_applies (rows ++ row ∷ []) pass) (open_behind l place blocks)
-marks-same told pass fold rows blocks l place row s o known =
+marks-same recorded pass fold rows blocks l place row s o known =
     let size : length fold.applies ≡ length blocks = ap length s.applies ∙ Rattle.std.proofs.lemmas.List.length-map blocks (open_applies rows pass) in
     let before = each-more rows pass (take l.depth blocks) (own_of l blocks) (each-take rows pass l.depth blocks s.before) (own-before rows pass l.opens l.depth blocks s.before) in
     ap (entered l.depth l.opens) s.applies
@@ -96,10 +96,10 @@ marks-same told pass fold rows blocks l place row s o known =
     ∙ ap (λ t. map (open_applies (rows ++ row ∷ []) pass) (take l.depth blocks ++ block_behind t place (own_of l blocks) ∷ [])) (sym o)
 
 -- the marks behind a line that opens a block
-pub marks-opened : (told : Told) (pass : Pass) (fold : Fold) (rows : List Row) (blocks : Blocks) (l : ConfLine) (place : ℕ) (row : Row)
-    → Stands told pass fold rows blocks → opens_block l.keyword ≡ true → length rows ≡ start_of pass + place
+pub marks-opened : (recorded : Recorded) (pass : Pass) (fold : Fold) (rows : List Row) (blocks : Blocks) (l : ConfLine) (place : ℕ) (row : Row)
+    → Stands recorded pass fold rows blocks → opens_block l.keyword ≡ true → length rows ≡ start_of pass + place
     → take l.depth fold.applies ++ row.applies ∷ [] ≡ map (open_applies (rows ++ row ∷ []) pass) (open_behind l place blocks)
-marks-opened told pass fold rows blocks l place row s o e =
+marks-opened recorded pass fold rows blocks l place row s o e =
     ap (λ ms. take l.depth ms ++ row.applies ∷ []) s.applies
     ∙ ap (λ ms. ms ++ row.applies ∷ []) (take-map (open_applies rows pass) l.depth blocks ∙ sym (marks-kept rows row pass (take l.depth blocks) (each-take rows pass l.depth blocks s.before)))
     ∙ ap (λ m. map (open_applies (rows ++ row ∷ []) pass) (take l.depth blocks) ++ m ∷ []) (sym (applies-new rows row pass place e))
@@ -125,12 +125,12 @@ pub one-collected : (row : Row) → collects_here row ≡ true → collected row
 one-collected row h = ap (λ t. cond t (row.active ∷ []) []) h
 
 -- the row of the same line in the first pass
-unfoldable pub again-row : (told : Told) (before rows : List Row) (blocks : Blocks) (l : ConfLine) (place : ℕ) (line : Line) → IsNext told (Second before) rows blocks l place line → Row
-again-row told before rows blocks l place line n = row_of told entry_of (take place before) (record { pass = First; line = place }) line
+unfoldable pub again-row : (recorded : Recorded) (before rows : List Row) (blocks : Blocks) (l : ConfLine) (place : ℕ) (line : Line) → IsNext recorded (Second before) rows blocks l place line → Row
+again-row recorded before rows blocks l place line n = row_of recorded entry_of (take place before) (record { pass = First; line = place }) line
 
-pub again-line : (told : Told) (before rows : List Row) (blocks : Blocks) (l : ConfLine) (place : ℕ) (line : Line) (n : IsNext told (Second before) rows blocks l place line) → (again-row told before rows blocks l place line n).line ≡ line
+pub again-line : (recorded : Recorded) (before rows : List Row) (blocks : Blocks) (l : ConfLine) (place : ℕ) (line : Line) (n : IsNext recorded (Second before) rows blocks l place line) → (again-row recorded before rows blocks l place line n).line ≡ line
 unfolding again-row row_of
-again-line told before rows blocks l place line n = refl
+again-line recorded before rows blocks l place line n = refl
 
 pub take-next : (xs : List Row) (i : ℕ) (x : Row) → slice_get xs i ≡ Some x → take (suc i) xs ≡ take i xs ++ x ∷ []
 take-next [] i x e = absurd cc
@@ -148,26 +148,26 @@ mark-at (y ∷ ys) (suc i) x e h = mark-on (collects_here y) (mark-at ys i x e h
     mark-on false m = m
 
 -- what is kept of a pass speaks of three fields
-pub in-pass-same : (told : Told) (pass : Pass) (fold new : Fold) (rows : List Row) → InPass told pass fold rows → new.name ≡ fold.name → new.were_active ≡ fold.were_active → new.seen ≡ fold.seen → InPass told pass new rows
-in-pass-same told First fold new rows p name active seen = record { name = name ∙ p.name; active = active ∙ p.active }
-in-pass-same told (Second before) fold new rows p name active seen = record { name = name ∙ p.name; active = active ∙ p.active; seen = λ i e. seen ∙ p.seen i e }
+pub in-pass-same : (recorded : Recorded) (pass : Pass) (fold new : Fold) (rows : List Row) → InPass recorded pass fold rows → new.name ≡ fold.name → new.were_active ≡ fold.were_active → new.seen ≡ fold.seen → InPass recorded pass new rows
+in-pass-same recorded First fold new rows p name active seen = record { name = name ∙ p.name; active = active ∙ p.active }
+in-pass-same recorded (Second before) fold new rows p name active seen = record { name = name ∙ p.name; active = active ∙ p.active; seen = λ i e. seen ∙ p.seen i e }
 
 -- where nothing is collected, what is kept of the pass stays
-pub pass-idle : (told : Told) (pass : Pass) (fold : Fold) (rows : List Row) (blocks : Blocks) (l : ConfLine) (place : ℕ) (line : Line) (row : Row)
-    → InPass told pass fold rows → IsNext told pass rows blocks l place line → collects row.entry ≡ false → collects (entry_of rows line) ≡ false → InPass told pass fold (rows ++ row ∷ [])
+pub pass-idle : (recorded : Recorded) (pass : Pass) (fold : Fold) (rows : List Row) (blocks : Blocks) (l : ConfLine) (place : ℕ) (line : Line) (row : Row)
+    → InPass recorded pass fold rows → IsNext recorded pass rows blocks l place line → collects row.entry ≡ false → collects (entry_of rows line) ≡ false → InPass recorded pass fold (rows ++ row ∷ [])
 unfolding again-row
-pass-idle told First fold rows blocks l place line row p n c d = record {
+pass-idle recorded First fold rows blocks l place line row p n c d = record {
   name = p.name;
   active = p.active ∙ sym (append-nil (flat_map collected rows)) ∙ ap (λ xs. flat_map collected rows ++ xs) (sym (none-collected row c)) ∙ sym (collected-more rows row);
 }
-pass-idle told (Second before) fold rows blocks l place line row p n c d = record {
+pass-idle recorded (Second before) fold rows blocks l place line row p n c d = record {
   name = p.name;
   active = p.active;
   seen = λ i e.
-      let b = again-row told before rows blocks l place line n in
+      let b = again-row recorded before rows blocks l place line n in
       let k : length (rows ++ row ∷ []) ≡ length rows + 1 = length-append rows (row ∷ []) in
       let i-is : i ≡ suc place = omega (arith, k, e, n.at) in
-      let none : collects b.entry ≡ false = row-collects told First (take place before) place line n.within ∙ line-collects (take place before) rows line l blocks n.is_line ∙ d in
+      let none : collects b.entry ≡ false = row-collects recorded First (take place before) place line n.within ∙ line-collects (take place before) rows line l blocks n.is_line ∙ d in
       let none-more : flat_map collected (take (suc place) before) ≡ flat_map collected (take place before) =
       ap (flat_map collected) (take-next before place b n.again) ∙ collected-more (take place before) b ∙ ap (λ xs. flat_map collected (take place before) ++ xs) (none-collected b none) ∙ append-nil _ in
       p.seen place n.at ∙ sym (ap length none-more) ∙ ap (λ m. length (flat_map collected (take m before))) (sym i-is);

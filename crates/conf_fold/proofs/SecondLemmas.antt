@@ -11,14 +11,14 @@ use Rattle.conf_rules.specs.declared.value.Value.TheVariants.{Word}
 use Rattle.conf_rules.specs.declared.asked.AskedLine.{AskedLine}
 use Rattle.conf_rules.specs.declared.causes.Cause.{Cause}
 use Rattle.conf_rules.specs.declared.causes.Cause.TheVariants as causes
-use Rattle.conf_rules.specs.declared.entry.Entry.{Entry}
-use Rattle.conf_rules.specs.declared.entry.Entry.TheVariants.{Nothing, Host, Match, Gives}
+use Rattle.conf_rules.specs.declared.entry.LineContent.{LineContent}
+use Rattle.conf_rules.specs.declared.entry.LineContent.TheVariants.{Nothing, Host, Match, Gives}
 use Rattle.conf_rules.specs.declared.key_kind.KeyKind.{KeyKind}
 use Rattle.conf_rules.specs.declared.key_kind.KeyKind.TheVariants as kinds
 use Rattle.conf_rules.specs.Results.{◌>>=◌, as_error}
 use Rattle.conf_rules.specs.Texts.{Bytes}
 use Rattle.conf_rules.specs.Heads.{Heading, Comment, Says, head_of}
-use Rattle.conf_rules.specs.Told.{Told}
+use Rattle.conf_rules.specs.Recorded.{Recorded}
 use Rattle.conf_rules.specs.Includes.{CommandLine}
 use Rattle.conf_rules.specs.Sources.{Content, Spelled, Parts, Refused, asked_line}
 use Rattle.conf_rules.specs.Kinds.{TheFirst}
@@ -56,7 +56,7 @@ ignored-front rows more p e =
     let there : slice_get (kept TheFirst keys.IgnoreUnknown (flat_map given rows ++ flat_map given more)) 0 ≡ Some (Word p) = value-front TheFirst keys.IgnoreUnknown (flat_map given rows) (flat_map given more) (Word p) refl here in
     ap (λ gs. word_in (slice_get (kept TheFirst keys.IgnoreUnknown gs) 0)) (flat_map-append given rows more) ∙ ap word_in there
 
-keyword-free : (j : Option Bytes) (keyword rest : Bytes) (words : SplitWords) (m : KeyKind) (e : Entry) → keyword_entry None CommandLine keyword rest words m ≡ Ok e → keyword_entry j CommandLine keyword rest words m ≡ Ok e
+keyword-free : (j : Option Bytes) (keyword rest : Bytes) (words : SplitWords) (m : KeyKind) (e : LineContent) → keyword_entry None CommandLine keyword rest words m ≡ Ok e → keyword_entry j CommandLine keyword rest words m ≡ Ok e
 keyword-free j keyword rest words kinds.Unknown e h = absurd cc
 keyword-free j keyword rest words (kinds.Key key) e h = h
 keyword-free j keyword rest words kinds.Host e h = h
@@ -64,21 +64,21 @@ keyword-free j keyword rest words kinds.Match e h = h
 keyword-free j keyword rest words kinds.Include e h = h
 keyword-free j keyword rest words kinds.Unchecked e h = h
 
-heading-free : (j : Option Bytes) (h : Heading) (e : Entry) → headed_entry None CommandLine h ≡ Ok e → headed_entry j CommandLine h ≡ Ok e
+heading-free : (j : Option Bytes) (h : Heading) (e : LineContent) → headed_entry None CommandLine h ≡ Ok e → headed_entry j CommandLine h ≡ Ok e
 heading-free j Comment e h = h
 heading-free j (Says keyword rest) e h = keyword-free j keyword rest (split rest) (meaning_of keyword) e h
 
-spelled-free : (j : Option Bytes) (h : Result Heading Cause) (e : Entry) → (h >>= headed_entry None CommandLine) ≡ Ok e → (h >>= headed_entry j CommandLine) ≡ Ok e
+spelled-free : (j : Option Bytes) (h : Result Heading Cause) (e : LineContent) → (h >>= headed_entry None CommandLine) ≡ Ok e → (h >>= headed_entry j CommandLine) ≡ Ok e
 spelled-free j (Ok h) e k = heading-free j h e k
 spelled-free j (Err c) e k = absurd cc
 
-content-free : (j : Option Bytes) (content : Content) (e : Entry) → content_entry None CommandLine content ≡ Ok e → content_entry j CommandLine content ≡ Ok e
+content-free : (j : Option Bytes) (content : Content) (e : LineContent) → content_entry None CommandLine content ≡ Ok e → content_entry j CommandLine content ≡ Ok e
 content-free j (Spelled bytes) e h = spelled-free j (as_error causes.Lex (head_of bytes)) e h
 content-free j (Parts keyword words) e h = keyword-free j keyword [] (Ok words) (meaning_of keyword) e h
 content-free j (Refused cause) e h = absurd cc
 
 -- a line of the command line that wasn't refused says the same behind more rows
-says-again : (rows more : List Row) (l : AskedLine) (e : Entry) → entry_of rows (asked_line l) ≡ Ok e → entry_of (rows ++ more) (asked_line l) ≡ Ok e
+says-again : (rows more : List Row) (l : AskedLine) (e : LineContent) → entry_of rows (asked_line l) ≡ Ok e → entry_of (rows ++ more) (asked_line l) ≡ Ok e
 says-again rows more l e h = asked-says (rows ++ more) l ∙ on (word_in (value keys.IgnoreUnknown rows)) refl (sym (asked-says rows l) ∙ h)
   where
     on : (i : Option Bytes) → word_in (value keys.IgnoreUnknown rows) ≡ i → content_entry (word_in (value keys.IgnoreUnknown rows)) CommandLine (asked_line l).content ≡ Ok e → content_entry (word_in (value keys.IgnoreUnknown (rows ++ more))) CommandLine (asked_line l).content ≡ Ok e
@@ -88,7 +88,7 @@ says-again rows more l e h = asked-says (rows ++ more) l ∙ on (word_in (value 
 -- ---- what it gives again
 
 -- what an entry gives again changes nothing, where it gave it before
-gives-again : (settings all : List Given) (e : Entry) → ((key : Key) (v : Value) → e ≡ Gives key v → has_key key all ≡ true) → Keeps settings all → Keeps settings (all ++ entry_gives true (Ok e))
+gives-again : (settings all : List Given) (e : LineContent) → ((key : Key) (v : Value) → e ≡ Gives key v → has_key key all ≡ true) → Keeps settings all → Keeps settings (all ++ entry_gives true (Ok e))
 gives-again settings all Nothing has s = rw (append-nil all) s
 gives-again settings all (Host ps) has s = rw (append-nil all) s
 gives-again settings all (Match cs) has s = rw (append-nil all) s
@@ -109,46 +109,46 @@ has-behind key (x ∷ xs) ys v = rw (has-behind key xs ys v) (or-true (same_key 
 -- ---- one line again
 
 -- where a second pass stands among the lines of the command line
-pub record Again (told : Told) (rows : List Row) (new : Fold) (done later extra : List Row) : Type 0 where
+pub record Again (recorded : Recorded) (rows : List Row) (new : Fold) (done later extra : List Row) : Type 0 where
   pub parts : rows ≡ done ++ later
   pub idle : flat_map collected done ≡ []
   pub size : length extra ≡ length done
-  pub stands : Stands told (Second rows) new (rows ++ extra) []
+  pub stands : Stands recorded (Second rows) new (rows ++ extra) []
   pub none : refusal_in (rows ++ extra) ≡ None
 
-abbrev first_row : Told → List Row → AskedLine → Row
-first_row told done l = next_row told First done (length done) (asked_line l)
+abbrev first_row : Recorded → List Row → AskedLine → Row
+first_row recorded done l = next_row recorded First done (length done) (asked_line l)
 
-abbrev second_row : Told → List Row → List Row → AskedLine → Row
-second_row told rows extra l = next_row told (Second rows) (rows ++ extra) (length extra) (asked_line l)
+abbrev second_row : Recorded → List Row → List Row → AskedLine → Row
+second_row recorded rows extra l = next_row recorded (Second rows) (rows ++ extra) (length extra) (asked_line l)
 
-took : (r : Result Entry Cause) → is_refused r ≡ false → (e : Entry) × (r ≡ Ok e)
+took : (r : Result LineContent Cause) → is_refused r ≡ false → (e : LineContent) × (r ≡ Ok e)
 took (Ok e) h = (e, refl)
 took (Err c) h = absurd cc
 
-first-entry : (told : Told) (done : List Row) (l : AskedLine) → is_refused (first_row told done l).entry ≡ false → is_refused (entry_of done (asked_line l)) ≡ false
+first-entry : (recorded : Recorded) (done : List Row) (l : AskedLine) → is_refused (first_row recorded done l).entry ≡ false → is_refused (entry_of done (asked_line l)) ≡ false
 unfolding asked_with
-first-entry told done l h = on (entry_of done (asked_line l)) refl
+first-entry recorded done l h = on (entry_of done (asked_line l)) refl
   where
-    on : (r : Result Entry Cause) → entry_of done (asked_line l) ≡ r → is_refused r ≡ false
+    on : (r : Result LineContent Cause) → entry_of done (asked_line l) ≡ r → is_refused r ≡ false
     on (Ok e) is = refl
     on (Err c) is =
-        let k : (first_row told done l).entry ≡ Err c = ap (λ (x : Row). x.entry) (asked-row-is told First done (length done) l) ∙ ap (λ r. (Rattle.conf_rules.specs.Resolution.effect_of told First done true r).entry) is in
+        let k : (first_row recorded done l).entry ≡ Err c = ap (λ (x : Row). x.entry) (asked-row-is recorded First done (length done) l) ∙ ap (λ r. (Rattle.conf_rules.specs.Resolution.effect_of recorded First done true r).entry) is in
         let b : false ≡ true = sym h ∙ ap is_refused k in absurd cc
 
-one-again : (told : Told) (rows : List Row) (new : Fold) (done later extra : List Row) (l : AskedLine) → is_refused (first_row told done l).entry ≡ false → Again told rows new done (first_row told done l ∷ later) extra
-    → (is_refused (second_row told rows extra l).entry ≡ false) × Again told rows new (done ++ first_row told done l ∷ []) later (extra ++ second_row told rows extra l ∷ [])
+one-again : (recorded : Recorded) (rows : List Row) (new : Fold) (done later extra : List Row) (l : AskedLine) → is_refused (first_row recorded done l).entry ≡ false → Again recorded rows new done (first_row recorded done l ∷ later) extra
+    → (is_refused (second_row recorded rows extra l).entry ≡ false) × Again recorded rows new (done ++ first_row recorded done l ∷ []) later (extra ++ second_row recorded rows extra l ∷ [])
 unfolding asked_with
-one-again told rows new done later extra l ok a =
-    let row = first_row told done l in
-    let e = took (entry_of done (asked_line l)) (first-entry told done l ok) in
-    let is : row ≡ row_with (asked_line l) true false (no_block (Ok e.0)) = asked-row-says told First done (length done) l e.0 e.1 in
+one-again recorded rows new done later extra l ok a =
+    let row = first_row recorded done l in
+    let e = took (entry_of done (asked_line l)) (first-entry recorded done l ok) in
+    let is : row ≡ row_with (asked_line l) true false (no_block (Ok e.0)) = asked-row-says recorded First done (length done) l e.0 e.1 in
     let whole : rows ++ extra ≡ done ++ (row ∷ later ++ extra) = ap (λ rs. rs ++ extra) a.parts ∙ append_assoc done (row ∷ later) extra in
     let says : entry_of (rows ++ extra) (asked_line l) ≡ Ok e.0 = ap (λ rs. entry_of rs (asked_line l)) whole ∙ says-again done (row ∷ later ++ extra) l e.0 e.1 in
-    let other = second_row told rows extra l in
+    let other = second_row recorded rows extra l in
     let at : slice_get rows (length extra) ≡ Some row = ap (slice_get rows) a.size ∙ ap (λ rs. slice_get rs (length done)) a.parts ∙ slice_get-next done row later in
     let again : active_before (Second rows) (length extra) ≡ true = ap is_active_row at ∙ ap (λ (r : Row). r.active) is in
-    let other-is : other ≡ row_with (asked_line l) true true (no_block (Ok e.0)) = asked-row-says told (Second rows) (rows ++ extra) (length extra) l e.0 says ∙ ap (λ t. row_with (asked_line l) true t (no_block (Ok e.0))) again in
+    let other-is : other ≡ row_with (asked_line l) true true (no_block (Ok e.0)) = asked-row-says recorded (Second rows) (rows ++ extra) (length extra) l e.0 says ∙ ap (λ t. row_with (asked_line l) true t (no_block (Ok e.0))) again in
     let gives : given other ≡ entry_gives true (Ok e.0) = ap given other-is in
     let had : flat_map given (rows ++ extra) ≡ flat_map given done ++ (given row ++ flat_map given (later ++ extra)) = ap (flat_map given) whole ∙ flat_map-append given done (row ∷ later ++ extra) in
     let has : (key : Key) (v : Value) → e.0 ≡ Gives key v → has_key key (flat_map given (rows ++ extra)) ≡ true =
@@ -160,9 +160,9 @@ one-again told rows new done later extra l ok a =
       okay,
       record {
         parts = a.parts ∙ sym (append_assoc done (row ∷ []) later);
-        idle = Rattle.conf_fold.proofs.RowLemmas.collected-more done row ∙ ap (λ xs. xs ++ collected row) a.idle ∙ asked-collected row l (row-line told First done (length done) (asked_line l));
+        idle = Rattle.conf_fold.proofs.RowLemmas.collected-more done row ∙ ap (λ xs. xs ++ collected row) a.idle ∙ asked-collected row l (row-line recorded First done (length done) (asked_line l));
         size = length-append extra (other ∷ []) ∙ ap (λ n. n + 1) a.size ∙ sym (length-append done (row ∷ []));
-        stands = subst (λ rs. Stands told (Second rows) new rs []) behind (record {
+        stands = subst (λ rs. Stands recorded (Second rows) new rs []) behind (record {
           original = s.original;
           keeps = rw (given-more (rows ++ extra) other, gives) (gives-again new.settings (flat_map given (rows ++ extra)) e.0 has s.keeps);
           applies = s.applies;
@@ -178,7 +178,7 @@ one-again told rows new done later extra l ok a =
                 let i-is : i ≡ suc (length done) = omega (arith, n, m, h, z) in
                 let before : length rows + length extra ≡ length rows + length done = ap (λ x. length rows + x) z in
                 let old : new.seen ≡ 0 = s.in_pass.seen (length done) (m ∙ before) ∙ ap (λ rs. length (flat_map collected rs)) (ap (take (length done)) a.parts ∙ take-front done (row ∷ later)) ∙ ap length a.idle in
-                let more : flat_map collected (done ++ row ∷ []) ≡ [] = Rattle.conf_fold.proofs.RowLemmas.collected-more done row ∙ ap (λ xs. xs ++ collected row) a.idle ∙ asked-collected row l (row-line told First done (length done) (asked_line l)) in
+                let more : flat_map collected (done ++ row ∷ []) ≡ [] = Rattle.conf_fold.proofs.RowLemmas.collected-more done row ∙ ap (λ xs. xs ++ collected row) a.idle ∙ asked-collected row l (row-line recorded First done (length done) (asked_line l)) in
                 let front : take i rows ≡ done ++ row ∷ [] = ap (λ x. take x rows) i-is ∙ ap (take (suc (length done))) a.parts ∙ take-one done row later in
                 old ∙ sym (ap length (ap (flat_map collected) front ∙ more));
           };
@@ -197,74 +197,74 @@ one-again told rows new done later extra l ok a =
 
 -- ---- all of them
 
-refused-front : (told : Told) (rows done later extra : List Row) (new : Fold) (l : AskedLine) (ls : List AskedLine) → refusal_in rows ≡ None → rows ≡ from told First done (length done) (map asked_line (l ∷ ls)) ++ later
-    → is_refused (first_row told done l).entry ≡ false
-refused-front told rows done later extra new l ls none parts = on (is_refused (first_row told done l).entry) refl
+refused-front : (recorded : Recorded) (rows done later extra : List Row) (new : Fold) (l : AskedLine) (ls : List AskedLine) → refusal_in rows ≡ None → rows ≡ from recorded First done (length done) (map asked_line (l ∷ ls)) ++ later
+    → is_refused (first_row recorded done l).entry ≡ false
+refused-front recorded rows done later extra new l ls none parts = on (is_refused (first_row recorded done l).entry) refl
   where
-    on : (t : Bool) → is_refused (first_row told done l).entry ≡ t → t ≡ false
+    on : (t : Bool) → is_refused (first_row recorded done l).entry ≡ t → t ≡ false
     on false h = refl
     on true h =
-        let row = first_row told done l in
-        let is : rows ≡ (done ++ row ∷ []) ++ later = parts ∙ ap (λ rs. rs ++ later) (rows-end told First done (length done) (asked_line l) (map asked_line ls) h) in
+        let row = first_row recorded done l in
+        let is : rows ≡ (done ++ row ∷ []) ++ later = parts ∙ ap (λ rs. rs ++ later) (rows-end recorded First done (length done) (asked_line l) (map asked_line ls) h) in
         let front : refusal_in (done ++ row ∷ []) ≡ None = (none-parts (done ++ row ∷ []) later (ap refusal_in (sym is) ∙ none)).0 in
         let low : refusal_in done ≡ None = (none-parts done (row ∷ []) front).0 in
         let here : refusal_at row.line row.entry ≡ None = sym (refusal-behind done row low) ∙ front in
         absurd (not-none row.line row.entry h here)
 
 -- the parts of rows behind one more line
-next-later : (told : Told) (rows done later : List Row) (l : AskedLine) (ls : List AskedLine) → rows ≡ from told First done (length done) (map asked_line (l ∷ ls)) ++ later → is_refused (first_row told done l).entry ≡ false
-    → rows ≡ from told First (done ++ first_row told done l ∷ []) (length (done ++ first_row told done l ∷ [])) (map asked_line ls) ++ later
-next-later told rows done later l ls parts ok =
-    let row = first_row told done l in
+next-later : (recorded : Recorded) (rows done later : List Row) (l : AskedLine) (ls : List AskedLine) → rows ≡ from recorded First done (length done) (map asked_line (l ∷ ls)) ++ later → is_refused (first_row recorded done l).entry ≡ false
+    → rows ≡ from recorded First (done ++ first_row recorded done l ∷ []) (length (done ++ first_row recorded done l ∷ [])) (map asked_line ls) ++ later
+next-later recorded rows done later l ls parts ok =
+    let row = first_row recorded done l in
     let n : length (done ++ row ∷ []) ≡ length done + 1 = length-append done (row ∷ []) in
-    parts ∙ ap (λ rs. rs ++ later) (rows-on told First done (length done) (asked_line l) (map asked_line ls) ok ∙ ap (λ m. from told First (done ++ row ∷ []) m (map asked_line ls)) (sym n))
+    parts ∙ ap (λ rs. rs ++ later) (rows-on recorded First done (length done) (asked_line l) (map asked_line ls) ok ∙ ap (λ m. from recorded First (done ++ row ∷ []) m (map asked_line ls)) (sym n))
 
-pub all-again : (told : Told) (rows : List Row) (new : Fold) (ls : List AskedLine) (done extra rest later : List Row) → refusal_in rows ≡ None → rows ≡ from told First done (length done) (map asked_line ls) ++ later → Again told rows new done rest extra
-    → Stands told (Second rows) new (from told (Second rows) (rows ++ extra) (length extra) (map asked_line ls)) [] × (refusal_in (from told (Second rows) (rows ++ extra) (length extra) (map asked_line ls)) ≡ None)
+pub all-again : (recorded : Recorded) (rows : List Row) (new : Fold) (ls : List AskedLine) (done extra rest later : List Row) → refusal_in rows ≡ None → rows ≡ from recorded First done (length done) (map asked_line ls) ++ later → Again recorded rows new done rest extra
+    → Stands recorded (Second rows) new (from recorded (Second rows) (rows ++ extra) (length extra) (map asked_line ls)) [] × (refusal_in (from recorded (Second rows) (rows ++ extra) (length extra) (map asked_line ls)) ≡ None)
 unfolding rows_from
-all-again told rows new [] done extra rest later none parts a = (a.stands, a.none)
-all-again told rows new (l ∷ ls) done extra rest later none parts a =
-    let row = first_row told done l in
-    let ok : is_refused row.entry ≡ false = refused-front told rows done later extra new l ls none parts in
-    let parts' = next-later told rows done later l ls parts ok in
-    let front = from-front told First (map asked_line ls) (done ++ row ∷ []) (length (done ++ row ∷ [])) in
+all-again recorded rows new [] done extra rest later none parts a = (a.stands, a.none)
+all-again recorded rows new (l ∷ ls) done extra rest later none parts a =
+    let row = first_row recorded done l in
+    let ok : is_refused row.entry ≡ false = refused-front recorded rows done later extra new l ls none parts in
+    let parts' = next-later recorded rows done later l ls parts ok in
+    let front = from-front recorded First (map asked_line ls) (done ++ row ∷ []) (length (done ++ row ∷ [])) in
     let rest-is : rows ≡ done ++ (row ∷ (front.0 ++ later)) = parts' ∙ ap (λ rs. rs ++ later) front.1 ∙ append_assoc (done ++ row ∷ []) front.0 later ∙ append_assoc done (row ∷ []) (front.0 ++ later) in
-    let a' : Again told rows new done (row ∷ (front.0 ++ later)) extra = record { parts = rest-is; idle = a.idle; size = a.size; stands = a.stands; none = a.none } in
-    let one = one-again told rows new done (front.0 ++ later) extra l ok a' in
-    let other = second_row told rows extra l in
+    let a' : Again recorded rows new done (row ∷ (front.0 ++ later)) extra = record { parts = rest-is; idle = a.idle; size = a.size; stands = a.stands; none = a.none } in
+    let one = one-again recorded rows new done (front.0 ++ later) extra l ok a' in
+    let other = second_row recorded rows extra l in
     let n : length (extra ++ other ∷ []) ≡ length extra + 1 = length-append extra (other ∷ []) in
-    let step : from told (Second rows) (rows ++ extra) (length extra) (map asked_line (l ∷ ls)) ≡ from told (Second rows) (rows ++ (extra ++ other ∷ [])) (length (extra ++ other ∷ [])) (map asked_line ls) =
-    rows-on told (Second rows) (rows ++ extra) (length extra) (asked_line l) (map asked_line ls) one.0
-    ∙ ap (λ rs. from told (Second rows) rs (length extra + 1) (map asked_line ls)) (append_assoc rows extra (other ∷ []))
-    ∙ ap (λ m. from told (Second rows) (rows ++ (extra ++ other ∷ [])) m (map asked_line ls)) (sym n) in
-    let r = all-again told rows new ls (done ++ row ∷ []) (extra ++ other ∷ []) (front.0 ++ later) later none parts' one.1 in
-    (subst (λ rs. Stands told (Second rows) new rs []) (sym step) r.0, ap refusal_in step ∙ r.1)
+    let step : from recorded (Second rows) (rows ++ extra) (length extra) (map asked_line (l ∷ ls)) ≡ from recorded (Second rows) (rows ++ (extra ++ other ∷ [])) (length (extra ++ other ∷ [])) (map asked_line ls) =
+    rows-on recorded (Second rows) (rows ++ extra) (length extra) (asked_line l) (map asked_line ls) one.0
+    ∙ ap (λ rs. from recorded (Second rows) rs (length extra + 1) (map asked_line ls)) (append_assoc rows extra (other ∷ []))
+    ∙ ap (λ m. from recorded (Second rows) (rows ++ (extra ++ other ∷ [])) m (map asked_line ls)) (sym n) in
+    let r = all-again recorded rows new ls (done ++ row ∷ []) (extra ++ other ∷ []) (front.0 ++ later) later none parts' one.1 in
+    (subst (λ rs. Stands recorded (Second rows) new rs []) (sym step) r.0, ap refusal_in step ∙ r.1)
 
 -- what a fold is where the second pass begins
 abbrev pub again_of : Fold → Fold
 again_of fold = record fold { name = Some (host_so_far fold); applies = []; seen = 0 }
 
-pub second-begins : (told : Told) (old new : Fold) (rows : List Row) (blocks : Blocks) → Stands told First old rows blocks → Behind told rows → old.asks_again ≡ true → new ≡ again_of old → SecondBegins told rows new true
-second-begins told old new rows blocks s b asks is =
+pub second-begins : (recorded : Recorded) (old new : Fold) (rows : List Row) (blocks : Blocks) → Stands recorded First old rows blocks → Behind recorded rows → old.asks_again ≡ true → new ≡ again_of old → SecondBegins recorded rows new true
+second-begins recorded old new rows blocks s b asks is =
     let z : rows ++ [] ≡ rows = append-nil rows in
-    let start : Again told rows new [] rows [] = record {
+    let start : Again recorded rows new [] rows [] = record {
       parts = refl;
       idle = refl;
       size = refl;
-      stands = subst (λ rs. Stands told (Second rows) new rs []) (sym z) (record {
+      stands = subst (λ rs. Stands recorded (Second rows) new rs []) (sym z) (record {
         original = ap (λ (f : Fold). f.original) is ∙ s.original;
         keeps = rw (ap (λ (f : Fold). f.settings) is) s.keeps;
         applies = ap (λ (f : Fold). f.applies) is;
         before = tt;
         again = ap (λ (f : Fold). f.asks_again) is ∙ s.again;
         in_pass = record {
-          name = ap (λ (f : Fold). f.name) is ∙ ap (λ h. Some h) (host-same told First old rows blocks s);
+          name = ap (λ (f : Fold). f.name) is ∙ ap (λ h. Some h) (host-same recorded First old rows blocks s);
           active = ap (λ (f : Fold). f.were_active) is ∙ s.in_pass.active;
           seen = λ i h. let k : i ≡ 0 = omega (arith, h) in ap (λ (f : Fold). f.seen) is ∙ sym (ap (λ n. length (flat_map collected (take n rows))) k);
         };
       });
       none = ap refusal_in z ∙ b.none;
     } in
-    let r = all-again told rows new told.asked.lines [] [] rows b.later b.none b.parts start in
-    let same : from told (Second rows) (rows ++ []) 0 (map asked_line told.asked.lines) ≡ asked_again told rows = ap (λ rs. from told (Second rows) rs 0 (map asked_line told.asked.lines)) z in
-    (sym s.again ∙ asks, (subst (λ rs. Stands told (Second rows) new rs []) same r.0, ap refusal_in (sym same) ∙ r.1))
+    let r = all-again recorded rows new recorded.asked.lines [] [] rows b.later b.none b.parts start in
+    let same : from recorded (Second rows) (rows ++ []) 0 (map asked_line recorded.asked.lines) ≡ asked_again recorded rows = ap (λ rs. from recorded (Second rows) rs 0 (map asked_line recorded.asked.lines)) z in
+    (sym s.again ∙ asks, (subst (λ rs. Stands recorded (Second rows) new rs []) same r.0, ap refusal_in (sym same) ∙ r.1))

@@ -3,7 +3,7 @@ use Rattle.std.proofs.Common.{◌≡◌, List, refl, ap, ◌∙◌}
 use Rattle.std.specs.List.{slice_get}
 use Rattle.conf_rules.specs.declared.key.Key.{Key}
 use Rattle.conf_rules.specs.declared.key.Key.TheVariants as keys
-use Rattle.conf_rules.specs.Told.{Told}
+use Rattle.conf_rules.specs.Recorded.{Recorded}
 use Rattle.conf_rules.specs.Rows.{Row, Pass, First, Second, values, value, word_in}
 use Rattle.conf_rules.specs.Resolution.{host_from, host_at, view_at, seen_at, name_in_pass}
 use Rattle.conf_fold.specs.declared.fold.Fold.{Fold}
@@ -13,29 +13,29 @@ use Rattle.conf_fold.specs.Stands.{Stands, setting, host_so_far, block_name, vie
 -- ---- values
 
 -- the value of a key, by the settings and by the rows
-pub setting-value : (told : Told) (pass : Pass) (fold : Fold) (rows : List Row) (blocks : Blocks) (key : Key) → Stands told pass fold rows blocks → setting key fold ≡ value key rows
+pub setting-value : (recorded : Recorded) (pass : Pass) (fold : Fold) (rows : List Row) (blocks : Blocks) (key : Key) → Stands recorded pass fold rows blocks → setting key fold ≡ value key rows
 unfolding values
-setting-value told pass fold rows blocks key s = ap (λ vs. slice_get vs 0) (s.keeps.each key)
+setting-value recorded pass fold rows blocks key s = ap (λ vs. slice_get vs 0) (s.keeps.each key)
 
 -- the host name so far
-pub host-same : (told : Told) (pass : Pass) (fold : Fold) (rows : List Row) (blocks : Blocks) → Stands told pass fold rows blocks → host_so_far fold ≡ host_at told.asked.original rows
-host-same told pass fold rows blocks s =
+pub host-same : (recorded : Recorded) (pass : Pass) (fold : Fold) (rows : List Row) (blocks : Blocks) → Stands recorded pass fold rows blocks → host_so_far fold ≡ host_at recorded.asked.original rows
+host-same recorded pass fold rows blocks s =
     ap (λ o. host_from o (word_in (setting keys.Hostname fold))) s.original
-    ∙ ap (λ v. host_from told.asked.original (word_in v)) (setting-value told pass fold rows blocks keys.Hostname s)
+    ∙ ap (λ v. host_from recorded.asked.original (word_in v)) (setting-value recorded pass fold rows blocks keys.Hostname s)
 
 -- what a Host line sees
-pub name-same : (told : Told) (pass : Pass) (fold : Fold) (rows : List Row) (blocks : Blocks) → Stands told pass fold rows blocks → block_name fold ≡ name_in_pass told pass
-name-same told First fold rows blocks s = rw (s.in_pass.name) s.original
-name-same told (Second before) fold rows blocks s = rw (s.in_pass.name) refl
+pub name-same : (recorded : Recorded) (pass : Pass) (fold : Fold) (rows : List Row) (blocks : Blocks) → Stands recorded pass fold rows blocks → block_name fold ≡ name_in_pass recorded pass
+name-same recorded First fold rows blocks s = rw (s.in_pass.name) s.original
+name-same recorded (Second before) fold rows blocks s = rw (s.in_pass.name) refl
 
 -- what tokens and criteria see
-pub view-same : (told : Told) (pass : Pass) (fold : Fold) (rows : List Row) (blocks : Blocks) → Stands told pass fold rows blocks → view_of fold told.facts ≡ seen_at told pass rows
+pub view-same : (recorded : Recorded) (pass : Pass) (fold : Fold) (rows : List Row) (blocks : Blocks) → Stands recorded pass fold rows blocks → view_of fold recorded.facts ≡ seen_at recorded pass rows
 unfolding view_at
-view-same told First fold rows blocks s =
-    let v = setting-value told First fold rows blocks in
-    let h = host-same told First fold rows blocks s in
+view-same recorded First fold rows blocks s =
+    let v = setting-value recorded First fold rows blocks in
+    let h = host-same recorded First fold rows blocks s in
     rw (s.in_pass.name, h, s.original, v keys.ProxyJump s, v keys.Tag s, v keys.Port s, v keys.User s, v keys.HostKeyAlias s) refl
-view-same told (Second before) fold rows blocks s =
-    let v = setting-value told (Second before) fold rows blocks in
-    let h = host-same told (Second before) fold rows blocks s in
+view-same recorded (Second before) fold rows blocks s =
+    let v = setting-value recorded (Second before) fold rows blocks in
+    let h = host-same recorded (Second before) fold rows blocks s in
     rw (s.in_pass.name, h, s.original, v keys.ProxyJump s, v keys.Tag s, v keys.Port s, v keys.User s, v keys.HostKeyAlias s) refl

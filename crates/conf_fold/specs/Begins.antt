@@ -4,7 +4,7 @@ use Rattle.std.specs.List.{list_any}
 use Rattle.conf_rules.specs.declared.causes.ResolveError.{ResolveError}
 use Rattle.conf_rules.specs.declared.causes.ResolveError.TheVariants.{OutOfMemory}
 use Rattle.conf_rules.specs.Texts.{Bytes}
-use Rattle.conf_rules.specs.Told.{Told}
+use Rattle.conf_rules.specs.Recorded.{Recorded}
 use Rattle.conf_rules.specs.Sources.{Line, asked_line}
 use Rattle.conf_rules.specs.Rows.{Row, First, Second}
 use Rattle.conf_rules.specs.Entries.{entry_of}
@@ -13,8 +13,8 @@ use Rattle.conf_fold.specs.declared.fold.Fold.{Fold}
 use Rattle.conf_fold.specs.Stands.{Stands, next_row}
 
 -- the rows of the command line's lines
-abbrev pub asked_rows : Told → List Row
-asked_rows told = rows_from told entry_of [] (first_place First) (map asked_line told.asked.lines)
+abbrev pub asked_rows : Recorded → List Row
+asked_rows recorded = rows_from recorded entry_of [] (first_place First) (map asked_line recorded.asked.lines)
 
 -- a fold that took no line
 pub record IsEmpty (original : Bytes) (fold : Fold) : Type 0 where
@@ -27,38 +27,38 @@ pub record IsEmpty (original : Bytes) (fold : Fold) : Type 0 where
 
 -- what a fold of the command line's lines is: it stands for their rows, or the first refused one is
 -- told
-abbrev pub IsBegun : Told → Result Fold ResolveError → Type 0
-IsBegun told (Ok fold) = Stands told First fold (asked_rows told) []
-    × (refusal_in (asked_rows told) ≡ None)
-IsBegun told (Err OutOfMemory) = Unit {0}
-IsBegun told (Err e) = refusal_in (asked_rows told) ≡ Some e
+abbrev pub IsBegun : Recorded → Result Fold ResolveError → Type 0
+IsBegun recorded (Ok fold) = Stands recorded First fold (asked_rows recorded) []
+    × (refusal_in (asked_rows recorded) ≡ None)
+IsBegun recorded (Err OutOfMemory) = Unit {0}
+IsBegun recorded (Err e) = refusal_in (asked_rows recorded) ≡ Some e
 
 -- the row of a line of the command line behind others
-abbrev pub asked_row : Told → List Row → Line → Row
-asked_row told rows line = next_row told First rows (length rows) line
+abbrev pub asked_row : Recorded → List Row → Line → Row
+asked_row recorded rows line = next_row recorded First rows (length rows) line
 
 -- what a fold did with a line of the command line
-abbrev pub TakesAsked : Told → List Row → Line → Result (Unit {0}) ResolveError → Fold → Type 0
-TakesAsked told rows line (Ok x) new = (is_refused (asked_row told rows line).entry ≡ false)
-    × Stands told First new (rows ++ asked_row told rows line ∷ []) []
-TakesAsked told rows line (Err OutOfMemory) new = Unit {0}
-TakesAsked told rows line (Err e) new = refusal_at line (asked_row told rows line).entry ≡ Some e
+abbrev pub TakesAsked : Recorded → List Row → Line → Result (Unit {0}) ResolveError → Fold → Type 0
+TakesAsked recorded rows line (Ok x) new = (is_refused (asked_row recorded rows line).entry ≡ false)
+    × Stands recorded First new (rows ++ asked_row recorded rows line ∷ []) []
+TakesAsked recorded rows line (Err OutOfMemory) new = Unit {0}
+TakesAsked recorded rows line (Err e) new = refusal_at line (asked_row recorded rows line).entry ≡ Some e
 
 -- rows that begin with those of the command line's lines, of which none is refused
-pub record Behind (told : Told) (rows : List Row) : Type 0 where
+pub record Behind (recorded : Recorded) (rows : List Row) : Type 0 where
   pub later : List Row
-  pub parts : rows ≡ asked_rows told ++ later
+  pub parts : rows ≡ asked_rows recorded ++ later
   pub none : refusal_in rows ≡ None
 
 -- the rows of the command line's lines in a second pass, behind those of the first
-abbrev pub asked_again : Told → List Row → List Row
-asked_again told rows =
-    rows_from told entry_of rows (first_place (Second rows)) (map asked_line told.asked.lines)
+abbrev pub asked_again : Recorded → List Row → List Row
+asked_again recorded rows =
+    rows_from recorded entry_of rows (first_place (Second rows)) (map asked_line recorded.asked.lines)
 
 -- whether a second pass begins: where a line of the first asked for it, behind the lines of the
 -- command line
-abbrev pub SecondBegins : Told → List Row → Fold → Bool → Type 0
-SecondBegins told rows new false = list_any wants_second rows ≡ false
-SecondBegins told rows new true = (list_any wants_second rows ≡ true)
-    × (Stands told (Second rows) new (asked_again told rows) []
-    × (refusal_in (asked_again told rows) ≡ None))
+abbrev pub SecondBegins : Recorded → List Row → Fold → Bool → Type 0
+SecondBegins recorded rows new false = list_any wants_second rows ≡ false
+SecondBegins recorded rows new true = (list_any wants_second rows ≡ true)
+    × (Stands recorded (Second rows) new (asked_again recorded rows) []
+    × (refusal_in (asked_again recorded rows) ≡ None))

@@ -2,8 +2,8 @@
 use Rattle.std.specs.Prelude.{Bool, true, List, Option, Ok}
 use Rattle.conf_rules.specs.declared.key.Key.{Key}
 use Rattle.conf_rules.specs.declared.causes.Cause.TheVariants as causes
-use Rattle.conf_rules.specs.declared.entry.Entry.{Entry}
-use Rattle.conf_rules.specs.declared.entry.Entry.TheVariants.{Gives}
+use Rattle.conf_rules.specs.declared.entry.LineContent.{LineContent}
+use Rattle.conf_rules.specs.declared.entry.LineContent.TheVariants.{Gives}
 use Rattle.conf_rules.specs.Results.{◌>>=◌, as_error}
 use Rattle.conf_rules.specs.Texts.{Bytes}
 use Rattle.conf_rules.specs.Heads.{head_of}
@@ -13,7 +13,7 @@ use Rattle.conf_rules.specs.Values.{value_for}
 use Rattle.conf_rules.specs.Entries.{ReadEntry, headed_entry}
 
 -- whether what a line gives is a value of its key
-abbrev pub entry_fits : Entry → Bool
+abbrev pub entry_fits : LineContent → Bool
 entry_fits (Gives key value) = fits key value
 entry_fits entry = true
 

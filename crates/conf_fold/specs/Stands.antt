@@ -8,11 +8,11 @@ use Rattle.conf_rules.specs.declared.value.Value.{Value}
 use Rattle.conf_rules.specs.declared.causes.Cause.{Cause}
 use Rattle.conf_rules.specs.declared.causes.ResolveError.{ResolveError}
 use Rattle.conf_rules.specs.declared.causes.ResolveError.TheVariants.{At, OutOfMemory}
-use Rattle.conf_rules.specs.declared.entry.Entry.{Entry}
-use Rattle.conf_rules.specs.declared.entry.Entry.TheVariants.{Gives}
+use Rattle.conf_rules.specs.declared.entry.LineContent.{LineContent}
+use Rattle.conf_rules.specs.declared.entry.LineContent.TheVariants.{Gives}
 use Rattle.conf_rules.specs.Texts.{Bytes, or_text}
 use Rattle.conf_rules.specs.Heads.{Says}
-use Rattle.conf_rules.specs.Told.{Told, Facts}
+use Rattle.conf_rules.specs.Recorded.{Recorded, Facts}
 use Rattle.conf_rules.specs.Tokens.{View}
 use Rattle.conf_rules.specs.Includes.{UserFile}
 use Rattle.conf_rules.specs.Diagnostics.{is_fault}
@@ -21,7 +21,7 @@ use Rattle.conf_rules.specs.Rows.{Row, Pass, First, Second, is_collected, values
 use Rattle.conf_rules.specs.Entries.{entry_of, headed_entry}
 use Rattle.conf_rules.specs.Resolution.{applies_at, start_of, host_from, host_at, wants_second, is_asked, is_past_limit, row_of, is_refused, refusal_at}
 use Rattle.conf_options.specs.Kept.{Given, Keeps}
-use Rattle.conf_match.specs.Evaluated.{TellsStatus}
+use Rattle.conf_match.specs.Evaluated.{RecordsStatus}
 use Rattle.conf_reader.specs.declared.line.ConfLine.{ConfLine}
 use Rattle.conf_reader.specs.Blocks.{Blocks, IsLine, open_behind}
 use Rattle.conf_fold.specs.declared.fold.Fold.{Fold}
@@ -47,7 +47,7 @@ EachBefore rows pass [] = Unit {0}
 EachBefore rows pass (b ∷ bs) = IsBefore rows pass b × EachBefore rows pass bs
 
 -- whether an entry gives a value to a key that collects
-abbrev pub collects : Result Entry Cause → Bool
+abbrev pub collects : Result LineContent Cause → Bool
 collects (Ok (Gives key value)) = is_collected key
 collects entry = false
 
@@ -64,80 +64,80 @@ pub record InFirst (fold : Fold) (rows : List Row) : Type 0 where
   pub name : fold.name ≡ None
   pub active : fold.were_active ≡ flat_map collected rows
 
-pub record InSecond (told : Told) (fold : Fold) (rows before : List Row) : Type 0 where
-  pub name : fold.name ≡ Some (host_at told.asked.original before)
+pub record InSecond (recorded : Recorded) (fold : Fold) (rows before : List Row) : Type 0 where
+  pub name : fold.name ≡ Some (host_at recorded.asked.original before)
   pub active : fold.were_active ≡ flat_map collected before
   pub seen : (line : ℕ) → length rows ≡ length before + line
       → fold.seen ≡ length (flat_map collected (take line before))
 
-abbrev pub InPass : Told → Pass → Fold → List Row → Type 0
-InPass told First fold rows = InFirst fold rows
-InPass told (Second before) fold rows = InSecond told fold rows before
+abbrev pub InPass : Recorded → Pass → Fold → List Row → Type 0
+InPass recorded First fold rows = InFirst fold rows
+InPass recorded (Second before) fold rows = InSecond recorded fold rows before
 
 -- a fold stands for these rows of a pass, where these blocks are open
-pub record Stands (told : Told) (pass : Pass) (fold : Fold) (rows : List Row) (blocks : Blocks) :
+pub record Stands (recorded : Recorded) (pass : Pass) (fold : Fold) (rows : List Row) (blocks : Blocks) :
     Type 0 where
-  pub original : fold.original ≡ told.asked.original
+  pub original : fold.original ≡ recorded.asked.original
   pub keeps : Keeps fold.settings (flat_map given rows)
   pub applies : fold.applies ≡ map (open_applies rows pass) blocks
   pub before : EachBefore rows pass blocks
   pub again : fold.asks_again ≡ list_any wants_second rows
-  pub in_pass : InPass told pass fold rows
+  pub in_pass : InPass recorded pass fold rows
 
 -- ---- one line
 
 -- in the second pass the same lines are given again
-abbrev pub IsAgain : Told → Pass → ℕ → Line → Type 0
-IsAgain told First place line = Unit {0}
-IsAgain told (Second before) place line = slice_get before place
-    ≡ Some (row_of told entry_of (take place before) (record { pass = First; line = place }) line)
+abbrev pub IsAgain : Recorded → Pass → ℕ → Line → Type 0
+IsAgain recorded First place line = Unit {0}
+IsAgain recorded (Second before) place line = slice_get before place
+    ≡ Some (row_of recorded entry_of (take place before) (record { pass = First; line = place }) line)
 
 -- the line that comes next behind rows
-pub record IsNext (told : Told) (pass : Pass) (rows : List Row) (blocks : Blocks) (given : ConfLine)
+pub record IsNext (recorded : Recorded) (pass : Pass) (rows : List Row) (blocks : Blocks) (given : ConfLine)
     (place : ℕ) (line : Line) : Type 0 where
   pub is_line : IsLine given blocks line
   pub at : length rows ≡ start_of pass + place
-  pub within : is_past_limit told line place ≡ false
-  pub again : IsAgain told pass place line
+  pub within : is_past_limit recorded line place ≡ false
+  pub again : IsAgain recorded pass place line
 
 -- where commands tell their statuses
-abbrev pub WhereTold : Option (List CommandStatus) → ((status : Bytes → ℕ) → Type 0) → Type 0
-WhereTold statuses fact = (status : Bytes → ℕ) → TellsStatus statuses status → fact status
+abbrev pub WhereRecorded : Option (List CommandStatus) → ((status : Bytes → ℕ) → Type 0) → Type 0
+WhereRecorded statuses fact = (status : Bytes → ℕ) → RecordsStatus statuses status → fact status
 
 -- whatever rows a fold stands for, where commands tell and the line comes next
 abbrev pub OnNext : Facts → Option (List CommandStatus) → Fold → ConfLine
-    → (Told → Pass → List Row → Blocks → ℕ → Line → Type 0) → Type 0
+    → (Recorded → Pass → List Row → Blocks → ℕ → Line → Type 0) → Type 0
 OnNext facts statuses fold given fact =
-    (told : Told) (pass : Pass) (rows : List Row) (blocks : Blocks) (place : ℕ) (l : Line)
-    → told.facts ≡ facts → TellsStatus statuses told.status → Stands told pass fold rows blocks
-    → IsNext told pass rows blocks given place l → fact told pass rows blocks place l
+    (recorded : Recorded) (pass : Pass) (rows : List Row) (blocks : Blocks) (place : ℕ) (l : Line)
+    → recorded.facts ≡ facts → RecordsStatus statuses recorded.status → Stands recorded pass fold rows blocks
+    → IsNext recorded pass rows blocks given place l → fact recorded pass rows blocks place l
 
 -- the row of a line at a place of a pass
-unfoldable pub next_row : Told → Pass → List Row → ℕ → Line → Row
-next_row told pass rows place line =
-    row_of told entry_of rows (record { pass = pass; line = place }) line
+unfoldable pub next_row : Recorded → Pass → List Row → ℕ → Line → Row
+next_row recorded pass rows place line =
+    row_of recorded entry_of rows (record { pass = pass; line = place }) line
 
 -- what reading and evaluating a line came to, before its refusal is placed
-abbrev pub FoldsEntry : Told → Pass → List Row → Blocks → ConfLine → ℕ → Line
+abbrev pub FoldsEntry : Recorded → Pass → List Row → Blocks → ConfLine → ℕ → Line
     → Result (Unit {0}) LineError → Fold → Type 0
-FoldsEntry told pass rows blocks given place line (Ok x) new =
-    (is_refused (next_row told pass rows place line).entry ≡ false)
-    × Stands told pass new (rows ++ next_row told pass rows place line ∷ [])
+FoldsEntry recorded pass rows blocks given place line (Ok x) new =
+    (is_refused (next_row recorded pass rows place line).entry ≡ false)
+    × Stands recorded pass new (rows ++ next_row recorded pass rows place line ∷ [])
     (open_behind given place blocks)
-FoldsEntry told pass rows blocks given place line (Err line_errors.OutOfMemory) new = Unit {0}
-FoldsEntry told pass rows blocks given place line (Err (line_errors.Refused cause)) new =
-    (is_fault cause ≡ false → (next_row told pass rows place line).entry ≡ Err cause)
+FoldsEntry recorded pass rows blocks given place line (Err line_errors.OutOfMemory) new = Unit {0}
+FoldsEntry recorded pass rows blocks given place line (Err (line_errors.Refused cause)) new =
+    (is_fault cause ≡ false → (next_row recorded pass rows place line).entry ≡ Err cause)
 
 -- what a fold did with a line: it stands for one more row, or the row is refused
-abbrev pub Folds : Told → Pass → List Row → Blocks → ConfLine → ℕ → Line
+abbrev pub Folds : Recorded → Pass → List Row → Blocks → ConfLine → ℕ → Line
     → Result (Unit {0}) ResolveError → Fold → Type 0
-Folds told pass rows blocks given place line (Ok x) new =
-    (is_refused (next_row told pass rows place line).entry ≡ false)
-    × Stands told pass new (rows ++ next_row told pass rows place line ∷ [])
+Folds recorded pass rows blocks given place line (Ok x) new =
+    (is_refused (next_row recorded pass rows place line).entry ≡ false)
+    × Stands recorded pass new (rows ++ next_row recorded pass rows place line ∷ [])
     (open_behind given place blocks)
-Folds told pass rows blocks given place line (Err OutOfMemory) new = Unit {0}
-Folds told pass rows blocks given place line (Err (At file number cause)) new =
-    (is_fault cause ≡ false → refusal_at line (next_row told pass rows place line).entry
+Folds recorded pass rows blocks given place line (Err OutOfMemory) new = Unit {0}
+Folds recorded pass rows blocks given place line (Err (At file number cause)) new =
+    (is_fault cause ≡ false → refusal_at line (next_row recorded pass rows place line).entry
     ≡ Some (At file number cause))
 
 -- ---- what a fold shows
@@ -170,7 +170,7 @@ view_of fold facts = record {
 }
 
 -- what a heading of a file says behind what was given so far
-unfoldable pub entry_so_far : Fold → ConfLine → Result Entry Cause
+unfoldable pub entry_so_far : Fold → ConfLine → Result LineContent Cause
 entry_so_far fold line = headed_entry (word_in (setting keys.IgnoreUnknown fold)) UserFile
     (Says line.keyword line.rest)
 

@@ -16,7 +16,7 @@ use conf_lexer::{Head, split_head, split_words};
 use conf_match::{matches_list, read_criteria};
 use conf_options::{kind_of, read_value};
 use conf_reader::LineError;
-use conf_rules::{AskedLine, Cause, Criteria, Entry, Key, KeyKind, Kind, ListAnswer};
+use conf_rules::{AskedLine, Cause, Criteria, Key, KeyKind, Kind, LineContent, ListAnswer};
 use ssh_fields::{OutOfMemory, Text, Texts};
 use std::alloc::Global;
 
@@ -65,45 +65,50 @@ fn split(alloc: Global, rest: &[u8]) -> Result<Texts, LineError>
 }
 
 /// What a Host line says.
-fn host_entry(alloc: Global, rest: &[u8]) -> Result<Entry, LineError>
+fn host_entry(alloc: Global, rest: &[u8]) -> Result<LineContent, LineError>
     ensures read { GivesLine result (host_entry (split rest.now)) }
     ensures fits { IfOk result (λ entry. entry_fits entry ≡ true) }
     ensures plain { IfErr result (λ e. is_line_fault e ≡ false) }
 {
-    Ok(Entry::Host(split(alloc, rest)?))
+    Ok(LineContent::Host(split(alloc, rest)?))
 }
 
 /// What a Match line says.
-fn match_entry(alloc: Global, rest: &[u8]) -> Result<Entry, LineError>
+fn match_entry(alloc: Global, rest: &[u8]) -> Result<LineContent, LineError>
     ensures read { GivesLine result (match_entry (split rest.now)) }
     ensures fits { IfOk result (λ entry. entry_fits entry ≡ true) }
     ensures plain { IfErr result (λ e. is_line_fault e ≡ false) }
 {
     let words = split(alloc, rest)?;
-    Ok(Entry::Match(read_criteria(alloc, &words)?))
+    Ok(LineContent::Match(read_criteria(alloc, &words)?))
 }
 
 /// What a line says whose words alone are read.
-fn words_entry(alloc: Global, rest: &[u8]) -> Result<Entry, LineError>
+fn words_entry(alloc: Global, rest: &[u8]) -> Result<LineContent, LineError>
     ensures read { GivesLine result (words_entry (split rest.now)) }
     ensures fits { IfOk result (λ entry. entry_fits entry ≡ true) }
     ensures plain { IfErr result (λ e. is_line_fault e ≡ false) }
 {
     let _words = split(alloc, rest)?;
-    Ok(Entry::Nothing)
+    Ok(LineContent::Nothing)
 }
 
 /// What words give to a key.
-fn value_entry(alloc: Global, key: Key, rest: &[u8], words: &Texts) -> Result<Entry, LineError>
+fn value_entry(
+    alloc: Global,
+    key: Key,
+    rest: &[u8],
+    words: &Texts,
+) -> Result<LineContent, LineError>
     ensures read { GivesLine result (value_entry key rest.now words.now) }
     ensures fits { IfOk result (λ entry. entry_fits entry ≡ true) }
     ensures plain { IfErr result (λ e. is_line_fault e ≡ false) }
 {
-    Ok(Entry::Gives(key, read_value(alloc, key, rest, words)?))
+    Ok(LineContent::Gives(key, read_value(alloc, key, rest, words)?))
 }
 
 /// What a line gives to a key.
-fn key_entry(alloc: Global, key: Key, rest: &[u8]) -> Result<Entry, LineError>
+fn key_entry(alloc: Global, key: Key, rest: &[u8]) -> Result<LineContent, LineError>
     ensures read { GivesLine result (key_entry key rest.now (split rest.now)) }
     ensures fits { IfOk result (λ entry. entry_fits entry ≡ true) }
     ensures plain { IfErr result (λ e. is_line_fault e ≡ false) }
@@ -116,7 +121,7 @@ fn key_entry(alloc: Global, key: Key, rest: &[u8]) -> Result<Entry, LineError>
 }
 
 /// What given words give to a key.
-fn parts_key_entry(alloc: Global, key: Key, words: &Texts) -> Result<Entry, LineError>
+fn parts_key_entry(alloc: Global, key: Key, words: &Texts) -> Result<LineContent, LineError>
     ensures read { GivesLine result (key_entry key [] (Ok words.now)) }
     ensures fits { IfOk result (λ entry. entry_fits entry ≡ true) }
     ensures plain { IfErr result (λ e. is_line_fault e ≡ false) }
@@ -133,7 +138,7 @@ fn unknown_entry(
     ignored: Option<&[u8]>,
     keyword: &[u8],
     rest: &[u8],
-) -> Result<Entry, LineError>
+) -> Result<LineContent, LineError>
     ensures read { GivesLine result
         (unknown_entry (takes_keyword (option_copied ignored.entry) keyword.now) keyword.now
         (split rest.now)) }
@@ -154,7 +159,7 @@ fn parts_unknown_entry(
     ignored: Option<&[u8]>,
     keyword: &[u8],
     words: &Texts,
-) -> Result<Entry, LineError>
+) -> Result<LineContent, LineError>
     ensures read { GivesLine result
         (unknown_entry (takes_keyword (option_copied ignored.entry) keyword.now) keyword.now
         (Ok words.now)) }
@@ -162,7 +167,7 @@ fn parts_unknown_entry(
     ensures plain { IfErr result (λ e. is_line_fault e ≡ false) }
 {
     if takes_keyword(alloc, ignored, keyword)? {
-        return Ok(Entry::Nothing);
+        return Ok(LineContent::Nothing);
     }
     let keyword = lowered(alloc, keyword)?;
     Err(LineError::Refused(Cause::UnknownKeyword(keyword)))
@@ -174,7 +179,7 @@ pub fn file_entry(
     ignored: Option<&[u8]>,
     keyword: &[u8],
     rest: &[u8],
-) -> Result<Entry, LineError>
+) -> Result<LineContent, LineError>
     ensures read { GivesLine result
         (headed_entry (option_copied ignored.entry) UserFile (Says keyword.now rest.now)) }
     ensures fits { IfOk result (λ entry. entry_fits entry ≡ true) }
@@ -185,7 +190,7 @@ pub fn file_entry(
         KeyKind::Host => host_entry(alloc, rest),
         KeyKind::Match => match_entry(alloc, rest),
         KeyKind::Include => words_entry(alloc, rest),
-        KeyKind::Unchecked => Ok(Entry::Nothing),
+        KeyKind::Unchecked => Ok(LineContent::Nothing),
         KeyKind::Unknown => unknown_entry(alloc, ignored, keyword, rest),
     }
 }
@@ -196,7 +201,7 @@ fn asked_heading(
     ignored: Option<&[u8]>,
     keyword: &[u8],
     rest: &[u8],
-) -> Result<Entry, LineError>
+) -> Result<LineContent, LineError>
     ensures read { GivesLine result
         (headed_entry (option_copied ignored.entry) CommandLine (Says keyword.now rest.now)) }
     ensures fits { IfOk result (λ entry. entry_fits entry ≡ true) }
@@ -207,20 +212,20 @@ fn asked_heading(
         KeyKind::Host | KeyKind::Match | KeyKind::Include => {
             Err(LineError::Refused(Cause::NotOnCommandLine))
         }
-        KeyKind::Unchecked => Ok(Entry::Nothing),
+        KeyKind::Unchecked => Ok(LineContent::Nothing),
         KeyKind::Unknown => unknown_entry(alloc, ignored, keyword, rest),
     }
 }
 
 /// What a line of the command line says that is read as one of a file.
-fn asked_text(alloc: Global, ignored: Option<&[u8]>, line: &[u8]) -> Result<Entry, LineError>
+fn asked_text(alloc: Global, ignored: Option<&[u8]>, line: &[u8]) -> Result<LineContent, LineError>
     ensures read { GivesLine result
         (spelled_entry (option_copied ignored.entry) CommandLine line.now) }
     ensures fits { IfOk result (λ entry. entry_fits entry ≡ true) }
     ensures plain { IfErr result (λ e. is_line_fault e ≡ false) }
 {
     match split_head(line)? {
-        Head::Blank => Ok(Entry::Nothing),
+        Head::Blank => Ok(LineContent::Nothing),
         Head::Line { keyword, rest } => asked_heading(alloc, ignored, keyword, rest),
     }
 }
@@ -231,7 +236,7 @@ fn asked_parts(
     ignored: Option<&[u8]>,
     keyword: &[u8],
     words: &Texts,
-) -> Result<Entry, LineError>
+) -> Result<LineContent, LineError>
     ensures read { GivesLine result
         (keyword_entry (option_copied ignored.entry) CommandLine keyword.now [] (Ok words.now)
         (meaning_of keyword.now)) }
@@ -243,7 +248,7 @@ fn asked_parts(
         KeyKind::Host | KeyKind::Match | KeyKind::Include => {
             Err(LineError::Refused(Cause::NotOnCommandLine))
         }
-        KeyKind::Unchecked => Ok(Entry::Nothing),
+        KeyKind::Unchecked => Ok(LineContent::Nothing),
         KeyKind::Unknown => parts_unknown_entry(alloc, ignored, keyword, words),
     }
 }
@@ -253,7 +258,7 @@ pub fn asked_entry(
     alloc: Global,
     ignored: Option<&[u8]>,
     line: &AskedLine,
-) -> Result<Entry, LineError>
+) -> Result<LineContent, LineError>
     ensures read { GivesLine result
         (content_entry (option_copied ignored.entry) CommandLine (asked_line line.now).content) }
     ensures fits { IfOk result (λ entry. entry_fits entry ≡ true) }

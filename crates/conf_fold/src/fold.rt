@@ -1,6 +1,6 @@
 ghost use Rattle.std.specs.Prelude.{◌≡◌, ◌++◌, [], List, OnOk, OnErr, IfErr, IfOk, true, false, length, Ok};
 ghost use Rattle.std.specs.Option.{option_copied};
-ghost use Rattle.conf_rules.specs.Told.{Told};
+ghost use Rattle.conf_rules.specs.Recorded.{Recorded};
 ghost use Rattle.conf_rules.specs.Sources.{asked_line};
 ghost use Rattle.conf_rules.specs.Fits.{fits};
 ghost use Rattle.conf_rules.specs.Rows.{Row, word_in, entry_gives, First};
@@ -17,7 +17,7 @@ mod lines;
 use crate::entries::asked_entry;
 use conf_options::Settings;
 use conf_reader::refuse;
-use conf_rules::{Asked, AskedLine, Entry, Key, ResolveError};
+use conf_rules::{Asked, AskedLine, Key, LineContent, ResolveError};
 use conf_tokens::expand_name;
 use ssh_fields::{ListOf, OutOfMemory, Text};
 use std::alloc::Global;
@@ -73,7 +73,7 @@ impl Fold {
 
     /// Takes the lines of the command line, in order. The first one that is refused decides.
     pub fn new(alloc: Global, asked: &Asked) -> Result<Fold, ResolveError>
-        ensures begins { (told : Told) → told.asked ≡ asked.now → IsBegun told result }
+        ensures begins { (recorded : Recorded) → recorded.asked ≡ asked.now → IsBegun recorded result }
         ensures plain { IfErr result (λ e. is_fault_at e ≡ false) }
     {
         let mut fold = Fold::of_nothing(alloc, asked.original.as_bytes())?;
@@ -85,8 +85,8 @@ impl Fold {
 
     /// Takes a line of the command line.
     fn asked_line(&mut self, line: &AskedLine) -> Result<(), ResolveError>
-        ensures takes { (told : Told) (rows : List Row) → Stands told First self.old rows []
-            → TakesAsked told rows (asked_line line.now) result self.new }
+        ensures takes { (recorded : Recorded) (rows : List Row) → Stands recorded First self.old rows []
+            → TakesAsked recorded rows (asked_line line.now) result self.new }
         ensures plain { IfErr result (λ e. is_fault_at e ≡ false) }
     {
         let entry = match asked_entry(self.alloc, self.text(Key::IgnoreUnknown), line) {
@@ -98,13 +98,13 @@ impl Fold {
     }
 
     /// Takes what a line of the command line says, which is active.
-    fn take_asked(&mut self, entry: Entry) -> Result<(), OutOfMemory>
+    fn take_asked(&mut self, entry: LineContent) -> Result<(), OutOfMemory>
         requires fits { entry_fits entry ≡ true }
         ensures keeps { OnOk result ((given : List Given) → Keeps self.old.settings given
             → Keeps self.new.settings (given ++ entry_gives false (Ok entry))) }
         ensures others { OnOk result (self.new ≡ record self.old { settings = self.new.settings }) }
     {
-        if let Entry::Gives(key, value) = entry {
+        if let LineContent::Gives(key, value) = entry {
             self.settings.offer(key, value)?;
         }
         Ok(())
@@ -114,9 +114,9 @@ impl Fold {
     /// line, which gave all that they give in the first pass, aren't given again; those of the
     /// files are.
     pub fn second(&mut self) -> Result<bool, OutOfMemory>
-        ensures second { IfOk result (λ again. (told : Told) (rows : List Row) (blocks : Blocks)
-            → Stands told First self.old rows blocks → Behind told rows
-            → SecondBegins told rows self.new again) }
+        ensures second { IfOk result (λ again. (recorded : Recorded) (rows : List Row) (blocks : Blocks)
+            → Stands recorded First self.old rows blocks → Behind recorded rows
+            → SecondBegins recorded rows self.new again) }
         ensures same { result ≡ Ok false → self.new ≡ self.old }
         ensures err { OnErr result (self.new ≡ self.old) }
     {

@@ -1,6 +1,6 @@
 ghost use Rattle.std.specs.Prelude.{◌≡◌, ℕ, ◌+◌, ◌-◌, ◌<◌, ◌≤◌, ◌^◌, length, take_while, position};
 ghost use Rattle.std.specs.List.{prefix_len, suffix_len};
-ghost use Rattle.conf_rules.specs.Heads.{is_blank, is_ending, is_keyword, is_zero, second_equals, after_keyword, said_at, uncommented, head_of};
+ghost use Rattle.conf_rules.specs.Heads.{is_blank, is_ending, is_keyword, is_zero, second_equals, after_keyword, sent_at, uncommented, head_of};
 ghost use Rattle.conf_rules.specs.Results.{Shows};
 ghost use Rattle.conf_lexer.specs.Shown.{heading};
 
@@ -80,10 +80,10 @@ fn after_keyword(text: &[u8], at: usize) -> Result<&[u8], LexError>
 }
 
 /// A line that begins, without blanks, at place `at`.
-#[tactic(auto, unfolding(conf_rules::specs::Heads::said_at))]
-fn said_at(text: &[u8], at: usize) -> Result<Head<'_>, LexError>
+#[tactic(auto, unfolding(conf_rules::specs::Heads::sent_at))]
+fn sent_at(text: &[u8], at: usize) -> Result<Head<'_>, LexError>
     requires { at + length text.now < 2 ^ 64 }
-    ensures { Shows heading result (said_at at text.now) }
+    ensures { Shows heading result (sent_at at text.now) }
 {
     let (keyword, behind) = text.split_at(keyword_len(text));
     let gap = blanks(behind);
@@ -102,7 +102,7 @@ fn uncommented(text: &[u8], at: usize) -> Result<Head<'_>, LexError>
 {
     match text {
         [] | [b'#', ..] => Ok(Head::Blank),
-        _ => said_at(text, at),
+        _ => sent_at(text, at),
     }
 }
 

@@ -36,9 +36,9 @@ takes_local_user view patterns = fact_of 117 view.facts.local_user >>= λ user.
     Ok (list_takes patterns user)
 
 -- a runner tells that commands end with these statuses
-abbrev pub TellsStatus : Option (List CommandStatus) → (Bytes → ℕ) → Type 0
-TellsStatus None status = ⊥
-TellsStatus (Some statuses) status = status ≡ status_of statuses
+abbrev pub RecordsStatus : Option (List CommandStatus) → (Bytes → ℕ) → Type 0
+RecordsStatus None status = ⊥
+RecordsStatus (Some statuses) status = status ≡ status_of statuses
 
 -- an evaluation gave what it should, unless memory or the runner failed
 abbrev pub Evaluated : Result Bool EvalError → Result Bool TokenError → Type 0

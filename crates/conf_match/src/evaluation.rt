@@ -5,7 +5,7 @@ ghost use Rattle.conf_rules.specs.Texts.{Bytes};
 ghost use Rattle.conf_rules.specs.Patterns.{list_takes};
 ghost use Rattle.conf_rules.specs.Evaluation.{plain_verdict, criterion_verdict, verdict};
 ghost use Rattle.conf_tokens.specs.Seen.{seen};
-ghost use Rattle.conf_match.specs.Evaluated.{takes_user, takes_local_user, Evaluated, Ran, FailsIn, HasRunCause, TellsStatus, of_token, of_file};
+ghost use Rattle.conf_match.specs.Evaluated.{takes_user, takes_local_user, Evaluated, Ran, FailsIn, HasRunCause, RecordsStatus, of_token, of_file};
 
 use crate::lists::matches_list;
 use conf_rules::{Criteria, Criterion, Kind, ListAnswer, TokenError, TokenSet};
@@ -78,7 +78,7 @@ fn exec<R: Runner>(
     view: &View<'_>,
     runner: &mut R,
 ) -> Result<bool, EvalError>
-    ensures holds { (status : Bytes → ℕ) → TellsStatus (R.told runner.old) status
+    ensures holds { (status : Bytes → ℕ) → RecordsStatus (R.recorded runner.old) status
         → Evaluated result (plain_verdict status (seen view.now) Exec value.now).holds }
     ensures ran { (status : Bytes → ℕ)
         → Ran result (R.ran runner.old) (R.ran runner.new)
@@ -87,7 +87,7 @@ fn exec<R: Runner>(
         → FailsIn result (R.ran runner.old) (R.ran runner.new)
         (plain_verdict status (seen view.now) Exec value.now).ran }
     ensures cause { HasRunCause result (R.faults runner.old) (R.faults runner.new) }
-    ensures told { R.told runner.new ≡ R.told runner.old }
+    ensures recorded { R.recorded runner.new ≡ R.recorded runner.old }
 {
     let command = expand(alloc, value, TokenSet::Full, view)?;
     let status = runner.run(command.as_bytes())?;
@@ -102,7 +102,7 @@ fn plain<R: Runner>(
     view: &View<'_>,
     runner: &mut R,
 ) -> Result<bool, EvalError>
-    ensures holds { (status : Bytes → ℕ) → TellsStatus (R.told runner.old) status
+    ensures holds { (status : Bytes → ℕ) → RecordsStatus (R.recorded runner.old) status
         → Evaluated result (plain_verdict status (seen view.now) kind value.now).holds }
     ensures ran { (status : Bytes → ℕ)
         → Ran result (R.ran runner.old) (R.ran runner.new)
@@ -111,7 +111,7 @@ fn plain<R: Runner>(
         → FailsIn result (R.ran runner.old) (R.ran runner.new)
         (plain_verdict status (seen view.now) kind value.now).ran }
     ensures cause { HasRunCause result (R.faults runner.old) (R.faults runner.new) }
-    ensures told { R.told runner.new ≡ R.told runner.old }
+    ensures recorded { R.recorded runner.new ≡ R.recorded runner.old }
 {
     match kind {
         Kind::All => Ok(true),
@@ -133,7 +133,7 @@ fn one<R: Runner>(
     view: &View<'_>,
     runner: &mut R,
 ) -> Result<bool, EvalError>
-    ensures holds { (status : Bytes → ℕ) → TellsStatus (R.told runner.old) status
+    ensures holds { (status : Bytes → ℕ) → RecordsStatus (R.recorded runner.old) status
         → Evaluated result (criterion_verdict status (seen view.now) criterion.now).holds }
     ensures ran { (status : Bytes → ℕ)
         → Ran result (R.ran runner.old) (R.ran runner.new)
@@ -142,7 +142,7 @@ fn one<R: Runner>(
         → FailsIn result (R.ran runner.old) (R.ran runner.new)
         (criterion_verdict status (seen view.now) criterion.now).ran }
     ensures cause { HasRunCause result (R.faults runner.old) (R.faults runner.new) }
-    ensures told { R.told runner.new ≡ R.told runner.old }
+    ensures recorded { R.recorded runner.new ≡ R.recorded runner.old }
 {
     let holds = plain(
         alloc,
@@ -162,16 +162,16 @@ pub fn eval<R: Runner>(
     view: &View<'_>,
     runner: &mut R,
 ) -> Result<bool, EvalError>
-    ensures holds { (status : Bytes → ℕ) → TellsStatus (R.told runner.old) status
+    ensures holds { (status : Bytes → ℕ) → RecordsStatus (R.recorded runner.old) status
         → Evaluated result (verdict status (seen view.now) criteria.now).holds }
-    ensures ran { (status : Bytes → ℕ) → TellsStatus (R.told runner.old) status
+    ensures ran { (status : Bytes → ℕ) → RecordsStatus (R.recorded runner.old) status
         → Ran result (R.ran runner.old) (R.ran runner.new)
         (verdict status (seen view.now) criteria.now).ran }
-    ensures failed { (status : Bytes → ℕ) → TellsStatus (R.told runner.old) status
+    ensures failed { (status : Bytes → ℕ) → RecordsStatus (R.recorded runner.old) status
         → FailsIn result (R.ran runner.old) (R.ran runner.new)
         (verdict status (seen view.now) criteria.now).ran }
     ensures cause { HasRunCause result (R.faults runner.old) (R.faults runner.new) }
-    ensures told { R.told runner.new ≡ R.told runner.old }
+    ensures recorded { R.recorded runner.new ≡ R.recorded runner.old }
 {
     for criterion in criteria.as_slice() {
         if !one(alloc, criterion, view, runner)? {

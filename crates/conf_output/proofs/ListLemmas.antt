@@ -6,7 +6,7 @@ use Rattle.conf_rules.specs.declared.causes.ListError.TheVariants as list_errors
 use Rattle.conf_rules.specs.Results.{Fails}
 use Rattle.conf_rules.specs.Wants.{list_wants_memory}
 use Rattle.conf_rules.specs.Texts.{Bytes}
-use Rattle.conf_rules.specs.Told.{Facts}
+use Rattle.conf_rules.specs.Recorded.{Facts}
 use Rattle.conf_rules.specs.Tokens.{View}
 use Rattle.conf_rules.specs.Listing.{listed}
 use Rattle.conf_options.specs.Kept.{Given}

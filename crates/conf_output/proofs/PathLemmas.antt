@@ -6,7 +6,7 @@ use Rattle.conf_rules.specs.declared.causes.ListError.{ListError}
 use Rattle.conf_rules.specs.Results.{Fails}
 use Rattle.conf_rules.specs.Wants.{token_wants_memory, list_wants_memory}
 use Rattle.conf_rules.specs.Texts.{Bytes}
-use Rattle.conf_rules.specs.Told.{Facts}
+use Rattle.conf_rules.specs.Recorded.{Facts}
 use Rattle.conf_rules.specs.Tokens.{View}
 use Rattle.conf_rules.specs.Rows.{word_in, but_none}
 use Rattle.conf_rules.specs.Listing.{control_text, control_path_of}

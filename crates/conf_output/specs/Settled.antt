@@ -6,27 +6,27 @@ use Rattle.conf_rules.specs.declared.causes.ListError.{ListError}
 use Rattle.conf_rules.specs.Results.{Gives}
 use Rattle.conf_rules.specs.Wants.{list_wants_memory}
 use Rattle.conf_rules.specs.Texts.{Bytes}
-use Rattle.conf_rules.specs.Told.{Told}
+use Rattle.conf_rules.specs.Recorded.{Recorded}
 use Rattle.conf_rules.specs.Rows.{Row, given}
 use Rattle.conf_rules.specs.Listing.{listing_over, control_path_at}
 use Rattle.conf_options.specs.Kept.{Given, Keeps}
 use Rattle.conf_tokens.specs.Known.{known}
 
 -- the name of the command line, the facts, and settings that keep what the rows give
-pub record Settled (told : Told) (rows : List Row) (settings : List Given) (original : Bytes)
+pub record Settled (recorded : Recorded) (rows : List Row) (settings : List Given) (original : Bytes)
     (machine : TheFacts) : Type 0 where
-  pub name : told.asked.original ≡ original
-  pub facts : told.facts ≡ known machine
+  pub name : recorded.asked.original ≡ original
+  pub facts : recorded.facts ≡ known machine
   pub keeps : Keeps settings (flat_map given rows)
 
 -- the result is the listing of each such resolution, unless memory was wanting
 abbrev pub Lists : Result Bytes ListError → List Given → Bytes → TheFacts → Type 0
 Lists result settings original facts =
-    (told : Told) (rows : List Row) → Settled told rows settings original facts
-    → Gives list_wants_memory result (listing_over LISTING_ORDER told rows)
+    (recorded : Recorded) (rows : List Row) → Settled recorded rows settings original facts
+    → Gives list_wants_memory result (listing_over LISTING_ORDER recorded rows)
 
 -- the result is the control path of each such resolution, unless memory was wanting
 abbrev pub HasControlPath : Result (Option Bytes) ListError → List Given → Bytes → TheFacts → Type 0
 HasControlPath result settings original facts =
-    (told : Told) (rows : List Row) → Settled told rows settings original facts
-    → Gives list_wants_memory result (control_path_at told rows)
+    (recorded : Recorded) (rows : List Row) → Settled recorded rows settings original facts
+    → Gives list_wants_memory result (control_path_at recorded rows)

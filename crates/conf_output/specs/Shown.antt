@@ -15,7 +15,7 @@ use Rattle.conf_rules.specs.Keys.{keyword}
 use Rattle.conf_rules.specs.Kinds.{default_of, Showing, TheUser, TheHost, Path, Command, Forwards, Proxy, Plainly, showing}
 use Rattle.conf_rules.specs.Forwardings.{spelled_end, spelled_connect}
 use Rattle.conf_rules.specs.Values.{spelled}
-use Rattle.conf_rules.specs.Told.{Facts}
+use Rattle.conf_rules.specs.Recorded.{Facts}
 use Rattle.conf_rules.specs.Tokens.{View, user_of, expand}
 use Rattle.conf_rules.specs.Rows.{values_among, word_in, number_in, but_none}
 use Rattle.conf_rules.specs.Resolution.{host_from}

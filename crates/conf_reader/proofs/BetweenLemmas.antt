@@ -4,12 +4,12 @@ use Rattle.std.specs.Prelude.{is_none}
 use Rattle.std.proofs.lemmas.Bool.{leb-true}
 use Rattle.std.proofs.Math.ListN.{drop_of_length-le}
 use Rattle.conf_rules.specs.Texts.{is_empty}
-use Rattle.conf_rules.specs.Told.{Told}
+use Rattle.conf_rules.specs.Recorded.{Recorded}
 use Rattle.conf_rules.specs.Sources.{Line}
 use Rattle.conf_reader.specs.declared.open_file.OpenFile.{OpenFile}
 use Rattle.conf_reader.specs.declared.stack.OpenFiles.{OpenFiles}
-use Rattle.conf_reader.specs.declared.reader.FirstFile.{FirstFile}
-use Rattle.conf_reader.specs.declared.reader.Lines.{Lines}
+use Rattle.conf_reader.specs.declared.lines.FirstFile.{FirstFile}
+use Rattle.conf_reader.specs.declared.lines.Lines.{Lines}
 use Rattle.conf_reader.specs.Blocks.{Blocks}
 use Rattle.conf_reader.specs.Left.{open_left, left, firsts_left}
 use Rattle.conf_reader.specs.Between.{is_ended, ends_where}
@@ -28,32 +28,32 @@ no-top : (top : Option OpenFile) → is_none top ≡ true → top ≡ None
 no-top None e = refl
 no-top (Some f) e = absurd cc
 
-no-file : (told : Told) (place : ℕ) (blocks : Blocks) (o : OpenFiles) → o.below.items ≡ [] → o.top ≡ None → open_left told place blocks o ≡ []
-no-file told place blocks o below top = rw (below, top) refl
+no-file : (recorded : Recorded) (place : ℕ) (blocks : Blocks) (o : OpenFiles) → o.below.items ≡ [] → o.top ≡ None → open_left recorded place blocks o ≡ []
+no-file recorded place blocks o below top = rw (below, top) refl
 
-rest-left : (told : Told) (place : ℕ) (opened : List Line) (firsts : List FirstFile) → opened ≡ [] → opened ++ firsts_left told (place + length opened) firsts ≡ firsts_left told place firsts
-rest-left told place opened firsts e = let n : place + 0 ≡ place = omega arith in rw (e, n) refl
+rest-left : (recorded : Recorded) (place : ℕ) (opened : List Line) (firsts : List FirstFile) → opened ≡ [] → opened ++ firsts_left recorded (place + length opened) firsts ≡ firsts_left recorded place firsts
+rest-left recorded place opened firsts e = let n : place + 0 ≡ place = omega arith in rw (e, n) refl
 
-ended-left : (told : Told) (place : ℕ) (blocks : Blocks) (r : Lines) → r.open_files.below.items ≡ [] → r.open_files.top ≡ None → length r.firsts.items ≤ r.next_first → left told place blocks r ≡ []
-ended-left told place blocks r below top past =
-    rest-left told place (open_left told place blocks r.open_files) (drop r.next_first r.firsts.items) (no-file told place blocks r.open_files below top)
-    ∙ ap (firsts_left told place) (drop_of_length-le r.firsts.items past)
+ended-left : (recorded : Recorded) (place : ℕ) (blocks : Blocks) (r : Lines) → r.open_files.below.items ≡ [] → r.open_files.top ≡ None → length r.firsts.items ≤ r.next_first → left recorded place blocks r ≡ []
+ended-left recorded place blocks r below top past =
+    rest-left recorded place (open_left recorded place blocks r.open_files) (drop r.next_first r.firsts.items) (no-file recorded place blocks r.open_files below top)
+    ∙ ap (firsts_left recorded place) (drop_of_length-le r.firsts.items past)
 
-is-ended : (told : Told) (place : ℕ) (blocks : Blocks) (r : Lines) → is_ended r ≡ true → left told place blocks r ≡ []
-is-ended told place blocks r e =
+is-ended : (recorded : Recorded) (place : ℕ) (blocks : Blocks) (r : Lines) → is_ended r ≡ true → left recorded place blocks r ≡ []
+is-ended recorded place blocks r e =
     let below = both (is_empty r.open_files.below.items) _ e in
     let top = both (is_none r.open_files.top) _ below.1 in
-    ended-left told place blocks r (none-below r.open_files.below.items below.0) (no-top r.open_files.top top.0) (leb-true (length r.firsts.items) r.next_first top.1)
+    ended-left recorded place blocks r (none-below r.open_files.below.items below.0) (no-top r.open_files.top top.0) (leb-true (length r.firsts.items) r.next_first top.1)
 
 -- a reader that is over has nothing left
-pub over-left : (told : Told) (place : ℕ) (blocks : Blocks) (over : Bool) (r : Lines) → ends_where over r ≡ true → over ≡ true → left told place blocks r ≡ []
-over-left told place blocks true r e o = is-ended told place blocks r e
-over-left told place blocks false r e o = absurd cc
+pub over-left : (recorded : Recorded) (place : ℕ) (blocks : Blocks) (over : Bool) (r : Lines) → ends_where over r ≡ true → over ≡ true → left recorded place blocks r ≡ []
+over-left recorded place blocks true r e o = is-ended recorded place blocks r e
+over-left recorded place blocks false r e o = absurd cc
 
 -- nor anything to read
-pub over-reads : (told : Told) (over : Bool) (r : Lines) → ends_where over r ≡ true → over ≡ true → all_read told r ≡ []
-over-reads told true r e o =
+pub over-reads : (recorded : Recorded) (over : Bool) (r : Lines) → ends_where over r ≡ true → over ≡ true → all_read recorded r ≡ []
+over-reads recorded true r e o =
     let below = both (is_empty r.open_files.below.items) _ e in
     let top = both (is_none r.open_files.top) _ below.1 in
-    ended-reads told r (no-top r.open_files.top top.0) (none-below r.open_files.below.items below.0) (leb-true (length r.firsts.items) r.next_first top.1)
-over-reads told false r e o = absurd cc
+    ended-reads recorded r (no-top r.open_files.top top.0) (none-below r.open_files.below.items below.0) (leb-true (length r.firsts.items) r.next_first top.1)
+over-reads recorded false r e o = absurd cc

@@ -14,7 +14,7 @@ use Rattle.mux_outside.specs.declared.file_error.FileError.{FileError}
 use Rattle.mux_outside.specs.declared.file_error.FileError.TheVariants.{Failed, OutOfMemory}
 use Rattle.mux_outside.specs.Files.{NotesFailed}
 use Rattle.conf_rules.specs.Texts.{Bytes, is_empty, split_at_first, split_at_each}
-use Rattle.conf_rules.specs.Told.{Facts, Told}
+use Rattle.conf_rules.specs.Recorded.{Facts, Recorded}
 use Rattle.conf_rules.specs.Words.{words_of}
 use Rattle.conf_rules.specs.Globs.{is_glob}
 use Rattle.conf_rules.specs.Includes.{Source, paths_from, or_root, below, components_of, globbed}
@@ -154,45 +154,45 @@ same-asked component xs ys same = of (is_glob component)
     of false = λ f. refl
 
 -- the directories are the same in whatever order paths are
-same-folders : (told : Told) (components : List Bytes) (xs ys : List Bytes) → SameTexts xs ys → SameTexts (folders_along told components xs) (folders_along told components ys)
-same-folders told [] xs ys same = λ f. refl
-same-folders told (c ∷ cs) xs ys same =
-    same-both (asked_at c xs) (asked_at c ys) (folders_along told cs (flat_map (below told c) xs)) (folders_along told cs (flat_map (below told c) ys)) (same-asked c xs ys same)
-    (same-folders told cs (flat_map (below told c) xs) (flat_map (below told c) ys) (same-flat (below told c) xs ys same))
+same-folders : (recorded : Recorded) (components : List Bytes) (xs ys : List Bytes) → SameTexts xs ys → SameTexts (folders_along recorded components xs) (folders_along recorded components ys)
+same-folders recorded [] xs ys same = λ f. refl
+same-folders recorded (c ∷ cs) xs ys same =
+    same-both (asked_at c xs) (asked_at c ys) (folders_along recorded cs (flat_map (below recorded c) xs)) (folders_along recorded cs (flat_map (below recorded c) ys)) (same-asked c xs ys same)
+    (same-folders recorded cs (flat_map (below recorded c) xs) (flat_map (below recorded c) ys) (same-flat (below recorded c) xs ys same))
 
 -- an empty component asks for nothing
 empty-asks : (component : Bytes) (bases : List Bytes) → is_empty component ≡ true → asked_at component bases ≡ []
 empty-asks [] bases e = refl
 empty-asks (b ∷ bs) bases e = absurd cc
 
-with-first : (told : Told) (component : Bytes) (others bases : List Bytes) (t : Bool) → is_empty component ≡ t
-    → folders_along told (filter (λ c. not (is_empty c)) (component ∷ others)) bases ≡ asked_at component bases ++ folders_along told (filter (λ c. not (is_empty c)) others) (with_component told component bases)
-with-first told component others bases true e = let nothing_asked = empty-asks component bases e in rw (e, nothing_asked) refl
-with-first told component others bases false e = rw e refl
+with-first : (recorded : Recorded) (component : Bytes) (others bases : List Bytes) (t : Bool) → is_empty component ≡ t
+    → folders_along recorded (filter (λ c. not (is_empty c)) (component ∷ others)) bases ≡ asked_at component bases ++ folders_along recorded (filter (λ c. not (is_empty c)) others) (with_component recorded component bases)
+with-first recorded component others bases true e = let nothing_asked = empty-asks component bases e in rw (e, nothing_asked) refl
+with-first recorded component others bases false e = rw e refl
 
-some-folders : (told : Told) (left component rest : Bytes) (bases : List Bytes) → Some (component, rest) ≡ split_at_first 47 left
-    → folders_along told (components_of left) bases ≡ asked_at component bases ++ folders_along told (components_of rest) (with_component told component bases)
-some-folders told left component rest bases e =
-    ap (λ cs. folders_along told (filter (λ c. not (is_empty c)) cs) bases) (parts-some left component rest e) ∙ with-first told component (split_at_each 47 rest) bases (is_empty component) refl
+some-folders : (recorded : Recorded) (left component rest : Bytes) (bases : List Bytes) → Some (component, rest) ≡ split_at_first 47 left
+    → folders_along recorded (components_of left) bases ≡ asked_at component bases ++ folders_along recorded (components_of rest) (with_component recorded component bases)
+some-folders recorded left component rest bases e =
+    ap (λ cs. folders_along recorded (filter (λ c. not (is_empty c)) cs) bases) (parts-some left component rest e) ∙ with-first recorded component (split_at_each 47 rest) bases (is_empty component) refl
 
-last-folders : (told : Told) (left : Bytes) (bases : List Bytes) → None ≡ split_at_first 47 left → folders_along told (components_of left) bases ≡ asked_at left bases ++ []
-last-folders told left bases e = ap (λ cs. folders_along told (filter (λ c. not (is_empty c)) cs) bases) (parts-none left e) ∙ with-first told left [] bases (is_empty left) refl
+last-folders : (recorded : Recorded) (left : Bytes) (bases : List Bytes) → None ≡ split_at_first 47 left → folders_along recorded (components_of left) bases ≡ asked_at left bases ++ []
+last-folders recorded left bases e = ap (λ cs. folders_along recorded (filter (λ c. not (is_empty c)) cs) bases) (parts-none left e) ∙ with-first recorded left [] bases (is_empty left) refl
 
 -- the directories of the component that comes next are among all that are left
-pub asked-next : (told : Told) (left component rest : Bytes) (bases whole : List Bytes) → Some (component, rest) ≡ split_at_first 47 left → Among (folders_along told (components_of left) bases) whole → Among (asked_at component bases) whole
-asked-next told left component rest bases whole e so_far path k =
-    so_far path (ap (list_any (bytes_eq path)) (some-folders told left component rest bases e) ∙ in-front (asked_at component bases) (folders_along told (components_of rest) (with_component told component bases)) path k)
+pub asked-next : (recorded : Recorded) (left component rest : Bytes) (bases whole : List Bytes) → Some (component, rest) ≡ split_at_first 47 left → Among (folders_along recorded (components_of left) bases) whole → Among (asked_at component bases) whole
+asked-next recorded left component rest bases whole e so_far path k =
+    so_far path (ap (list_any (bytes_eq path)) (some-folders recorded left component rest bases e) ∙ in-front (asked_at component bases) (folders_along recorded (components_of rest) (with_component recorded component bases)) path k)
 
-pub asked-last : (told : Told) (left : Bytes) (bases whole : List Bytes) → None ≡ split_at_first 47 left → Among (folders_along told (components_of left) bases) whole → Among (asked_at left bases) whole
-asked-last told left bases whole e so_far path k = so_far path (ap (list_any (bytes_eq path)) (last-folders told left bases e) ∙ in-front (asked_at left bases) [] path k)
+pub asked-last : (recorded : Recorded) (left : Bytes) (bases whole : List Bytes) → None ≡ split_at_first 47 left → Among (folders_along recorded (components_of left) bases) whole → Among (asked_at left bases) whole
+asked-last recorded left bases whole e so_far path k = so_far path (ap (list_any (bytes_eq path)) (last-folders recorded left bases e) ∙ in-front (asked_at left bases) [] path k)
 
 -- and so are those behind it
-pub asked-further : (told : Told) (left component rest : Bytes) (bases found whole : List Bytes) → Some (component, rest) ≡ split_at_first 47 left → SameTexts (with_component told component bases) found
-    → Among (folders_along told (components_of left) bases) whole → Among (folders_along told (components_of rest) found) whole
-asked-further told left component rest bases found whole e same so_far path k =
+pub asked-further : (recorded : Recorded) (left component rest : Bytes) (bases found whole : List Bytes) → Some (component, rest) ≡ split_at_first 47 left → SameTexts (with_component recorded component bases) found
+    → Among (folders_along recorded (components_of left) bases) whole → Among (folders_along recorded (components_of rest) found) whole
+asked-further recorded left component rest bases found whole e same so_far path k =
     let cs = components_of rest in
-    so_far path (ap (list_any (bytes_eq path)) (some-folders told left component rest bases e) ∙ behind (asked_at component bases) (folders_along told cs (with_component told component bases)) path
-    (same-among (folders_along told cs (with_component told component bases)) (folders_along told cs found) (same-folders told cs (with_component told component bases) found same) path k))
+    so_far path (ap (list_any (bytes_eq path)) (some-folders recorded left component rest bases e) ∙ behind (asked_at component bases) (folders_along recorded cs (with_component recorded component bases)) path
+    (same-among (folders_along recorded cs (with_component recorded component bases)) (folders_along recorded cs found) (same-folders recorded cs (with_component recorded component bases) found same) path k))
 
 -- ---- one component
 
@@ -201,19 +201,19 @@ length-empty [] = refl
 length-empty (x ∷ xs) = eqb-suc-zero (length xs)
 
 -- all that was found for a component that isn't empty
-pub all-found : (told : Told) (component : Bytes) (bases found : List Bytes) (n : ℕ) → (length component == 0) ≡ false → length bases ≤ n → SameTexts (flat_map (below told component) (take n bases)) found → SameTexts (with_component told component bases) found
-all-found told component bases found n e h so_far f =
-    so_far f ∙ ap (λ xs. sum_by f (flat_map (below told component) xs)) (take_all n bases h) ∙ sym (ap (sum_by f) (not-empty told component bases (sym (length-empty component) ∙ e)))
+pub all-found : (recorded : Recorded) (component : Bytes) (bases found : List Bytes) (n : ℕ) → (length component == 0) ≡ false → length bases ≤ n → SameTexts (flat_map (below recorded component) (take n bases)) found → SameTexts (with_component recorded component bases) found
+all-found recorded component bases found n e h so_far f =
+    so_far f ∙ ap (λ xs. sum_by f (flat_map (below recorded component) xs)) (take_all n bases h) ∙ sym (ap (sum_by f) (not-empty recorded component bases (sym (length-empty component) ∙ e)))
 
 -- ---- what a line looks at
 
 -- the directories that paths ask for are among what they look at
-pub folders-looked : (told : Told) (paths : List Bytes) → Among (flat_map (folders_of told) paths) (looks_of told paths)
-folders-looked told paths = flat-among (folders_of told) (λ path. folders_of told path ++ globbed told path) paths (λ path. in-front (folders_of told path) (globbed told path))
+pub folders-looked : (recorded : Recorded) (paths : List Bytes) → Among (flat_map (folders_of recorded) paths) (looks_of recorded paths)
+folders-looked recorded paths = flat-among (folders_of recorded) (λ path. folders_of recorded path ++ globbed recorded path) paths (λ path. in-front (folders_of recorded path) (globbed recorded path))
 
 -- where facts are those that are told
-pub looks-named : (source : Source) (told : Told) (facts : Facts) (original rest : Bytes) (words paths : List Bytes) → told.facts ≡ facts → told.asked.original ≡ original → words_of rest ≡ Ok words → paths_from source facts original words ≡ Ok paths
-    → looks_in source told (words_of rest) ≡ looks_of told paths
-looks-named source told facts original rest words paths f o w p =
-    ap (looks_in source told) w
-    ∙ ap (looks_along told) (ap (λ f. paths_from source f told.asked.original words) f ∙ ap (λ o. paths_from source facts o words) o ∙ p)
+pub looks-named : (source : Source) (recorded : Recorded) (facts : Facts) (original rest : Bytes) (words paths : List Bytes) → recorded.facts ≡ facts → recorded.asked.original ≡ original → words_of rest ≡ Ok words → paths_from source facts original words ≡ Ok paths
+    → looks_in source recorded (words_of rest) ≡ looks_of recorded paths
+looks-named source recorded facts original rest words paths f o w p =
+    ap (looks_in source recorded) w
+    ∙ ap (looks_along recorded) (ap (λ f. paths_from source f recorded.asked.original words) f ∙ ap (λ o. paths_from source facts o words) o ∙ p)

@@ -8,11 +8,11 @@ use Rattle.std.proofs.lemmas.List.Sums.{sum_by-cons, sum_by-append}
 use Rattle.mux_outside.specs.declared.pairs.Pair.{Pair}
 use Rattle.mux_outside.specs.Files.{inside, is_directory, as_name, name_in, with_name, names_in, Lists}
 use Rattle.conf_rules.specs.Texts.{Bytes, is_empty, split_at_first, split_at_each, with_front, onto_first}
-use Rattle.conf_rules.specs.Told.{Told}
+use Rattle.conf_rules.specs.Recorded.{Recorded}
 use Rattle.conf_rules.specs.Globs.{is_glob, component_takes}
 use Rattle.conf_rules.specs.Order.{sorted}
 use Rattle.conf_rules.specs.Includes.{or_root, below, along, components_of, ends_with_slash, globbed}
-use Rattle.conf_reader.specs.Known.{TellsFiles}
+use Rattle.conf_reader.specs.Known.{RecordsFiles}
 use Rattle.conf_reader.specs.Paths.{SameTexts, with_component}
 use Rattle.conf_reader.proofs.OrderLemmas.{same-sorted}
 
@@ -44,9 +44,9 @@ same-more front xs ys same f = let a = sum_by-append f front xs in let b = sum_b
 pub same-flat : (g : Bytes → List Bytes) (xs ys : List Bytes) → SameTexts xs ys → SameTexts (flat_map g xs) (flat_map g ys)
 same-flat g xs ys same f = sum-flat f g ys ∙ same (λ x. sum_by f (g x)) ∙ sym (sum-flat f g xs)
 
-pub same-along : (told : Told) (components : List Bytes) (xs ys : List Bytes) → SameTexts xs ys → SameTexts (along told components xs) (along told components ys)
-same-along told [] xs ys same = same
-same-along told (c ∷ cs) xs ys same = same-along told cs (flat_map (below told c) xs) (flat_map (below told c) ys) (same-flat (below told c) xs ys same)
+pub same-along : (recorded : Recorded) (components : List Bytes) (xs ys : List Bytes) → SameTexts xs ys → SameTexts (along recorded components xs) (along recorded components ys)
+same-along recorded [] xs ys same = same
+same-along recorded (c ∷ cs) xs ys same = same-along recorded cs (flat_map (below recorded c) xs) (flat_map (below recorded c) ys) (same-flat (below recorded c) xs ys same)
 
 -- ---- one directory
 
@@ -76,14 +76,14 @@ no-directory (b ∷ bs) files e = ap (fold with_name []) (no-names (b ∷ bs) fi
 abbrev pub taken : Bytes → Bytes → List Bytes → List Bytes
 taken component base names = map (λ name. base ++ 47 ∷ name) (filter (component_takes component) names)
 
-below-glob : (told : Told) (component base : Bytes) → is_glob component ≡ true → below told component base ≡ taken component base (told.names (or_root base))
-below-glob told component base e = rw e refl
+below-glob : (recorded : Recorded) (component base : Bytes) → is_glob component ≡ true → below recorded component base ≡ taken component base (recorded.names (or_root base))
+below-glob recorded component base e = rw e refl
 
-pub below-none : (tells : Option (List Pair)) (told : Told) (component base : Bytes) (names : Option (List Bytes)) → TellsFiles tells told → Lists tells (or_root base) (Ok names) → names ≡ None → is_glob component ≡ true → below told component base ≡ []
-below-none None told component base names t h n g = absurd t
-below-none (Some files) told component base (Some ns) t h n g = absurd cc
-below-none (Some files) told component base None t h n g =
-    below-glob told component base g ∙ ap (λ f. taken component base (f (or_root base))) t.1 ∙ ap (taken component base) (no-directory base files h)
+pub below-none : (records : Option (List Pair)) (recorded : Recorded) (component base : Bytes) (names : Option (List Bytes)) → RecordsFiles records recorded → Lists records (or_root base) (Ok names) → names ≡ None → is_glob component ≡ true → below recorded component base ≡ []
+below-none None recorded component base names t h n g = absurd t
+below-none (Some files) recorded component base (Some ns) t h n g = absurd cc
+below-none (Some files) recorded component base None t h n g =
+    below-glob recorded component base g ∙ ap (λ f. taken component base (f (or_root base))) t.1 ∙ ap (taken component base) (no-directory base files h)
 
 same-taken : (component base : Bytes) (xs ys : List Bytes) → SameTexts xs ys → SameTexts (taken component base xs) (taken component base ys)
 same-taken component base xs ys same f =
@@ -91,14 +91,14 @@ same-taken component base xs ys same f =
     let counted : (zs : List Bytes) → sum_by f (taken component base zs) ≡ sum_by part zs = λ zs. sum-map f (λ name. base ++ 47 ∷ name) (filter (component_takes component) zs) ∙ sum-filter (λ name. f (base ++ 47 ∷ name)) (component_takes component) zs in
     counted ys ∙ same part ∙ sym (counted xs)
 
-pub below-some : (tells : Option (List Pair)) (told : Told) (component base : Bytes) (names : Option (List Bytes)) (ns : List Bytes) → TellsFiles tells told → Lists tells (or_root base) (Ok names) → names ≡ Some ns → is_glob component ≡ true
-    → SameTexts (below told component base) (taken component base ns)
-below-some None told component base names ns t h n g = absurd t
-below-some (Some files) told component base None ns t h n g = absurd cc
-below-some (Some files) told component base (Some ms) ns t h n g =
+pub below-some : (records : Option (List Pair)) (recorded : Recorded) (component base : Bytes) (names : Option (List Bytes)) (ns : List Bytes) → RecordsFiles records recorded → Lists records (or_root base) (Ok names) → names ≡ Some ns → is_glob component ≡ true
+    → SameTexts (below recorded component base) (taken component base ns)
+below-some None recorded component base names ns t h n g = absurd t
+below-some (Some files) recorded component base None ns t h n g = absurd cc
+below-some (Some files) recorded component base (Some ms) ns t h n g =
     let same : ms ≡ ns = cc in
     let listed : SameTexts (names_in files (or_root base)) ms = λ f. sum_by-IsPermutation f (names_in files (or_root base)) ms h.1 in
-    let from : below told component base ≡ taken component base (names_in files (or_root base)) = below-glob told component base g ∙ ap (λ f. taken component base (f (or_root base))) t.1 in
+    let from : below recorded component base ≡ taken component base (names_in files (or_root base)) = below-glob recorded component base g ∙ ap (λ f. taken component base (f (or_root base))) t.1 in
     let to : taken component base ms ≡ taken component base ns = ap (taken component base) same in
     λ f. sym (ap (sum_by f) to) ∙ same-taken component base (names_in files (or_root base)) ms listed f ∙ sym (ap (sum_by f) from)
 
@@ -131,25 +131,25 @@ pub parts-none : (left : Bytes) → None ≡ split_at_first 47 left → split_at
 unfolding pair_of
 parts-none left e = parts left ∙ ap (pair_of left) (sym e)
 
-with-first : (told : Told) (component : Bytes) (others bases : List Bytes) (t : Bool) → is_empty component ≡ t
-    → along told (filter (λ c. not (is_empty c)) (component ∷ others)) bases ≡ along told (filter (λ c. not (is_empty c)) others) (with_component told component bases)
-with-first told component others bases true e = rw e refl
-with-first told component others bases false e = rw e refl
+with-first : (recorded : Recorded) (component : Bytes) (others bases : List Bytes) (t : Bool) → is_empty component ≡ t
+    → along recorded (filter (λ c. not (is_empty c)) (component ∷ others)) bases ≡ along recorded (filter (λ c. not (is_empty c)) others) (with_component recorded component bases)
+with-first recorded component others bases true e = rw e refl
+with-first recorded component others bases false e = rw e refl
 
-pub some-component : (told : Told) (left component rest : Bytes) (bases : List Bytes) → Some (component, rest) ≡ split_at_first 47 left
-    → along told (components_of left) bases ≡ along told (components_of rest) (with_component told component bases)
+pub some-component : (recorded : Recorded) (left component rest : Bytes) (bases : List Bytes) → Some (component, rest) ≡ split_at_first 47 left
+    → along recorded (components_of left) bases ≡ along recorded (components_of rest) (with_component recorded component bases)
 unfolding pair_of
-some-component told left component rest bases e =
-    ap (λ cs. along told (filter (λ c. not (is_empty c)) cs) bases) (parts left ∙ ap (pair_of left) (sym e)) ∙ with-first told component (split_at_each 47 rest) bases (is_empty component) refl
+some-component recorded left component rest bases e =
+    ap (λ cs. along recorded (filter (λ c. not (is_empty c)) cs) bases) (parts left ∙ ap (pair_of left) (sym e)) ∙ with-first recorded component (split_at_each 47 rest) bases (is_empty component) refl
 
-pub last-component : (told : Told) (left : Bytes) (bases : List Bytes) → None ≡ split_at_first 47 left → along told (components_of left) bases ≡ with_component told left bases
+pub last-component : (recorded : Recorded) (left : Bytes) (bases : List Bytes) → None ≡ split_at_first 47 left → along recorded (components_of left) bases ≡ with_component recorded left bases
 unfolding pair_of
-last-component told left bases e =
-    ap (λ cs. along told (filter (λ c. not (is_empty c)) cs) bases) (parts left ∙ ap (pair_of left) (sym e)) ∙ with-first told left [] bases (is_empty left) refl
+last-component recorded left bases e =
+    ap (λ cs. along recorded (filter (λ c. not (is_empty c)) cs) bases) (parts left ∙ ap (pair_of left) (sym e)) ∙ with-first recorded left [] bases (is_empty left) refl
 
 -- a component that isn't empty
-pub not-empty : (told : Told) (component : Bytes) (bases : List Bytes) → is_empty component ≡ false → with_component told component bases ≡ flat_map (below told component) bases
-not-empty told component bases e = rw e refl
+pub not-empty : (recorded : Recorded) (component : Bytes) (bases : List Bytes) → is_empty component ≡ false → with_component recorded component bases ≡ flat_map (below recorded component) bases
+not-empty recorded component bases e = rw e refl
 
 -- what holds of a result that is there, by what holds of it
 pub if-ok : {T E : Type 0} (P Q : T → Type 0) (r : Result T E) → ((x : T) → P x → Q x) → IfOk r P → IfOk r Q
@@ -157,6 +157,6 @@ if-ok P Q (Ok x) f h = f x h
 if-ok P Q (Err e) f h = tt
 
 -- found paths, sorted, are what a path with globs stands for
-pub globbed-is : (told : Told) (path : Bytes) (found all : List Bytes) → is_glob path ≡ true → ends_with_slash path ≡ false → SameTexts (along told (components_of path) ([] ∷ [])) found → all ≡ sorted found → all ≡ globbed told path
+pub globbed-is : (recorded : Recorded) (path : Bytes) (found all : List Bytes) → is_glob path ≡ true → ends_with_slash path ≡ false → SameTexts (along recorded (components_of path) ([] ∷ [])) found → all ≡ sorted found → all ≡ globbed recorded path
 unfolding globbed
-globbed-is told path found all g e same s = s ∙ sym (same-sorted (along told (components_of path) ([] ∷ [])) found same) ∙ rw (g, e) refl
+globbed-is recorded path found all g e same s = s ∙ sym (same-sorted (along recorded (components_of path) ([] ∷ [])) found same) ∙ rw (g, e) refl

@@ -13,7 +13,7 @@ use Rattle.conf_rules.specs.declared.causes.ResolveError.TheVariants as errors
 use Rattle.conf_rules.specs.declared.causes.LexError.{LexError}
 use Rattle.conf_rules.specs.declared.causes.TokenError.{TokenError}
 use Rattle.conf_rules.specs.Texts.{Bytes, same_word}
-use Rattle.conf_rules.specs.Told.{Told}
+use Rattle.conf_rules.specs.Recorded.{Recorded}
 use Rattle.conf_rules.specs.Results.{◌>>=◌}
 use Rattle.conf_rules.specs.Words.{words_of}
 use Rattle.conf_rules.specs.Includes.{Source, paths_of, globbed}
@@ -24,12 +24,12 @@ use Rattle.conf_reader.specs.declared.files.Found.{Found}
 use Rattle.conf_reader.specs.declared.line.ConfLine.{ConfLine}
 use Rattle.conf_reader.specs.declared.open_file.OpenFile.{OpenFile}
 use Rattle.conf_reader.specs.declared.open_file.Said.{Said}
-use Rattle.conf_reader.specs.declared.reader.FirstFile.{FirstFile}
-use Rattle.conf_reader.specs.declared.reader.Lines.{Lines}
+use Rattle.conf_reader.specs.declared.lines.FirstFile.{FirstFile}
+use Rattle.conf_reader.specs.declared.lines.Lines.{Lines}
 use Rattle.conf_reader.specs.declared.stack.OpenFiles.{OpenFiles}
 use Rattle.conf_reader.specs.Results.{refused_at}
 use Rattle.conf_reader.specs.Left.{source_of, IsSettled, GivenBy, gone, include_of, named_as, named_by}
-use Rattle.conf_reader.specs.Looking.{FailsAmong, FirstFails, LineFails, Test, meets_in, meets, firsts_meet, all_meet, line_meets, TellsFailed}
+use Rattle.conf_reader.specs.Looking.{FailsAmong, FirstFails, LineFails, Test, meets_in, meets, firsts_meet, all_meet, line_meets, RecordsFailed}
 use Rattle.conf_reader.proofs.OpenLemmas.{drop-at}
 
 -- ---- lists
@@ -72,156 +72,156 @@ all-next p (x ∷ xs) (suc i) e = all-next p xs i e
 -- ---- where a failed read is told
 
 -- the value doesn't matter
-pub tells-err : (A B : Type 0) (test : Test) (e : ResolveError) (before now : Option (List Bytes)) → TellsFailed {A = A} test (Err e) before now → TellsFailed {A = B} test (Err e) before now
-tells-err A B test errors.OutOfMemory before now h = h
-tells-err A B test (errors.At file number causes.ReadFault) before now h = h
-tells-err A B test (errors.At file number cause) before now h = h
+pub records-err : (A B : Type 0) (test : Test) (e : ResolveError) (before now : Option (List Bytes)) → RecordsFailed {A = A} test (Err e) before now → RecordsFailed {A = B} test (Err e) before now
+records-err A B test errors.OutOfMemory before now h = h
+records-err A B test (errors.At file number causes.ReadFault) before now h = h
+records-err A B test (errors.At file number cause) before now h = h
 
 -- nor do steps before it that left the failed paths
-pub tells-on : (A B : Type 0) (test : Test) (e : ResolveError) (before mid now : Option (List Bytes)) → mid ≡ before → TellsFailed {A = A} test (Err e) mid now → TellsFailed {A = B} test (Err e) before now
-tells-on A B test e before mid now same h = subst (λ b. TellsFailed {A = B} test (Err e) b now) same (tells-err A B test e mid now h)
+pub records-on : (A B : Type 0) (test : Test) (e : ResolveError) (before mid now : Option (List Bytes)) → mid ≡ before → RecordsFailed {A = A} test (Err e) mid now → RecordsFailed {A = B} test (Err e) before now
+records-on A B test e before mid now same h = subst (λ b. RecordsFailed {A = B} test (Err e) b now) same (records-err A B test e mid now h)
 
 -- a failed read that is told at a place where its path may be
-pub tells-at : (A : Type 0) (test : Test) (file : Bytes) (number : ℕ) (paths : List Bytes) (e : ResolveError) (before now : Option (List Bytes)) → e ≡ errors.At file number causes.ReadFault → FailsAmong paths before now → list_all (test file number) paths ≡ true
-    → TellsFailed {A = A} test (Err e) before now
-tells-at A test file number paths e before now r fails all =
-    subst (λ x. TellsFailed {A = A} test (Err x) before now) (sym r) (record { path = fails.path; is = fails.is; meets = one-meets (test file number) paths fails.path all fails.among })
+pub records-at : (A : Type 0) (test : Test) (file : Bytes) (number : ℕ) (paths : List Bytes) (e : ResolveError) (before now : Option (List Bytes)) → e ≡ errors.At file number causes.ReadFault → FailsAmong paths before now → list_all (test file number) paths ≡ true
+    → RecordsFailed {A = A} test (Err e) before now
+records-at A test file number paths e before now r fails all =
+    subst (λ x. RecordsFailed {A = A} test (Err x) before now) (sym r) (record { path = fails.path; is = fails.is; meets = one-meets (test file number) paths fails.path all fails.among })
 
 -- the same of a line's error
-pub tells-line : (A B : Type 0) (test : Test) (file : Bytes) (number : ℕ) (paths : List Bytes) (le : LineError) (e : ResolveError) (before now : Option (List Bytes)) → e ≡ refused_at le file number → LineFails {A = B} paths (Err le) before now → list_all (test file number) paths ≡ true
-    → TellsFailed {A = A} test (Err e) before now
-tells-line A B test file number paths line_errors.OutOfMemory e before now r fails all = subst (λ x. TellsFailed {A = A} test (Err x) before now) (sym r) fails
-tells-line A B test file number paths (line_errors.Refused causes.ReadFault) e before now r fails all = tells-at A test file number paths e before now r fails all
-tells-line A B test file number paths (line_errors.Refused cause) e before now r fails all = subst (λ x. TellsFailed {A = A} test (Err x) before now) (sym r) fails
+pub records-line : (A B : Type 0) (test : Test) (file : Bytes) (number : ℕ) (paths : List Bytes) (le : LineError) (e : ResolveError) (before now : Option (List Bytes)) → e ≡ refused_at le file number → LineFails {A = B} paths (Err le) before now → list_all (test file number) paths ≡ true
+    → RecordsFailed {A = A} test (Err e) before now
+records-line A B test file number paths line_errors.OutOfMemory e before now r fails all = subst (λ x. RecordsFailed {A = A} test (Err x) before now) (sym r) fails
+records-line A B test file number paths (line_errors.Refused causes.ReadFault) e before now r fails all = records-at A test file number paths e before now r fails all
+records-line A B test file number paths (line_errors.Refused cause) e before now r fails all = subst (λ x. RecordsFailed {A = A} test (Err x) before now) (sym r) fails
 
 -- ---- one file
 
 -- a file that names no more files has nothing to look at
-pub settled-meets : (test : Test) (told : Told) (source : Source) (f : OpenFile) → IsSettled f → meets_in test told source f ≡ true
-settled-meets test told source f s = let none : drop f.next f.named ≡ [] = drop_of_length-le f.named s.1 in rw (s.0, none) refl
+pub settled-meets : (test : Test) (recorded : Recorded) (source : Source) (f : OpenFile) → IsSettled f → meets_in test recorded source f ≡ true
+settled-meets test recorded source f s = let none : drop f.next f.named ≡ [] = drop_of_length-le f.named s.1 in rw (s.0, none) refl
 
-pub begun-meets : (test : Test) (told : Told) (source : Source) (f : OpenFile) → f.include ≡ None → f.named ≡ [] → meets_in test told source f ≡ true
-begun-meets test told source f none names = settled-meets test told source f (none, let k = ap length names in omega (arith, k))
+pub begun-meets : (test : Test) (recorded : Recorded) (source : Source) (f : OpenFile) → f.include ≡ None → f.named ≡ [] → meets_in test recorded source f ≡ true
+begun-meets test recorded source f none names = settled-meets test recorded source f (none, let k = ap length names in omega (arith, k))
 
 -- one that meets a path over
-pub next-meets : (test : Test) (told : Told) (source : Source) (f g : OpenFile) → g ≡ record f { next = f.next + 1 } → f.include ≡ None → meets_in test told source f ≡ true → meets_in test told source g ≡ true
-next-meets test told source f g is include h =
+pub next-meets : (test : Test) (recorded : Recorded) (source : Source) (f g : OpenFile) → g ≡ record f { next = f.next + 1 } → f.include ≡ None → meets_in test recorded source f ≡ true → meets_in test recorded source g ≡ true
+next-meets test recorded source f g is include h =
     let next : f.next + 1 ≡ suc f.next = omega arith in
     let named : list_all (test f.path (f.number - 1)) (drop f.next f.named) ≡ true = rw include at h in
     let later : list_all (test f.path (f.number - 1)) (drop (f.next + 1) f.named) ≡ true = rw next (all-next (test f.path (f.number - 1)) f.named f.next named) in
-    let all : meets_in test told source (record f { next = f.next + 1 }) ≡ true = rw include later in
-    subst (λ x. meets_in test told source x ≡ true) (sym is) all
+    let all : meets_in test recorded source (record f { next = f.next + 1 }) ≡ true = rw include later in
+    subst (λ x. meets_in test recorded source x ≡ true) (sym is) all
 
 -- the path that is opened next
-pub path-meets : (test : Test) (told : Told) (source : Source) (f : OpenFile) (path : Bytes) → f.include ≡ None → slice_get f.named f.next ≡ Some path → meets_in test told source f ≡ true → list_all (test f.path (f.number - 1)) (path ∷ []) ≡ true
-path-meets test told source f path include named h =
+pub path-meets : (test : Test) (recorded : Recorded) (source : Source) (f : OpenFile) (path : Bytes) → f.include ≡ None → slice_get f.named f.next ≡ Some path → meets_in test recorded source f ≡ true → list_all (test f.path (f.number - 1)) (path ∷ []) ≡ true
+path-meets test recorded source f path include named h =
     let p = test f.path (f.number - 1) in
     let all : list_all p (drop f.next f.named) ≡ true = rw include at h in
     let some : list_all p (path ∷ drop (suc f.next) f.named) ≡ true = subst (λ xs. list_all p xs ≡ true) (drop-at f.named f.next path named) all in
     both (p path) true (both-left (p path) (list_all p (drop (suc f.next) f.named)) some) refl
 
 -- one that goes behind a line that is given
-pub said-meets : (test : Test) (told : Told) (source : Source) (o : OpenFiles) (f : OpenFile) (next : ℕ) (said : Said) (line : ConfLine) → IsSettled f → GivenBy o f said line → line_meets test told source line ≡ true → meets_in test told source (gone next (include_of said) f) ≡ true
-said-meets test told source o f next said line s g h = by (same_word said.keyword (codes "include")) refl
+pub said-meets : (test : Test) (recorded : Recorded) (source : Source) (o : OpenFiles) (f : OpenFile) (next : ℕ) (said : Said) (line : ConfLine) → IsSettled f → GivenBy o f said line → line_meets test recorded source line ≡ true → meets_in test recorded source (gone next (include_of said) f) ≡ true
+said-meets test recorded source o f next said line s g h = by (same_word said.keyword (codes "include")) refl
   where
-    by : (t : Bool) → same_word said.keyword (codes "include") ≡ t → meets_in test told source (gone next (include_of said) f) ≡ true
+    by : (t : Bool) → same_word said.keyword (codes "include") ≡ t → meets_in test recorded source (gone next (include_of said) f) ≡ true
     by true e =
         let number : f.number + 1 - 1 ≡ f.number = omega arith in
         let key : same_word line.keyword (codes "include") ≡ true = ap (λ k. same_word k (codes "include")) g.keyword ∙ e in
-        let all : list_all (test line.file line.number) (looks_at source told line.rest) ≡ true = rw key at h in
-        let here : list_all (test f.path f.number) (looks_at source told said.rest) ≡ true = rw (g.file, g.number, g.rest) at all in
+        let all : list_all (test line.file line.number) (looks_at source recorded line.rest) ≡ true = rw key at h in
+        let here : list_all (test f.path f.number) (looks_at source recorded said.rest) ≡ true = rw (g.file, g.number, g.rest) at all in
         rw (e, number) here
     by false e =
         let is : include_of said ≡ None = rw e refl in
-        settled-meets test told source (gone next (include_of said) f) (is, s.1)
+        settled-meets test recorded source (gone next (include_of said) f) (is, s.1)
 
 -- the paths that a line names are among those that it looks at
-found-meet : (p : Bytes → Bool) (told : Told) (ps : List Bytes) → list_all p (looks_of told ps) ≡ true → list_all p (flat_map (globbed told) ps) ≡ true
-found-meet p told [] h = refl
-found-meet p told (x ∷ xs) h =
-    let here = all-left p (folders_of told x ++ globbed told x) (looks_of told xs) h in
-    let later = all-right p (folders_of told x ++ globbed told x) (looks_of told xs) h in
-    all-both p (globbed told x) (flat_map (globbed told) xs) (all-right p (folders_of told x) (globbed told x) here) (found-meet p told xs later)
+found-meet : (p : Bytes → Bool) (recorded : Recorded) (ps : List Bytes) → list_all p (looks_of recorded ps) ≡ true → list_all p (flat_map (globbed recorded) ps) ≡ true
+found-meet p recorded [] h = refl
+found-meet p recorded (x ∷ xs) h =
+    let here = all-left p (folders_of recorded x ++ globbed recorded x) (looks_of recorded xs) h in
+    let later = all-right p (folders_of recorded x ++ globbed recorded x) (looks_of recorded xs) h in
+    all-both p (globbed recorded x) (flat_map (globbed recorded) xs) (all-right p (folders_of recorded x) (globbed recorded x) here) (found-meet p recorded xs later)
 
-along-meet : (p : Bytes → Bool) (told : Told) (read : Result (List Bytes) TokenError) (paths : List Bytes) → (read >>= λ ps. Ok (flat_map (globbed told) ps)) ≡ Ok paths → list_all p (looks_along told read) ≡ true → list_all p paths ≡ true
-along-meet p told (Err e) paths named h = absurd cc
-along-meet p told (Ok ps) paths named h = let k : flat_map (globbed told) ps ≡ paths = cc in subst (λ xs. list_all p xs ≡ true) k (found-meet p told ps h)
+along-meet : (p : Bytes → Bool) (recorded : Recorded) (read : Result (List Bytes) TokenError) (paths : List Bytes) → (read >>= λ ps. Ok (flat_map (globbed recorded) ps)) ≡ Ok paths → list_all p (looks_along recorded read) ≡ true → list_all p paths ≡ true
+along-meet p recorded (Err e) paths named h = absurd cc
+along-meet p recorded (Ok ps) paths named h = let k : flat_map (globbed recorded) ps ≡ paths = cc in subst (λ xs. list_all p xs ≡ true) k (found-meet p recorded ps h)
 
-named-meet : (p : Bytes → Bool) (source : Source) (told : Told) (words : Result (List Bytes) LexError) (paths : List Bytes) → named_by source told words ≡ Ok paths → list_all p (looks_in source told words) ≡ true → list_all p paths ≡ true
-named-meet p source told (Err e) paths named h = let k : [] ≡ paths = cc in subst (λ xs. list_all p xs ≡ true) k refl
-named-meet p source told (Ok words) paths named h = along-meet p told (paths_of source told words) paths named h
+named-meet : (p : Bytes → Bool) (source : Source) (recorded : Recorded) (words : Result (List Bytes) LexError) (paths : List Bytes) → named_by source recorded words ≡ Ok paths → list_all p (looks_in source recorded words) ≡ true → list_all p paths ≡ true
+named-meet p source recorded (Err e) paths named h = let k : [] ≡ paths = cc in subst (λ xs. list_all p xs ≡ true) k refl
+named-meet p source recorded (Ok words) paths named h = along-meet p recorded (paths_of source recorded words) paths named h
 
-pub include-meets : (test : Test) (told : Told) (source : Source) (f : OpenFile) (rest : Bytes) → f.include ≡ Some rest → meets_in test told source f ≡ true → list_all (test f.path (f.number - 1)) (looks_in source told (words_of rest)) ≡ true
+pub include-meets : (test : Test) (recorded : Recorded) (source : Source) (f : OpenFile) (rest : Bytes) → f.include ≡ Some rest → meets_in test recorded source f ≡ true → list_all (test f.path (f.number - 1)) (looks_in source recorded (words_of rest)) ≡ true
 unfolding looks_at
-include-meets test told source f rest include h = rw include at h
+include-meets test recorded source f rest include h = rw include at h
 
-pub found-meets : (test : Test) (told : Told) (source : Source) (f : OpenFile) (rest : Bytes) (paths : List Bytes) → f.include ≡ Some rest → named_by source told (words_of rest) ≡ Ok paths → meets_in test told source f ≡ true → meets_in test told source (named_as paths f) ≡ true
-found-meets test told source f rest paths include named h = named-meet (test f.path (f.number - 1)) source told (words_of rest) paths named (include-meets test told source f rest include h)
+pub found-meets : (test : Test) (recorded : Recorded) (source : Source) (f : OpenFile) (rest : Bytes) (paths : List Bytes) → f.include ≡ Some rest → named_by source recorded (words_of rest) ≡ Ok paths → meets_in test recorded source f ≡ true → meets_in test recorded source (named_as paths f) ≡ true
+found-meets test recorded source f rest paths include named h = named-meet (test f.path (f.number - 1)) source recorded (words_of rest) paths named (include-meets test recorded source f rest include h)
 
 -- ---- open files
 
 -- the last of them
-pub top-meets : (test : Test) (told : Told) (o : OpenFiles) (f : OpenFile) → o.top ≡ Some f → meets test told o ≡ true → meets_in test told (source_of o.system) f ≡ true
-top-meets test told o f top h =
-    let p = meets_in test told (source_of o.system) in
+pub top-meets : (test : Test) (recorded : Recorded) (o : OpenFiles) (f : OpenFile) → o.top ≡ Some f → meets test recorded o ≡ true → meets_in test recorded (source_of o.system) f ≡ true
+top-meets test recorded o f top h =
+    let p = meets_in test recorded (source_of o.system) in
     let last : list_all p (option_to_list o.top) ≡ true = all-right p o.below.items (option_to_list o.top) h in
     both-left (p f) true (subst (λ t. list_all p (option_to_list t) ≡ true) top last)
 
-below-meet : (test : Test) (told : Told) (o : OpenFiles) → meets test told o ≡ true → list_all (meets_in test told (source_of o.system)) o.below.items ≡ true
-below-meet test told o h = all-left (meets_in test told (source_of o.system)) o.below.items (option_to_list o.top) h
+below-meet : (test : Test) (recorded : Recorded) (o : OpenFiles) → meets test recorded o ≡ true → list_all (meets_in test recorded (source_of o.system)) o.below.items ≡ true
+below-meet test recorded o h = all-left (meets_in test recorded (source_of o.system)) o.below.items (option_to_list o.top) h
 
 -- open files of which the last one changed
-pub changed-meets : (test : Test) (told : Told) (o : OpenFiles) (below : List OpenFile) (t : Option OpenFile) (f g : OpenFile) → o.top ≡ Some f → t ≡ Some g → below ≡ o.below.items → (meets_in test told (source_of o.system) f ≡ true → meets_in test told (source_of o.system) g ≡ true)
-    → meets test told o ≡ true → list_all (meets_in test told (source_of o.system)) (below ++ option_to_list t) ≡ true
-changed-meets test told o below t f g top now same step h =
-    let p = meets_in test told (source_of o.system) in
-    let last : list_all p (option_to_list t) ≡ true = subst (λ t. list_all p (option_to_list t) ≡ true) (sym now) (both (p g) true (step (top-meets test told o f top h)) refl) in
-    all-both p below (option_to_list t) (subst (λ fs. list_all p fs ≡ true) (sym same) (below-meet test told o h)) last
+pub changed-meets : (test : Test) (recorded : Recorded) (o : OpenFiles) (below : List OpenFile) (t : Option OpenFile) (f g : OpenFile) → o.top ≡ Some f → t ≡ Some g → below ≡ o.below.items → (meets_in test recorded (source_of o.system) f ≡ true → meets_in test recorded (source_of o.system) g ≡ true)
+    → meets test recorded o ≡ true → list_all (meets_in test recorded (source_of o.system)) (below ++ option_to_list t) ≡ true
+changed-meets test recorded o below t f g top now same step h =
+    let p = meets_in test recorded (source_of o.system) in
+    let last : list_all p (option_to_list t) ≡ true = subst (λ t. list_all p (option_to_list t) ≡ true) (sym now) (both (p g) true (step (top-meets test recorded o f top h)) refl) in
+    all-both p below (option_to_list t) (subst (λ fs. list_all p fs ≡ true) (sym same) (below-meet test recorded o h)) last
 
 -- the last one is closed
-pub closed-meets : (test : Test) (told : Told) (o : OpenFiles) (below : List OpenFile) (t : Option OpenFile) → o.below.items ≡ below ++ option_to_list t → meets test told o ≡ true → list_all (meets_in test told (source_of o.system)) (below ++ option_to_list t) ≡ true
-closed-meets test told o below t parts h = subst (λ fs. list_all (meets_in test told (source_of o.system)) fs ≡ true) parts (below-meet test told o h)
+pub closed-meets : (test : Test) (recorded : Recorded) (o : OpenFiles) (below : List OpenFile) (t : Option OpenFile) → o.below.items ≡ below ++ option_to_list t → meets test recorded o ≡ true → list_all (meets_in test recorded (source_of o.system)) (below ++ option_to_list t) ≡ true
+closed-meets test recorded o below t parts h = subst (λ fs. list_all (meets_in test recorded (source_of o.system)) fs ≡ true) parts (below-meet test recorded o h)
 
 -- a file is opened
-pub entered-meets : (test : Test) (told : Told) (o : OpenFiles) (below : List OpenFile) (f g new : OpenFile) → o.top ≡ Some f → below ≡ o.below.items ++ g ∷ [] → g ≡ record f { next = f.next + 1 } → f.include ≡ None → new.include ≡ None → new.named ≡ []
-    → meets test told o ≡ true → list_all (meets_in test told (source_of o.system)) (below ++ option_to_list (Some new)) ≡ true
-entered-meets test told o below f g new top more is include none names h =
+pub entered-meets : (test : Test) (recorded : Recorded) (o : OpenFiles) (below : List OpenFile) (f g new : OpenFile) → o.top ≡ Some f → below ≡ o.below.items ++ g ∷ [] → g ≡ record f { next = f.next + 1 } → f.include ≡ None → new.include ≡ None → new.named ≡ []
+    → meets test recorded o ≡ true → list_all (meets_in test recorded (source_of o.system)) (below ++ option_to_list (Some new)) ≡ true
+entered-meets test recorded o below f g new top more is include none names h =
     let source = source_of o.system in
-    let p = meets_in test told source in
-    let met : p g ≡ true = next-meets test told source f g is include (top-meets test told o f top h) in
-    let all : list_all p (o.below.items ++ g ∷ []) ≡ true = all-both p o.below.items (g ∷ []) (below-meet test told o h) (both (p g) true met refl) in
-    all-both p below (new ∷ []) (subst (λ fs. list_all p fs ≡ true) (sym more) all) (both (p new) true (begun-meets test told source new none names) refl)
+    let p = meets_in test recorded source in
+    let met : p g ≡ true = next-meets test recorded source f g is include (top-meets test recorded o f top h) in
+    let all : list_all p (o.below.items ++ g ∷ []) ≡ true = all-both p o.below.items (g ∷ []) (below-meet test recorded o h) (both (p g) true met refl) in
+    all-both p below (new ∷ []) (subst (λ fs. list_all p fs ≡ true) (sym more) all) (both (p new) true (begun-meets test recorded source new none names) refl)
 
 -- a failed read of the path that is opened next
-pub top-tells : (A : Type 0) (test : Test) (told : Told) (o : OpenFiles) (f : OpenFile) (path : Bytes) (e : ResolveError) (before now : Option (List Bytes)) → o.top ≡ Some f → f.include ≡ None → slice_get f.named f.next ≡ Some path → e ≡ errors.At f.path (f.number - 1) causes.ReadFault
-    → FailsAmong (path ∷ []) before now → meets test told o ≡ true → TellsFailed {A = A} test (Err e) before now
-top-tells A test told o f path e before now top include named r fails h =
-    tells-at A test f.path (f.number - 1) (path ∷ []) e before now r fails (path-meets test told (source_of o.system) f path include named (top-meets test told o f top h))
+pub top-records : (A : Type 0) (test : Test) (recorded : Recorded) (o : OpenFiles) (f : OpenFile) (path : Bytes) (e : ResolveError) (before now : Option (List Bytes)) → o.top ≡ Some f → f.include ≡ None → slice_get f.named f.next ≡ Some path → e ≡ errors.At f.path (f.number - 1) causes.ReadFault
+    → FailsAmong (path ∷ []) before now → meets test recorded o ≡ true → RecordsFailed {A = A} test (Err e) before now
+top-records A test recorded o f path e before now top include named r fails h =
+    records-at A test f.path (f.number - 1) (path ∷ []) e before now r fails (path-meets test recorded (source_of o.system) f path include named (top-meets test recorded o f top h))
 
 -- ---- a line
 
-pub given-looks : (test : Test) (told : Told) (o : OpenFiles) (t : Option OpenFile) (next : ℕ) (said : Said) (line : ConfLine) → o.top ≡ t → IfSome t (λ f. IsSettled f × (f.at < length f.text)) → IfSome t (λ f. GivenBy o f said line) → line_meets test told (source_of o.system) line ≡ true → meets test told o ≡ true
-    → list_all (meets_in test told (source_of o.system)) (o.below.items ++ option_to_list (option_map (gone next (include_of said)) t)) ≡ true
-given-looks test told o None next said line top at by looks h = subst (λ t. list_all (meets_in test told (source_of o.system)) (o.below.items ++ option_to_list t) ≡ true) top h
-given-looks test told o (Some f) next said line top at by looks h =
+pub given-looks : (test : Test) (recorded : Recorded) (o : OpenFiles) (t : Option OpenFile) (next : ℕ) (said : Said) (line : ConfLine) → o.top ≡ t → IfSome t (λ f. IsSettled f × (f.at < length f.text)) → IfSome t (λ f. GivenBy o f said line) → line_meets test recorded (source_of o.system) line ≡ true → meets test recorded o ≡ true
+    → list_all (meets_in test recorded (source_of o.system)) (o.below.items ++ option_to_list (option_map (gone next (include_of said)) t)) ≡ true
+given-looks test recorded o None next said line top at by looks h = subst (λ t. list_all (meets_in test recorded (source_of o.system)) (o.below.items ++ option_to_list t) ≡ true) top h
+given-looks test recorded o (Some f) next said line top at by looks h =
     let g = gone next (include_of said) f in
-    changed-meets test told o o.below.items (Some g) f g top refl refl (λ k. said-meets test told (source_of o.system) o f next said line at.0 by looks) h
+    changed-meets test recorded o o.below.items (Some g) f g top refl refl (λ k. said-meets test recorded (source_of o.system) o f next said line at.0 by looks) h
 
 -- ---- the files that a line includes
 
-pub named-looks : (test : Test) (told : Told) (o n : OpenFiles) (f : OpenFile) (rest : Bytes) (paths : List Bytes) → o.top ≡ Some f → f.include ≡ Some rest → named_by (source_of o.system) told (words_of rest) ≡ Ok paths → n ≡ record o { top = option_map (named_as paths) o.top } → meets test told o ≡ true → meets test told n ≡ true
-named-looks test told o n f rest paths top include named is h =
+pub named-looks : (test : Test) (recorded : Recorded) (o n : OpenFiles) (f : OpenFile) (rest : Bytes) (paths : List Bytes) → o.top ≡ Some f → f.include ≡ Some rest → named_by (source_of o.system) recorded (words_of rest) ≡ Ok paths → n ≡ record o { top = option_map (named_as paths) o.top } → meets test recorded o ≡ true → meets test recorded n ≡ true
+named-looks test recorded o n f rest paths top include named is h =
     let now : option_map (named_as paths) o.top ≡ Some (named_as paths f) = ap (option_map (named_as paths)) top in
-    let all : meets test told (record o { top = option_map (named_as paths) o.top }) ≡ true =
-    changed-meets test told o o.below.items (option_map (named_as paths) o.top) f (named_as paths f) top now refl (found-meets test told (source_of o.system) f rest paths include named) h in
-    subst (λ (x : OpenFiles). meets test told x ≡ true) (sym is) all
+    let all : meets test recorded (record o { top = option_map (named_as paths) o.top }) ≡ true =
+    changed-meets test recorded o o.below.items (option_map (named_as paths) o.top) f (named_as paths f) top now refl (found-meets test recorded (source_of o.system) f rest paths include named) h in
+    subst (λ (x : OpenFiles). meets test recorded x ≡ true) (sym is) all
 
-pub include-tells : (A B : Type 0) (test : Test) (told : Told) (o : OpenFiles) (f : OpenFile) (rest given : Bytes) (le : LineError) (e : ResolveError) (before now : Option (List Bytes)) → o.top ≡ Some f → f.include ≡ Some rest → given ≡ rest → e ≡ refused_at le f.path (f.number - 1)
-    → LineFails {A = A} (looks_in (source_of o.system) told (words_of given)) (Err le) before now → meets test told o ≡ true → TellsFailed {A = B} test (Err e) before now
-include-tells A B test told o f rest given le e before now top include same r fails h =
+pub include-records : (A B : Type 0) (test : Test) (recorded : Recorded) (o : OpenFiles) (f : OpenFile) (rest given : Bytes) (le : LineError) (e : ResolveError) (before now : Option (List Bytes)) → o.top ≡ Some f → f.include ≡ Some rest → given ≡ rest → e ≡ refused_at le f.path (f.number - 1)
+    → LineFails {A = A} (looks_in (source_of o.system) recorded (words_of given)) (Err le) before now → meets test recorded o ≡ true → RecordsFailed {A = B} test (Err e) before now
+include-records A B test recorded o f rest given le e before now top include same r fails h =
     let source = source_of o.system in
-    let here : LineFails {A = A} (looks_in source told (words_of rest)) (Err le) before now = subst (λ x. LineFails {A = A} (looks_in source told (words_of x)) (Err le) before now) same fails in
-    tells-line B A test f.path (f.number - 1) (looks_in source told (words_of rest)) le e before now r here (include-meets test told source f rest include (top-meets test told o f top h))
+    let here : LineFails {A = A} (looks_in source recorded (words_of rest)) (Err le) before now = subst (λ x. LineFails {A = A} (looks_in source recorded (words_of x)) (Err le) before now) same fails in
+    records-line B A test f.path (f.number - 1) (looks_in source recorded (words_of rest)) le e before now r here (include-meets test recorded source f rest include (top-meets test recorded o f top h))
 
 -- ---- first files
 
@@ -231,26 +231,26 @@ first-meets test (g ∷ gs) zero f e h = let same : g ≡ f = cc in subst (λ (x
 first-meets test (g ∷ gs) (suc i) f e h = first-meets test gs i f e (both-right (test g.path 0 g.path) (firsts_meet test gs) h)
 
 -- a failed read of a first file
-pub first-tells : (A : Type 0) (test : Test) (told : Told) (r : Lines) (f : FirstFile) (path : Bytes) (e : ResolveError) (before now : Option (List Bytes)) → slice_get r.firsts.items r.next_first ≡ Some f → path ≡ f.path → FirstFails {A = Found} path (Err e) before now
-    → all_meet test told r ≡ true → TellsFailed {A = A} test (Err e) before now
-first-tells A test told r f path errors.OutOfMemory before now named same fails h = fails
-first-tells A test told r f path (errors.At file line cause) before now named same fails h =
-    let meets_it : test f.path 0 f.path ≡ true = first-meets test r.firsts.items r.next_first f named (both-right (meets test told r.open_files) (firsts_meet test r.firsts.items) h) in
+pub first-records : (A : Type 0) (test : Test) (recorded : Recorded) (r : Lines) (f : FirstFile) (path : Bytes) (e : ResolveError) (before now : Option (List Bytes)) → slice_get r.firsts.items r.next_first ≡ Some f → path ≡ f.path → FirstFails {A = Found} path (Err e) before now
+    → all_meet test recorded r ≡ true → RecordsFailed {A = A} test (Err e) before now
+first-records A test recorded r f path errors.OutOfMemory before now named same fails h = fails
+first-records A test recorded r f path (errors.At file line cause) before now named same fails h =
+    let meets_it : test f.path 0 f.path ≡ true = first-meets test r.firsts.items r.next_first f named (both-right (meets test recorded r.open_files) (firsts_meet test r.firsts.items) h) in
     let here : test path 0 path ≡ true = rw same meets_it in
-    tells-at A test path 0 (path ∷ []) (errors.At file line cause) before now fails.0 fails.1 (both (test path 0 path) true here refl)
+    records-at A test path 0 (path ∷ []) (errors.At file line cause) before now fails.0 fails.1 (both (test path 0 path) true here refl)
 
 -- ---- readers
 
-pub files-meet : (test : Test) (told : Told) (r : Lines) → all_meet test told r ≡ true → meets test told r.open_files ≡ true
-files-meet test told r h = both-left (meets test told r.open_files) (firsts_meet test r.firsts.items) h
+pub files-meet : (test : Test) (recorded : Recorded) (r : Lines) → all_meet test recorded r ≡ true → meets test recorded r.open_files ≡ true
+files-meet test recorded r h = both-left (meets test recorded r.open_files) (firsts_meet test r.firsts.items) h
 
 -- the first files stay
-pub all-on : (test : Test) (told : Told) (old new : Lines) → new.firsts ≡ old.firsts → meets test told new.open_files ≡ true → all_meet test told old ≡ true → all_meet test told new ≡ true
-all-on test told old new firsts on h =
-    both (meets test told new.open_files) (firsts_meet test new.firsts.items) on (ap (λ fs. firsts_meet test fs.items) firsts ∙ both-right (meets test told old.open_files) (firsts_meet test old.firsts.items) h)
+pub all-on : (test : Test) (recorded : Recorded) (old new : Lines) → new.firsts ≡ old.firsts → meets test recorded new.open_files ≡ true → all_meet test recorded old ≡ true → all_meet test recorded new ≡ true
+all-on test recorded old new firsts on h =
+    both (meets test recorded new.open_files) (firsts_meet test new.firsts.items) on (ap (λ fs. firsts_meet test fs.items) firsts ∙ both-right (meets test recorded old.open_files) (firsts_meet test old.firsts.items) h)
 
 -- a step of the open files
-pub all-look : (A : Type 0) (test : Test) (told : Told) (r : Lines) (o : OpenFiles) (result : Result A ResolveError) (before now : Option (List Bytes)) → all_meet test told r ≡ true → TellsFailed test result before now × OnOk result (meets test told o ≡ true)
-    → TellsFailed test result before now × OnOk result (all_meet test told (record r { open_files = o }) ≡ true)
-all-look A test told r o (Ok x) before now h step = (step.0, all-on test told r (record r { open_files = o }) refl step.1 h)
-all-look A test told r o (Err e) before now h step = (step.0, tt)
+pub all-look : (A : Type 0) (test : Test) (recorded : Recorded) (r : Lines) (o : OpenFiles) (result : Result A ResolveError) (before now : Option (List Bytes)) → all_meet test recorded r ≡ true → RecordsFailed test result before now × OnOk result (meets test recorded o ≡ true)
+    → RecordsFailed test result before now × OnOk result (all_meet test recorded (record r { open_files = o }) ≡ true)
+all-look A test recorded r o (Ok x) before now h step = (step.0, all-on test recorded r (record r { open_files = o }) refl step.1 h)
+all-look A test recorded r o (Err e) before now h step = (step.0, tt)

@@ -2,9 +2,9 @@
 use Rattle.std.proofs.Common.{◌≡◌, ◌∙◌, List, Option, Ok, Err, refl, sym, subst}
 use Rattle.mux_outside.specs.declared.pairs.Pair.{Pair}
 use Rattle.conf_rules.specs.declared.causes.ResolveError.{ResolveError}
-use Rattle.conf_reader.specs.declared.reader.Lines.{Lines}
+use Rattle.conf_reader.specs.declared.lines.Lines.{Lines}
 use Rattle.conf_reader.specs.declared.stack.OpenFiles.{OpenFiles}
-use Rattle.conf_reader.specs.Known.{TellsFiles}
+use Rattle.conf_reader.specs.Known.{RecordsFiles}
 use Rattle.conf_reader.specs.Left.{left, IsReady}
 use Rattle.conf_reader.specs.Moving.{GoesOn, MovesLines}
 use Rattle.conf_reader.proofs.RefusalLemmas.{moved-before}
@@ -21,12 +21,12 @@ Moved files old new = MovesLines {A = Unit {0}} files old new (Ok tt)
 
 -- lines that stay as they are
 pub lines-same : {A : Type 0} {files : Option (List Pair)} {v : A} (r : Lines) → IsReady r.open_files → MovesLines files r r (Ok v)
-lines-same r ready = record { moves = λ told place blocks tells. refl; goes_on = goes-same r.open_files ready; firsts = refl; count = refl }
+lines-same r ready = record { moves = λ recorded place blocks records. refl; goes_on = goes-same r.open_files ready; firsts = refl; count = refl }
 
 -- a step behind another
 pub lines-then : {A B C : Type 0} {files later : Option (List Pair)} {a b c : Lines} {v : A} {w : B} (k : C) → later ≡ files → MovesLines files a b (Ok v) → MovesLines later b c (Ok w) → MovesLines files a c (Ok k)
 lines-then k same x y = record {
-  moves = λ told place blocks tells. x.moves told place blocks tells ∙ y.moves told place blocks (subst (λ f. TellsFiles f told) (sym same) tells);
+  moves = λ recorded place blocks records. x.moves recorded place blocks records ∙ y.moves recorded place blocks (subst (λ f. RecordsFiles f recorded) (sym same) records);
   goes_on = goes-then x.goes_on y.goes_on;
   firsts = y.firsts ∙ x.firsts;
   count = y.count ∙ x.count;
@@ -35,7 +35,7 @@ lines-then k same x y = record {
 -- one that refuses
 pub lines-fail : {A B C : Type 0} {files later : Option (List Pair)} {a b c : Lines} {v : A} {e : ResolveError} → later ≡ files → MovesLines files a b (Ok v) → MovesLines {A = B} later b c (Err e) → MovesLines {A = C} files a c (Err e)
 lines-fail {A} {B} {C} {files} {later} {a} {b} {c} {v} {e} same x y = record {
-  moves = λ told place blocks tells. moved-before (left told place blocks a) (left told place blocks b) e (x.moves told place blocks tells) (y.moves told place blocks (subst (λ f. TellsFiles f told) (sym same) tells));
+  moves = λ recorded place blocks records. moved-before (left recorded place blocks a) (left recorded place blocks b) e (x.moves recorded place blocks records) (y.moves recorded place blocks (subst (λ f. RecordsFiles f recorded) (sym same) records));
   goes_on = tt;
   firsts = y.firsts ∙ x.firsts;
   count = y.count ∙ x.count;

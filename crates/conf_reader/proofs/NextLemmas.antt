@@ -3,39 +3,39 @@ use Rattle.std.proofs.Common.{◌≡◌, ℕ, suc, ◌+◌, List, [], ◌∷◌,
 use Rattle.std.proofs.lemmas.List.{append-nil, length-append}
 use Rattle.conf_rules.specs.declared.causes.ResolveError.{ResolveError}
 use Rattle.conf_rules.specs.declared.causes.ResolveError.TheVariants as errors
-use Rattle.conf_rules.specs.Told.{Told}
+use Rattle.conf_rules.specs.Recorded.{Recorded}
 use Rattle.conf_rules.specs.Sources.{Line}
 use Rattle.conf_rules.specs.Entries.{entry_of}
 use Rattle.conf_rules.specs.Resolution.{counted}
 use Rattle.conf_rules.specs.Rows.{Row}
 use Rattle.conf_reader.specs.declared.line.ConfLine.{ConfLine}
-use Rattle.conf_reader.specs.declared.reader.Lines.{Lines}
-use Rattle.conf_reader.specs.declared.reader.Step.TheVariants as steps
+use Rattle.conf_reader.specs.declared.lines.Lines.{Lines}
+use Rattle.conf_reader.specs.declared.lines.ReadStep.TheVariants as steps
 use Rattle.conf_reader.specs.Blocks.{Blocks}
 use Rattle.conf_reader.specs.Left.{left, Bounded}
 use Rattle.std.specs.Prelude.{IfOk, IfSome}
 use Rattle.conf_reader.specs.Reads.{IsGivenFrom, AreIdle, GivesNext, RefusesNext, Reads, OneLine, SoFar}
 
-pub idle-append : (told : Told) (xs ys : List Line) (place : ℕ) → AreIdle told place xs → AreIdle told (place + length xs) ys → AreIdle told place (xs ++ ys)
-idle-append told [] ys place h k = subst (λ n. AreIdle told n ys) (let z : place + 0 ≡ place = omega arith in z) k
-idle-append told (x ∷ xs) ys place h k = (h.0, idle-append told xs ys (place + 1) h.1 (subst (λ n. AreIdle told n ys) (let z : place + suc (length xs) ≡ place + 1 + length xs = omega arith in z) k))
+pub idle-append : (recorded : Recorded) (xs ys : List Line) (place : ℕ) → AreIdle recorded place xs → AreIdle recorded (place + length xs) ys → AreIdle recorded place (xs ++ ys)
+idle-append recorded [] ys place h k = subst (λ n. AreIdle recorded n ys) (let z : place + 0 ≡ place = omega arith in z) k
+idle-append recorded (x ∷ xs) ys place h k = (h.0, idle-append recorded xs ys (place + 1) h.1 (subst (λ n. AreIdle recorded n ys) (let z : place + suc (length xs) ≡ place + 1 + length xs = omega arith in z) k))
 
 -- one more comment
-pub more : (told : Told) (place : ℕ) (blocks : Blocks) (old now new : Lines) (s : SoFar told place blocks old now) → OneLine told (place + length s.comments) blocks now new (Ok steps.Comment) → new.read ≡ now.read + 1 → Bounded new.open_files (length blocks) → SoFar told place blocks old new
-more told place blocks old now new s o count bounded =
+pub more : (recorded : Recorded) (place : ℕ) (blocks : Blocks) (old now new : Lines) (s : SoFar recorded place blocks old now) → OneLine recorded (place + length s.comments) blocks now new (Ok steps.Comment) → new.read ≡ now.read + 1 → Bounded new.open_files (length blocks) → SoFar recorded place blocks old new
+more recorded place blocks old now new s o count bounded =
     let n : place + length s.comments + 1 ≡ place + length (s.comments ++ o.0 ∷ []) = let k = length-append s.comments (o.0 ∷ []) in omega (arith, k) in
     let c = s.count in
     record {
       comments = s.comments ++ o.0 ∷ [];
-      is = s.is ∙ ap (λ xs. s.comments ++ xs) o.1.0 ∙ sym (append_assoc s.comments (o.0 ∷ []) _) ∙ ap (λ m. (s.comments ++ o.0 ∷ []) ++ left told m blocks new) n;
-      idle = idle-append told s.comments (o.0 ∷ []) place s.idle (o.1.1, tt);
+      is = s.is ∙ ap (λ xs. s.comments ++ xs) o.1.0 ∙ sym (append_assoc s.comments (o.0 ∷ []) _) ∙ ap (λ m. (s.comments ++ o.0 ∷ []) ++ left recorded m blocks new) n;
+      idle = idle-append recorded s.comments (o.0 ∷ []) place s.idle (o.1.1, tt);
       count = omega (arith, n, c, count);
       bounded = bounded;
     }
 
 -- the line behind comments
-pub gives : (told : Told) (place : ℕ) (blocks : Blocks) (old now new : Lines) (given : ConfLine) (s : SoFar told place blocks old now) → OneLine told (place + length s.comments) blocks now new (Ok (steps.Given given)) → new.read ≡ now.read + 1 → GivesNext told place blocks old new given
-gives told place blocks old now new given s o count = record {
+pub gives : (recorded : Recorded) (place : ℕ) (blocks : Blocks) (old now new : Lines) (given : ConfLine) (s : SoFar recorded place blocks old now) → OneLine recorded (place + length s.comments) blocks now new (Ok (steps.Given given)) → new.read ≡ now.read + 1 → GivesNext recorded place blocks old new given
+gives recorded place blocks old now new given s o count = record {
   comments = s.comments;
   line = o.0;
   is = s.is ∙ ap (λ xs. s.comments ++ xs) o.1.0;
@@ -47,31 +47,31 @@ gives told place blocks old now new given s o count = record {
 }
 
 -- no line behind them
-pub ends : (told : Told) (place : ℕ) (blocks : Blocks) (old now : Lines) (s : SoFar told place blocks old now) → left told (place + length s.comments) blocks now ≡ [] → AreIdle told place (left told place blocks old)
-ends told place blocks old now s e = subst (AreIdle told place) (sym (s.is ∙ ap (λ xs. s.comments ++ xs) e ∙ append-nil s.comments)) s.idle
+pub ends : (recorded : Recorded) (place : ℕ) (blocks : Blocks) (old now : Lines) (s : SoFar recorded place blocks old now) → left recorded (place + length s.comments) blocks now ≡ [] → AreIdle recorded place (left recorded place blocks old)
+ends recorded place blocks old now s e = subst (AreIdle recorded place) (sym (s.is ∙ ap (λ xs. s.comments ++ xs) e ∙ append-nil s.comments)) s.idle
 
 -- a refusal behind them
-pub fails : (told : Told) (place : ℕ) (blocks : Blocks) (old now new : Lines) (e : ResolveError) (s : SoFar told place blocks old now) → OneLine told (place + length s.comments) blocks now new (Err e) → Reads told place blocks old new (Err e)
-fails told place blocks old now new errors.OutOfMemory s o = tt
-fails told place blocks old now new (errors.At file number cause) s o = λ fault.
-    let r : RefusesNext told (place + length s.comments) (left told (place + length s.comments) blocks now) file number cause = o fault in
+pub fails : (recorded : Recorded) (place : ℕ) (blocks : Blocks) (old now new : Lines) (e : ResolveError) (s : SoFar recorded place blocks old now) → OneLine recorded (place + length s.comments) blocks now new (Err e) → Reads recorded place blocks old new (Err e)
+fails recorded place blocks old now new errors.OutOfMemory s o = tt
+fails recorded place blocks old now new (errors.At file number cause) s o = λ fault.
+    let r : RefusesNext recorded (place + length s.comments) (left recorded (place + length s.comments) blocks now) file number cause = o fault in
     let n : place + length (s.comments ++ r.comments) ≡ place + length s.comments + length r.comments = let k = length-append s.comments r.comments in omega (arith, k) in
     record {
       comments = s.comments ++ r.comments;
       line = r.line;
       rest = r.rest;
       is = s.is ∙ ap (λ xs. s.comments ++ xs) r.is ∙ sym (append_assoc s.comments r.comments (r.line ∷ r.rest));
-      idle = idle-append told s.comments r.comments place s.idle r.idle;
+      idle = idle-append recorded s.comments r.comments place s.idle r.idle;
       file_is = r.file_is;
       number_is = r.number_is;
-      refused = λ (rows : List Row). ap (counted told entry_of rows r.line) n ∙ r.refused rows;
+      refused = λ (rows : List Row). ap (counted recorded entry_of rows r.line) n ∙ r.refused rows;
     }
 
 -- ---- what stands before a line that was given
 
-pub reads-from : (told : Told) (place : ℕ) (blocks : Blocks) (old mid new : Lines) (r : Result (Option ConfLine) ResolveError) → left told place blocks old ≡ left told place blocks mid → Reads told place blocks mid new r → Reads told place blocks old new r
-reads-from told place blocks old mid new (Ok None) e h = subst (AreIdle told place) (sym e) h
-reads-from told place blocks old mid new (Ok (Some given)) e h = record {
+pub reads-from : (recorded : Recorded) (place : ℕ) (blocks : Blocks) (old mid new : Lines) (r : Result (Option ConfLine) ResolveError) → left recorded place blocks old ≡ left recorded place blocks mid → Reads recorded place blocks mid new r → Reads recorded place blocks old new r
+reads-from recorded place blocks old mid new (Ok None) e h = subst (AreIdle recorded place) (sym e) h
+reads-from recorded place blocks old mid new (Ok (Some given)) e h = record {
   comments = h.comments;
   line = h.line;
   is = e ∙ h.is;
@@ -81,12 +81,12 @@ reads-from told place blocks old mid new (Ok (Some given)) e h = record {
   count = h.count;
   source = h.source;
 }
-reads-from told place blocks old mid new (Err errors.OutOfMemory) e h = tt
-reads-from told place blocks old mid new (Err (errors.At file number cause)) e h = λ fault. subst (λ ls. RefusesNext told place ls file number cause) (sym e) (h fault)
+reads-from recorded place blocks old mid new (Err errors.OutOfMemory) e h = tt
+reads-from recorded place blocks old mid new (Err (errors.At file number cause)) e h = λ fault. subst (λ ls. RefusesNext recorded place ls file number cause) (sym e) (h fault)
 
-pub one-reads : (told : Told) (place : ℕ) (blocks : Blocks) (old new : Lines) (e : ResolveError) → OneLine told place blocks old new (Err e) → Reads told place blocks old new (Err e)
-one-reads told place blocks old new errors.OutOfMemory h = tt
-one-reads told place blocks old new (errors.At file number cause) h = h
+pub one-reads : (recorded : Recorded) (place : ℕ) (blocks : Blocks) (old new : Lines) (e : ResolveError) → OneLine recorded place blocks old new (Err e) → Reads recorded place blocks old new (Err e)
+one-reads recorded place blocks old new errors.OutOfMemory h = tt
+one-reads recorded place blocks old new (errors.At file number cause) h = h
 
 pub given-from : (old mid new : Lines) (r : Result (Option ConfLine) ResolveError) → ((n : ℕ) → Bounded old.open_files n → Bounded mid.open_files n) → mid.read ≡ old.read
     → IfOk r (λ given. IfSome given (IsGivenFrom mid new)) → IfOk r (λ given. IfSome given (IsGivenFrom old new))

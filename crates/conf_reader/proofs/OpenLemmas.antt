@@ -7,14 +7,14 @@ use Rattle.std.proofs.lemmas.Bool.{ne_eqb}
 use Rattle.std.proofs.Math.ListN.{drop_of_length-le}
 use Rattle.conf_rules.specs.Texts.{Bytes}
 use Rattle.conf_rules.specs.Heads.{lines_of}
-use Rattle.conf_rules.specs.Told.{Told}
+use Rattle.conf_rules.specs.Recorded.{Recorded}
 use Rattle.conf_rules.specs.Includes.{Source, file_at, file_of}
 use Rattle.conf_rules.specs.Sources.{depth_limit, size_limit}
 use Rattle.conf_reader.specs.declared.open_file.OpenFile.{OpenFile}
 use Rattle.conf_reader.specs.declared.stack.OpenFiles.{OpenFiles}
 use Rattle.conf_reader.specs.Blocks.{Blocks, or_none}
 use Rattle.conf_reader.specs.Left.{source_of, frame_files, frames_left, stack, open_left, parts_left, IsSettled, IsReady, Names}
-use Rattle.conf_reader.proofs.LeftLemmas.{top_depth, top_outer, top-depth, Step, under, closes, stays, opens-file, Opened, Alike}
+use Rattle.conf_reader.proofs.LeftLemmas.{top_depth, top_outer, top-depth, ReadStep, under, closes, stays, opens-file, Opened, Alike}
 
 -- ---- lists
 
@@ -53,65 +53,65 @@ pub cur-below : (fresh : Bool) (n : ℕ) (blocks : Blocks) → take n (cond fres
 cur-below true n blocks = take-twice n blocks
 cur-below false n blocks = refl
 
-pub settled-files : (told : Told) (source : Source) (f : OpenFile) → IsSettled f → frame_files told source f ≡ Ok []
-settled-files told source f s = let none : drop f.next f.named ≡ [] = drop_of_length-le f.named s.1 in rw (s.0, none) refl
+pub settled-files : (recorded : Recorded) (source : Source) (f : OpenFile) → IsSettled f → frame_files recorded source f ≡ Ok []
+settled-files recorded source f s = let none : drop f.next f.named ≡ [] = drop_of_length-le f.named s.1 in rw (s.0, none) refl
 
-pub open-closes : (told : Told) (place : ℕ) (blocks : Blocks) (o : OpenFiles) (below : List OpenFile) (t : Option OpenFile) (f : OpenFile) → o.top ≡ Some f → IsSettled f → length f.text ≤ f.at
-    → o.below.items ≡ below ++ option_to_list t → open_left told place blocks o ≡ parts_left told place blocks o.system below t false
+pub open-closes : (recorded : Recorded) (place : ℕ) (blocks : Blocks) (o : OpenFiles) (below : List OpenFile) (t : Option OpenFile) (f : OpenFile) → o.top ≡ Some f → IsSettled f → length f.text ≤ f.at
+    → o.below.items ≡ below ++ option_to_list t → open_left recorded place blocks o ≡ parts_left recorded place blocks o.system below t false
 unfolding lines_of
-open-closes told place blocks o below t f top s ended same =
+open-closes recorded place blocks o below t f top s ended same =
     let fs = o.below.items in
     let source = source_of o.system in
     let cur-o = cond o.fresh (take (length fs) blocks) blocks in
     let z : place + 0 ≡ place = omega arith in
     let ended-lines : lines_of (drop f.at f.text) ≡ [] = ap lines_of (drop_of_length-le f.text ended) in
-    let step : frames_left told source (top_depth 0 fs) (top_outer [] fs cur-o) (f ∷ []) (drop (length fs) cur-o) place ≡ [] =
-    closes told source (top_depth 0 fs) (top_outer [] fs cur-o) f (drop (length fs) cur-o) place (settled-files told source f s) ended-lines in
-    let all : Step told source 0 [] (fs ++ f ∷ []) (fs ++ []) cur-o blocks place [] = under told source 0 [] fs (f ∷ []) [] cur-o blocks place [] (cur-below o.fresh (length fs) blocks) step in
-    ap (λ t. frames_left told source 0 [] (fs ++ option_to_list t) cur-o place) top
+    let step : frames_left recorded source (top_depth 0 fs) (top_outer [] fs cur-o) (f ∷ []) (drop (length fs) cur-o) place ≡ [] =
+    closes recorded source (top_depth 0 fs) (top_outer [] fs cur-o) f (drop (length fs) cur-o) place (settled-files recorded source f s) ended-lines in
+    let all : ReadStep recorded source 0 [] (fs ++ f ∷ []) (fs ++ []) cur-o blocks place [] = under recorded source 0 [] fs (f ∷ []) [] cur-o blocks place [] (cur-below o.fresh (length fs) blocks) step in
+    ap (λ t. frames_left recorded source 0 [] (fs ++ option_to_list t) cur-o place) top
     ∙ all
-    ∙ ap (λ x. frames_left told source 0 [] x blocks (place + 0)) (append-nil fs ∙ same)
-    ∙ ap (frames_left told source 0 [] (below ++ option_to_list t) blocks) z
+    ∙ ap (λ x. frames_left recorded source 0 [] x blocks (place + 0)) (append-nil fs ∙ same)
+    ∙ ap (frames_left recorded source 0 [] (below ++ option_to_list t) blocks) z
 
 -- the same of a top that may be there
-pub closes-top : (told : Told) (place : ℕ) (blocks : Blocks) (o : OpenFiles) (below : List OpenFile) (n t : Option OpenFile) → o.top ≡ n → IsSome n → IfSome n (λ f. IsSettled f × (length f.text ≤ f.at))
-    → o.below.items ≡ below ++ option_to_list t → open_left told place blocks o ≡ parts_left told place blocks o.system below t false
-closes-top told place blocks o below None t top some ended same = absurd (let k : false ≡ true = some in cc)
-closes-top told place blocks o below (Some f) t top some ended same = open-closes told place blocks o below t f top ended.0 ended.1 same
+pub closes-top : (recorded : Recorded) (place : ℕ) (blocks : Blocks) (o : OpenFiles) (below : List OpenFile) (n t : Option OpenFile) → o.top ≡ n → IsSome n → IfSome n (λ f. IsSettled f × (length f.text ≤ f.at))
+    → o.below.items ≡ below ++ option_to_list t → open_left recorded place blocks o ≡ parts_left recorded place blocks o.system below t false
+closes-top recorded place blocks o below None t top some ended same = absurd (let k : false ≡ true = some in cc)
+closes-top recorded place blocks o below (Some f) t top some ended same = open-closes recorded place blocks o below t f top ended.0 ended.1 same
 
 -- a path that names no file is skipped
-skipped-files : (told : Told) (source : Source) (f : OpenFile) (path : Bytes) → f.include ≡ None → slice_get f.named f.next ≡ Some path → told.content path ≡ None
-    → frame_files told source (record f { next = f.next + 1 }) ≡ frame_files told source f
-skipped-files told source f path include named none =
+skipped-files : (recorded : Recorded) (source : Source) (f : OpenFile) (path : Bytes) → f.include ≡ None → slice_get f.named f.next ≡ Some path → recorded.content path ≡ None
+    → frame_files recorded source (record f { next = f.next + 1 }) ≡ frame_files recorded source f
+skipped-files recorded source f path include named none =
     let next : f.next + 1 ≡ suc f.next = omega arith in
-    let files : flat_map (file_at told) (drop f.next f.named) ≡ flat_map (file_at told) (drop (f.next + 1) f.named) =
-    ap (flat_map (file_at told)) (drop-at f.named f.next path named) ∙ ap (λ t. file_of path t ++ flat_map (file_at told) (drop (suc f.next) f.named)) none ∙ ap (λ i. flat_map (file_at told) (drop i f.named)) (sym next) in
+    let files : flat_map (file_at recorded) (drop f.next f.named) ≡ flat_map (file_at recorded) (drop (f.next + 1) f.named) =
+    ap (flat_map (file_at recorded)) (drop-at f.named f.next path named) ∙ ap (λ t. file_of path t ++ flat_map (file_at recorded) (drop (suc f.next) f.named)) none ∙ ap (λ i. flat_map (file_at recorded) (drop i f.named)) (sym next) in
     rw include (ap (λ x. Ok x) (sym files))
 
-pub open-skips : (told : Told) (place : ℕ) (blocks : Blocks) (o : OpenFiles) (f : OpenFile) (path : Bytes) → o.top ≡ Some f → f.include ≡ None → slice_get f.named f.next ≡ Some path → told.content path ≡ None
-    → open_left told place blocks o ≡ open_left told place blocks (record o { top = Some (record f { next = f.next + 1 }) })
-open-skips told place blocks o f path top include named none =
+pub open-skips : (recorded : Recorded) (place : ℕ) (blocks : Blocks) (o : OpenFiles) (f : OpenFile) (path : Bytes) → o.top ≡ Some f → f.include ≡ None → slice_get f.named f.next ≡ Some path → recorded.content path ≡ None
+    → open_left recorded place blocks o ≡ open_left recorded place blocks (record o { top = Some (record f { next = f.next + 1 }) })
+open-skips recorded place blocks o f path top include named none =
     let fs = o.below.items in
     let source = source_of o.system in
     let cur-o = cond o.fresh (take (length fs) blocks) blocks in
     let g = record f { next = f.next + 1 } in
     let z : place + 0 ≡ place = omega arith in
-    let alike : Alike told source f g = record { path = refl; text = refl; at = refl; number = refl; files = skipped-files told source f path include named none } in
-    let all : Step told source 0 [] (fs ++ f ∷ []) (fs ++ g ∷ []) cur-o cur-o place [] = under told source 0 [] fs (f ∷ []) (g ∷ []) cur-o cur-o place [] refl (stays told source (top_depth 0 fs) (top_outer [] fs cur-o) f g (drop (length fs) cur-o) place alike) in
-    ap (λ t. frames_left told source 0 [] (fs ++ option_to_list t) cur-o place) top ∙ all ∙ ap (frames_left told source 0 [] (fs ++ g ∷ []) cur-o) z
+    let alike : Alike recorded source f g = record { path = refl; text = refl; at = refl; number = refl; files = skipped-files recorded source f path include named none } in
+    let all : ReadStep recorded source 0 [] (fs ++ f ∷ []) (fs ++ g ∷ []) cur-o cur-o place [] = under recorded source 0 [] fs (f ∷ []) (g ∷ []) cur-o cur-o place [] refl (stays recorded source (top_depth 0 fs) (top_outer [] fs cur-o) f g (drop (length fs) cur-o) place alike) in
+    ap (λ t. frames_left recorded source 0 [] (fs ++ option_to_list t) cur-o place) top ∙ all ∙ ap (frames_left recorded source 0 [] (fs ++ g ∷ []) cur-o) z
 
-pub skips-top : (told : Told) (place : ℕ) (blocks : Blocks) (o : OpenFiles) (f : OpenFile) → o.top ≡ Some f → f.include ≡ None → f.next < length f.named → Names (Some f) (λ path. told.content path ≡ None)
-    → open_left told place blocks o ≡ open_left told place blocks (record o { top = Some (record f { next = f.next + 1 }) })
-skips-top told place blocks o f top include low names = by-path (slice_get f.named f.next) refl names
+pub skips-top : (recorded : Recorded) (place : ℕ) (blocks : Blocks) (o : OpenFiles) (f : OpenFile) → o.top ≡ Some f → f.include ≡ None → f.next < length f.named → Names (Some f) (λ path. recorded.content path ≡ None)
+    → open_left recorded place blocks o ≡ open_left recorded place blocks (record o { top = Some (record f { next = f.next + 1 }) })
+skips-top recorded place blocks o f top include low names = by-path (slice_get f.named f.next) refl names
   where
     past : (xs : List Bytes) (i : ℕ) → i < length xs → slice_get xs i ≡ None → ⊥
     past [] i h e = omega (arith, h)
     past (x ∷ xs) zero h e = cc
     past (x ∷ xs) (suc i) h e = past xs i (omega (arith, h)) e
 
-    by-path : (p : Option Bytes) → slice_get f.named f.next ≡ p → IfSome p (λ path. told.content path ≡ None) → open_left told place blocks o ≡ open_left told place blocks (record o { top = Some (record f { next = f.next + 1 }) })
+    by-path : (p : Option Bytes) → slice_get f.named f.next ≡ p → IfSome p (λ path. recorded.content path ≡ None) → open_left recorded place blocks o ≡ open_left recorded place blocks (record o { top = Some (record f { next = f.next + 1 }) })
     by-path None e none = absurd (past f.named f.next low e)
-    by-path (Some path) e none = open-skips told place blocks o f path top include e none
+    by-path (Some path) e none = open-skips recorded place blocks o f path top include e none
 
 -- ---- a file is opened
 
@@ -119,24 +119,24 @@ not-fresh : (o : OpenFiles) (f : OpenFile) (t : Bool) → o.fresh ≡ t → (t �
 not-fresh o f false e h top low = refl
 not-fresh o f true e h top low = let s : IsSettled f = rw top at (h refl) in absurd (let k = s.1 in omega (arith, low, k))
 
-pub open-enters : (told : Told) (place : ℕ) (blocks : Blocks) (o : OpenFiles) (below : List OpenFile) (f g new : OpenFile) (path text : Bytes) → IsReady o → length o.below.items < depth_limit
-    → o.top ≡ Some f → f.include ≡ None → f.next < length f.named → slice_get f.named f.next ≡ Some path → told.content path ≡ Some text → nat_lt size_limit (length text) ≡ false
+pub open-enters : (recorded : Recorded) (place : ℕ) (blocks : Blocks) (o : OpenFiles) (below : List OpenFile) (f g new : OpenFile) (path text : Bytes) → IsReady o → length o.below.items < depth_limit
+    → o.top ≡ Some f → f.include ≡ None → f.next < length f.named → slice_get f.named f.next ≡ Some path → recorded.content path ≡ Some text → nat_lt size_limit (length text) ≡ false
     → below ≡ o.below.items ++ g ∷ []
     → g ≡ record f { next = f.next + 1 } → new ≡ record { path = path; text = text; at = 0; number = 1; include = None; named = []; next = 0 }
-    → open_left told place blocks o ≡ parts_left told place blocks o.system below (Some new) true
-open-enters told place blocks o below f g new path text ready deep top include low named content small below-is g-is new-is =
+    → open_left recorded place blocks o ≡ parts_left recorded place blocks o.system below (Some new) true
+open-enters recorded place blocks o below f g new path text ready deep top include low named content small below-is g-is new-is =
     let fs = o.below.items in
     let source = source_of o.system in
     let plain : o.fresh ≡ false = not-fresh o f o.fresh refl ready.fresh top low in
     let others = take (suc (length fs)) blocks in
     let z : place + 0 ≡ place = omega arith in
-    let rest = flat_map (file_at told) (drop (f.next + 1) f.named) in
+    let rest = flat_map (file_at recorded) (drop (f.next + 1) f.named) in
     let next : suc f.next ≡ f.next + 1 = omega arith in
-    let files : frame_files told source f ≡ Ok (record { path = path; text = text } ∷ rest) =
-    rw include (ap (λ x. Ok x) (ap (flat_map (file_at told)) (drop-at f.named f.next path named) ∙ ap (λ t. file_of path t ++ flat_map (file_at told) (drop (suc f.next) f.named)) content ∙ ap (λ i. record { path = path; text = text } ∷ flat_map (file_at told) (drop i f.named)) next)) in
+    let files : frame_files recorded source f ≡ Ok (record { path = path; text = text } ∷ rest) =
+    rw include (ap (λ x. Ok x) (ap (flat_map (file_at recorded)) (drop-at f.named f.next path named) ∙ ap (λ t. file_of path t ++ flat_map (file_at recorded) (drop (suc f.next) f.named)) content ∙ ap (λ i. record { path = path; text = text } ∷ flat_map (file_at recorded) (drop i f.named)) next)) in
     let g' : OpenFile = record f { next = f.next + 1 } in
     let new' : OpenFile = record { path = path; text = text; at = 0; number = 1; include = None; named = []; next = 0 } in
-    let opened : Opened told source f g' new' = record {
+    let opened : Opened recorded source f g' new' = record {
       rest = rest;
       files = files;
       small = small;
@@ -153,14 +153,14 @@ open-enters told place blocks o below f g new path text ready deep top include l
     let not-deep : eqb (top_depth 0 fs) depth_limit ≡ false = ne_eqb (top_depth 0 fs) depth_limit (λ h. absurd (omega (arith, deep, h, depth-is))) in
     let same : or_none (slice_get (drop (length fs) others) 0) ≡ or_none (slice_get (drop (length fs) blocks) 0) = rw (one-left (length fs) blocks) (first-same (drop (length fs) blocks)) in
     let alone : or_none (slice_get (drop 1 (drop (length fs) others)) 0) ≡ None = rw (one-left (length fs) blocks) (first-alone (drop (length fs) blocks)) in
-    let all : Step told source 0 [] (fs ++ f ∷ []) (fs ++ g' ∷ new' ∷ []) blocks others place [] =
-    under told source 0 [] fs (f ∷ []) (g' ∷ new' ∷ []) blocks others place [] (sym (take-more (length fs) blocks))
-    (opens-file told source (top_depth 0 fs) (top_outer [] fs blocks) f g' new' (drop (length fs) blocks) (drop (length fs) others) place not-deep opened same alone) in
+    let all : ReadStep recorded source 0 [] (fs ++ f ∷ []) (fs ++ g' ∷ new' ∷ []) blocks others place [] =
+    under recorded source 0 [] fs (f ∷ []) (g' ∷ new' ∷ []) blocks others place [] (sym (take-more (length fs) blocks))
+    (opens-file recorded source (top_depth 0 fs) (top_outer [] fs blocks) f g' new' (drop (length fs) blocks) (drop (length fs) others) place not-deep opened same alone) in
     let count : length below ≡ suc (length fs) = let k = length-append fs (g ∷ []) in ap length below-is ∙ k ∙ (let j : length fs + 1 ≡ suc (length fs) = omega arith in j) in
     let stack-is : fs ++ g' ∷ new' ∷ [] ≡ below ++ new ∷ [] = ap (λ x. fs ++ x ∷ new' ∷ []) (sym g-is) ∙ ap (λ x. fs ++ g ∷ x ∷ []) (sym new-is) ∙ sym (append_assoc fs (g ∷ []) (new ∷ [])) ∙ ap (λ xs. xs ++ new ∷ []) (sym below-is) in
-    ap (λ b. frames_left told source 0 [] (stack o) (cond b (take (length fs) blocks) blocks) place) plain
-    ∙ ap (λ t. frames_left told source 0 [] (fs ++ option_to_list t) blocks place) top
+    ap (λ b. frames_left recorded source 0 [] (stack o) (cond b (take (length fs) blocks) blocks) place) plain
+    ∙ ap (λ t. frames_left recorded source 0 [] (fs ++ option_to_list t) blocks place) top
     ∙ all
-    ∙ ap (frames_left told source 0 [] (fs ++ g' ∷ new' ∷ []) others) z
-    ∙ ap (λ x. frames_left told source 0 [] x others place) stack-is
-    ∙ ap (λ m. frames_left told source 0 [] (below ++ new ∷ []) (take m blocks) place) (sym count)
+    ∙ ap (frames_left recorded source 0 [] (fs ++ g' ∷ new' ∷ []) others) z
+    ∙ ap (λ x. frames_left recorded source 0 [] x others place) stack-is
+    ∙ ap (λ m. frames_left recorded source 0 [] (below ++ new ∷ []) (take m blocks) place) (sym count)

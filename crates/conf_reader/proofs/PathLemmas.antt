@@ -5,7 +5,7 @@ use Rattle.conf_rules.specs.declared.causes.TokenError.TheVariants.{Unknown, Lon
 use Rattle.conf_rules.specs.Results.{◌>>=◌, Fails}
 use Rattle.conf_rules.specs.Wants.{token_wants_memory}
 use Rattle.conf_rules.specs.Texts.{Bytes}
-use Rattle.conf_rules.specs.Told.{Facts, Told}
+use Rattle.conf_rules.specs.Recorded.{Facts, Recorded}
 use Rattle.conf_rules.specs.Includes.{Source, ends_with_slash, paths_from}
 use Rattle.conf_rules.specs.Words.{words_of}
 use Rattle.conf_rules.proofs.SplitLemmas.{split-end, last-split}
@@ -26,30 +26,30 @@ onto front reading = reading >>= λ paths. Ok (front ++ paths)
 
 -- ---- what an Include line names
 
-with_found : Told → Result (List Bytes) TokenError → Result (List Bytes) TokenError
-with_found told reading = reading >>= λ paths. Ok (all_globbed told paths)
+with_found : Recorded → Result (List Bytes) TokenError → Result (List Bytes) TokenError
+with_found recorded reading = reading >>= λ paths. Ok (all_globbed recorded paths)
 
-named-from : (source : Source) (told : Told) (facts : Facts) (original rest : Bytes) (words : List Bytes) → told.facts ≡ facts → told.asked.original ≡ original → words_of rest ≡ Ok words
-    → named_by source told (words_of rest) ≡ with_found told (paths_from source facts original words)
+named-from : (source : Source) (recorded : Recorded) (facts : Facts) (original rest : Bytes) (words : List Bytes) → recorded.facts ≡ facts → recorded.asked.original ≡ original → words_of rest ≡ Ok words
+    → named_by source recorded (words_of rest) ≡ with_found recorded (paths_from source facts original words)
 unfolding with_found
-named-from source told facts original rest words f o w =
-    ap (named_by source told) w ∙ ap (with_found told) (ap (λ f. paths_from source f told.asked.original words) f ∙ ap (λ o. paths_from source facts o words) o)
+named-from source recorded facts original rest words f o w =
+    ap (named_by source recorded) w ∙ ap (with_found recorded) (ap (λ f. paths_from source f recorded.asked.original words) f ∙ ap (λ o. paths_from source facts o words) o)
 
-pub named-ok : (source : Source) (told : Told) (facts : Facts) (original rest : Bytes) (words paths all : List Bytes) → told.facts ≡ facts → told.asked.original ≡ original → words_of rest ≡ Ok words
-    → paths_from source facts original words ≡ Ok paths → all ≡ all_globbed told paths → named_by source told (words_of rest) ≡ Ok all
+pub named-ok : (source : Source) (recorded : Recorded) (facts : Facts) (original rest : Bytes) (words paths all : List Bytes) → recorded.facts ≡ facts → recorded.asked.original ≡ original → words_of rest ≡ Ok words
+    → paths_from source facts original words ≡ Ok paths → all ≡ all_globbed recorded paths → named_by source recorded (words_of rest) ≡ Ok all
 unfolding with_found
-named-ok source told facts original rest words paths all f o w p a = named-from source told facts original rest words f o w ∙ ap (with_found told) p ∙ ap Ok (sym a)
+named-ok source recorded facts original rest words paths all f o w p a = named-from source recorded facts original rest words f o w ∙ ap (with_found recorded) p ∙ ap Ok (sym a)
 
-named-refused : (source : Source) (told : Told) (facts : Facts) (original rest : Bytes) (words : List Bytes) (e : TokenError) → told.facts ≡ facts → told.asked.original ≡ original → words_of rest ≡ Ok words
-    → paths_from source facts original words ≡ Err e → named_by source told (words_of rest) ≡ Err e
+named-refused : (source : Source) (recorded : Recorded) (facts : Facts) (original rest : Bytes) (words : List Bytes) (e : TokenError) → recorded.facts ≡ facts → recorded.asked.original ≡ original → words_of rest ≡ Ok words
+    → paths_from source facts original words ≡ Err e → named_by source recorded (words_of rest) ≡ Err e
 unfolding with_found
-named-refused source told facts original rest words e f o w p = named-from source told facts original rest words f o w ∙ ap (with_found told) p
+named-refused source recorded facts original rest words e f o w p = named-from source recorded facts original rest words f o w ∙ ap (with_found recorded) p
 
-pub named-err : (source : Source) (told : Told) (facts : Facts) (original rest : Bytes) (words : List Bytes) (e : TokenError) → told.facts ≡ facts → told.asked.original ≡ original → words_of rest ≡ Ok words
-    → Fails token_wants_memory e (paths_from source facts original words) → FoundPaths (Err (of_token e)) (named_by source told (words_of rest))
-named-err source told facts original rest words OutOfMemory f o w p = tt
-named-err source told facts original rest words (Unknown b at) f o w p = named-refused source told facts original rest words (Unknown b at) f o w p
-named-err source told facts original rest words LoneAtEnd f o w p = named-refused source told facts original rest words LoneAtEnd f o w p
-named-err source told facts original rest words (FactMissing b) f o w p = named-refused source told facts original rest words (FactMissing b) f o w p
-named-err source told facts original rest words (NoVariable n) f o w p = named-refused source told facts original rest words (NoVariable n) f o w p
-named-err source told facts original rest words (OpenBrace at) f o w p = named-refused source told facts original rest words (OpenBrace at) f o w p
+pub named-err : (source : Source) (recorded : Recorded) (facts : Facts) (original rest : Bytes) (words : List Bytes) (e : TokenError) → recorded.facts ≡ facts → recorded.asked.original ≡ original → words_of rest ≡ Ok words
+    → Fails token_wants_memory e (paths_from source facts original words) → FoundPaths (Err (of_token e)) (named_by source recorded (words_of rest))
+named-err source recorded facts original rest words OutOfMemory f o w p = tt
+named-err source recorded facts original rest words (Unknown b at) f o w p = named-refused source recorded facts original rest words (Unknown b at) f o w p
+named-err source recorded facts original rest words LoneAtEnd f o w p = named-refused source recorded facts original rest words LoneAtEnd f o w p
+named-err source recorded facts original rest words (FactMissing b) f o w p = named-refused source recorded facts original rest words (FactMissing b) f o w p
+named-err source recorded facts original rest words (NoVariable n) f o w p = named-refused source recorded facts original rest words (NoVariable n) f o w p
+named-err source recorded facts original rest words (OpenBrace at) f o w p = named-refused source recorded facts original rest words (OpenBrace at) f o w p

@@ -13,7 +13,7 @@ use Rattle.conf_reader.specs.declared.files.Found.{Found}
 use Rattle.conf_reader.specs.declared.files.Found.TheVariants.{Nothing, TooLarge, Holds}
 use Rattle.conf_reader.specs.Results.{Refuses, refused_at}
 use Rattle.conf_rules.specs.Texts.{Bytes}
-use Rattle.conf_rules.specs.Told.{Told}
+use Rattle.conf_rules.specs.Recorded.{Recorded}
 use Rattle.conf_rules.specs.Includes.{Source, file_at, file_of}
 use Rattle.conf_rules.specs.Sources.{Line, Refused, depth_limit, size_limit, each_file}
 use Rattle.conf_reader.specs.declared.open_file.OpenFile.{OpenFile}
@@ -26,28 +26,28 @@ use Rattle.conf_reader.proofs.OpenLemmas.{drop-at}
 -- ---- refusals
 
 -- the refusal that stands first in what is left
-pub first-refused : (told : Told) (place : ℕ) (blocks : Blocks) (o : OpenFiles) (f : OpenFile) (line : Line) (rest : List Line) (file : Bytes) (number : ℕ) (cause : Cause) → o.top ≡ Some f
-    → frames_left told (source_of o.system) (top_depth 0 o.below.items) (top_outer [] o.below.items (cur o blocks)) (f ∷ []) (drop (length o.below.items) (cur o blocks)) place ≡ line ∷ rest
-    → line.file ≡ file → line.number ≡ number → line.content ≡ Refused cause → RefusesFirst (open_left told place blocks o) file number cause
-first-refused told place blocks o f line rest file number cause top first file-is number-is content =
-    let all = front told (source_of o.system) 0 [] o.below.items (f ∷ []) (cur o blocks) place (line ∷ []) rest first in
+pub first-refused : (recorded : Recorded) (place : ℕ) (blocks : Blocks) (o : OpenFiles) (f : OpenFile) (line : Line) (rest : List Line) (file : Bytes) (number : ℕ) (cause : Cause) → o.top ≡ Some f
+    → frames_left recorded (source_of o.system) (top_depth 0 o.below.items) (top_outer [] o.below.items (cur o blocks)) (f ∷ []) (drop (length o.below.items) (cur o blocks)) place ≡ line ∷ rest
+    → line.file ≡ file → line.number ≡ number → line.content ≡ Refused cause → RefusesFirst (open_left recorded place blocks o) file number cause
+first-refused recorded place blocks o f line rest file number cause top first file-is number-is content =
+    let all = front recorded (source_of o.system) 0 [] o.below.items (f ∷ []) (cur o blocks) place (line ∷ []) rest first in
     record {
       line = line;
       rest = all.0;
-      is = ap (λ t. frames_left told (source_of o.system) 0 [] (o.below.items ++ option_to_list t) (cur o blocks) place) top ∙ all.1;
+      is = ap (λ t. frames_left recorded (source_of o.system) 0 [] (o.below.items ++ option_to_list t) (cur o blocks) place) top ∙ all.1;
       file_is = file-is;
       number_is = number-is;
       content = content;
     }
 
-next-files : (told : Told) (source : Source) (f : OpenFile) (path text : Bytes) → f.include ≡ None → slice_get f.named f.next ≡ Some path → told.content path ≡ Some text
-    → frame_files told source f ≡ Ok (record { path = path; text = text } ∷ flat_map (file_at told) (drop (suc f.next) f.named))
-next-files told source f path text include named content =
-    rw include (ap (λ x. Ok x) (ap (flat_map (file_at told)) (drop-at f.named f.next path named) ∙ ap (λ t. file_of path t ++ flat_map (file_at told) (drop (suc f.next) f.named)) content))
+next-files : (recorded : Recorded) (source : Source) (f : OpenFile) (path text : Bytes) → f.include ≡ None → slice_get f.named f.next ≡ Some path → recorded.content path ≡ Some text
+    → frame_files recorded source f ≡ Ok (record { path = path; text = text } ∷ flat_map (file_at recorded) (drop (suc f.next) f.named))
+next-files recorded source f path text include named content =
+    rw include (ap (λ x. Ok x) (ap (flat_map (file_at recorded)) (drop-at f.named f.next path named) ∙ ap (λ t. file_of path t ++ flat_map (file_at recorded) (drop (suc f.next) f.named)) content))
 
-pub deep-refused : (told : Told) (place : ℕ) (blocks : Blocks) (o : OpenFiles) (f : OpenFile) (path text : Bytes) → o.top ≡ Some f → f.include ≡ None → slice_get f.named f.next ≡ Some path → told.content path ≡ Some text
-    → length o.below.items ≡ depth_limit → RefusesFirst (open_left told place blocks o) f.path (f.number - 1) causes.TooDeep
-deep-refused told place blocks o f path text top include named content deep =
+pub deep-refused : (recorded : Recorded) (place : ℕ) (blocks : Blocks) (o : OpenFiles) (f : OpenFile) (path text : Bytes) → o.top ≡ Some f → f.include ≡ None → slice_get f.named f.next ≡ Some path → recorded.content path ≡ Some text
+    → length o.below.items ≡ depth_limit → RefusesFirst (open_left recorded place blocks o) f.path (f.number - 1) causes.TooDeep
+deep-refused recorded place blocks o f path text top include named content deep =
     let fs = o.below.items in
     let source = source_of o.system in
     let depth = top_depth 0 fs in
@@ -56,25 +56,25 @@ deep-refused told place blocks o f path text top include named content deep =
     let inside = outer ++ option_to_list (or_none (slice_get at 0)) in
     let line : Line = record { source = source; file = f.path; number = f.number - 1; depth = depth; blocks = []; content = Refused causes.TooDeep } in
     let is-deep : eqb depth depth_limit ≡ true = let k = top-depth 0 fs in eq-eqb depth depth_limit (let h : depth ≡ depth_limit = omega (arith, k, deep) in h) in
-    let left = refuses told source depth outer f at place (line ∷ []) [] (ap (deeper told source depth inside f.path (f.number - 1) (place + 0)) (next-files told source f path text include named content)
-    ∙ depth-refuses told source depth inside f.path (f.number - 1) (place + 0) (record { path = path; text = text }) (flat_map (file_at told) (drop (suc f.next) f.named)) is-deep) in
-    first-refused told place blocks o f line left.0 f.path (f.number - 1) causes.TooDeep top left.1 refl refl refl
+    let left = refuses recorded source depth outer f at place (line ∷ []) [] (ap (deeper recorded source depth inside f.path (f.number - 1) (place + 0)) (next-files recorded source f path text include named content)
+    ∙ depth-refuses recorded source depth inside f.path (f.number - 1) (place + 0) (record { path = path; text = text }) (flat_map (file_at recorded) (drop (suc f.next) f.named)) is-deep) in
+    first-refused recorded place blocks o f line left.0 f.path (f.number - 1) causes.TooDeep top left.1 refl refl refl
 
-pub large-refused : (told : Told) (place : ℕ) (blocks : Blocks) (o : OpenFiles) (f : OpenFile) (path text : Bytes) → o.top ≡ Some f → f.include ≡ None → slice_get f.named f.next ≡ Some path → told.content path ≡ Some text
-    → length o.below.items < depth_limit → nat_lt size_limit (length text) ≡ true → RefusesFirst (open_left told place blocks o) path 0 causes.TooLarge
-large-refused told place blocks o f path text top include named content low large =
+pub large-refused : (recorded : Recorded) (place : ℕ) (blocks : Blocks) (o : OpenFiles) (f : OpenFile) (path text : Bytes) → o.top ≡ Some f → f.include ≡ None → slice_get f.named f.next ≡ Some path → recorded.content path ≡ Some text
+    → length o.below.items < depth_limit → nat_lt size_limit (length text) ≡ true → RefusesFirst (open_left recorded place blocks o) path 0 causes.TooLarge
+large-refused recorded place blocks o f path text top include named content low large =
     let fs = o.below.items in
     let source = source_of o.system in
     let depth = top_depth 0 fs in
     let outer = top_outer [] fs (cur o blocks) in
     let at = drop (length fs) (cur o blocks) in
     let inside = outer ++ option_to_list (or_none (slice_get at 0)) in
-    let others = flat_map (file_at told) (drop (suc f.next) f.named) in
+    let others = flat_map (file_at recorded) (drop (suc f.next) f.named) in
     let line : Line = record { source = source; file = path; number = 0; depth = depth + 1; blocks = []; content = Refused causes.TooLarge } in
     let not-deep : eqb depth depth_limit ≡ false = let k = top-depth 0 fs in ne_eqb depth depth_limit (λ h. absurd (omega (arith, k, low, h))) in
-    let left = refuses told source depth outer f at place (line ∷ []) (each_file (one_below told source depth inside) (place + 0 + 1) others) (ap (deeper told source depth inside f.path (f.number - 1) (place + 0)) (next-files told source f path text include named content)
-    ∙ size-refuses told source depth inside f.path (f.number - 1) (place + 0) (record { path = path; text = text }) others not-deep large) in
-    first-refused told place blocks o f line left.0 path 0 causes.TooLarge top left.1 refl refl refl
+    let left = refuses recorded source depth outer f at place (line ∷ []) (each_file (one_below recorded source depth inside) (place + 0 + 1) others) (ap (deeper recorded source depth inside f.path (f.number - 1) (place + 0)) (next-files recorded source f path text include named content)
+    ∙ size-refuses recorded source depth inside f.path (f.number - 1) (place + 0) (record { path = path; text = text }) others not-deep large) in
+    first-refused recorded place blocks o f line left.0 path 0 causes.TooLarge top left.1 refl refl refl
 
 -- ---- as the code needs them
 
@@ -113,30 +113,30 @@ large-text (Some text) is = (text, (refl, is))
 abbrev pub named_one : OpenFile → Type 0
 named_one f = (f.include ≡ None) × (f.next < length f.named)
 
-pub moves-deep : (told : Told) (place : ℕ) (blocks : Blocks) (o : OpenFiles) (after : List Line) (found : Found) (e : ResolveError) (t : Option OpenFile) → o.top ≡ t → IsSome t → IfSome t named_one → length o.below.items ≡ depth_limit
-    → (found ≡ Nothing → ⊥) → Names t (λ path. IsFound found (told.content path)) → RefusesTop t causes.TooDeep e → moved (open_left told place blocks o) after e
-moves-deep told place blocks o after found e None top some named deep is names r = absurd (let k : false ≡ true = some in cc)
-moves-deep told place blocks o after found e (Some f) top some named deep is names r = by-path (slice_get f.named f.next) refl names
+pub moves-deep : (recorded : Recorded) (place : ℕ) (blocks : Blocks) (o : OpenFiles) (after : List Line) (found : Found) (e : ResolveError) (t : Option OpenFile) → o.top ≡ t → IsSome t → IfSome t named_one → length o.below.items ≡ depth_limit
+    → (found ≡ Nothing → ⊥) → Names t (λ path. IsFound found (recorded.content path)) → RefusesTop t causes.TooDeep e → moved (open_left recorded place blocks o) after e
+moves-deep recorded place blocks o after found e None top some named deep is names r = absurd (let k : false ≡ true = some in cc)
+moves-deep recorded place blocks o after found e (Some f) top some named deep is names r = by-path (slice_get f.named f.next) refl names
   where
-    by-path : (p : Option Bytes) → slice_get f.named f.next ≡ p → IfSome p (λ path. IsFound found (told.content path)) → moved (open_left told place blocks o) after e
+    by-path : (p : Option Bytes) → slice_get f.named f.next ≡ p → IfSome p (λ path. IsFound found (recorded.content path)) → moved (open_left recorded place blocks o) after e
     by-path None at h = absurd (past f.named f.next named.1 at)
-    by-path (Some path) at h = let text = found-text found (told.content path) is h in moves-refused (open_left told place blocks o) after f.path (f.number - 1) causes.TooDeep e r (deep-refused told place blocks o f path text.0 top named.0 at text.1 deep)
+    by-path (Some path) at h = let text = found-text found (recorded.content path) is h in moves-refused (open_left recorded place blocks o) after f.path (f.number - 1) causes.TooDeep e r (deep-refused recorded place blocks o f path text.0 top named.0 at text.1 deep)
 
-pub moves-large : (told : Told) (place : ℕ) (blocks : Blocks) (o : OpenFiles) (after : List Line) (e : ResolveError) (t : Option OpenFile) → o.top ≡ t → IsSome t → IfSome t named_one → length o.below.items < depth_limit
-    → Names t (λ path. IsFound TooLarge (told.content path)) → RefusesNext t causes.TooLarge e → moved (open_left told place blocks o) after e
-moves-large told place blocks o after e None top some named low names r = absurd (let k : false ≡ true = some in cc)
-moves-large told place blocks o after e (Some f) top some named low names r = by-path (slice_get f.named f.next) refl names r
+pub moves-large : (recorded : Recorded) (place : ℕ) (blocks : Blocks) (o : OpenFiles) (after : List Line) (e : ResolveError) (t : Option OpenFile) → o.top ≡ t → IsSome t → IfSome t named_one → length o.below.items < depth_limit
+    → Names t (λ path. IsFound TooLarge (recorded.content path)) → RefusesNext t causes.TooLarge e → moved (open_left recorded place blocks o) after e
+moves-large recorded place blocks o after e None top some named low names r = absurd (let k : false ≡ true = some in cc)
+moves-large recorded place blocks o after e (Some f) top some named low names r = by-path (slice_get f.named f.next) refl names r
   where
-    by-path : (p : Option Bytes) → slice_get f.named f.next ≡ p → IfSome p (λ path. IsFound TooLarge (told.content path)) → IfSome p (λ path. Refuses (line_errors.Refused causes.TooLarge) path 0 e) → moved (open_left told place blocks o) after e
+    by-path : (p : Option Bytes) → slice_get f.named f.next ≡ p → IfSome p (λ path. IsFound TooLarge (recorded.content path)) → IfSome p (λ path. Refuses (line_errors.Refused causes.TooLarge) path 0 e) → moved (open_left recorded place blocks o) after e
     by-path None at h k = absurd (past f.named f.next named.1 at)
-    by-path (Some path) at h k = let text = large-text (told.content path) h in moves-refused (open_left told place blocks o) after path 0 causes.TooLarge e k (large-refused told place blocks o f path text.0 top named.0 at text.1.0 low text.1.1)
+    by-path (Some path) at h k = let text = large-text (recorded.content path) h in moves-refused (open_left recorded place blocks o) after path 0 causes.TooLarge e k (large-refused recorded place blocks o f path text.0 top named.0 at text.1.0 low text.1.1)
 
 -- what a file holds that was found
-pub holds-names : (told : Told) (text : Bytes) (t : Option OpenFile) → IsSome t → IfSome t named_one → Names t (λ path. IsFound (Holds text) (told.content path)) → Names t (λ path. told.content path ≡ Some text) × (nat_lt size_limit (length text) ≡ false)
-holds-names told text None some named names = absurd (let k : false ≡ true = some in cc)
-holds-names told text (Some f) some named names = by-path (slice_get f.named f.next) refl names
+pub holds-names : (recorded : Recorded) (text : Bytes) (t : Option OpenFile) → IsSome t → IfSome t named_one → Names t (λ path. IsFound (Holds text) (recorded.content path)) → Names t (λ path. recorded.content path ≡ Some text) × (nat_lt size_limit (length text) ≡ false)
+holds-names recorded text None some named names = absurd (let k : false ≡ true = some in cc)
+holds-names recorded text (Some f) some named names = by-path (slice_get f.named f.next) refl names
   where
-    by-path : (p : Option Bytes) → slice_get f.named f.next ≡ p → IfSome p (λ path. IsFound (Holds text) (told.content path)) → IfSome p (λ path. told.content path ≡ Some text) × (nat_lt size_limit (length text) ≡ false)
+    by-path : (p : Option Bytes) → slice_get f.named f.next ≡ p → IfSome p (λ path. IsFound (Holds text) (recorded.content path)) → IfSome p (λ path. recorded.content path ≡ Some text) × (nat_lt size_limit (length text) ≡ false)
     by-path None at h = absurd (past f.named f.next named.1 at)
     by-path (Some path) at h = h
 
@@ -173,8 +173,8 @@ one-left-path (x ∷ xs) zero p e = omega arith
 one-left-path (x ∷ xs) (suc i) p e = let k = one-left-path xs i p e in omega (arith, k)
 
 -- what was found at the path that is opened next
-pub found-names : (told : Told) (found : Found) (f : OpenFile) (path : Bytes) → slice_get f.named f.next ≡ Some path → IsFound found (told.content path) → Names (Some f) (λ path. IsFound found (told.content path))
-found-names told found f path named is = rw named is
+pub found-names : (recorded : Recorded) (found : Found) (f : OpenFile) (path : Bytes) → slice_get f.named f.next ≡ Some path → IsFound found (recorded.content path) → Names (Some f) (λ path. IsFound found (recorded.content path))
+found-names recorded found f path named is = rw named is
 
 -- what a step did to what was left, it did to what was left before
 pub moved-before : (before now : List Line) (e : ResolveError) → before ≡ now → moved now [] e → moved before [] e

@@ -3,7 +3,7 @@ use Rattle.std.specs.Prelude.{Bool, true, not, ◌&&◌, ◌||◌, nat_le, is_so
 use Rattle.std.specs.List.{list_all}
 use Rattle.conf_rules.specs.Texts.{is_empty}
 use Rattle.conf_rules.specs.Sources.{depth_limit}
-use Rattle.conf_reader.specs.declared.reader.Lines.{Lines}
+use Rattle.conf_reader.specs.declared.lines.Lines.{Lines}
 use Rattle.conf_reader.specs.declared.stack.OpenFiles.{OpenFiles}
 use Rattle.conf_reader.specs.Left.{stack, is_expanded, is_counted}
 

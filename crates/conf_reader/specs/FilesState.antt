@@ -8,14 +8,14 @@ use Rattle.conf_rules.specs.Texts.{Bytes}
 -- the paths and contents of all files, how often a call failed, and, where they are told, at which
 -- paths, and which calls of `read` there were
 pub record FilesState : Type 0 where
-  pub told : Option (List Pair)
+  pub recorded : Option (List Pair)
   pub faults : ℕ
   pub failed : Option (List Bytes)
   pub readings : Option (List Reading)
 
 abbrev pub state_of : {F : Type 0} → TheFiles F → F → FilesState
 state_of the files = record {
-  told = the.told files;
+  recorded = the.recorded files;
   faults = the.faults files;
   failed = the.failed files;
   readings = the.readings files;

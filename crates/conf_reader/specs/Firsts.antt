@@ -3,7 +3,7 @@ use Rattle.std.specs.Prelude.{true, false, List, [], ◌∷◌, ◌++◌, Option
 use Rattle.conf_rules.specs.declared.asked.ConfigFrom.{ConfigFrom}
 use Rattle.conf_rules.specs.declared.asked.ConfigFrom.TheVariants.{Standard, Nothing, File}
 use Rattle.conf_rules.specs.Texts.{Bytes}
-use Rattle.conf_reader.specs.declared.reader.FirstFile.{FirstFile}
+use Rattle.conf_reader.specs.declared.lines.FirstFile.{FirstFile}
 
 -- the user's file, where the home is known
 abbrev pub user_files : Option Bytes → List FirstFile

@@ -8,10 +8,10 @@ use Rattle.conf_rules.specs.Heads.{Heading, Comment, Says, head_of, lines_of}
 use Rattle.conf_rules.specs.declared.causes.LexError.{LexError}
 use Rattle.conf_rules.specs.declared.causes.Cause.TheVariants as causes
 use Rattle.conf_reader.specs.declared.open_file.Said.{Said}
-use Rattle.conf_reader.specs.declared.open_file.Next.{Next}
+use Rattle.conf_reader.specs.declared.open_file.NextFile.{NextFile}
 use Rattle.conf_reader.specs.declared.errors.LineError.{LineError}
 use Rattle.conf_rules.specs.Words.{words_of}
-use Rattle.conf_rules.specs.Told.{Told}
+use Rattle.conf_rules.specs.Recorded.{Recorded}
 use Rattle.conf_rules.specs.Includes.{Source, UserFile, SystemFile, ConfFile, file_at, words_named, paths_of, globbed}
 use Rattle.conf_rules.specs.Sources.{Line, Where, lines_in, file_lines, each_file, too_deep, with_files, included, depth_limit, first_file, named_lines}
 use Rattle.conf_rules.specs.declared.causes.Cause.{Cause}
@@ -23,8 +23,8 @@ use Rattle.conf_rules.specs.Resolution.{is_asked}
 use Rattle.conf_reader.specs.declared.line.ConfLine.{ConfLine}
 use Rattle.conf_reader.specs.declared.open_file.OpenFile.{OpenFile}
 use Rattle.conf_reader.specs.declared.stack.OpenFiles.{OpenFiles}
-use Rattle.conf_reader.specs.declared.reader.FirstFile.{FirstFile}
-use Rattle.conf_reader.specs.declared.reader.Lines.{Lines}
+use Rattle.conf_reader.specs.declared.lines.FirstFile.{FirstFile}
+use Rattle.conf_reader.specs.declared.lines.Lines.{Lines}
 use Rattle.conf_reader.specs.declared.stack.Stand.{Stand}
 use Rattle.conf_reader.specs.declared.stack.Stand.TheVariants as stands
 use Rattle.conf_reader.specs.declared.files.Found.{Found}
@@ -39,43 +39,43 @@ source_of true = SystemFile
 source_of false = UserFile
 
 -- the files that an open file's last line names, and that aren't opened yet
-abbrev pub frame_files : Told → Source → OpenFile → Result (List ConfFile) TokenError
-frame_files told source f = elim f.include [
-  | None ↦ Ok (flat_map (file_at told) (drop f.next f.named))
-  | Some rest ↦ words_named source told (words_of rest)
+abbrev pub frame_files : Recorded → Source → OpenFile → Result (List ConfFile) TokenError
+frame_files recorded source f = elim f.include [
+  | None ↦ Ok (flat_map (file_at recorded) (drop f.next f.named))
+  | Some rest ↦ words_named source recorded (words_of rest)
 ]
 
 -- one more file below a line at a depth
-abbrev pub one_below : Told → Source → ℕ → List ℕ → ℕ → ConfFile → List Line
-one_below told source depth blocks start f =
-    file_lines (included source told (depth_limit - (depth + 1)) (depth + 1))
+abbrev pub one_below : Recorded → Source → ℕ → List ℕ → ℕ → ConfFile → List Line
+one_below recorded source depth blocks start f =
+    file_lines (included source recorded (depth_limit - (depth + 1)) (depth + 1))
     (record { source = source; depth = depth + 1; outer = blocks }) start f
 
 -- the lines of files that a line at a depth names
-unfoldable pub deeper : Told → Source → ℕ → List ℕ → Bytes → ℕ → ℕ
+unfoldable pub deeper : Recorded → Source → ℕ → List ℕ → Bytes → ℕ → ℕ
     → Result (List ConfFile) TokenError → List Line
-deeper told source depth blocks file number place files =
+deeper recorded source depth blocks file number place files =
     let here : Where = record { source = source; depth = depth; outer = blocks } in
     with_files here file number (if depth == depth_limit then too_deep here file number
-    else each_file (one_below told source depth blocks) place) files
+    else each_file (one_below recorded source depth blocks) place) files
 
 -- what is left of an open file
-unfoldable pub frame_left : Told → Source → ℕ → List ℕ → Option ℕ → OpenFile → ℕ → List Line
-frame_left told source depth outer own f place =
-    let inner = deeper told source depth (outer ++ option_to_list own) f.path (f.number - 1) place
-    (frame_files told source f) in
-    inner ++ lines_in (included source told (depth_limit - depth) depth)
+unfoldable pub frame_left : Recorded → Source → ℕ → List ℕ → Option ℕ → OpenFile → ℕ → List Line
+frame_left recorded source depth outer own f place =
+    let inner = deeper recorded source depth (outer ++ option_to_list own) f.path (f.number - 1) place
+    (frame_files recorded source f) in
+    inner ++ lines_in (included source recorded (depth_limit - depth) depth)
     (record { source = source; depth = depth; outer = outer }) f.path (place + length inner)
     f.number own (lines_of (drop f.at f.text))
 
 -- what is left of open files, the first file first
-abbrev pub frames_left : Told → Source → ℕ → List ℕ → List OpenFile → Blocks → ℕ → List Line
-frames_left told source depth outer [] blocks place = []
-frames_left told source depth outer (f ∷ fs) blocks place =
+abbrev pub frames_left : Recorded → Source → ℕ → List ℕ → List OpenFile → Blocks → ℕ → List Line
+frames_left recorded source depth outer [] blocks place = []
+frames_left recorded source depth outer (f ∷ fs) blocks place =
     let own = or_none (slice_get blocks 0) in
-    let inner = frames_left told source (depth + 1) (outer ++ option_to_list own) fs
+    let inner = frames_left recorded source (depth + 1) (outer ++ option_to_list own) fs
     (drop 1 blocks) place in
-    inner ++ frame_left told source depth outer own f (place + length inner)
+    inner ++ frame_left recorded source depth outer own f (place + length inner)
 
 -- ---- open files
 
@@ -88,15 +88,15 @@ abbrev pub cur : OpenFiles → Blocks → Blocks
 cur o blocks = if o.fresh then take (length o.below.items) blocks else blocks
 
 -- what is left of open files of which no line of the last was given yet, or some was
-abbrev pub parts_left : Told → ℕ → Blocks → Bool → List OpenFile → Option OpenFile
+abbrev pub parts_left : Recorded → ℕ → Blocks → Bool → List OpenFile → Option OpenFile
     → Bool → List Line
-parts_left told place blocks system below top fresh =
-    frames_left told (source_of system) 0 [] (below ++ option_to_list top) (if fresh
+parts_left recorded place blocks system below top fresh =
+    frames_left recorded (source_of system) 0 [] (below ++ option_to_list top) (if fresh
     then take (length below) blocks else blocks) place
 
 -- what is left of all open files
-abbrev pub open_left : Told → ℕ → Blocks → OpenFiles → List Line
-open_left told place blocks o = parts_left told place blocks o.system o.below.items o.top o.fresh
+abbrev pub open_left : Recorded → ℕ → Blocks → OpenFiles → List Line
+open_left recorded place blocks o = parts_left recorded place blocks o.system o.below.items o.top o.fresh
 
 -- whether an open file names no more files
 abbrev pub IsSettled : OpenFile → Type 0
@@ -200,7 +200,7 @@ heading_of None = Comment
 heading_of (Some said) = Says said.keyword said.rest
 
 -- what reading the next line of an open file gave
-abbrev pub HeadIs : OpenFile → Result Next LineError → Type 0
+abbrev pub HeadIs : OpenFile → Result NextFile LineError → Type 0
 HeadIs f (Ok next) = NextLine f next.next (Ok (heading_of next.said))
 HeadIs f (Err line_errors.OutOfMemory) = Unit {0}
 HeadIs f (Err (line_errors.Refused cause)) = (next : ℕ)
@@ -214,17 +214,17 @@ pub record IsComment (line : Line) : Type 0 where
   pub head : head_of bytes ≡ Ok Comment
   pub asked : is_asked line.source ≡ false
 
-pub record SkipsComment (told : Told) (place : ℕ) (blocks : Blocks) (old new : OpenFiles) :
+pub record SkipsComment (recorded : Recorded) (place : ℕ) (blocks : Blocks) (old new : OpenFiles) :
     Type 0 where
   pub line : Line
-  pub left : open_left told place blocks old ≡ line ∷ open_left told (place + 1) blocks new
+  pub left : open_left recorded place blocks old ≡ line ∷ open_left recorded (place + 1) blocks new
   pub comment : IsComment line
 
-pub record GivesLine (told : Told) (place : ℕ) (blocks : Blocks) (old new : OpenFiles)
+pub record GivesLine (recorded : Recorded) (place : ℕ) (blocks : Blocks) (old new : OpenFiles)
     (given : ConfLine) : Type 0 where
   pub line : Line
-  pub left : open_left told place blocks old ≡ line
-      ∷ open_left told (place + 1) (open_behind given place blocks) new
+  pub left : open_left recorded place blocks old ≡ line
+      ∷ open_left recorded (place + 1) (open_behind given place blocks) new
   pub is_line : IsLine given blocks line
   pub source : line.source ≡ source_of new.system
 
@@ -240,13 +240,13 @@ pub record RefusesHead (left : List Line) (file : Bytes) (number : ℕ) (cause :
   pub head : head_of bytes ≡ Err error
   pub cause_is : cause ≡ causes.Lex error
 
-abbrev pub Takes : Told → ℕ → Blocks → OpenFiles → OpenFiles
+abbrev pub Takes : Recorded → ℕ → Blocks → OpenFiles → OpenFiles
     → Result (Option ConfLine) ResolveError → Type 0
-Takes told place blocks old new (Ok None) = SkipsComment told place blocks old new
-Takes told place blocks old new (Ok (Some given)) = GivesLine told place blocks old new given
-Takes told place blocks old new (Err OutOfMemory) = Unit {0}
-Takes told place blocks old new (Err (At file number cause)) =
-    RefusesHead (open_left told place blocks old) file number cause
+Takes recorded place blocks old new (Ok None) = SkipsComment recorded place blocks old new
+Takes recorded place blocks old new (Ok (Some given)) = GivesLine recorded place blocks old new given
+Takes recorded place blocks old new (Err OutOfMemory) = Unit {0}
+Takes recorded place blocks old new (Err (At file number cause)) =
+    RefusesHead (open_left recorded place blocks old) file number cause
 
 -- a given line is what the last open file says
 pub record GivenBy (o : OpenFiles) (f : OpenFile) (said : Said) (given : ConfLine) : Type 0 where
@@ -271,10 +271,10 @@ include_of said = if same_word said.keyword (codes "include") then Some said.res
 -- ---- the paths of an Include line
 
 -- the paths that a rest names
-abbrev pub named_by : Source → Told → Result (List Bytes) LexError → Result (List Bytes) TokenError
-named_by source told (Err e) = Ok []
-named_by source told (Ok words) = paths_of source told words >>= λ paths.
-    Ok (flat_map (globbed told) paths)
+abbrev pub named_by : Source → Recorded → Result (List Bytes) LexError → Result (List Bytes) TokenError
+named_by source recorded (Err e) = Ok []
+named_by source recorded (Ok words) = paths_of source recorded words >>= λ paths.
+    Ok (flat_map (globbed recorded) paths)
 
 -- what came of finding them
 abbrev pub FoundPaths : Result (List Bytes) LineError → Result (List Bytes) TokenError → Type 0
@@ -291,34 +291,34 @@ named_as paths f = record f { include = None; named = paths; next = 0 }
 
 -- the lines of a first file at a place: one that is required must be there, and another is skipped
 -- where it isn't
-abbrev pub first_left : Told → ℕ → FirstFile → List Line
-first_left told place f = if f.required then named_lines told place f.path (told.content f.path)
-    else each_file (first_file (source_of f.system) told) place (file_at told f.path)
+abbrev pub first_left : Recorded → ℕ → FirstFile → List Line
+first_left recorded place f = if f.required then named_lines recorded place f.path (recorded.content f.path)
+    else each_file (first_file (source_of f.system) recorded) place (file_at recorded f.path)
 
 -- the lines of first files from a place on
-abbrev pub firsts_left : Told → ℕ → List FirstFile → List Line
-firsts_left told place [] = []
-firsts_left told place (f ∷ fs) = let here = first_left told place f in
-    here ++ firsts_left told (place + length here) fs
+abbrev pub firsts_left : Recorded → ℕ → List FirstFile → List Line
+firsts_left recorded place [] = []
+firsts_left recorded place (f ∷ fs) = let here = first_left recorded place f in
+    here ++ firsts_left recorded (place + length here) fs
 
 -- what a reader has still to give
-abbrev pub left : Told → ℕ → Blocks → Lines → List Line
-left told place blocks r = let o = open_left told place blocks r.open_files in
-    o ++ firsts_left told (place + length o) (drop r.next_first r.firsts.items)
+abbrev pub left : Recorded → ℕ → Blocks → Lines → List Line
+left recorded place blocks r = let o = open_left recorded place blocks r.open_files in
+    o ++ firsts_left recorded (place + length o) (drop r.next_first r.firsts.items)
 
 -- a required file is a user's
 abbrev pub is_plain_first : FirstFile → Bool
 is_plain_first f = if f.required then not f.system else true
 
 -- the first file that is opened next holds this text
-abbrev pub BeginsWith : Told → Lines → Bytes → Type 0
-BeginsWith told r text =
-    IfSome (slice_get r.firsts.items r.next_first) (λ f. (told.content f.path ≡ Some text)
+abbrev pub BeginsWith : Recorded → Lines → Bytes → Type 0
+BeginsWith recorded r text =
+    IfSome (slice_get r.firsts.items r.next_first) (λ f. (recorded.content f.path ≡ Some text)
     × (nat_lt size_limit (length text) ≡ false))
 
 -- the first file that is opened next isn't there, and needn't be
-abbrev pub IsLacking : Told → Lines → Type 0
-IsLacking told r = IfSome (slice_get r.firsts.items r.next_first) (λ f. (told.content f.path ≡ None)
+abbrev pub IsLacking : Recorded → Lines → Type 0
+IsLacking recorded r = IfSome (slice_get r.firsts.items r.next_first) (λ f. (recorded.content f.path ≡ None)
     × (f.required ≡ false))
 
 -- so many files are open of which a line was given, at most

@@ -9,7 +9,7 @@ use Rattle.conf_rules.specs.declared.causes.Cause.TheVariants as causes
 use Rattle.conf_rules.specs.declared.causes.ResolveError.{ResolveError}
 use Rattle.conf_rules.specs.declared.causes.ResolveError.TheVariants.{At, OutOfMemory}
 use Rattle.conf_rules.specs.Texts.{Bytes, same_word}
-use Rattle.conf_rules.specs.Told.{Told}
+use Rattle.conf_rules.specs.Recorded.{Recorded}
 use Rattle.conf_rules.specs.Includes.{Source}
 use Rattle.conf_rules.specs.Looks.{looks_at}
 use Rattle.conf_reader.specs.declared.errors.LineError.{LineError}
@@ -17,8 +17,8 @@ use Rattle.conf_reader.specs.declared.errors.LineError.TheVariants as line_error
 use Rattle.conf_reader.specs.declared.line.ConfLine.{ConfLine}
 use Rattle.conf_reader.specs.declared.open_file.OpenFile.{OpenFile}
 use Rattle.conf_reader.specs.declared.stack.OpenFiles.{OpenFiles}
-use Rattle.conf_reader.specs.declared.reader.FirstFile.{FirstFile}
-use Rattle.conf_reader.specs.declared.reader.Lines.{Lines}
+use Rattle.conf_reader.specs.declared.lines.FirstFile.{FirstFile}
+use Rattle.conf_reader.specs.declared.lines.Lines.{Lines}
 use Rattle.conf_reader.specs.Left.{source_of, stack}
 
 -- ---- what failed, call by call
@@ -56,32 +56,32 @@ abbrev pub Test : Type 0
 Test = Bytes → ℕ → Bytes → Bool
 
 -- what the last line of an open file has still to look at
-abbrev pub to_look : Told → Source → OpenFile → List Bytes
-to_look told source f = elim f.include [
+abbrev pub to_look : Recorded → Source → OpenFile → List Bytes
+to_look recorded source f = elim f.include [
   | None ↦ drop f.next f.named
-  | Some rest ↦ looks_at source told rest
+  | Some rest ↦ looks_at source recorded rest
 ]
 
 -- whether all that an open file has still to look at may be told at its last line
-abbrev pub meets_in : Test → Told → Source → OpenFile → Bool
-meets_in test told source f = list_all (test f.path (f.number - 1)) (to_look told source f)
+abbrev pub meets_in : Test → Recorded → Source → OpenFile → Bool
+meets_in test recorded source f = list_all (test f.path (f.number - 1)) (to_look recorded source f)
 
 -- the same of all open files
-abbrev pub meets : Test → Told → OpenFiles → Bool
-meets test told o = list_all (meets_in test told (source_of o.system)) (stack o)
+abbrev pub meets : Test → Recorded → OpenFiles → Bool
+meets test recorded o = list_all (meets_in test recorded (source_of o.system)) (stack o)
 
 -- whether each first file may be told before its first line
 abbrev pub firsts_meet : Test → List FirstFile → Bool
 firsts_meet test firsts = list_all (λ f. test f.path 0 f.path) firsts
 
 -- whether all that a reader has still to look at may be told there
-abbrev pub all_meet : Test → Told → Lines → Bool
-all_meet test told r = meets test told r.open_files && firsts_meet test r.firsts.items
+abbrev pub all_meet : Test → Recorded → Lines → Bool
+all_meet test recorded r = meets test recorded r.open_files && firsts_meet test r.firsts.items
 
 -- whether all that a given line looks at may be told at it
-abbrev pub line_meets : Test → Told → Source → ConfLine → Bool
-line_meets test told source line = if same_word line.keyword (codes "include")
-    then list_all (test line.file line.number) (looks_at source told line.rest) else true
+abbrev pub line_meets : Test → Recorded → Source → ConfLine → Bool
+line_meets test recorded source line = if same_word line.keyword (codes "include")
+    then list_all (test line.file line.number) (looks_at source recorded line.rest) else true
 
 -- one more path failed, and it may be told there
 pub record FailsAt (test : Test) (file : Bytes) (number : ℕ) (before now : Option (List Bytes)) :
@@ -92,25 +92,25 @@ pub record FailsAt (test : Test) (file : Bytes) (number : ℕ) (before now : Opt
 
 -- a failed read is told where its path may be, and no other answer comes behind one, nor does want
 -- of memory
-abbrev pub TellsFailed : {A : Type 0} → Test → Result A ResolveError → Option (List Bytes)
+abbrev pub RecordsFailed : {A : Type 0} → Test → Result A ResolveError → Option (List Bytes)
     → Option (List Bytes) → Type 0
-TellsFailed test (Ok x) before now = now ≡ before
-TellsFailed test (Err OutOfMemory) before now = now ≡ before
-TellsFailed test (Err (At file number causes.ReadFault)) before now =
+RecordsFailed test (Ok x) before now = now ≡ before
+RecordsFailed test (Err OutOfMemory) before now = now ≡ before
+RecordsFailed test (Err (At file number causes.ReadFault)) before now =
     FailsAt test file number before now
-TellsFailed test (Err (At file number cause)) before now = now ≡ before
+RecordsFailed test (Err (At file number cause)) before now = now ≡ before
 
 -- ---- what steps do
 
 -- what meets a test goes on meeting it
 abbrev pub KeepsLooks : OpenFiles → OpenFiles → Type 0
 KeepsLooks old new =
-    (told : Told) (test : Test) → meets test told old ≡ true → meets test told new ≡ true
+    (recorded : Recorded) (test : Test) → meets test recorded old ≡ true → meets test recorded new ≡ true
 
 -- the same of a line that is taken, where what it looks at meets the test
 abbrev pub TakesLooks : OpenFiles → OpenFiles → Result (Option ConfLine) ResolveError → Type 0
 TakesLooks old new (Ok None) = KeepsLooks old new
 TakesLooks old new (Ok (Some line)) =
-    (told : Told) (test : Test) → meets test told old ≡ true
-    → line_meets test told (source_of new.system) line ≡ true → meets test told new ≡ true
+    (recorded : Recorded) (test : Test) → meets test recorded old ≡ true
+    → line_meets test recorded (source_of new.system) line ≡ true → meets test recorded new ≡ true
 TakesLooks old new (Err e) = Unit {0}

@@ -4,14 +4,14 @@ use Rattle.std.specs.Bool.{MatchBool}
 use Rattle.mux_outside.specs.declared.pairs.Pair.{Pair}
 use Rattle.conf_rules.specs.declared.causes.ResolveError.{ResolveError}
 use Rattle.conf_rules.specs.Texts.{Bytes}
-use Rattle.conf_rules.specs.Told.{Facts, Told}
+use Rattle.conf_rules.specs.Recorded.{Facts, Recorded}
 use Rattle.conf_reader.specs.declared.line.ConfLine.{ConfLine}
 use Rattle.conf_reader.specs.declared.open_file.OpenFile.{OpenFile}
-use Rattle.conf_reader.specs.declared.reader.Lines.{Lines}
-use Rattle.conf_reader.specs.declared.reader.Step.{Step}
+use Rattle.conf_reader.specs.declared.lines.Lines.{Lines}
+use Rattle.conf_reader.specs.declared.lines.ReadStep.{ReadStep}
 use Rattle.conf_reader.specs.declared.stack.OpenFiles.{OpenFiles}
 use Rattle.conf_reader.specs.Blocks.{Blocks}
-use Rattle.conf_reader.specs.Known.{TellsFiles}
+use Rattle.conf_reader.specs.Known.{RecordsFiles}
 use Rattle.conf_reader.specs.Left.{open_left, left, Moves, IsReady, IsSettled, Bounded}
 use Rattle.conf_reader.specs.Reads.{OneLine, Reads}
 
@@ -32,8 +32,8 @@ Settles top found = MatchBool found (IsAtLine top × IsSome top) (top ≡ None)
 -- as much is left as before
 abbrev pub KeepsLeft : OpenFiles → OpenFiles → Type 0
 KeepsLeft old new =
-    (told : Told) (place : ℕ) (blocks : Blocks)
-    → open_left told place blocks old ≡ open_left told place blocks new
+    (recorded : Recorded) (place : ℕ) (blocks : Blocks)
+    → open_left recorded place blocks old ≡ open_left recorded place blocks new
 
 -- no more files are open of which a line was given
 abbrev pub KeepsBounds : OpenFiles → OpenFiles → Type 0
@@ -48,16 +48,16 @@ pub record GoesOn (old new : OpenFiles) : Type 0 where
 abbrev pub MovesOver : {A : Type 0} →
     Option (List Pair) → OpenFiles → OpenFiles → Result A ResolveError → Type 0
 MovesOver files old new result =
-    (told : Told) (place : ℕ) (blocks : Blocks) → TellsFiles files told
-    → Moves (open_left told place blocks old) (open_left told place blocks new) result
+    (recorded : Recorded) (place : ℕ) (blocks : Blocks) → RecordsFiles files recorded
+    → Moves (open_left recorded place blocks old) (open_left recorded place blocks new) result
 
 -- the same of one that looks at the machine too
 abbrev pub ExpandsOver : {A : Type 0} →
     Option (List Pair) → Facts → Bytes → OpenFiles → OpenFiles → Result A ResolveError → Type 0
 ExpandsOver files facts original old new result =
-    (told : Told) (place : ℕ) (blocks : Blocks)
-    → TellsFiles files told → told.facts ≡ facts → told.asked.original ≡ original
-    → Moves (open_left told place blocks old) (open_left told place blocks new) result
+    (recorded : Recorded) (place : ℕ) (blocks : Blocks)
+    → RecordsFiles files recorded → recorded.facts ≡ facts → recorded.asked.original ≡ original
+    → Moves (open_left recorded place blocks old) (open_left recorded place blocks new) result
 
 -- ---- all files
 
@@ -65,8 +65,8 @@ ExpandsOver files facts original old new result =
 abbrev pub AllMove : {A : Type 0} →
     Option (List Pair) → Lines → Lines → Result A ResolveError → Type 0
 AllMove files old new result =
-    (told : Told) (place : ℕ) (blocks : Blocks) → TellsFiles files told
-    → Moves (left told place blocks old) (left told place blocks new) result
+    (recorded : Recorded) (place : ℕ) (blocks : Blocks) → RecordsFiles files recorded
+    → Moves (left recorded place blocks old) (left recorded place blocks new) result
 
 -- what a step over all files did to the lines: it left those that are left, the first files and the
 -- count of lines as they were, or it refused; and the next one can be done
@@ -81,30 +81,30 @@ pub record MovesLines {A : Type 0} (files : Option (List Pair)) (old new : Lines
 abbrev pub AllExpand : {A : Type 0} →
     Option (List Pair) → Facts → Bytes → Lines → Lines → Result A ResolveError → Type 0
 AllExpand files facts original old new result =
-    (told : Told) (place : ℕ) (blocks : Blocks)
-    → TellsFiles files told → told.facts ≡ facts → told.asked.original ≡ original
-    → Moves (left told place blocks old) (left told place blocks new) result
+    (recorded : Recorded) (place : ℕ) (blocks : Blocks)
+    → RecordsFiles files recorded → recorded.facts ≡ facts → recorded.asked.original ≡ original
+    → Moves (left recorded place blocks old) (left recorded place blocks new) result
 
 -- where files tell, one line was taken
-abbrev pub TakesOne : Option (List Pair) → Lines → Lines → Result Step ResolveError → Type 0
+abbrev pub TakesOne : Option (List Pair) → Lines → Lines → Result ReadStep ResolveError → Type 0
 TakesOne files old new result =
-    (told : Told) (place : ℕ) (blocks : Blocks)
-    → TellsFiles files told → place ≡ length told.asked.lines + old.read
-    → Bounded old.open_files (length blocks) → OneLine told place blocks old new result
+    (recorded : Recorded) (place : ℕ) (blocks : Blocks)
+    → RecordsFiles files recorded → place ≡ length recorded.asked.lines + old.read
+    → Bounded old.open_files (length blocks) → OneLine recorded place blocks old new result
 
 -- where files tell, the next line was read that says something
 abbrev pub ReadsOver : Option (List Pair) → Lines → Lines
     → Result (Option ConfLine) ResolveError → Type 0
 ReadsOver files old new result =
-    (told : Told) (place : ℕ) (blocks : Blocks)
-    → TellsFiles files told → place ≡ length told.asked.lines + old.read
-    → Bounded old.open_files (length blocks) → Reads told place blocks old new result
+    (recorded : Recorded) (place : ℕ) (blocks : Blocks)
+    → RecordsFiles files recorded → place ≡ length recorded.asked.lines + old.read
+    → Bounded old.open_files (length blocks) → Reads recorded place blocks old new result
 
 -- the same of a call that looks at the machine too
 abbrev pub ReadsFor : Option (List Pair) → Facts → Bytes → Lines → Lines
     → Result (Option ConfLine) ResolveError → Type 0
 ReadsFor files facts original old new result =
-    (told : Told) (place : ℕ) (blocks : Blocks)
-    → TellsFiles files told → told.facts ≡ facts → told.asked.original ≡ original
-    → place ≡ length told.asked.lines + old.read
-    → Bounded old.open_files (length blocks) → Reads told place blocks old new result
+    (recorded : Recorded) (place : ℕ) (blocks : Blocks)
+    → RecordsFiles files recorded → recorded.facts ≡ facts → recorded.asked.original ≡ original
+    → place ≡ length recorded.asked.lines + old.read
+    → Bounded old.open_files (length blocks) → Reads recorded place blocks old new result

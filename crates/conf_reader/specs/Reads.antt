@@ -3,9 +3,9 @@ use Rattle.std.specs.Prelude.{◌≡◌, ℕ, ◌+◌, ◌-◌, ◌<◌, ◌≤�
 use Rattle.conf_rules.specs.declared.causes.Cause.{Cause}
 use Rattle.conf_rules.specs.declared.causes.ResolveError.{ResolveError}
 use Rattle.conf_rules.specs.declared.causes.ResolveError.TheVariants.{At, OutOfMemory}
-use Rattle.conf_rules.specs.declared.entry.Entry.TheVariants.{Nothing}
+use Rattle.conf_rules.specs.declared.entry.LineContent.TheVariants.{Nothing}
 use Rattle.conf_rules.specs.declared.limits.TheConstants.{MAX_LINES}
-use Rattle.conf_rules.specs.Told.{Told}
+use Rattle.conf_rules.specs.Recorded.{Recorded}
 use Rattle.conf_rules.specs.Diagnostics.{is_fault}
 use Rattle.conf_rules.specs.Sources.{Line}
 use Rattle.conf_rules.specs.Rows.{Row}
@@ -13,9 +13,9 @@ use Rattle.conf_rules.specs.Entries.{entry_of}
 use Rattle.conf_rules.specs.Resolution.{counted, is_past_limit}
 use Rattle.conf_reader.specs.declared.line.ConfLine.{ConfLine}
 use Rattle.conf_reader.specs.declared.line_reader.LineReader.{LineReader}
-use Rattle.conf_reader.specs.declared.reader.Lines.{Lines}
-use Rattle.conf_reader.specs.declared.reader.Step.{Step}
-use Rattle.conf_reader.specs.declared.reader.Step.TheVariants as steps
+use Rattle.conf_reader.specs.declared.lines.Lines.{Lines}
+use Rattle.conf_reader.specs.declared.lines.ReadStep.{ReadStep}
+use Rattle.conf_reader.specs.declared.lines.ReadStep.TheVariants as steps
 use Rattle.conf_reader.specs.Blocks.{Blocks, IsLine, open_behind}
 use Rattle.conf_reader.specs.Left.{left, source_of, stack, Bounded, IsGiven}
 
@@ -24,49 +24,49 @@ abbrev pub open_count : Lines → ℕ
 open_count r = length (stack r.open_files)
 
 -- a line says nothing, whatever stands before it
-abbrev pub IsIdle : Told → ℕ → Line → Type 0
-IsIdle told place line = (rows : List Row) → counted told entry_of rows line place ≡ Ok Nothing
+abbrev pub IsIdle : Recorded → ℕ → Line → Type 0
+IsIdle recorded place line = (rows : List Row) → counted recorded entry_of rows line place ≡ Ok Nothing
 
 -- lines from a place on say nothing
-abbrev pub AreIdle : Told → ℕ → List Line → Type 0
-AreIdle told place [] = Unit {0}
-AreIdle told place (l ∷ ls) = IsIdle told place l × AreIdle told (place + 1) ls
+abbrev pub AreIdle : Recorded → ℕ → List Line → Type 0
+AreIdle recorded place [] = Unit {0}
+AreIdle recorded place (l ∷ ls) = IsIdle recorded place l × AreIdle recorded (place + 1) ls
 
 -- behind comments a line is given
-pub record GivesNext (told : Told) (place : ℕ) (blocks : Blocks) (old new : Lines)
+pub record GivesNext (recorded : Recorded) (place : ℕ) (blocks : Blocks) (old new : Lines)
     (given : ConfLine) : Type 0 where
   pub comments : List Line
   pub line : Line
-  pub is : left told place blocks old ≡ comments ++ line
-      ∷ left told (place + length comments + 1)
+  pub is : left recorded place blocks old ≡ comments ++ line
+      ∷ left recorded (place + length comments + 1)
       (open_behind given (place + length comments) blocks) new
-  pub idle : AreIdle told place comments
+  pub idle : AreIdle recorded place comments
   pub is_line : IsLine given blocks line
-  pub within : is_past_limit told line (place + length comments) ≡ false
-  pub count : place + length comments + 1 ≡ length told.asked.lines + new.read
+  pub within : is_past_limit recorded line (place + length comments) ≡ false
+  pub count : place + length comments + 1 ≡ length recorded.asked.lines + new.read
   pub source : line.source ≡ source_of new.open_files.system
 
 -- behind comments a line is refused, whatever stands before it
-pub record RefusesNext (told : Told) (place : ℕ) (left : List Line) (file : List ℕ) (number : ℕ)
+pub record RefusesNext (recorded : Recorded) (place : ℕ) (left : List Line) (file : List ℕ) (number : ℕ)
     (cause : Cause) : Type 0 where
   pub comments : List Line
   pub line : Line
   pub rest : List Line
   pub is : left ≡ comments ++ line ∷ rest
-  pub idle : AreIdle told place comments
+  pub idle : AreIdle recorded place comments
   pub file_is : line.file ≡ file
   pub number_is : line.number ≡ number
   pub refused : (rows : List Row)
-      → counted told entry_of rows line (place + length comments) ≡ Err cause
+      → counted recorded entry_of rows line (place + length comments) ≡ Err cause
 
 -- what a reader did
-abbrev pub Reads : Told → ℕ → Blocks → Lines → Lines
+abbrev pub Reads : Recorded → ℕ → Blocks → Lines → Lines
     → Result (Option ConfLine) ResolveError → Type 0
-Reads told place blocks old new (Ok None) = AreIdle told place (left told place blocks old)
-Reads told place blocks old new (Ok (Some given)) = GivesNext told place blocks old new given
-Reads told place blocks old new (Err OutOfMemory) = Unit {0}
-Reads told place blocks old new (Err (At file number cause)) =
-    (is_fault cause ≡ false → RefusesNext told place (left told place blocks old) file number cause)
+Reads recorded place blocks old new (Ok None) = AreIdle recorded place (left recorded place blocks old)
+Reads recorded place blocks old new (Ok (Some given)) = GivesNext recorded place blocks old new given
+Reads recorded place blocks old new (Err OutOfMemory) = Unit {0}
+Reads recorded place blocks old new (Err (At file number cause)) =
+    (is_fault cause ≡ false → RefusesNext recorded place (left recorded place blocks old) file number cause)
 
 -- how deep a line lies
 pub record LiesAt (old new : ℕ) (given : ConfLine) : Type 0 where
@@ -77,30 +77,30 @@ pub record LiesAt (old new : ℕ) (given : ConfLine) : Type 0 where
 -- ---- one line of a reader
 
 -- what one line is to a reader
-abbrev pub OneLine : Told → ℕ → Blocks → Lines → Lines → Result Step ResolveError → Type 0
-OneLine told place blocks old new (Ok steps.End) = left told place blocks old ≡ []
-OneLine told place blocks old new (Ok steps.Comment) = (line : Line)
-    × ((left told place blocks old ≡ line ∷ left told (place + 1) blocks new)
-    × IsIdle told place line)
-OneLine told place blocks old new (Ok (steps.Given given)) = (line : Line)
-    × ((left told place blocks old ≡ line ∷ left told (place + 1) (open_behind given place blocks)
-    new) × (IsLine given blocks line × ((is_past_limit told line place ≡ false)
+abbrev pub OneLine : Recorded → ℕ → Blocks → Lines → Lines → Result ReadStep ResolveError → Type 0
+OneLine recorded place blocks old new (Ok steps.End) = left recorded place blocks old ≡ []
+OneLine recorded place blocks old new (Ok steps.Comment) = (line : Line)
+    × ((left recorded place blocks old ≡ line ∷ left recorded (place + 1) blocks new)
+    × IsIdle recorded place line)
+OneLine recorded place blocks old new (Ok (steps.Given given)) = (line : Line)
+    × ((left recorded place blocks old ≡ line ∷ left recorded (place + 1) (open_behind given place blocks)
+    new) × (IsLine given blocks line × ((is_past_limit recorded line place ≡ false)
     × (line.source ≡ source_of new.open_files.system))))
-OneLine told place blocks old new (Err OutOfMemory) = Unit {0}
-OneLine told place blocks old new (Err (At file number cause)) =
-    (is_fault cause ≡ false → RefusesNext told place (left told place blocks old) file number cause)
+OneLine recorded place blocks old new (Err OutOfMemory) = Unit {0}
+OneLine recorded place blocks old new (Err (At file number cause)) =
+    (is_fault cause ≡ false → RefusesNext recorded place (left recorded place blocks old) file number cause)
 
 -- how many lines a step counts
-abbrev pub CountsOne : Step → ℕ → ℕ → Type 0
+abbrev pub CountsOne : ReadStep → ℕ → ℕ → Type 0
 CountsOne steps.End old new = Unit {0}
 CountsOne step old new = (new ≡ old + 1) × (old < MAX_LINES)
 
 -- comments so far
-pub record SoFar (told : Told) (place : ℕ) (blocks : Blocks) (old now : Lines) : Type 0 where
+pub record SoFar (recorded : Recorded) (place : ℕ) (blocks : Blocks) (old now : Lines) : Type 0 where
   pub comments : List Line
-  pub is : left told place blocks old ≡ comments ++ left told (place + length comments) blocks now
-  pub idle : AreIdle told place comments
-  pub count : place + length comments ≡ length told.asked.lines + now.read
+  pub is : left recorded place blocks old ≡ comments ++ left recorded (place + length comments) blocks now
+  pub idle : AreIdle recorded place comments
+  pub count : place + length comments ≡ length recorded.asked.lines + now.read
   pub bounded : Bounded now.open_files (length blocks)
 
 -- ---- what holds behind a line that was given
@@ -111,7 +111,7 @@ pub record IsGivenFrom (old new : Lines) (line : ConfLine) : Type 0 where
   pub lies : (n : ℕ) → Bounded old.open_files n → LiesAt n (open_count new) line
   pub further : MAX_LINES - new.read < MAX_LINES - old.read
 
-abbrev pub GivenStep : Step → Lines → Lines → Type 0
+abbrev pub GivenStep : ReadStep → Lines → Lines → Type 0
 GivenStep (steps.Given line) old new = IsGivenFrom old new line
 GivenStep step old new = Unit {0}
 
@@ -128,7 +128,7 @@ is_spent reader = reader.over
 -- a reader gives no line any more, and none is left
 pub record IsAtEnd (reader : LineReader) : Type 0 where
   pub spent : is_spent reader ≡ true
-  pub ended : (told : Told) (place : ℕ) (blocks : Blocks) → left told place blocks reader.lines ≡ []
+  pub ended : (recorded : Recorded) (place : ℕ) (blocks : Blocks) → left recorded place blocks reader.lines ≡ []
 
 -- a reader keeps what it was made for: the facts, the host that was asked for and the first files
 pub record KeepsAsked (old new : LineReader) : Type 0 where

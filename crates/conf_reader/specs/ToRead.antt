@@ -7,49 +7,49 @@ use Rattle.conf_rules.specs.declared.causes.ResolveError.TheVariants.{OutOfMemor
 use Rattle.conf_rules.specs.Texts.{Bytes}
 use Rattle.conf_rules.specs.Heads.{lines_of}
 use Rattle.conf_rules.specs.Words.{words_of}
-use Rattle.conf_rules.specs.Told.{Told}
+use Rattle.conf_rules.specs.Recorded.{Recorded}
 use Rattle.conf_rules.specs.Includes.{Source}
 use Rattle.conf_rules.specs.Sources.{depth_limit, size_limit}
 use Rattle.conf_rules.specs.ReadOrder.{paths_in, read_along, read_by, read_first}
 use Rattle.conf_reader.specs.declared.open_file.OpenFile.{OpenFile}
 use Rattle.conf_reader.specs.declared.stack.OpenFiles.{OpenFiles}
-use Rattle.conf_reader.specs.declared.reader.FirstFile.{FirstFile}
-use Rattle.conf_reader.specs.declared.reader.Lines.{Lines}
+use Rattle.conf_reader.specs.declared.lines.FirstFile.{FirstFile}
+use Rattle.conf_reader.specs.declared.lines.Lines.{Lines}
 use Rattle.conf_reader.specs.Left.{source_of, stack}
 
 -- ---- what is still to be read
 
 -- the paths that an open file's last line names, and that aren't read yet
-abbrev pub names_left : Told → Source → OpenFile → List Bytes
-names_left told source f = elim f.include [
+abbrev pub names_left : Recorded → Source → OpenFile → List Bytes
+names_left recorded source f = elim f.include [
   | None ↦ drop f.next f.named
-  | Some rest ↦ paths_in source told (words_of rest)
+  | Some rest ↦ paths_in source recorded (words_of rest)
 ]
 
 -- what an open file at a depth has still to read
-abbrev pub file_reads : Told → Source → ℕ → OpenFile → List Bytes
-file_reads told source depth f =
-    read_along source told (depth_limit - depth) (names_left told source f)
-    ++ flat_map (read_by source told (depth_limit - depth)) (lines_of (drop f.at f.text))
+abbrev pub file_reads : Recorded → Source → ℕ → OpenFile → List Bytes
+file_reads recorded source depth f =
+    read_along source recorded (depth_limit - depth) (names_left recorded source f)
+    ++ flat_map (read_by source recorded (depth_limit - depth)) (lines_of (drop f.at f.text))
 
 -- the same of open files, the first file first
-abbrev pub files_read : Told → Source → ℕ → List OpenFile → List Bytes
-files_read told source depth [] = []
-files_read told source depth (f ∷ fs) = let inner = files_read told source (depth + 1) fs in
-    inner ++ file_reads told source depth f
+abbrev pub files_read : Recorded → Source → ℕ → List OpenFile → List Bytes
+files_read recorded source depth [] = []
+files_read recorded source depth (f ∷ fs) = let inner = files_read recorded source (depth + 1) fs in
+    inner ++ file_reads recorded source depth f
 
 -- the same of all open files
-abbrev pub open_reads : Told → OpenFiles → List Bytes
-open_reads told o = files_read told (source_of o.system) 0 (stack o)
+abbrev pub open_reads : Recorded → OpenFiles → List Bytes
+open_reads recorded o = files_read recorded (source_of o.system) 0 (stack o)
 
 -- what a file reads that no line includes
-abbrev pub first_reads : Told → FirstFile → List Bytes
-first_reads told f = read_first (source_of f.system) told f.path
+abbrev pub first_reads : Recorded → FirstFile → List Bytes
+first_reads recorded f = read_first (source_of f.system) recorded f.path
 
 -- what a reader has still to read
-abbrev pub all_read : Told → Lines → List Bytes
-all_read told r =
-    open_reads told r.open_files ++ flat_map (first_reads told) (drop r.next_first r.firsts.items)
+abbrev pub all_read : Recorded → Lines → List Bytes
+all_read recorded r =
+    open_reads recorded r.open_files ++ flat_map (first_reads recorded) (drop r.next_first r.firsts.items)
 
 -- ---- what calls read
 

@@ -1,9 +1,9 @@
 ghost use Rattle.std.specs.Prelude.{◌≡◌, ◌<◌, ◌+◌, ◌^◌, ◌∷◌, [], ℕ, IfOk};
-ghost use Rattle.conf_rules.specs.Told.{Told};
+ghost use Rattle.conf_rules.specs.Recorded.{Recorded};
 ghost use Rattle.conf_rules.specs.Sources.{size_limit};
 ghost use Rattle.mux_outside.specs.Counts.{HasCause};
 ghost use Rattle.mux_outside.specs.Files.{NotesReading};
-ghost use Rattle.conf_reader.specs.Known.{TellsFiles};
+ghost use Rattle.conf_reader.specs.Known.{RecordsFiles};
 ghost use Rattle.conf_reader.specs.Left.{IsFound};
 ghost use Rattle.conf_reader.specs.Looking.{FileFails};
 
@@ -30,13 +30,13 @@ fn size_limit() -> usize
 
 /// What a path holds.
 pub fn read_file<F: Files>(path: &[u8], files: &mut F) -> Result<Found, FileError>
-    ensures found { (told : Told) → TellsFiles (F.told files.old) told
-        → IfOk result (λ found. IsFound found (told.content path.now)) }
+    ensures found { (recorded : Recorded) → RecordsFiles (F.recorded files.old) recorded
+        → IfOk result (λ found. IsFound found (recorded.content path.now)) }
     ensures cause { HasCause result (F.faults files.old) (F.faults files.new) }
     ensures failed { FileFails (path.now ∷ []) result (F.failed files.old) (F.failed files.new) }
     ensures noted { NotesReading result path.now (size_limit + 1) (F.readings files.old)
         (F.readings files.new) }
-    ensures told { F.told files.new ≡ F.told files.old }
+    ensures recorded { F.recorded files.new ≡ F.recorded files.old }
 {
     let text = match files.read(path, size_limit() + 1)? {
         None => return Ok(Found::Nothing),

@@ -45,7 +45,7 @@ impl OpenFiles {
         files: &mut F,
     ) -> Result<(), ResolveError>
         requires given { IsGiven self.old }
-        ensures moves { ExpandsOver (F.told files.old) (known facts.now) original.now self.old
+        ensures moves { ExpandsOver (F.recorded files.old) (known facts.now) original.now self.old
             self.new result }
         ensures goes_on { OnOk result (GoesOn self.old self.new) }
         ensures below { OnOk result (self.new.below ≡ self.old.below) }

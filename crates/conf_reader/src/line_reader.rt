@@ -7,7 +7,7 @@ ghost use Rattle.conf_reader.specs.Left.{is_plain_first};
 ghost use Rattle.conf_reader.specs.Between.{is_between, ends_where};
 
 use crate::line::ConfLine;
-use crate::reader::{FirstFile, Lines};
+use crate::lines::{FirstFile, Lines};
 use conf_rules::{Asked, ConfigFrom, ResolveError};
 use mux_outside::{Facts, Files, Pair, Pairs};
 use ssh_fields::{OutOfMemory, Text};
@@ -143,7 +143,7 @@ pub struct LineReader {
 }
 
 impl LineReader {
-    ghost use Rattle.conf_rules.specs.Told.{Told};
+    ghost use Rattle.conf_rules.specs.Recorded.{Recorded};
     ghost use Rattle.conf_rules.specs.Sources.{lines_from};
     ghost use Rattle.conf_reader.specs.FilesState.{state_of};
     ghost use Rattle.conf_reader.specs.Left.{left, Bounded};
@@ -156,19 +156,19 @@ impl LineReader {
 
     /// A reader of the files that are asked for.
     pub fn new(alloc: Global, asked: &Asked, facts: &Facts) -> Result<LineReader, OutOfMemory>
-        ensures left { IfOk result (λ reader. (told : Told) (place : ℕ)
-            → told.facts ≡ known facts.now → left told place [] reader.lines
-            ≡ lines_from told place asked.now.from) }
+        ensures left { IfOk result (λ reader. (recorded : Recorded) (place : ℕ)
+            → recorded.facts ≡ known facts.now → left recorded place [] reader.lines
+            ≡ lines_from recorded place asked.now.from) }
         ensures facts { IfOk result (λ reader. (known reader.facts ≡ known facts.now)
             × (reader.original ≡ asked.now.original)) }
         ensures none { IfOk result (λ reader. (open_count reader.lines ≡ 0)
             × Bounded reader.lines.open_files 0) }
         ensures firsts { IfOk result (λ reader. reader.lines.firsts.items
             ≡ firsts_of facts.now.home asked.now.from) }
-        ensures looks { IfOk result (λ reader. (test : Test) (told : Told)
-            → meets test told reader.lines.open_files ≡ true) }
-        ensures reads { IfOk result (λ reader. (told : Told) → told.facts ≡ known facts.now
-            → all_read told reader.lines ≡ read_once told asked.now.from) }
+        ensures looks { IfOk result (λ reader. (test : Test) (recorded : Recorded)
+            → meets test recorded reader.lines.open_files ≡ true) }
+        ensures reads { IfOk result (λ reader. (recorded : Recorded) → recorded.facts ≡ known facts.now
+            → all_read recorded reader.lines ≡ read_once recorded asked.now.from) }
         ensures read { IfOk result (λ reader. reader.lines.read ≡ 0) }
         ensures fresh { IfOk result (λ reader. is_spent reader ≡ false) }
     {
@@ -206,7 +206,7 @@ impl LineReader {
     /// told at the Include line that names what is read, or, for a file that no line includes, at
     /// its line 0.
     pub fn next<F: Files>(&mut self, files: &mut F) -> Result<Option<ConfLine>, ResolveError>
-        ensures reads { ReadsFor (F.told files.old) (known self.old.facts) self.old.original
+        ensures reads { ReadsFor (F.recorded files.old) (known self.old.facts) self.old.original
             self.old.lines self.new.lines result }
         ensures given { IfOk result (λ given.
             IfSome given (IsGivenFrom self.old.lines self.new.lines)) }

@@ -33,7 +33,7 @@ pub struct Said {
 
 /// The next line of a file, and where the one behind it begins.
 #[derive(Drop)]
-pub struct Next {
+pub struct NextFile {
     pub next: usize,
     /// None for a comment.
     pub said: Option<Said>,
@@ -43,7 +43,7 @@ impl OpenFile {
     ghost use Rattle.conf_reader.specs.Left.{HeadIs};
 
     /// Reads the next line.
-    pub fn head(&self, alloc: Global) -> Result<Next, LineError>
+    pub fn head(&self, alloc: Global) -> Result<NextFile, LineError>
         requires { self.now.at < length self.now.text }
         ensures { HeadIs self.now result }
     {
@@ -53,12 +53,12 @@ impl OpenFile {
         };
         match split_head(&text[self.at..end]) {
             Err(e) => Err(LineError::Refused(Cause::Lex(e))),
-            Ok(Head::Blank) => Ok(Next { next, said: None }),
+            Ok(Head::Blank) => Ok(NextFile { next, said: None }),
             Ok(Head::Line { keyword, rest }) => {
                 let keyword = Text::copy(alloc, keyword)?;
                 let rest = Text::copy(alloc, rest)?;
                 let said = Some(Said { keyword, rest });
-                Ok(Next { next, said })
+                Ok(NextFile { next, said })
             }
         }
     }

@@ -1,7 +1,7 @@
 ghost use Rattle.std.specs.Prelude.{◌≡◌, ◌≤◌, ◌∷◌, ◌++◌, [], ℕ, codes, false, Ok, IfErr, IfOk, OnOk, map, filter, flat_map, length, if◌then◌else◌};
 ghost use Rattle.conf_rules.specs.Results.{Gives, Fails};
 ghost use Rattle.conf_rules.specs.Wants.{token_wants_memory};
-ghost use Rattle.conf_rules.specs.Told.{Told};
+ghost use Rattle.conf_rules.specs.Recorded.{Recorded};
 ghost use Rattle.conf_rules.specs.Texts.{split_last};
 ghost use Rattle.conf_rules.specs.Words.{words_of};
 ghost use Rattle.conf_rules.specs.Tokens.{starts_with_slash};
@@ -12,7 +12,7 @@ ghost use Rattle.conf_rules.specs.Looks.{folders_along, folders_of, looks_in};
 ghost use Rattle.mux_outside.specs.Counts.{HasCause};
 ghost use Rattle.conf_tokens.specs.Known.{known};
 ghost use Rattle.conf_tokens.specs.Seen.{seen};
-ghost use Rattle.conf_reader.specs.Known.{TellsFiles};
+ghost use Rattle.conf_reader.specs.Known.{RecordsFiles};
 ghost use Rattle.conf_reader.specs.Left.{FoundPaths, named_by, source_of};
 ghost use Rattle.conf_reader.specs.Paths.{SameTexts, with_component, all_globbed};
 ghost use Rattle.conf_reader.specs.Looking.{FileFails, LineFails};
@@ -225,14 +225,14 @@ fn put_below<F: Files>(
     component: &[u8],
     files: &mut F,
 ) -> Result<(), FileError>
-    ensures found { (told : Told) → TellsFiles (F.told files.old) told
-        → OnOk result (SameTexts (paths.old.items ++ below told component.now base.now)
+    ensures found { (recorded : Recorded) → RecordsFiles (F.recorded files.old) recorded
+        → OnOk result (SameTexts (paths.old.items ++ below recorded component.now base.now)
         paths.new.items) }
     ensures cause { HasCause result (F.faults files.old) (F.faults files.new) }
     ensures failed { FileFails (if is_glob component.now then or_root base.now ∷ [] else []) result
         (F.failed files.old) (F.failed files.new) }
     ensures noted { F.readings files.new ≡ F.readings files.old }
-    ensures told { F.told files.new ≡ F.told files.old }
+    ensures recorded { F.recorded files.new ≡ F.recorded files.old }
 {
     if !is_glob(component) {
         put(paths, joined(alloc, base, component)?)?;
@@ -252,14 +252,14 @@ fn with_component<F: Files>(
     component: &[u8],
     files: &mut F,
 ) -> Result<Vec<Text>, FileError>
-    ensures found { (told : Told) → TellsFiles (F.told files.old) told
+    ensures found { (recorded : Recorded) → RecordsFiles (F.recorded files.old) recorded
         → IfOk result (λ paths.
-        SameTexts (with_component told component.now bases.items) paths.items) }
+        SameTexts (with_component recorded component.now bases.items) paths.items) }
     ensures cause { HasCause result (F.faults files.old) (F.faults files.new) }
     ensures failed { FileFails (if is_glob component.now then map or_root bases.items else [])
         result (F.failed files.old) (F.failed files.new) }
     ensures noted { F.readings files.new ≡ F.readings files.old }
-    ensures told { F.told files.new ≡ F.told files.old }
+    ensures recorded { F.recorded files.new ≡ F.recorded files.old }
 {
     if component.is_empty() {
         return Ok(bases);
@@ -273,15 +273,15 @@ fn with_component<F: Files>(
 
 /// The paths that a path with globs stands for, in whatever order.
 fn along<F: Files>(alloc: Global, path: &[u8], files: &mut F) -> Result<Vec<Text>, FileError>
-    ensures found { (told : Told) → TellsFiles (F.told files.old) told
+    ensures found { (recorded : Recorded) → RecordsFiles (F.recorded files.old) recorded
         → IfOk result (λ paths.
-        SameTexts (along told (components_of path.now) ([] ∷ [])) paths.items) }
+        SameTexts (along recorded (components_of path.now) ([] ∷ [])) paths.items) }
     ensures cause { HasCause result (F.faults files.old) (F.faults files.new) }
-    ensures failed { (told : Told) → TellsFiles (F.told files.old) told
-        → FileFails (folders_along told (components_of path.now) ([] ∷ [])) result
+    ensures failed { (recorded : Recorded) → RecordsFiles (F.recorded files.old) recorded
+        → FileFails (folders_along recorded (components_of path.now) ([] ∷ [])) result
         (F.failed files.old) (F.failed files.new) }
     ensures noted { F.readings files.new ≡ F.readings files.old }
-    ensures told { F.told files.new ≡ F.told files.old }
+    ensures recorded { F.recorded files.new ≡ F.recorded files.old }
 {
     let mut paths = Vec::new(alloc);
     put(&mut paths, Text::new(alloc))?;
@@ -343,13 +343,13 @@ fn in_order(texts: Vec<Text>) -> Result<Vec<Text>, OutOfMemory>
 /// The paths that an absolute path stands for, in the order of their bytes.
 #[tactic(auto, unfolding(conf_rules::specs::Includes::globbed))]
 fn globbed<F: Files>(alloc: Global, path: &[u8], files: &mut F) -> Result<Vec<Text>, FileError>
-    ensures found { (told : Told) → TellsFiles (F.told files.old) told
-        → IfOk result (λ paths. paths.items ≡ globbed told path.now) }
+    ensures found { (recorded : Recorded) → RecordsFiles (F.recorded files.old) recorded
+        → IfOk result (λ paths. paths.items ≡ globbed recorded path.now) }
     ensures cause { HasCause result (F.faults files.old) (F.faults files.new) }
-    ensures failed { (told : Told) → TellsFiles (F.told files.old) told
-        → FileFails (folders_of told path.now) result (F.failed files.old) (F.failed files.new) }
+    ensures failed { (recorded : Recorded) → RecordsFiles (F.recorded files.old) recorded
+        → FileFails (folders_of recorded path.now) result (F.failed files.old) (F.failed files.new) }
     ensures noted { F.readings files.new ≡ F.readings files.old }
-    ensures told { F.told files.new ≡ F.told files.old }
+    ensures recorded { F.recorded files.new ≡ F.recorded files.old }
 {
     if !is_glob(path) {
         return Ok(alone(alloc, path)?);
@@ -368,13 +368,13 @@ fn add_globbed<F: Files>(
     path: &[u8],
     files: &mut F,
 ) -> Result<(), FileError>
-    ensures found { (told : Told) → TellsFiles (F.told files.old) told
-        → OnOk result (all.new ≡ all.old ++ globbed told path.now) }
+    ensures found { (recorded : Recorded) → RecordsFiles (F.recorded files.old) recorded
+        → OnOk result (all.new ≡ all.old ++ globbed recorded path.now) }
     ensures cause { HasCause result (F.faults files.old) (F.faults files.new) }
-    ensures failed { (told : Told) → TellsFiles (F.told files.old) told
-        → FileFails (folders_of told path.now) result (F.failed files.old) (F.failed files.new) }
+    ensures failed { (recorded : Recorded) → RecordsFiles (F.recorded files.old) recorded
+        → FileFails (folders_of recorded path.now) result (F.failed files.old) (F.failed files.new) }
     ensures noted { F.readings files.new ≡ F.readings files.old }
-    ensures told { F.told files.new ≡ F.told files.old }
+    ensures recorded { F.recorded files.new ≡ F.recorded files.old }
 {
     let found = globbed(alloc, path, files)?;
     Ok(add_all(all, found)?)
@@ -382,14 +382,14 @@ fn add_globbed<F: Files>(
 
 /// The paths that absolute paths stand for.
 fn all_globbed<F: Files>(alloc: Global, paths: &Texts, files: &mut F) -> Result<Texts, FileError>
-    ensures found { (told : Told) → TellsFiles (F.told files.old) told
-        → IfOk result (λ found. found ≡ all_globbed told paths.now) }
+    ensures found { (recorded : Recorded) → RecordsFiles (F.recorded files.old) recorded
+        → IfOk result (λ found. found ≡ all_globbed recorded paths.now) }
     ensures cause { HasCause result (F.faults files.old) (F.faults files.new) }
-    ensures failed { (told : Told) → TellsFiles (F.told files.old) told
-        → FileFails (flat_map (folders_of told) paths.now) result (F.failed files.old)
+    ensures failed { (recorded : Recorded) → RecordsFiles (F.recorded files.old) recorded
+        → FileFails (flat_map (folders_of recorded) paths.now) result (F.failed files.old)
         (F.failed files.new) }
     ensures noted { F.readings files.new ≡ F.readings files.old }
-    ensures told { F.told files.new ≡ F.told files.old }
+    ensures recorded { F.recorded files.new ≡ F.recorded files.old }
 {
     let mut all = Texts::new(alloc);
     for path in paths.as_slice() {
@@ -409,16 +409,16 @@ pub fn named_paths<F: Files>(
     rest: &[u8],
     files: &mut F,
 ) -> Result<Texts, LineError>
-    ensures found { (told : Told) → TellsFiles (F.told files.old) told
-        → told.facts ≡ known facts.now → told.asked.original ≡ original.now
-        → FoundPaths result (named_by (source_of system) told (words_of rest.now)) }
+    ensures found { (recorded : Recorded) → RecordsFiles (F.recorded files.old) recorded
+        → recorded.facts ≡ known facts.now → recorded.asked.original ≡ original.now
+        → FoundPaths result (named_by (source_of system) recorded (words_of rest.now)) }
     ensures cause { HasLineCause result (F.faults files.old) (F.faults files.new) }
-    ensures failed { (told : Told) → TellsFiles (F.told files.old) told
-        → told.facts ≡ known facts.now → told.asked.original ≡ original.now
-        → LineFails (looks_in (source_of system) told (words_of rest.now)) result
+    ensures failed { (recorded : Recorded) → RecordsFiles (F.recorded files.old) recorded
+        → recorded.facts ≡ known facts.now → recorded.asked.original ≡ original.now
+        → LineFails (looks_in (source_of system) recorded (words_of rest.now)) result
         (F.failed files.old) (F.failed files.new) }
     ensures noted { F.readings files.new ≡ F.readings files.old }
-    ensures told { F.told files.new ≡ F.told files.old }
+    ensures recorded { F.recorded files.new ≡ F.recorded files.old }
 {
     let words = match split_words(alloc, rest) {
         Ok(words) => words,

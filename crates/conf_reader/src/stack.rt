@@ -1,7 +1,7 @@
 ghost use Rattle.std.specs.Prelude.{◌≡◌, ◌<◌, ◌≤◌, ◌∷◌, ℕ, IfOk, IfErr, IfSome, OnOk, IsSome, nat_lt, false, length, Some, None, []};
 ghost use Rattle.conf_rules.specs.declared.causes.Cause.TheVariants as causes;
 ghost use Rattle.conf_rules.specs.Sources.{depth_limit, size_limit};
-ghost use Rattle.conf_rules.specs.Told.{Told};
+ghost use Rattle.conf_rules.specs.Recorded.{Recorded};
 ghost use Rattle.conf_reader.specs.Blocks.{Blocks};
 
 use crate::errors::{LineError, refuse};
@@ -67,7 +67,7 @@ impl OpenFiles {
         ensures goes_on { GoesOn self.old self.new }
         ensures less { work self.new < work self.old }
         ensures looks { KeepsLooks self.old self.new }
-        ensures reads { (told : Told) → open_reads told self.old ≡ open_reads told self.new }
+        ensures reads { (recorded : Recorded) → open_reads recorded self.old ≡ open_reads recorded self.new }
     {
         self.top = self.below.pop();
         self.fresh = false;
@@ -78,14 +78,14 @@ impl OpenFiles {
         requires ready { IsReady self.old }
         requires named { NamesPath self.old.top }
         requires some { IsSome self.old.top }
-        ensures left { (told : Told) (place : ℕ) (blocks : Blocks)
-            → Names self.old.top (λ path. told.content path ≡ None)
-            → open_left told place blocks self.old ≡ open_left told place blocks self.new }
+        ensures left { (recorded : Recorded) (place : ℕ) (blocks : Blocks)
+            → Names self.old.top (λ path. recorded.content path ≡ None)
+            → open_left recorded place blocks self.old ≡ open_left recorded place blocks self.new }
         ensures goes_on { GoesOn self.old self.new }
         ensures less { work self.new < work self.old }
         ensures looks { KeepsLooks self.old self.new }
-        ensures reads { (told : Told) → Names self.old.top (λ path. told.content path ≡ None
-            → open_reads told self.old ≡ path ∷ open_reads told self.new) }
+        ensures reads { (recorded : Recorded) → Names self.old.top (λ path. recorded.content path ≡ None
+            → open_reads recorded self.old ≡ path ∷ open_reads recorded self.new) }
     {
         if let Some(top) = &mut self.top {
             top.skip();
@@ -98,16 +98,16 @@ impl OpenFiles {
         requires named { NamesPath self.old.top }
         requires some { IsSome self.old.top }
         requires deep { length self.old.below.items < depth_limit }
-        ensures left { OnOk result ((told : Told) (place : ℕ) (blocks : Blocks)
-            → Names self.old.top (λ path. told.content path ≡ Some text)
-            → nat_lt size_limit (length text) ≡ false → open_left told place blocks self.old
-            ≡ open_left told place blocks self.new) }
+        ensures left { OnOk result ((recorded : Recorded) (place : ℕ) (blocks : Blocks)
+            → Names self.old.top (λ path. recorded.content path ≡ Some text)
+            → nat_lt size_limit (length text) ≡ false → open_left recorded place blocks self.old
+            ≡ open_left recorded place blocks self.new) }
         ensures goes_on { OnOk result (GoesOn self.old self.new) }
         ensures less { OnOk result (work self.new < work self.old) }
         ensures looks { OnOk result (KeepsLooks self.old self.new) }
-        ensures reads { OnOk result ((told : Told)
-            → Names self.old.top (λ path. told.content path ≡ Some text
-            → open_reads told self.old ≡ path ∷ open_reads told self.new)) }
+        ensures reads { OnOk result ((recorded : Recorded)
+            → Names self.old.top (λ path. recorded.content path ≡ Some text
+            → open_reads recorded self.old ≡ path ∷ open_reads recorded self.new)) }
     {
         let Some(mut top) = self.top.take() else {
             unreachable!()
@@ -172,17 +172,17 @@ impl OpenFiles {
         requires ready { IsReady self.old }
         requires named { NamesPath self.old.top }
         requires some { IsSome self.old.top }
-        ensures moves { (told : Told) (place : ℕ) (blocks : Blocks)
-            → Names self.old.top (λ path. IsFound found (told.content path))
-            → Moves (open_left told place blocks self.old)
-            (open_left told place blocks self.new) result }
+        ensures moves { (recorded : Recorded) (place : ℕ) (blocks : Blocks)
+            → Names self.old.top (λ path. IsFound found (recorded.content path))
+            → Moves (open_left recorded place blocks self.old)
+            (open_left recorded place blocks self.new) result }
         ensures goes_on { OnOk result (GoesOn self.old self.new) }
         ensures less { OnOk result (work self.new < work self.old) }
         ensures looks { OnOk result (KeepsLooks self.old self.new) }
         ensures quiet { IfErr result (λ e. is_fault_at e ≡ false) }
-        ensures reads { OnOk result ((told : Told)
-            → Names self.old.top (λ path. IsFound found (told.content path)
-            → open_reads told self.old ≡ path ∷ open_reads told self.new)) }
+        ensures reads { OnOk result ((recorded : Recorded)
+            → Names self.old.top (λ path. IsFound found (recorded.content path)
+            → open_reads recorded self.old ≡ path ∷ open_reads recorded self.new)) }
     {
         match found {
             Found::Nothing => {
@@ -210,7 +210,7 @@ impl OpenFiles {
     /// Does one step towards the next line.
     pub fn advance<F: Files>(&mut self, files: &mut F) -> Result<Stand, ResolveError>
         requires ready { IsReady self.old }
-        ensures moves { MovesOver (F.told files.old) self.old self.new result }
+        ensures moves { MovesOver (F.recorded files.old) self.old self.new result }
         ensures goes_on { OnOk result (GoesOn self.old self.new) }
         ensures stand { IfOk result (StandOf self.old self.new) }
         ensures files { UsesFiles (state_of F.Files files.old) (state_of F.Files files.new)
@@ -241,7 +241,7 @@ impl OpenFiles {
     /// Goes to the next line; `false` where there is none.
     pub fn settle<F: Files>(&mut self, files: &mut F) -> Result<bool, ResolveError>
         requires ready { IsReady self.old }
-        ensures moves { MovesOver (F.told files.old) self.old self.new result }
+        ensures moves { MovesOver (F.recorded files.old) self.old self.new result }
         ensures goes_on { OnOk result (GoesOn self.old self.new) }
         ensures line { IfOk result (Settles self.new.top) }
         ensures files { UsesFiles (state_of F.Files files.old) (state_of F.Files files.new)

@@ -2,19 +2,19 @@
 
 ghost use Rattle.std.specs.Prelude.{◌≡◌, ℕ, IfOk, IfSome, OnOk, true, Ok, []};
 ghost use Rattle.std.specs.List.{list_all};
-ghost use Rattle.conf_rules.specs.Told.{Told};
+ghost use Rattle.conf_rules.specs.Recorded.{Recorded};
 ghost use Rattle.conf_tokens.specs.Known.{known};
 ghost use Rattle.conf_reader.specs.Blocks.{Blocks};
 
 use crate::errors::LineError;
 use crate::line::ConfLine;
-use crate::reader::{Lines, Step};
+use crate::lines::{Lines, ReadStep};
 use crate::stack::OpenFiles;
 use conf_rules::{Cause, MAX_LINES, ResolveError};
 use mux_outside::{Facts, Files};
 
 impl Lines {
-    ghost use Rattle.conf_reader.specs.declared.reader.Step.TheVariants as steps;
+    ghost use Rattle.conf_reader.specs.declared.lines.ReadStep.TheVariants as steps;
     ghost use Rattle.conf_reader.specs.Reads.{CountsOne, GivenStep, IsGivenFrom};
     ghost use Rattle.conf_reader.specs.Left.{left, IsReady, IsGiven, is_plain_first, Bounded};
     ghost use Rattle.conf_reader.specs.FilesState.{state_of};
@@ -25,10 +25,10 @@ impl Lines {
     ghost use Rattle.conf_reader.specs.Uses.{UsesFiles, UsesFilesFor, of_all, behind_step, behind_call};
 
     /// Takes one line of all files.
-    fn one<F: Files>(&mut self, files: &mut F) -> Result<Step, ResolveError>
+    fn one<F: Files>(&mut self, files: &mut F) -> Result<ReadStep, ResolveError>
         requires ready { IsReady self.old.open_files }
         requires plain { list_all is_plain_first self.old.firsts.items ≡ true }
-        ensures one { TakesOne (F.told files.old) self.old self.new result }
+        ensures one { TakesOne (F.recorded files.old) self.old self.new result }
         ensures comment { result ≡ Ok steps.Comment
             → GoesOn self.old.open_files self.new.open_files }
         ensures firsts { self.new.firsts ≡ self.old.firsts }
@@ -38,7 +38,7 @@ impl Lines {
             (of_all self.old) (behind_step result self.new) result }
     {
         if !self.reach(files)? {
-            return Ok(Step::End);
+            return Ok(ReadStep::End);
         }
         if self.read >= MAX_LINES {
             return Err(
@@ -48,8 +48,8 @@ impl Lines {
         }
         self.read += 1;
         match self.open_files.take_line()? {
-            None => Ok(Step::Comment),
-            Some(line) => Ok(Step::Given(line)),
+            None => Ok(ReadStep::Comment),
+            Some(line) => Ok(ReadStep::Given(line)),
         }
     }
 
@@ -57,7 +57,7 @@ impl Lines {
     pub fn next_line<F: Files>(&mut self, files: &mut F) -> Result<Option<ConfLine>, ResolveError>
         requires ready { IsReady self.old.open_files }
         requires plain { list_all is_plain_first self.old.firsts.items ≡ true }
-        ensures reads { ReadsOver (F.told files.old) self.old self.new result }
+        ensures reads { ReadsOver (F.recorded files.old) self.old self.new result }
         ensures given { IfOk result (λ given. IfSome given (IsGivenFrom self.old self.new)) }
         ensures firsts { self.new.firsts ≡ self.old.firsts }
         ensures files { UsesFiles (state_of F.Files files.old) (state_of F.Files files.new)
@@ -65,9 +65,9 @@ impl Lines {
     {
         loop {
             match self.one(files)? {
-                Step::End => return Ok(None),
-                Step::Comment => {}
-                Step::Given(line) => return Ok(Some(line)),
+                ReadStep::End => return Ok(None),
+                ReadStep::Comment => {}
+                ReadStep::Given(line) => return Ok(Some(line)),
             }
         }
     }
@@ -80,7 +80,7 @@ impl Lines {
         files: &mut F,
     ) -> Result<(), ResolveError>
         requires given { IsGiven self.old.open_files }
-        ensures moves { AllExpand (F.told files.old) (known facts.now) original.now self.old
+        ensures moves { AllExpand (F.recorded files.old) (known facts.now) original.now self.old
             self.new result }
         ensures goes_on { OnOk result (GoesOn self.old.open_files self.new.open_files) }
         ensures others { self.new ≡ record self.old { open_files = self.new.open_files } }
@@ -99,7 +99,7 @@ impl Lines {
     ) -> Result<Option<ConfLine>, ResolveError>
         requires given { IsGiven self.old.open_files }
         requires plain { list_all is_plain_first self.old.firsts.items ≡ true }
-        ensures reads { ReadsFor (F.told files.old) (known facts.now) original.now self.old
+        ensures reads { ReadsFor (F.recorded files.old) (known facts.now) original.now self.old
             self.new result }
         ensures given { IfOk result (λ given. IfSome given (IsGivenFrom self.old self.new)) }
         ensures firsts { self.new.firsts ≡ self.old.firsts }
@@ -112,15 +112,15 @@ impl Lines {
 
     /// Gives no more line.
     pub fn end(&mut self)
-        ensures left { (told : Told) (place : ℕ) (blocks : Blocks)
-            → left told place blocks self.new ≡ [] }
+        ensures left { (recorded : Recorded) (place : ℕ) (blocks : Blocks)
+            → left recorded place blocks self.new ≡ [] }
         ensures ended { is_ended self.new ≡ true }
         ensures given { IsGiven self.new.open_files }
         ensures firsts { self.new.firsts ≡ self.old.firsts }
         ensures bounded { Bounded self.new.open_files 0 }
-        ensures looks { (told : Told) (test : Test)
-            → meets test told self.new.open_files ≡ true }
-        ensures reads { (told : Told) → all_read told self.new ≡ [] }
+        ensures looks { (recorded : Recorded) (test : Test)
+            → meets test recorded self.new.open_files ≡ true }
+        ensures reads { (recorded : Recorded) → all_read recorded self.new ≡ [] }
     {
         self.open_files = OpenFiles::new(self.alloc);
         self.next_first = self.firsts.len();

@@ -3,12 +3,12 @@
 ghost use Rattle.std.specs.Prelude.{◌≡◌, ◌<◌, ◌≤◌, ◌+◌, ℕ, IfOk, IfErr, IfSome, IsSome, OnOk, false, length, None, Ok};
 ghost use Rattle.std.specs.Option.{option_map};
 ghost use Rattle.conf_rules.specs.Sources.{depth_limit};
-ghost use Rattle.conf_rules.specs.Told.{Told};
+ghost use Rattle.conf_rules.specs.Recorded.{Recorded};
 ghost use Rattle.conf_reader.specs.Blocks.{Blocks};
 
 use crate::errors::{LineError, refuse};
 use crate::line::ConfLine;
-use crate::open_file::{Next, Said, include_of};
+use crate::open_file::{NextFile, Said, include_of};
 use crate::stack::OpenFiles;
 use conf_rules::ResolveError;
 use ssh_fields::{OutOfMemory, Text};
@@ -55,7 +55,7 @@ impl OpenFiles {
     }
 
     /// Reads the next line of the last file.
-    pub fn head(&self) -> Result<Next, LineError>
+    pub fn head(&self) -> Result<NextFile, LineError>
         requires some { IsSome self.now.top }
         requires line { IsAtLine self.now.top }
         ensures { IfSome self.now.top (λ f. HeadIs f result) }
@@ -78,9 +78,9 @@ impl OpenFiles {
         requires ready { IsReady self.old }
         requires some { IsSome self.old.top }
         requires line { IsAtLine self.old.top }
-        ensures takes { (told : Told) (place : ℕ) (blocks : Blocks)
+        ensures takes { (recorded : Recorded) (place : ℕ) (blocks : Blocks)
             → length self.old.below.items ≤ length blocks
-            → Takes told place blocks self.old self.new result }
+            → Takes recorded place blocks self.old self.new result }
         ensures comment { result ≡ Ok None → GoesOn self.old self.new }
         ensures given { IfOk result (λ line.
             IfSome line (λ l. IsGiven self.new × (l.depth ≡ length self.new.below.items))) }
@@ -88,11 +88,11 @@ impl OpenFiles {
             IfSome line (λ l. (l.opens ≡ self.old.fresh) × (l.depth ≡ length self.old.below.items)
             × (length (stack self.new) ≡ l.depth + 1))) }
         ensures looks { TakesLooks self.old self.new result }
-        ensures reads { OnOk result ((told : Told)
-            → open_reads told self.old ≡ open_reads told self.new) }
+        ensures reads { OnOk result ((recorded : Recorded)
+            → open_reads recorded self.old ≡ open_reads recorded self.new) }
         ensures quiet { IfErr result (λ e. is_fault_at e ≡ false) }
     {
-        let Next { next, said } = match self.head() {
+        let NextFile { next, said } = match self.head() {
             Ok(next) => next,
             Err(e) => return Err(self.line_refusal(e)),
         };

@@ -4,9 +4,9 @@ use Rattle.std.proofs.lemmas.List.{append-nil}
 use Rattle.std.proofs.lemmas.Grind.{flat_map-append}
 use Rattle.conf_rules.specs.declared.asked.AskedLine.{AskedLine}
 use Rattle.conf_rules.specs.declared.causes.Cause.{Cause}
-use Rattle.conf_rules.specs.declared.entry.Entry.{Entry}
-use Rattle.conf_rules.specs.declared.entry.Entry.TheVariants.{Nothing}
-use Rattle.conf_rules.specs.Told.{Told}
+use Rattle.conf_rules.specs.declared.entry.LineContent.{LineContent}
+use Rattle.conf_rules.specs.declared.entry.LineContent.TheVariants.{Nothing}
+use Rattle.conf_rules.specs.Recorded.{Recorded}
 use Rattle.conf_rules.specs.Sources.{Line, asked_line}
 use Rattle.conf_rules.specs.Rows.{Row, Pass}
 use Rattle.conf_rules.specs.Entries.{entry_of}
@@ -26,50 +26,50 @@ commands-more rows row = flat_map-append (λ r. r.ran) rows (row ∷ []) ∙ ap 
 pub commands-quiet : (rows : List Row) (row : Row) → row.ran ≡ [] → commands (rows ++ row ∷ []) ≡ commands rows
 commands-quiet rows row h = commands-more rows row ∙ ap (λ cs. commands rows ++ cs) h ∙ append-nil (commands rows)
 
-idle-effect : (told : Told) (pass : Pass) (rows : List Row) (active : Bool) → (effect_of told pass rows active (Ok Nothing)).ran ≡ []
-idle-effect told pass rows true = refl
-idle-effect told pass rows false = refl
+idle-effect : (recorded : Recorded) (pass : Pass) (rows : List Row) (active : Bool) → (effect_of recorded pass rows active (Ok Nothing)).ran ≡ []
+idle-effect recorded pass rows true = refl
+idle-effect recorded pass rows false = refl
 
-idle-ran : (told : Told) (pass : Pass) (rows : List Row) (place : ℕ) (line : Line) → IsIdle told place line → (next_row told pass rows place line).ran ≡ []
+idle-ran : (recorded : Recorded) (pass : Pass) (rows : List Row) (place : ℕ) (line : Line) → IsIdle recorded place line → (next_row recorded pass rows place line).ran ≡ []
 unfolding next_row row_of
-idle-ran told pass rows place line idle = rw (idle rows) (idle-effect told pass rows (is_active rows pass line))
+idle-ran recorded pass rows place line idle = rw (idle rows) (idle-effect recorded pass rows (is_active rows pass line))
 
 -- a line that says nothing runs nothing
-pub idle-commands : (told : Told) (pass : Pass) (rows : List Row) (place : ℕ) (line : Line) → IsIdle told place line → commands (rows ++ next_row told pass rows place line ∷ []) ≡ commands rows
-idle-commands told pass rows place line idle = commands-quiet rows (next_row told pass rows place line) (idle-ran told pass rows place line idle)
+pub idle-commands : (recorded : Recorded) (pass : Pass) (rows : List Row) (place : ℕ) (line : Line) → IsIdle recorded place line → commands (rows ++ next_row recorded pass rows place line ∷ []) ≡ commands rows
+idle-commands recorded pass rows place line idle = commands-quiet rows (next_row recorded pass rows place line) (idle-ran recorded pass rows place line idle)
 
-refused-effect : (told : Told) (pass : Pass) (rows : List Row) (active : Bool) (c : Cause) → (effect_of told pass rows active (Err c)).ran ≡ []
-refused-effect told pass rows true c = refl
-refused-effect told pass rows false c = refl
+refused-effect : (recorded : Recorded) (pass : Pass) (rows : List Row) (active : Bool) (c : Cause) → (effect_of recorded pass rows active (Err c)).ran ≡ []
+refused-effect recorded pass rows true c = refl
+refused-effect recorded pass rows false c = refl
 
 -- a line that the reader refuses runs nothing
-pub refused-ran : (told : Told) (pass : Pass) (rows : List Row) (place : ℕ) (line : Line) (c : Cause) → ((rows : List Row) → counted told entry_of rows line place ≡ Err c) → (next_row told pass rows place line).ran ≡ []
+pub refused-ran : (recorded : Recorded) (pass : Pass) (rows : List Row) (place : ℕ) (line : Line) (c : Cause) → ((rows : List Row) → counted recorded entry_of rows line place ≡ Err c) → (next_row recorded pass rows place line).ran ≡ []
 unfolding next_row row_of
-refused-ran told pass rows place line c refused = rw (refused rows) (refused-effect told pass rows (is_active rows pass line) c)
+refused-ran recorded pass rows place line c refused = rw (refused rows) (refused-effect recorded pass rows (is_active rows pass line) c)
 
 -- ---- the command line
 
-asked-ran : (told : Told) (pass : Pass) (rows : List Row) (place : ℕ) (l : AskedLine) → (next_row told pass rows place (asked_line l)).ran ≡ []
+asked-ran : (recorded : Recorded) (pass : Pass) (rows : List Row) (place : ℕ) (l : AskedLine) → (next_row recorded pass rows place (asked_line l)).ran ≡ []
 unfolding asked_with
-asked-ran told pass rows place l = on (entry_of rows (asked_line l)) refl
+asked-ran recorded pass rows place l = on (entry_of rows (asked_line l)) refl
   where
-    on : (r : Result Entry Cause) → entry_of rows (asked_line l) ≡ r → (next_row told pass rows place (asked_line l)).ran ≡ []
-    on (Ok e) is = ap (λ (x : Row). x.ran) (asked-row-says told pass rows place l e is)
-    on (Err c) is = ap (λ (x : Row). x.ran) (asked-row-is told pass rows place l) ∙ ap (λ r. (effect_of told pass rows true r).ran) is ∙ refused-effect told pass rows true c
+    on : (r : Result LineContent Cause) → entry_of rows (asked_line l) ≡ r → (next_row recorded pass rows place (asked_line l)).ran ≡ []
+    on (Ok e) is = ap (λ (x : Row). x.ran) (asked-row-says recorded pass rows place l e is)
+    on (Err c) is = ap (λ (x : Row). x.ran) (asked-row-is recorded pass rows place l) ∙ ap (λ r. (effect_of recorded pass rows true r).ran) is ∙ refused-effect recorded pass rows true c
 
 -- the lines of the command line run nothing
-pub asked-quiet : (told : Told) (pass : Pass) (ls : List AskedLine) (rows : List Row) (place : ℕ) → commands (from told pass rows place (map asked_line ls)) ≡ commands rows
+pub asked-quiet : (recorded : Recorded) (pass : Pass) (ls : List AskedLine) (rows : List Row) (place : ℕ) → commands (from recorded pass rows place (map asked_line ls)) ≡ commands rows
 unfolding rows_from
-asked-quiet told pass [] rows place = refl
-asked-quiet told pass (l ∷ ls) rows place = on (is_refused (next_row told pass rows place (asked_line l)).entry) refl (asked-quiet told pass ls (rows ++ next_row told pass rows place (asked_line l) ∷ []) (place + 1))
+asked-quiet recorded pass [] rows place = refl
+asked-quiet recorded pass (l ∷ ls) rows place = on (is_refused (next_row recorded pass rows place (asked_line l)).entry) refl (asked-quiet recorded pass ls (rows ++ next_row recorded pass rows place (asked_line l) ∷ []) (place + 1))
   where
-    quiet : commands (rows ++ next_row told pass rows place (asked_line l) ∷ []) ≡ commands rows
-    quiet = commands-quiet rows (next_row told pass rows place (asked_line l)) (asked-ran told pass rows place l)
+    quiet : commands (rows ++ next_row recorded pass rows place (asked_line l) ∷ []) ≡ commands rows
+    quiet = commands-quiet rows (next_row recorded pass rows place (asked_line l)) (asked-ran recorded pass rows place l)
 
-    on : (t : Bool) → is_refused (next_row told pass rows place (asked_line l)).entry ≡ t → commands (from told pass (rows ++ next_row told pass rows place (asked_line l) ∷ []) (place + 1) (map asked_line ls)) ≡ commands (rows ++ next_row told pass rows place (asked_line l) ∷ [])
-        → commands (from told pass rows place (map asked_line (l ∷ ls))) ≡ commands rows
-    on true h later = ap commands (rows-end told pass rows place (asked_line l) (map asked_line ls) h) ∙ quiet
-    on false h later = ap commands (rows-on told pass rows place (asked_line l) (map asked_line ls) h) ∙ later ∙ quiet
+    on : (t : Bool) → is_refused (next_row recorded pass rows place (asked_line l)).entry ≡ t → commands (from recorded pass (rows ++ next_row recorded pass rows place (asked_line l) ∷ []) (place + 1) (map asked_line ls)) ≡ commands (rows ++ next_row recorded pass rows place (asked_line l) ∷ [])
+        → commands (from recorded pass rows place (map asked_line (l ∷ ls))) ≡ commands rows
+    on true h later = ap commands (rows-end recorded pass rows place (asked_line l) (map asked_line ls) h) ∙ quiet
+    on false h later = ap commands (rows-on recorded pass rows place (asked_line l) (map asked_line ls) h) ∙ later ∙ quiet
 
 -- ---- commands that were run
 

@@ -2,11 +2,11 @@
 use Rattle.std.proofs.Common.{◌≡◌, ℕ, ◌+◌, ◌≤◌, Bool, true, false, cond, List, length, refl, ap, ◌∙◌, arith}
 use Rattle.std.specs.Prelude.{option_to_list}
 use Rattle.std.proofs.lemmas.List.{length-append, length-map}
-use Rattle.conf_rules.specs.Told.{Told}
+use Rattle.conf_rules.specs.Recorded.{Recorded}
 use Rattle.conf_rules.specs.Rows.{Row, Pass}
 use Rattle.conf_reader.specs.declared.line.ConfLine.{ConfLine}
 use Rattle.conf_reader.specs.declared.stack.OpenFiles.{OpenFiles}
-use Rattle.conf_reader.specs.declared.reader.Lines.{Lines}
+use Rattle.conf_reader.specs.declared.lines.Lines.{Lines}
 use Rattle.conf_reader.specs.Blocks.{Blocks}
 use Rattle.conf_reader.specs.Left.{stack, Bounded}
 use Rattle.conf_reader.specs.Reads.{LiesAt, IsGivenFrom, open_count}
@@ -17,14 +17,14 @@ depth-by : (old new : ℕ) (given : ConfLine) (t : Bool) → given.opens ≡ t �
 depth-by old new given true e l = l.opened e
 depth-by old new given false e l = let k = l.known e in omega (arith, k)
 
-pub marks-length : (told : Told) (pass : Pass) (fold : Fold) (rows : List Row) (blocks : Blocks) → Stands told pass fold rows blocks → length fold.applies ≡ length blocks
-marks-length told pass fold rows blocks s = ap length s.applies ∙ length-map blocks (open_applies rows pass)
+pub marks-length : (recorded : Recorded) (pass : Pass) (fold : Fold) (rows : List Row) (blocks : Blocks) → Stands recorded pass fold rows blocks → length fold.applies ≡ length blocks
+marks-length recorded pass fold rows blocks s = ap length s.applies ∙ length-map blocks (open_applies rows pass)
 
 -- a given line lies at most as deep as files are open
-pub depth-low : (told : Told) (pass : Pass) (fold : Fold) (rows : List Row) (blocks : Blocks) (old new : Lines) (given : ConfLine) → Stands told pass fold rows blocks → IsGivenFrom old new given → Bounded old.open_files (length fold.applies) → given.depth ≤ length blocks
-depth-low told pass fold rows blocks old new given s g fits =
+pub depth-low : (recorded : Recorded) (pass : Pass) (fold : Fold) (rows : List Row) (blocks : Blocks) (old new : Lines) (given : ConfLine) → Stands recorded pass fold rows blocks → IsGivenFrom old new given → Bounded old.open_files (length fold.applies) → given.depth ≤ length blocks
+depth-low recorded pass fold rows blocks old new given s g fits =
     let d = depth-by (length fold.applies) (open_count new) given given.opens refl (g.lies (length fold.applies) fits) in
-    let k = marks-length told pass fold rows blocks s in
+    let k = marks-length recorded pass fold rows blocks s in
     omega (arith, d, k)
 
 stale : (o : OpenFiles) (b : Bool) → o.fresh ≡ b → b ≡ false → length o.below.items + cond o.fresh 0 (length (option_to_list o.top)) ≡ length o.below.items + length (option_to_list o.top)

@@ -5,20 +5,20 @@ use Rattle.std.specs.Option.{option_map}
 use Rattle.conf_rules.specs.declared.causes.Cause.TheVariants as causes
 use Rattle.conf_rules.specs.declared.causes.ResolveError.{ResolveError}
 use Rattle.conf_rules.specs.declared.causes.ResolveError.TheVariants as errors
-use Rattle.conf_rules.specs.Told.{Told}
+use Rattle.conf_rules.specs.Recorded.{Recorded}
 use Rattle.conf_rules.specs.Sources.{Line}
 use Rattle.conf_rules.specs.Rows.{Row, Pass, First, Second}
 use Rattle.conf_rules.specs.Entries.{entry_of}
 use Rattle.conf_rules.specs.Resolution.{all_rows, is_refused, refusal_in, rows_from}
 use Rattle.conf_match.specs.Evaluated.{RanAll}
 use Rattle.conf_reader.specs.declared.line.ConfLine.{ConfLine}
-use Rattle.conf_reader.specs.declared.reader.Lines.{Lines}
+use Rattle.conf_reader.specs.declared.lines.Lines.{Lines}
 use Rattle.conf_reader.specs.Blocks.{open_behind}
 use Rattle.conf_reader.specs.Firsts.{firsts_of}
 use Rattle.conf_reader.specs.Left.{left}
 use Rattle.conf_reader.specs.Reads.{GivesNext}
 use Rattle.conf_reader.specs.Results.{is_run_fault, is_fault_at}
-use Rattle.conf_reader.specs.Looking.{Test, all_meet, TellsFailed}
+use Rattle.conf_reader.specs.Looking.{Test, all_meet, RecordsFailed}
 use Rattle.conf_fold.specs.declared.fold.Fold.{Fold}
 use Rattle.conf_fold.specs.Begins.{asked_rows, asked_again, SecondBegins}
 use Rattle.conf_fold.specs.Results.{FailsAt, HasRunCause}
@@ -26,7 +26,7 @@ use Rattle.conf_fold.specs.Stands.{Stands, IsNext, next_row}
 use Rattle.conf_fold.proofs.OrderLemmas.{from, rows-on, rows-end, row-line, from-front}
 use Rattle.conf_resolve.specs.Passes.{Commands, commands, AreAgain, final_rows, first_rows}
 use Rattle.conf_resolve.specs.Faults.{FailedPaths, FaultStands, NoneFails}
-use Rattle.conf_resolve.proofs.IncludeLemmas.{may_tell, told-place, all-told}
+use Rattle.conf_resolve.proofs.IncludeLemmas.{may_record, recorded-place, all-recorded}
 use Rattle.conf_resolve.proofs.IdleLemmas.{idle-many}
 use Rattle.conf_resolve.proofs.PassLemmas.{Underway}
 use Rattle.conf_resolve.proofs.ResolveLemmas.{all-front, first-is, twice-all}
@@ -34,27 +34,27 @@ use Rattle.conf_resolve.proofs.ResolveLemmas.{all-front, first-is, twice-all}
 -- ---- rows
 
 -- the row of a line and what may come behind it
-row-front : (told : Told) (pass : Pass) (rows : List Row) (place : ℕ) (line : Line) (rest : List Line) → (later : List Row) × (from told pass rows place (line ∷ rest) ≡ rows ++ next_row told pass rows place line ∷ later)
-row-front told pass rows place line rest = on (is_refused (next_row told pass rows place line).entry) refl
+row-front : (recorded : Recorded) (pass : Pass) (rows : List Row) (place : ℕ) (line : Line) (rest : List Line) → (later : List Row) × (from recorded pass rows place (line ∷ rest) ≡ rows ++ next_row recorded pass rows place line ∷ later)
+row-front recorded pass rows place line rest = on (is_refused (next_row recorded pass rows place line).entry) refl
   where
-    on : (t : Bool) → is_refused (next_row told pass rows place line).entry ≡ t → (later : List Row) × (from told pass rows place (line ∷ rest) ≡ rows ++ next_row told pass rows place line ∷ later)
-    on true h = ([], rows-end told pass rows place line rest h)
+    on : (t : Bool) → is_refused (next_row recorded pass rows place line).entry ≡ t → (later : List Row) × (from recorded pass rows place (line ∷ rest) ≡ rows ++ next_row recorded pass rows place line ∷ later)
+    on true h = ([], rows-end recorded pass rows place line rest h)
     on false h =
-        let row = next_row told pass rows place line in
-        let front = from-front told pass rest (rows ++ row ∷ []) (place + 1) in
-        (front.0, rows-on told pass rows place line rest h ∙ front.1 ∙ append_assoc rows (row ∷ []) front.0)
+        let row = next_row recorded pass rows place line in
+        let front = from-front recorded pass rest (rows ++ row ∷ []) (place + 1) in
+        (front.0, rows-on recorded pass rows place line rest h ∙ front.1 ∙ append_assoc rows (row ∷ []) front.0)
 
 -- ---- a pass
 
 -- a failed read
-pub read-stands : (told : Told) (pass : Pass) (fold : Fold) (old : Lines) (final first : List Row) (start now before : Commands) (u : Underway told pass fold old final first start now) (e : ResolveError) (failed failed-mid failed-now : FailedPaths) → failed-mid ≡ failed
-    → ((test : Test) → all_meet test told old ≡ true → TellsFailed {A = Option ConfLine} test (Err e) failed-mid failed-now) → is_run_fault e ≡ false → old.firsts.items ≡ firsts_of told.facts.home told.asked.from → RanAll before start (commands first)
-    → FaultStands told final e before now failed failed-now
-read-stands told pass fold old final first start now before u errors.OutOfMemory failed failed-mid failed-now same tells quiet firsts began = tt
-read-stands told pass fold old final first start now before u (errors.At file number causes.RunFault) failed failed-mid failed-now same tells quiet firsts began = absurd cc
-read-stands told pass fold old final first start now before u (errors.At file number causes.ReadFault) failed failed-mid failed-now same tells quiet firsts began =
-    let front = from-front told pass (left told u.place u.blocks old) u.rows u.place in
-    let fails = tells (may_tell told u.rows) (all-told told u.rows old firsts u.looks) in
+pub read-stands : (recorded : Recorded) (pass : Pass) (fold : Fold) (old : Lines) (final first : List Row) (start now before : Commands) (u : Underway recorded pass fold old final first start now) (e : ResolveError) (failed failed-mid failed-now : FailedPaths) → failed-mid ≡ failed
+    → ((test : Test) → all_meet test recorded old ≡ true → RecordsFailed {A = Option ConfLine} test (Err e) failed-mid failed-now) → is_run_fault e ≡ false → old.firsts.items ≡ firsts_of recorded.facts.home recorded.asked.from → RanAll before start (commands first)
+    → FaultStands recorded final e before now failed failed-now
+read-stands recorded pass fold old final first start now before u errors.OutOfMemory failed failed-mid failed-now same records quiet firsts began = tt
+read-stands recorded pass fold old final first start now before u (errors.At file number causes.RunFault) failed failed-mid failed-now same records quiet firsts began = absurd cc
+read-stands recorded pass fold old final first start now before u (errors.At file number causes.ReadFault) failed failed-mid failed-now same records quiet firsts began =
+    let front = from-front recorded pass (left recorded u.place u.blocks old) u.rows u.place in
+    let fails = records (may_record recorded u.rows) (all-recorded recorded u.rows old firsts u.looks) in
     record {
       rows = u.rows;
       later = front.0;
@@ -62,28 +62,28 @@ read-stands told pass fold old final first start now before u (errors.At file nu
       ran = u.ran before began;
       path = fails.path;
       is = fails.is ∙ ap (option_map (λ paths. paths ++ fails.path ∷ [])) same;
-      place = told-place told u.rows file number fails.path fails.meets;
+      place = recorded-place recorded u.rows file number fails.path fails.meets;
     }
-read-stands told pass fold old final first start now before u (errors.At file number cause) failed failed-mid failed-now same tells quiet firsts began = tt
+read-stands recorded pass fold old final first start now before u (errors.At file number cause) failed failed-mid failed-now same records quiet firsts began = tt
 
 -- a command that could not be run
-pub run-stands : (told : Told) (pass : Pass) (fold : Fold) (old reader : Lines) (final first : List Row) (start now later before : Commands) (u : Underway told pass fold old final first start now) (line : ConfLine) (e : ResolveError) (runner runner' : ℕ) (failed failed-now : FailedPaths)
-    → GivesNext told u.place u.blocks old reader line → HasRunCause {A = Unit {0}} (Err e) runner runner'
-    → ((rows : List Row) (place : ℕ) (l : Line) → Stands told pass fold rows u.blocks → IsNext told pass rows u.blocks line place l → FailsAt {A = Unit {0}} line.file line.number (Err e) now later (next_row told pass rows place l).ran)
-    → RanAll before start (commands first) → FaultStands told final e before later failed failed-now
-run-stands told pass fold old reader final first start now later before u line errors.OutOfMemory runner runner' failed failed-now gives cause fails began = tt
-run-stands told pass fold old reader final first start now later before u line (errors.At file number causes.ReadFault) runner runner' failed failed-now gives cause fails began = absurd cause
-run-stands told pass fold old reader final first start now later before u line (errors.At file number causes.RunFault) runner runner' failed failed-now gives cause fails began =
+pub run-stands : (recorded : Recorded) (pass : Pass) (fold : Fold) (old reader : Lines) (final first : List Row) (start now later before : Commands) (u : Underway recorded pass fold old final first start now) (line : ConfLine) (e : ResolveError) (runner runner' : ℕ) (failed failed-now : FailedPaths)
+    → GivesNext recorded u.place u.blocks old reader line → HasRunCause {A = Unit {0}} (Err e) runner runner'
+    → ((rows : List Row) (place : ℕ) (l : Line) → Stands recorded pass fold rows u.blocks → IsNext recorded pass rows u.blocks line place l → FailsAt {A = Unit {0}} line.file line.number (Err e) now later (next_row recorded pass rows place l).ran)
+    → RanAll before start (commands first) → FaultStands recorded final e before later failed failed-now
+run-stands recorded pass fold old reader final first start now later before u line errors.OutOfMemory runner runner' failed failed-now gives cause fails began = tt
+run-stands recorded pass fold old reader final first start now later before u line (errors.At file number causes.ReadFault) runner runner' failed failed-now gives cause fails began = absurd cause
+run-stands recorded pass fold old reader final first start now later before u line (errors.At file number causes.RunFault) runner runner' failed failed-now gives cause fails began =
     let place = u.place + length gives.comments in
-    let rest = left told (place + 1) (open_behind line place u.blocks) reader in
-    let a = idle-many told pass fold u.blocks gives.comments (gives.line ∷ rest) u.rows final u.place u.stands u.at u.none gives.idle (subst (AreAgain told pass u.place) gives.is u.again) (ap (rows_from told entry_of u.rows (record { pass = pass; line = u.place })) (sym gives.is) ∙ u.final_is) in
-    let next : IsNext told pass a.rows u.blocks line place gives.line = record { is_line = gives.is_line; at = a.at; within = gives.within; again = a.again.0 } in
+    let rest = left recorded (place + 1) (open_behind line place u.blocks) reader in
+    let a = idle-many recorded pass fold u.blocks gives.comments (gives.line ∷ rest) u.rows final u.place u.stands u.at u.none gives.idle (subst (AreAgain recorded pass u.place) gives.is u.again) (ap (rows_from recorded entry_of u.rows (record { pass = pass; line = u.place })) (sym gives.is) ∙ u.final_is) in
+    let next : IsNext recorded pass a.rows u.blocks line place gives.line = record { is_line = gives.is_line; at = a.at; within = gives.within; again = a.again.0 } in
     let came = fails a.rows place gives.line a.stands next in
-    let front = row-front told pass a.rows place gives.line rest in
-    let same = row-line told pass a.rows place gives.line in
+    let front = row-front recorded pass a.rows place gives.line rest in
+    let same = row-line recorded pass a.rows place gives.line in
     record {
       rows = a.rows;
-      row = next_row told pass a.rows place gives.line;
+      row = next_row recorded pass a.rows place gives.line;
       later = front.0;
       parts = sym a.final_is ∙ front.1;
       file_is = ap (λ (l : Line). l.file) same ∙ gives.is_line.file ∙ sym came.0;
@@ -92,21 +92,21 @@ run-stands told pass fold old reader final first start now later before u line (
       ran = subst (RanAll before now) (sym a.ran) (u.ran before began);
       fails = came.1.1;
     }
-run-stands told pass fold old reader final first start now later before u line (errors.At file number cause) runner runner' failed failed-now gives cause' fails began = tt
+run-stands recorded pass fold old reader final first start now later before u line (errors.At file number cause) runner runner' failed failed-now gives cause' fails began = tt
 
 -- ---- both passes
 
 -- what is no fault is told anywhere
-pub plain-stands : (told : Told) (all : List Row) (e : ResolveError) (before now : Commands) (failed failed-now : FailedPaths) → is_fault_at e ≡ false → FaultStands told all e before now failed failed-now
-plain-stands told all errors.OutOfMemory before now failed failed-now h = tt
-plain-stands told all (errors.At file number causes.ReadFault) before now failed failed-now h = absurd cc
-plain-stands told all (errors.At file number causes.RunFault) before now failed failed-now h = absurd cc
-plain-stands told all (errors.At file number cause) before now failed failed-now h = tt
+pub plain-stands : (recorded : Recorded) (all : List Row) (e : ResolveError) (before now : Commands) (failed failed-now : FailedPaths) → is_fault_at e ≡ false → FaultStands recorded all e before now failed failed-now
+plain-stands recorded all errors.OutOfMemory before now failed failed-now h = tt
+plain-stands recorded all (errors.At file number causes.ReadFault) before now failed failed-now h = absurd cc
+plain-stands recorded all (errors.At file number causes.RunFault) before now failed failed-now h = absurd cc
+plain-stands recorded all (errors.At file number cause) before now failed failed-now h = tt
 
 -- where more rows come behind
-more-stands : (told : Told) (rows all more : List Row) (e : ResolveError) (before now : Commands) (failed failed-now : FailedPaths) → all ≡ rows ++ more → FaultStands told rows e before now failed failed-now → FaultStands told all e before now failed failed-now
-more-stands told rows all more errors.OutOfMemory before now failed failed-now is f = tt
-more-stands told rows all more (errors.At file number causes.ReadFault) before now failed failed-now is f = record {
+more-stands : (recorded : Recorded) (rows all more : List Row) (e : ResolveError) (before now : Commands) (failed failed-now : FailedPaths) → all ≡ rows ++ more → FaultStands recorded rows e before now failed failed-now → FaultStands recorded all e before now failed failed-now
+more-stands recorded rows all more errors.OutOfMemory before now failed failed-now is f = tt
+more-stands recorded rows all more (errors.At file number causes.ReadFault) before now failed failed-now is f = record {
   rows = f.rows;
   later = f.later ++ more;
   parts = is ∙ ap (λ rs. rs ++ more) f.parts ∙ append_assoc f.rows f.later more;
@@ -115,7 +115,7 @@ more-stands told rows all more (errors.At file number causes.ReadFault) before n
   is = f.is;
   place = f.place;
 }
-more-stands told rows all more (errors.At file number causes.RunFault) before now failed failed-now is f = record {
+more-stands recorded rows all more (errors.At file number causes.RunFault) before now failed failed-now is f = record {
   rows = f.rows;
   row = f.row;
   later = f.later ++ more;
@@ -126,19 +126,19 @@ more-stands told rows all more (errors.At file number causes.RunFault) before no
   ran = f.ran;
   fails = f.fails;
 }
-more-stands told rows all more (errors.At file number cause) before now failed failed-now is f = tt
+more-stands recorded rows all more (errors.At file number cause) before now failed failed-now is f = tt
 
 -- a fault of the first pass
-pub first-stands : (told : Told) (e : ResolveError) (before now : Commands) (failed failed-now : FailedPaths) → refusal_in (asked_rows told) ≡ None → FaultStands told (final_rows told First (asked_rows told)) e before now failed failed-now → FaultStands told (all_rows told) e before now failed failed-now
-first-stands told e before now failed failed-now none f =
-    let front = all-front told in
-    more-stands told (final_rows told First (asked_rows told)) (all_rows told) front.0 e before now failed failed-now (front.1 ∙ ap (λ rs. rs ++ front.0) (sym (first-is told none))) f
+pub first-stands : (recorded : Recorded) (e : ResolveError) (before now : Commands) (failed failed-now : FailedPaths) → refusal_in (asked_rows recorded) ≡ None → FaultStands recorded (final_rows recorded First (asked_rows recorded)) e before now failed failed-now → FaultStands recorded (all_rows recorded) e before now failed failed-now
+first-stands recorded e before now failed failed-now none f =
+    let front = all-front recorded in
+    more-stands recorded (final_rows recorded First (asked_rows recorded)) (all_rows recorded) front.0 e before now failed failed-now (front.1 ∙ ap (λ rs. rs ++ front.0) (sym (first-is recorded none))) f
 
 -- a fault of the second pass, where no read failed in the first
-pub second-stands : (told : Told) (mid : Fold) (r : Result (Unit {0}) ResolveError) (before now : Commands) (failed failed-mid failed-now : FailedPaths) → refusal_in (first_rows told) ≡ None → SecondBegins told (first_rows told) mid true → failed-mid ≡ failed
-    → IfErr r (λ e. FaultStands told (final_rows told (Second (first_rows told)) (asked_again told (first_rows told))) e before now failed-mid failed-now) → IfErr r (λ e. FaultStands told (all_rows told) e before now failed failed-now)
-second-stands told mid r before now failed failed-mid failed-now none b same f =
-    subst (λ paths. IfErr r (λ e. FaultStands told (all_rows told) e before now paths failed-now)) same (subst (λ rs. IfErr r (λ e. FaultStands told rs e before now failed-mid failed-now)) (twice-all told mid none b) f)
+pub second-stands : (recorded : Recorded) (mid : Fold) (r : Result (Unit {0}) ResolveError) (before now : Commands) (failed failed-mid failed-now : FailedPaths) → refusal_in (first_rows recorded) ≡ None → SecondBegins recorded (first_rows recorded) mid true → failed-mid ≡ failed
+    → IfErr r (λ e. FaultStands recorded (final_rows recorded (Second (first_rows recorded)) (asked_again recorded (first_rows recorded))) e before now failed-mid failed-now) → IfErr r (λ e. FaultStands recorded (all_rows recorded) e before now failed failed-now)
+second-stands recorded mid r before now failed failed-mid failed-now none b same f =
+    subst (λ paths. IfErr r (λ e. FaultStands recorded (all_rows recorded) e before now paths failed-now)) same (subst (λ rs. IfErr r (λ e. FaultStands recorded rs e before now failed-mid failed-now)) (twice-all recorded mid none b) f)
 
 -- ---- where no read failed
 
@@ -148,10 +148,10 @@ none-fails (errors.At file number causes.ReadFault) failed now same = tt
 none-fails (errors.At file number cause) failed now same = same
 
 -- what the reader tells
-pub none-told : (test : Test) (e : ResolveError) (failed mid now : FailedPaths) → mid ≡ failed → TellsFailed {A = Option ConfLine} test (Err e) mid now → NoneFails {A = Unit {0}} (Err e) failed now
-none-told test errors.OutOfMemory failed mid now same tells = tells ∙ same
-none-told test (errors.At file number causes.ReadFault) failed mid now same tells = tt
-none-told test (errors.At file number cause) failed mid now same tells = tells ∙ same
+pub none-recorded : (test : Test) (e : ResolveError) (failed mid now : FailedPaths) → mid ≡ failed → RecordsFailed {A = Option ConfLine} test (Err e) mid now → NoneFails {A = Unit {0}} (Err e) failed now
+none-recorded test errors.OutOfMemory failed mid now same records = records ∙ same
+none-recorded test (errors.At file number causes.ReadFault) failed mid now same records = tt
+none-recorded test (errors.At file number cause) failed mid now same records = records ∙ same
 
 -- in the second pass
 pub none-again : (r : Result (Unit {0}) ResolveError) (failed mid now : FailedPaths) → mid ≡ failed → NoneFails r mid now → NoneFails r failed now

@@ -9,15 +9,15 @@ use Rattle.std.proofs.lemmas.Bool.{eq-eqb, eqb-true}
 use Rattle.std.proofs.lemmas.List.Folds.{list_any-append}
 use Rattle.std.proofs.lemmas.Slice.Eq.{bytes_eq-Decides}
 use Rattle.conf_rules.specs.Texts.{Bytes, same_word}
-use Rattle.conf_rules.specs.Told.{Told}
+use Rattle.conf_rules.specs.Recorded.{Recorded}
 use Rattle.conf_rules.specs.Includes.{Source}
 use Rattle.conf_rules.specs.Looks.{looks_at, looked_at}
 use Rattle.conf_rules.specs.Sources.{Line}
 use Rattle.conf_rules.specs.Rows.{Row}
 use Rattle.conf_reader.specs.declared.line.ConfLine.{ConfLine}
 use Rattle.conf_reader.specs.declared.stack.OpenFiles.{OpenFiles}
-use Rattle.conf_reader.specs.declared.reader.FirstFile.{FirstFile}
-use Rattle.conf_reader.specs.declared.reader.Lines.{Lines}
+use Rattle.conf_reader.specs.declared.lines.FirstFile.{FirstFile}
+use Rattle.conf_reader.specs.declared.lines.Lines.{Lines}
 use Rattle.conf_reader.specs.Blocks.{Blocks, IsLine}
 use Rattle.conf_reader.specs.Firsts.{firsts_of}
 use Rattle.conf_reader.specs.Left.{source_of, stack}
@@ -60,31 +60,31 @@ same-path path = (bytes_eq-Decides path path).1 refl
 -- ---- the test
 
 -- whether a row's line stands there and looks at this path
-abbrev pub looks_from : Told → Bytes → ℕ → Bytes → Row → Bool
-looks_from told file number path row = bytes_eq row.line.file file && ((row.line.number == number) && list_any (bytes_eq path) (looked_at row.line.source told row.line.content))
+abbrev pub looks_from : Recorded → Bytes → ℕ → Bytes → Row → Bool
+looks_from recorded file number path row = bytes_eq row.line.file file && ((row.line.number == number) && list_any (bytes_eq path) (looked_at row.line.source recorded row.line.content))
 
 -- whether line 0 of a first file is meant, and its path
 abbrev pub is_first : Bytes → ℕ → Bytes → FirstFile → Bool
 is_first file number path f = bytes_eq f.path file && (bytes_eq f.path path && (number == 0))
 
 -- whether a failed read of a path may be told there, behind these rows
-pub may_tell : Told → List Row → Bytes → ℕ → Bytes → Bool
-may_tell told rows file number path = list_any (looks_from told file number path) rows || list_any (is_first file number path) (firsts_of told.facts.home told.asked.from)
+pub may_record : Recorded → List Row → Bytes → ℕ → Bytes → Bool
+may_record recorded rows file number path = list_any (looks_from recorded file number path) rows || list_any (is_first file number path) (firsts_of recorded.facts.home recorded.asked.from)
 
 -- the place where it is told
-pub told-place : (told : Told) (rows : List Row) (file : Bytes) (number : ℕ) (path : Bytes) → may_tell told rows file number path ≡ true → LooksFrom told rows file number path ⊎ IsFirst told file number path
-unfolding may_tell
-told-place told rows file number path e = on (either (list_any (looks_from told file number path) rows) _ e)
+pub recorded-place : (recorded : Recorded) (rows : List Row) (file : Bytes) (number : ℕ) (path : Bytes) → may_record recorded rows file number path ≡ true → LooksFrom recorded rows file number path ⊎ IsFirst recorded file number path
+unfolding may_record
+recorded-place recorded rows file number path e = on (either (list_any (looks_from recorded file number path) rows) _ e)
   where
-    on : ((list_any (looks_from told file number path) rows ≡ true) ⊎ (list_any (is_first file number path) (firsts_of told.facts.home told.asked.from) ≡ true)) → LooksFrom told rows file number path ⊎ IsFirst told file number path
+    on : ((list_any (looks_from recorded file number path) rows ≡ true) ⊎ (list_any (is_first file number path) (firsts_of recorded.facts.home recorded.asked.from) ≡ true)) → LooksFrom recorded rows file number path ⊎ IsFirst recorded file number path
     on (inl h) =
-        let f = found (looks_from told file number path) rows h in
+        let f = found (looks_from recorded file number path) rows h in
         let row = f.1.0 in
         let file-is = both (bytes_eq row.line.file file) _ f.1.1.1 in
         let number-is = both (row.line.number == number) _ file-is.1 in
         inl (record { at = f.0; row = row; is = f.1.1.0; looks = number-is.1; file_is = (bytes_eq-Decides row.line.file file).0 file-is.0; number_is = eqb-true row.line.number number number-is.0 })
     on (inr h) =
-        let f = found (is_first file number path) (firsts_of told.facts.home told.asked.from) h in
+        let f = found (is_first file number path) (firsts_of recorded.facts.home recorded.asked.from) h in
         let first = f.1.0 in
         let file-is = both (bytes_eq first.path file) _ f.1.1.1 in
         let path-is = both (bytes_eq first.path path) _ file-is.1 in
@@ -96,14 +96,14 @@ or-more : (a b c : Bool) → (a || c) ≡ true → ((a || b) || c) ≡ true
 or-more true b c e = refl
 or-more false b c e = rw e (or-true b)
 
-more-told : (told : Told) (rows more : List Row) (file : Bytes) (number : ℕ) (path : Bytes) → may_tell told rows file number path ≡ true → may_tell told (rows ++ more) file number path ≡ true
-unfolding may_tell
-more-told told rows more file number path e = rw (list_any-append (looks_from told file number path) rows more) (or-more (list_any (looks_from told file number path) rows) _ _ e)
+more-recorded : (recorded : Recorded) (rows more : List Row) (file : Bytes) (number : ℕ) (path : Bytes) → may_record recorded rows file number path ≡ true → may_record recorded (rows ++ more) file number path ≡ true
+unfolding may_record
+more-recorded recorded rows more file number path e = rw (list_any-append (looks_from recorded file number path) rows more) (or-more (list_any (looks_from recorded file number path) rows) _ _ e)
 
-pub meets-more : (told : Told) (rows more : List Row) (o : OpenFiles) → meets (may_tell told rows) told o ≡ true → meets (may_tell told (rows ++ more)) told o ≡ true
-meets-more told rows more o e =
-    all-more (meets_in (may_tell told rows) told (source_of o.system)) (meets_in (may_tell told (rows ++ more)) told (source_of o.system)) (stack o)
-    (λ f h. all-more (may_tell told rows f.path (f.number - 1)) (may_tell told (rows ++ more) f.path (f.number - 1)) (to_look told (source_of o.system) f) (λ path k. more-told told rows more f.path (f.number - 1) path k) h) e
+pub meets-more : (recorded : Recorded) (rows more : List Row) (o : OpenFiles) → meets (may_record recorded rows) recorded o ≡ true → meets (may_record recorded (rows ++ more)) recorded o ≡ true
+meets-more recorded rows more o e =
+    all-more (meets_in (may_record recorded rows) recorded (source_of o.system)) (meets_in (may_record recorded (rows ++ more)) recorded (source_of o.system)) (stack o)
+    (λ f h. all-more (may_record recorded rows f.path (f.number - 1)) (may_record recorded (rows ++ more) f.path (f.number - 1)) (to_look recorded (source_of o.system) f) (λ path k. more-recorded recorded rows more f.path (f.number - 1) path k) h) e
 
 -- ---- first files
 
@@ -114,38 +114,38 @@ first-self : (f : FirstFile) → same_first f f ≡ true
 unfolding same_first
 first-self f = rw (same-path f.path) refl
 
-first-told : (told : Told) (rows : List Row) (f : FirstFile) → list_any (same_first f) (firsts_of told.facts.home told.asked.from) ≡ true → may_tell told rows f.path 0 f.path ≡ true
-unfolding may_tell same_first
-first-told told rows f e = rw e (or-true (list_any (looks_from told f.path 0 f.path) rows))
+first-recorded : (recorded : Recorded) (rows : List Row) (f : FirstFile) → list_any (same_first f) (firsts_of recorded.facts.home recorded.asked.from) ≡ true → may_record recorded rows f.path 0 f.path ≡ true
+unfolding may_record same_first
+first-recorded recorded rows f e = rw e (or-true (list_any (looks_from recorded f.path 0 f.path) rows))
 
-firsts-told : (told : Told) (rows : List Row) (firsts : List FirstFile) → firsts ≡ firsts_of told.facts.home told.asked.from → firsts_meet (may_tell told rows) firsts ≡ true
-firsts-told told rows firsts e =
-    all-more (λ f. list_any (same_first f) firsts) (λ f. may_tell told rows f.path 0 f.path) firsts (λ f h. first-told told rows f (subst (λ fs. list_any (same_first f) fs ≡ true) e h))
+firsts-recorded : (recorded : Recorded) (rows : List Row) (firsts : List FirstFile) → firsts ≡ firsts_of recorded.facts.home recorded.asked.from → firsts_meet (may_record recorded rows) firsts ≡ true
+firsts-recorded recorded rows firsts e =
+    all-more (λ f. list_any (same_first f) firsts) (λ f. may_record recorded rows f.path 0 f.path) firsts (λ f h. first-recorded recorded rows f (subst (λ fs. list_any (same_first f) fs ≡ true) e h))
     (all-among same_first firsts firsts first-self (λ f h. h))
 
 -- all that a reader has still to look at
-pub all-told : (told : Told) (rows : List Row) (r : Lines) → r.firsts.items ≡ firsts_of told.facts.home told.asked.from → meets (may_tell told rows) told r.open_files ≡ true → all_meet (may_tell told rows) told r ≡ true
-all-told told rows r firsts e = rw e (firsts-told told rows r.firsts.items firsts)
+pub all-recorded : (recorded : Recorded) (rows : List Row) (r : Lines) → r.firsts.items ≡ firsts_of recorded.facts.home recorded.asked.from → meets (may_record recorded rows) recorded r.open_files ≡ true → all_meet (may_record recorded rows) recorded r ≡ true
+all-recorded recorded rows r firsts e = rw e (firsts-recorded recorded rows r.firsts.items firsts)
 
 -- ---- the row of a line that was given
 
-own-told : (told : Told) (rows : List Row) (row : Row) (file : Bytes) (number : ℕ) (path : Bytes) → row.line.file ≡ file → row.line.number ≡ number → list_any (bytes_eq path) (looked_at row.line.source told row.line.content) ≡ true → may_tell told (rows ++ row ∷ []) file number path ≡ true
-unfolding may_tell
-own-told told rows row file number path f n h =
-    rw (list_any-append (looks_from told file number path) rows (row ∷ []), (bytes_eq-Decides row.line.file file).1 f, eq-eqb row.line.number number n, h, or-true (list_any (looks_from told file number path) rows)) refl
+own-recorded : (recorded : Recorded) (rows : List Row) (row : Row) (file : Bytes) (number : ℕ) (path : Bytes) → row.line.file ≡ file → row.line.number ≡ number → list_any (bytes_eq path) (looked_at row.line.source recorded row.line.content) ≡ true → may_record recorded (rows ++ row ∷ []) file number path ≡ true
+unfolding may_record
+own-recorded recorded rows row file number path f n h =
+    rw (list_any-append (looks_from recorded file number path) rows (row ∷ []), (bytes_eq-Decides row.line.file file).1 f, eq-eqb row.line.number number n, h, or-true (list_any (looks_from recorded file number path) rows)) refl
 
-pub line-told : (told : Told) (rows : List Row) (row : Row) (blocks : Blocks) (given : ConfLine) (line : Line) (source : Source) → row.line ≡ line → IsLine given blocks line → line.source ≡ source → line_meets (may_tell told (rows ++ row ∷ [])) told source given ≡ true
-line-told told rows row blocks given line source is l from = on (same_word given.keyword (codes "include")) refl
+pub line-recorded : (recorded : Recorded) (rows : List Row) (row : Row) (blocks : Blocks) (given : ConfLine) (line : Line) (source : Source) → row.line ≡ line → IsLine given blocks line → line.source ≡ source → line_meets (may_record recorded (rows ++ row ∷ [])) recorded source given ≡ true
+line-recorded recorded rows row blocks given line source is l from = on (same_word given.keyword (codes "include")) refl
   where
-    looked : same_word given.keyword (codes "include") ≡ true → looked_at row.line.source told row.line.content ≡ looks_at source told given.rest
+    looked : same_word given.keyword (codes "include") ≡ true → looked_at row.line.source recorded row.line.content ≡ looks_at source recorded given.rest
     looked e = rw (is, l.spelled, l.says, e, from) refl
 
-    on : (t : Bool) → same_word given.keyword (codes "include") ≡ t → line_meets (may_tell told (rows ++ row ∷ [])) told source given ≡ true
+    on : (t : Bool) → same_word given.keyword (codes "include") ≡ t → line_meets (may_record recorded (rows ++ row ∷ [])) recorded source given ≡ true
     on false e = rw e refl
     on true e =
-        rw e (all-more (λ path. list_any (bytes_eq path) (looks_at source told given.rest)) (may_tell told (rows ++ row ∷ []) given.file given.number) (looks_at source told given.rest)
-        (λ path h. own-told told rows row given.file given.number path (ap (λ (x : Line). x.file) is ∙ l.file) (ap (λ (x : Line). x.number) is ∙ l.number) (subst (λ ps. list_any (bytes_eq path) ps ≡ true) (sym (looked e)) h))
-        (all-among bytes_eq (looks_at source told given.rest) (looks_at source told given.rest) same-path (λ path h. h)))
+        rw e (all-more (λ path. list_any (bytes_eq path) (looks_at source recorded given.rest)) (may_record recorded (rows ++ row ∷ []) given.file given.number) (looks_at source recorded given.rest)
+        (λ path h. own-recorded recorded rows row given.file given.number path (ap (λ (x : Line). x.file) is ∙ l.file) (ap (λ (x : Line). x.number) is ∙ l.number) (subst (λ ps. list_any (bytes_eq path) ps ≡ true) (sym (looked e)) h))
+        (all-among bytes_eq (looks_at source recorded given.rest) (looks_at source recorded given.rest) same-path (λ path h. h)))
 
 -- ---- the test that anything meets
 
@@ -156,7 +156,7 @@ all-true : {X : Type 0} (p : X → Bool) (xs : List X) → ((x : X) → p x ≡ 
 all-true p [] h = refl
 all-true p (x ∷ xs) h = rw (h x) (all-true p xs h)
 
-pub any-meets : (told : Told) (r : Lines) → all_meet any_place told r ≡ true
+pub any-meets : (recorded : Recorded) (r : Lines) → all_meet any_place recorded r ≡ true
 unfolding any_place
-any-meets told r = rw (all-true (meets_in any_place told (source_of r.open_files.system)) (stack r.open_files) (λ f. all-true (any_place f.path (f.number - 1)) (to_look told (source_of r.open_files.system) f) (λ path. refl)))
+any-meets recorded r = rw (all-true (meets_in any_place recorded (source_of r.open_files.system)) (stack r.open_files) (λ f. all-true (any_place f.path (f.number - 1)) (to_look recorded (source_of r.open_files.system) f) (λ path. refl)))
     (all-true (λ (f : FirstFile). any_place f.path 0 f.path) r.firsts.items (λ f. refl))

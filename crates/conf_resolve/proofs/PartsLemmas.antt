@@ -3,7 +3,7 @@ use Rattle.std.proofs.Common.{◌≡◌, ℕ, suc, ◌+◌, Bool, true, false, �
 use Rattle.std.specs.List.{list_any}
 use Rattle.std.proofs.lemmas.List.{length-append}
 use Rattle.conf_rules.specs.declared.causes.ResolveError.{ResolveError}
-use Rattle.conf_rules.specs.Told.{Told}
+use Rattle.conf_rules.specs.Recorded.{Recorded}
 use Rattle.conf_rules.specs.Sources.{Line}
 use Rattle.conf_rules.specs.Rows.{Row, Pass}
 use Rattle.conf_rules.specs.Resolution.{rows_from, is_refused, refuses, refusal_at, refusal_in, or_later}
@@ -34,51 +34,51 @@ any-refused (r ∷ rs) e h = some-one r rs e (is_refused r.entry) refl (any-refu
 
 -- ---- lines in two parts
 
-pub ends-refused : (told : Told) (pass : Pass) (rows : List Row) (place : ℕ) (x : Line) (xs : List Line) → refusal_in rows ≡ None → is_refused (next_row told pass rows place x).entry ≡ true → refusal_in (from told pass rows place (x ∷ xs)) ≡ None → ⊥
-ends-refused told pass rows place x xs none h all = not-none (next_row told pass rows place x).line (next_row told pass rows place x).entry h (sym (refusal-behind rows (next_row told pass rows place x) none) ∙ ap refusal_in (sym (rows-end told pass rows place x xs h)) ∙ all)
+pub ends-refused : (recorded : Recorded) (pass : Pass) (rows : List Row) (place : ℕ) (x : Line) (xs : List Line) → refusal_in rows ≡ None → is_refused (next_row recorded pass rows place x).entry ≡ true → refusal_in (from recorded pass rows place (x ∷ xs)) ≡ None → ⊥
+ends-refused recorded pass rows place x xs none h all = not-none (next_row recorded pass rows place x).line (next_row recorded pass rows place x).entry h (sym (refusal-behind rows (next_row recorded pass rows place x) none) ∙ ap refusal_in (sym (rows-end recorded pass rows place x xs h)) ∙ all)
 
-append-one : (told : Told) (pass : Pass) (x : Line) (xs ys : List Line) (rows : List Row) (place : ℕ) (t : Bool) → is_refused (next_row told pass rows place x).entry ≡ t → refusal_in rows ≡ None → refusal_in (from told pass rows place (x ∷ xs)) ≡ None
-    → ((rs : List Row) → refusal_in rs ≡ None → refusal_in (from told pass rs (place + 1) xs) ≡ None → from told pass rs (place + 1) (xs ++ ys) ≡ from told pass (from told pass rs (place + 1) xs) (place + 1 + length xs) ys)
-    → from told pass rows place (x ∷ (xs ++ ys)) ≡ from told pass (from told pass rows place (x ∷ xs)) (place + suc (length xs)) ys
-append-one told pass x xs ys rows place true h none all later = absurd (ends-refused told pass rows place x xs none h all)
-append-one told pass x xs ys rows place false h none all later =
-    let row = next_row told pass rows place x in
+append-one : (recorded : Recorded) (pass : Pass) (x : Line) (xs ys : List Line) (rows : List Row) (place : ℕ) (t : Bool) → is_refused (next_row recorded pass rows place x).entry ≡ t → refusal_in rows ≡ None → refusal_in (from recorded pass rows place (x ∷ xs)) ≡ None
+    → ((rs : List Row) → refusal_in rs ≡ None → refusal_in (from recorded pass rs (place + 1) xs) ≡ None → from recorded pass rs (place + 1) (xs ++ ys) ≡ from recorded pass (from recorded pass rs (place + 1) xs) (place + 1 + length xs) ys)
+    → from recorded pass rows place (x ∷ (xs ++ ys)) ≡ from recorded pass (from recorded pass rows place (x ∷ xs)) (place + suc (length xs)) ys
+append-one recorded pass x xs ys rows place true h none all later = absurd (ends-refused recorded pass rows place x xs none h all)
+append-one recorded pass x xs ys rows place false h none all later =
+    let row = next_row recorded pass rows place x in
     let n : place + 1 + length xs ≡ place + suc (length xs) = omega arith in
-    rows-on told pass rows place x (xs ++ ys) h ∙ later (rows ++ row ∷ []) (behind-ok told pass rows place x none h) (ap refusal_in (sym (rows-on told pass rows place x xs h)) ∙ all)
-    ∙ ap (λ m. from told pass (from told pass (rows ++ row ∷ []) (place + 1) xs) m ys) n
-    ∙ ap (λ rs. from told pass rs (place + suc (length xs)) ys) (sym (rows-on told pass rows place x xs h))
+    rows-on recorded pass rows place x (xs ++ ys) h ∙ later (rows ++ row ∷ []) (behind-ok recorded pass rows place x none h) (ap refusal_in (sym (rows-on recorded pass rows place x xs h)) ∙ all)
+    ∙ ap (λ m. from recorded pass (from recorded pass (rows ++ row ∷ []) (place + 1) xs) m ys) n
+    ∙ ap (λ rs. from recorded pass rs (place + suc (length xs)) ys) (sym (rows-on recorded pass rows place x xs h))
 
 -- where no row is refused, the rows of later lines come behind
-pub rows-append : (told : Told) (pass : Pass) (xs ys : List Line) (rows : List Row) (place : ℕ) → refusal_in rows ≡ None → refusal_in (from told pass rows place xs) ≡ None → from told pass rows place (xs ++ ys) ≡ from told pass (from told pass rows place xs) (place + length xs) ys
+pub rows-append : (recorded : Recorded) (pass : Pass) (xs ys : List Line) (rows : List Row) (place : ℕ) → refusal_in rows ≡ None → refusal_in (from recorded pass rows place xs) ≡ None → from recorded pass rows place (xs ++ ys) ≡ from recorded pass (from recorded pass rows place xs) (place + length xs) ys
 unfolding rows_from
-rows-append told pass [] ys rows place none all = let z : place ≡ place + 0 = omega arith in ap (λ n. from told pass rows n ys) z
-rows-append told pass (x ∷ xs) ys rows place none all = append-one told pass x xs ys rows place (is_refused (next_row told pass rows place x).entry) refl none all (λ rs n a. rows-append told pass xs ys rs (place + 1) n a)
+rows-append recorded pass [] ys rows place none all = let z : place ≡ place + 0 = omega arith in ap (λ n. from recorded pass rows n ys) z
+rows-append recorded pass (x ∷ xs) ys rows place none all = append-one recorded pass x xs ys rows place (is_refused (next_row recorded pass rows place x).entry) refl none all (λ rs n a. rows-append recorded pass xs ys rs (place + 1) n a)
 
-stop-one : (told : Told) (pass : Pass) (x : Line) (xs ys : List Line) (rows : List Row) (place : ℕ) (e : ResolveError) (t : Bool) → is_refused (next_row told pass rows place x).entry ≡ t → refusal_in rows ≡ None → refusal_in (from told pass rows place (x ∷ xs)) ≡ Some e
-    → ((rs : List Row) → refusal_in rs ≡ None → refusal_in (from told pass rs (place + 1) xs) ≡ Some e → from told pass rs (place + 1) (xs ++ ys) ≡ from told pass rs (place + 1) xs)
-    → from told pass rows place (x ∷ (xs ++ ys)) ≡ from told pass rows place (x ∷ xs)
-stop-one told pass x xs ys rows place e true h none some later = rows-end told pass rows place x (xs ++ ys) h ∙ sym (rows-end told pass rows place x xs h)
-stop-one told pass x xs ys rows place e false h none some later =
-    rows-on told pass rows place x (xs ++ ys) h ∙ later (rows ++ next_row told pass rows place x ∷ []) (behind-ok told pass rows place x none h) (ap refusal_in (sym (rows-on told pass rows place x xs h)) ∙ some) ∙ sym (rows-on told pass rows place x xs h)
+stop-one : (recorded : Recorded) (pass : Pass) (x : Line) (xs ys : List Line) (rows : List Row) (place : ℕ) (e : ResolveError) (t : Bool) → is_refused (next_row recorded pass rows place x).entry ≡ t → refusal_in rows ≡ None → refusal_in (from recorded pass rows place (x ∷ xs)) ≡ Some e
+    → ((rs : List Row) → refusal_in rs ≡ None → refusal_in (from recorded pass rs (place + 1) xs) ≡ Some e → from recorded pass rs (place + 1) (xs ++ ys) ≡ from recorded pass rs (place + 1) xs)
+    → from recorded pass rows place (x ∷ (xs ++ ys)) ≡ from recorded pass rows place (x ∷ xs)
+stop-one recorded pass x xs ys rows place e true h none some later = rows-end recorded pass rows place x (xs ++ ys) h ∙ sym (rows-end recorded pass rows place x xs h)
+stop-one recorded pass x xs ys rows place e false h none some later =
+    rows-on recorded pass rows place x (xs ++ ys) h ∙ later (rows ++ next_row recorded pass rows place x ∷ []) (behind-ok recorded pass rows place x none h) (ap refusal_in (sym (rows-on recorded pass rows place x xs h)) ∙ some) ∙ sym (rows-on recorded pass rows place x xs h)
 
 -- where one is, they don't
-pub rows-stop : (told : Told) (pass : Pass) (xs ys : List Line) (rows : List Row) (place : ℕ) (e : ResolveError) → refusal_in rows ≡ None → refusal_in (from told pass rows place xs) ≡ Some e → from told pass rows place (xs ++ ys) ≡ from told pass rows place xs
+pub rows-stop : (recorded : Recorded) (pass : Pass) (xs ys : List Line) (rows : List Row) (place : ℕ) (e : ResolveError) → refusal_in rows ≡ None → refusal_in (from recorded pass rows place xs) ≡ Some e → from recorded pass rows place (xs ++ ys) ≡ from recorded pass rows place xs
 unfolding rows_from
-rows-stop told pass [] ys rows place e none some = absurd (let k : None ≡ Some e = sym none ∙ some in cc)
-rows-stop told pass (x ∷ xs) ys rows place e none some = stop-one told pass x xs ys rows place e (is_refused (next_row told pass rows place x).entry) refl none some (λ rs n a. rows-stop told pass xs ys rs (place + 1) e n a)
+rows-stop recorded pass [] ys rows place e none some = absurd (let k : None ≡ Some e = sym none ∙ some in cc)
+rows-stop recorded pass (x ∷ xs) ys rows place e none some = stop-one recorded pass x xs ys rows place e (is_refused (next_row recorded pass rows place x).entry) refl none some (λ rs n a. rows-stop recorded pass xs ys rs (place + 1) e n a)
 
-length-one : (told : Told) (pass : Pass) (x : Line) (xs : List Line) (rows : List Row) (place : ℕ) (t : Bool) → is_refused (next_row told pass rows place x).entry ≡ t → refusal_in rows ≡ None → refusal_in (from told pass rows place (x ∷ xs)) ≡ None
-    → ((rs : List Row) → refusal_in rs ≡ None → refusal_in (from told pass rs (place + 1) xs) ≡ None → length (from told pass rs (place + 1) xs) ≡ length rs + length xs)
-    → length (from told pass rows place (x ∷ xs)) ≡ length rows + suc (length xs)
-length-one told pass x xs rows place true h none all later = absurd (ends-refused told pass rows place x xs none h all)
-length-one told pass x xs rows place false h none all later =
-    let row = next_row told pass rows place x in
+length-one : (recorded : Recorded) (pass : Pass) (x : Line) (xs : List Line) (rows : List Row) (place : ℕ) (t : Bool) → is_refused (next_row recorded pass rows place x).entry ≡ t → refusal_in rows ≡ None → refusal_in (from recorded pass rows place (x ∷ xs)) ≡ None
+    → ((rs : List Row) → refusal_in rs ≡ None → refusal_in (from recorded pass rs (place + 1) xs) ≡ None → length (from recorded pass rs (place + 1) xs) ≡ length rs + length xs)
+    → length (from recorded pass rows place (x ∷ xs)) ≡ length rows + suc (length xs)
+length-one recorded pass x xs rows place true h none all later = absurd (ends-refused recorded pass rows place x xs none h all)
+length-one recorded pass x xs rows place false h none all later =
+    let row = next_row recorded pass rows place x in
     let k : length (rows ++ row ∷ []) ≡ length rows + 1 = length-append rows (row ∷ []) in
     let n : length (rows ++ row ∷ []) + length xs ≡ length rows + suc (length xs) = omega (arith, k) in
-    ap length (rows-on told pass rows place x xs h) ∙ later (rows ++ row ∷ []) (behind-ok told pass rows place x none h) (ap refusal_in (sym (rows-on told pass rows place x xs h)) ∙ all) ∙ n
+    ap length (rows-on recorded pass rows place x xs h) ∙ later (rows ++ row ∷ []) (behind-ok recorded pass rows place x none h) (ap refusal_in (sym (rows-on recorded pass rows place x xs h)) ∙ all) ∙ n
 
 -- how many rows there are
-pub rows-length : (told : Told) (pass : Pass) (xs : List Line) (rows : List Row) (place : ℕ) → refusal_in rows ≡ None → refusal_in (from told pass rows place xs) ≡ None → length (from told pass rows place xs) ≡ length rows + length xs
+pub rows-length : (recorded : Recorded) (pass : Pass) (xs : List Line) (rows : List Row) (place : ℕ) → refusal_in rows ≡ None → refusal_in (from recorded pass rows place xs) ≡ None → length (from recorded pass rows place xs) ≡ length rows + length xs
 unfolding rows_from
-rows-length told pass [] rows place none all = omega arith
-rows-length told pass (x ∷ xs) rows place none all = length-one told pass x xs rows place (is_refused (next_row told pass rows place x).entry) refl none all (λ rs n a. rows-length told pass xs rs (place + 1) n a)
+rows-length recorded pass [] rows place none all = omega arith
+rows-length recorded pass (x ∷ xs) rows place none all = length-one recorded pass x xs rows place (is_refused (next_row recorded pass rows place x).entry) refl none all (λ rs n a. rows-length recorded pass xs rs (place + 1) n a)

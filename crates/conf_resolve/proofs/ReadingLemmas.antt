@@ -6,11 +6,11 @@ use Rattle.std.specs.Option.{option_map}
 use Rattle.std.proofs.lemmas.List.{append-nil}
 use Rattle.conf_rules.specs.declared.causes.ResolveError.{ResolveError}
 use Rattle.conf_rules.specs.Texts.{Bytes}
-use Rattle.conf_rules.specs.Told.{Told}
+use Rattle.conf_rules.specs.Recorded.{Recorded}
 use Rattle.conf_rules.specs.Resolution.{wants_second, refusal_in}
 use Rattle.conf_rules.specs.ReadOrder.{all_reads, asks_second, read_once}
 use Rattle.conf_reader.specs.declared.line.ConfLine.{ConfLine}
-use Rattle.conf_reader.specs.declared.reader.Lines.{Lines}
+use Rattle.conf_reader.specs.declared.lines.Lines.{Lines}
 use Rattle.conf_reader.specs.ToRead.{reading_of, ReadsSome, ReadsTo}
 use Rattle.conf_reader.specs.Uses.{behind_call}
 use Rattle.conf_reader.proofs.ToReadLemmas.{more-left, then-read, then-some}
@@ -29,46 +29,46 @@ of-all : (paths : List Bytes) (before now : Readings) → ReadsAll paths before 
 of-all paths before now h = record { read = paths; parts = sym (append-nil paths); noted = h }
 
 -- no line is left
-pub no-line : (told : Told) (a : List Bytes) (v : Option ConfLine) (new : Lines) (before now : Readings) → ((line : ConfLine) → v ≡ Some line → ⊥) → ReadsTo a ((behind_call (Ok v) new).paths told) before now → ReadsTo a [] before now
-no-line told a None new before now n h = h
-no-line told a (Some line) new before now n h = absurd (n line refl)
+pub no-line : (recorded : Recorded) (a : List Bytes) (v : Option ConfLine) (new : Lines) (before now : Readings) → ((line : ConfLine) → v ≡ Some line → ⊥) → ReadsTo a ((behind_call (Ok v) new).paths recorded) before now → ReadsTo a [] before now
+no-line recorded a None new before now n h = h
+no-line recorded a (Some line) new before now n h = absurd (n line refl)
 
 some-more : (a b : List Bytes) (before now : Readings) → ReadsSome a before now → ReadsSome (a ++ b) before now
 some-more a b before now h = (h.0 ++ b, more-left a h.0 b before now h.1)
 
 -- what is read in the first pass stands in front
-front : (told : Told) → (more : List Bytes) × (all_reads told ≡ read_once told told.asked.from ++ more)
+front : (recorded : Recorded) → (more : List Bytes) × (all_reads recorded ≡ read_once recorded recorded.asked.from ++ more)
 unfolding all_reads
-front told = (_, refl)
+front recorded = (_, refl)
 
-pub first-some : (told : Told) (before now : Readings) → ReadsSome (read_once told told.asked.from) before now → ReadsSome (all_reads told) before now
-first-some told before now h =
-    let f = front told in
-    subst (λ ps. ReadsSome ps before now) (sym f.1) (some-more (read_once told told.asked.from) f.0 before now h)
+pub first-some : (recorded : Recorded) (before now : Readings) → ReadsSome (read_once recorded recorded.asked.from) before now → ReadsSome (all_reads recorded) before now
+first-some recorded before now h =
+    let f = front recorded in
+    subst (λ ps. ReadsSome ps before now) (sym f.1) (some-more (read_once recorded recorded.asked.from) f.0 before now h)
 
-pub first-all : (told : Told) (before now : Readings) → ReadsAll (read_once told told.asked.from) before now → ReadsSome (all_reads told) before now
-first-all told before now h = first-some told before now ([], of-all (read_once told told.asked.from) before now h)
+pub first-all : (recorded : Recorded) (before now : Readings) → ReadsAll (read_once recorded recorded.asked.from) before now → ReadsSome (all_reads recorded) before now
+first-all recorded before now h = first-some recorded before now ([], of-all (read_once recorded recorded.asked.from) before now h)
 
-second-asked : (told : Told) (t : Bool) → refusal_in (first_rows told) ≡ None → list_any wants_second (first_rows told) ≡ t → asks_second (first_rows told) ≡ t
-second-asked told t none e = rw (none-refused (first_rows told) none) e
+second-asked : (recorded : Recorded) (t : Bool) → refusal_in (first_rows recorded) ≡ None → list_any wants_second (first_rows recorded) ≡ t → asks_second (first_rows recorded) ≡ t
+second-asked recorded t none e = rw (none-refused (first_rows recorded) none) e
 
 -- where there is no second pass
-pub once-all : (told : Told) (before now : Readings) → refusal_in (first_rows told) ≡ None → list_any wants_second (first_rows told) ≡ false → ReadsAll (read_once told told.asked.from) before now → ReadsAll (all_reads told) before now
+pub once-all : (recorded : Recorded) (before now : Readings) → refusal_in (first_rows recorded) ≡ None → list_any wants_second (first_rows recorded) ≡ false → ReadsAll (read_once recorded recorded.asked.from) before now → ReadsAll (all_reads recorded) before now
 unfolding all_reads
-once-all told before now none e h = rw (second-asked told false none e, append-nil (read_once told told.asked.from)) h
+once-all recorded before now none e h = rw (second-asked recorded false none e, append-nil (read_once recorded recorded.asked.from)) h
 
-both-reads : (told : Told) → refusal_in (first_rows told) ≡ None → list_any wants_second (first_rows told) ≡ true → all_reads told ≡ read_once told told.asked.from ++ read_once told told.asked.from
+both-reads : (recorded : Recorded) → refusal_in (first_rows recorded) ≡ None → list_any wants_second (first_rows recorded) ≡ true → all_reads recorded ≡ read_once recorded recorded.asked.from ++ read_once recorded recorded.asked.from
 unfolding all_reads
-both-reads told none e = rw (second-asked told true none e) refl
+both-reads recorded none e = rw (second-asked recorded true none e) refl
 
 -- where there is one
-pub twice-read : {A : Type 0} (told : Told) (result : Result A ResolveError) (before mid now : Readings) → refusal_in (first_rows told) ≡ None → list_any wants_second (first_rows told) ≡ true
-    → ReadsAll (read_once told told.asked.from) before mid → ReadsUnless (read_once told told.asked.from) result mid now → ReadsUnless (all_reads told) result before now
-twice-read told (Ok x) before mid now none e h k =
-    let once = read_once told told.asked.from in
+pub twice-read : {A : Type 0} (recorded : Recorded) (result : Result A ResolveError) (before mid now : Readings) → refusal_in (first_rows recorded) ≡ None → list_any wants_second (first_rows recorded) ≡ true
+    → ReadsAll (read_once recorded recorded.asked.from) before mid → ReadsUnless (read_once recorded recorded.asked.from) result mid now → ReadsUnless (all_reads recorded) result before now
+twice-read recorded (Ok x) before mid now none e h k =
+    let once = read_once recorded recorded.asked.from in
     let first = more-left once [] once before mid (of-all once before mid h) in
-    subst (λ ps. ReadsAll ps before now) (sym (both-reads told none e)) (to-all (once ++ once) before now (then-read (once ++ once) once [] before mid now first (of-all once mid now k)))
-twice-read told (Err x) before mid now none e h k =
-    let once = read_once told told.asked.from in
+    subst (λ ps. ReadsAll ps before now) (sym (both-reads recorded none e)) (to-all (once ++ once) before now (then-read (once ++ once) once [] before mid now first (of-all once mid now k)))
+twice-read recorded (Err x) before mid now none e h k =
+    let once = read_once recorded recorded.asked.from in
     let first = more-left once [] once before mid (of-all once before mid h) in
-    subst (λ ps. ReadsSome ps before now) (sym (both-reads told none e)) (then-some (once ++ once) once before mid now first k)
+    subst (λ ps. ReadsSome ps before now) (sym (both-reads recorded none e)) (then-some (once ++ once) once before mid now first k)

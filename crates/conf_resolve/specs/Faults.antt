@@ -7,11 +7,11 @@ use Rattle.conf_rules.specs.declared.causes.Cause.TheVariants as causes
 use Rattle.conf_rules.specs.declared.causes.ResolveError.{ResolveError}
 use Rattle.conf_rules.specs.declared.causes.ResolveError.TheVariants.{At, OutOfMemory}
 use Rattle.conf_rules.specs.Texts.{Bytes}
-use Rattle.conf_rules.specs.Told.{Told}
+use Rattle.conf_rules.specs.Recorded.{Recorded}
 use Rattle.conf_rules.specs.Looks.{looked_at}
 use Rattle.conf_rules.specs.Rows.{Row}
 use Rattle.conf_match.specs.Evaluated.{RanAll, FailsOne}
-use Rattle.conf_reader.specs.declared.reader.FirstFile.{FirstFile}
+use Rattle.conf_reader.specs.declared.lines.FirstFile.{FirstFile}
 use Rattle.conf_reader.specs.Firsts.{firsts_of}
 use Rattle.conf_resolve.specs.Passes.{Commands, commands}
 
@@ -20,20 +20,20 @@ abbrev pub FailedPaths : Type 0
 FailedPaths = Option (List Bytes)
 
 -- an Include line of these rows stands there, and looks at this path
-pub record LooksFrom (told : Told) (rows : List Row) (file : Bytes) (number : ℕ) (path : Bytes) :
+pub record LooksFrom (recorded : Recorded) (rows : List Row) (file : Bytes) (number : ℕ) (path : Bytes) :
     Type 0 where
   pub at : ℕ
   pub row : Row
   pub is : slice_get rows at ≡ Some row
-  pub looks : list_any (bytes_eq path) (looked_at row.line.source told row.line.content) ≡ true
+  pub looks : list_any (bytes_eq path) (looked_at row.line.source recorded row.line.content) ≡ true
   pub file_is : row.line.file ≡ file
   pub number_is : row.line.number ≡ number
 
 -- this path is that of a file that no line includes, and line 0 of it is meant
-pub record IsFirst (told : Told) (file : Bytes) (number : ℕ) (path : Bytes) : Type 0 where
+pub record IsFirst (recorded : Recorded) (file : Bytes) (number : ℕ) (path : Bytes) : Type 0 where
   pub at : ℕ
   pub first : FirstFile
-  pub is : slice_get (firsts_of told.facts.home told.asked.from) at ≡ Some first
+  pub is : slice_get (firsts_of recorded.facts.home recorded.asked.from) at ≡ Some first
   pub path_is : first.path ≡ path
   pub file_is : first.path ≡ file
   pub number_is : number ≡ 0
@@ -41,7 +41,7 @@ pub record IsFirst (told : Told) (file : Bytes) (number : ℕ) (path : Bytes) : 
 -- A read of a path failed behind these rows, whose commands were all run. It is told at one of
 -- their Include lines that looks at this very path, or at line 0 of this path, a file that no line
 -- includes.
-pub record ReadFails (told : Told) (all : List Row) (file : Bytes) (number : ℕ)
+pub record ReadFails (recorded : Recorded) (all : List Row) (file : Bytes) (number : ℕ)
     (before now : Commands) (failed failed_now : FailedPaths) : Type 0 where
   pub rows : List Row
   pub later : List Row
@@ -49,7 +49,7 @@ pub record ReadFails (told : Told) (all : List Row) (file : Bytes) (number : ℕ
   pub ran : RanAll before now (commands rows)
   pub path : Bytes
   pub is : failed_now ≡ option_map (λ paths. paths ++ path ∷ []) failed
-  pub place : LooksFrom told rows file number path ⊎ IsFirst told file number path
+  pub place : LooksFrom recorded rows file number path ⊎ IsFirst recorded file number path
 
 -- A command could not be run, behind rows whose commands were all run. It is told at the line of
 -- the row that asks for it, whose earlier commands were run.
@@ -66,13 +66,13 @@ pub record RunFails (all : List Row) (file : Bytes) (number : ℕ) (before now :
   pub fails : FailsOne reached now row.ran
 
 -- a fault is told where it came up
-abbrev pub FaultStands : Told → List Row → ResolveError → Commands → Commands → FailedPaths
+abbrev pub FaultStands : Recorded → List Row → ResolveError → Commands → Commands → FailedPaths
     → FailedPaths → Type 0
-FaultStands told all (At file number causes.ReadFault) before now failed failed_now =
-    ReadFails told all file number before now failed failed_now
-FaultStands told all (At file number causes.RunFault) before now failed failed_now =
+FaultStands recorded all (At file number causes.ReadFault) before now failed failed_now =
+    ReadFails recorded all file number before now failed failed_now
+FaultStands recorded all (At file number causes.RunFault) before now failed failed_now =
     RunFails all file number before now
-FaultStands told all e before now failed failed_now = Unit {0}
+FaultStands recorded all e before now failed failed_now = Unit {0}
 
 -- no read failed, unless one is told
 abbrev pub NoneFails : {A : Type 0} → Result A ResolveError → FailedPaths → FailedPaths → Type 0

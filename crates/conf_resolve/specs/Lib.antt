@@ -2,4 +2,4 @@ pub mod Causes
 pub mod Faults
 pub mod Passes
 pub mod Readings
-pub mod Telling
+pub mod Recording

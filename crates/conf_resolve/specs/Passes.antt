@@ -3,7 +3,7 @@ use Rattle.std.specs.Prelude.{◌≡◌, ℕ, ◌+◌, false, List, [], ◌∷�
 use Rattle.conf_rules.specs.declared.causes.ResolveError.{ResolveError}
 use Rattle.conf_rules.specs.declared.causes.ResolveError.TheVariants.{At, OutOfMemory}
 use Rattle.conf_rules.specs.Texts.{Bytes}
-use Rattle.conf_rules.specs.Told.{Told}
+use Rattle.conf_rules.specs.Recorded.{Recorded}
 use Rattle.conf_rules.specs.Diagnostics.{is_fault}
 use Rattle.conf_rules.specs.Sources.{Line, lines_from, all_lines}
 use Rattle.conf_rules.specs.Rows.{Row, Pass, First, given}
@@ -23,56 +23,56 @@ abbrev pub commands : List Row → List Bytes
 commands rows = flat_map (λ row. row.ran) rows
 
 -- in the second pass the same lines are given again
-abbrev pub AreAgain : Told → Pass → ℕ → List Line → Type 0
-AreAgain told pass place [] = Unit {0}
-AreAgain told pass place (l ∷ ls) = IsAgain told pass place l × AreAgain told pass (place + 1) ls
+abbrev pub AreAgain : Recorded → Pass → ℕ → List Line → Type 0
+AreAgain recorded pass place [] = Unit {0}
+AreAgain recorded pass place (l ∷ ls) = IsAgain recorded pass place l × AreAgain recorded pass (place + 1) ls
 
 -- the lines of files
-abbrev pub file_lines : Told → List Line
-file_lines told = lines_from told (length told.asked.lines) told.asked.from
+abbrev pub file_lines : Recorded → List Line
+file_lines recorded = lines_from recorded (length recorded.asked.lines) recorded.asked.from
 
 -- where a pass begins, behind the lines of the command line
-pub record Begins (told : Told) (pass : Pass) (fold : Fold) (rows : List Row) : Type 0 where
-  pub stands : Stands told pass fold rows []
-  pub at : length rows ≡ start_of pass + length told.asked.lines
+pub record Begins (recorded : Recorded) (pass : Pass) (fold : Fold) (rows : List Row) : Type 0 where
+  pub stands : Stands recorded pass fold rows []
+  pub at : length rows ≡ start_of pass + length recorded.asked.lines
   pub none : refusal_in rows ≡ None
-  pub again : AreAgain told pass (length told.asked.lines) (file_lines told)
+  pub again : AreAgain recorded pass (length recorded.asked.lines) (file_lines recorded)
 
 -- the rows behind all lines of files
-abbrev pub final_rows : Told → Pass → List Row → List Row
-final_rows told pass rows =
-    rows_from told entry_of rows (record { pass = pass; line = length told.asked.lines })
-    (file_lines told)
+abbrev pub final_rows : Recorded → Pass → List Row → List Row
+final_rows recorded pass rows =
+    rows_from recorded entry_of rows (record { pass = pass; line = length recorded.asked.lines })
+    (file_lines recorded)
 
 -- a fold stands for these rows, of which none is refused
-pub record StandsFor (told : Told) (pass : Pass) (fold : Fold) (rows : List Row) : Type 0 where
+pub record Represents (recorded : Recorded) (pass : Pass) (fold : Fold) (rows : List Row) : Type 0 where
   pub blocks : Blocks
-  pub stands : Stands told pass fold rows blocks
+  pub stands : Stands recorded pass fold rows blocks
   pub none : refusal_in rows ≡ None
 
 -- what a pass came to
-abbrev pub Passes : Told → Pass → List Row → Fold → Result (Unit {0}) ResolveError → Type 0
-Passes told pass rows new (Ok x) = StandsFor told pass new (final_rows told pass rows)
-Passes told pass rows new (Err OutOfMemory) = Unit {0}
-Passes told pass rows new (Err (At file number cause)) =
-    (is_fault cause ≡ false → refusal_in (final_rows told pass rows) ≡ Some (At file number cause))
+abbrev pub Passes : Recorded → Pass → List Row → Fold → Result (Unit {0}) ResolveError → Type 0
+Passes recorded pass rows new (Ok x) = Represents recorded pass new (final_rows recorded pass rows)
+Passes recorded pass rows new (Err OutOfMemory) = Unit {0}
+Passes recorded pass rows new (Err (At file number cause)) =
+    (is_fault cause ≡ false → refusal_in (final_rows recorded pass rows) ≡ Some (At file number cause))
 
 -- the rows of the first pass
-abbrev pub first_rows : Told → List Row
-first_rows told = rows_from told entry_of [] (first_place First) (all_lines told)
+abbrev pub first_rows : Recorded → List Row
+first_rows recorded = rows_from recorded entry_of [] (first_place First) (all_lines recorded)
 
 -- what both passes came to
-abbrev pub BothPass : Told → Fold → Result (Unit {0}) ResolveError → Type 0
-BothPass told new (Ok x) = (refusal told ≡ None)
-    × Keeps new.settings (flat_map given (all_rows told))
-BothPass told new (Err OutOfMemory) = Unit {0}
-BothPass told new (Err (At file number cause)) =
-    (is_fault cause ≡ false → refusal told ≡ Some (At file number cause))
+abbrev pub BothPass : Recorded → Fold → Result (Unit {0}) ResolveError → Type 0
+BothPass recorded new (Ok x) = (refusal recorded ≡ None)
+    × Keeps new.settings (flat_map given (all_rows recorded))
+BothPass recorded new (Err OutOfMemory) = Unit {0}
+BothPass recorded new (Err (At file number cause)) =
+    (is_fault cause ≡ false → refusal recorded ≡ Some (At file number cause))
 
 -- what a resolution gives: settings that keep what all rows give, or the first refusal
-abbrev pub Resolved : Told → Result (List Given) ResolveError → Type 0
-Resolved told (Ok settings) = (refusal told ≡ None)
-    × Keeps settings (flat_map given (all_rows told))
-Resolved told (Err OutOfMemory) = Unit {0}
-Resolved told (Err (At file number cause)) =
-    (is_fault cause ≡ false → refusal told ≡ Some (At file number cause))
+abbrev pub Resolved : Recorded → Result (List Given) ResolveError → Type 0
+Resolved recorded (Ok settings) = (refusal recorded ≡ None)
+    × Keeps settings (flat_map given (all_rows recorded))
+Resolved recorded (Err OutOfMemory) = Unit {0}
+Resolved recorded (Err (At file number cause)) =
+    (is_fault cause ≡ false → refusal recorded ≡ Some (At file number cause))

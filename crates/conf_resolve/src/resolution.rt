@@ -11,7 +11,7 @@ ghost use Rattle.conf_resolve.specs.Passes.{Commands, commands, Begins, Passes, 
 ghost use Rattle.conf_resolve.specs.Causes.{HasCauses};
 ghost use Rattle.conf_resolve.specs.Faults.{FaultStands, NoneFails};
 ghost use Rattle.conf_resolve.specs.Readings.{ReadsUnless};
-ghost use Rattle.conf_resolve.specs.Telling.{WhereTold};
+ghost use Rattle.conf_resolve.specs.Recording.{WhereRecorded};
 
 use conf_fold::Fold;
 use conf_options::Settings;
@@ -29,28 +29,28 @@ fn pass<F: Files, R: Runner>(
     files: &mut F,
     runner: &mut R,
 ) -> Result<(), ResolveError>
-    ensures passes { WhereTold asked.now (known facts.now) (F.told files.old) (R.told runner.old)
-        (λ told. (pass : Pass) (rows : List Row) → Begins told pass fold.old rows
-        → Passes told pass rows fold.new result) }
-    ensures ran { WhereTold asked.now (known facts.now) (F.told files.old) (R.told runner.old)
-        (λ told. (pass : Pass) (rows : List Row) (before : Commands)
-        → Begins told pass fold.old rows → RanAll before (R.ran runner.old) (commands rows)
+    ensures passes { WhereRecorded asked.now (known facts.now) (F.recorded files.old) (R.recorded runner.old)
+        (λ recorded. (pass : Pass) (rows : List Row) → Begins recorded pass fold.old rows
+        → Passes recorded pass rows fold.new result) }
+    ensures ran { WhereRecorded asked.now (known facts.now) (F.recorded files.old) (R.recorded runner.old)
+        (λ recorded. (pass : Pass) (rows : List Row) (before : Commands)
+        → Begins recorded pass fold.old rows → RanAll before (R.ran runner.old) (commands rows)
         → RanUnless (breaks_off result) before (R.ran runner.new)
-        (commands (final_rows told pass rows))) }
-    ensures fault { WhereTold asked.now (known facts.now) (F.told files.old) (R.told runner.old)
-        (λ told. (pass : Pass) (rows : List Row) (before : Commands)
-        → Begins told pass fold.old rows → RanAll before (R.ran runner.old) (commands rows)
-        → IfErr result (λ e. FaultStands told (final_rows told pass rows) e before
+        (commands (final_rows recorded pass rows))) }
+    ensures fault { WhereRecorded asked.now (known facts.now) (F.recorded files.old) (R.recorded runner.old)
+        (λ recorded. (pass : Pass) (rows : List Row) (before : Commands)
+        → Begins recorded pass fold.old rows → RanAll before (R.ran runner.old) (commands rows)
+        → IfErr result (λ e. FaultStands recorded (final_rows recorded pass rows) e before
         (R.ran runner.new) (F.failed files.old) (F.failed files.new))) }
-    ensures failed { WhereTold asked.now (known facts.now) (F.told files.old) (R.told runner.old)
-        (λ told. NoneFails result (F.failed files.old) (F.failed files.new)) }
-    ensures noted { WhereTold asked.now (known facts.now) (F.told files.old) (R.told runner.old)
-        (λ told. ReadsUnless (read_once told told.asked.from) result (F.readings files.old)
+    ensures failed { WhereRecorded asked.now (known facts.now) (F.recorded files.old) (R.recorded runner.old)
+        (λ recorded. NoneFails result (F.failed files.old) (F.failed files.new)) }
+    ensures noted { WhereRecorded asked.now (known facts.now) (F.recorded files.old) (R.recorded runner.old)
+        (λ recorded. ReadsUnless (read_once recorded recorded.asked.from) result (F.readings files.old)
         (F.readings files.new)) }
     ensures cause { HasCauses result (F.faults files.old) (F.faults files.new) (R.faults runner.old)
         (R.faults runner.new) }
-    ensures files { F.told files.new ≡ F.told files.old }
-    ensures runner { R.told runner.new ≡ R.told runner.old }
+    ensures files { F.recorded files.new ≡ F.recorded files.old }
+    ensures runner { R.recorded runner.new ≡ R.recorded runner.old }
 {
     let mut reader = LineReader::new(alloc, asked, facts)?;
     while let Some(line) = reader.next(files)? {
@@ -68,29 +68,29 @@ fn passes<F: Files, R: Runner>(
     files: &mut F,
     runner: &mut R,
 ) -> Result<(), ResolveError>
-    ensures passes { WhereTold asked.now (known facts.now) (F.told files.old) (R.told runner.old)
-        (λ told. Stands told First fold.old (asked_rows told) []
-        → refusal_in (asked_rows told) ≡ None → BothPass told fold.new result) }
-    ensures ran { WhereTold asked.now (known facts.now) (F.told files.old) (R.told runner.old)
-        (λ told. Stands told First fold.old (asked_rows told) []
-        → refusal_in (asked_rows told) ≡ None
-        → RanUnless (breaks_off result) (R.ran runner.old) (R.ran runner.new) (execs told)) }
-    ensures fault { WhereTold asked.now (known facts.now) (F.told files.old) (R.told runner.old)
-        (λ told. Stands told First fold.old (asked_rows told) []
-        → refusal_in (asked_rows told) ≡ None
+    ensures passes { WhereRecorded asked.now (known facts.now) (F.recorded files.old) (R.recorded runner.old)
+        (λ recorded. Stands recorded First fold.old (asked_rows recorded) []
+        → refusal_in (asked_rows recorded) ≡ None → BothPass recorded fold.new result) }
+    ensures ran { WhereRecorded asked.now (known facts.now) (F.recorded files.old) (R.recorded runner.old)
+        (λ recorded. Stands recorded First fold.old (asked_rows recorded) []
+        → refusal_in (asked_rows recorded) ≡ None
+        → RanUnless (breaks_off result) (R.ran runner.old) (R.ran runner.new) (execs recorded)) }
+    ensures fault { WhereRecorded asked.now (known facts.now) (F.recorded files.old) (R.recorded runner.old)
+        (λ recorded. Stands recorded First fold.old (asked_rows recorded) []
+        → refusal_in (asked_rows recorded) ≡ None
         → IfErr result (λ e.
-        FaultStands told (all_rows told) e (R.ran runner.old) (R.ran runner.new)
+        FaultStands recorded (all_rows recorded) e (R.ran runner.old) (R.ran runner.new)
         (F.failed files.old) (F.failed files.new))) }
-    ensures failed { WhereTold asked.now (known facts.now) (F.told files.old) (R.told runner.old)
-        (λ told. NoneFails result (F.failed files.old) (F.failed files.new)) }
-    ensures noted { WhereTold asked.now (known facts.now) (F.told files.old) (R.told runner.old)
-        (λ told. Stands told First fold.old (asked_rows told) []
-        → refusal_in (asked_rows told) ≡ None
-        → ReadsUnless (all_reads told) result (F.readings files.old) (F.readings files.new)) }
+    ensures failed { WhereRecorded asked.now (known facts.now) (F.recorded files.old) (R.recorded runner.old)
+        (λ recorded. NoneFails result (F.failed files.old) (F.failed files.new)) }
+    ensures noted { WhereRecorded asked.now (known facts.now) (F.recorded files.old) (R.recorded runner.old)
+        (λ recorded. Stands recorded First fold.old (asked_rows recorded) []
+        → refusal_in (asked_rows recorded) ≡ None
+        → ReadsUnless (all_reads recorded) result (F.readings files.old) (F.readings files.new)) }
     ensures cause { HasCauses result (F.faults files.old) (F.faults files.new) (R.faults runner.old)
         (R.faults runner.new) }
-    ensures files { F.told files.new ≡ F.told files.old }
-    ensures runner { R.told runner.new ≡ R.told runner.old }
+    ensures files { F.recorded files.new ≡ F.recorded files.old }
+    ensures runner { R.recorded runner.new ≡ R.recorded runner.old }
 {
     pass(alloc, asked, facts, fold, files, runner)?;
     if fold.second()? {
@@ -114,23 +114,23 @@ pub fn resolve<F: Files, R: Runner>(
     files: &mut F,
     runner: &mut R,
 ) -> Result<Settings, ResolveError>
-    ensures exact { WhereTold asked.now (known facts.now) (F.told files.old) (R.told runner.old)
-        (λ told. Resolved told result) }
-    ensures ran { WhereTold asked.now (known facts.now) (F.told files.old) (R.told runner.old)
-        (λ told. RanUnless (breaks_off result) (R.ran runner.old) (R.ran runner.new) (execs told)) }
-    ensures fault { WhereTold asked.now (known facts.now) (F.told files.old) (R.told runner.old)
-        (λ told. IfErr result (λ e.
-        FaultStands told (all_rows told) e (R.ran runner.old) (R.ran runner.new)
+    ensures exact { WhereRecorded asked.now (known facts.now) (F.recorded files.old) (R.recorded runner.old)
+        (λ recorded. Resolved recorded result) }
+    ensures ran { WhereRecorded asked.now (known facts.now) (F.recorded files.old) (R.recorded runner.old)
+        (λ recorded. RanUnless (breaks_off result) (R.ran runner.old) (R.ran runner.new) (execs recorded)) }
+    ensures fault { WhereRecorded asked.now (known facts.now) (F.recorded files.old) (R.recorded runner.old)
+        (λ recorded. IfErr result (λ e.
+        FaultStands recorded (all_rows recorded) e (R.ran runner.old) (R.ran runner.new)
         (F.failed files.old) (F.failed files.new))) }
-    ensures failed { WhereTold asked.now (known facts.now) (F.told files.old) (R.told runner.old)
-        (λ told. NoneFails result (F.failed files.old) (F.failed files.new)) }
-    ensures noted { WhereTold asked.now (known facts.now) (F.told files.old) (R.told runner.old)
-        (λ told.
-        ReadsUnless (all_reads told) result (F.readings files.old) (F.readings files.new)) }
+    ensures failed { WhereRecorded asked.now (known facts.now) (F.recorded files.old) (R.recorded runner.old)
+        (λ recorded. NoneFails result (F.failed files.old) (F.failed files.new)) }
+    ensures noted { WhereRecorded asked.now (known facts.now) (F.recorded files.old) (R.recorded runner.old)
+        (λ recorded.
+        ReadsUnless (all_reads recorded) result (F.readings files.old) (F.readings files.new)) }
     ensures cause { HasCauses result (F.faults files.old) (F.faults files.new) (R.faults runner.old)
         (R.faults runner.new) }
-    ensures files { F.told files.new ≡ F.told files.old }
-    ensures runner { R.told runner.new ≡ R.told runner.old }
+    ensures files { F.recorded files.new ≡ F.recorded files.old }
+    ensures runner { R.recorded runner.new ≡ R.recorded runner.old }
 {
     let mut fold = Fold::new(alloc, asked)?;
     passes(alloc, asked, facts, &mut fold, files, runner)?;

@@ -19,12 +19,12 @@ use Rattle.conf_rules.specs.Criteria.{read_criteria}
 use Rattle.conf_rules.specs.Includes.{Source, CommandLine}
 use Rattle.conf_rules.specs.Sources.{Line, Content, Spelled, Parts, Refused}
 use Rattle.conf_rules.specs.Rows.{Row, value, word_in}
-use Rattle.conf_rules.specs.declared.entry.Entry.{Entry}
-use Rattle.conf_rules.specs.declared.entry.Entry.TheVariants.{Nothing, Host, Match, Gives}
+use Rattle.conf_rules.specs.declared.entry.LineContent.{LineContent}
+use Rattle.conf_rules.specs.declared.entry.LineContent.TheVariants.{Nothing, Host, Match, Gives}
 
 -- what a line says, or why it is refused
 abbrev pub ReadEntry : Type 0
-ReadEntry = Result Entry Cause
+ReadEntry = Result LineContent Cause
 
 -- words, or why there are none
 abbrev pub SplitWords : Type 0

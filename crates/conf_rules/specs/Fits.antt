@@ -6,8 +6,8 @@ use Rattle.conf_rules.specs.declared.value.End.{End}
 use Rattle.conf_rules.specs.declared.value.End.TheVariants.{Path, Port}
 use Rattle.conf_rules.specs.declared.value.Value.{Value}
 use Rattle.conf_rules.specs.declared.value.Value.TheVariants as values
-use Rattle.conf_rules.specs.declared.entry.Entry.{Entry}
-use Rattle.conf_rules.specs.declared.entry.Entry.TheVariants.{Gives}
+use Rattle.conf_rules.specs.declared.entry.LineContent.{LineContent}
+use Rattle.conf_rules.specs.declared.entry.LineContent.TheVariants.{Gives}
 use Rattle.conf_rules.specs.Texts.{Bytes}
 use Rattle.conf_rules.specs.Kinds.{ValueKind, Flag, Number, Time, Choice, OneWord, HostWord, Raw, FlagOrWord, FlagOrChoice, Names, TwoEnds, OneOrTwoEnds, PortAlone, most, kind}
 use Rattle.conf_rules.specs.Values.{listed_choice, has_name_tokens}
@@ -71,6 +71,6 @@ abbrev pub fitting : Key × Value → Bool
 fitting given = fits given.0 given.1
 
 -- whether what a line gives is a value of its key
-abbrev pub entry_fits : Entry → Bool
+abbrev pub entry_fits : LineContent → Bool
 entry_fits (Gives key value) = fits key value
 entry_fits entry = true

@@ -9,7 +9,7 @@ use Rattle.conf_rules.specs.Order.{sorted}
 use Rattle.conf_rules.specs.Heads.{Heading, Says, head_of}
 use Rattle.conf_rules.specs.Words.{words_of}
 use Rattle.conf_rules.specs.Globs.{is_glob, component_takes}
-use Rattle.conf_rules.specs.Told.{Facts, Told}
+use Rattle.conf_rules.specs.Recorded.{Facts, Recorded}
 use Rattle.conf_rules.specs.Tokens.{View, fact_of, expand_path, starts_with_slash}
 
 -- where a line stands: on the command line, in a user's file, or in a system file
@@ -53,8 +53,8 @@ paths_from source facts original (word ∷ words) = path_from source facts origi
     paths_from source facts original words >>= λ paths. Ok (path ∷ paths)
 
 -- the same of what a resolution looks at
-abbrev pub paths_of : Source → Told → List Bytes → Result (List Bytes) TokenError
-paths_of source told words = paths_from source told.facts told.asked.original words
+abbrev pub paths_of : Source → Recorded → List Bytes → Result (List Bytes) TokenError
+paths_of source recorded words = paths_from source recorded.facts recorded.asked.original words
 
 -- a directory's path; that of the root is a slash
 abbrev pub or_root : Bytes → Bytes
@@ -62,17 +62,17 @@ or_root [] = 47 ∷ []
 or_root (b ∷ bs) = b ∷ bs
 
 -- a path with one more component; of a component with globs all names that it takes
-abbrev pub below : Told → Bytes → Bytes → List Bytes
-below told component base =
+abbrev pub below : Recorded → Bytes → Bytes → List Bytes
+below recorded component base =
     if is_glob component then map (λ name. base ++ (47 ∷ name))
-    (filter (component_takes component) (told.names (or_root base)))
+    (filter (component_takes component) (recorded.names (or_root base)))
     else (base ++ (47 ∷ component)) ∷ []
 
 -- paths along components
-abbrev pub along : Told → List Bytes → List Bytes → List Bytes
-along told [] bases = bases
-along told (component ∷ components) bases =
-    along told components (flat_map (below told component) bases)
+abbrev pub along : Recorded → List Bytes → List Bytes → List Bytes
+along recorded [] bases = bases
+along recorded (component ∷ components) bases =
+    along recorded components (flat_map (below recorded component) bases)
 
 -- the components of a path; empty ones are dropped
 abbrev pub components_of : Bytes → List Bytes
@@ -84,9 +84,9 @@ ends_with_slash path = elim (split_last path) [ None ↦ false | Some p ↦ p.1 
 
 -- The paths that an absolute path stands for; of one with globs those in the order of their bytes,
 -- but none where a slash at its end asks for directories alone.
-unfoldable pub globbed : Told → Bytes → List Bytes
-globbed told path =
-    let found = sorted (along told (components_of path) ([] ∷ [])) in
+unfoldable pub globbed : Recorded → Bytes → List Bytes
+globbed recorded path =
+    let found = sorted (along recorded (components_of path) ([] ∷ [])) in
     if is_glob path then (if ends_with_slash path then [] else found) else path ∷ []
 
 -- a file: its path and what it holds
@@ -100,26 +100,26 @@ file_of path None = []
 file_of path (Some text) = record { path = path; text = text } ∷ []
 
 -- the file at a path, if it is there
-abbrev pub file_at : Told → Bytes → List ConfFile
-file_at told path = file_of path (told.content path)
+abbrev pub file_at : Recorded → Bytes → List ConfFile
+file_at recorded path = file_of path (recorded.content path)
 
 -- the files that are there, in reading order
-abbrev pub files_of : Told → List Bytes → List ConfFile
-files_of told paths = flat_map (λ path. flat_map (file_at told) (globbed told path)) paths
+abbrev pub files_of : Recorded → List Bytes → List ConfFile
+files_of recorded paths = flat_map (λ path. flat_map (file_at recorded) (globbed recorded path)) paths
 
 -- the files that words name; words without a reading name none, since their line is refused
-abbrev pub words_named : Source → Told → Result (List Bytes) LexError
+abbrev pub words_named : Source → Recorded → Result (List Bytes) LexError
     → Result (List ConfFile) TokenError
-words_named source told (Err e) = Ok []
-words_named source told (Ok words) = paths_of source told words >>= λ paths.
-    Ok (files_of told paths)
+words_named source recorded (Err e) = Ok []
+words_named source recorded (Ok words) = paths_of source recorded words >>= λ paths.
+    Ok (files_of recorded paths)
 
 -- the files that a heading names
-abbrev pub named_in : Source → Told → Result Heading LexError → Result (List ConfFile) TokenError
-named_in source told (Ok (Says keyword rest)) = if same_word keyword (codes "include")
-    then words_named source told (words_of rest) else Ok []
-named_in source told heading = Ok []
+abbrev pub named_in : Source → Recorded → Result Heading LexError → Result (List ConfFile) TokenError
+named_in source recorded (Ok (Says keyword rest)) = if same_word keyword (codes "include")
+    then words_named source recorded (words_of rest) else Ok []
+named_in source recorded heading = Ok []
 
 -- the files that a line includes, or the refusal of its tokens
-unfoldable pub included_files : Source → Told → Bytes → Result (List ConfFile) TokenError
-included_files source told bytes = named_in source told (head_of bytes)
+unfoldable pub included_files : Source → Recorded → Bytes → Result (List ConfFile) TokenError
+included_files source recorded bytes = named_in source recorded (head_of bytes)

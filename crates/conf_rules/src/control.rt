@@ -1,6 +1,6 @@
 /// What a running master is asked.
 #[derive(Clone, Copy, Drop, PartialEq, Eq)]
-pub enum Control {
+pub enum MasterCommand {
     /// Whether it is there.
     Check,
     /// That it ends.

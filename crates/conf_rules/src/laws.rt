@@ -5,7 +5,7 @@ ghost use Rattle.std.specs.Prelude.{◌≡◌, ℕ, ◌-◌, true, false, nat_lt
 ghost use Rattle.conf_rules.specs.declared.causes.Cause.TheVariants as causes;
 ghost use Rattle.conf_rules.specs.declared.limits.TheConstants.{MAX_FILE, MAX_LINES};
 ghost use Rattle.conf_rules.specs.Texts.{Bytes};
-ghost use Rattle.conf_rules.specs.Told.{Told};
+ghost use Rattle.conf_rules.specs.Recorded.{Recorded};
 ghost use Rattle.conf_rules.specs.Sources.{Includes, Where, Line, file_lines, refused_at, size_limit};
 ghost use Rattle.conf_rules.specs.Rows.{Row};
 ghost use Rattle.conf_rules.specs.Resolution.{Reader, counted, is_asked, is_refusal, is_past_limit, line_limit};
@@ -22,8 +22,8 @@ pub fn a_file_past_its_size()
 /// A line of a file before which `MAX_LINES` stand is refused.
 #[tactic(auto, unfolding(crate::specs::Resolution::line_limit))]
 pub fn a_line_past_the_last()
-    ensures { (told : Told) (reads : Reader) (rows : List Row) (line : Line) (number : ℕ)
+    ensures { (recorded : Recorded) (reads : Reader) (rows : List Row) (line : Line) (number : ℕ)
         → is_asked line.source ≡ false → is_refusal line.content ≡ false
-        → nat_le MAX_LINES (number - length told.asked.lines) ≡ true
-        → counted told reads rows line number ≡ Err causes.TooManyLines }
+        → nat_le MAX_LINES (number - length recorded.asked.lines) ≡ true
+        → counted recorded reads rows line number ≡ Err causes.TooManyLines }
 {}

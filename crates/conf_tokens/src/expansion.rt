@@ -74,13 +74,13 @@ pub fn expand_path(
     ensures { Gives token_wants_memory result (expand_path lone set (seen view.now) text.now) }
 {
     match text {
-        [b'~', rest @ ..] if stands_for_home(lone, rest) => with_home(alloc, rest, set, view),
+        [b'~', rest @ ..] if represents_home(lone, rest) => with_home(alloc, rest, set, view),
         _ => expand(alloc, text, set, view),
     }
 }
 
 /// Whether a tilde before this text stands for the home.
-fn stands_for_home(lone: bool, rest: &[u8]) -> bool
+fn represents_home(lone: bool, rest: &[u8]) -> bool
     ensures { result ≡ (starts_with_slash rest.now || (lone && is_empty rest.now)) }
 {
     match rest {

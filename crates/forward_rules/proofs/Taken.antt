@@ -6,7 +6,7 @@ use Rattle.mux_history.proofs.Finds.{filter-no, filter-yes, find-no, find-yes}
 use Rattle.mux_history.proofs.Sends.{and-left}
 use Rattle.forward_rules.specs.State.{Forward}
 use Rattle.forward_rules.specs.Step.{is_of, moved_up, without_client, without_first}
-use Rattle.forward_rules.specs.Taking.{after_taking, closed_up, first_live, is_live_of, moved_up_of, rest_after, told_of, told_one_by_one}
+use Rattle.forward_rules.specs.Taking.{after_taking, closed_up, first_live, is_live_of, moved_up_of, rest_after, recorded_of, recorded_one_by_one}
 use Rattle.forward_rules.proofs.Counts.{moved-client}
 use Rattle.forward_rules.proofs.Places.{without-at}
 
@@ -20,10 +20,10 @@ moved-some r (Some q) = by_case (nat_lt r q)
     by_case true = refl
     by_case false = refl
 
-moved-told : (k r : ℕ) (f : Forward) → told_of (moved_up_of k r f) ≡ told_of f
-moved-told k r f = by_case (is_of k f)
+moved-recorded : (k r : ℕ) (f : Forward) → recorded_of (moved_up_of k r f) ≡ recorded_of f
+moved-recorded k r f = by_case (is_of k f)
   where
-    by_case : (b : Bool) → told_of (elim b as (λ _. Forward) [ true ↦ record f { cancel = moved_up r f.cancel } | false ↦ f ]) ≡ told_of f
+    by_case : (b : Bool) → recorded_of (elim b as (λ _. Forward) [ true ↦ record f { cancel = moved_up r f.cancel } | false ↦ f ]) ≡ recorded_of f
     by_case true = ap (λ (b : Bool). (f.key, b)) (moved-some r f.cancel)
     by_case false = refl
 
@@ -37,44 +37,44 @@ moved-live k r f = by_case (is_of k f)
 moved-same : (j k r : ℕ) (f : Forward) → is_live_of j (moved_up_of k r f) ≡ is_live_of j f
 moved-same j k r f = ap (λ (i : ℕ). (i == j) && (moved_up_of k r f).live) (moved-client k r f) ∙ ap (λ (b : Bool). (f.client == j) && b) (moved-live k r f)
 
-moved-list : (j k r : ℕ) (fs : List Forward) → told_one_by_one j (map (moved_up_of k r) fs) ≡ told_one_by_one j fs
+moved-list : (j k r : ℕ) (fs : List Forward) → recorded_one_by_one j (map (moved_up_of k r) fs) ≡ recorded_one_by_one j fs
 moved-list j k r [] = refl
 moved-list j k r (f ∷ fs) = by_case (moved-list j k r fs) (is_live_of j f) refl
   where
-    by_case : told_one_by_one j (map (moved_up_of k r) fs) ≡ told_one_by_one j fs → (b : Bool) → is_live_of j f ≡ b → told_one_by_one j (map (moved_up_of k r) (f ∷ fs)) ≡ told_one_by_one j (f ∷ fs)
-    by_case ih true h = ap (map told_of) (filter-yes (is_live_of j) (moved_up_of k r f) (map (moved_up_of k r) fs) (moved-same j k r f ∙ h)) ∙ (ap (λ t. t ∷ told_one_by_one j (map (moved_up_of k r) fs)) (moved-told k r f) ∙ (ap (λ ts. told_of f ∷ ts) ih ∙ sym (ap (map told_of) (filter-yes (is_live_of j) f fs h))))
-    by_case ih false h = ap (map told_of) (filter-no (is_live_of j) (moved_up_of k r f) (map (moved_up_of k r) fs) (moved-same j k r f ∙ h)) ∙ (ih ∙ sym (ap (map told_of) (filter-no (is_live_of j) f fs h)))
+    by_case : recorded_one_by_one j (map (moved_up_of k r) fs) ≡ recorded_one_by_one j fs → (b : Bool) → is_live_of j f ≡ b → recorded_one_by_one j (map (moved_up_of k r) (f ∷ fs)) ≡ recorded_one_by_one j (f ∷ fs)
+    by_case ih true h = ap (map recorded_of) (filter-yes (is_live_of j) (moved_up_of k r f) (map (moved_up_of k r) fs) (moved-same j k r f ∙ h)) ∙ (ap (λ t. t ∷ recorded_one_by_one j (map (moved_up_of k r) fs)) (moved-recorded k r f) ∙ (ap (λ ts. recorded_of f ∷ ts) ih ∙ sym (ap (map recorded_of) (filter-yes (is_live_of j) f fs h))))
+    by_case ih false h = ap (map recorded_of) (filter-no (is_live_of j) (moved_up_of k r f) (map (moved_up_of k r) fs) (moved-same j k r f ∙ h)) ∙ (ih ∙ sym (ap (map recorded_of) (filter-no (is_live_of j) f fs h)))
 
-closed-list : (j k : ℕ) (cancel : Option ℕ) (fs : List Forward) → told_one_by_one j (closed_up k cancel fs) ≡ told_one_by_one j fs
+closed-list : (j k : ℕ) (cancel : Option ℕ) (fs : List Forward) → recorded_one_by_one j (closed_up k cancel fs) ≡ recorded_one_by_one j fs
 closed-list j k None fs = refl
 closed-list j k (Some r) fs = moved-list j k r fs
 
 -- ---- the first of them, and the rest
 
-first-told : (k : ℕ) (fs : List Forward) (f : Forward) → first_live k fs ≡ Some f → told_one_by_one k fs ≡ told_of f ∷ told_one_by_one k (without_first (is_live_of k) fs)
-first-told k [] f h = absurd (cc)
-first-told k (g ∷ gs) f h = by_case (first-told k gs f) (is_live_of k g) refl
+first-recorded : (k : ℕ) (fs : List Forward) (f : Forward) → first_live k fs ≡ Some f → recorded_one_by_one k fs ≡ recorded_of f ∷ recorded_one_by_one k (without_first (is_live_of k) fs)
+first-recorded k [] f h = absurd (cc)
+first-recorded k (g ∷ gs) f h = by_case (first-recorded k gs f) (is_live_of k g) refl
   where
-    by_case : (first_live k gs ≡ Some f → told_one_by_one k gs ≡ told_of f ∷ told_one_by_one k (without_first (is_live_of k) gs)) → (b : Bool) → is_live_of k g ≡ b → told_one_by_one k (g ∷ gs) ≡ told_of f ∷ told_one_by_one k (without_first (is_live_of k) (g ∷ gs))
+    by_case : (first_live k gs ≡ Some f → recorded_one_by_one k gs ≡ recorded_of f ∷ recorded_one_by_one k (without_first (is_live_of k) gs)) → (b : Bool) → is_live_of k g ≡ b → recorded_one_by_one k (g ∷ gs) ≡ recorded_of f ∷ recorded_one_by_one k (without_first (is_live_of k) (g ∷ gs))
     by_case ih true t =
         let same : Some g ≡ Some f = sym (find-yes (is_live_of k) g gs t) ∙ h in
         let is : g ≡ f = cc in
-        ap (map told_of) (filter-yes (is_live_of k) g gs t) ∙ (ap (λ (e : Forward). told_of e ∷ told_one_by_one k gs) is ∙ ap (λ hs. told_of f ∷ told_one_by_one k hs) (sym (without-at (is_live_of k) g gs true t)))
+        ap (map recorded_of) (filter-yes (is_live_of k) g gs t) ∙ (ap (λ (e : Forward). recorded_of e ∷ recorded_one_by_one k gs) is ∙ ap (λ hs. recorded_of f ∷ recorded_one_by_one k hs) (sym (without-at (is_live_of k) g gs true t)))
     by_case ih false t =
-        ap (map told_of) (filter-no (is_live_of k) g gs t)
+        ap (map recorded_of) (filter-no (is_live_of k) g gs t)
         ∙ (ih (sym (find-no (is_live_of k) g gs t) ∙ h)
-        ∙ ap (λ ts. told_of f ∷ ts) (sym (ap (told_one_by_one k) (without-at (is_live_of k) g gs false t) ∙ ap (map told_of) (filter-no (is_live_of k) g (without_first (is_live_of k) gs) t))))
+        ∙ ap (λ ts. recorded_of f ∷ ts) (sym (ap (recorded_one_by_one k) (without-at (is_live_of k) g gs false t) ∙ ap (map recorded_of) (filter-no (is_live_of k) g (without_first (is_live_of k) gs) t))))
 
-pub taking-one : (k : ℕ) (fs : List Forward) (f : Forward) → first_live k fs ≡ Some f → told_one_by_one k fs ≡ told_of f ∷ told_one_by_one k (after_taking k fs)
-taking-one k fs f h = first-told k fs f h ∙ ap (λ ts. told_of f ∷ ts) (sym (ap (told_one_by_one k) (ap (rest_after k fs) h) ∙ closed-list k k f.cancel (without_first (is_live_of k) fs)))
+pub taking-one : (k : ℕ) (fs : List Forward) (f : Forward) → first_live k fs ≡ Some f → recorded_one_by_one k fs ≡ recorded_of f ∷ recorded_one_by_one k (after_taking k fs)
+taking-one k fs f h = first-recorded k fs f h ∙ ap (λ ts. recorded_of f ∷ ts) (sym (ap (recorded_one_by_one k) (ap (rest_after k fs) h) ∙ closed-list k k f.cancel (without_first (is_live_of k) fs)))
 
-pub taking-none : (k : ℕ) (fs : List Forward) → first_live k fs ≡ None → told_one_by_one k fs ≡ []
+pub taking-none : (k : ℕ) (fs : List Forward) → first_live k fs ≡ None → recorded_one_by_one k fs ≡ []
 taking-none k [] h = refl
 taking-none k (g ∷ gs) h = by_case (taking-none k gs) (is_live_of k g) refl
   where
-    by_case : (first_live k gs ≡ None → told_one_by_one k gs ≡ []) → (b : Bool) → is_live_of k g ≡ b → told_one_by_one k (g ∷ gs) ≡ []
+    by_case : (first_live k gs ≡ None → recorded_one_by_one k gs ≡ []) → (b : Bool) → is_live_of k g ≡ b → recorded_one_by_one k (g ∷ gs) ≡ []
     by_case ih true t = absurd (let same : Some g ≡ None = sym (find-yes (is_live_of k) g gs t) ∙ h in cc)
-    by_case ih false t = ap (map told_of) (filter-no (is_live_of k) g gs t) ∙ ih (sym (find-no (is_live_of k) g gs t) ∙ h)
+    by_case ih false t = ap (map recorded_of) (filter-no (is_live_of k) g gs t) ∙ ih (sym (find-no (is_live_of k) g gs t) ∙ h)
 
 -- ---- the others stay as they are
 

@@ -30,8 +30,8 @@ abbrev pub first_live : ℕ → List Forward → Option Forward
 first_live k fs = find (is_live_of k) fs
 
 -- what is told of it: its key, and whether a cancel of it has no reply
-abbrev pub told_of : Forward → grammar.Key × Bool
-told_of f = (f.key, is_some f.cancel)
+abbrev pub recorded_of : Forward → grammar.Key × Bool
+recorded_of f = (f.key, is_some f.cancel)
 
 -- what is handed out
 abbrev pub taken_of : OwnKey × Bool → grammar.Key × Bool
@@ -58,5 +58,5 @@ abbrev pub after_taking : ℕ → List Forward → List Forward
 after_taking k fs = rest_after k fs (first_live k fs)
 
 -- what taking tells one after the other, until there is none
-abbrev pub told_one_by_one : ℕ → List Forward → List (grammar.Key × Bool)
-told_one_by_one k fs = map told_of (filter (is_live_of k) fs)
+abbrev pub recorded_one_by_one : ℕ → List Forward → List (grammar.Key × Bool)
+recorded_one_by_one k fs = map recorded_of (filter (is_live_of k) fs)

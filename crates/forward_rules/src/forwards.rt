@@ -3,7 +3,7 @@ ghost use Rattle.mux_history.specs.declared.limits.TheConstants.{MAX_FORWARDINGS
 ghost use Rattle.conn_messages.specs.Keys.{key_of, own_key_of, IsShort};
 ghost use Rattle.forward_rules.specs.Step.{asked, answered, cancelled, cancels, cancel_answered, earlier, first_cancel, is_asked_at, is_cancelled_at, is_free_at, is_leaving_at, is_live_at, some_free, owner_at, count_of, without_cancel_of, without_client};
 ghost use Rattle.forward_rules.specs.Listing.{forward_of};
-ghost use Rattle.forward_rules.specs.Taking.{AddsAs, after_taking, closed_up, first_live, is_live_of, moved_up_of, taken_of, told_of};
+ghost use Rattle.forward_rules.specs.Taking.{AddsAs, after_taking, closed_up, first_live, is_live_of, moved_up_of, taken_of, recorded_of};
 
 use crate::listed::Listed;
 use conn_messages::{Key, OwnKey};
@@ -147,7 +147,7 @@ impl Forwards {
     /// reply. Where it has no live one, all that it has asked are taken out, and None is answered.
     pub fn take_of(&mut self, client: u64) -> Option<(OwnKey, bool)>
         ensures exact { option_map taken_of result
-            ≡ option_map told_of (first_live client self.old) }
+            ≡ option_map recorded_of (first_live client self.old) }
         ensures step { self.new ≡ after_taking client self.old }
         ensures short { IfSome result (λ t. IsShort (own_key_of t.0)) }
         ensures fewer { OnSome result (count_of self.new client + 1 ≡ count_of self.old client) }

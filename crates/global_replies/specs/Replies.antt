@@ -2,7 +2,7 @@
 use Rattle.std.specs.Prelude.{◌≡◌, ℕ, ◌+◌, ◌==◌, List, [], ◌∷◌, ◌++◌, Bool, true, false, Option, Some, None}
 use Rattle.mux_history.specs.Requests as history
 use Rattle.global_replies.specs.declared.ask.Ask.{Ask}
-use Rattle.global_replies.specs.declared.ask.Asked.{Asked}
+use Rattle.global_replies.specs.declared.ask.AskRecord.{AskRecord}
 use Rattle.global_replies.specs.Asks.{what_of}
 
 -- ---- who asked
@@ -12,7 +12,7 @@ abbrev pub request_of : ℕ → Ask → history.Ask
 request_of k what = record { client = k; what = what_of what }
 
 -- one that is kept
-abbrev pub asked_of : Asked → history.Ask
+abbrev pub asked_of : AskRecord → history.Ask
 asked_of a = request_of a.client a.what
 
 -- a client's

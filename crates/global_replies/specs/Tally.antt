@@ -2,7 +2,7 @@
 use Rattle.std.specs.Prelude.{◌≡◌, ◌≤◌, ℕ, nat_eq, List, length, map, filter, Option, Some, None}
 use Rattle.indexmap.specs.IndexMap.{IndexMap, get}
 use Rattle.mux_history.specs.Requests as history
-use Rattle.global_replies.specs.declared.ask.Asked.{Asked}
+use Rattle.global_replies.specs.declared.ask.AskRecord.{AskRecord}
 use Rattle.global_replies.specs.declared.ask.TheConstants.{MOST_WAITING}
 use Rattle.global_replies.specs.Replies.{asked_of, is_of}
 
@@ -16,6 +16,6 @@ abbrev pub count_of : ℕ → List history.Ask → ℕ
 count_of k asks = length (filter (is_of k) asks)
 
 -- each client has its count, and the requests are not too many
-pub record IsTally {S : Type 0} (counts : IndexMap ℕ ℕ S) (asked : List Asked) : Type 0 where
+pub record IsTally {S : Type 0} (counts : IndexMap ℕ ℕ S) (asked : List AskRecord) : Type 0 where
   pub few : length asked ≤ MOST_WAITING
   pub counts_are : (k : ℕ) → counted (get nat_eq counts k) ≡ count_of k (map asked_of asked)

@@ -31,7 +31,7 @@ impl Ask {
 
 /// It, with its client.
 #[derive(Drop)]
-pub struct Asked {
+pub struct AskRecord {
     pub client: u64,
     pub what: Ask,
     ghost short: { IsShort (what_of what) },

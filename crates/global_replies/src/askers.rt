@@ -3,7 +3,7 @@ ghost use Rattle.global_replies.specs.Asks.{IsShort, what_of};
 ghost use Rattle.global_replies.specs.Replies.{asked_of, request_of, FirstAsked, rest_of, is_of};
 ghost use Rattle.global_replies.specs.Stands.{AskGoesOn, ReplyGoesOn};
 
-use crate::ask::{Ask, Asked, MOST_WAITING};
+use crate::ask::{Ask, AskRecord, MOST_WAITING};
 use crate::tally::{add_one, count_of, drop_one};
 use indexmap::IndexMap;
 use ssh_fields::OutOfMemory;
@@ -15,7 +15,7 @@ use std::marker::Model;
 /// sent.
 #[derive(Drop)]
 pub struct Askers {
-    waiting: VecDeque<Asked>,
+    waiting: VecDeque<AskRecord>,
     /// How many of them each client has, of those that have any.
     counts: IndexMap<u64, u32>,
 }
@@ -56,7 +56,7 @@ impl Askers {
             return Err(OutOfMemory);
         }
         add_one(&mut self.counts, client)?;
-        if self.waiting.push_back(Asked { client, what }).is_err() {
+        if self.waiting.push_back(AskRecord { client, what }).is_err() {
             drop_one(&mut self.counts, client);
             return Err(OutOfMemory);
         }

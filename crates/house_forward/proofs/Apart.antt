@@ -11,8 +11,8 @@ use Rattle.house_forward.specs.declared.asks.Outcome.{Outcome}
 use Rattle.house_forward.specs.declared.asks.Outcome.TheVariants.{Done, Refused}
 use Rattle.house_forward.specs.declared.asks.Waiting.{Waiting}
 use Rattle.house_forward.specs.declared.forwarding.Forwarding.{Forwarding}
-use Rattle.house_forward.specs.declared.forwarding.Request.{Request}
-use Rattle.house_forward.specs.declared.forwarding.Request.TheVariants.{Listen, Cancel}
+use Rattle.house_forward.specs.declared.forwarding.ForwardingRequest.{ForwardingRequest}
+use Rattle.house_forward.specs.declared.forwarding.ForwardingRequest.TheVariants.{Listen, Cancel}
 use Rattle.house_forward.proofs.Lists.{none-passes}
 
 abbrev pub Apart : List Waiting → Type 0
@@ -82,7 +82,7 @@ pub apart-opened : (o : Option Outcome) (serial at : ℕ) (ws : List Waiting) �
 apart-opened None serial at ws h = h
 apart-opened (Some outcome) serial at ws h = apart-settled serial true at outcome ws h
 
-pub apart-replied : (success : Bool) (port : Option ℕ) (r : Option Request) (fs : List Forwarding) (at : ℕ) (ws : List Waiting) → Apart ws
+pub apart-replied : (success : Bool) (port : Option ℕ) (r : Option ForwardingRequest) (fs : List Forwarding) (at : ℕ) (ws : List Waiting) → Apart ws
     → Apart (replied_asks success port r fs at ws)
 apart-replied true port None fs at ws h = h
 apart-replied false port None fs at ws h = h

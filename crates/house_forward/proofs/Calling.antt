@@ -9,34 +9,34 @@ use Rattle.proxy_frames.specs.Steps.{new_framer, pushed}
 use Rattle.house_relay.specs.Relay.{Stands}
 use Rattle.mux_outside.specs.House.{Known, order_marks, ordered_marks, known_after_order}
 use Rattle.mux_outside.specs.HouseCalls.{HouseCall, Marks, calls_of}
-use Rattle.mux_outside.specs.HouseCalls.{Hears as HearsBytes}
+use Rattle.mux_outside.specs.HouseCalls.{Receives as ReceivesBytes}
 use Rattle.mux_outside.specs.declared.house_mark.HouseMark.TheVariants.{HouseOrder}
 use Rattle.mux_outside.specs.declared.order.Order.{Order}
 use Rattle.mux_outside.specs.declared.order.Order.TheVariants as order
-use Rattle.house_forward.specs.Desk.{empty_desk, desk_of}
+use Rattle.house_forward.specs.ForwardingState.{empty_forwarding_state, forwarding_state_of}
 use Rattle.house_forward.specs.Known.{ordering_of}
-use Rattle.house_forward.specs.Lives.{Life, first_course, HasLived, Course, Held, GoesFurther, StandsFor, StandsSince, AwaitsNumber, GetsNumber, held, held_of, Follows, GivesOrder, OrdersIn, HearsNext, taken_in}
+use Rattle.house_forward.specs.RelayTraces.{Life, first_trace, HasLived, Trace, Held, GoesFurther, Represents, StandsSince, AwaitsNumber, GetsNumber, held, held_of, Follows, GivesOrder, OrdersIn, ReceivesNext, taken_in}
 use Rattle.house_forward.specs.State.{held_in}
-use Rattle.house_forward.specs.declared.holdings.Holdings.{Holdings}
-use Rattle.house_forward.specs.declared.holdings.Stage.TheVariants.{Control}
+use Rattle.house_forward.specs.declared.forwarder_state.ForwarderState.{ForwarderState}
+use Rattle.house_forward.specs.declared.forwarder_state.Stage.TheVariants.{Control}
 use Rattle.house_forward.specs.declared.ordering.Ordering.{Ordering}
 use Rattle.house_forward.specs.declared.ordering.Ordering.TheVariants as ordering
-use Rattle.house_forward.proofs.Courses.{stands-on}
+use Rattle.house_forward.proofs.Traces.{stands-on}
 use Rattle.house_forward.proofs.Leading.{LeadsOn, leads-next, leads-last}
 
 -- the house goes on from what is the same
-pub from-same : (P : Course → Course → Type 0) (old middle : Holdings) (new : Held) → middle ≡ old
+pub from-same : (P : Trace → Trace → Type 0) (old middle : ForwarderState) (new : Held) → middle ≡ old
     → GoesFurther P (held_in middle) new → GoesFurther P (held_in old) new
-from-same P old middle new e goes = subst (λ (h : Holdings). GoesFurther P (held_in h) new) e goes
+from-same P old middle new e goes = subst (λ (h : ForwarderState). GoesFurther P (held_in h) new) e goes
 
 -- ---- where no number is awaited
 
 pub since-none : (at : Option Ordering) (calls : List HouseCall) (h : Held) → at ≡ None → StandsSince at calls h
-    → StandsFor calls h
-since-none None calls h e s = subst (λ (x : Held). StandsFor calls x) (sym s.2) s.1
+    → Represents calls h
+since-none None calls h e s = subst (λ (x : Held). Represents calls x) (sym s.2) s.1
 since-none (Some o) calls h e s = cc
 
-pub none-since : (at : Option Ordering) (calls : List HouseCall) (h : Held) → at ≡ None → StandsFor calls h
+pub none-since : (at : Option Ordering) (calls : List HouseCall) (h : Held) → at ≡ None → Represents calls h
     → StandsSince at calls h
 none-since None calls h e s = (h, s, refl)
 none-since (Some o) calls h e s = cc
@@ -55,7 +55,7 @@ since-on at at' calls call old new e f none goes h =
 
 -- one in which bytes are taken
 pub since-taken : (at at' : Option Ordering) (calls : List HouseCall) (call : HouseCall) (old new : Held) → at ≡ None → at' ≡ None
-    → (StandsFor calls old → StandsFor (calls ++ call ∷ []) new) → StandsSince at calls old
+    → (Represents calls old → Represents (calls ++ call ∷ []) new) → StandsSince at calls old
     → StandsSince at' (calls ++ call ∷ []) new
 since-taken at at' calls call old new e f goes h =
     none-since at' (calls ++ call ∷ []) new f (goes (since-none at calls old e h))
@@ -65,16 +65,16 @@ pub since-same : (at at' : Option Ordering) (calls : List HouseCall) (old new : 
     → StandsSince at calls old → StandsSince at' (calls ++ []) new
 since-same at at' calls old new e f same h =
     none-since at' (calls ++ []) new f
-    (subst (λ (cs : List HouseCall). StandsFor cs new) (sym (append-nil calls))
-    (subst (λ (x : Held). StandsFor calls x) (sym same) (since-none at calls old e h)))
+    (subst (λ (cs : List HouseCall). Represents cs new) (sym (append-nil calls))
+    (subst (λ (x : Held). Represents calls x) (sym same) (since-none at calls old e h)))
 
 -- ---- orders
 
 -- what is ordered is what is awaited
-awaited : (at : Option Ordering) (calls : List HouseCall) (old new : Held) → StandsFor calls old → AwaitsNumber at old new
+awaited : (at : Option Ordering) (calls : List HouseCall) (old new : Held) → Represents calls old → AwaitsNumber at old new
     → StandsSince at (calls ++ []) new
 awaited at calls old new h awaits =
-    (old, subst (λ (cs : List HouseCall). StandsFor cs old) (sym (append-nil calls)) h, awaits)
+    (old, subst (λ (cs : List HouseCall). Represents cs old) (sym (append-nil calls)) h, awaits)
 
 -- an order
 pub stands-given : (o : Option Order) (known : Known) (at at' : Option Ordering) (calls : List HouseCall) (old new : Held) → at ≡ None
@@ -98,8 +98,8 @@ stands-given (Some (order.Close t)) known at at' calls old new e none is goes h 
     since-on at at' calls (Marks (HouseOrder (order.Close t) None)) old new e (no-ordering at' (is ∙ none)) refl goes h
 
 numbered-by : (o : Option Order) (number : Option ℕ) (calls : List HouseCall) (before new : Held) → IsSome o
-    → IfSome o (λ given. GoesFurther (OrdersIn given number) before new) → StandsFor calls before
-    → StandsFor (calls ++ calls_of (ordered_marks o number)) new
+    → IfSome o (λ given. GoesFurther (OrdersIn given number) before new) → Represents calls before
+    → Represents (calls ++ calls_of (ordered_marks o number)) new
 numbered-by None number calls before new is goes h = cc
 numbered-by (Some given) number calls before new is goes h =
     stands-on calls (Marks (HouseOrder given number)) before new refl goes h
@@ -119,39 +119,39 @@ stands-made at at' number calls old new is none goes h =
     (numbered-by (ordering_of at) number calls h.0 new is (goes-from (ordering_of at) at number h.0 old new goes h.2) h.1)
 
 -- no call
-pub lived-first : (h : Held) → h ≡ held [] (new_framer framing.Control) Control empty_desk → HasLived [] h
+pub lived-first : (h : Held) → h ≡ held [] (new_framer framing.Control) Control empty_forwarding_state → HasLived [] h
 lived-first h e =
     subst (λ (x : Held). HasLived [] x) (sym e) (record {
-      course = first_course;
+      trace = first_trace;
       reached = refl;
       is = record {
-        lives = tt;
+        relay_traces = tt;
         past = All-nil (λ (l : Life). Stands l.dials l.acts l.relay);
         framer_is = refl;
         stage_is = refl;
-        desk_is = refl;
+        forwarding_state_is = refl;
       };
     })
 
 -- ---- what is heard
 
 -- one frame more
-pub leads-on : (one : Bool) (old : Held) (now middle : Holdings) (new : Held) → one ≡ true → middle ≡ now
-    → LeadsOn old (held_in now) → GoesFurther (HearsNext one) (held_in middle) new → LeadsOn old new
+pub leads-on : (one : Bool) (old : Held) (now middle : ForwarderState) (new : Held) → one ≡ true → middle ≡ now
+    → LeadsOn old (held_in now) → GoesFurther (ReceivesNext one) (held_in middle) new → LeadsOn old new
 leads-on one old now middle new is same leads goes =
     leads-next old (held_in now) new leads
-    (subst (λ (b : Bool). GoesFurther (HearsNext b) (held_in now) new) is (from-same (HearsNext one) now middle new same goes))
+    (subst (λ (b : Bool). GoesFurther (ReceivesNext b) (held_in now) new) is (from-same (ReceivesNext one) now middle new same goes))
 
 -- none more
-pub takes-in : (bytes : List ℕ) (old taken now middle : Holdings) (one : Bool) (new : Held)
+pub takes-in : (bytes : List ℕ) (old taken now middle : ForwarderState) (one : Bool) (new : Held)
     → taken ≡ record old { framer = taken.framer } → taken.framer ≡ pushed bytes old.framer → LeadsOn (held_in taken) (held_in now)
-    → middle ≡ now → one ≡ false → GoesFurther (HearsNext one) (held_in middle) new
-    → GoesFurther (Follows (HearsBytes bytes)) (held_in old) new
+    → middle ≡ now → one ≡ false → GoesFurther (ReceivesNext one) (held_in middle) new
+    → GoesFurther (Follows (ReceivesBytes bytes)) (held_in old) new
 takes-in bytes old taken now middle one new others framer leads same none goes =
-    let desk = desk_of old.gateway old.greeted old.forwardings old.asks in
-    let first : held_in taken ≡ held old.relays.all.items (pushed bytes old.framer) old.stage desk =
-    ap (λ (x : Holdings). held_of x.relays taken.framer x.stage x.gateway x.greeted x.forwardings x.asks) others
-    ∙ ap (λ (f : FramerState). held old.relays.all.items f old.stage desk) framer in
-    leads-last bytes old.relays.all.items old.framer old.stage desk (held_in now) new
+    let forwarding_state = forwarding_state_of old.gateway old.greeted old.forwardings old.asks in
+    let first : held_in taken ≡ held old.relays.all.items (pushed bytes old.framer) old.stage forwarding_state =
+    ap (λ (x : ForwarderState). held_of x.relays taken.framer x.stage x.gateway x.greeted x.forwardings x.asks) others
+    ∙ ap (λ (f : FramerState). held old.relays.all.items f old.stage forwarding_state) framer in
+    leads-last bytes old.relays.all.items old.framer old.stage forwarding_state (held_in now) new
     (subst (λ (h : Held). LeadsOn h (held_in now)) first leads)
-    (subst (λ (b : Bool). GoesFurther (HearsNext b) (held_in now) new) none (from-same (HearsNext one) now middle new same goes))
+    (subst (λ (b : Bool). GoesFurther (ReceivesNext b) (held_in now) new) none (from-same (ReceivesNext one) now middle new same goes))

@@ -9,9 +9,9 @@ use Rattle.mux_outside.specs.declared.house.HouseReply.TheVariants as given
 use Rattle.mux_outside.specs.declared.start_ask.StartAsk.{StartAsk}
 use Rattle.house_forward.specs.Asks.{earlier, earlier_at, earliest, has_outcome, is_settled, stamp_of, reply_in, reply_of, answer_in, turns_away}
 use Rattle.house_forward.specs.Causes.{answers, AreOne, IsFor, IsNext, IsGranted, ListensSince, ServesAt, IsGrant, IsServed, EachServed, CameBy, MadeBy, RepliedBy, HasCause, EachAnswer}
-use Rattle.house_forward.specs.Deeds.{Deed}
-use Rattle.house_forward.specs.Deeds.{Begins, Asks, Answers, Greets, Requests, Replies, Listens, Unlistens}
-use Rattle.house_forward.specs.Desk.{Desk}
+use Rattle.house_forward.specs.ForwarderEvents.{ForwarderEvent}
+use Rattle.house_forward.specs.ForwarderEvents.{Begins, Asks, Answers, Greets, Requests, Replies, Listens, Unlistens}
+use Rattle.house_forward.specs.ForwardingState.{ForwardingState}
 use Rattle.house_forward.specs.Forwardings.{ComesIf, ComesUnless, comes_of_ends, opens_of, closes_of, as_first, standing, counts, how_many, listens_at, connects_to, outcome_of, outcome_at, reply_to, bound_to}
 use Rattle.house_forward.specs.Rules.{AreEnds, is_refused_alone, listens_here, connects_there, listen_host}
 use Rattle.house_forward.specs.declared.asks.Asked.{Asked as Comes}
@@ -20,8 +20,8 @@ use Rattle.house_forward.specs.declared.asks.Outcome.{Outcome}
 use Rattle.house_forward.specs.declared.asks.Outcome.TheVariants.{Done, Port, Refused}
 use Rattle.house_forward.specs.declared.asks.Waiting.{Waiting}
 use Rattle.house_forward.specs.declared.forwarding.Forwarding.{Forwarding}
-use Rattle.house_forward.specs.declared.forwarding.Request.{Request}
-use Rattle.house_forward.specs.declared.forwarding.Request.TheVariants.{Listen}
+use Rattle.house_forward.specs.declared.forwarding.ForwardingRequest.{ForwardingRequest}
+use Rattle.house_forward.specs.declared.forwarding.ForwardingRequest.TheVariants.{Listen}
 use Rattle.house_forward.specs.declared.forwarding.Stage.{Stage}
 use Rattle.house_forward.specs.declared.forwarding.Stage.TheVariants.{ToListen, Ordered, Listening, ToRequest, Requested, Live, Cancelling}
 use Rattle.house_forward.specs.declared.rules.Ends.{Ends}
@@ -31,8 +31,8 @@ use Rattle.house_forward.proofs.Serving.{StageFits, Stands, Came, CameIf, Waits}
 
 -- ---- one forwarding at two times
 
-one-next : (what : ℕ → Request) (a f : Forwarding) (deeds : List Deed) → AreOne a f → IsNext what a deeds → IsNext what f deeds
-one-next what a f deeds one n = record {
+one-next : (what : ℕ → ForwardingRequest) (a f : Forwarding) (forwarder_events : List ForwarderEvent) → AreOne a f → IsNext what a forwarder_events → IsNext what f forwarder_events
+one-next what a f forwarder_events one n = record {
   first = n.first;
   others = n.others;
   were = n.were;
@@ -48,8 +48,8 @@ one-next what a f deeds one n = record {
   there = ap listens_here (sym one.kind) ∙ n.there;
 }
 
-pub one-granted : (a f : Forwarding) (port : ℕ) (deeds : List Deed) → AreOne a f → IsGranted a port deeds → IsGranted f port deeds
-one-granted a f port deeds one g = record {
+pub one-granted : (a f : Forwarding) (port : ℕ) (forwarder_events : List ForwarderEvent) → AreOne a f → IsGranted a port forwarder_events → IsGranted f port forwarder_events
+one-granted a f port forwarder_events one g = record {
   chosen = g.chosen;
   later = g.later;
   earlier = g.earlier;
@@ -58,10 +58,10 @@ one-granted a f port deeds one g = record {
   bound = g.bound ∙ ap (λ n. bound_to n g.chosen) one.listen_port;
 }
 
-pub one-listens : (a f : Forwarding) (l : ℕ) (deeds : List Deed) → AreOne a f → ListensSince a.listen_host a.listen_port l deeds
-    → ListensSince f.listen_host f.listen_port l deeds
-one-listens a f l deeds one h = subst (λ (p : ℕ). ListensSince f.listen_host p l deeds) one.listen_port
-    (subst (λ (x : List ℕ). ListensSince x a.listen_port l deeds) one.listens h)
+pub one-listens : (a f : Forwarding) (l : ℕ) (forwarder_events : List ForwarderEvent) → AreOne a f → ListensSince a.listen_host a.listen_port l forwarder_events
+    → ListensSince f.listen_host f.listen_port l forwarder_events
+one-listens a f l forwarder_events one h = subst (λ (p : ℕ). ListensSince f.listen_host p l forwarder_events) one.listen_port
+    (subst (λ (x : List ℕ). ListensSince x a.listen_port l forwarder_events) one.listens h)
 
 pub one-is-for : (gateway opening : Bool) (ask : StartAsk) (a f : Forwarding) → AreOne a f → IsFor gateway opening ask a
     → IsFor gateway opening ask f
@@ -74,15 +74,15 @@ one-is-for gateway opening ask a f one h = record {
       (sym one.connects ∙ both.0, sym one.connect_port ∙ both.1);
 }
 
-serves-at : (s : Stage) (a f : Forwarding) (asked : ℕ) (o : Outcome) (deeds : List Deed) → AreOne a f → outcome_at s asked ≡ Some o
-    → StageFits s a deeds → ServesAt s f deeds
-serves-at (ToListen host) a f asked o deeds one e h = cc
-serves-at Ordered a f asked o deeds one e h = cc
-serves-at (Listening l) a f asked o deeds one e h = (ap listens_here (sym one.kind) ∙ h.0, one-listens a f l deeds one h.1)
-serves-at ToRequest a f asked o deeds one e h = cc
-serves-at Requested a f asked o deeds one e h = cc
-serves-at (Live p) a f asked o deeds one e h = (ap listens_here (sym one.kind) ∙ h.0, one-granted a f p deeds one h.1)
-serves-at (Cancelling p) a f asked o deeds one e h = (ap listens_here (sym one.kind) ∙ h.0, one-granted a f p deeds one h.1)
+serves-at : (s : Stage) (a f : Forwarding) (asked : ℕ) (o : Outcome) (forwarder_events : List ForwarderEvent) → AreOne a f → outcome_at s asked ≡ Some o
+    → StageFits s a forwarder_events → ServesAt s f forwarder_events
+serves-at (ToListen host) a f asked o forwarder_events one e h = cc
+serves-at Ordered a f asked o forwarder_events one e h = cc
+serves-at (Listening l) a f asked o forwarder_events one e h = (ap listens_here (sym one.kind) ∙ h.0, one-listens a f l forwarder_events one h.1)
+serves-at ToRequest a f asked o forwarder_events one e h = cc
+serves-at Requested a f asked o forwarder_events one e h = cc
+serves-at (Live p) a f asked o forwarder_events one e h = (ap listens_here (sym one.kind) ∙ h.0, one-granted a f p forwarder_events one h.1)
+serves-at (Cancelling p) a f asked o forwarder_events one e h = (ap listens_here (sym one.kind) ∙ h.0, one-granted a f p forwarder_events one h.1)
 
 -- ---- at once
 
@@ -94,19 +94,19 @@ not-later : (answer : HouseReply) (comes : Comes) (serial : ℕ) (P : Type 0) �
 not-later answer comes serial P e f g = absurd (subst IsGrant (e ∙ ap reply_to f) g)
 
 -- what is known as an ask comes
-record Granting (old : Desk) (deeds : List Deed) (answer : HouseReply) (comes : Comes) : Type 0 where
-  knows : Knows deeds old
+record Granting (old : ForwardingState) (forwarder_events : List ForwarderEvent) (answer : HouseReply) (comes : Comes) : Type 0 where
+  knows : Knows forwarder_events old
   answers : answer ≡ reply_to comes
   grants : IsGrant answer
 
-as-found : (old : Desk) (deeds : List Deed) (ask : StartAsk) (answer : HouseReply) (comes : Comes) (ends : Ends) (f : Forwarding)
-    (o : Option Outcome) → Granting old deeds answer comes → AreEnds old.gateway ask ends
+as-found : (old : ForwardingState) (forwarder_events : List ForwarderEvent) (ask : StartAsk) (answer : HouseReply) (comes : Comes) (ends : Ends) (f : Forwarding)
+    (o : Option Outcome) → Granting old forwarder_events answer comes → AreEnds old.gateway ask ends
     → find (λ g. counts g && listens_at ends g) old.all ≡ Some f → connects_to ends f ≡ true → outcome_of f ≡ o → comes ≡ as_first f o
-    → IsServed true ask answer old.all deeds
-as-found old deeds ask answer comes ends f None g are is connects out e =
-    not-later answer comes f.serial (IsServed true ask answer old.all deeds) g.answers e g.grants
-as-found old deeds ask answer comes ends f (Some o) g are is connects out e =
-    let at = found (Stands g.knows.home old.serials deeds) (λ x. counts x && listens_at ends x) old.all f is g.knows.all in
+    → IsServed true ask answer old.all forwarder_events
+as-found old forwarder_events ask answer comes ends f None g are is connects out e =
+    not-later answer comes f.serial (IsServed true ask answer old.all forwarder_events) g.answers e g.grants
+as-found old forwarder_events ask answer comes ends f (Some o) g are is connects out e =
+    let at = found (Stands g.knows.home old.serials forwarder_events) (λ x. counts x && listens_at ends x) old.all f is g.knows.all in
     let has = found (Contains old.all) (λ x. counts x && listens_at ends x) old.all f is (All-contains_itself old.all) in
     record {
       opens = refl;
@@ -116,70 +116,70 @@ as-found old deeds ask answer comes ends f (Some o) g are is connects out e =
       is_for = subst (λ (b : Bool). IsFor b true ask f) g.knows.gateway (is-for old.gateway true ask ends f f are (itself f)
           (and_parts (counts f) (listens_at ends f) at.1).1 (λ _. connects));
       counts_yet = (and_parts (counts f) (listens_at ends f) at.1).0;
-      serves = serves-at f.stage (g.knows.home f.serial) f f.listen_port o deeds at.0.same out at.0.stage;
+      serves = serves-at f.stage (g.knows.home f.serial) f f.listen_port o forwarder_events at.0.same out at.0.stage;
       comes = out;
       replies = g.answers ∙ ap reply_to e;
     }
 
-connects-if : (old : Desk) (deeds : List Deed) (ask : StartAsk) (answer : HouseReply) (comes : Comes) (ends : Ends) (f : Forwarding)
-    (b : Bool) → Granting old deeds answer comes → AreEnds old.gateway ask ends
+connects-if : (old : ForwardingState) (forwarder_events : List ForwarderEvent) (ask : StartAsk) (answer : HouseReply) (comes : Comes) (ends : Ends) (f : Forwarding)
+    (b : Bool) → Granting old forwarder_events answer comes → AreEnds old.gateway ask ends
     → find (λ g. counts g && listens_at ends g) old.all ≡ Some f → connects_to ends f ≡ b
-    → comes ≡ (if b then as_first f (outcome_of f) else Now Refused) → IsServed true ask answer old.all deeds
-connects-if old deeds ask answer comes ends f true g are is connects e =
-    as-found old deeds ask answer comes ends f (outcome_of f) g are is connects refl e
-connects-if old deeds ask answer comes ends f false g are is connects e =
-    not-now answer comes (IsServed true ask answer old.all deeds) g.answers e g.grants
+    → comes ≡ (if b then as_first f (outcome_of f) else Now Refused) → IsServed true ask answer old.all forwarder_events
+connects-if old forwarder_events ask answer comes ends f true g are is connects e =
+    as-found old forwarder_events ask answer comes ends f (outcome_of f) g are is connects refl e
+connects-if old forwarder_events ask answer comes ends f false g are is connects e =
+    not-now answer comes (IsServed true ask answer old.all forwarder_events) g.answers e g.grants
 
-room-if : (old : Desk) (deeds : List Deed) (ask : StartAsk) (answer : HouseReply) (comes : Comes) (b : Bool)
-    → Granting old deeds answer comes → comes ≡ (if b then Later old.serials else Now Refused) → IsServed true ask answer old.all deeds
-room-if old deeds ask answer comes true g e =
-    not-later answer comes old.serials (IsServed true ask answer old.all deeds) g.answers e g.grants
-room-if old deeds ask answer comes false g e = not-now answer comes (IsServed true ask answer old.all deeds) g.answers e g.grants
+room-if : (old : ForwardingState) (forwarder_events : List ForwarderEvent) (ask : StartAsk) (answer : HouseReply) (comes : Comes) (b : Bool)
+    → Granting old forwarder_events answer comes → comes ≡ (if b then Later old.serials else Now Refused) → IsServed true ask answer old.all forwarder_events
+room-if old forwarder_events ask answer comes true g e =
+    not-later answer comes old.serials (IsServed true ask answer old.all forwarder_events) g.answers e g.grants
+room-if old forwarder_events ask answer comes false g e = not-now answer comes (IsServed true ask answer old.all forwarder_events) g.answers e g.grants
 
-opens-by : (old : Desk) (deeds : List Deed) (ask : StartAsk) (answer : HouseReply) (comes : Comes) (ends : Ends)
-    (o : Option Forwarding) → Granting old deeds answer comes → AreEnds old.gateway ask ends → standing ends old.all ≡ o
-    → comes ≡ opens_of old.serials ends old.all o → IsServed true ask answer old.all deeds
-opens-by old deeds ask answer comes ends None g are is e =
-    room-if old deeds ask answer comes (nat_lt (how_many old.all) MOST_FORWARDINGS) g e
-opens-by old deeds ask answer comes ends (Some f) g are is e =
-    connects-if old deeds ask answer comes ends f (connects_to ends f) g are is refl e
+opens-by : (old : ForwardingState) (forwarder_events : List ForwarderEvent) (ask : StartAsk) (answer : HouseReply) (comes : Comes) (ends : Ends)
+    (o : Option Forwarding) → Granting old forwarder_events answer comes → AreEnds old.gateway ask ends → standing ends old.all ≡ o
+    → comes ≡ opens_of old.serials ends old.all o → IsServed true ask answer old.all forwarder_events
+opens-by old forwarder_events ask answer comes ends None g are is e =
+    room-if old forwarder_events ask answer comes (nat_lt (how_many old.all) MOST_FORWARDINGS) g e
+opens-by old forwarder_events ask answer comes ends (Some f) g are is e =
+    connects-if old forwarder_events ask answer comes ends f (connects_to ends f) g are is refl e
 
-closes-if : (old : Desk) (deeds : List Deed) (ask : StartAsk) (answer : HouseReply) (comes : Comes) (f : Forwarding) (b : Bool)
-    → Granting old deeds answer comes → comes ≡ (if b then Now Refused else Later f.serial) → IsServed false ask answer old.all deeds
-closes-if old deeds ask answer comes f true g e = not-now answer comes (IsServed false ask answer old.all deeds) g.answers e g.grants
-closes-if old deeds ask answer comes f false g e =
-    not-later answer comes f.serial (IsServed false ask answer old.all deeds) g.answers e g.grants
+closes-if : (old : ForwardingState) (forwarder_events : List ForwarderEvent) (ask : StartAsk) (answer : HouseReply) (comes : Comes) (f : Forwarding) (b : Bool)
+    → Granting old forwarder_events answer comes → comes ≡ (if b then Now Refused else Later f.serial) → IsServed false ask answer old.all forwarder_events
+closes-if old forwarder_events ask answer comes f true g e = not-now answer comes (IsServed false ask answer old.all forwarder_events) g.answers e g.grants
+closes-if old forwarder_events ask answer comes f false g e =
+    not-later answer comes f.serial (IsServed false ask answer old.all forwarder_events) g.answers e g.grants
 
-closes-by : (old : Desk) (deeds : List Deed) (ask : StartAsk) (answer : HouseReply) (comes : Comes) (o : Option Forwarding)
-    → Granting old deeds answer comes → comes ≡ closes_of o → IsServed false ask answer old.all deeds
-closes-by old deeds ask answer comes None g e = not-now answer comes (IsServed false ask answer old.all deeds) g.answers e g.grants
-closes-by old deeds ask answer comes (Some f) g e = closes-if old deeds ask answer comes f f.closing g e
+closes-by : (old : ForwardingState) (forwarder_events : List ForwarderEvent) (ask : StartAsk) (answer : HouseReply) (comes : Comes) (o : Option Forwarding)
+    → Granting old forwarder_events answer comes → comes ≡ closes_of o → IsServed false ask answer old.all forwarder_events
+closes-by old forwarder_events ask answer comes None g e = not-now answer comes (IsServed false ask answer old.all forwarder_events) g.answers e g.grants
+closes-by old forwarder_events ask answer comes (Some f) g e = closes-if old forwarder_events ask answer comes f f.closing g e
 
-served-by : (opening : Bool) (old : Desk) (deeds : List Deed) (ask : StartAsk) (answer : HouseReply) (comes : Comes) (ends : Ends)
-    → Granting old deeds answer comes → AreEnds old.gateway ask ends → comes ≡ comes_of_ends opening old.serials ends old.all
-    → IsServed opening ask answer old.all deeds
-served-by true old deeds ask answer comes ends g are e =
-    opens-by old deeds ask answer comes ends (standing ends old.all) g are refl e
-served-by false old deeds ask answer comes ends g are e = closes-by old deeds ask answer comes (standing ends old.all) g e
+served-by : (opening : Bool) (old : ForwardingState) (forwarder_events : List ForwarderEvent) (ask : StartAsk) (answer : HouseReply) (comes : Comes) (ends : Ends)
+    → Granting old forwarder_events answer comes → AreEnds old.gateway ask ends → comes ≡ comes_of_ends opening old.serials ends old.all
+    → IsServed opening ask answer old.all forwarder_events
+served-by true old forwarder_events ask answer comes ends g are e =
+    opens-by old forwarder_events ask answer comes ends (standing ends old.all) g are refl e
+served-by false old forwarder_events ask answer comes ends g are e = closes-by old forwarder_events ask answer comes (standing ends old.all) g e
 
-served-if : (alone opening : Bool) (old : Desk) (deeds : List Deed) (ask : StartAsk) (answer : HouseReply) (comes : Comes) (new : List Forwarding)
-    → Granting old deeds answer comes → ComesIf alone old.gateway opening ask old.serials old.all new comes
-    → IsServed opening ask answer old.all deeds
-served-if true opening old deeds ask answer comes new g c = not-now answer comes (IsServed opening ask answer old.all deeds) g.answers c.0 g.grants
-served-if false opening old deeds ask answer comes new g c = served-by opening old deeds ask answer comes c.0 g c.1 c.2
+served-if : (alone opening : Bool) (old : ForwardingState) (forwarder_events : List ForwarderEvent) (ask : StartAsk) (answer : HouseReply) (comes : Comes) (new : List Forwarding)
+    → Granting old forwarder_events answer comes → ComesIf alone old.gateway opening ask old.serials old.all new comes
+    → IsServed opening ask answer old.all forwarder_events
+served-if true opening old forwarder_events ask answer comes new g c = not-now answer comes (IsServed opening ask answer old.all forwarder_events) g.answers c.0 g.grants
+served-if false opening old forwarder_events ask answer comes new g c = served-by opening old forwarder_events ask answer comes c.0 g c.1 c.2
 
-served-unless : (away opening : Bool) (old : Desk) (deeds : List Deed) (ask : StartAsk) (answer : HouseReply) (comes : Comes) (new : List Forwarding)
-    → Granting old deeds answer comes → ComesUnless away old.gateway opening ask old.serials old.all new comes
-    → IsServed opening ask answer old.all deeds
-served-unless true opening old deeds ask answer comes new g c =
-    not-now answer comes (IsServed opening ask answer old.all deeds) g.answers c.0 g.grants
-served-unless false opening old deeds ask answer comes new g c =
-    served-if (is_refused_alone ask) opening old deeds ask answer comes new g c
+served-unless : (away opening : Bool) (old : ForwardingState) (forwarder_events : List ForwarderEvent) (ask : StartAsk) (answer : HouseReply) (comes : Comes) (new : List Forwarding)
+    → Granting old forwarder_events answer comes → ComesUnless away old.gateway opening ask old.serials old.all new comes
+    → IsServed opening ask answer old.all forwarder_events
+served-unless true opening old forwarder_events ask answer comes new g c =
+    not-now answer comes (IsServed opening ask answer old.all forwarder_events) g.answers c.0 g.grants
+served-unless false opening old forwarder_events ask answer comes new g c =
+    served-if (is_refused_alone ask) opening old forwarder_events ask answer comes new g c
 
 pub each-served : EachServed
-each-served client id opening ask answer deeds old new left a grants =
-    served-unless (turns_away client id old.waiting) opening old deeds ask answer a.came_to new.all
-    (record { knows = knows deeds old left; answers = a.replies; grants = grants }) a.comes
+each-served client id opening ask answer forwarder_events old new left a grants =
+    served-unless (turns_away client id old.waiting) opening old forwarder_events ask answer a.came_to new.all
+    (record { knows = knows forwarder_events old left; answers = a.replies; grants = grants }) a.comes
 
 -- ---- later
 
@@ -209,12 +209,12 @@ made-reply : (number : Option ℕ) (p : ℕ) (P : Type 0) → MadeBy number fals
 made-reply None p P e = cc
 made-reply (Some l) p P e = absurd e
 
-replied-reply : (success : Bool) (port : Option ℕ) (earlier : List Deed) (f : Forwarding) (p : ℕ) (P : Type 0)
+replied-reply : (success : Bool) (port : Option ℕ) (earlier : List ForwarderEvent) (f : Forwarding) (p : ℕ) (P : Type 0)
     → RepliedBy success port earlier false f (Port p) → P
 replied-reply true port earlier f p P h = let e = h.1 in cc
 replied-reply false port earlier f p P h = let e = h.1 in cc
 
-no-port : (deed : Deed) (earlier : List Deed) (f : Forwarding) (p : ℕ) (P : Type 0) → CameBy deed earlier false f (Port p) → P
+no-port : (forwarder_event : ForwarderEvent) (earlier : List ForwarderEvent) (f : Forwarding) (p : ℕ) (P : Type 0) → CameBy forwarder_event earlier false f (Port p) → P
 no-port (Begins starts) earlier f p P h = absurd h
 no-port (Asks client id opens ask answer) earlier f p P h = absurd h
 no-port (Answers client id answer) earlier f p P h = absurd h
@@ -224,18 +224,18 @@ no-port (Replies success port) earlier f p P h = replied-reply success port earl
 no-port (Listens host port number) earlier f p P h = made-reply number p P h.3
 no-port (Unlistens l) earlier f p P h = let e = h.2 in cc
 
-tells : (deed : Deed) (earlier : List Deed) (opening : Bool) (f : Forwarding) (at : ℕ) (outcome : Outcome)
-    → CameBy deed earlier opening f outcome → reply_in (Some (at, outcome)) opening ≡ reply_to (Now outcome)
-tells deed earlier opening f at Done h = refl
-tells deed earlier opening f at Refused h = refl
-tells deed earlier true f at (Port p) h = refl
-tells deed earlier false f at (Port p) h = no-port deed earlier f p (given.Refused ≡ given.Port p) h
+records : (forwarder_event : ForwarderEvent) (earlier : List ForwarderEvent) (opening : Bool) (f : Forwarding) (at : ℕ) (outcome : Outcome)
+    → CameBy forwarder_event earlier opening f outcome → reply_in (Some (at, outcome)) opening ≡ reply_to (Now outcome)
+records forwarder_event earlier opening f at Done h = refl
+records forwarder_event earlier opening f at Refused h = refl
+records forwarder_event earlier true f at (Port p) h = refl
+records forwarder_event earlier false f at (Port p) h = no-port forwarder_event earlier f p (given.Refused ≡ given.Port p) h
 
-caused-by : (home : ℕ → Forwarding) (serials : ℕ) (deeds : List Deed) (w : Waiting) (o : Option (ℕ × Outcome)) → w.outcome ≡ o
-    → is_settled o ≡ true → Waits home serials deeds w → HasCause w.client w.id (reply_of w) deeds
-caused-by home serials deeds w None e some h = cc
-caused-by home serials deeds w (Some o) e some h =
-    let ask : Deed = Asks w.client w.id w.opening h.ask given.Later in
+caused-by : (home : ℕ → Forwarding) (serials : ℕ) (forwarder_events : List ForwarderEvent) (w : Waiting) (o : Option (ℕ × Outcome)) → w.outcome ≡ o
+    → is_settled o ≡ true → Waits home serials forwarder_events w → HasCause w.client w.id (reply_of w) forwarder_events
+caused-by home serials forwarder_events w None e some h = cc
+caused-by home serials forwarder_events w (Some o) e some h =
+    let ask : ForwarderEvent = Asks w.client w.id w.opening h.ask given.Later in
     let came : Came (home w.forwarding) w.opening o.1 h.later (ask ∷ h.earlier) =
     subst (λ (x : Option (ℕ × Outcome)). CameIf x (home w.forwarding) w.opening h.later (ask ∷ h.earlier)) e h.came in
     record {
@@ -244,37 +244,37 @@ caused-by home serials deeds w (Some o) e some h =
       forwarding = home w.forwarding;
       outcome = o.1;
       later = came.newer;
-      deed = came.deed;
+      forwarder_event = came.forwarder_event;
       between = came.older;
       earlier = h.earlier;
-      were = h.were ∙ ap (λ ds. ds ++ ask ∷ h.earlier) came.were ∙ append_assoc came.newer (came.deed ∷ came.older) (ask ∷ h.earlier);
-      open_yet = subst (λ (ds : List Deed). list_any (answers w.client w.id) ds ≡ false) came.were h.open_yet;
+      were = h.were ∙ ap (λ ds. ds ++ ask ∷ h.earlier) came.were ∙ append_assoc came.newer (came.forwarder_event ∷ came.older) (ask ∷ h.earlier);
+      open_yet = subst (λ (ds : List ForwarderEvent). list_any (answers w.client w.id) ds ≡ false) came.were h.open_yet;
       is_for = h.is_for;
       came = came.by;
       replies = ap (λ x. reply_in x w.opening) e
-          ∙ tells came.deed (came.older ++ ask ∷ h.earlier) w.opening (home w.forwarding) o.0 o.1 came.by;
+          ∙ records came.forwarder_event (came.older ++ ask ∷ h.earlier) w.opening (home w.forwarding) o.0 o.1 came.by;
     }
 
 pub same-answer : (a b : ℕ × ℕ × HouseReply) → Some a ≡ Some b → a ≡ b
 same-answer a b e = cc
 
-answers-by : (o : Option Waiting) (client id : ℕ) (answer : HouseReply) (deeds : List Deed)
-    → answer_in o ≡ Some (client, id, answer) → IfSome o (λ w. HasCause w.client w.id (reply_of w) deeds)
-    → HasCause client id answer deeds
-answers-by None client id answer deeds e h = cc
-answers-by (Some w) client id answer deeds e h =
-    subst (λ (a : ℕ × ℕ × HouseReply). HasCause a.0 a.1 a.2 deeds)
+answers-by : (o : Option Waiting) (client id : ℕ) (answer : HouseReply) (forwarder_events : List ForwarderEvent)
+    → answer_in o ≡ Some (client, id, answer) → IfSome o (λ w. HasCause w.client w.id (reply_of w) forwarder_events)
+    → HasCause client id answer forwarder_events
+answers-by None client id answer forwarder_events e h = cc
+answers-by (Some w) client id answer forwarder_events e h =
+    subst (λ (a : ℕ × ℕ × HouseReply). HasCause a.0 a.1 a.2 forwarder_events)
     (same-answer (w.client, w.id, reply_of w) (client, id, answer) e) h
 
-if-earliest : (ws : List Waiting) (o : Option Waiting) (deeds : List Deed) (home : ℕ → Forwarding) (serials : ℕ) → earliest ws ≡ o
-    → All (Waits home serials deeds) ws → IfSome o (λ w. HasCause w.client w.id (reply_of w) deeds)
-if-earliest ws None deeds home serials e h = tt
-if-earliest ws (Some w) deeds home serials e h =
-    let one = picked (Waits home serials deeds) ws None w e tt h in
-    caused-by home serials deeds w w.outcome refl one.1 one.0
+if-earliest : (ws : List Waiting) (o : Option Waiting) (forwarder_events : List ForwarderEvent) (home : ℕ → Forwarding) (serials : ℕ) → earliest ws ≡ o
+    → All (Waits home serials forwarder_events) ws → IfSome o (λ w. HasCause w.client w.id (reply_of w) forwarder_events)
+if-earliest ws None forwarder_events home serials e h = tt
+if-earliest ws (Some w) forwarder_events home serials e h =
+    let one = picked (Waits home serials forwarder_events) ws None w e tt h in
+    caused-by home serials forwarder_events w w.outcome refl one.1 one.0
 
 pub each-answer : EachAnswer
-each-answer client id answer deeds old new left a =
-    let k = knows deeds old left in
-    answers-by (earliest old.waiting) client id answer deeds a.answer
-    (if-earliest old.waiting (earliest old.waiting) deeds k.home old.serials refl k.waiting)
+each-answer client id answer forwarder_events old new left a =
+    let k = knows forwarder_events old left in
+    answers-by (earliest old.waiting) client id answer forwarder_events a.answer
+    (if-earliest old.waiting (earliest old.waiting) forwarder_events k.home old.serials refl k.waiting)

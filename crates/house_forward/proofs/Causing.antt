@@ -14,10 +14,10 @@ use Rattle.mux_outside.specs.declared.start_ask.StartAsk.{StartAsk}
 use Rattle.mux_outside.specs.declared.starts.Starts.{Starts}
 use Rattle.house_forward.specs.Asks.{has_open, turns_away, settled, counted, owes_opening, after_answer, taken_at, is_waiting, waiting_for}
 use Rattle.house_forward.specs.Causes.{gateway_in, unanswered, AreOne, IsFor, IsNext, IsGranted, CameBy}
-use Rattle.house_forward.specs.Deeds.{Deed, Does, Leave}
-use Rattle.house_forward.specs.Deeds.{Begins, Asks, Answers, Greets, Requests, Replies, Listens, Unlistens}
-use Rattle.house_forward.specs.Desk.{Desk, empty_desk, BeginsWith, IsAsked, Answers as IsAnswered, greeting_said, request_said, reply_heard, GetsListener, EndsListener, standing_at}
-use Rattle.house_forward.specs.Forwardings.{Begins as BeginsAt, StartsIf, Standing, Opens, serials_after, IsAskedFor, is_first, waits_at, has_request, requests_at, request_of, request_at, after_saying, changed, removed_at, standing, counts, how_many, listens_at, connects_to, as_first, outcome_of, opens_of, closes_of, comes_of_ends, after_close, is_new, EndsLeave, ComesIf, ComesUnless, reply_to, asks_after, bound_to, granted, stage_after, is_asked, asks_at, is_cancelled, live_in, opened_asks, replied_all, replied_asks, first_of, to_listen, MadeAt, ordered_asks, serial_of, next_of, next_at, ends_at, has_listener, is_listener, listener_at}
+use Rattle.house_forward.specs.ForwarderEvents.{ForwarderEvent, Does, Leave}
+use Rattle.house_forward.specs.ForwarderEvents.{Begins, Asks, Answers, Greets, Requests, Replies, Listens, Unlistens}
+use Rattle.house_forward.specs.ForwardingState.{ForwardingState, empty_forwarding_state, BeginsWith, IsAsked, Answers as IsAnswered, greeting_sent, request_sent, reply_received, GetsListener, EndsListener, standing_at}
+use Rattle.house_forward.specs.Forwardings.{Begins as BeginsAt, StartsIf, Standing, Opens, serials_after, IsAskedFor, is_first, waits_at, has_request, requests_at, request_of, request_at, after_sending, changed, removed_at, standing, counts, how_many, listens_at, connects_to, as_first, outcome_of, opens_of, closes_of, comes_of_ends, after_close, is_new, EndsLeave, ComesIf, ComesUnless, reply_to, asks_after, bound_to, granted, stage_after, is_asked, asks_at, is_cancelled, live_in, opened_asks, replied_all, replied_asks, first_of, to_listen, MadeAt, ordered_asks, serial_of, next_of, next_at, ends_at, has_listener, is_listener, listener_at}
 use Rattle.house_forward.specs.Rules.{listens_here, connects_there, same_kind, listen_host, AreEnds, is_refused_alone}
 use Rattle.house_forward.specs.declared.asks.Asked.{Asked as Comes}
 use Rattle.house_forward.specs.declared.asks.Asked.TheVariants.{Now, Later}
@@ -26,29 +26,29 @@ use Rattle.house_forward.specs.declared.asks.Outcome.TheVariants.{Done, Refused}
 use Rattle.house_forward.specs.declared.asks.Waiting.{Waiting}
 use Rattle.house_forward.specs.declared.forwarding.Change.TheVariants as change
 use Rattle.house_forward.specs.declared.forwarding.Forwarding.{Forwarding}
-use Rattle.house_forward.specs.declared.forwarding.Request.{Request}
-use Rattle.house_forward.specs.declared.forwarding.Request.TheVariants.{Listen, Cancel}
+use Rattle.house_forward.specs.declared.forwarding.ForwardingRequest.{ForwardingRequest}
+use Rattle.house_forward.specs.declared.forwarding.ForwardingRequest.TheVariants.{Listen, Cancel}
 use Rattle.house_forward.specs.declared.forwarding.Stage.{Stage}
 use Rattle.house_forward.specs.declared.forwarding.Stage.TheVariants.{ToListen, Ordered, Listening, ToRequest, Requested, Live, Cancelling}
-use Rattle.house_forward.specs.declared.forwardings.Want.{Want}
-use Rattle.house_forward.specs.declared.forwardings.Want.TheVariants as want
+use Rattle.house_forward.specs.declared.forwardings.ForwardingWant.{ForwardingWant}
+use Rattle.house_forward.specs.declared.forwardings.ForwardingWant.TheVariants as want
 use Rattle.house_forward.specs.declared.rules.Ends.{Ends}
 use Rattle.house_forward.specs.declared.rules.Kind.{Kind}
 use Rattle.house_forward.specs.declared.rules.Kind.TheVariants as kind
 use Rattle.house_forward.specs.declared.rules.TheConstants.{MOST_ASKS, MOST_FORWARDINGS}
 use Rattle.house_forward.proofs.Apart.{Apart, apart-more, apart-replied, apart-ordered, apart-settled, apart-taken, others}
-use Rattle.house_forward.proofs.Desks.{same-desks}
+use Rattle.house_forward.proofs.ForwardingStates.{same-forwarding_states}
 use Rattle.house_forward.proofs.Lists.{found-first}
 use Rattle.house_forward.proofs.Serving.{StageFits, Stands, Asked, Waits, Lets, all-later, all-wait-later, waits-later, stands-later, Keeps, stands-grown, asked-grown, waits-grown, restaged, all-changed, steady-stage, all-settled, all-refused}
 
 -- what is known
-pub record Knows (deeds : List Deed) (d : Desk) : Type 0 where
+pub record Knows (forwarder_events : List ForwarderEvent) (d : ForwardingState) : Type 0 where
   pub home : ℕ → Forwarding
-  pub gateway : d.gateway ≡ gateway_in deeds
-  pub requests : d.requests ≡ map request_of (unanswered deeds)
-  pub all : All (Stands home d.serials deeds) d.all
-  pub asked : All (Asked home d.serials) (unanswered deeds)
-  pub waiting : All (Waits home d.serials deeds) d.waiting
+  pub gateway : d.gateway ≡ gateway_in forwarder_events
+  pub requests : d.requests ≡ map request_of (unanswered forwarder_events)
+  pub all : All (Stands home d.serials forwarder_events) d.all
+  pub asked : All (Asked home d.serials) (unanswered forwarder_events)
+  pub waiting : All (Waits home d.serials forwarder_events) d.waiting
   pub apart : Apart d.waiting
 
 -- ---- lists
@@ -96,19 +96,19 @@ in-range (x ∷ xs) (suc i) l = in-range xs i (omega arith)
 -- ---- more forwardings
 
 -- there are more of them, or as many
-record Grown (home : ℕ → Forwarding) (serials : ℕ) (deeds : List Deed) (fs : List Forwarding) (more : ℕ) : Type 0 where
+record Grown (home : ℕ → Forwarding) (serials : ℕ) (forwarder_events : List ForwarderEvent) (fs : List Forwarding) (more : ℕ) : Type 0 where
   to : ℕ → Forwarding
   less : serials ≤ more
   keeps : Keeps home to serials
-  all : All (Stands to more deeds) fs
+  all : All (Stands to more forwarder_events) fs
 
-as-many : (home : ℕ → Forwarding) (serials : ℕ) (deeds : List Deed) (fs : List Forwarding) → All (Stands home serials deeds) fs
-    → Grown home serials deeds fs serials
-as-many home serials deeds fs h = record { to = home; less = omega arith; keeps = λ n l. refl; all = h }
+as-many : (home : ℕ → Forwarding) (serials : ℕ) (forwarder_events : List ForwarderEvent) (fs : List Forwarding) → All (Stands home serials forwarder_events) fs
+    → Grown home serials forwarder_events fs serials
+as-many home serials forwarder_events fs h = record { to = home; less = omega arith; keeps = λ n l. refl; all = h }
 
-grown-on : (home : ℕ → Forwarding) (serials : ℕ) (deeds : List Deed) (fs gs : List Forwarding) (more most : ℕ)
-    → (g : Grown home serials deeds fs more) → Grown g.to more deeds gs most → Grown home serials deeds gs most
-grown-on home serials deeds fs gs more most g k =
+grown-on : (home : ℕ → Forwarding) (serials : ℕ) (forwarder_events : List ForwarderEvent) (fs gs : List Forwarding) (more most : ℕ)
+    → (g : Grown home serials forwarder_events fs more) → Grown g.to more forwarder_events gs most → Grown home serials forwarder_events gs most
+grown-on home serials forwarder_events fs gs more most g k =
     let one = g.less in
     let two = k.less in record {
       to = k.to;
@@ -129,110 +129,110 @@ one-old : (n serial : ℕ) (f : Forwarding) (home : ℕ → Forwarding) (b : Boo
 one-old n serial f home true e l = let same = eqb-true n serial e in absurd (omega (arith, same, l))
 one-old n serial f home false e l = refl
 
-asked-stage : (s : Stage) (a : Forwarding) (deeds : List Deed) (here : Bool) → is_first s ≡ true → waits_at s ≡ here
-    → listens_here a.kind ≡ here → StageFits s a deeds
-asked-stage (ToListen host) a deeds here first e f = f ∙ sym e
-asked-stage Ordered a deeds here first e f = cc
-asked-stage (Listening l) a deeds here first e f = cc
-asked-stage ToRequest a deeds here first e f = f ∙ sym e
-asked-stage Requested a deeds here first e f = cc
-asked-stage (Live port) a deeds here first e f = cc
-asked-stage (Cancelling port) a deeds here first e f = cc
+asked-stage : (s : Stage) (a : Forwarding) (forwarder_events : List ForwarderEvent) (here : Bool) → is_first s ≡ true → waits_at s ≡ here
+    → listens_here a.kind ≡ here → StageFits s a forwarder_events
+asked-stage (ToListen host) a forwarder_events here first e f = f ∙ sym e
+asked-stage Ordered a forwarder_events here first e f = cc
+asked-stage (Listening l) a forwarder_events here first e f = cc
+asked-stage ToRequest a forwarder_events here first e f = f ∙ sym e
+asked-stage Requested a forwarder_events here first e f = cc
+asked-stage (Live port) a forwarder_events here first e f = cc
+asked-stage (Cancelling port) a forwarder_events here first e f = cc
 
 pub itself : (f : Forwarding) → AreOne f f
 itself f = record { serial = refl; kind = refl; listens = refl; listen_port = refl; connects = refl; connect_port = refl }
 
-new-stands : (home : ℕ → Forwarding) (serials : ℕ) (deeds : List Deed) (ends : Ends) (start : Option ℕ) (f : Forwarding)
-    → IsAskedFor ends serials start f → Stands (with_one serials f home) (serials + 1) deeds f
-new-stands home serials deeds ends start f a =
+new-stands : (home : ℕ → Forwarding) (serials : ℕ) (forwarder_events : List ForwarderEvent) (ends : Ends) (start : Option ℕ) (f : Forwarding)
+    → IsAskedFor ends serials start f → Stands (with_one serials f home) (serials + 1) forwarder_events f
+new-stands home serials forwarder_events ends start f a =
     let serial = a.serial_is in
     let to : with_one serials f home f.serial ≡ f = ap (with_one serials f home) serial ∙ one-new serials f home in
     record {
       below = omega (arith, serial);
       same = subst (λ (g : Forwarding). AreOne g f) (sym to) (itself f);
-      stage = subst (λ (g : Forwarding). StageFits f.stage g deeds) (sym to)
-          (asked-stage f.stage f deeds (listens_here ends.kind) a.first a.here (ap listens_here a.kind_is));
+      stage = subst (λ (g : Forwarding). StageFits f.stage g forwarder_events) (sym to)
+          (asked-stage f.stage f forwarder_events (listens_here ends.kind) a.first a.here (ap listens_here a.kind_is));
     }
 
-one-more : (home : ℕ → Forwarding) (serials : ℕ) (deeds : List Deed) (ends : Ends) (start : Option ℕ) (f : Forwarding) (fs : List Forwarding)
-    → IsAskedFor ends serials start f → All (Stands home serials deeds) fs
-    → Grown home serials deeds (fs ++ f ∷ []) (serials + 1)
-one-more home serials deeds ends start f fs a h =
+one-more : (home : ℕ → Forwarding) (serials : ℕ) (forwarder_events : List ForwarderEvent) (ends : Ends) (start : Option ℕ) (f : Forwarding) (fs : List Forwarding)
+    → IsAskedFor ends serials start f → All (Stands home serials forwarder_events) fs
+    → Grown home serials forwarder_events (fs ++ f ∷ []) (serials + 1)
+one-more home serials forwarder_events ends start f fs a h =
     let keeps : Keeps home (with_one serials f home) serials = λ n l. one-old n serials f home (n == serials) refl l in
     record {
       to = with_one serials f home;
       less = omega arith;
       keeps = keeps;
-      all = All-push (Stands (with_one serials f home) (serials + 1) deeds) fs f
-          (All-weaker (Stands home serials deeds) (Stands (with_one serials f home) (serials + 1) deeds)
-          (λ g s. stands-grown home (with_one serials f home) serials (serials + 1) deeds g (omega arith) keeps s) fs h)
-          (new-stands home serials deeds ends start f a);
+      all = All-push (Stands (with_one serials f home) (serials + 1) forwarder_events) fs f
+          (All-weaker (Stands home serials forwarder_events) (Stands (with_one serials f home) (serials + 1) forwarder_events)
+          (λ g s. stands-grown home (with_one serials f home) serials (serials + 1) forwarder_events g (omega arith) keeps s) fs h)
+          (new-stands home serials forwarder_events ends start f a);
     }
 
-opens : (b : Bool) (ends : Ends) (serials : ℕ) (start : Option ℕ) (deeds : List Deed) (home : ℕ → Forwarding) (old new : List Forwarding)
-    → All (Stands home serials deeds) old → Opens b ends serials start old new
-    → Grown home serials deeds new (serials_after b serials)
-opens false ends serials start deeds home old new h o =
-    subst (λ (fs : List Forwarding). Grown home serials deeds fs serials) (sym o) (as-many home serials deeds old h)
-opens true ends serials start deeds home old new h o =
-    subst (λ (fs : List Forwarding). Grown home serials deeds fs (serials + 1)) (sym o.2)
-    (one-more home serials deeds ends start o.0 old o.1 h)
+opens : (b : Bool) (ends : Ends) (serials : ℕ) (start : Option ℕ) (forwarder_events : List ForwarderEvent) (home : ℕ → Forwarding) (old new : List Forwarding)
+    → All (Stands home serials forwarder_events) old → Opens b ends serials start old new
+    → Grown home serials forwarder_events new (serials_after b serials)
+opens false ends serials start forwarder_events home old new h o =
+    subst (λ (fs : List Forwarding). Grown home serials forwarder_events fs serials) (sym o) (as-many home serials forwarder_events old h)
+opens true ends serials start forwarder_events home old new h o =
+    subst (λ (fs : List Forwarding). Grown home serials forwarder_events fs (serials + 1)) (sym o.2)
+    (one-more home serials forwarder_events ends start o.0 old o.1 h)
 
 -- ---- the start
 
-starts-one : (b gateway : Bool) (ask : StartAsk) (i : ℕ) (deeds : List Deed) (home : ℕ → Forwarding) (old new : Standing)
-    → All (Stands home old.serials deeds) old.all → StartsIf b gateway ask i old new
-    → Grown home old.serials deeds new.all new.serials
-starts-one true gateway ask i deeds home old new h s =
-    subst (λ (t : Standing). Grown home old.serials deeds t.all t.serials) (sym s) (as-many home old.serials deeds old.all h)
-starts-one false gateway ask i deeds home old new h s =
-    subst (λ (m : ℕ). Grown home old.serials deeds new.all m) (sym s.2.serials)
-    (opens _ s.0 old.serials (Some i) deeds home old.all new.all h s.2.all)
+starts-one : (b gateway : Bool) (ask : StartAsk) (i : ℕ) (forwarder_events : List ForwarderEvent) (home : ℕ → Forwarding) (old new : Standing)
+    → All (Stands home old.serials forwarder_events) old.all → StartsIf b gateway ask i old new
+    → Grown home old.serials forwarder_events new.all new.serials
+starts-one true gateway ask i forwarder_events home old new h s =
+    subst (λ (t : Standing). Grown home old.serials forwarder_events t.all t.serials) (sym s) (as-many home old.serials forwarder_events old.all h)
+starts-one false gateway ask i forwarder_events home old new h s =
+    subst (λ (m : ℕ). Grown home old.serials forwarder_events new.all m) (sym s.2.serials)
+    (opens _ s.0 old.serials (Some i) forwarder_events home old.all new.all h s.2.all)
 
 pub there-is : {X : Type 0} (P : X → Type 0) (o : Option X) (x : X) → o ≡ Some x → IfSome o P → P x
 there-is P None x e h = cc
 there-is P (Some y) x e h = let same : y ≡ x = cc in subst P same h
 
-begins : (gateway : Bool) (asks : List StartAsk) (i : ℕ) (deeds : List Deed) (home : ℕ → Forwarding) (old new : Standing)
-    → i ≤ length asks → All (Stands home old.serials deeds) old.all → BeginsAt gateway asks i old new
-    → Grown home old.serials deeds new.all new.serials
-begins gateway asks zero deeds home old new l h b =
-    subst (λ (t : Standing). Grown home old.serials deeds t.all t.serials) (sym b) (as-many home old.serials deeds old.all h)
-begins gateway asks (suc i) deeds home old new l h b =
-    let first = begins gateway asks i deeds home old b.0 (omega arith) h b.1 in
+begins : (gateway : Bool) (asks : List StartAsk) (i : ℕ) (forwarder_events : List ForwarderEvent) (home : ℕ → Forwarding) (old new : Standing)
+    → i ≤ length asks → All (Stands home old.serials forwarder_events) old.all → BeginsAt gateway asks i old new
+    → Grown home old.serials forwarder_events new.all new.serials
+begins gateway asks zero forwarder_events home old new l h b =
+    subst (λ (t : Standing). Grown home old.serials forwarder_events t.all t.serials) (sym b) (as-many home old.serials forwarder_events old.all h)
+begins gateway asks (suc i) forwarder_events home old new l h b =
+    let first = begins gateway asks i forwarder_events home old b.0 (omega arith) h b.1 in
     let at = in-range asks i (omega arith) in
     let starts = there-is (λ (ask : StartAsk). StartsIf (is_refused_alone ask) gateway ask i b.0 new) (slice_get asks i) at.0 at.1 b.2 in
-    grown-on home old.serials deeds b.0.all new.all b.0.serials new.serials first
-    (starts-one (is_refused_alone at.0) gateway at.0 i deeds first.to b.0 new first.all starts)
+    grown-on home old.serials forwarder_events b.0.all new.all b.0.serials new.serials first
+    (starts-one (is_refused_alone at.0) gateway at.0 i forwarder_events first.to b.0 new first.all starts)
 
 all-asked-grown : (home to : ℕ → Forwarding) (serials more : ℕ) (gs : List Forwarding) → serials ≤ more → Keeps home to serials
     → All (Asked home serials) gs → All (Asked to more) gs
 all-asked-grown home to serials more gs less keeps h =
     All-weaker (Asked home serials) (Asked to more) (λ g a. asked-grown home to serials more g less keeps a) gs h
 
-all-wait-grown : (home to : ℕ → Forwarding) (serials more : ℕ) (deeds : List Deed) (ws : List Waiting) → serials ≤ more
-    → Keeps home to serials → All (Waits home serials deeds) ws → All (Waits to more deeds) ws
-all-wait-grown home to serials more deeds ws less keeps h =
-    All-weaker (Waits home serials deeds) (Waits to more deeds)
-    (λ w s. waits-grown home to serials more deeds w less keeps s) ws h
+all-wait-grown : (home to : ℕ → Forwarding) (serials more : ℕ) (forwarder_events : List ForwarderEvent) (ws : List Waiting) → serials ≤ more
+    → Keeps home to serials → All (Waits home serials forwarder_events) ws → All (Waits to more forwarder_events) ws
+all-wait-grown home to serials more forwarder_events ws less keeps h =
+    All-weaker (Waits home serials forwarder_events) (Waits to more forwarder_events)
+    (λ w s. waits-grown home to serials more forwarder_events w less keeps s) ws h
 
-after-start : (starts : Starts) (deeds : List Deed) (old new : Desk) → Knows deeds old → BeginsWith starts old new
-    → Knows (Begins starts ∷ deeds) new
-after-start starts deeds old new k b =
-    let deed : Deed = Begins starts in
-    let g = begins starts.gateway starts.asks (length starts.asks) (deed ∷ deeds) k.home (standing_at old) (standing_at new)
-    (omega arith) (all-later k.home old.serials deed deeds old.all (λ l. refl) k.all) b.begins in
+after-start : (starts : Starts) (forwarder_events : List ForwarderEvent) (old new : ForwardingState) → Knows forwarder_events old → BeginsWith starts old new
+    → Knows (Begins starts ∷ forwarder_events) new
+after-start starts forwarder_events old new k b =
+    let forwarder_event : ForwarderEvent = Begins starts in
+    let g = begins starts.gateway starts.asks (length starts.asks) (forwarder_event ∷ forwarder_events) k.home (standing_at old) (standing_at new)
+    (omega arith) (all-later k.home old.serials forwarder_event forwarder_events old.all (λ l. refl) k.all) b.begins in
     record {
       home = g.to;
-      gateway = ap (λ (d : Desk). d.gateway) b.others;
-      requests = ap (λ (d : Desk). d.requests) b.others ∙ k.requests;
+      gateway = ap (λ (d : ForwardingState). d.gateway) b.others;
+      requests = ap (λ (d : ForwardingState). d.requests) b.others ∙ k.requests;
       all = g.all;
-      asked = all-asked-grown k.home g.to old.serials new.serials (unanswered deeds) g.less g.keeps k.asked;
-      waiting = subst (λ (ws : List Waiting). All (Waits g.to new.serials (deed ∷ deeds)) ws)
-          (sym (ap (λ (d : Desk). d.waiting) b.others))
-          (all-wait-grown k.home g.to old.serials new.serials (deed ∷ deeds) old.waiting g.less g.keeps
-          (all-wait-later k.home old.serials deed deeds (λ c i. refl) old.waiting k.waiting));
-      apart = subst Apart (sym (ap (λ (d : Desk). d.waiting) b.others)) k.apart;
+      asked = all-asked-grown k.home g.to old.serials new.serials (unanswered forwarder_events) g.less g.keeps k.asked;
+      waiting = subst (λ (ws : List Waiting). All (Waits g.to new.serials (forwarder_event ∷ forwarder_events)) ws)
+          (sym (ap (λ (d : ForwardingState). d.waiting) b.others))
+          (all-wait-grown k.home g.to old.serials new.serials (forwarder_event ∷ forwarder_events) old.waiting g.less g.keeps
+          (all-wait-later k.home old.serials forwarder_event forwarder_events (λ c i. refl) old.waiting k.waiting));
+      apart = subst Apart (sym (ap (λ (d : ForwardingState). d.waiting) b.others)) k.apart;
     }
 
 -- ---- nothing happened yet
@@ -250,7 +250,7 @@ nobody = record {
   start = None;
 }
 
-knows-nothing : Knows [] empty_desk
+knows-nothing : Knows [] empty_forwarding_state
 knows-nothing = record {
   home = λ n. nobody;
   gateway = refl;
@@ -318,9 +318,9 @@ record WaitsFor (home : ℕ → Forwarding) (serials : ℕ) (gateway opening : B
   is_for : IsFor gateway opening ask (home serial)
 
 -- what an ask leaves
-record Leaves (home : ℕ → Forwarding) (serials : ℕ) (deeds : List Deed) (gateway opening : Bool) (ask : StartAsk) (comes : Comes)
+record Leaves (home : ℕ → Forwarding) (serials : ℕ) (forwarder_events : List ForwarderEvent) (gateway opening : Bool) (ask : StartAsk) (comes : Comes)
     (fs : List Forwarding) (more : ℕ) : Type 0 where
-  grown : Grown home serials deeds fs more
+  grown : Grown home serials forwarder_events fs more
   waits : (serial : ℕ) → comes ≡ Later serial → WaitsFor grown.to more gateway opening ask serial
 
 abbrev pub more_than : ℕ → List Forwarding → List Forwarding → ℕ
@@ -335,29 +335,29 @@ one-many serials fs f = omega (arith, length-append fs (f ∷ []))
 never : (o : Outcome) (comes : Comes) (serial : ℕ) (P : Type 0) → comes ≡ Now o → comes ≡ Later serial → P
 never o comes serial P e f = cc
 
-now : (home : ℕ → Forwarding) (serials : ℕ) (deeds : List Deed) (gateway opening : Bool) (ask : StartAsk) (comes : Comes)
-    (o : Outcome) (fs new : List Forwarding) → All (Stands home serials deeds) fs → comes ≡ Now o → new ≡ fs
-    → Leaves home serials deeds gateway opening ask comes new (more_than serials fs new)
-now home serials deeds gateway opening ask comes o fs new k e same =
-    let grown : Grown home serials deeds new (more_than serials fs new) =
-    subst (λ (m : ℕ). Grown home serials deeds new m) (same-many serials fs new (ap (λ (xs : List Forwarding). length xs) same))
-    (subst (λ (xs : List Forwarding). Grown home serials deeds xs serials) (sym same) (as-many home serials deeds fs k)) in
+now : (home : ℕ → Forwarding) (serials : ℕ) (forwarder_events : List ForwarderEvent) (gateway opening : Bool) (ask : StartAsk) (comes : Comes)
+    (o : Outcome) (fs new : List Forwarding) → All (Stands home serials forwarder_events) fs → comes ≡ Now o → new ≡ fs
+    → Leaves home serials forwarder_events gateway opening ask comes new (more_than serials fs new)
+now home serials forwarder_events gateway opening ask comes o fs new k e same =
+    let grown : Grown home serials forwarder_events new (more_than serials fs new) =
+    subst (λ (m : ℕ). Grown home serials forwarder_events new m) (same-many serials fs new (ap (λ (xs : List Forwarding). length xs) same))
+    (subst (λ (xs : List Forwarding). Grown home serials forwarder_events xs serials) (sym same) (as-many home serials forwarder_events fs k)) in
     record {
       grown = grown;
       waits = λ serial is. never o comes serial (WaitsFor grown.to (more_than serials fs new) gateway opening ask serial) e is;
     }
 
 -- one more
-new-one : (home : ℕ → Forwarding) (serials : ℕ) (deeds : List Deed) (gateway : Bool) (ask : StartAsk) (comes : Comes) (ends : Ends)
-    (fs new : List Forwarding) (f : Forwarding) → All (Stands home serials deeds) fs → AreEnds gateway ask ends
+new-one : (home : ℕ → Forwarding) (serials : ℕ) (forwarder_events : List ForwarderEvent) (gateway : Bool) (ask : StartAsk) (comes : Comes) (ends : Ends)
+    (fs new : List Forwarding) (f : Forwarding) → All (Stands home serials forwarder_events) fs → AreEnds gateway ask ends
     → comes ≡ Later serials → IsAskedFor ends serials None f → new ≡ fs ++ f ∷ []
-    → Leaves home serials deeds gateway true ask comes new (more_than serials fs new)
+    → Leaves home serials forwarder_events gateway true ask comes new (more_than serials fs new)
 unfolding one-more
-new-one home serials deeds gateway ask comes ends fs new f k are e a more =
-    let g = one-more home serials deeds ends None f fs a k in
+new-one home serials forwarder_events gateway ask comes ends fs new f k are e a more =
+    let g = one-more home serials forwarder_events ends None f fs a k in
     let to = with_one serials f home in
     let here : to serials ≡ f = one-new serials f home in
-    let got : Leaves home serials deeds gateway true ask comes (fs ++ f ∷ []) (serials + 1) = record {
+    let got : Leaves home serials forwarder_events gateway true ask comes (fs ++ f ∷ []) (serials + 1) = record {
       grown = g;
       waits = λ serial is.
           let same : serials ≡ serial = cc in
@@ -368,146 +368,146 @@ new-one home serials deeds gateway ask comes ends fs new f k are e a more =
                 (new-is-for gateway true ask ends serials None f are a);
           });
     } in
-    subst (λ (xs : List Forwarding). Leaves home serials deeds gateway true ask comes xs (more_than serials fs xs)) (sym more)
-    (subst (λ (m : ℕ). Leaves home serials deeds gateway true ask comes (fs ++ f ∷ []) m) (one-many serials fs f) got)
+    subst (λ (xs : List Forwarding). Leaves home serials forwarder_events gateway true ask comes xs (more_than serials fs xs)) (sym more)
+    (subst (λ (m : ℕ). Leaves home serials forwarder_events gateway true ask comes (fs ++ f ∷ []) m) (one-many serials fs f) got)
 
 -- one that stands
-same-one : (home : ℕ → Forwarding) (serials : ℕ) (deeds : List Deed) (gateway opening : Bool) (ask : StartAsk) (ends : Ends) (f : Forwarding)
-    → AreEnds gateway ask ends → Stands home serials deeds f → listens_at ends f ≡ true
+same-one : (home : ℕ → Forwarding) (serials : ℕ) (forwarder_events : List ForwarderEvent) (gateway opening : Bool) (ask : StartAsk) (ends : Ends) (f : Forwarding)
+    → AreEnds gateway ask ends → Stands home serials forwarder_events f → listens_at ends f ≡ true
     → (opening ≡ true → connects_to ends f ≡ true) → WaitsFor home serials gateway opening ask f.serial
-same-one home serials deeds gateway opening ask ends f are s listens connects = record {
+same-one home serials forwarder_events gateway opening ask ends f are s listens connects = record {
   below = s.below;
   serial_is = s.same.serial;
   is_for = is-for gateway opening ask ends f (home f.serial) are s.same listens connects;
 }
 
-as-found : (home : ℕ → Forwarding) (serials : ℕ) (deeds : List Deed) (gateway : Bool) (ask : StartAsk) (comes : Comes)
-    (fs new : List Forwarding) (f : Forwarding) (o : Option Outcome) → All (Stands home serials deeds) fs
+as-found : (home : ℕ → Forwarding) (serials : ℕ) (forwarder_events : List ForwarderEvent) (gateway : Bool) (ask : StartAsk) (comes : Comes)
+    (fs new : List Forwarding) (f : Forwarding) (o : Option Outcome) → All (Stands home serials forwarder_events) fs
     → comes ≡ as_first f o → new ≡ fs → WaitsFor home serials gateway true ask f.serial
-    → Leaves home serials deeds gateway true ask comes new (more_than serials fs new)
+    → Leaves home serials forwarder_events gateway true ask comes new (more_than serials fs new)
 unfolding as-many
-as-found home serials deeds gateway ask comes fs new f (Some o) k e same w =
-    now home serials deeds gateway true ask comes o fs new k e same
-as-found home serials deeds gateway ask comes fs new f None k e same w =
-    let got : Leaves home serials deeds gateway true ask comes fs serials = record {
-      grown = as-many home serials deeds fs k;
+as-found home serials forwarder_events gateway ask comes fs new f (Some o) k e same w =
+    now home serials forwarder_events gateway true ask comes o fs new k e same
+as-found home serials forwarder_events gateway ask comes fs new f None k e same w =
+    let got : Leaves home serials forwarder_events gateway true ask comes fs serials = record {
+      grown = as-many home serials forwarder_events fs k;
       waits = λ serial is.
           let its : f.serial ≡ serial = cc in
           subst (λ (n : ℕ). WaitsFor home serials gateway true ask n) its w;
     } in
-    subst (λ (xs : List Forwarding). Leaves home serials deeds gateway true ask comes xs (more_than serials fs xs)) (sym same)
-    (subst (λ (m : ℕ). Leaves home serials deeds gateway true ask comes fs m) (same-many serials fs fs refl) got)
+    subst (λ (xs : List Forwarding). Leaves home serials forwarder_events gateway true ask comes xs (more_than serials fs xs)) (sym same)
+    (subst (λ (m : ℕ). Leaves home serials forwarder_events gateway true ask comes fs m) (same-many serials fs fs refl) got)
 
-opens-none : (home : ℕ → Forwarding) (serials : ℕ) (deeds : List Deed) (gateway : Bool) (ask : StartAsk) (comes : Comes) (ends : Ends)
-    (fs new : List Forwarding) (b : Bool) → All (Stands home serials deeds) fs → AreEnds gateway ask ends
+opens-none : (home : ℕ → Forwarding) (serials : ℕ) (forwarder_events : List ForwarderEvent) (gateway : Bool) (ask : StartAsk) (comes : Comes) (ends : Ends)
+    (fs new : List Forwarding) (b : Bool) → All (Stands home serials forwarder_events) fs → AreEnds gateway ask ends
     → comes ≡ (if b then Later serials else Now Refused) → Opens b ends serials None fs new
-    → Leaves home serials deeds gateway true ask comes new (more_than serials fs new)
-opens-none home serials deeds gateway ask comes ends fs new true k are e o =
-    new-one home serials deeds gateway ask comes ends fs new o.0 k are e o.1 o.2
-opens-none home serials deeds gateway ask comes ends fs new false k are e o =
-    now home serials deeds gateway true ask comes Refused fs new k e o
+    → Leaves home serials forwarder_events gateway true ask comes new (more_than serials fs new)
+opens-none home serials forwarder_events gateway ask comes ends fs new true k are e o =
+    new-one home serials forwarder_events gateway ask comes ends fs new o.0 k are e o.1 o.2
+opens-none home serials forwarder_events gateway ask comes ends fs new false k are e o =
+    now home serials forwarder_events gateway true ask comes Refused fs new k e o
 
-opens-some : (home : ℕ → Forwarding) (serials : ℕ) (deeds : List Deed) (gateway : Bool) (ask : StartAsk) (comes : Comes)
-    (fs new : List Forwarding) (f : Forwarding) (b : Bool) → All (Stands home serials deeds) fs
+opens-some : (home : ℕ → Forwarding) (serials : ℕ) (forwarder_events : List ForwarderEvent) (gateway : Bool) (ask : StartAsk) (comes : Comes)
+    (fs new : List Forwarding) (f : Forwarding) (b : Bool) → All (Stands home serials forwarder_events) fs
     → comes ≡ (if b then as_first f (outcome_of f) else Now Refused) → new ≡ fs
     → (b ≡ true → WaitsFor home serials gateway true ask f.serial)
-    → Leaves home serials deeds gateway true ask comes new (more_than serials fs new)
-opens-some home serials deeds gateway ask comes fs new f true k e same w =
-    as-found home serials deeds gateway ask comes fs new f (outcome_of f) k e same (w refl)
-opens-some home serials deeds gateway ask comes fs new f false k e same w =
-    now home serials deeds gateway true ask comes Refused fs new k e same
+    → Leaves home serials forwarder_events gateway true ask comes new (more_than serials fs new)
+opens-some home serials forwarder_events gateway ask comes fs new f true k e same w =
+    as-found home serials forwarder_events gateway ask comes fs new f (outcome_of f) k e same (w refl)
+opens-some home serials forwarder_events gateway ask comes fs new f false k e same w =
+    now home serials forwarder_events gateway true ask comes Refused fs new k e same
 
-opens-by : (home : ℕ → Forwarding) (serials : ℕ) (deeds : List Deed) (gateway : Bool) (ask : StartAsk) (comes : Comes) (ends : Ends)
-    (fs new : List Forwarding) (o : Option Forwarding) → standing ends fs ≡ o → All (Stands home serials deeds) fs
+opens-by : (home : ℕ → Forwarding) (serials : ℕ) (forwarder_events : List ForwarderEvent) (gateway : Bool) (ask : StartAsk) (comes : Comes) (ends : Ends)
+    (fs new : List Forwarding) (o : Option Forwarding) → standing ends fs ≡ o → All (Stands home serials forwarder_events) fs
     → AreEnds gateway ask ends → comes ≡ opens_of serials ends fs o → Opens (is_new ends fs o) ends serials None fs new
-    → Leaves home serials deeds gateway true ask comes new (more_than serials fs new)
-opens-by home serials deeds gateway ask comes ends fs new None is k are e o =
-    opens-none home serials deeds gateway ask comes ends fs new (nat_lt (how_many fs) MOST_FORWARDINGS) k are e o
-opens-by home serials deeds gateway ask comes ends fs new (Some f) is k are e o =
-    let at = found (Stands home serials deeds) (λ g. counts g && listens_at ends g) fs f is k in
+    → Leaves home serials forwarder_events gateway true ask comes new (more_than serials fs new)
+opens-by home serials forwarder_events gateway ask comes ends fs new None is k are e o =
+    opens-none home serials forwarder_events gateway ask comes ends fs new (nat_lt (how_many fs) MOST_FORWARDINGS) k are e o
+opens-by home serials forwarder_events gateway ask comes ends fs new (Some f) is k are e o =
+    let at = found (Stands home serials forwarder_events) (λ g. counts g && listens_at ends g) fs f is k in
     let listens = (and_parts (counts f) (listens_at ends f) at.1).1 in
-    opens-some home serials deeds gateway ask comes fs new f (connects_to ends f) k e o
-    (λ there. same-one home serials deeds gateway true ask ends f are at.0 listens (λ _. there))
+    opens-some home serials forwarder_events gateway ask comes fs new f (connects_to ends f) k e o
+    (λ there. same-one home serials forwarder_events gateway true ask ends f are at.0 listens (λ _. there))
 
 -- one closes
-closes-one : (home : ℕ → Forwarding) (serials : ℕ) (deeds : List Deed) (gateway : Bool) (ask : StartAsk) (comes : Comes)
-    (fs new : List Forwarding) (f : Forwarding) (b : Bool) → All (Stands home serials deeds) fs
+closes-one : (home : ℕ → Forwarding) (serials : ℕ) (forwarder_events : List ForwarderEvent) (gateway : Bool) (ask : StartAsk) (comes : Comes)
+    (fs new : List Forwarding) (f : Forwarding) (b : Bool) → All (Stands home serials forwarder_events) fs
     → comes ≡ (if b then Now Refused else Later f.serial) → new ≡ after_close (if b then Now Refused else Later f.serial) fs
     → WaitsFor home serials gateway false ask f.serial
-    → Leaves home serials deeds gateway false ask comes new (more_than serials fs new)
+    → Leaves home serials forwarder_events gateway false ask comes new (more_than serials fs new)
 unfolding as-many
-closes-one home serials deeds gateway ask comes fs new f true k e same w =
-    now home serials deeds gateway false ask comes Refused fs new k e same
-closes-one home serials deeds gateway ask comes fs new f false k e same w =
-    let all : All (Stands home serials deeds) (map (changed change.Close f.serial) fs) =
-    all-changed home serials deeds change.Close f.serial fs
-    (λ g is one h. steady-stage change.Close g.listen_port g.stage (home g.serial) deeds tt h) k in
+closes-one home serials forwarder_events gateway ask comes fs new f true k e same w =
+    now home serials forwarder_events gateway false ask comes Refused fs new k e same
+closes-one home serials forwarder_events gateway ask comes fs new f false k e same w =
+    let all : All (Stands home serials forwarder_events) (map (changed change.Close f.serial) fs) =
+    all-changed home serials forwarder_events change.Close f.serial fs
+    (λ g is one h. steady-stage change.Close g.listen_port g.stage (home g.serial) forwarder_events tt h) k in
     let closed = map (changed change.Close f.serial) fs in
-    let got : Leaves home serials deeds gateway false ask comes closed serials = record {
-      grown = as-many home serials deeds closed all;
+    let got : Leaves home serials forwarder_events gateway false ask comes closed serials = record {
+      grown = as-many home serials forwarder_events closed all;
       waits = λ serial is.
           let its : f.serial ≡ serial = cc in
           subst (λ (n : ℕ). WaitsFor home serials gateway false ask n) its w;
     } in
-    subst (λ (xs : List Forwarding). Leaves home serials deeds gateway false ask comes xs (more_than serials fs xs)) (sym same)
-    (subst (λ (m : ℕ). Leaves home serials deeds gateway false ask comes closed m)
+    subst (λ (xs : List Forwarding). Leaves home serials forwarder_events gateway false ask comes xs (more_than serials fs xs)) (sym same)
+    (subst (λ (m : ℕ). Leaves home serials forwarder_events gateway false ask comes closed m)
     (same-many serials fs closed (length-map fs (changed change.Close f.serial))) got)
 
-closes-by : (home : ℕ → Forwarding) (serials : ℕ) (deeds : List Deed) (gateway : Bool) (ask : StartAsk) (comes : Comes) (ends : Ends)
-    (fs new : List Forwarding) (o : Option Forwarding) → standing ends fs ≡ o → All (Stands home serials deeds) fs
+closes-by : (home : ℕ → Forwarding) (serials : ℕ) (forwarder_events : List ForwarderEvent) (gateway : Bool) (ask : StartAsk) (comes : Comes) (ends : Ends)
+    (fs new : List Forwarding) (o : Option Forwarding) → standing ends fs ≡ o → All (Stands home serials forwarder_events) fs
     → AreEnds gateway ask ends → comes ≡ closes_of o → new ≡ after_close (closes_of o) fs
-    → Leaves home serials deeds gateway false ask comes new (more_than serials fs new)
-closes-by home serials deeds gateway ask comes ends fs new None is k are e same =
-    now home serials deeds gateway false ask comes Refused fs new k e same
-closes-by home serials deeds gateway ask comes ends fs new (Some f) is k are e same =
-    let at = found (Stands home serials deeds) (λ g. counts g && listens_at ends g) fs f is k in
+    → Leaves home serials forwarder_events gateway false ask comes new (more_than serials fs new)
+closes-by home serials forwarder_events gateway ask comes ends fs new None is k are e same =
+    now home serials forwarder_events gateway false ask comes Refused fs new k e same
+closes-by home serials forwarder_events gateway ask comes ends fs new (Some f) is k are e same =
+    let at = found (Stands home serials forwarder_events) (λ g. counts g && listens_at ends g) fs f is k in
     let listens = (and_parts (counts f) (listens_at ends f) at.1).1 in
-    closes-one home serials deeds gateway ask comes fs new f f.closing k e same
-    (same-one home serials deeds gateway false ask ends f are at.0 listens (λ o. cc))
+    closes-one home serials forwarder_events gateway ask comes fs new f f.closing k e same
+    (same-one home serials forwarder_events gateway false ask ends f are at.0 listens (λ o. cc))
 
-comes-by : (opening : Bool) (home : ℕ → Forwarding) (serials : ℕ) (deeds : List Deed) (gateway : Bool) (ask : StartAsk) (comes : Comes)
-    (ends : Ends) (fs new : List Forwarding) → All (Stands home serials deeds) fs → AreEnds gateway ask ends
+comes-by : (opening : Bool) (home : ℕ → Forwarding) (serials : ℕ) (forwarder_events : List ForwarderEvent) (gateway : Bool) (ask : StartAsk) (comes : Comes)
+    (ends : Ends) (fs new : List Forwarding) → All (Stands home serials forwarder_events) fs → AreEnds gateway ask ends
     → comes ≡ comes_of_ends opening serials ends fs → EndsLeave opening serials ends fs new
-    → Leaves home serials deeds gateway opening ask comes new (more_than serials fs new)
-comes-by true home serials deeds gateway ask comes ends fs new k are e l =
-    opens-by home serials deeds gateway ask comes ends fs new (standing ends fs) refl k are e l
-comes-by false home serials deeds gateway ask comes ends fs new k are e l =
-    closes-by home serials deeds gateway ask comes ends fs new (standing ends fs) refl k are e l
+    → Leaves home serials forwarder_events gateway opening ask comes new (more_than serials fs new)
+comes-by true home serials forwarder_events gateway ask comes ends fs new k are e l =
+    opens-by home serials forwarder_events gateway ask comes ends fs new (standing ends fs) refl k are e l
+comes-by false home serials forwarder_events gateway ask comes ends fs new k are e l =
+    closes-by home serials forwarder_events gateway ask comes ends fs new (standing ends fs) refl k are e l
 
-comes-if : (alone opening : Bool) (home : ℕ → Forwarding) (serials : ℕ) (deeds : List Deed) (gateway : Bool) (ask : StartAsk) (comes : Comes)
-    (fs new : List Forwarding) → All (Stands home serials deeds) fs
+comes-if : (alone opening : Bool) (home : ℕ → Forwarding) (serials : ℕ) (forwarder_events : List ForwarderEvent) (gateway : Bool) (ask : StartAsk) (comes : Comes)
+    (fs new : List Forwarding) → All (Stands home serials forwarder_events) fs
     → ComesIf alone gateway opening ask serials fs new comes
-    → Leaves home serials deeds gateway opening ask comes new (more_than serials fs new)
-comes-if true opening home serials deeds gateway ask comes fs new k c =
-    now home serials deeds gateway opening ask comes Refused fs new k c.0 c.1
-comes-if false opening home serials deeds gateway ask comes fs new k c =
-    comes-by opening home serials deeds gateway ask comes c.0 fs new k c.1 c.2 c.3
+    → Leaves home serials forwarder_events gateway opening ask comes new (more_than serials fs new)
+comes-if true opening home serials forwarder_events gateway ask comes fs new k c =
+    now home serials forwarder_events gateway opening ask comes Refused fs new k c.0 c.1
+comes-if false opening home serials forwarder_events gateway ask comes fs new k c =
+    comes-by opening home serials forwarder_events gateway ask comes c.0 fs new k c.1 c.2 c.3
 
-comes-unless : (away opening : Bool) (home : ℕ → Forwarding) (serials : ℕ) (deeds : List Deed) (gateway : Bool) (ask : StartAsk) (comes : Comes)
-    (fs new : List Forwarding) → All (Stands home serials deeds) fs
+comes-unless : (away opening : Bool) (home : ℕ → Forwarding) (serials : ℕ) (forwarder_events : List ForwarderEvent) (gateway : Bool) (ask : StartAsk) (comes : Comes)
+    (fs new : List Forwarding) → All (Stands home serials forwarder_events) fs
     → ComesUnless away gateway opening ask serials fs new comes
-    → Leaves home serials deeds gateway opening ask comes new (more_than serials fs new)
-comes-unless true opening home serials deeds gateway ask comes fs new k c =
-    now home serials deeds gateway opening ask comes Refused fs new k c.0 c.1
-comes-unless false opening home serials deeds gateway ask comes fs new k c =
-    comes-if (is_refused_alone ask) opening home serials deeds gateway ask comes fs new k c
+    → Leaves home serials forwarder_events gateway opening ask comes new (more_than serials fs new)
+comes-unless true opening home serials forwarder_events gateway ask comes fs new k c =
+    now home serials forwarder_events gateway opening ask comes Refused fs new k c.0 c.1
+comes-unless false opening home serials forwarder_events gateway ask comes fs new k c =
+    comes-if (is_refused_alone ask) opening home serials forwarder_events gateway ask comes fs new k c
 
 -- it waits, where it is to
-waits-more : (home : ℕ → Forwarding) (serials : ℕ) (deeds : List Deed) (client id : ℕ) (opening : Bool) (ask : StartAsk)
+waits-more : (home : ℕ → Forwarding) (serials : ℕ) (forwarder_events : List ForwarderEvent) (client id : ℕ) (opening : Bool) (ask : StartAsk)
     (answer : HouseReply) (comes : Comes) (ws : List Waiting) → answer ≡ reply_to comes
-    → ((serial : ℕ) → comes ≡ Later serial → WaitsFor home serials (gateway_in deeds) opening ask serial)
-    → All (Waits home serials (Asks client id opening ask answer ∷ deeds)) ws
-    → All (Waits home serials (Asks client id opening ask answer ∷ deeds)) (asks_after comes client id opening ws)
-waits-more home serials deeds client id opening ask answer (Now o) ws e waits h = h
-waits-more home serials deeds client id opening ask answer (Later serial) ws e waits h =
+    → ((serial : ℕ) → comes ≡ Later serial → WaitsFor home serials (gateway_in forwarder_events) opening ask serial)
+    → All (Waits home serials (Asks client id opening ask answer ∷ forwarder_events)) ws
+    → All (Waits home serials (Asks client id opening ask answer ∷ forwarder_events)) (asks_after comes client id opening ws)
+waits-more home serials forwarder_events client id opening ask answer (Now o) ws e waits h = h
+waits-more home serials forwarder_events client id opening ask answer (Later serial) ws e waits h =
     let w = waits serial refl in
-    All-push (Waits home serials (Asks client id opening ask answer ∷ deeds)) ws (waiting_for client id opening serial) h (record {
+    All-push (Waits home serials (Asks client id opening ask answer ∷ forwarder_events)) ws (waiting_for client id opening serial) h (record {
       below = w.below;
       serial = w.serial_is;
       ask = ask;
       later = [];
-      earlier = deeds;
-      were = ap (λ r. Asks client id opening ask r ∷ deeds) e;
+      earlier = forwarder_events;
+      were = ap (λ r. Asks client id opening ask r ∷ forwarder_events) e;
       is_for = w.is_for;
       open_yet = refl;
       came = tt;
@@ -527,29 +527,29 @@ apart-asked client id opening ask comes gateway serials fs new ws true e c h =
 apart-asked client id opening ask comes gateway serials fs new ws false e c h =
     apart-came comes client id opening ws (or_parts (has_open client id ws) (nat_le MOST_ASKS (length ws)) e).0 h
 
-after-ask : (client id : ℕ) (opening : Bool) (ask : StartAsk) (answer : HouseReply) (deeds : List Deed) (old new : Desk) → Knows deeds old
-    → IsAsked client id opening ask answer old new → Knows (Asks client id opening ask answer ∷ deeds) new
-after-ask client id opening ask answer deeds old new k a =
-    let deed : Deed = Asks client id opening ask answer in
+after-ask : (client id : ℕ) (opening : Bool) (ask : StartAsk) (answer : HouseReply) (forwarder_events : List ForwarderEvent) (old new : ForwardingState) → Knows forwarder_events old
+    → IsAsked client id opening ask answer old new → Knows (Asks client id opening ask answer ∷ forwarder_events) new
+after-ask client id opening ask answer forwarder_events old new k a =
+    let forwarder_event : ForwarderEvent = Asks client id opening ask answer in
     let more = more_than old.serials old.all new.all in
-    let left = comes-unless _ opening k.home old.serials (deed ∷ deeds) old.gateway ask a.came_to old.all new.all
-    (all-later k.home old.serials deed deeds old.all (λ l. refl) k.all) a.comes in
+    let left = comes-unless _ opening k.home old.serials (forwarder_event ∷ forwarder_events) old.gateway ask a.came_to old.all new.all
+    (all-later k.home old.serials forwarder_event forwarder_events old.all (λ l. refl) k.all) a.comes in
     let g = left.grown in
-    let serials : more ≡ new.serials = sym (ap (λ (d : Desk). d.serials) a.others) in
+    let serials : more ≡ new.serials = sym (ap (λ (d : ForwardingState). d.serials) a.others) in
     record {
       home = g.to;
-      gateway = ap (λ (d : Desk). d.gateway) a.others ∙ k.gateway;
-      requests = ap (λ (d : Desk). d.requests) a.others ∙ k.requests;
-      all = subst (λ (n : ℕ). All (Stands g.to n (deed ∷ deeds)) new.all) serials g.all;
-      asked = subst (λ (n : ℕ). All (Asked g.to n) (unanswered deeds)) serials
-          (all-asked-grown k.home g.to old.serials more (unanswered deeds) g.less g.keeps k.asked);
-      waiting = subst (λ (n : ℕ). All (Waits g.to n (deed ∷ deeds)) new.waiting) serials
-          (subst (λ (ws : List Waiting). All (Waits g.to more (deed ∷ deeds)) ws) (sym (ap (λ (d : Desk). d.waiting) a.others))
-          (waits-more g.to more deeds client id opening ask answer a.came_to old.waiting a.replies
+      gateway = ap (λ (d : ForwardingState). d.gateway) a.others ∙ k.gateway;
+      requests = ap (λ (d : ForwardingState). d.requests) a.others ∙ k.requests;
+      all = subst (λ (n : ℕ). All (Stands g.to n (forwarder_event ∷ forwarder_events)) new.all) serials g.all;
+      asked = subst (λ (n : ℕ). All (Asked g.to n) (unanswered forwarder_events)) serials
+          (all-asked-grown k.home g.to old.serials more (unanswered forwarder_events) g.less g.keeps k.asked);
+      waiting = subst (λ (n : ℕ). All (Waits g.to n (forwarder_event ∷ forwarder_events)) new.waiting) serials
+          (subst (λ (ws : List Waiting). All (Waits g.to more (forwarder_event ∷ forwarder_events)) ws) (sym (ap (λ (d : ForwardingState). d.waiting) a.others))
+          (waits-more g.to more forwarder_events client id opening ask answer a.came_to old.waiting a.replies
           (λ serial later. subst (λ (b : Bool). WaitsFor g.to more b opening ask serial) k.gateway (left.waits serial later))
-          (all-wait-grown k.home g.to old.serials more (deed ∷ deeds) old.waiting g.less g.keeps
-          (all-wait-later k.home old.serials deed deeds (λ c i. refl) old.waiting k.waiting))));
-      apart = subst Apart (sym (ap (λ (d : Desk). d.waiting) a.others))
+          (all-wait-grown k.home g.to old.serials more (forwarder_event ∷ forwarder_events) old.waiting g.less g.keeps
+          (all-wait-later k.home old.serials forwarder_event forwarder_events (λ c i. refl) old.waiting k.waiting))));
+      apart = subst Apart (sym (ap (λ (d : ForwardingState). d.waiting) a.others))
           (apart-asked client id opening ask a.came_to old.gateway old.serials old.all new.all old.waiting
           (turns_away client id old.waiting) refl a.comes k.apart);
     }
@@ -557,182 +557,182 @@ after-ask client id opening ask answer deeds old new k a =
 -- ---- an answer, and the greeting
 
 -- it answers no other ask
-all-answered : (home : ℕ → Forwarding) (serials client id : ℕ) (answer : HouseReply) (deeds : List Deed) (ws : List Waiting) (o : Option ℕ)
-    → position (is_waiting client id) ws ≡ o → Apart ws → All (Waits home serials deeds) ws
-    → All (Waits home serials (Answers client id answer ∷ deeds)) (taken_at o ws)
-all-answered home serials client id answer deeds ws o e apart h =
-    let rest = all-taken (Waits home serials deeds) o ws h in
+all-answered : (home : ℕ → Forwarding) (serials client id : ℕ) (answer : HouseReply) (forwarder_events : List ForwarderEvent) (ws : List Waiting) (o : Option ℕ)
+    → position (is_waiting client id) ws ≡ o → Apart ws → All (Waits home serials forwarder_events) ws
+    → All (Waits home serials (Answers client id answer ∷ forwarder_events)) (taken_at o ws)
+all-answered home serials client id answer forwarder_events ws o e apart h =
+    let rest = all-taken (Waits home serials forwarder_events) o ws h in
     let not = others ws client id o e apart in
-    λ k d lt. waits-later home serials (Answers client id answer) deeds (get_or (taken_at o ws) k d) (not k d lt) (rest k d lt)
+    λ k d lt. waits-later home serials (Answers client id answer) forwarder_events (get_or (taken_at o ws) k d) (not k d lt) (rest k d lt)
 
-after-answering : (client id : ℕ) (answer : HouseReply) (deeds : List Deed) (old new : Desk) → Knows deeds old
-    → IsAnswered client id answer old new → Knows (Answers client id answer ∷ deeds) new
-after-answering client id answer deeds old new k a =
-    let deed : Deed = Answers client id answer in
-    let left : Desk = record old { waiting = after_answer (Some (client, id, answer)) old.waiting } in
-    let got : Knows (deed ∷ deeds) left = record {
+after-answering : (client id : ℕ) (answer : HouseReply) (forwarder_events : List ForwarderEvent) (old new : ForwardingState) → Knows forwarder_events old
+    → IsAnswered client id answer old new → Knows (Answers client id answer ∷ forwarder_events) new
+after-answering client id answer forwarder_events old new k a =
+    let forwarder_event : ForwarderEvent = Answers client id answer in
+    let left : ForwardingState = record old { waiting = after_answer (Some (client, id, answer)) old.waiting } in
+    let got : Knows (forwarder_event ∷ forwarder_events) left = record {
       home = k.home;
       gateway = k.gateway;
       requests = k.requests;
-      all = all-later k.home old.serials deed deeds old.all (λ l. refl) k.all;
+      all = all-later k.home old.serials forwarder_event forwarder_events old.all (λ l. refl) k.all;
       asked = k.asked;
-      waiting = all-answered k.home old.serials client id answer deeds old.waiting (position (is_waiting client id) old.waiting) refl
+      waiting = all-answered k.home old.serials client id answer forwarder_events old.waiting (position (is_waiting client id) old.waiting) refl
           k.apart k.waiting;
       apart = apart-taken (position (is_waiting client id) old.waiting) old.waiting k.apart;
     } in
-    subst (Knows (deed ∷ deeds)) (sym a.others) got
+    subst (Knows (forwarder_event ∷ forwarder_events)) (sym a.others) got
 
-after-greeting : (deeds : List Deed) (old new : Desk) → Knows deeds old → new ≡ greeting_said old → Knows (Greets ∷ deeds) new
-after-greeting deeds old new k e =
-    let got : Knows (Greets ∷ deeds) (greeting_said old) = record {
+after-greeting : (forwarder_events : List ForwarderEvent) (old new : ForwardingState) → Knows forwarder_events old → new ≡ greeting_sent old → Knows (Greets ∷ forwarder_events) new
+after-greeting forwarder_events old new k e =
+    let got : Knows (Greets ∷ forwarder_events) (greeting_sent old) = record {
       home = k.home;
       gateway = k.gateway;
       requests = k.requests;
-      all = all-later k.home old.serials Greets deeds old.all (λ l. refl) k.all;
+      all = all-later k.home old.serials Greets forwarder_events old.all (λ l. refl) k.all;
       asked = k.asked;
-      waiting = all-wait-later k.home old.serials Greets deeds (λ c i. refl) old.waiting k.waiting;
+      waiting = all-wait-later k.home old.serials Greets forwarder_events (λ c i. refl) old.waiting k.waiting;
       apart = k.apart;
     } in
-    subst (Knows (Greets ∷ deeds)) (sym e) got
+    subst (Knows (Greets ∷ forwarder_events)) (sym e) got
 
 -- ---- a request
 
 -- one that has a request to say is to be listened for by the server
-asks-there : (s : Stage) (a : Forwarding) (deeds : List Deed) (closing : Bool) → requests_at s closing ≡ true → StageFits s a deeds
+asks-there : (s : Stage) (a : Forwarding) (forwarder_events : List ForwarderEvent) (closing : Bool) → requests_at s closing ≡ true → StageFits s a forwarder_events
     → listens_here a.kind ≡ false
-asks-there (ToListen host) a deeds closing e h = cc
-asks-there Ordered a deeds closing e h = cc
-asks-there (Listening l) a deeds closing e h = cc
-asks-there ToRequest a deeds closing e h = h
-asks-there Requested a deeds closing e h = cc
-asks-there (Live port) a deeds closing e h = h.0
-asks-there (Cancelling port) a deeds closing e h = cc
+asks-there (ToListen host) a forwarder_events closing e h = cc
+asks-there Ordered a forwarder_events closing e h = cc
+asks-there (Listening l) a forwarder_events closing e h = cc
+asks-there ToRequest a forwarder_events closing e h = h
+asks-there Requested a forwarder_events closing e h = cc
+asks-there (Live port) a forwarder_events closing e h = h.0
+asks-there (Cancelling port) a forwarder_events closing e h = cc
 
-said-all : (r : Request) (home : ℕ → Forwarding) (serials : ℕ) (deeds : List Deed) (fs : List Forwarding)
-    → All (Stands home serials deeds) fs → All (Stands home serials deeds) (after_saying r fs)
-said-all (Listen serial) home serials deeds fs h = all-changed home serials deeds change.Request serial fs
-    (λ g is one k. steady-stage change.Request g.listen_port g.stage (home g.serial) deeds tt k) h
-said-all (Cancel serial) home serials deeds fs h = all-changed home serials deeds change.Cancel serial fs
-    (λ g is one k. steady-stage change.Cancel g.listen_port g.stage (home g.serial) deeds tt k) h
+said-all : (r : ForwardingRequest) (home : ℕ → Forwarding) (serials : ℕ) (forwarder_events : List ForwarderEvent) (fs : List Forwarding)
+    → All (Stands home serials forwarder_events) fs → All (Stands home serials forwarder_events) (after_sending r fs)
+said-all (Listen serial) home serials forwarder_events fs h = all-changed home serials forwarder_events change.ForwardingRequest serial fs
+    (λ g is one k. steady-stage change.ForwardingRequest g.listen_port g.stage (home g.serial) forwarder_events tt k) h
+said-all (Cancel serial) home serials forwarder_events fs h = all-changed home serials forwarder_events change.Cancel serial fs
+    (λ g is one k. steady-stage change.Cancel g.listen_port g.stage (home g.serial) forwarder_events tt k) h
 
-after-request : (f : Forwarding) (deeds : List Deed) (old new : Desk) → Knows deeds old → find has_request old.all ≡ Some f
-    → new ≡ request_said f old → Knows (Requests f ∷ deeds) new
-after-request f deeds old new k is e =
-    let deed : Deed = Requests f in
-    let at = found (Stands k.home old.serials deeds) has_request old.all f is k.all in
-    let got : Knows (deed ∷ deeds) (request_said f old) = record {
+after-request : (f : Forwarding) (forwarder_events : List ForwarderEvent) (old new : ForwardingState) → Knows forwarder_events old → find has_request old.all ≡ Some f
+    → new ≡ request_sent f old → Knows (Requests f ∷ forwarder_events) new
+after-request f forwarder_events old new k is e =
+    let forwarder_event : ForwarderEvent = Requests f in
+    let at = found (Stands k.home old.serials forwarder_events) has_request old.all f is k.all in
+    let got : Knows (forwarder_event ∷ forwarder_events) (request_sent f old) = record {
       home = k.home;
       gateway = k.gateway;
-      requests = ap (λ rs. rs ++ request_of f ∷ []) k.requests ∙ sym (map-append request_of (unanswered deeds) (f ∷ []));
-      all = said-all (request_of f) k.home old.serials (deed ∷ deeds) old.all
-          (all-later k.home old.serials deed deeds old.all (λ l. refl) k.all);
-      asked = All-push (Asked k.home old.serials) (unanswered deeds) f k.asked (record {
+      requests = ap (λ rs. rs ++ request_of f ∷ []) k.requests ∙ sym (map-append request_of (unanswered forwarder_events) (f ∷ []));
+      all = said-all (request_of f) k.home old.serials (forwarder_event ∷ forwarder_events) old.all
+          (all-later k.home old.serials forwarder_event forwarder_events old.all (λ l. refl) k.all);
+      asked = All-push (Asked k.home old.serials) (unanswered forwarder_events) f k.asked (record {
         below = at.0.below;
         same = at.0.same;
-        there = asks-there f.stage (k.home f.serial) deeds f.closing at.1 at.0.stage;
+        there = asks-there f.stage (k.home f.serial) forwarder_events f.closing at.1 at.0.stage;
       });
-      waiting = all-wait-later k.home old.serials deed deeds (λ c i. refl) old.waiting k.waiting;
+      waiting = all-wait-later k.home old.serials forwarder_event forwarder_events (λ c i. refl) old.waiting k.waiting;
       apart = k.apart;
     } in
-    subst (Knows (deed ∷ deeds)) (sym e) got
+    subst (Knows (forwarder_event ∷ forwarder_events)) (sym e) got
 
 -- ---- a reply
 
-live-fits : (asked : ℕ) (chosen : Option ℕ) (s : Stage) (a : Forwarding) (deeds : List Deed) → IsGranted a (bound_to asked chosen) deeds
-    → StageFits s a deeds → StageFits (stage_after (change.Live chosen) asked s) a deeds
-live-fits asked chosen (ToListen host) a deeds granted h = h
-live-fits asked chosen Ordered a deeds granted h = h
-live-fits asked chosen (Listening l) a deeds granted h = h
-live-fits asked chosen ToRequest a deeds granted h = h
-live-fits asked chosen Requested a deeds granted h = (h, granted)
-live-fits asked chosen (Live p) a deeds granted h = h
-live-fits asked chosen (Cancelling p) a deeds granted h = h
+live-fits : (asked : ℕ) (chosen : Option ℕ) (s : Stage) (a : Forwarding) (forwarder_events : List ForwarderEvent) → IsGranted a (bound_to asked chosen) forwarder_events
+    → StageFits s a forwarder_events → StageFits (stage_after (change.Live chosen) asked s) a forwarder_events
+live-fits asked chosen (ToListen host) a forwarder_events granted h = h
+live-fits asked chosen Ordered a forwarder_events granted h = h
+live-fits asked chosen (Listening l) a forwarder_events granted h = h
+live-fits asked chosen ToRequest a forwarder_events granted h = h
+live-fits asked chosen Requested a forwarder_events granted h = (h, granted)
+live-fits asked chosen (Live p) a forwarder_events granted h = h
+live-fits asked chosen (Cancelling p) a forwarder_events granted h = h
 
 -- what a reply leaves, where the first request is this
-record Replied (home : ℕ → Forwarding) (serials : ℕ) (deeds : List Deed) (fs : List Forwarding) (ws : List Waiting) : Type 0 where
-  all : All (Stands home serials deeds) fs
-  waiting : All (Waits home serials deeds) ws
+record Replied (home : ℕ → Forwarding) (serials : ℕ) (forwarder_events : List ForwarderEvent) (fs : List Forwarding) (ws : List Waiting) : Type 0 where
+  all : All (Stands home serials forwarder_events) fs
+  waiting : All (Waits home serials forwarder_events) ws
 
-next-is : (home : ℕ → Forwarding) (serials : ℕ) (deeds : List Deed) (what : ℕ → Request) (g : Forwarding) (gs : List Forwarding)
-    → unanswered deeds ≡ g ∷ gs → Asked home serials g → request_of g ≡ what g.serial → IsNext what (home g.serial) deeds
-next-is home serials deeds what g gs e a is =
+next-is : (home : ℕ → Forwarding) (serials : ℕ) (forwarder_events : List ForwarderEvent) (what : ℕ → ForwardingRequest) (g : Forwarding) (gs : List Forwarding)
+    → unanswered forwarder_events ≡ g ∷ gs → Asked home serials g → request_of g ≡ what g.serial → IsNext what (home g.serial) forwarder_events
+next-is home serials forwarder_events what g gs e a is =
     record { first = g; others = gs; were = e; is = a.same; asks = is; there = a.there }
 
-refused-either : (a : Forwarding) (deeds : List Deed) (port : Option ℕ) → IsNext Listen a deeds → (opening : Bool)
-    → CameBy (Replies false port) deeds opening a Refused
-refused-either a deeds port next true = (next, refl)
-refused-either a deeds port next false = (inl next, refl)
+refused-either : (a : Forwarding) (forwarder_events : List ForwarderEvent) (port : Option ℕ) → IsNext Listen a forwarder_events → (opening : Bool)
+    → CameBy (Replies false port) forwarder_events opening a Refused
+refused-either a forwarder_events port next true = (next, refl)
+refused-either a forwarder_events port next false = (inl next, refl)
 
-opened : (home : ℕ → Forwarding) (serials : ℕ) (deeds : List Deed) (port : Option ℕ) (serial at : ℕ) (fs : List Forwarding)
-    (ws : List Waiting) (o : Option Forwarding) → find (is_asked serial) fs ≡ o → IsNext Listen (home serial) deeds
-    → All (Stands home serials deeds) fs → All (Waits home serials deeds) ws
-    → All (Waits home serials (Replies true port ∷ deeds)) (opened_asks (live_in port o) serial at ws)
-opened home serials deeds port serial at fs ws None e next all h = all-wait-later home serials (Replies true port) deeds (λ c i. refl) ws h
-opened home serials deeds port serial at fs ws (Some f) e next all h =
-    let one = found (Stands home serials deeds) (is_asked serial) fs f e all in
+opened : (home : ℕ → Forwarding) (serials : ℕ) (forwarder_events : List ForwarderEvent) (port : Option ℕ) (serial at : ℕ) (fs : List Forwarding)
+    (ws : List Waiting) (o : Option Forwarding) → find (is_asked serial) fs ≡ o → IsNext Listen (home serial) forwarder_events
+    → All (Stands home serials forwarder_events) fs → All (Waits home serials forwarder_events) ws
+    → All (Waits home serials (Replies true port ∷ forwarder_events)) (opened_asks (live_in port o) serial at ws)
+opened home serials forwarder_events port serial at fs ws None e next all h = all-wait-later home serials (Replies true port) forwarder_events (λ c i. refl) ws h
+opened home serials forwarder_events port serial at fs ws (Some f) e next all h =
+    let one = found (Stands home serials forwarder_events) (is_asked serial) fs f e all in
     let is = eqb-true f.serial serial (and_parts (f.serial == serial) (asks_at f.stage) one.1).0 in
     let same : (home serial).listen_port ≡ f.listen_port = ap (λ n. (home n).listen_port) (sym is) ∙ one.0.same.listen_port in
-    all-settled home serials (Replies true port) deeds (λ c i. refl) serial true at (granted f.listen_port (bound_to f.listen_port port)) ws
+    all-settled home serials (Replies true port) forwarder_events (λ c i. refl) serial true at (granted f.listen_port (bound_to f.listen_port port)) ws
     (next, ap (λ n. granted n (bound_to n port)) (sym same)) h
 
-replied : (success : Bool) (r : Request) (home : ℕ → Forwarding) (serials : ℕ) (deeds : List Deed) (port : Option ℕ) (at : ℕ)
-    (fs : List Forwarding) (ws : List Waiting) (g : Forwarding) (gs : List Forwarding) → unanswered deeds ≡ g ∷ gs
+replied : (success : Bool) (r : ForwardingRequest) (home : ℕ → Forwarding) (serials : ℕ) (forwarder_events : List ForwarderEvent) (port : Option ℕ) (at : ℕ)
+    (fs : List Forwarding) (ws : List Waiting) (g : Forwarding) (gs : List Forwarding) → unanswered forwarder_events ≡ g ∷ gs
     → Asked home serials g → request_of g ≡ r → (r ≡ Listen g.serial) ⊎ (r ≡ Cancel g.serial)
-    → All (Stands home serials deeds) fs → All (Waits home serials deeds) ws
-    → Replied home serials (Replies success port ∷ deeds) (replied_all success port (Some r) fs)
+    → All (Stands home serials forwarder_events) fs → All (Waits home serials forwarder_events) ws
+    → Replied home serials (Replies success port ∷ forwarder_events) (replied_all success port (Some r) fs)
     (replied_asks success port (Some r) fs at ws)
-replied true (Listen serial) home serials deeds port at fs ws g gs e a is (inl which) all h =
+replied true (Listen serial) home serials forwarder_events port at fs ws g gs e a is (inl which) all h =
     let same : serial ≡ g.serial = cc in
-    let deed : Deed = Replies true port in
-    let next : IsNext Listen (home serial) deeds = subst (λ (n : ℕ). IsNext Listen (home n) deeds) (sym same)
-    (next-is home serials deeds Listen g gs e a (is ∙ which)) in
+    let forwarder_event : ForwarderEvent = Replies true port in
+    let next : IsNext Listen (home serial) forwarder_events = subst (λ (n : ℕ). IsNext Listen (home n) forwarder_events) (sym same)
+    (next-is home serials forwarder_events Listen g gs e a (is ∙ which)) in
     record {
-      all = all-changed home serials (deed ∷ deeds) (change.Live port) serial fs
-          (λ f its one k. live-fits f.listen_port port f.stage (home f.serial) (deed ∷ deeds) (record {
+      all = all-changed home serials (forwarder_event ∷ forwarder_events) (change.Live port) serial fs
+          (λ f its one k. live-fits f.listen_port port f.stage (home f.serial) (forwarder_event ∷ forwarder_events) (record {
             chosen = port;
             later = [];
-            earlier = deeds;
+            earlier = forwarder_events;
             were = refl;
-            next = subst (λ (n : ℕ). IsNext Listen (home n) deeds) (sym its) next;
+            next = subst (λ (n : ℕ). IsNext Listen (home n) forwarder_events) (sym its) next;
             bound = ap (λ n. bound_to n port) (sym one.listen_port);
           }) k)
-          (all-later home serials deed deeds fs (λ l. refl) all);
-      waiting = opened home serials deeds port serial at fs ws (find (is_asked serial) fs) refl next all h;
+          (all-later home serials forwarder_event forwarder_events fs (λ l. refl) all);
+      waiting = opened home serials forwarder_events port serial at fs ws (find (is_asked serial) fs) refl next all h;
     }
-replied true (Listen serial) home serials deeds port at fs ws g gs e a is (inr which) all h = cc
-replied true (Cancel serial) home serials deeds port at fs ws g gs e a is (inl which) all h = cc
-replied true (Cancel serial) home serials deeds port at fs ws g gs e a is (inr which) all h =
+replied true (Listen serial) home serials forwarder_events port at fs ws g gs e a is (inr which) all h = cc
+replied true (Cancel serial) home serials forwarder_events port at fs ws g gs e a is (inl which) all h = cc
+replied true (Cancel serial) home serials forwarder_events port at fs ws g gs e a is (inr which) all h =
     let same : serial ≡ g.serial = cc in
-    let deed : Deed = Replies true port in
-    let next : IsNext Cancel (home serial) deeds = subst (λ (n : ℕ). IsNext Cancel (home n) deeds) (sym same)
-    (next-is home serials deeds Cancel g gs e a (is ∙ which)) in
+    let forwarder_event : ForwarderEvent = Replies true port in
+    let next : IsNext Cancel (home serial) forwarder_events = subst (λ (n : ℕ). IsNext Cancel (home n) forwarder_events) (sym same)
+    (next-is home serials forwarder_events Cancel g gs e a (is ∙ which)) in
     record {
-      all = all-removed (Stands home serials (deed ∷ deeds)) (position (is_cancelled serial) fs) fs
-          (all-later home serials deed deeds fs (λ l. refl) all);
-      waiting = all-settled home serials deed deeds (λ c i. refl) serial false at Done ws (next, refl) h;
+      all = all-removed (Stands home serials (forwarder_event ∷ forwarder_events)) (position (is_cancelled serial) fs) fs
+          (all-later home serials forwarder_event forwarder_events fs (λ l. refl) all);
+      waiting = all-settled home serials forwarder_event forwarder_events (λ c i. refl) serial false at Done ws (next, refl) h;
     }
-replied false (Listen serial) home serials deeds port at fs ws g gs e a is (inl which) all h =
+replied false (Listen serial) home serials forwarder_events port at fs ws g gs e a is (inl which) all h =
     let same : serial ≡ g.serial = cc in
-    let deed : Deed = Replies false port in
-    let next : IsNext Listen (home serial) deeds = subst (λ (n : ℕ). IsNext Listen (home n) deeds) (sym same)
-    (next-is home serials deeds Listen g gs e a (is ∙ which)) in
+    let forwarder_event : ForwarderEvent = Replies false port in
+    let next : IsNext Listen (home serial) forwarder_events = subst (λ (n : ℕ). IsNext Listen (home n) forwarder_events) (sym same)
+    (next-is home serials forwarder_events Listen g gs e a (is ∙ which)) in
     record {
-      all = all-removed (Stands home serials (deed ∷ deeds)) (position (is_asked serial) fs) fs
-          (all-later home serials deed deeds fs (λ l. refl) all);
-      waiting = all-refused home serials deed deeds (λ c i. refl) serial at ws (refused-either (home serial) deeds port next) h;
+      all = all-removed (Stands home serials (forwarder_event ∷ forwarder_events)) (position (is_asked serial) fs) fs
+          (all-later home serials forwarder_event forwarder_events fs (λ l. refl) all);
+      waiting = all-refused home serials forwarder_event forwarder_events (λ c i. refl) serial at ws (refused-either (home serial) forwarder_events port next) h;
     }
-replied false (Listen serial) home serials deeds port at fs ws g gs e a is (inr which) all h = cc
-replied false (Cancel serial) home serials deeds port at fs ws g gs e a is (inl which) all h = cc
-replied false (Cancel serial) home serials deeds port at fs ws g gs e a is (inr which) all h =
+replied false (Listen serial) home serials forwarder_events port at fs ws g gs e a is (inr which) all h = cc
+replied false (Cancel serial) home serials forwarder_events port at fs ws g gs e a is (inl which) all h = cc
+replied false (Cancel serial) home serials forwarder_events port at fs ws g gs e a is (inr which) all h =
     let same : serial ≡ g.serial = cc in
-    let deed : Deed = Replies false port in
-    let next : IsNext Cancel (home serial) deeds = subst (λ (n : ℕ). IsNext Cancel (home n) deeds) (sym same)
-    (next-is home serials deeds Cancel g gs e a (is ∙ which)) in
+    let forwarder_event : ForwarderEvent = Replies false port in
+    let next : IsNext Cancel (home serial) forwarder_events = subst (λ (n : ℕ). IsNext Cancel (home n) forwarder_events) (sym same)
+    (next-is home serials forwarder_events Cancel g gs e a (is ∙ which)) in
     record {
-      all = all-changed home serials (deed ∷ deeds) change.Stay serial fs
-          (λ f its one k. steady-stage change.Stay f.listen_port f.stage (home f.serial) (deed ∷ deeds) tt k)
-          (all-later home serials deed deeds fs (λ l. refl) all);
-      waiting = all-settled home serials deed deeds (λ c i. refl) serial false at Refused ws (inr next, refl) h;
+      all = all-changed home serials (forwarder_event ∷ forwarder_events) change.Stay serial fs
+          (λ f its one k. steady-stage change.Stay f.listen_port f.stage (home f.serial) (forwarder_event ∷ forwarder_events) tt k)
+          (all-later home serials forwarder_event forwarder_events fs (λ l. refl) all);
+      waiting = all-settled home serials forwarder_event forwarder_events (λ c i. refl) serial false at Refused ws (inr next, refl) h;
     }
 
 pub request-is : (s : Stage) (serial : ℕ) → (request_at s serial ≡ Listen serial) ⊎ (request_at s serial ≡ Cancel serial)
@@ -745,52 +745,52 @@ request-is (Live port) serial = inr refl
 request-is (Cancelling port) serial = inl refl
 
 -- what a reply leaves, with the requests that wait then
-replied-by : (success : Bool) (port : Option ℕ) (deeds : List Deed) (old : Desk) (gs : List Forwarding) (k : Knows deeds old)
-    → unanswered deeds ≡ gs → Replied k.home old.serials (Replies success port ∷ deeds)
+replied-by : (success : Bool) (port : Option ℕ) (forwarder_events : List ForwarderEvent) (old : ForwardingState) (gs : List Forwarding) (k : Knows forwarder_events old)
+    → unanswered forwarder_events ≡ gs → Replied k.home old.serials (Replies success port ∷ forwarder_events)
     (replied_all success port (first_of (map request_of gs)) old.all)
     (replied_asks success port (first_of (map request_of gs)) old.all old.done old.waiting)
-replied-by success port deeds old [] k e = record {
-  all = all-later k.home old.serials (Replies success port) deeds old.all (λ l. refl) k.all;
-  waiting = all-wait-later k.home old.serials (Replies success port) deeds (λ c i. refl) old.waiting k.waiting;
+replied-by success port forwarder_events old [] k e = record {
+  all = all-later k.home old.serials (Replies success port) forwarder_events old.all (λ l. refl) k.all;
+  waiting = all-wait-later k.home old.serials (Replies success port) forwarder_events (λ c i. refl) old.waiting k.waiting;
 }
-replied-by success port deeds old (g ∷ gs) k e =
+replied-by success port forwarder_events old (g ∷ gs) k e =
     let a = All-head (Asked k.home old.serials) g gs (subst (All (Asked k.home old.serials)) e k.asked) in
-    replied success (request_of g) k.home old.serials deeds port old.done old.all old.waiting g gs e a refl
+    replied success (request_of g) k.home old.serials forwarder_events port old.done old.all old.waiting g gs e a refl
     (request-is g.stage g.serial) k.all k.waiting
 
 drop-map : (gs : List Forwarding) → drop 1 (map request_of gs) ≡ map request_of (drop 1 gs)
 drop-map [] = refl
 drop-map (g ∷ gs) = refl
 
-after-reply : (success : Bool) (port : Option ℕ) (deeds : List Deed) (old new : Desk) → Knows deeds old
-    → new ≡ reply_heard success port old → Knows (Replies success port ∷ deeds) new
-after-reply success port deeds old new k e =
-    let deed : Deed = Replies success port in
-    let left = replied-by success port deeds old (unanswered deeds) k refl in
-    let got : Knows (deed ∷ deeds) (reply_heard success port old) = record {
+after-reply : (success : Bool) (port : Option ℕ) (forwarder_events : List ForwarderEvent) (old new : ForwardingState) → Knows forwarder_events old
+    → new ≡ reply_received success port old → Knows (Replies success port ∷ forwarder_events) new
+after-reply success port forwarder_events old new k e =
+    let forwarder_event : ForwarderEvent = Replies success port in
+    let left = replied-by success port forwarder_events old (unanswered forwarder_events) k refl in
+    let got : Knows (forwarder_event ∷ forwarder_events) (reply_received success port old) = record {
       home = k.home;
       gateway = k.gateway;
-      requests = ap (λ (rs : List Request). drop 1 rs) k.requests ∙ drop-map (unanswered deeds);
-      all = subst (λ (rs : List Request). All (Stands k.home old.serials (deed ∷ deeds))
+      requests = ap (λ (rs : List ForwardingRequest). drop 1 rs) k.requests ∙ drop-map (unanswered forwarder_events);
+      all = subst (λ (rs : List ForwardingRequest). All (Stands k.home old.serials (forwarder_event ∷ forwarder_events))
           (replied_all success port (first_of rs) old.all)) (sym k.requests) left.all;
-      asked = All-drop (Asked k.home old.serials) 1 (unanswered deeds) k.asked;
-      waiting = subst (λ (rs : List Request). All (Waits k.home old.serials (deed ∷ deeds))
+      asked = All-drop (Asked k.home old.serials) 1 (unanswered forwarder_events) k.asked;
+      waiting = subst (λ (rs : List ForwardingRequest). All (Waits k.home old.serials (forwarder_event ∷ forwarder_events))
           (replied_asks success port (first_of rs) old.all old.done old.waiting)) (sym k.requests) left.waiting;
       apart = apart-replied success port (first_of old.requests) old.all old.done old.waiting k.apart;
     } in
-    subst (Knows (deed ∷ deeds)) (sym e) got
+    subst (Knows (forwarder_event ∷ forwarder_events)) (sym e) got
 
 -- ---- a listener is ordered
 
-listens-there : (s : Stage) (a : Forwarding) (deeds : List Deed) → waits_at s ≡ true → StageFits s a deeds
+listens-there : (s : Stage) (a : Forwarding) (forwarder_events : List ForwarderEvent) → waits_at s ≡ true → StageFits s a forwarder_events
     → listens_here a.kind ≡ true
-listens-there (ToListen host) a deeds e h = h
-listens-there Ordered a deeds e h = h
-listens-there (Listening l) a deeds e h = cc
-listens-there ToRequest a deeds e h = cc
-listens-there Requested a deeds e h = cc
-listens-there (Live port) a deeds e h = cc
-listens-there (Cancelling port) a deeds e h = cc
+listens-there (ToListen host) a forwarder_events e h = h
+listens-there Ordered a forwarder_events e h = h
+listens-there (Listening l) a forwarder_events e h = cc
+listens-there ToRequest a forwarder_events e h = cc
+listens-there Requested a forwarder_events e h = cc
+listens-there (Live port) a forwarder_events e h = cc
+listens-there (Cancelling port) a forwarder_events e h = cc
 
 pub first-place : (b : Bool) (n i : ℕ) → (if b then Some n else None) ≡ Some i → i ≡ n
 first-place true n i e = cc
@@ -804,9 +804,9 @@ first-ordered fs i f e =
     find-set to_listen fs i (record f { stage = Ordered }) (first-place _ (position_or_len to_listen fs) i e) first.0 refl
 
 -- where it gets its number, or none
-record Ordering (home : ℕ → Forwarding) (serials : ℕ) (host : List ℕ) (port : ℕ) (deeds : List Deed) (fs : List Forwarding)
+record Ordering (home : ℕ → Forwarding) (serials : ℕ) (host : List ℕ) (port : ℕ) (forwarder_events : List ForwarderEvent) (fs : List Forwarding)
     (f : Forwarding) : Type 0 where
-  all : All (Stands home serials deeds) fs
+  all : All (Stands home serials forwarder_events) fs
   first : find to_listen fs ≡ Some f
   named : AreOne (home f.serial) f
   here : listens_here (home f.serial).kind ≡ true
@@ -816,59 +816,59 @@ record Ordering (home : ℕ → Forwarding) (serials : ℕ) (host : List ℕ) (p
 pub same-one-found : (f g : Forwarding) → Some f ≡ Some g → f ≡ g
 same-one-found f g e = cc
 
-made-all : (home : ℕ → Forwarding) (serials : ℕ) (host : List ℕ) (port : ℕ) (deeds : List Deed) (number : Option ℕ) (fs new : List Forwarding)
-    (f : Forwarding) (i : ℕ) → Ordering home serials host port deeds fs f → position to_listen fs ≡ Some i → MadeAt number i fs new
-    → All (Stands home serials (Listens host port number ∷ deeds)) new
-made-all home serials host port deeds None fs new f i o e m =
-    subst (All (Stands home serials (Listens host port None ∷ deeds))) (sym m)
-    (all-remove (Stands home serials (Listens host port None ∷ deeds)) fs i
-    (all-later home serials (Listens host port None) deeds fs (λ l. refl) o.all))
-made-all home serials host port deeds (Some l) fs new f i o e m =
-    let deed : Deed = Listens host port (Some l) in
-    let all = all-later home serials deed deeds fs (λ k. refl) o.all in
-    let at = placed (Stands home serials (deed ∷ deeds)) to_listen fs i m.0 e m.1 all in
+made-all : (home : ℕ → Forwarding) (serials : ℕ) (host : List ℕ) (port : ℕ) (forwarder_events : List ForwarderEvent) (number : Option ℕ) (fs new : List Forwarding)
+    (f : Forwarding) (i : ℕ) → Ordering home serials host port forwarder_events fs f → position to_listen fs ≡ Some i → MadeAt number i fs new
+    → All (Stands home serials (Listens host port number ∷ forwarder_events)) new
+made-all home serials host port forwarder_events None fs new f i o e m =
+    subst (All (Stands home serials (Listens host port None ∷ forwarder_events))) (sym m)
+    (all-remove (Stands home serials (Listens host port None ∷ forwarder_events)) fs i
+    (all-later home serials (Listens host port None) forwarder_events fs (λ l. refl) o.all))
+made-all home serials host port forwarder_events (Some l) fs new f i o e m =
+    let forwarder_event : ForwarderEvent = Listens host port (Some l) in
+    let all = all-later home serials forwarder_event forwarder_events fs (λ k. refl) o.all in
+    let at = placed (Stands home serials (forwarder_event ∷ forwarder_events)) to_listen fs i m.0 e m.1 all in
     let same : f ≡ m.0 = same-one-found f m.0 (sym o.first ∙ at.2) in
     let a = home m.0.serial in
     let host_is : host ≡ a.listen_host = subst (λ (g : Forwarding). host ≡ (home g.serial).listen_host) same o.host_is in
     let port_is : port ≡ a.listen_port = subst (λ (g : Forwarding). port ≡ (home g.serial).listen_port) same o.port_is in
     let here : listens_here a.kind ≡ true = subst (λ (g : Forwarding). listens_here (home g.serial).kind ≡ true) same o.here in
-    subst (All (Stands home serials (deed ∷ deeds))) (sym m.2)
-    (All-set (Stands home serials (deed ∷ deeds)) fs i (record m.0 { stage = Listening l })
-    (restaged home serials (deed ∷ deeds) m.0 (Listening l) m.0.closing (
+    subst (All (Stands home serials (forwarder_event ∷ forwarder_events))) (sym m.2)
+    (All-set (Stands home serials (forwarder_event ∷ forwarder_events)) fs i (record m.0 { stage = Listening l })
+    (restaged home serials (forwarder_event ∷ forwarder_events) m.0 (Listening l) m.0.closing (
       here,
       record {
         later = [];
-        earlier = deeds;
-        were = ap (λ h. Listens h port (Some l) ∷ deeds) host_is ∙ ap (λ p. Listens a.listen_host p (Some l) ∷ deeds) port_is;
+        earlier = forwarder_events;
+        were = ap (λ h. Listens h port (Some l) ∷ forwarder_events) host_is ∙ ap (λ p. Listens a.listen_host p (Some l) ∷ forwarder_events) port_is;
         open_yet = refl;
       },
     ) at.0) all)
 
-made-waiting : (home : ℕ → Forwarding) (serials : ℕ) (host : List ℕ) (port : ℕ) (deeds : List Deed) (number : Option ℕ) (fs : List Forwarding)
-    (f : Forwarding) (at : ℕ) (ws : List Waiting) → Ordering home serials host port deeds fs f → All (Waits home serials deeds) ws
-    → All (Waits home serials (Listens host port number ∷ deeds)) (ordered_asks number f.serial at ws)
-made-waiting home serials host port deeds None fs f at ws o h =
-    all-refused home serials (Listens host port None) deeds (λ c i. refl) f.serial at ws (λ opening. (o.host_is, o.port_is, o.here, refl)) h
-made-waiting home serials host port deeds (Some l) fs f at ws o h =
-    all-settled home serials (Listens host port (Some l)) deeds (λ c i. refl) f.serial true at Done ws (o.host_is, o.port_is, o.here, refl) h
+made-waiting : (home : ℕ → Forwarding) (serials : ℕ) (host : List ℕ) (port : ℕ) (forwarder_events : List ForwarderEvent) (number : Option ℕ) (fs : List Forwarding)
+    (f : Forwarding) (at : ℕ) (ws : List Waiting) → Ordering home serials host port forwarder_events fs f → All (Waits home serials forwarder_events) ws
+    → All (Waits home serials (Listens host port number ∷ forwarder_events)) (ordered_asks number f.serial at ws)
+made-waiting home serials host port forwarder_events None fs f at ws o h =
+    all-refused home serials (Listens host port None) forwarder_events (λ c i. refl) f.serial at ws (λ opening. (o.host_is, o.port_is, o.here, refl)) h
+made-waiting home serials host port forwarder_events (Some l) fs f at ws o h =
+    all-settled home serials (Listens host port (Some l)) forwarder_events (λ c i. refl) f.serial true at Done ws (o.host_is, o.port_is, o.here, refl) h
 
-after-listen : (host : List ℕ) (port : ℕ) (number : Option ℕ) (deeds : List Deed) (old new : Desk) → Knows deeds old
-    → GetsListener host port number old new → Knows (Listens host port number ∷ deeds) new
-after-listen host port number deeds old new k h =
-    let deed : Deed = Listens host port number in
+after-listen : (host : List ℕ) (port : ℕ) (number : Option ℕ) (forwarder_events : List ForwarderEvent) (old new : ForwardingState) → Knows forwarder_events old
+    → GetsListener host port number old new → Knows (Listens host port number ∷ forwarder_events) new
+after-listen host port number forwarder_events old new k h =
+    let forwarder_event : ForwarderEvent = Listens host port number in
     let b = h.between in
     let f = h.orders.ordered.0 in
     let g : Forwarding = record f { stage = Ordered } in
     let i = h.orders.place in
-    let at = placed (Stands k.home old.serials deeds) to_listen old.all i f h.orders.first h.orders.ordered.1 k.all in
+    let at = placed (Stands k.home old.serials forwarder_events) to_listen old.all i f h.orders.first h.orders.ordered.1 k.all in
     let ends = there-is (λ (x : Forwarding). (host ≡ x.listen_host) × (port ≡ x.listen_port)) (find to_listen old.all) f at.2 h.orders.there in
-    let here = listens-there f.stage (k.home f.serial) deeds at.1 at.0.stage in
-    let one = restaged k.home old.serials deeds f Ordered f.closing here at.0 in
-    let all : All (Stands k.home old.serials deeds) b.all = subst (All (Stands k.home old.serials deeds)) (sym h.orders.ordered.2)
-    (All-set (Stands k.home old.serials deeds) old.all i g one k.all) in
+    let here = listens-there f.stage (k.home f.serial) forwarder_events at.1 at.0.stage in
+    let one = restaged k.home old.serials forwarder_events f Ordered f.closing here at.0 in
+    let all : All (Stands k.home old.serials forwarder_events) b.all = subst (All (Stands k.home old.serials forwarder_events)) (sym h.orders.ordered.2)
+    (All-set (Stands k.home old.serials forwarder_events) old.all i g one k.all) in
     let first : find to_listen b.all ≡ Some g =
     ap (λ (fs : List Forwarding). find to_listen fs) h.orders.ordered.2 ∙ first-ordered old.all i f h.orders.first in
-    let o : Ordering k.home old.serials host port deeds b.all g = record {
+    let o : Ordering k.home old.serials host port forwarder_events b.all g = record {
       all = all;
       first = first;
       named = one.same;
@@ -876,27 +876,27 @@ after-listen host port number deeds old new k h =
       host_is = ends.0 ∙ sym at.0.same.listens;
       port_is = ends.1 ∙ sym at.0.same.listen_port;
     } in
-    let t : Desk = record old { all = new.all; refused = new.refused; waiting = new.waiting; done = new.done } in
+    let t : ForwardingState = record old { all = new.all; refused = new.refused; waiting = new.waiting; done = new.done } in
     let m = h.makes.others in
     let s = h.orders.others in
-    let e : new ≡ t = same-desks new t (ap (λ (d : Desk). d.gateway) m ∙ ap (λ (d : Desk). d.gateway) s)
-    (ap (λ (d : Desk). d.greeted) m ∙ ap (λ (d : Desk). d.greeted) s) refl
-    (ap (λ (d : Desk). d.serials) m ∙ ap (λ (d : Desk). d.serials) s) refl
-    (ap (λ (d : Desk). d.requests) m ∙ ap (λ (d : Desk). d.requests) s) refl refl in
-    let waiting : new.waiting ≡ ordered_asks number f.serial b.done old.waiting = ap (λ (d : Desk). d.waiting) m
+    let e : new ≡ t = same-forwarding_states new t (ap (λ (d : ForwardingState). d.gateway) m ∙ ap (λ (d : ForwardingState). d.gateway) s)
+    (ap (λ (d : ForwardingState). d.greeted) m ∙ ap (λ (d : ForwardingState). d.greeted) s) refl
+    (ap (λ (d : ForwardingState). d.serials) m ∙ ap (λ (d : ForwardingState). d.serials) s) refl
+    (ap (λ (d : ForwardingState). d.requests) m ∙ ap (λ (d : ForwardingState). d.requests) s) refl refl in
+    let waiting : new.waiting ≡ ordered_asks number f.serial b.done old.waiting = ap (λ (d : ForwardingState). d.waiting) m
     ∙ ap (λ (x : Option Forwarding). ordered_asks number (serial_of x) b.done b.waiting) first
-    ∙ ap (λ (ws : List Waiting). ordered_asks number f.serial b.done ws) (ap (λ (d : Desk). d.waiting) s) in
-    let got : Knows (deed ∷ deeds) t = record {
+    ∙ ap (λ (ws : List Waiting). ordered_asks number f.serial b.done ws) (ap (λ (d : ForwardingState). d.waiting) s) in
+    let got : Knows (forwarder_event ∷ forwarder_events) t = record {
       home = k.home;
       gateway = k.gateway;
       requests = k.requests;
-      all = made-all k.home old.serials host port deeds number b.all new.all g h.makes.place o h.makes.first h.makes.made;
+      all = made-all k.home old.serials host port forwarder_events number b.all new.all g h.makes.place o h.makes.first h.makes.made;
       asked = k.asked;
-      waiting = subst (All (Waits k.home old.serials (deed ∷ deeds))) (sym waiting)
-          (made-waiting k.home old.serials host port deeds number b.all g b.done old.waiting o k.waiting);
+      waiting = subst (All (Waits k.home old.serials (forwarder_event ∷ forwarder_events))) (sym waiting)
+          (made-waiting k.home old.serials host port forwarder_events number b.all g b.done old.waiting o k.waiting);
       apart = subst Apart (sym waiting) (apart-ordered number f.serial b.done old.waiting k.apart);
     } in
-    subst (Knows (deed ∷ deeds)) (sym e) got
+    subst (Knows (forwarder_event ∷ forwarder_events)) (sym e) got
 
 -- ---- a listener is closed
 
@@ -913,7 +913,7 @@ ends-if : (owes : Bool) (serial k : ℕ) (l n : ℕ) → (if owes then None else
 ends-if true serial k l n e = cc
 ends-if false serial k l n e = (cc, cc)
 
-ends-at : (P : Forwarding → Type 0) (ws : List Waiting) (f : Forwarding) (serial k l : ℕ) (closing : Bool) (next : Option Want)
+ends-at : (P : Forwarding → Type 0) (ws : List Waiting) (f : Forwarding) (serial k l : ℕ) (closing : Bool) (next : Option ForwardingWant)
     → f.stage ≡ Listening k → f.closing ≡ closing → P f → ends_at k closing f.serial ws next ≡ Some (want.Unlisten serial l)
     → (next ≡ Some (want.Unlisten serial l) → Closing P serial l) → Closing P serial l
 ends-at P ws f serial k l true next s c h e rest =
@@ -921,7 +921,7 @@ ends-at P ws f serial k l true next s c h e rest =
     record { f = f; holds = h; serial_is = both.1; stage_is = s ∙ ap (λ n. Listening n) both.0; closing_is = c }
 ends-at P ws f serial k l false next s c h e rest = rest e
 
-next-at : (P : Forwarding → Type 0) (ws : List Waiting) (f : Forwarding) (serial l : ℕ) (s : Stage) (next : Option Want)
+next-at : (P : Forwarding → Type 0) (ws : List Waiting) (f : Forwarding) (serial l : ℕ) (s : Stage) (next : Option ForwardingWant)
     → f.stage ≡ s → P f → next_at s f.closing f.serial ws next ≡ Some (want.Unlisten serial l)
     → (next ≡ Some (want.Unlisten serial l) → Closing P serial l) → Closing P serial l
 next-at P ws f serial l (ToListen host) next is h e rest = cc
@@ -943,50 +943,50 @@ next-closing P ws (f ∷ fs) serial l h e =
 stays : (l : ℕ) (f : Forwarding) → not (has_listener l f) ≡ true → Lets f.stage (Unlistens l)
 stays l f e k is = not-true (k == l) (subst (λ (s : Stage). not (is_listener l (listener_at s)) ≡ true) is e)
 
-pub closing-of : (l : ℕ) (deeds : List Deed) (old : Desk) (k : Knows deeds old) (serial : ℕ)
-    → next_of old.waiting old.all ≡ Some (want.Unlisten serial l) → Closing (Stands k.home old.serials deeds) serial l
-closing-of l deeds old k serial e = next-closing (Stands k.home old.serials deeds) old.waiting old.all serial l k.all e
+pub closing-of : (l : ℕ) (forwarder_events : List ForwarderEvent) (old : ForwardingState) (k : Knows forwarder_events old) (serial : ℕ)
+    → next_of old.waiting old.all ≡ Some (want.Unlisten serial l) → Closing (Stands k.home old.serials forwarder_events) serial l
+closing-of l forwarder_events old k serial e = next-closing (Stands k.home old.serials forwarder_events) old.waiting old.all serial l k.all e
 
-after-unlisten : (l : ℕ) (deeds : List Deed) (old new : Desk) → Knows deeds old → EndsListener l old new
-    → Knows (Unlistens l ∷ deeds) new
-after-unlisten l deeds old new k h =
-    let deed : Deed = Unlistens l in
-    let c = closing-of l deeds old k h.serial h.next in
-    let fits : StageFits (Listening l) (k.home c.f.serial) deeds =
-    subst (λ (s : Stage). StageFits s (k.home c.f.serial) deeds) c.stage_is c.holds.stage in
-    let its : StageFits (Listening l) (k.home h.serial) deeds =
-    subst (λ (n : ℕ). StageFits (Listening l) (k.home n) deeds) c.serial_is fits in
+after-unlisten : (l : ℕ) (forwarder_events : List ForwarderEvent) (old new : ForwardingState) → Knows forwarder_events old → EndsListener l old new
+    → Knows (Unlistens l ∷ forwarder_events) new
+after-unlisten l forwarder_events old new k h =
+    let forwarder_event : ForwarderEvent = Unlistens l in
+    let c = closing-of l forwarder_events old k h.serial h.next in
+    let fits : StageFits (Listening l) (k.home c.f.serial) forwarder_events =
+    subst (λ (s : Stage). StageFits s (k.home c.f.serial) forwarder_events) c.stage_is c.holds.stage in
+    let its : StageFits (Listening l) (k.home h.serial) forwarder_events =
+    subst (λ (n : ℕ). StageFits (Listening l) (k.home n) forwarder_events) c.serial_is fits in
     let kept = filter (λ f. not (has_listener l f)) old.all in
-    let stand = All-filter (λ f. not (has_listener l f)) (Stands k.home old.serials deeds) old.all k.all in
+    let stand = All-filter (λ f. not (has_listener l f)) (Stands k.home old.serials forwarder_events) old.all k.all in
     let pass = filter_passes (λ f. not (has_listener l f)) old.all in
-    let t : Desk = record old {
+    let t : ForwardingState = record old {
       all = kept;
       waiting = settled h.serial false old.done Done old.waiting;
       done = counted old.done;
     } in
-    let got : Knows (deed ∷ deeds) t = record {
+    let got : Knows (forwarder_event ∷ forwarder_events) t = record {
       home = k.home;
       gateway = k.gateway;
       requests = k.requests;
-      all = λ i d lt. stands-later k.home old.serials deed deeds (get_or kept i d) (stays l (get_or kept i d) (pass i d lt)) (stand i d lt);
+      all = λ i d lt. stands-later k.home old.serials forwarder_event forwarder_events (get_or kept i d) (stays l (get_or kept i d) (pass i d lt)) (stand i d lt);
       asked = k.asked;
-      waiting = all-settled k.home old.serials deed deeds (λ c i. refl) h.serial false old.done Done old.waiting (its.0, its.1, refl) k.waiting;
+      waiting = all-settled k.home old.serials forwarder_event forwarder_events (λ c i. refl) h.serial false old.done Done old.waiting (its.0, its.1, refl) k.waiting;
       apart = apart-settled h.serial false old.done Done old.waiting k.apart;
     } in
-    subst (Knows (deed ∷ deeds)) (sym h.others) got
+    subst (Knows (forwarder_event ∷ forwarder_events)) (sym h.others) got
 
 -- ---- by all that happened
 
-after : (deed : Deed) (deeds : List Deed) (old new : Desk) → Knows deeds old → Does deed old new → Knows (deed ∷ deeds) new
-after (Begins starts) deeds old new k d = after-start starts deeds old new k d
-after (Asks client id opening ask answer) deeds old new k d = after-ask client id opening ask answer deeds old new k d
-after (Answers client id answer) deeds old new k d = after-answering client id answer deeds old new k d
-after Greets deeds old new k d = after-greeting deeds old new k d.1
-after (Requests f) deeds old new k d = after-request f deeds old new k d.1 d.2
-after (Replies success port) deeds old new k d = after-reply success port deeds old new k d
-after (Listens host port number) deeds old new k d = after-listen host port number deeds old new k d
-after (Unlistens l) deeds old new k d = after-unlisten l deeds old new k d
+after : (forwarder_event : ForwarderEvent) (forwarder_events : List ForwarderEvent) (old new : ForwardingState) → Knows forwarder_events old → Does forwarder_event old new → Knows (forwarder_event ∷ forwarder_events) new
+after (Begins starts) forwarder_events old new k d = after-start starts forwarder_events old new k d
+after (Asks client id opening ask answer) forwarder_events old new k d = after-ask client id opening ask answer forwarder_events old new k d
+after (Answers client id answer) forwarder_events old new k d = after-answering client id answer forwarder_events old new k d
+after Greets forwarder_events old new k d = after-greeting forwarder_events old new k d.1
+after (Requests f) forwarder_events old new k d = after-request f forwarder_events old new k d.1 d.2
+after (Replies success port) forwarder_events old new k d = after-reply success port forwarder_events old new k d
+after (Listens host port number) forwarder_events old new k d = after-listen host port number forwarder_events old new k d
+after (Unlistens l) forwarder_events old new k d = after-unlisten l forwarder_events old new k d
 
-pub knows : (deeds : List Deed) (desk : Desk) → Leave deeds desk → Knows deeds desk
-knows [] desk left = subst (Knows []) (sym left) knows-nothing
-knows (deed ∷ deeds) desk left = after deed deeds left.0 desk (knows deeds left.0 left.1) left.2
+pub knows : (forwarder_events : List ForwarderEvent) (forwarding_state : ForwardingState) → Leave forwarder_events forwarding_state → Knows forwarder_events forwarding_state
+knows [] forwarding_state left = subst (Knows []) (sym left) knows-nothing
+knows (forwarder_event ∷ forwarder_events) forwarding_state left = after forwarder_event forwarder_events left.0 forwarding_state (knows forwarder_events left.0 left.1) left.2

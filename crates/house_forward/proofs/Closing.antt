@@ -12,33 +12,33 @@ use Rattle.socks_dialog.specs.Socks.{Dialog}
 use Rattle.socks_dialog.specs.declared.outcome.Outcome.{Outcome}
 use Rattle.socks_dialog.specs.declared.outcome.Outcome.TheVariants.{Wants, Connects, Breaks}
 use Rattle.socks_dialog.proofs.Dialogs.{socks-parse}
-use Rattle.house_relay.specs.Acts.{Act, Reads, Ends, Takes, Fails, Confirms, Refuses, Delivers, HearsEof, HearsClose, SaysData, SaysAdjust, SaysEof, SaysClose, Other}
-use Rattle.house_relay.specs.Acts.{answer, read, outcome_in, has_ended, heard_close, said_close}
-use Rattle.house_relay.specs.Line.{in_live, over_if, takes_in, hears_close, has_no_more}
-use Rattle.house_relay.specs.Next.{says_of, says_offered, says_live, chunk}
-use Rattle.house_relay.specs.Relay.{LineStands, IsDialing, stream_of, delivers, is_broken, is_done, answered_in, heard_in}
-use Rattle.house_relay.specs.Steps.{fresh_relay, made_as, confirmed_in, refused_in, connected, failing, surplus_of, ComesOf, DialsIn, IsToDial, IsAskedFor}
+use Rattle.house_relay.specs.Acts.{Act, Reads, Ends, Takes, Fails, Confirms, Refuses, Delivers, ReceivesEof, ReceivesClose, SendsData, SendsAdjust, SendsEof, SendsClose, Other}
+use Rattle.house_relay.specs.Acts.{answer, read, outcome_in, has_ended, received_close, sent_close}
+use Rattle.house_relay.specs.ChannelState.{in_live, over_if, takes_in, receives_close, has_no_more}
+use Rattle.house_relay.specs.Next.{sends_of, sends_offered, sends_live, chunk}
+use Rattle.house_relay.specs.Relay.{LineStands, IsDialing, stream_of, delivers, is_broken, is_done, answered_in, received_in}
+use Rattle.house_relay.specs.Steps.{fresh_relay, made_as, confirmed_in, refused_in, connected, failing, no_channel_left_of, ComesOf, DialsIn, IsToDial, IsAskedFor}
 use Rattle.house_relay.specs.declared.line.Live.{Live as LiveState}
-use Rattle.house_relay.specs.declared.line.Line.{Line}
-use Rattle.house_relay.specs.declared.line.Line.TheVariants.{Dialing, Asked, Opened, Offered, Live, Over}
+use Rattle.house_relay.specs.declared.line.ChannelState.{ChannelState}
+use Rattle.house_relay.specs.declared.line.ChannelState.TheVariants.{Dialing, Asked, Opened, Offered, Live, Over}
 use Rattle.house_relay.specs.declared.relay.Relay.{Relay}
-use Rattle.house_relay.specs.declared.relay.Saying.{Saying}
-use Rattle.house_relay.specs.declared.relay.Saying.TheVariants as saying
+use Rattle.house_relay.specs.declared.relay.Outgoing.{Outgoing}
+use Rattle.house_relay.specs.declared.relay.Outgoing.TheVariants as outgoing
 use Rattle.house_relay.specs.declared.relay.Socket.{Socket}
 use Rattle.house_relay.specs.declared.relay.Socket.TheVariants as socket
 use Rattle.house_relay.proofs.Whole.{keeps}
 use Rattle.house_forward.specs.Closing.{ClosesHaveCause, has_failed, IsClosed, IsRefused, HasBroken, IsThrough, IsServed, IsStream, HasNoChannel}
 use Rattle.house_forward.specs.Forwardings.{has_listener}
-use Rattle.house_forward.specs.Going.{act_of_saying}
-use Rattle.house_forward.specs.Heard.{heard_of, act_heard}
-use Rattle.house_forward.specs.Links.{IsJoined, IsJoinedAt, IsDialed, IsSurplus, after_saying, relay_after}
-use Rattle.house_forward.specs.Lives.{Life, Course, GoesBy, Reaches, first_course}
-use Rattle.house_forward.specs.Lives.{has_stream, is_stream, unmade, are_full, are_crowded, own_after, act_of, made_life}
+use Rattle.house_forward.specs.Going.{act_of_sending}
+use Rattle.house_forward.specs.Heard.{received_of, act_received}
+use Rattle.house_forward.specs.Links.{IsJoined, IsJoinedAt, IsDialed, HasNoChannelLeft, after_sending, relay_after}
+use Rattle.house_forward.specs.RelayTraces.{Life, Trace, GoesBy, Reaches, first_trace}
+use Rattle.house_forward.specs.RelayTraces.{has_stream, is_stream, unmade, are_full, are_dialogs_full, own_after, act_of, made_life}
 use Rattle.house_forward.specs.Numbers.{number_of}
 use Rattle.house_forward.specs.Opening.{IsBefore}
 use Rattle.house_forward.specs.declared.forwarding.Forwarding.{Forwarding}
-use Rattle.house_forward.specs.declared.link.Step.{Step}
-use Rattle.house_forward.specs.declared.link.Step.TheVariants as step
+use Rattle.house_forward.specs.declared.link.LinkStep.{LinkStep}
+use Rattle.house_forward.specs.declared.link.LinkStep.TheVariants as step
 use Rattle.house_forward.specs.declared.rules.Kind.{Kind}
 use Rattle.house_forward.specs.declared.rules.Kind.TheVariants.{Local, Remote, Dynamic}
 use Rattle.house_forward.proofs.Directing.{its-after}
@@ -56,15 +56,15 @@ failed-more Fails acts e = refl
 failed-more Confirms acts e = e
 failed-more (Refuses reason) acts e = e
 failed-more (Delivers bytes) acts e = e
-failed-more HearsEof acts e = e
-failed-more HearsClose acts e = e
-failed-more (SaysData bytes) acts e = e
-failed-more (SaysAdjust n) acts e = e
-failed-more SaysEof acts e = e
-failed-more SaysClose acts e = e
+failed-more ReceivesEof acts e = e
+failed-more ReceivesClose acts e = e
+failed-more (SendsData bytes) acts e = e
+failed-more (SendsAdjust n) acts e = e
+failed-more SendsEof acts e = e
+failed-more SendsClose acts e = e
 failed-more Other acts e = e
 
-heard-more : (act : Act) (acts : List Act) → heard_close acts ≡ true → heard_close (act ∷ acts) ≡ true
+heard-more : (act : Act) (acts : List Act) → received_close acts ≡ true → received_close (act ∷ acts) ≡ true
 heard-more (Reads bytes) acts e = e
 heard-more Ends acts e = e
 heard-more (Takes n) acts e = e
@@ -72,15 +72,15 @@ heard-more Fails acts e = e
 heard-more Confirms acts e = e
 heard-more (Refuses reason) acts e = e
 heard-more (Delivers bytes) acts e = e
-heard-more HearsEof acts e = e
-heard-more HearsClose acts e = refl
-heard-more (SaysData bytes) acts e = e
-heard-more (SaysAdjust n) acts e = e
-heard-more SaysEof acts e = e
-heard-more SaysClose acts e = e
+heard-more ReceivesEof acts e = e
+heard-more ReceivesClose acts e = refl
+heard-more (SendsData bytes) acts e = e
+heard-more (SendsAdjust n) acts e = e
+heard-more SendsEof acts e = e
+heard-more SendsClose acts e = e
 heard-more Other acts e = e
 
-said-more : (act : Act) (acts : List Act) → said_close acts ≡ true → said_close (act ∷ acts) ≡ true
+said-more : (act : Act) (acts : List Act) → sent_close acts ≡ true → sent_close (act ∷ acts) ≡ true
 said-more (Reads bytes) acts e = e
 said-more Ends acts e = e
 said-more (Takes n) acts e = e
@@ -88,12 +88,12 @@ said-more Fails acts e = e
 said-more Confirms acts e = e
 said-more (Refuses reason) acts e = e
 said-more (Delivers bytes) acts e = e
-said-more HearsEof acts e = e
-said-more HearsClose acts e = e
-said-more (SaysData bytes) acts e = e
-said-more (SaysAdjust n) acts e = e
-said-more SaysEof acts e = e
-said-more SaysClose acts e = refl
+said-more ReceivesEof acts e = e
+said-more ReceivesClose acts e = e
+said-more (SendsData bytes) acts e = e
+said-more (SendsAdjust n) acts e = e
+said-more SendsEof acts e = e
+said-more SendsClose acts e = refl
 said-more Other acts e = e
 
 closed-more : (act : Act) (acts : List Act) → IsClosed acts → IsClosed (act ∷ acts)
@@ -125,7 +125,7 @@ over-reads dials bytes acts (inr (inr h)) =
     clash : Breaks h.reply ≡ Wants → ⊥
     clash e = cc
 
-abbrev OverRight : Line → Socket → Bool → List Act → Type 0
+abbrev OverRight : ChannelState → Socket → Bool → List Act → Type 0
 OverRight (Dialing dialog) s dials acts = Unit {0}
 OverRight (Asked host port version) s dials acts = Unit {0}
 OverRight (Opened version) s dials acts = Unit {0}
@@ -133,7 +133,7 @@ OverRight (Offered remote window maximum) s dials acts = Unit {0}
 OverRight (Live live) s dials acts = Unit {0}
 OverRight Over s dials acts = is_broken s ≡ false → OverBy dials acts
 
-right-more : (line : Line) (s : Socket) (dials : Bool) (act : Act) (acts : List Act) → answer (act ∷ acts) ≡ answer acts
+right-more : (line : ChannelState) (s : Socket) (dials : Bool) (act : Act) (acts : List Act) → answer (act ∷ acts) ≡ answer acts
     → read (act ∷ acts) ≡ read acts → OverRight line s dials acts → OverRight line s dials (act ∷ acts)
 right-more (Dialing dialog) s dials act acts e f h = tt
 right-more (Asked host port version) s dials act acts e f h = tt
@@ -142,7 +142,7 @@ right-more (Offered remote window maximum) s dials act acts e f h = tt
 right-more (Live live) s dials act acts e f h = tt
 right-more Over s dials act acts e f h = λ whole. over-more dials act acts e f (h whole)
 
-right-reads : (line : Line) (s : Socket) (dials : Bool) (bytes : List ℕ) (acts : List Act) → OverRight line s dials acts
+right-reads : (line : ChannelState) (s : Socket) (dials : Bool) (bytes : List ℕ) (acts : List Act) → OverRight line s dials acts
     → OverRight line s dials (Reads bytes ∷ acts)
 right-reads (Dialing dialog) s dials bytes acts h = tt
 right-reads (Asked host port version) s dials bytes acts h = tt
@@ -152,7 +152,7 @@ right-reads (Live live) s dials bytes acts h = tt
 right-reads Over s dials bytes acts h = λ whole. over-reads dials bytes acts (h whole)
 
 -- where another socket is no less broken
-right-socket : (line : Line) (s s' : Socket) (dials : Bool) (acts : List Act) → (is_broken s' ≡ false → is_broken s ≡ false)
+right-socket : (line : ChannelState) (s s' : Socket) (dials : Bool) (acts : List Act) → (is_broken s' ≡ false → is_broken s ≡ false)
     → OverRight line s dials acts → OverRight line s' dials acts
 right-socket (Dialing dialog) s s' dials acts f h = tt
 right-socket (Asked host port version) s s' dials acts f h = tt
@@ -168,10 +168,10 @@ if-either P true x y p q = p
 if-either P false x y p q = q
 
 -- what is said in a channel that is confirmed
-pub live-says : (P : Option Saying → Type 0) (r : Relay) (live : LiveState) → P None → P (Some saying.Close) → P (Some saying.Failure)
-    → ((n : ℕ) → P (Some (saying.Adjust n))) → ((n : ℕ) → P (Some (saying.Data n))) → P (Some saying.Eof) → P (says_live r live)
+pub live-says : (P : Option Outgoing → Type 0) (r : Relay) (live : LiveState) → P None → P (Some outgoing.Close) → P (Some outgoing.Failure)
+    → ((n : ℕ) → P (Some (outgoing.Adjust n))) → ((n : ℕ) → P (Some (outgoing.Data n))) → P (Some outgoing.Eof) → P (sends_live r live)
 live-says P r live none close failure adjust data-of eof =
-    if-either P live.close_said _ _ none
+    if-either P live.close_sent _ _ none
     (if-either P _ _ _ close
     (if-either P (nat_lt 0 live.failures) _ _ failure
     (if-either P (nat_lt 0 live.owed) _ _ (adjust _)
@@ -179,120 +179,120 @@ live-says P r live none close failure adjust data-of eof =
     (if-either P (nat_lt 0 (chunk r live)) _ _ (data-of _) none)
     (if-either P _ _ _ eof none)))))
 
-abbrev with-line : Line → Relay → Relay
+abbrev with-line : ChannelState → Relay → Relay
 with-line line r = record r { line = line }
 
-over-said : (b : Bool) (live : LiveState) (s : Socket) (dials : Bool) (acts : List Act) → b ≡ heard_close acts
-    → OverRight (over_if b live) s dials (SaysClose ∷ acts)
+over-said : (b : Bool) (live : LiveState) (s : Socket) (dials : Bool) (acts : List Act) → b ≡ received_close acts
+    → OverRight (over_if b live) s dials (SendsClose ∷ acts)
 over-said true live s dials acts e = λ whole. inl (record { heard = sym e; said = refl })
 over-said false live s dials acts e = tt
 
-says-offer : (s : Socket) (remote window maximum : ℕ) (r : Relay) (dials : Bool) (acts : List Act) → is_some (says_offered s) ≡ true
-    → OverRight (after_saying (says_offered s) (with-line (Offered remote window maximum) r)).line s dials
-    (act_of_saying (says_offered s) (with-line (Offered remote window maximum) r) ∷ acts)
+says-offer : (s : Socket) (remote window maximum : ℕ) (r : Relay) (dials : Bool) (acts : List Act) → is_some (sends_offered s) ≡ true
+    → OverRight (after_sending (sends_offered s) (with-line (Offered remote window maximum) r)).line s dials
+    (act_of_sending (sends_offered s) (with-line (Offered remote window maximum) r) ∷ acts)
 says-offer (socket.Open t) remote window maximum r dials acts e = tt
 says-offer socket.Unmade remote window maximum r dials acts e = cc
 says-offer (socket.Connecting t) remote window maximum r dials acts e = cc
 says-offer (socket.Failed t) remote window maximum r dials acts e = λ whole. cc
-says-offer (socket.Surplus t) remote window maximum r dials acts e = λ whole. cc
+says-offer (socket.NoChannelLeft t) remote window maximum r dials acts e = λ whole. cc
 says-offer socket.Closed remote window maximum r dials acts e = λ whole. cc
 
-says-right : (line : Line) (r : Relay) (dials : Bool) (acts : List Act) → is_some (says_of (with-line line r)) ≡ true
+says-right : (line : ChannelState) (r : Relay) (dials : Bool) (acts : List Act) → is_some (sends_of (with-line line r)) ≡ true
     → LineStands line dials acts
-    → OverRight (after_saying (says_of (with-line line r)) (with-line line r)).line r.socket dials
-    (act_of_saying (says_of (with-line line r)) (with-line line r) ∷ acts)
+    → OverRight (after_sending (sends_of (with-line line r)) (with-line line r)).line r.socket dials
+    (act_of_sending (sends_of (with-line line r)) (with-line line r) ∷ acts)
 says-right (Dialing dialog) r dials acts e stands = cc
 says-right (Asked host port version) r dials acts e stands = tt
 says-right (Opened version) r dials acts e stands = cc
 says-right (Offered remote window maximum) r dials acts e stands = says-offer r.socket remote window maximum r dials acts e
 says-right (Live live) r dials acts e stands =
-    live-says (λ (o : Option Saying). OverRight (after_saying o (with-line (Live live) r)).line r.socket dials
-    (act_of_saying o (with-line (Live live) r) ∷ acts))
-    (with-line (Live live) r) live tt (over-said live.close_heard _ r.socket dials acts stands.close_heard) tt (λ n. tt) (λ n. tt) tt
+    live-says (λ (o : Option Outgoing). OverRight (after_sending o (with-line (Live live) r)).line r.socket dials
+    (act_of_sending o (with-line (Live live) r) ∷ acts))
+    (with-line (Live live) r) live tt (over-said live.close_received _ r.socket dials acts stands.close_received) tt (λ n. tt) (λ n. tt) tt
 says-right Over r dials acts e stands = cc
 
 -- ---- what is heard
 
-over-heard : (b : Bool) (live : LiveState) (s : Socket) (dials : Bool) (acts : List Act) → b ≡ said_close acts
-    → OverRight (over_if b live) s dials (HearsClose ∷ acts)
+over-heard : (b : Bool) (live : LiveState) (s : Socket) (dials : Bool) (acts : List Act) → b ≡ sent_close acts
+    → OverRight (over_if b live) s dials (ReceivesClose ∷ acts)
 over-heard true live s dials acts e = λ whole. inl (record { heard = refl; said = sym e })
 over-heard false live s dials acts e = tt
 
-hears-live : (f : LiveState → LiveState) (act : Line → Act) (line : Line) (s : Socket) (dials : Bool) (acts : List Act) → act Over ≡ Other
+receives-live : (f : LiveState → LiveState) (act : ChannelState → Act) (line : ChannelState) (s : Socket) (dials : Bool) (acts : List Act) → act Over ≡ Other
     → OverRight line s dials acts → OverRight (in_live (λ live. Live (f live)) line) s dials (act line ∷ acts)
-hears-live f act (Dialing dialog) s dials acts e h = tt
-hears-live f act (Asked host port version) s dials acts e h = tt
-hears-live f act (Opened version) s dials acts e h = tt
-hears-live f act (Offered remote window maximum) s dials acts e h = tt
-hears-live f act (Live live) s dials acts e h = tt
-hears-live f act Over s dials acts e h =
+receives-live f act (Dialing dialog) s dials acts e h = tt
+receives-live f act (Asked host port version) s dials acts e h = tt
+receives-live f act (Opened version) s dials acts e h = tt
+receives-live f act (Offered remote window maximum) s dials acts e h = tt
+receives-live f act (Live live) s dials acts e h = tt
+receives-live f act Over s dials acts e h =
     subst (λ (a : Act). is_broken s ≡ false → OverBy dials (a ∷ acts)) (sym e) (λ whole. over-more dials Other acts refl refl (h whole))
 
-hears-answer : (line : Line) (remote window maximum : ℕ) (r : Relay) (dials : Bool) (acts : List Act) → OverRight line r.socket dials acts
+receives-answer : (line : ChannelState) (remote window maximum : ℕ) (r : Relay) (dials : Bool) (acts : List Act) → OverRight line r.socket dials acts
     → OverRight (confirmed_in line remote window maximum (with-line line r)).line r.socket dials (answered_in line Confirms ∷ acts)
-hears-answer (Dialing dialog) remote window maximum r dials acts h = tt
-hears-answer (Asked host port version) remote window maximum r dials acts h = tt
-hears-answer (Opened version) remote window maximum r dials acts h = tt
-hears-answer (Offered theirs room most) remote window maximum r dials acts h = tt
-hears-answer (Live live) remote window maximum r dials acts h = tt
-hears-answer Over remote window maximum r dials acts h = λ whole. over-more dials Other acts refl refl (h whole)
+receives-answer (Dialing dialog) remote window maximum r dials acts h = tt
+receives-answer (Asked host port version) remote window maximum r dials acts h = tt
+receives-answer (Opened version) remote window maximum r dials acts h = tt
+receives-answer (Offered theirs room most) remote window maximum r dials acts h = tt
+receives-answer (Live live) remote window maximum r dials acts h = tt
+receives-answer Over remote window maximum r dials acts h = λ whole. over-more dials Other acts refl refl (h whole)
 
-hears-refusal : (line : Line) (reason : ℕ) (r : Relay) (dials : Bool) (acts : List Act) → OverRight line r.socket dials acts
+receives-refusal : (line : ChannelState) (reason : ℕ) (r : Relay) (dials : Bool) (acts : List Act) → OverRight line r.socket dials acts
     → OverRight (refused_in line reason (with-line line r)).line r.socket dials (answered_in line (Refuses reason) ∷ acts)
-hears-refusal (Dialing dialog) reason r dials acts h = tt
-hears-refusal (Asked host port version) reason r dials acts h = tt
-hears-refusal (Opened version) reason r dials acts h = λ whole. inr (inl (reason, refl))
-hears-refusal (Offered theirs room most) reason r dials acts h = tt
-hears-refusal (Live live) reason r dials acts h = tt
-hears-refusal Over reason r dials acts h = λ whole. over-more dials Other acts refl refl (h whole)
+receives-refusal (Dialing dialog) reason r dials acts h = tt
+receives-refusal (Asked host port version) reason r dials acts h = tt
+receives-refusal (Opened version) reason r dials acts h = λ whole. inr (inl (reason, refl))
+receives-refusal (Offered theirs room most) reason r dials acts h = tt
+receives-refusal (Live live) reason r dials acts h = tt
+receives-refusal Over reason r dials acts h = λ whole. over-more dials Other acts refl refl (h whole)
 
-hears-data : (line : Line) (bytes : List ℕ) (r : Relay) (dials : Bool) (acts : List Act) → OverRight line r.socket dials acts
+receives-data : (line : ChannelState) (bytes : List ℕ) (r : Relay) (dials : Bool) (acts : List Act) → OverRight line r.socket dials acts
     → OverRight line r.socket dials ((if delivers (with-line line r) then Delivers bytes else Other) ∷ acts)
-hears-data (Dialing dialog) bytes r dials acts h = tt
-hears-data (Asked host port version) bytes r dials acts h = tt
-hears-data (Opened version) bytes r dials acts h = tt
-hears-data (Offered theirs room most) bytes r dials acts h = tt
-hears-data (Live live) bytes r dials acts h = tt
-hears-data Over bytes r dials acts h = λ whole. over-more dials Other acts refl refl (h whole)
+receives-data (Dialing dialog) bytes r dials acts h = tt
+receives-data (Asked host port version) bytes r dials acts h = tt
+receives-data (Opened version) bytes r dials acts h = tt
+receives-data (Offered theirs room most) bytes r dials acts h = tt
+receives-data (Live live) bytes r dials acts h = tt
+receives-data Over bytes r dials acts h = λ whole. over-more dials Other acts refl refl (h whole)
 
-hears-end : (line : Line) (s : Socket) (dials : Bool) (acts : List Act) → LineStands line dials acts → OverRight line s dials acts
-    → OverRight (in_live hears_close line) s dials (heard_in line HearsClose ∷ acts)
-hears-end (Dialing dialog) s dials acts stands h = tt
-hears-end (Asked host port version) s dials acts stands h = tt
-hears-end (Opened version) s dials acts stands h = tt
-hears-end (Offered remote window maximum) s dials acts stands h = tt
-hears-end (Live live) s dials acts stands h = over-heard live.close_said _ s dials acts stands.close_said
-hears-end Over s dials acts stands h = λ whole. over-more dials Other acts refl refl (h whole)
+receives-end : (line : ChannelState) (s : Socket) (dials : Bool) (acts : List Act) → LineStands line dials acts → OverRight line s dials acts
+    → OverRight (in_live receives_close line) s dials (received_in line ReceivesClose ∷ acts)
+receives-end (Dialing dialog) s dials acts stands h = tt
+receives-end (Asked host port version) s dials acts stands h = tt
+receives-end (Opened version) s dials acts stands h = tt
+receives-end (Offered remote window maximum) s dials acts stands h = tt
+receives-end (Live live) s dials acts stands h = over-heard live.close_sent _ s dials acts stands.close_sent
+receives-end Over s dials acts stands h = λ whole. over-more dials Other acts refl refl (h whole)
 
-hears-other : (line : Line) (s : Socket) (dials : Bool) (acts : List Act) → OverRight line s dials acts
+receives-other : (line : ChannelState) (s : Socket) (dials : Bool) (acts : List Act) → OverRight line s dials acts
     → OverRight line s dials (Other ∷ acts)
-hears-other line s dials acts h = right-more line s dials Other acts refl refl h
+receives-other line s dials acts h = right-more line s dials Other acts refl refl h
 
-hears-right : (m : Message) (r : Relay) (dials : Bool) (acts : List Act) → LineStands r.line dials acts
-    → OverRight r.line r.socket dials acts → OverRight (heard_of m r).line r.socket dials (act_heard m r ∷ acts)
-hears-right (message.Transport number rest) r dials acts s h = hears-other r.line r.socket dials acts h
-hears-right (message.GlobalRequest name want rest what) r dials acts s h = hears-other r.line r.socket dials acts h
-hears-right (message.RequestSuccess rest) r dials acts s h = hears-other r.line r.socket dials acts h
-hears-right message.RequestFailure r dials acts s h = hears-other r.line r.socket dials acts h
-hears-right (message.Open kind sender window maximum rest what) r dials acts s h = hears-other r.line r.socket dials acts h
-hears-right (message.Confirmation recipient sender window maximum rest) r dials acts s h =
-    hears-answer r.line sender window maximum r dials acts h
-hears-right (message.OpenFailure recipient reason text language) r dials acts s h = hears-refusal r.line reason r dials acts h
-hears-right (message.Adjust recipient add) r dials acts s h =
-    hears-live _ (λ line. Other) r.line r.socket dials acts refl h
-hears-right (message.Data recipient bytes) r dials acts s h =
-    subst (λ (line : Line). OverRight line r.socket dials ((if delivers r then Delivers bytes.now else Other) ∷ acts))
-    (sym (data-same (delivers r) bytes.now r)) (hears-data r.line bytes.now r dials acts h)
-hears-right (message.Extended recipient code bytes) r dials acts s h = hears-other r.line r.socket dials acts h
-hears-right (message.Eof recipient) r dials acts s h =
-    hears-live _ (λ line. heard_in line HearsEof) r.line r.socket dials acts refl h
-hears-right (message.Close recipient) r dials acts s h = hears-end r.line r.socket dials acts s h
-hears-right (message.Request recipient kind want rest) r dials acts s h =
-    hears-live _ (λ line. Other) r.line r.socket dials acts refl h
-hears-right (message.Success recipient) r dials acts s h = hears-other r.line r.socket dials acts h
-hears-right (message.Failure recipient) r dials acts s h = hears-other r.line r.socket dials acts h
+receives-right : (m : Message) (r : Relay) (dials : Bool) (acts : List Act) → LineStands r.line dials acts
+    → OverRight r.line r.socket dials acts → OverRight (received_of m r).line r.socket dials (act_received m r ∷ acts)
+receives-right (message.Transport number rest) r dials acts s h = receives-other r.line r.socket dials acts h
+receives-right (message.GlobalRequest name want rest what) r dials acts s h = receives-other r.line r.socket dials acts h
+receives-right (message.RequestSuccess rest) r dials acts s h = receives-other r.line r.socket dials acts h
+receives-right message.RequestFailure r dials acts s h = receives-other r.line r.socket dials acts h
+receives-right (message.Open kind sender window maximum rest what) r dials acts s h = receives-other r.line r.socket dials acts h
+receives-right (message.Confirmation recipient sender window maximum rest) r dials acts s h =
+    receives-answer r.line sender window maximum r dials acts h
+receives-right (message.OpenFailure recipient reason text language) r dials acts s h = receives-refusal r.line reason r dials acts h
+receives-right (message.Adjust recipient add) r dials acts s h =
+    receives-live _ (λ line. Other) r.line r.socket dials acts refl h
+receives-right (message.Data recipient bytes) r dials acts s h =
+    subst (λ (line : ChannelState). OverRight line r.socket dials ((if delivers r then Delivers bytes.now else Other) ∷ acts))
+    (sym (data-same (delivers r) bytes.now r)) (receives-data r.line bytes.now r dials acts h)
+receives-right (message.Extended recipient code bytes) r dials acts s h = receives-other r.line r.socket dials acts h
+receives-right (message.Eof recipient) r dials acts s h =
+    receives-live _ (λ line. received_in line ReceivesEof) r.line r.socket dials acts refl h
+receives-right (message.Close recipient) r dials acts s h = receives-end r.line r.socket dials acts s h
+receives-right (message.Request recipient kind want rest) r dials acts s h =
+    receives-live _ (λ line. Other) r.line r.socket dials acts refl h
+receives-right (message.Success recipient) r dials acts s h = receives-other r.line r.socket dials acts h
+receives-right (message.Failure recipient) r dials acts s h = receives-other r.line r.socket dials acts h
 
-takes-right : (n : ℕ) (line : Line) (s : Socket) (dials : Bool) (acts : List Act) → OverRight line s dials acts
+takes-right : (n : ℕ) (line : ChannelState) (s : Socket) (dials : Bool) (acts : List Act) → OverRight line s dials acts
     → OverRight (takes_in n line) s dials (Takes n ∷ acts)
 takes-right n (Dialing dialog) s dials acts h = tt
 takes-right n (Asked host port version) s dials acts h = tt
@@ -308,7 +308,7 @@ Cause calls own acts socket.Unmade = Unit {0}
 Cause calls own acts (socket.Connecting t) = Unit {0}
 Cause calls own acts (socket.Open t) = Unit {0}
 Cause calls own acts (socket.Failed t) = has_failed acts ≡ true
-Cause calls own acts (socket.Surplus t) = HasNoChannel calls own
+Cause calls own acts (socket.NoChannelLeft t) = HasNoChannel calls own
 Cause calls own acts socket.Closed = Unit {0}
 
 cause-more : (calls : List HouseCall) (own : Option OwnStream) (act : Act) (acts : List Act) (s : Socket) → Cause calls own acts s
@@ -317,14 +317,14 @@ cause-more calls own act acts socket.Unmade h = tt
 cause-more calls own act acts (socket.Connecting t) h = tt
 cause-more calls own act acts (socket.Open t) h = tt
 cause-more calls own act acts (socket.Failed t) h = failed-more act acts h
-cause-more calls own act acts (socket.Surplus t) h = h
+cause-more calls own act acts (socket.NoChannelLeft t) h = h
 cause-more calls own act acts socket.Closed h = tt
 
-none-after : (calls : List HouseCall) (s : Step) (own : Option OwnStream) → HasNoChannel calls own → HasNoChannel calls (own_after s own)
+none-after : (calls : List HouseCall) (s : LinkStep) (own : Option OwnStream) → HasNoChannel calls own → HasNoChannel calls (own_after s own)
 none-after calls s own (inl h) = inl (record {
   listener = h.listener;
   stream = h.stream;
-  course = h.course;
+  trace = h.trace;
   joined = h.joined;
   its = its-after s own h.stream h.its;
   cause = h.cause;
@@ -332,19 +332,19 @@ none-after calls s own (inl h) = inl (record {
 none-after calls s own (inr h) = inr (record {
   stream = h.stream;
   bytes = h.bytes;
-  course = h.course;
+  trace = h.trace;
   gave = h.gave;
   its = its-after s own h.stream h.its;
   cause = h.cause;
 })
 
-cause-own : (calls : List HouseCall) (s : Step) (own : Option OwnStream) (act : Act) (acts : List Act) (k : Socket) → Cause calls own acts k
+cause-own : (calls : List HouseCall) (s : LinkStep) (own : Option OwnStream) (act : Act) (acts : List Act) (k : Socket) → Cause calls own acts k
     → Cause calls (own_after s own) (act ∷ acts) k
 cause-own calls s own act acts socket.Unmade h = tt
 cause-own calls s own act acts (socket.Connecting t) h = tt
 cause-own calls s own act acts (socket.Open t) h = tt
 cause-own calls s own act acts (socket.Failed t) h = failed-more act acts h
-cause-own calls s own act acts (socket.Surplus t) h = none-after calls s own h
+cause-own calls s own act acts (socket.NoChannelLeft t) h = none-after calls s own h
 cause-own calls s own act acts socket.Closed h = tt
 
 cause-connected : (calls : List HouseCall) (own : Option OwnStream) (acts : List Act) (k : Socket) → Cause calls own acts k
@@ -353,7 +353,7 @@ cause-connected calls own acts socket.Unmade h = tt
 cause-connected calls own acts (socket.Connecting t) h = tt
 cause-connected calls own acts (socket.Open t) h = tt
 cause-connected calls own acts (socket.Failed t) h = h
-cause-connected calls own acts (socket.Surplus t) h = h
+cause-connected calls own acts (socket.NoChannelLeft t) h = h
 cause-connected calls own acts socket.Closed h = tt
 
 cause-failing : (calls : List HouseCall) (own : Option OwnStream) (acts : List Act) (k : Socket) → has_failed acts ≡ true
@@ -362,10 +362,10 @@ cause-failing calls own acts socket.Unmade h = tt
 cause-failing calls own acts (socket.Connecting t) h = h
 cause-failing calls own acts (socket.Open t) h = h
 cause-failing calls own acts (socket.Failed t) h = h
-cause-failing calls own acts (socket.Surplus t) h = h
+cause-failing calls own acts (socket.NoChannelLeft t) h = h
 cause-failing calls own acts socket.Closed h = tt
 
-cause-step : (calls : List HouseCall) (s : Step) (own : Option OwnStream) (acts : List Act) (r : Relay) → Cause calls own acts r.socket
+cause-step : (calls : List HouseCall) (s : LinkStep) (own : Option OwnStream) (acts : List Act) (r : Relay) → Cause calls own acts r.socket
     → Cause calls (own_after s own) (act_of s ∷ acts) (relay_after s r).socket
 cause-step calls (step.Pause b) own acts r h = cause-own calls (step.Pause b) own Other acts r.socket h
 cause-step calls step.Finish own acts r h = cause-own calls step.Finish own Other acts r.socket h
@@ -380,7 +380,7 @@ whole-connected socket.Unmade e = refl
 whole-connected (socket.Connecting t) e = refl
 whole-connected (socket.Open t) e = refl
 whole-connected (socket.Failed t) e = e
-whole-connected (socket.Surplus t) e = e
+whole-connected (socket.NoChannelLeft t) e = e
 whole-connected socket.Closed e = e
 
 whole-failing : (s : Socket) → is_broken (failing s) ≡ false → is_broken s ≡ false
@@ -388,10 +388,10 @@ whole-failing socket.Unmade e = refl
 whole-failing (socket.Connecting t) e = refl
 whole-failing (socket.Open t) e = refl
 whole-failing (socket.Failed t) e = e
-whole-failing (socket.Surplus t) e = e
+whole-failing (socket.NoChannelLeft t) e = e
 whole-failing socket.Closed e = e
 
-whole-step : (s : Step) (r : Relay) → is_broken (relay_after s r).socket ≡ false → is_broken r.socket ≡ false
+whole-step : (s : LinkStep) (r : Relay) → is_broken (relay_after s r).socket ≡ false → is_broken r.socket ≡ false
 whole-step (step.Pause b) r e = e
 whole-step step.Finish r e = e
 whole-step step.End r e = e
@@ -399,7 +399,7 @@ whole-step step.Close r e = cc
 whole-step step.Writable r e = whole-connected r.socket e
 whole-step step.Failed r e = whole-failing r.socket e
 
-act-answer : (s : Step) (acts : List Act) → answer (act_of s ∷ acts) ≡ answer acts
+act-answer : (s : LinkStep) (acts : List Act) → answer (act_of s ∷ acts) ≡ answer acts
 act-answer (step.Pause b) acts = refl
 act-answer step.Finish acts = refl
 act-answer step.End acts = refl
@@ -407,7 +407,7 @@ act-answer step.Close acts = refl
 act-answer step.Writable acts = refl
 act-answer step.Failed acts = refl
 
-act-read : (s : Step) (acts : List Act) → read (act_of s ∷ acts) ≡ read acts
+act-read : (s : LinkStep) (acts : List Act) → read (act_of s ∷ acts) ≡ read acts
 act-read (step.Pause b) acts = refl
 act-read step.Finish acts = refl
 act-read step.End acts = refl
@@ -437,7 +437,7 @@ caused-on calls so act a b h same over broken = record {
 
 -- ---- its socket gives bytes
 
-dialing-right : (line : Line) (s : Socket) (dials : Bool) (acts : List Act) → IsToDial line → OverRight line s dials acts
+dialing-right : (line : ChannelState) (s : Socket) (dials : Bool) (acts : List Act) → IsToDial line → OverRight line s dials acts
 dialing-right (Dialing dialog) s dials acts h = tt
 dialing-right (Asked host port version) s dials acts h = absurd h
 dialing-right (Opened version) s dials acts h = absurd h
@@ -445,7 +445,7 @@ dialing-right (Offered remote window maximum) s dials acts h = absurd h
 dialing-right (Live live) s dials acts h = absurd h
 dialing-right Over s dials acts h = absurd h
 
-asked-right : (host : List ℕ) (port : ℕ) (line : Line) (s : Socket) (dials : Bool) (acts : List Act) → IsAskedFor host port line
+asked-right : (host : List ℕ) (port : ℕ) (line : ChannelState) (s : Socket) (dials : Bool) (acts : List Act) → IsAskedFor host port line
     → OverRight line s dials acts
 asked-right host port (Dialing dialog) s dials acts h = absurd h
 asked-right host port (Asked host' port' version) s dials acts h = tt
@@ -454,22 +454,22 @@ asked-right host port (Offered remote window maximum) s dials acts h = absurd h
 asked-right host port (Live live) s dials acts h = absurd h
 asked-right host port Over s dials acts h = absurd h
 
-surplus-broken : (s : Socket) (n : ℕ) → stream_of s ≡ Some n → is_broken (surplus_of s) ≡ true
-surplus-broken (socket.Connecting t) n e = refl
-surplus-broken (socket.Open t) n e = refl
-surplus-broken socket.Unmade n e = cc
-surplus-broken (socket.Failed t) n e = refl
-surplus-broken (socket.Surplus t) n e = refl
-surplus-broken socket.Closed n e = cc
+no_channel_left-broken : (s : Socket) (n : ℕ) → stream_of s ≡ Some n → is_broken (no_channel_left_of s) ≡ true
+no_channel_left-broken (socket.Connecting t) n e = refl
+no_channel_left-broken (socket.Open t) n e = refl
+no_channel_left-broken socket.Unmade n e = cc
+no_channel_left-broken (socket.Failed t) n e = refl
+no_channel_left-broken (socket.NoChannelLeft t) n e = refl
+no_channel_left-broken socket.Closed n e = cc
 
-surplus-cause : (calls : List HouseCall) (own : Option OwnStream) (acts : List Act) (s : Socket) → HasNoChannel calls own
-    → Cause calls own acts (surplus_of s)
-surplus-cause calls own acts (socket.Connecting t) h = h
-surplus-cause calls own acts (socket.Open t) h = h
-surplus-cause calls own acts socket.Unmade h = tt
-surplus-cause calls own acts (socket.Failed t) h = h
-surplus-cause calls own acts (socket.Surplus t) h = h
-surplus-cause calls own acts socket.Closed h = tt
+no_channel_left-cause : (calls : List HouseCall) (own : Option OwnStream) (acts : List Act) (s : Socket) → HasNoChannel calls own
+    → Cause calls own acts (no_channel_left_of s)
+no_channel_left-cause calls own acts (socket.Connecting t) h = h
+no_channel_left-cause calls own acts (socket.Open t) h = h
+no_channel_left-cause calls own acts socket.Unmade h = tt
+no_channel_left-cause calls own acts (socket.Failed t) h = h
+no_channel_left-cause calls own acts (socket.NoChannelLeft t) h = h
+no_channel_left-cause calls own acts socket.Closed h = tt
 
 streamed : (t : ℕ) (own : Option OwnStream) (s : Socket) → is_stream t own ≡ true → stream_of s ≡ number_of own
     → (n : ℕ) × (stream_of s ≡ Some n)
@@ -481,8 +481,8 @@ its-stream t None is = tt
 its-stream t (Some own) is = eqb-true own.number t is
 
 -- what a dialog comes to
-comes-right : (calls : List HouseCall) (t : ℕ) (bytes : List ℕ) (old : Course) → IsBefore calls (Turns (Got t bytes)) old → (a b : Life)
-    → Sound a → Caused calls a → has_stream t a ≡ true → (o : Outcome) (free : Bool) → free ≡ not (are_full old.lives)
+comes-right : (calls : List HouseCall) (t : ℕ) (bytes : List ℕ) (old : Trace) → IsBefore calls (Turns (Got t bytes)) old → (a b : Life)
+    → Sound a → Caused calls a → has_stream t a ≡ true → (o : Outcome) (free : Bool) → free ≡ not (are_full old.relay_traces)
     → outcome_in (read a.acts ++ bytes) ≡ o → ComesOf o free a.relay b.relay → a.dials ≡ true
     → Cause calls a.own (Reads bytes ∷ a.acts) b.relay.socket × OverRight b.relay.line b.relay.socket a.dials (Reads bytes ∷ a.acts)
 comes-right calls t bytes old before a b s p is Wants free f e h d = (
@@ -498,14 +498,14 @@ comes-right calls t bytes old before a b s p is (Connects host port) false f e h
     let none : HasNoChannel calls a.own = inr (record {
       stream = t;
       bytes = bytes;
-      course = old;
+      trace = old;
       gave = before;
       its = its-stream t a.own is;
-      cause = full (are_full old.lives) f;
+      cause = full (are_full old.relay_traces) f;
     }) in (
-      subst (Cause calls a.own (Reads bytes ∷ a.acts)) (sym h.1) (surplus-cause calls a.own (Reads bytes ∷ a.acts) a.relay.socket none),
-      subst (λ (line : Line). OverRight line b.relay.socket a.dials (Reads bytes ∷ a.acts)) (sym h.0)
-          (λ whole. absurd (both_ways (is_broken b.relay.socket) whole (ap is_broken h.1 ∙ surplus-broken a.relay.socket its.0 its.1))),
+      subst (Cause calls a.own (Reads bytes ∷ a.acts)) (sym h.1) (no_channel_left-cause calls a.own (Reads bytes ∷ a.acts) a.relay.socket none),
+      subst (λ (line : ChannelState). OverRight line b.relay.socket a.dials (Reads bytes ∷ a.acts)) (sym h.0)
+          (λ whole. absurd (both_ways (is_broken b.relay.socket) whole (ap is_broken h.1 ∙ no_channel_left-broken a.relay.socket its.0 its.1))),
     )
   where
     full : (b : Bool) → false ≡ not b → b ≡ true
@@ -513,7 +513,7 @@ comes-right calls t bytes old before a b s p is (Connects host port) false f e h
     full false e = cc
 comes-right calls t bytes old before a b s p is (Breaks reply) free f e h d = (
   subst (Cause calls a.own (Reads bytes ∷ a.acts)) (sym h.1) (cause-more calls a.own (Reads bytes) a.acts a.relay.socket p.broken),
-  subst (λ (line : Line). OverRight line b.relay.socket a.dials (Reads bytes ∷ a.acts)) (sym h.0)
+  subst (λ (line : ChannelState). OverRight line b.relay.socket a.dials (Reads bytes ∷ a.acts)) (sym h.0)
       (λ whole. inr (inr (record { dialed = d; reply = reply; breaks = e }))),
 )
 
@@ -523,20 +523,20 @@ same-gets : (calls : List HouseCall) (bytes : List ℕ) (a b : Life) → Caused 
 same-gets calls bytes a b p e f = (
   subst (Cause calls a.own (Reads bytes ∷ a.acts)) (sym f) (cause-more calls a.own (Reads bytes) a.acts a.relay.socket p.broken),
   subst (λ (s : Socket). OverRight b.relay.line s a.dials (Reads bytes ∷ a.acts)) (sym f)
-      (subst (λ (line : Line). OverRight line a.relay.socket a.dials (Reads bytes ∷ a.acts)) (sym e)
+      (subst (λ (line : ChannelState). OverRight line a.relay.socket a.dials (Reads bytes ∷ a.acts)) (sym e)
       (right-reads a.relay.line a.relay.socket a.dials bytes a.acts p.over)),
 )
 
-gets-right : (calls : List HouseCall) (t : ℕ) (bytes : List ℕ) (old : Course) → IsBefore calls (Turns (Got t bytes)) old → (a b : Life)
-    → Sound a → Caused calls a → has_stream t a ≡ true → (line : Line) → a.relay.line ≡ line
-    → DialsIn line (not (are_full old.lives)) bytes a.relay b.relay
+gets-right : (calls : List HouseCall) (t : ℕ) (bytes : List ℕ) (old : Trace) → IsBefore calls (Turns (Got t bytes)) old → (a b : Life)
+    → Sound a → Caused calls a → has_stream t a ≡ true → (line : ChannelState) → a.relay.line ≡ line
+    → DialsIn line (not (are_full old.relay_traces)) bytes a.relay b.relay
     → Cause calls a.own (Reads bytes ∷ a.acts) b.relay.socket × OverRight b.relay.line b.relay.socket a.dials (Reads bytes ∷ a.acts)
 gets-right calls t bytes old before a b s p is (Dialing dialog) e h =
-    let its : IsDialing dialog a.dials a.acts = subst (λ (x : Line). LineStands x a.dials a.acts) e s.stands.line in
-    let comes : ComesOf (outcome_in (read a.acts ++ bytes)) (not (are_full old.lives)) a.relay b.relay =
-    subst (λ (bs : List ℕ). ComesOf (outcome_in (bs ++ bytes)) (not (are_full old.lives)) a.relay b.relay) its.bytes
+    let its : IsDialing dialog a.dials a.acts = subst (λ (x : ChannelState). LineStands x a.dials a.acts) e s.stands.line in
+    let comes : ComesOf (outcome_in (read a.acts ++ bytes)) (not (are_full old.relay_traces)) a.relay b.relay =
+    subst (λ (bs : List ℕ). ComesOf (outcome_in (bs ++ bytes)) (not (are_full old.relay_traces)) a.relay b.relay) its.bytes
     (h (is-reading a.dials a.acts a.relay s.stands dialog e)) in
-    comes-right calls t bytes old before a b s p is (outcome_in (read a.acts ++ bytes)) (not (are_full old.lives)) refl refl comes its.socks
+    comes-right calls t bytes old before a b s p is (outcome_in (read a.acts ++ bytes)) (not (are_full old.relay_traces)) refl refl comes its.socks
 gets-right calls t bytes old before a b s p is (Asked host port version) e h = same-gets calls bytes a b p h.0 h.1
 gets-right calls t bytes old before a b s p is (Opened version) e h = same-gets calls bytes a b p h.0 h.1
 gets-right calls t bytes old before a b s p is (Offered remote window maximum) e h = same-gets calls bytes a b p h.0 h.1
@@ -545,9 +545,9 @@ gets-right calls t bytes old before a b s p is Over e h = same-gets calls bytes 
 
 -- ---- one is joined
 
-surplus-caused : (calls : List HouseCall) (joins t : ℕ) (r : Relay) → IsSurplus t r → HasNoChannel calls (Some (new_stream t))
+no_channel_left-caused : (calls : List HouseCall) (joins t : ℕ) (r : Relay) → HasNoChannelLeft t r → HasNoChannel calls (Some (new_stream t))
     → Caused calls (joined_life joins t r)
-surplus-caused calls joins t r e none = record {
+no_channel_left-caused calls joins t r e none = record {
   broken = subst (λ (x : Relay). Cause calls (Some (new_stream t)) [] x.socket) (sym e) none;
   over = subst (λ (x : Relay). OverRight x.line x.socket (joined_life joins t r).dials []) (sym e) (λ whole. cc);
 }
@@ -559,29 +559,29 @@ asked-caused calls joins t r host port e = record {
   over = subst (λ (x : Relay). OverRight x.line x.socket (joined_life joins t r).dials []) (sym e) tt;
 }
 
-dialed-caused : (calls : List HouseCall) (joins t : ℕ) (r : Relay) (crowded : Bool) → (crowded ≡ true → HasNoChannel calls (Some (new_stream t)))
-    → IsDialed crowded t r → Caused calls (joined_life joins t r)
-dialed-caused calls joins t r true none h = surplus-caused calls joins t r h (none refl)
+dialed-caused : (calls : List HouseCall) (joins t : ℕ) (r : Relay) (dialogs_full : Bool) → (dialogs_full ≡ true → HasNoChannel calls (Some (new_stream t)))
+    → IsDialed dialogs_full t r → Caused calls (joined_life joins t r)
+dialed-caused calls joins t r true none h = no_channel_left-caused calls joins t r h (none refl)
 dialed-caused calls joins t r false none h = record {
   broken = subst (λ (x : Relay). Cause calls (Some (new_stream t)) [] x.socket) (sym h) tt;
   over = subst (λ (x : Relay). OverRight x.line x.socket (joined_life joins t r).dials []) (sym h) tt;
 }
 
-joined-at : (calls : List HouseCall) (joins t : ℕ) (r : Relay) (f : Forwarding) (kind : Kind) (crowded : Bool)
-    → (crowded ≡ true → HasNoChannel calls (Some (new_stream t))) → IsJoinedAt kind crowded f t r → Caused calls (joined_life joins t r)
-joined-at calls joins t r f Local crowded none h = asked-caused calls joins t r f.connect_host f.connect_port h
-joined-at calls joins t r f Remote crowded none h = asked-caused calls joins t r f.connect_host f.connect_port h
-joined-at calls joins t r f Dynamic crowded none h = dialed-caused calls joins t r crowded none h
+joined-at : (calls : List HouseCall) (joins t : ℕ) (r : Relay) (f : Forwarding) (kind : Kind) (dialogs_full : Bool)
+    → (dialogs_full ≡ true → HasNoChannel calls (Some (new_stream t))) → IsJoinedAt kind dialogs_full f t r → Caused calls (joined_life joins t r)
+joined-at calls joins t r f Local dialogs_full none h = asked-caused calls joins t r f.connect_host f.connect_port h
+joined-at calls joins t r f Remote dialogs_full none h = asked-caused calls joins t r f.connect_host f.connect_port h
+joined-at calls joins t r f Dynamic dialogs_full none h = dialed-caused calls joins t r dialogs_full none h
 
-joined-caused : (calls : List HouseCall) (joins l t : ℕ) (course : Course) → IsBefore calls (Turns (Joined l t)) course
-    → (full crowded : Bool) (o : Option Forwarding) → are_full course.lives ≡ full → are_crowded course.lives ≡ crowded
-    → find (has_listener l) course.desk.all ≡ o → (r : Relay) → IsJoined full crowded o t r → Caused calls (joined_life joins t r)
-joined-caused calls joins l t course before true crowded o e f g r h = surplus-caused calls joins t r h
-    (inl (record { listener = l; stream = t; course = course; joined = before; its = refl; cause = inl e }))
-joined-caused calls joins l t course before false crowded None e f g r h = surplus-caused calls joins t r h
-    (inl (record { listener = l; stream = t; course = course; joined = before; its = refl; cause = inr (inr g) }))
-joined-caused calls joins l t course before false crowded (Some x) e f g r h = joined-at calls joins t r x x.kind crowded
-    (λ is. inl (record { listener = l; stream = t; course = course; joined = before; its = refl; cause = inr (inl (f ∙ is)) })) h
+joined-caused : (calls : List HouseCall) (joins l t : ℕ) (trace : Trace) → IsBefore calls (Turns (Joined l t)) trace
+    → (full dialogs_full : Bool) (o : Option Forwarding) → are_full trace.relay_traces ≡ full → are_dialogs_full trace.relay_traces ≡ dialogs_full
+    → find (has_listener l) trace.forwarding_state.all ≡ o → (r : Relay) → IsJoined full dialogs_full o t r → Caused calls (joined_life joins t r)
+joined-caused calls joins l t trace before true dialogs_full o e f g r h = no_channel_left-caused calls joins t r h
+    (inl (record { listener = l; stream = t; trace = trace; joined = before; its = refl; cause = inl e }))
+joined-caused calls joins l t trace before false dialogs_full None e f g r h = no_channel_left-caused calls joins t r h
+    (inl (record { listener = l; stream = t; trace = trace; joined = before; its = refl; cause = inr (inr g) }))
+joined-caused calls joins l t trace before false dialogs_full (Some x) e f g r h = joined-at calls joins t r x x.kind dialogs_full
+    (λ is. inl (record { listener = l; stream = t; trace = trace; joined = before; its = refl; cause = inr (inl (f ∙ is)) })) h
 
 -- ---- all steps
 
@@ -594,20 +594,20 @@ unmade-whole socket.Unmade e = refl
 unmade-whole (socket.Connecting t) e = cc
 unmade-whole (socket.Open t) e = cc
 unmade-whole (socket.Failed t) e = cc
-unmade-whole (socket.Surplus t) e = cc
+unmade-whole (socket.NoChannelLeft t) e = cc
 unmade-whole socket.Closed e = cc
 
 caused : (calls : List HouseCall) → KeptSound (IsBefore calls) (Caused calls)
 caused calls = record {
   says = λ bytes a b s p is h. caused-on calls _ _ a b h.1
-      (ap (λ (r : Relay). r.socket) h.1.relay.0 ∙ (stays-after (says_of a.relay) a.relay).socket_is)
-      (subst (λ (r : Relay). OverRight r.line a.relay.socket a.dials (act_of_saying (says_of a.relay) a.relay ∷ a.acts)) (sym h.1.relay.0)
+      (ap (λ (r : Relay). r.socket) h.1.relay.0 ∙ (stays-after (sends_of a.relay) a.relay).socket_is)
+      (subst (λ (r : Relay). OverRight r.line a.relay.socket a.dials (act_of_sending (sends_of a.relay) a.relay ∷ a.acts)) (sym h.1.relay.0)
       (says-right a.relay.line a.relay a.dials a.acts is s.stands.line))
       p.broken;
-  hears = λ m a b s p h. caused-on calls _ _ a b h
+  receives = λ m a b s p h. caused-on calls _ _ a b h
       (ap (λ (r : Relay). r.socket) h.relay.0 ∙ (stays-heard m a.relay).socket_is)
-      (subst (λ (r : Relay). OverRight r.line a.relay.socket a.dials (act_heard m a.relay ∷ a.acts)) (sym h.relay.0)
-      (hears-right m a.relay a.dials a.acts s.stands.line p.over))
+      (subst (λ (r : Relay). OverRight r.line a.relay.socket a.dials (act_received m a.relay ∷ a.acts)) (sym h.relay.0)
+      (receives-right m a.relay a.dials a.acts s.stands.line p.over))
       p.broken;
   gets = λ t bytes old now a b s s' p is h. (
       let its = gets-right calls t bytes old now a b s p is a.relay.line refl h.relay.0 in
@@ -624,25 +624,25 @@ caused calls = record {
       p.broken;
   steps = λ s t call old now causes a sounds p is. record {
     broken = cause-step calls s a.own a.acts a.relay p.broken;
-    over = subst (λ (line : Line). OverRight line (relay_after s a.relay).socket a.dials (act_of s ∷ a.acts)) (sym (line-step s a.relay))
+    over = subst (λ (line : ChannelState). OverRight line (relay_after s a.relay).socket a.dials (act_of s ∷ a.acts)) (sym (line-step s a.relay))
         (right-socket a.relay.line a.relay.socket (relay_after s a.relay).socket a.dials (act_of s ∷ a.acts) (whole-step s a.relay)
         (right-more a.relay.line a.relay.socket a.dials (act_of s) a.acts (act-answer s a.acts) (act-read s a.acts) p.over));
   };
   makes = λ host port number old now a s p is. record {
     broken = made-cause calls number (made_life number a).own (Other ∷ a.acts);
     over = right-socket a.relay.line a.relay.socket (made_as number) a.dials (Other ∷ a.acts) (λ e. unmade-whole a.relay.socket is)
-        (hears-other a.relay.line a.relay.socket a.dials a.acts p.over);
+        (receives-other a.relay.line a.relay.socket a.dials a.acts p.over);
   };
-  joins = λ l t old now r h small. joined-caused calls old.joins l t old now (are_full old.lives) (are_crowded old.lives) (find (has_listener l) old.desk.all)
+  joins = λ l t old now r h small. joined-caused calls old.joins l t old now (are_full old.relay_traces) (are_dialogs_full old.relay_traces) (find (has_listener l) old.forwarding_state.all)
       refl refl refl r h;
   offers = λ f number remote window maximum small. record { broken = tt; over = tt };
 }
 
-all-caused : (calls : List HouseCall) (course : Course) → Reaches first_course calls course → All (Both (Caused calls)) course
-all-caused calls course h =
-    all-reach (IsBefore calls) (Both (Caused calls)) (with-sound (IsBefore calls) (Caused calls) (caused calls)) calls first_course course
+all-caused : (calls : List HouseCall) (trace : Trace) → Reaches first_trace calls trace → All (Both (Caused calls)) trace
+all-caused calls trace h =
+    all-reach (IsBefore calls) (Both (Caused calls)) (with-sound (IsBefore calls) (Caused calls) (caused calls)) calls first_trace trace
     (λ before call behind mid e r. record { before = before; behind = behind; are = e; reached = r }) h
-    (record { lives = tt; past = tt })
+    (record { relay_traces = tt; past = tt })
 
 -- ---- one is closed
 
@@ -651,7 +651,7 @@ through-over dials acts (inl h) = inl h
 through-over dials acts (inr (inl h)) = inr (inl h)
 through-over dials acts (inr (inr h)) = inr (inr (inl h))
 
-through : (line : Line) (s : Socket) (dials : Bool) (acts : List Act) (ended : Bool) → ended ≡ has_ended acts → LineStands line dials acts
+through : (line : ChannelState) (s : Socket) (dials : Bool) (acts : List Act) (ended : Bool) → ended ≡ has_ended acts → LineStands line dials acts
     → OverRight line s dials acts → is_broken s ≡ false → has_no_more ended line ≡ true → IsThrough dials acts
 through (Dialing dialog) s dials acts ended e stands right whole no-more =
     inr (inr (inr (record { dialed = stands.socks; wants = stands.wants; ended = sym e ∙ no-more })))
@@ -670,7 +670,7 @@ broken-reason calls l n socket.Unmade e h is = cc
 broken-reason calls l n (socket.Connecting t) e h is = cc
 broken-reason calls l n (socket.Open t) e h is = cc
 broken-reason calls l n (socket.Failed t) e h is = inl h
-broken-reason calls l n (socket.Surplus t) e h is = inr (inr h)
+broken-reason calls l n (socket.NoChannelLeft t) e h is = inr (inr h)
 broken-reason calls l n socket.Closed e h is = cc
 
 served : (calls : List HouseCall) (l : Life) → Both (Caused calls) l → is_broken l.relay.socket ≡ false
@@ -699,10 +699,10 @@ reason calls l own e p done =
     by (inr h) = served calls l p h.0 h.1
 
 pub closes-have-cause : ClosesHaveCause
-closes-have-cause calls course next t number reached h =
+closes-have-cause calls trace next t number reached h =
     let may = h.0 in
     let its = each-back (Both (Caused calls)) may.before (may.life ∷ may.behind)
-    (subst (Each (Both (Caused calls))) may.were (all-caused calls course reached).lives) in
+    (subst (Each (Both (Caused calls))) may.were (all-caused calls trace reached).relay_traces) in
     record {
       before = may.before;
       life = may.life;

@@ -8,26 +8,26 @@ use Rattle.mux_outside.specs.declared.own_streams.OwnStream.{OwnStream}
 use Rattle.house_relay.specs.Acts.{Act}
 use Rattle.house_relay.specs.Relay.{LineStands}
 use Rattle.house_relay.specs.Steps.{fresh_relay, DialsIn}
-use Rattle.house_relay.specs.declared.line.Line.{Line}
-use Rattle.house_relay.specs.declared.line.Line.TheVariants.{Dialing, Asked, Opened, Offered, Live, Over}
+use Rattle.house_relay.specs.declared.line.ChannelState.{ChannelState}
+use Rattle.house_relay.specs.declared.line.ChannelState.TheVariants.{Dialing, Asked, Opened, Offered, Live, Over}
 use Rattle.house_relay.specs.declared.relay.Relay.{Relay}
 use Rattle.house_relay.specs.declared.relay.Socket.TheVariants as socket
 use Rattle.house_forward.specs.Forwardings.{has_request, has_listener}
-use Rattle.house_forward.specs.Links.{IsJoined, IsJoinedAt, IsDialed as DialsFor, IsSurplus}
-use Rattle.house_forward.specs.Lives.{Life, Course, GoesBy, Reaches, SaysBy, first_course}
-use Rattle.house_forward.specs.Lives.{is_stream, is_unmade, unmade, are_full, are_crowded, own_after, made_life}
+use Rattle.house_forward.specs.Links.{IsJoined, IsJoinedAt, IsDialed as DialsFor, HasNoChannelLeft}
+use Rattle.house_forward.specs.RelayTraces.{Life, Trace, GoesBy, Reaches, SendsBy, first_trace}
+use Rattle.house_forward.specs.RelayTraces.{is_stream, is_unmade, unmade, are_full, are_dialogs_full, own_after, made_life}
 use Rattle.house_forward.specs.Opening.{OpensGoRight, is_open, may_open, IsBefore, IsJoinedFor, IsPlain, ConnectsTo, IsDynamic, IsDialed, IsOpenOf}
-use Rattle.house_forward.specs.Said.{framed, said_by}
+use Rattle.house_forward.specs.Said.{framed, sent_by}
 use Rattle.house_forward.specs.declared.forwarding.Forwarding.{Forwarding}
-use Rattle.house_forward.specs.declared.link.Step.{Step}
-use Rattle.house_forward.specs.declared.link.Step.TheVariants as step
+use Rattle.house_forward.specs.declared.link.LinkStep.{LinkStep}
+use Rattle.house_forward.specs.declared.link.LinkStep.TheVariants as step
 use Rattle.house_forward.specs.declared.rules.Kind.{Kind}
 use Rattle.house_forward.specs.declared.rules.Kind.TheVariants.{Local, Remote, Dynamic}
 use Rattle.house_forward.proofs.Connecting.{streamed, owned, step-made}
 use Rattle.house_forward.proofs.Fresh.{joined}
 use Rattle.house_forward.proofs.Keeping.{stays-heard}
-use Rattle.house_forward.proofs.Opening.{Settles, may-later, SaysOpen, spoken}
-use Rattle.house_forward.proofs.Settling.{settles-hears, settles-takes, line-step}
+use Rattle.house_forward.proofs.Opening.{Settles, may-later, SendsOpen, spoken}
+use Rattle.house_forward.proofs.Settling.{settles-receives, settles-takes, line-step}
 use Rattle.house_forward.proofs.Sound.{Each, All, Sound, KeptSound, Both, with-sound, all-reach, each-back, joined_life, step_of}
 
 -- ---- where an OPEN is to be said, it is for what was joined
@@ -36,7 +36,7 @@ abbrev pub RightFor : List HouseCall → Option OwnStream → Option ℕ → Lis
 RightFor calls own nth host port None = IsJoinedFor calls own nth (ConnectsTo host port)
 RightFor calls own nth host port (Some version) = IsJoinedFor calls own nth IsDynamic
 
-abbrev pub Right : List HouseCall → Option OwnStream → Option ℕ → Line → Type 0
+abbrev pub Right : List HouseCall → Option OwnStream → Option ℕ → ChannelState → Type 0
 Right calls own nth (Dialing dialog) = IsJoinedFor calls own nth IsDynamic
 Right calls own nth (Asked host port version) = RightFor calls own nth host port version
 Right calls own nth (Opened version) = Unit {0}
@@ -48,7 +48,7 @@ pub record Aimed (calls : List HouseCall) (l : Life) : Type 0 where
   pub right : Right calls l.own l.joined l.relay.line
   pub unmade_none : is_unmade l ≡ true → may_open l.relay.line ≡ false
 
-none-right : (calls : List HouseCall) (own : Option OwnStream) (nth : Option ℕ) (line : Line) → may_open line ≡ false → Right calls own nth line
+none-right : (calls : List HouseCall) (own : Option OwnStream) (nth : Option ℕ) (line : ChannelState) → may_open line ≡ false → Right calls own nth line
 none-right calls own nth (Dialing dialog) e = cc
 none-right calls own nth (Asked host port version) e = cc
 none-right calls own nth (Opened version) e = tt
@@ -56,12 +56,12 @@ none-right calls own nth (Offered remote window maximum) e = tt
 none-right calls own nth (Live live) e = tt
 none-right calls own nth Over e = tt
 
-settles-right : (calls : List HouseCall) (own : Option OwnStream) (nth : Option ℕ) (old new : Line) → Settles old new → Right calls own nth old
+settles-right : (calls : List HouseCall) (own : Option OwnStream) (nth : Option ℕ) (old new : ChannelState) → Settles old new → Right calls own nth old
     → Right calls own nth new
 settles-right calls own nth old new (inl e) h = none-right calls own nth new e
 settles-right calls own nth old new (inr e) h = subst (Right calls own nth) (sym e) h
 
-settles-none : (old new : Line) → Settles old new → may_open old ≡ false → may_open new ≡ false
+settles-none : (old new : ChannelState) → Settles old new → may_open old ≡ false → may_open new ≡ false
 settles-none old new (inl e) h = e
 settles-none old new (inr e) h = ap may_open e ∙ h
 
@@ -75,7 +75,7 @@ aimed-on calls so act a b h settles same p = record {
   unmade_none = λ e. settles-none a.relay.line b.relay.line settles (p.unmade_none (ap unmade (sym same) ∙ e));
 }
 
-pub its-after : (s : Step) (own : Option OwnStream) (n : ℕ) → IfSome own (λ o. o.number ≡ n) → IfSome (own_after s own) (λ o. o.number ≡ n)
+pub its-after : (s : LinkStep) (own : Option OwnStream) (n : ℕ) → IfSome own (λ o. o.number ≡ n) → IfSome (own_after s own) (λ o. o.number ≡ n)
 its-after s None n h = tt
 its-after (step.Pause b) (Some own) n h = h
 its-after step.Finish (Some own) n h = h
@@ -84,12 +84,12 @@ its-after step.Close (Some own) n h = tt
 its-after step.Writable (Some own) n h = h
 its-after step.Failed (Some own) n h = h
 
-joined-after : (calls : List HouseCall) (s : Step) (own : Option OwnStream) (nth : Option ℕ) (so : Forwarding → Type 0) → IsJoinedFor calls own nth so
+joined-after : (calls : List HouseCall) (s : LinkStep) (own : Option OwnStream) (nth : Option ℕ) (so : Forwarding → Type 0) → IsJoinedFor calls own nth so
     → IsJoinedFor calls (own_after s own) nth so
 joined-after calls s own nth so h = record {
   listener = h.listener;
   stream = h.stream;
-  course = h.course;
+  trace = h.trace;
   forwarding = h.forwarding;
   joined = h.joined;
   which = h.which;
@@ -98,12 +98,12 @@ joined-after calls s own nth so h = record {
   right = h.right;
 }
 
-asked-after : (calls : List HouseCall) (s : Step) (own : Option OwnStream) (nth : Option ℕ) (host : List ℕ) (port : ℕ) (version : Option ℕ)
+asked-after : (calls : List HouseCall) (s : LinkStep) (own : Option OwnStream) (nth : Option ℕ) (host : List ℕ) (port : ℕ) (version : Option ℕ)
     → RightFor calls own nth host port version → RightFor calls (own_after s own) nth host port version
 asked-after calls s own nth host port None h = joined-after calls s own nth (ConnectsTo host port) h
 asked-after calls s own nth host port (Some version) h = joined-after calls s own nth IsDynamic h
 
-right-after : (calls : List HouseCall) (s : Step) (own : Option OwnStream) (nth : Option ℕ) (line : Line) → Right calls own nth line
+right-after : (calls : List HouseCall) (s : LinkStep) (own : Option OwnStream) (nth : Option ℕ) (line : ChannelState) → Right calls own nth line
     → Right calls (own_after s own) nth line
 right-after calls s own nth (Dialing dialog) h = joined-after calls s own nth IsDynamic h
 right-after calls s own nth (Asked host port version) h = asked-after calls s own nth host port version h
@@ -120,7 +120,7 @@ asked-dialed : (calls : List HouseCall) (own : Option OwnStream) (nth : Option �
 asked-dialed calls own nth host port None dials acts stands e h = absurd (both_ways dials stands.waits e)
 asked-dialed calls own nth host port (Some version) dials acts stands e h = h
 
-dialed-right : (calls : List HouseCall) (own : Option OwnStream) (nth : Option ℕ) (line : Line) (dials : Bool) (acts : List Act)
+dialed-right : (calls : List HouseCall) (own : Option OwnStream) (nth : Option ℕ) (line : ChannelState) (dials : Bool) (acts : List Act)
     → LineStands line dials acts → dials ≡ true → IsJoinedFor calls own nth IsDynamic → Right calls own nth line
 dialed-right calls own nth (Dialing dialog) dials acts stands e h = h
 dialed-right calls own nth (Asked host port version) dials acts stands e h = asked-dialed calls own nth host port version dials acts stands e h
@@ -129,11 +129,11 @@ dialed-right calls own nth (Offered remote window maximum) dials acts stands e h
 dialed-right calls own nth (Live live) dials acts stands e h = tt
 dialed-right calls own nth Over dials acts stands e h = tt
 
-gets-right : (calls : List HouseCall) (line : Line) (free : Bool) (bytes : List ℕ) (a b : Life) → a.relay.line ≡ line
+gets-right : (calls : List HouseCall) (line : ChannelState) (free : Bool) (bytes : List ℕ) (a b : Life) → a.relay.line ≡ line
     → DialsIn line free bytes a.relay b.relay → Sound a → Sound b → b.dials ≡ a.dials → Right calls a.own a.joined line
     → Right calls a.own a.joined b.relay.line
 gets-right calls (Dialing dialog) free bytes a b e h s s' same right =
-    let its : LineStands (Dialing dialog) a.dials a.acts = subst (λ (x : Line). LineStands x a.dials a.acts) e s.stands.line in
+    let its : LineStands (Dialing dialog) a.dials a.acts = subst (λ (x : ChannelState). LineStands x a.dials a.acts) e s.stands.line in
     dialed-right calls a.own a.joined b.relay.line b.dials b.acts s'.stands.line (same ∙ its.socks) right
 gets-right calls (Asked host port version) free bytes a b e h s s' same right = subst (Right calls a.own a.joined) (sym (h.0 ∙ e)) right
 gets-right calls (Opened version) free bytes a b e h s s' same right = subst (Right calls a.own a.joined) (sym (h.0 ∙ e)) right
@@ -143,21 +143,21 @@ gets-right calls Over free bytes a b e h s s' same right = subst (Right calls a.
 
 -- ---- one is joined
 
-surplus-right : (calls : List HouseCall) (joins t : ℕ) (r : Relay) → IsSurplus t r → Right calls (Some (new_stream t)) (Some joins) r.line
-surplus-right calls joins t r h = none-right calls (Some (new_stream t)) (Some joins) r.line (ap (λ (x : Relay). may_open x.line) h)
+no_channel_left-right : (calls : List HouseCall) (joins t : ℕ) (r : Relay) → HasNoChannelLeft t r → Right calls (Some (new_stream t)) (Some joins) r.line
+no_channel_left-right calls joins t r h = none-right calls (Some (new_stream t)) (Some joins) r.line (ap (λ (x : Relay). may_open x.line) h)
 
 record JoinedThere (calls : List HouseCall) (joins l t : ℕ) (f : Forwarding) : Type 0 where
-  course : Course
-  which : joins ≡ course.joins
-  joined : IsBefore calls (Turns (Joined l t)) course
-  found : find (has_listener l) course.desk.all ≡ Some f
+  trace : Trace
+  which : joins ≡ trace.joins
+  joined : IsBefore calls (Turns (Joined l t)) trace
+  found : find (has_listener l) trace.forwarding_state.all ≡ Some f
 
 joined-for : (calls : List HouseCall) (joins l t : ℕ) (f : Forwarding) (so : Forwarding → Type 0) → JoinedThere calls joins l t f → so f
     → IsJoinedFor calls (Some (new_stream t)) (Some joins) so
 joined-for calls joins l t f so h right = record {
   listener = l;
   stream = t;
-  course = h.course;
+  trace = h.trace;
   forwarding = f;
   joined = h.joined;
   which = ap (λ n. Some n) h.which;
@@ -172,25 +172,25 @@ plain-right calls joins l t f r there plain e =
     subst (Right calls (Some (new_stream t)) (Some joins)) (sym (ap (λ (x : Relay). x.line) e))
     (joined-for calls joins l t f (ConnectsTo f.connect_host f.connect_port) there (record { plain = plain; to_host = refl; to_port = refl }))
 
-dynamic-right : (calls : List HouseCall) (joins l t : ℕ) (f : Forwarding) (crowded : Bool) (r : Relay) → JoinedThere calls joins l t f → IsDynamic f
-    → DialsFor crowded t r → Right calls (Some (new_stream t)) (Some joins) r.line
-dynamic-right calls joins l t f true r there dynamic h = surplus-right calls joins t r h
+dynamic-right : (calls : List HouseCall) (joins l t : ℕ) (f : Forwarding) (dialogs_full : Bool) (r : Relay) → JoinedThere calls joins l t f → IsDynamic f
+    → DialsFor dialogs_full t r → Right calls (Some (new_stream t)) (Some joins) r.line
+dynamic-right calls joins l t f true r there dynamic h = no_channel_left-right calls joins t r h
 dynamic-right calls joins l t f false r there dynamic h =
     subst (Right calls (Some (new_stream t)) (Some joins)) (sym (ap (λ (x : Relay). x.line) h)) (joined-for calls joins l t f IsDynamic there dynamic)
 
-joined-at : (calls : List HouseCall) (joins l t : ℕ) (f : Forwarding) (kind : Kind) (crowded : Bool) (r : Relay) → JoinedThere calls joins l t f
-    → f.kind ≡ kind → IsJoinedAt kind crowded f t r → Right calls (Some (new_stream t)) (Some joins) r.line
-joined-at calls joins l t f Local crowded r there e h = plain-right calls joins l t f r there (subst IsPlain (sym e) tt) h
-joined-at calls joins l t f Remote crowded r there e h = plain-right calls joins l t f r there (subst IsPlain (sym e) tt) h
-joined-at calls joins l t f Dynamic crowded r there e h = dynamic-right calls joins l t f crowded r there e h
+joined-at : (calls : List HouseCall) (joins l t : ℕ) (f : Forwarding) (kind : Kind) (dialogs_full : Bool) (r : Relay) → JoinedThere calls joins l t f
+    → f.kind ≡ kind → IsJoinedAt kind dialogs_full f t r → Right calls (Some (new_stream t)) (Some joins) r.line
+joined-at calls joins l t f Local dialogs_full r there e h = plain-right calls joins l t f r there (subst IsPlain (sym e) tt) h
+joined-at calls joins l t f Remote dialogs_full r there e h = plain-right calls joins l t f r there (subst IsPlain (sym e) tt) h
+joined-at calls joins l t f Dynamic dialogs_full r there e h = dynamic-right calls joins l t f dialogs_full r there e h
 
-joined-right : (calls : List HouseCall) (l t : ℕ) (full crowded : Bool) (o : Option Forwarding) (course : Course) (r : Relay)
-    → IsBefore calls (Turns (Joined l t)) course → find (has_listener l) course.desk.all ≡ o → IsJoined full crowded o t r
-    → Right calls (Some (new_stream t)) (Some course.joins) r.line
-joined-right calls l t true crowded o course r before e h = surplus-right calls course.joins t r h
-joined-right calls l t false crowded None course r before e h = surplus-right calls course.joins t r h
-joined-right calls l t false crowded (Some f) course r before e h =
-    joined-at calls course.joins l t f f.kind crowded r (record { course = course; which = refl; joined = before; found = e }) refl h
+joined-right : (calls : List HouseCall) (l t : ℕ) (full dialogs_full : Bool) (o : Option Forwarding) (trace : Trace) (r : Relay)
+    → IsBefore calls (Turns (Joined l t)) trace → find (has_listener l) trace.forwarding_state.all ≡ o → IsJoined full dialogs_full o t r
+    → Right calls (Some (new_stream t)) (Some trace.joins) r.line
+joined-right calls l t true dialogs_full o trace r before e h = no_channel_left-right calls trace.joins t r h
+joined-right calls l t false dialogs_full None trace r before e h = no_channel_left-right calls trace.joins t r h
+joined-right calls l t false dialogs_full (Some f) trace r before e h =
+    joined-at calls trace.joins l t f f.kind dialogs_full r (record { trace = trace; which = refl; joined = before; found = e }) refl h
 
 -- ---- all steps
 
@@ -207,12 +207,12 @@ aimed calls = record {
       let none = ap (λ (r : Relay). may_open r.line) h.1.relay.0 ∙ (spoken a.relay is).settled in
       record { right = none-right calls b.own b.joined b.relay.line none; unmade_none = λ e. none }
       );
-  hears = λ m a b s p h. aimed-on calls _ _ a b h (settles-hears may_open may-later m a b h)
+  receives = λ m a b s p h. aimed-on calls _ _ a b h (settles-receives may_open may-later m a b h)
       (ap (λ (r : Relay). r.socket) h.relay.0 ∙ (stays-heard m a.relay).socket_is) p;
   gets = λ t bytes old now a b s s' p is h. record {
     right = subst (λ (own : Option OwnStream). Right calls own b.joined b.relay.line) (sym h.own)
         (subst (λ (nth : Option ℕ). Right calls a.own nth b.relay.line) (sym h.joined)
-        (gets-right calls a.relay.line (not (are_full old.lives)) bytes a b refl h.relay.0 s s' h.dials p.right));
+        (gets-right calls a.relay.line (not (are_full old.relay_traces)) bytes a b refl h.relay.0 s s' h.dials p.right));
     unmade_none = not-unmade b (owned t b.own b.relay.socket (ap (is_stream t) h.own ∙ is) s'.stream);
   };
   takes = λ t n a b s p is h. aimed-on calls _ _ a b h (settles-takes may_open may-later n a b h) (ap (λ (r : Relay). r.socket) h.relay.0) p;
@@ -225,18 +225,18 @@ aimed calls = record {
     unmade_none = not-unmade (made_life number a) (made-none number a);
   };
   joins = λ l t old now r h small. record {
-    right = joined-right calls l t (are_full old.lives) (are_crowded old.lives) (find (has_listener l) old.desk.all) old r now refl h;
+    right = joined-right calls l t (are_full old.relay_traces) (are_dialogs_full old.relay_traces) (find (has_listener l) old.forwarding_state.all) old r now refl h;
     unmade_none = not-unmade (joined_life old.joins t r)
-        (streamed r.socket t (joined (are_full old.lives) (are_crowded old.lives) (find (has_listener l) old.desk.all) t r h).stream);
+        (streamed r.socket t (joined (are_full old.relay_traces) (are_dialogs_full old.relay_traces) (find (has_listener l) old.forwarding_state.all) t r h).stream);
   };
   offers = λ f number remote window maximum small. record { right = tt; unmade_none = λ e. refl };
 }
 
-pub all-aimed : (calls : List HouseCall) (course : Course) → Reaches first_course calls course → All (Both (Aimed calls)) course
-all-aimed calls course h =
-    all-reach (IsBefore calls) (Both (Aimed calls)) (with-sound (IsBefore calls) (Aimed calls) (aimed calls)) calls first_course course
+pub all-aimed : (calls : List HouseCall) (trace : Trace) → Reaches first_trace calls trace → All (Both (Aimed calls)) trace
+all-aimed calls trace h =
+    all-reach (IsBefore calls) (Both (Aimed calls)) (with-sound (IsBefore calls) (Aimed calls) (aimed calls)) calls first_trace trace
     (λ before call behind mid e r. record { before = before; behind = behind; are = e; reached = r }) h
-    (record { lives = tt; past = tt })
+    (record { relay_traces = tt; past = tt })
 
 -- ---- what is said
 
@@ -245,14 +245,14 @@ goes-to : (calls : List HouseCall) (l : Life) (host : List ℕ) (port : ℕ) (ve
 goes-to calls l host port None stands h = inl h
 goes-to calls l host port (Some version) stands h = inr (record { joined = h; asks = stands.waits.2 })
 
-says-right : (calls : List HouseCall) (lives before : List Life) (l : Life) (behind : List Life) (bytes : List ℕ)
-    → lives ≡ before ++ l ∷ behind → Both (Aimed calls) l → is_open bytes ≡ true → bytes ≡ framed (said_by l.relay)
-    → (is_open (framed (said_by l.relay)) ≡ false)
-    ⊎ ((host : List ℕ) × (port : ℕ) × (version : Option ℕ) × SaysOpen host port version l.relay)
-    → IsOpenOf calls lives bytes
-says-right calls lives before l behind bytes were p is e (inl none) =
-    absurd (both_ways (is_open (framed (said_by l.relay))) none (ap is_open (sym e) ∙ is))
-says-right calls lives before l behind bytes were p is e (inr x) = record {
+says-right : (calls : List HouseCall) (relay_traces before : List Life) (l : Life) (behind : List Life) (bytes : List ℕ)
+    → relay_traces ≡ before ++ l ∷ behind → Both (Aimed calls) l → is_open bytes ≡ true → bytes ≡ framed (sent_by l.relay)
+    → (is_open (framed (sent_by l.relay)) ≡ false)
+    ⊎ ((host : List ℕ) × (port : ℕ) × (version : Option ℕ) × SendsOpen host port version l.relay)
+    → IsOpenOf calls relay_traces bytes
+says-right calls relay_traces before l behind bytes were p is e (inl none) =
+    absurd (both_ways (is_open (framed (sent_by l.relay))) none (ap is_open (sym e) ∙ is))
+says-right calls relay_traces before l behind bytes were p is e (inr x) = record {
   before = before;
   life = l;
   behind = behind;
@@ -260,19 +260,19 @@ says-right calls lives before l behind bytes were p is e (inr x) = record {
   port = x.1;
   were = were;
   says = e ∙ ap framed x.3.words;
-  goes = goes-to calls l x.0 x.1 x.2 (subst (λ (line : Line). LineStands line l.dials l.acts) x.3.asked p.0.stands.line)
+  goes = goes-to calls l x.0 x.1 x.2 (subst (λ (line : ChannelState). LineStands line l.dials l.acts) x.3.asked p.0.stands.line)
       (subst (Right calls l.own l.joined) x.3.asked p.1.right);
 }
 
-opens-right : (calls : List HouseCall) (b : Bool) (o : Option Forwarding) (bytes : List ℕ) (old new : Course)
-    → SaysBy b o bytes old new → Each (Both (Aimed calls)) old.lives → is_open bytes ≡ true → IsOpenOf calls old.lives bytes
+opens-right : (calls : List HouseCall) (b : Bool) (o : Option Forwarding) (bytes : List ℕ) (old new : Trace)
+    → SendsBy b o bytes old new → Each (Both (Aimed calls)) old.relay_traces → is_open bytes ≡ true → IsOpenOf calls old.relay_traces bytes
 opens-right calls false o bytes old new h all is = absurd (both_ways (is_open bytes) (ap is_open h.0) is)
 opens-right calls true (Some f) bytes old new h all is = absurd (both_ways (is_open bytes) (ap is_open h.0) is)
 opens-right calls true None bytes old new h all is =
     let one = h.1 in
     let its = each-back (Both (Aimed calls)) one.before (one.life ∷ one.behind) (subst (Each (Both (Aimed calls))) one.were all) in
-    says-right calls old.lives one.before one.life one.behind bytes one.were its.0 is one.goes.0 (spoken one.life.relay one.is).either
+    says-right calls old.relay_traces one.before one.life one.behind bytes one.were its.0 is one.goes.0 (spoken one.life.relay one.is).either
 
 pub opens-go-right : OpensGoRight
-opens-go-right calls course next bytes reached h is =
-    opens-right calls course.desk.greeted (find has_request course.desk.all) bytes course next h (all-aimed calls course reached).lives is
+opens-go-right calls trace next bytes reached h is =
+    opens-right calls trace.forwarding_state.greeted (find has_request trace.forwarding_state.all) bytes trace next h (all-aimed calls trace reached).relay_traces is

@@ -5,17 +5,17 @@ use Rattle.std.proofs.lemmas.Bool.{and_from, eq-eqb}
 use Rattle.mux_outside.specs.declared.house.HouseReply.TheVariants as given
 use Rattle.house_forward.specs.Asks.{settled, settle_one, settled_at, is_about, same, waiting_for}
 use Rattle.house_forward.specs.Causes.{gateway_in, AreOne, IsFor, ServesAt, WaitsToClose, EachUnlisten, EachCancel, EachCancelReply, come_to, cancelled}
-use Rattle.house_forward.specs.Deeds.{Deed}
-use Rattle.house_forward.specs.Deeds.{Asks}
-use Rattle.house_forward.specs.Desk.{Desk}
+use Rattle.house_forward.specs.ForwarderEvents.{ForwarderEvent}
+use Rattle.house_forward.specs.ForwarderEvents.{Asks}
+use Rattle.house_forward.specs.ForwardingState.{ForwardingState}
 use Rattle.house_forward.specs.Forwardings.{has_request, requests_at, request_at, listener_at, cancels_at, first_of, replied_asks}
 use Rattle.house_forward.specs.Rules.{listens_here}
 use Rattle.house_forward.specs.declared.asks.Outcome.{Outcome}
 use Rattle.house_forward.specs.declared.asks.Outcome.TheVariants.{Done}
 use Rattle.house_forward.specs.declared.asks.Waiting.{Waiting}
 use Rattle.house_forward.specs.declared.forwarding.Forwarding.{Forwarding}
-use Rattle.house_forward.specs.declared.forwarding.Request.{Request}
-use Rattle.house_forward.specs.declared.forwarding.Request.TheVariants.{Cancel}
+use Rattle.house_forward.specs.declared.forwarding.ForwardingRequest.{ForwardingRequest}
+use Rattle.house_forward.specs.declared.forwarding.ForwardingRequest.TheVariants.{Cancel}
 use Rattle.house_forward.specs.declared.forwarding.Stage.{Stage}
 use Rattle.house_forward.specs.declared.forwarding.Stage.TheVariants.{ToListen, Ordered, Listening, ToRequest, Requested, Live, Cancelling}
 use Rattle.house_forward.proofs.Caused.{one-is-for, one-granted, one-listens}
@@ -33,9 +33,9 @@ is-waiting-for n w c =
     ∙ ap (λ (m : ℕ). record w { opening = false; outcome = None; forwarding = m }) c.of_it
 
 -- it waits, and has no answer yet
-waits-to-close : (home : ℕ → Forwarding) (serials : ℕ) (deeds : List Deed) (ws : List Waiting) (n : ℕ) (w : Waiting) → In w ws
-    → IsCloser n w → Waits home serials deeds w → (home n).serial ≡ n → WaitsToClose (home n) ws deeds
-waits-to-close home serials deeds ws n w here c h is = record {
+waits-to-close : (home : ℕ → Forwarding) (serials : ℕ) (forwarder_events : List ForwarderEvent) (ws : List Waiting) (n : ℕ) (w : Waiting) → In w ws
+    → IsCloser n w → Waits home serials forwarder_events w → (home n).serial ≡ n → WaitsToClose (home n) ws forwarder_events
+waits-to-close home serials forwarder_events ws n w here c h is = record {
   client = w.client;
   id = w.id;
   ask = h.ask;
@@ -48,8 +48,8 @@ waits-to-close home serials deeds ws n w here c h is = record {
   waits = subst (Contains ws) (is-waiting-for n w c ∙ ap (λ (m : ℕ). waiting_for w.client w.id false m) (sym is)) (in-contains w ws here);
 }
 
-one-waits : (a f : Forwarding) (ws : List Waiting) (deeds : List Deed) → AreOne a f → WaitsToClose a ws deeds → WaitsToClose f ws deeds
-one-waits a f ws deeds one h = record {
+one-waits : (a f : Forwarding) (ws : List Waiting) (forwarder_events : List ForwarderEvent) → AreOne a f → WaitsToClose a ws forwarder_events → WaitsToClose f ws forwarder_events
+one-waits a f ws forwarder_events one h = record {
   client = h.client;
   id = h.id;
   ask = h.ask;
@@ -78,69 +78,69 @@ comes-to n at o w ws here c =
 
 pub each-unlisten : EachUnlisten
 unfolding waits-to-close one-waits
-each-unlisten l deeds old new left h =
-    let k = knows deeds old left in
+each-unlisten l forwarder_events old new left h =
+    let k = knows forwarder_events old left in
     let c = next-closing (λ (x : Forwarding). In x old.all) old.waiting old.all h.serial l
     (all-in (λ (x : Forwarding). In x old.all) old.all (λ x here. here)) h.next in
     let n = c.f.serial in
-    let at = in-all (Stands k.home old.serials deeds) c.f old.all k.all c.holds in
-    let fits : StageFits (Listening l) (k.home n) deeds = subst (λ (s : Stage). StageFits s (k.home n) deeds) c.stage_is at.stage in
-    let ask = (wants deeds old left).closers c.f c.holds c.closing_is in
+    let at = in-all (Stands k.home old.serials forwarder_events) c.f old.all k.all c.holds in
+    let fits : StageFits (Listening l) (k.home n) forwarder_events = subst (λ (s : Stage). StageFits s (k.home n) forwarder_events) c.stage_is at.stage in
+    let ask = (wants forwarder_events old left).closers c.f c.holds c.closing_is in
     let w = ask.0 in
-    let its = in-all (Waits k.home old.serials deeds) w old.waiting k.waiting ask.1 in
+    let its = in-all (Waits k.home old.serials forwarder_events) w old.waiting k.waiting ask.1 in
     let f = c.f in
     record {
       forwarding = f;
       stands = in-contains f old.all c.holds;
       listens = ap listener_at c.stage_is;
-      serves = one-listens (k.home n) f l deeds at.same fits.1;
-      asked = one-waits (k.home n) f old.waiting deeds at.same
-          (waits-to-close k.home old.serials deeds old.waiting n w ask.1 ask.2 its at.same.serial);
+      serves = one-listens (k.home n) f l forwarder_events at.same fits.1;
+      asked = one-waits (k.home n) f old.waiting forwarder_events at.same
+          (waits-to-close k.home old.serials forwarder_events old.waiting n w ask.1 ask.2 its at.same.serial);
       comes = subst (λ (ws : List Waiting). Contains ws (come_to old.done Done (waiting_for w.client w.id false n)))
-          (ap (λ (m : ℕ). settled m false old.done Done old.waiting) c.serial_is ∙ sym (ap (λ (d : Desk). d.waiting) h.others))
+          (ap (λ (m : ℕ). settled m false old.done Done old.waiting) c.serial_is ∙ sym (ap (λ (d : ForwardingState). d.waiting) h.others))
           (comes-to n old.done Done w old.waiting ask.1 ask.2);
     }
 
 -- ---- a cancel
 
-cancels-by : (s : Stage) (a f : Forwarding) (closing : Bool) (deeds : List Deed) → AreOne a f → requests_at s closing ≡ true
-    → request_at s f.serial ≡ Cancel f.serial → StageFits s a deeds → ServesAt s f deeds × (closing ≡ true)
-cancels-by (ToListen host) a f closing deeds one e r h = cc
-cancels-by Ordered a f closing deeds one e r h = cc
-cancels-by (Listening l) a f closing deeds one e r h = cc
-cancels-by ToRequest a f closing deeds one e r h = cc
-cancels-by Requested a f closing deeds one e r h = cc
-cancels-by (Live p) a f closing deeds one e r h =
-    ((ap listens_here (sym one.kind) ∙ h.0, one-granted a f p deeds one h.1), e)
-cancels-by (Cancelling p) a f closing deeds one e r h = cc
+cancels-by : (s : Stage) (a f : Forwarding) (closing : Bool) (forwarder_events : List ForwarderEvent) → AreOne a f → requests_at s closing ≡ true
+    → request_at s f.serial ≡ Cancel f.serial → StageFits s a forwarder_events → ServesAt s f forwarder_events × (closing ≡ true)
+cancels-by (ToListen host) a f closing forwarder_events one e r h = cc
+cancels-by Ordered a f closing forwarder_events one e r h = cc
+cancels-by (Listening l) a f closing forwarder_events one e r h = cc
+cancels-by ToRequest a f closing forwarder_events one e r h = cc
+cancels-by Requested a f closing forwarder_events one e r h = cc
+cancels-by (Live p) a f closing forwarder_events one e r h =
+    ((ap listens_here (sym one.kind) ∙ h.0, one-granted a f p forwarder_events one h.1), e)
+cancels-by (Cancelling p) a f closing forwarder_events one e r h = cc
 
 pub each-cancel : EachCancel
-each-cancel f deeds old new left h e =
-    let k = knows deeds old left in
-    let at = found (Stands k.home old.serials deeds) has_request old.all f h.1 k.all in
-    let both = cancels-by f.stage (k.home f.serial) f f.closing deeds at.0.same at.1 e at.0.stage in
-    let ask = (wants deeds old left).closers f (found-in has_request f old.all h.1) both.1 in
-    let its = in-all (Waits k.home old.serials deeds) ask.0 old.waiting k.waiting ask.1 in
+each-cancel f forwarder_events old new left h e =
+    let k = knows forwarder_events old left in
+    let at = found (Stands k.home old.serials forwarder_events) has_request old.all f h.1 k.all in
+    let both = cancels-by f.stage (k.home f.serial) f f.closing forwarder_events at.0.same at.1 e at.0.stage in
+    let ask = (wants forwarder_events old left).closers f (found-in has_request f old.all h.1) both.1 in
+    let its = in-all (Waits k.home old.serials forwarder_events) ask.0 old.waiting k.waiting ask.1 in
     record {
       serves = both.0;
-      asked = one-waits (k.home f.serial) f old.waiting deeds at.0.same
-          (waits-to-close k.home old.serials deeds old.waiting f.serial ask.0 ask.1 ask.2 its at.0.same.serial);
+      asked = one-waits (k.home f.serial) f old.waiting forwarder_events at.0.same
+          (waits-to-close k.home old.serials forwarder_events old.waiting f.serial ask.0 ask.1 ask.2 its at.0.same.serial);
     }
 
 -- ---- its reply
 
-first-in : (rs : List Request) (r : Request) → first_of rs ≡ Some r → In r rs
+first-in : (rs : List ForwardingRequest) (r : ForwardingRequest) → first_of rs ≡ Some r → In r rs
 first-in [] r e = cc
 first-in (q ∷ rs) r e = let same : q ≡ r = cc in inl same
 
-serves-still : (s : Stage) (a f : Forwarding) (deeds : List Deed) → AreOne a f → cancels_at s ≡ true → StageFits s a deeds → ServesAt s f deeds
-serves-still (ToListen host) a f deeds one e h = cc
-serves-still Ordered a f deeds one e h = cc
-serves-still (Listening l) a f deeds one e h = cc
-serves-still ToRequest a f deeds one e h = cc
-serves-still Requested a f deeds one e h = cc
-serves-still (Live p) a f deeds one e h = cc
-serves-still (Cancelling p) a f deeds one e h = (ap listens_here (sym one.kind) ∙ h.0, one-granted a f p deeds one h.1)
+serves-still : (s : Stage) (a f : Forwarding) (forwarder_events : List ForwarderEvent) → AreOne a f → cancels_at s ≡ true → StageFits s a forwarder_events → ServesAt s f forwarder_events
+serves-still (ToListen host) a f forwarder_events one e h = cc
+serves-still Ordered a f forwarder_events one e h = cc
+serves-still (Listening l) a f forwarder_events one e h = cc
+serves-still ToRequest a f forwarder_events one e h = cc
+serves-still Requested a f forwarder_events one e h = cc
+serves-still (Live p) a f forwarder_events one e h = cc
+serves-still (Cancelling p) a f forwarder_events one e h = (ap listens_here (sym one.kind) ∙ h.0, one-granted a f p forwarder_events one h.1)
 
 replied-asks : (success : Bool) (port : Option ℕ) (n : ℕ) (fs : List Forwarding) (at : ℕ) (ws : List Waiting)
     → replied_asks success port (Some (Cancel n)) fs at ws ≡ settled n false at (cancelled success) ws
@@ -149,26 +149,26 @@ replied-asks false port n fs at ws = refl
 
 pub each-cancel-reply : EachCancelReply
 unfolding waits-to-close one-waits
-each-cancel-reply n success port deeds old new left h first =
-    let k = knows deeds old left in
-    let its = (wants deeds old left).said (Cancel n) (first-in old.requests (Cancel n) first) in
+each-cancel-reply n success port forwarder_events old new left h first =
+    let k = knows forwarder_events old left in
+    let its = (wants forwarder_events old left).said (Cancel n) (first-in old.requests (Cancel n) first) in
     let f = its.0 in
-    let at = in-all (Stands k.home old.serials deeds) f old.all k.all its.1 in
-    let ask = (wants deeds old left).closers f its.1 its.4 in
+    let at = in-all (Stands k.home old.serials forwarder_events) f old.all k.all its.1 in
+    let ask = (wants forwarder_events old left).closers f its.1 its.4 in
     let w = ask.0 in
-    let waits = in-all (Waits k.home old.serials deeds) w old.waiting k.waiting ask.1 in
+    let waits = in-all (Waits k.home old.serials forwarder_events) w old.waiting k.waiting ask.1 in
     record {
       forwarding = f;
       stands = in-contains f old.all its.1;
       is = its.2;
       cancels = record {
-        serves = serves-still f.stage (k.home f.serial) f deeds at.same its.3 at.stage;
-        asked = one-waits (k.home f.serial) f old.waiting deeds at.same
-            (waits-to-close k.home old.serials deeds old.waiting f.serial w ask.1 ask.2 waits at.same.serial);
+        serves = serves-still f.stage (k.home f.serial) f forwarder_events at.same its.3 at.stage;
+        asked = one-waits (k.home f.serial) f old.waiting forwarder_events at.same
+            (waits-to-close k.home old.serials forwarder_events old.waiting f.serial w ask.1 ask.2 waits at.same.serial);
       };
       comes = subst (λ (ws : List Waiting). Contains ws (come_to old.done (cancelled success) (waiting_for w.client w.id false n)))
-          (sym (ap (λ (d : Desk). d.waiting) h
-          ∙ ap (λ (o : Option Request). replied_asks success port o old.all old.done old.waiting) first
+          (sym (ap (λ (d : ForwardingState). d.waiting) h
+          ∙ ap (λ (o : Option ForwardingRequest). replied_asks success port o old.all old.done old.waiting) first
           ∙ replied-asks success port n old.all old.done old.waiting))
           (subst (λ (m : ℕ). Contains (settled m false old.done (cancelled success) old.waiting)
           (come_to old.done (cancelled success) (waiting_for w.client w.id false m))) its.2

@@ -2,15 +2,15 @@
 use Rattle.std.proofs.Common.{◌≡◌, refl, sym, subst, arith, ℕ, Bool, true, false, List, [], Option, Some, None}
 use Rattle.std.proofs.lemmas.Bool.{false≢true}
 use Rattle.house_relay.specs.Acts.{outcome_in, before_in, behind_in, replies_in}
-use Rattle.house_relay.specs.Line.{owed_in}
+use Rattle.house_relay.specs.ChannelState.{owed_in}
 use Rattle.house_relay.specs.Relay.{Stands, LineStands, NothingYet, stream_of}
 use Rattle.house_relay.specs.Steps.{fresh_relay, fresh_dialing}
-use Rattle.house_relay.specs.declared.line.Line.{Line}
-use Rattle.house_relay.specs.declared.line.Line.TheVariants.{Asked, Offered, Over}
+use Rattle.house_relay.specs.declared.line.ChannelState.{ChannelState}
+use Rattle.house_relay.specs.declared.line.ChannelState.TheVariants.{Asked, Offered, Over}
 use Rattle.house_relay.specs.declared.relay.Relay.{Relay}
 use Rattle.house_relay.specs.declared.relay.Socket.{Socket}
 use Rattle.house_relay.specs.declared.relay.Socket.TheVariants as socket
-use Rattle.house_forward.specs.Links.{IsJoined, IsJoinedAt, IsDialed, IsSurplus, dials}
+use Rattle.house_forward.specs.Links.{IsJoined, IsJoinedAt, IsDialed, HasNoChannelLeft, dials}
 use Rattle.house_forward.specs.declared.forwarding.Forwarding.{Forwarding}
 use Rattle.house_forward.specs.declared.rules.Kind.{Kind}
 use Rattle.house_forward.specs.declared.rules.Kind.TheVariants.{Local, Remote, Dynamic}
@@ -23,11 +23,11 @@ nothing-yet dials = record {
   no_room = refl;
   no_eof = refl;
   no_close = refl;
-  none_heard = refl;
+  none_received = refl;
   none_closed = refl;
 }
 
-plain : (number : ℕ) (line : Line) (s : Socket) → LineStands line false [] → Stands false [] (fresh_relay number line s)
+plain : (number : ℕ) (line : ChannelState) (s : Socket) → LineStands line false [] → Stands false [] (fresh_relay number line s)
 plain number line s h = record {
   sends = refl;
   delivers = ([], refl, refl);
@@ -67,27 +67,27 @@ pub record Begins (t : ℕ) (r : Relay) : Type 0 where
   pub going : r.ended ≡ false
   pub none : owed_in r.line ≡ 0
 
-surplus : (t : ℕ) (r : Relay) → IsSurplus t r → Begins t r
-surplus t r e = subst (Begins t) (sym e)
-    (record { stands = over r.number (socket.Surplus t); stream = refl; going = refl; none = refl })
+no_channel_left : (t : ℕ) (r : Relay) → HasNoChannelLeft t r → Begins t r
+no_channel_left t r e = subst (Begins t) (sym e)
+    (record { stands = over r.number (socket.NoChannelLeft t); stream = refl; going = refl; none = refl })
 
 asking : (t : ℕ) (r : Relay) (host : List ℕ) (port : ℕ)
     → r ≡ fresh_relay r.number (Asked host port None) (socket.Open t) → Begins t r
 asking t r host port e = subst (Begins t) (sym e)
     (record { stands = asked r.number host port (socket.Open t); stream = refl; going = refl; none = refl })
 
-dialing : (crowded : Bool) (t : ℕ) (r : Relay) → IsDialed crowded t r → Begins t r
-dialing true t r e = surplus t r e
+dialing : (dialogs_full : Bool) (t : ℕ) (r : Relay) → IsDialed dialogs_full t r → Begins t r
+dialing true t r e = no_channel_left t r e
 dialing false t r e = subst (Begins t) (sym e)
     (record { stands = dialed r.number (socket.Open t); stream = refl; going = refl; none = refl })
 
-joined-at : (kind : Kind) (crowded : Bool) (f : Forwarding) (t : ℕ) (r : Relay) → IsJoinedAt kind crowded f t r → Begins t r
-joined-at Local crowded f t r e = asking t r f.connect_host f.connect_port e
-joined-at Remote crowded f t r e = asking t r f.connect_host f.connect_port e
-joined-at Dynamic crowded f t r e = dialing crowded t r e
+joined-at : (kind : Kind) (dialogs_full : Bool) (f : Forwarding) (t : ℕ) (r : Relay) → IsJoinedAt kind dialogs_full f t r → Begins t r
+joined-at Local dialogs_full f t r e = asking t r f.connect_host f.connect_port e
+joined-at Remote dialogs_full f t r e = asking t r f.connect_host f.connect_port e
+joined-at Dynamic dialogs_full f t r e = dialing dialogs_full t r e
 
 -- that of a socket that is joined
-pub joined : (full crowded : Bool) (f : Option Forwarding) (t : ℕ) (r : Relay) → IsJoined full crowded f t r → Begins t r
-joined true crowded f t r e = surplus t r e
-joined false crowded None t r e = surplus t r e
-joined false crowded (Some f) t r e = joined-at f.kind crowded f t r e
+pub joined : (full dialogs_full : Bool) (f : Option Forwarding) (t : ℕ) (r : Relay) → IsJoined full dialogs_full f t r → Begins t r
+joined true dialogs_full f t r e = no_channel_left t r e
+joined false dialogs_full None t r e = no_channel_left t r e
+joined false dialogs_full (Some f) t r e = joined-at f.kind dialogs_full f t r e

@@ -6,7 +6,7 @@ use Rattle.mux_outside.specs.OwnStreams.{is_one}
 use Rattle.mux_outside.specs.declared.order.Order.{Order}
 use Rattle.house_relay.specs.Steps.{made_as}
 use Rattle.house_relay.specs.declared.relay.Relay.{Relay}
-use Rattle.house_relay.specs.declared.relay.Saying.{Saying}
+use Rattle.house_relay.specs.declared.relay.Outgoing.{Outgoing}
 use Rattle.house_forward.specs.Going.{GoesAt, LeavesAt, AwaitsAt, MakesAt, Obeys, swept}
 use Rattle.house_forward.specs.Links.{streams_of, has_order, IsOrderOf, made_stream, obeyed}
 use Rattle.house_forward.specs.Said.{framed, payload_of, payload_if}
@@ -29,10 +29,10 @@ pub leaves : (o : Option ℕ) (i : ℕ) (so : Relay → Relay → Type 0) (old n
     → GoesAt (Some i) so old now → new ≡ swept now → LeavesAt o so old new
 leaves o i so old now new e goes same = rw e (now, goes, same)
 
-pub said-one : (r : Relay) (o : Option Saying) (bytes : List ℕ) → is_some o ≡ true
-    → IfSome o (λ saying. bytes ≡ framed (payload_of r saying)) → bytes ≡ framed (payload_if r o)
+pub said-one : (r : Relay) (o : Option Outgoing) (bytes : List ℕ) → is_some o ≡ true
+    → IfSome o (λ outgoing. bytes ≡ framed (payload_of r outgoing)) → bytes ≡ framed (payload_if r o)
 said-one r None bytes is h = cc
-said-one r (Some saying) bytes is h = h
+said-one r (Some outgoing) bytes is h = h
 
 pub on-ok : {X E A B : Type 0} (o : Result X E) → (A → B) → OnOk o A → OnOk o B
 on-ok (Ok x) f a = f a

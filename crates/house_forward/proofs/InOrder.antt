@@ -15,8 +15,8 @@ use Rattle.house_forward.specs.declared.forwarding.Change.TheVariants as change
 use Rattle.house_forward.specs.declared.forwarding.Forwarding.{Forwarding}
 use Rattle.house_forward.specs.declared.forwarding.Stage.{Stage}
 use Rattle.house_forward.specs.declared.forwarding.Stage.TheVariants.{ToListen, Ordered, Listening, ToRequest, Requested, Live, Cancelling}
-use Rattle.house_forward.specs.declared.forwardings.Want.{Want}
-use Rattle.house_forward.specs.declared.forwardings.Want.TheVariants as want
+use Rattle.house_forward.specs.declared.forwardings.ForwardingWant.{ForwardingWant}
+use Rattle.house_forward.specs.declared.forwardings.ForwardingWant.TheVariants as want
 use Rattle.house_forward.proofs.Lists.{kept-remove, kept-set, none-found, none-passes, found-first}
 
 -- ---- in order, of what is behind a forwarding
@@ -31,22 +31,22 @@ stage-listener c port (ToListen host) = refl
 stage-listener c port Ordered = refl
 stage-listener c port (Listening l) = refl
 stage-listener change.Close port ToRequest = refl
-stage-listener change.Request port ToRequest = refl
+stage-listener change.ForwardingRequest port ToRequest = refl
 stage-listener change.Cancel port ToRequest = refl
 stage-listener (change.Live p) port ToRequest = refl
 stage-listener change.Stay port ToRequest = refl
 stage-listener change.Close port Requested = refl
-stage-listener change.Request port Requested = refl
+stage-listener change.ForwardingRequest port Requested = refl
 stage-listener change.Cancel port Requested = refl
 stage-listener (change.Live p) port Requested = refl
 stage-listener change.Stay port Requested = refl
 stage-listener change.Close port (Live p) = refl
-stage-listener change.Request port (Live p) = refl
+stage-listener change.ForwardingRequest port (Live p) = refl
 stage-listener change.Cancel port (Live p) = refl
 stage-listener (change.Live q) port (Live p) = refl
 stage-listener change.Stay port (Live p) = refl
 stage-listener change.Close port (Cancelling p) = refl
-stage-listener change.Request port (Cancelling p) = refl
+stage-listener change.ForwardingRequest port (Cancelling p) = refl
 stage-listener change.Cancel port (Cancelling p) = refl
 stage-listener (change.Live q) port (Cancelling p) = refl
 stage-listener change.Stay port (Cancelling p) = refl
@@ -56,22 +56,22 @@ stage-waits c port (ToListen host) = refl
 stage-waits c port Ordered = refl
 stage-waits c port (Listening l) = refl
 stage-waits change.Close port ToRequest = refl
-stage-waits change.Request port ToRequest = refl
+stage-waits change.ForwardingRequest port ToRequest = refl
 stage-waits change.Cancel port ToRequest = refl
 stage-waits (change.Live p) port ToRequest = refl
 stage-waits change.Stay port ToRequest = refl
 stage-waits change.Close port Requested = refl
-stage-waits change.Request port Requested = refl
+stage-waits change.ForwardingRequest port Requested = refl
 stage-waits change.Cancel port Requested = refl
 stage-waits (change.Live p) port Requested = refl
 stage-waits change.Stay port Requested = refl
 stage-waits change.Close port (Live p) = refl
-stage-waits change.Request port (Live p) = refl
+stage-waits change.ForwardingRequest port (Live p) = refl
 stage-waits change.Cancel port (Live p) = refl
 stage-waits (change.Live q) port (Live p) = refl
 stage-waits change.Stay port (Live p) = refl
 stage-waits change.Close port (Cancelling p) = refl
-stage-waits change.Request port (Cancelling p) = refl
+stage-waits change.ForwardingRequest port (Cancelling p) = refl
 stage-waits change.Cancel port (Cancelling p) = refl
 stage-waits (change.Live q) port (Cancelling p) = refl
 stage-waits change.Stay port (Cancelling p) = refl
@@ -463,7 +463,7 @@ fails fs i x e =
 
 -- ---- the first that is to be ordered or closed
 
-found-at : (s : Stage) (b : Bool) (ws : List Waiting) (f : Forwarding) (o : Option Want) (r : Option Forwarding) → f.stage ≡ s → f.closing ≡ b
+found-at : (s : Stage) (b : Bool) (ws : List Waiting) (f : Forwarding) (o : Option ForwardingWant) (r : Option Forwarding) → f.stage ≡ s → f.closing ≡ b
     → o ≡ want_in ws r → next_at s b f.serial ws o ≡ want_in ws (cond (pends s b) (Some f) r)
 found-at (ToListen host) b ws f o r is closing e = rw is refl
 found-at Ordered b ws f o r is closing e = rw is refl

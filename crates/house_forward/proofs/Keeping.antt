@@ -6,22 +6,22 @@ use Rattle.conn_messages.specs.declared.message.Message.TheVariants as message
 use Rattle.socks_dialog.specs.State.{State}
 use Rattle.socks_dialog.specs.declared.outcome.Outcome.{Outcome}
 use Rattle.socks_dialog.specs.declared.outcome.Outcome.TheVariants.{Wants, Connects, Breaks}
-use Rattle.house_relay.specs.Acts.{Act, Confirms, Refuses, Delivers, HearsEof, HearsClose, Other, taken, outcome_in, before_in}
+use Rattle.house_relay.specs.Acts.{Act, Confirms, Refuses, Delivers, ReceivesEof, ReceivesClose, Other, taken, outcome_in, before_in}
 use Rattle.house_relay.specs.Dialing.{IsReading}
-use Rattle.house_relay.specs.Line.{owed_in, in_live, hears_room, hears_close, hears_request, takes_in, takes_more, closes, answers, sends, ends, grants, over_if}
-use Rattle.house_relay.specs.Relay.{Stands, LineStands, IsDialing, stream_of, delivers, answered_in, heard_in, said_act}
-use Rattle.house_relay.specs.Steps.{said_of, connected, failing, said_open, said_confirmation, room_heard, eof_heard, close_heard, request_heard, confirmed_in, refused_in, data_heard, surplus_of, IsToDial, IsAskedFor, ComesOf, DialsIn, Dials}
+use Rattle.house_relay.specs.ChannelState.{owed_in, in_live, receives_room, receives_close, receives_request, takes_in, takes_more, closes, answers, sends, ends, grants, over_if}
+use Rattle.house_relay.specs.Relay.{Stands, LineStands, IsDialing, stream_of, delivers, answered_in, received_in, sent_act}
+use Rattle.house_relay.specs.Steps.{sent_of, connected, failing, sent_open, sent_confirmation, room_received, eof_received, close_received, request_received, confirmed_in, refused_in, data_received, no_channel_left_of, IsToDial, IsAskedFor, ComesOf, DialsIn, Dials}
 use Rattle.house_relay.specs.declared.line.Live.{Live as LiveState}
-use Rattle.house_relay.specs.declared.line.Line.{Line}
-use Rattle.house_relay.specs.declared.line.Line.TheVariants.{Dialing, Asked, Opened, Offered, Live, Over}
+use Rattle.house_relay.specs.declared.line.ChannelState.{ChannelState}
+use Rattle.house_relay.specs.declared.line.ChannelState.TheVariants.{Dialing, Asked, Opened, Offered, Live, Over}
 use Rattle.house_relay.specs.declared.relay.Relay.{Relay}
-use Rattle.house_relay.specs.declared.relay.Saying.{Saying}
-use Rattle.house_relay.specs.declared.relay.Saying.TheVariants as saying
+use Rattle.house_relay.specs.declared.relay.Outgoing.{Outgoing}
+use Rattle.house_relay.specs.declared.relay.Outgoing.TheVariants as outgoing
 use Rattle.house_relay.specs.declared.relay.Socket.{Socket}
 use Rattle.house_relay.specs.declared.relay.Socket.TheVariants as socket
-use Rattle.house_forward.specs.Going.{act_of_saying}
-use Rattle.house_forward.specs.Heard.{heard_of, act_heard}
-use Rattle.house_forward.specs.Links.{after_saying}
+use Rattle.house_forward.specs.Going.{act_of_sending}
+use Rattle.house_forward.specs.Heard.{received_of, act_received}
+use Rattle.house_forward.specs.Links.{after_sending}
 
 -- the socket stays, and no more is owed
 pub record Stays (old new : Relay) : Type 0 where
@@ -34,7 +34,7 @@ stays r = record { socket_is = refl; ended_is = refl; owes = omega arith }
 
 -- ---- lines
 
-owed-live : (step : LiveState → Line) → ((live : LiveState) → owed_in (step live) ≤ live.owed) → (line : Line)
+owed-live : (step : LiveState → ChannelState) → ((live : LiveState) → owed_in (step live) ≤ live.owed) → (line : ChannelState)
     → owed_in (in_live step line) ≤ owed_in line
 owed-live step f (Dialing dialog) = omega arith
 owed-live step f (Asked host port version) = omega arith
@@ -53,22 +53,22 @@ owed-over false live n h = h
 
 -- ---- what is heard
 
-owed-room : (n : ℕ) (line : Line) → owed_in (room_heard n line) ≤ owed_in line
-owed-room n line = owed-live (λ live. Live (hears_room n live))
+owed-room : (n : ℕ) (line : ChannelState) → owed_in (room_received n line) ≤ owed_in line
+owed-room n line = owed-live (λ live. Live (receives_room n live))
     (λ live. owed-if _ (record live { room = live.room + n }) live live.owed (omega arith) (omega arith)) line
 
-owed-eof : (line : Line) → owed_in (eof_heard line) ≤ owed_in line
+owed-eof : (line : ChannelState) → owed_in (eof_received line) ≤ owed_in line
 owed-eof line = owed-live _ (λ live. omega arith) line
 
-owed-close : (line : Line) → owed_in (close_heard line) ≤ owed_in line
-owed-close line = owed-live hears_close
-    (λ live. owed-over live.close_said (record live { close_heard = true }) live.owed (omega arith)) line
+owed-close : (line : ChannelState) → owed_in (close_received line) ≤ owed_in line
+owed-close line = owed-live receives_close
+    (λ live. owed-over live.close_sent (record live { close_received = true }) live.owed (omega arith)) line
 
-owed-request : (want : Bool) (line : Line) → owed_in (request_heard want line) ≤ owed_in line
-owed-request want line = owed-live (λ live. Live (hears_request want live))
+owed-request : (want : Bool) (line : ChannelState) → owed_in (request_received want line) ≤ owed_in line
+owed-request want line = owed-live (λ live. Live (receives_request want live))
     (λ live. owed-if _ (record live { failures = min (live.failures + 1) (2 ^ 32 - 1) }) live live.owed (omega arith) (omega arith)) line
 
-stays-confirmed : (line : Line) (remote window maximum : ℕ) (r : Relay)
+stays-confirmed : (line : ChannelState) (remote window maximum : ℕ) (r : Relay)
     → Stays r (confirmed_in line remote window maximum r)
 stays-confirmed (Dialing dialog) remote window maximum r = stays r
 stays-confirmed (Asked host port version) remote window maximum r = stays r
@@ -77,7 +77,7 @@ stays-confirmed (Offered theirs room most) remote window maximum r = stays r
 stays-confirmed (Live live) remote window maximum r = stays r
 stays-confirmed Over remote window maximum r = stays r
 
-stays-refused : (line : Line) (reason : ℕ) (r : Relay) → Stays r (refused_in line reason r)
+stays-refused : (line : ChannelState) (reason : ℕ) (r : Relay) → Stays r (refused_in line reason r)
 stays-refused (Dialing dialog) reason r = stays r
 stays-refused (Asked host port version) reason r = stays r
 stays-refused (Opened version) reason r = record { socket_is = refl; ended_is = refl; owes = omega arith }
@@ -85,11 +85,11 @@ stays-refused (Offered remote window maximum) reason r = stays r
 stays-refused (Live live) reason r = stays r
 stays-refused Over reason r = stays r
 
-stays-data : (b : Bool) (bytes : List ℕ) (r : Relay) → Stays r (data_heard b bytes r)
+stays-data : (b : Bool) (bytes : List ℕ) (r : Relay) → Stays r (data_received b bytes r)
 stays-data true bytes r = record { socket_is = refl; ended_is = refl; owes = omega arith }
 stays-data false bytes r = stays r
 
-pub stays-heard : (m : Message) (r : Relay) → Stays r (heard_of m r)
+pub stays-heard : (m : Message) (r : Relay) → Stays r (received_of m r)
 stays-heard (message.Transport number rest) r = stays r
 stays-heard (message.GlobalRequest name want rest what) r = stays r
 stays-heard (message.RequestSuccess rest) r = stays r
@@ -107,7 +107,7 @@ stays-heard (message.Success recipient) r = stays r
 stays-heard (message.Failure recipient) r = stays r
 
 -- nothing is taken by that
-answered-none : (line : Line) (act : Act) (acts : List Act) → taken (act ∷ acts) ≡ taken acts
+answered-none : (line : ChannelState) (act : Act) (acts : List Act) → taken (act ∷ acts) ≡ taken acts
     → taken (answered_in line act ∷ acts) ≡ taken acts
 answered-none (Dialing dialog) act acts e = refl
 answered-none (Asked host port version) act acts e = refl
@@ -116,8 +116,8 @@ answered-none (Offered remote window maximum) act acts e = refl
 answered-none (Live live) act acts e = refl
 answered-none Over act acts e = refl
 
-heard-none : (line : Line) (act : Act) (acts : List Act) → taken (act ∷ acts) ≡ taken acts
-    → taken (heard_in line act ∷ acts) ≡ taken acts
+heard-none : (line : ChannelState) (act : Act) (acts : List Act) → taken (act ∷ acts) ≡ taken acts
+    → taken (received_in line act ∷ acts) ≡ taken acts
 heard-none (Dialing dialog) act acts e = refl
 heard-none (Asked host port version) act acts e = refl
 heard-none (Opened version) act acts e = refl
@@ -129,7 +129,7 @@ data-none : (b : Bool) (bytes : List ℕ) (acts : List Act) → taken ((if b the
 data-none true bytes acts = refl
 data-none false bytes acts = refl
 
-pub none-heard : (m : Message) (r : Relay) (acts : List Act) → taken (act_heard m r ∷ acts) ≡ taken acts
+pub none-heard : (m : Message) (r : Relay) (acts : List Act) → taken (act_received m r ∷ acts) ≡ taken acts
 none-heard (message.Transport number rest) r acts = refl
 none-heard (message.GlobalRequest name want rest what) r acts = refl
 none-heard (message.RequestSuccess rest) r acts = refl
@@ -140,15 +140,15 @@ none-heard (message.OpenFailure recipient reason text language) r acts = answere
 none-heard (message.Adjust recipient add) r acts = refl
 none-heard (message.Data recipient bytes) r acts = data-none (delivers r) bytes.now acts
 none-heard (message.Extended recipient code bytes) r acts = refl
-none-heard (message.Eof recipient) r acts = heard-none r.line HearsEof acts refl
-none-heard (message.Close recipient) r acts = heard-none r.line HearsClose acts refl
+none-heard (message.Eof recipient) r acts = heard-none r.line ReceivesEof acts refl
+none-heard (message.Close recipient) r acts = heard-none r.line ReceivesClose acts refl
 none-heard (message.Request recipient kind want rest) r acts = refl
 none-heard (message.Success recipient) r acts = refl
 none-heard (message.Failure recipient) r acts = refl
 
 -- ---- what is said
 
-owed-open : (line : Line) → owed_in (said_open line) ≤ owed_in line
+owed-open : (line : ChannelState) → owed_in (sent_open line) ≤ owed_in line
 owed-open (Dialing dialog) = omega arith
 owed-open (Asked host port version) = omega arith
 owed-open (Opened version) = omega arith
@@ -156,7 +156,7 @@ owed-open (Offered remote window maximum) = omega arith
 owed-open (Live live) = omega arith
 owed-open Over = omega arith
 
-owed-confirmation : (line : Line) → owed_in (said_confirmation line) ≤ owed_in line
+owed-confirmation : (line : ChannelState) → owed_in (sent_confirmation line) ≤ owed_in line
 owed-confirmation (Dialing dialog) = omega arith
 owed-confirmation (Asked host port version) = omega arith
 owed-confirmation (Opened version) = omega arith
@@ -164,52 +164,52 @@ owed-confirmation (Offered remote window maximum) = omega arith
 owed-confirmation (Live live) = omega arith
 owed-confirmation Over = omega arith
 
-stays-said : (s : Saying) (r : Relay) → Stays r (said_of s r)
-stays-said saying.Open r = record { socket_is = refl; ended_is = refl; owes = owed-open r.line }
-stays-said saying.Confirmation r = record { socket_is = refl; ended_is = refl; owes = owed-confirmation r.line }
-stays-said saying.OpenFailure r = record { socket_is = refl; ended_is = refl; owes = omega arith }
-stays-said saying.Close r = record {
+stays-said : (s : Outgoing) (r : Relay) → Stays r (sent_of s r)
+stays-said outgoing.Open r = record { socket_is = refl; ended_is = refl; owes = owed-open r.line }
+stays-said outgoing.Confirmation r = record { socket_is = refl; ended_is = refl; owes = owed-confirmation r.line }
+stays-said outgoing.OpenFailure r = record { socket_is = refl; ended_is = refl; owes = omega arith }
+stays-said outgoing.Close r = record {
   socket_is = refl;
   ended_is = refl;
   owes = owed-live closes
-      (λ live. owed-over live.close_heard (record live { close_said = true; failures = 0; owed = 0 }) live.owed (omega arith)) r.line;
+      (λ live. owed-over live.close_received (record live { close_sent = true; failures = 0; owed = 0 }) live.owed (omega arith)) r.line;
 }
-stays-said saying.Failure r = record {
+stays-said outgoing.Failure r = record {
   socket_is = refl;
   ended_is = refl;
   owes = owed-live (λ live. Live (answers live)) (λ live. omega arith) r.line;
 }
-stays-said (saying.Data n) r = record {
+stays-said (outgoing.Data n) r = record {
   socket_is = refl;
   ended_is = refl;
   owes = owed-live (λ live. Live (sends n live)) (λ live. omega arith) r.line;
 }
-stays-said saying.Eof r = record {
+stays-said outgoing.Eof r = record {
   socket_is = refl;
   ended_is = refl;
   owes = owed-live (λ live. Live (ends live)) (λ live. omega arith) r.line;
 }
-stays-said (saying.Adjust n) r = record {
+stays-said (outgoing.Adjust n) r = record {
   socket_is = refl;
   ended_is = refl;
   owes = owed-live (λ live. Live (grants n live)) (λ live. omega arith) r.line;
 }
 
-pub stays-after : (o : Option Saying) (r : Relay) → Stays r (after_saying o r)
+pub stays-after : (o : Option Outgoing) (r : Relay) → Stays r (after_sending o r)
 stays-after None r = stays r
 stays-after (Some s) r = stays-said s r
 
-none-said : (s : Saying) (r : Relay) (acts : List Act) → taken (said_act s r ∷ acts) ≡ taken acts
-none-said saying.Open r acts = refl
-none-said saying.Confirmation r acts = refl
-none-said saying.OpenFailure r acts = refl
-none-said saying.Close r acts = refl
-none-said saying.Failure r acts = refl
-none-said (saying.Data n) r acts = refl
-none-said saying.Eof r acts = refl
-none-said (saying.Adjust n) r acts = refl
+none-said : (s : Outgoing) (r : Relay) (acts : List Act) → taken (sent_act s r ∷ acts) ≡ taken acts
+none-said outgoing.Open r acts = refl
+none-said outgoing.Confirmation r acts = refl
+none-said outgoing.OpenFailure r acts = refl
+none-said outgoing.Close r acts = refl
+none-said outgoing.Failure r acts = refl
+none-said (outgoing.Data n) r acts = refl
+none-said outgoing.Eof r acts = refl
+none-said (outgoing.Adjust n) r acts = refl
 
-pub none-after : (o : Option Saying) (r : Relay) (acts : List Act) → taken (act_of_saying o r ∷ acts) ≡ taken acts
+pub none-after : (o : Option Outgoing) (r : Relay) (acts : List Act) → taken (act_of_sending o r ∷ acts) ≡ taken acts
 none-after None r acts = refl
 none-after (Some s) r acts = none-said s r acts
 
@@ -220,15 +220,15 @@ pub record KeepsStream (old new : Relay) : Type 0 where
   pub stream_is : stream_of new.socket ≡ stream_of old.socket
   pub owes : owed_in new.line ≤ owed_in old.line
 
-surplus-stream : (s : Socket) → stream_of (surplus_of s) ≡ stream_of s
-surplus-stream (socket.Connecting stream) = refl
-surplus-stream (socket.Open stream) = refl
-surplus-stream socket.Unmade = refl
-surplus-stream (socket.Failed stream) = refl
-surplus-stream (socket.Surplus stream) = refl
-surplus-stream socket.Closed = refl
+no_channel_left-stream : (s : Socket) → stream_of (no_channel_left_of s) ≡ stream_of s
+no_channel_left-stream (socket.Connecting stream) = refl
+no_channel_left-stream (socket.Open stream) = refl
+no_channel_left-stream socket.Unmade = refl
+no_channel_left-stream (socket.Failed stream) = refl
+no_channel_left-stream (socket.NoChannelLeft stream) = refl
+no_channel_left-stream socket.Closed = refl
 
-dial-owes : (line : Line) → IsToDial line → owed_in line ≡ 0
+dial-owes : (line : ChannelState) → IsToDial line → owed_in line ≡ 0
 dial-owes (Dialing dialog) h = refl
 dial-owes (Asked host port version) h = absurd h
 dial-owes (Opened version) h = absurd h
@@ -236,7 +236,7 @@ dial-owes (Offered remote window maximum) h = absurd h
 dial-owes (Live live) h = absurd h
 dial-owes Over h = absurd h
 
-ask-owes : (host : List ℕ) (port : ℕ) (line : Line) → IsAskedFor host port line → owed_in line ≡ 0
+ask-owes : (host : List ℕ) (port : ℕ) (line : ChannelState) → IsAskedFor host port line → owed_in line ≡ 0
 ask-owes host port (Dialing dialog) h = absurd h
 ask-owes host port (Asked host' port' version) h = refl
 ask-owes host port (Opened version) h = absurd h
@@ -253,7 +253,7 @@ comes-keeps (Connects host port) true old new h =
     record { stream_is = ap stream_of h.1; owes = omega (arith, none) }
 comes-keeps (Connects host port) false old new h =
     let none : owed_in new.line ≡ 0 = ap owed_in h.0 in
-    record { stream_is = ap stream_of h.1 ∙ surplus-stream old.socket; owes = omega (arith, none) }
+    record { stream_is = ap stream_of h.1 ∙ no_channel_left-stream old.socket; owes = omega (arith, none) }
 comes-keeps (Breaks reply) free old new h =
     let none : owed_in new.line ≡ 0 = ap owed_in h.0 in
     record { stream_is = ap stream_of h.1; owes = omega (arith, none) }
@@ -263,7 +263,7 @@ same-keeps old new line socket =
     let same : owed_in new.line ≡ owed_in old.line = ap owed_in line in
     record { stream_is = ap stream_of socket; owes = omega (arith, same) }
 
-dials-keeps : (line : Line) (free : Bool) (bytes : List ℕ) (old new : Relay)
+dials-keeps : (line : ChannelState) (free : Bool) (bytes : List ℕ) (old new : Relay)
     → ((dialog : State) → line ≡ Dialing dialog → IsReading dialog) → DialsIn line free bytes old new → KeepsStream old new
 dials-keeps (Dialing dialog) free bytes old new reads h =
     comes-keeps (outcome_in (dialog.bytes ++ bytes)) free old new (h (reads dialog refl))
@@ -277,7 +277,7 @@ dials-keeps Over free bytes old new reads h = same-keeps old new h.0 h.1
 pub is-reading : (dials : Bool) (acts : List Act) (r : Relay) → Stands dials acts r → (dialog : State) → r.line ≡ Dialing dialog
     → IsReading dialog
 is-reading dials acts r s dialog e =
-    let d : IsDialing dialog dials acts = subst (λ (l : Line). LineStands l dials acts) e s.line in
+    let d : IsDialing dialog dials acts = subst (λ (l : ChannelState). LineStands l dials acts) e s.line in
     record {
       given = d.given ∙ ap (λ b. length (before_in b)) (sym d.bytes);
       wants = ap outcome_in d.bytes ∙ d.wants;
@@ -290,9 +290,9 @@ keeps-stream dials free acts bytes old new s h = dials-keeps old.line free bytes
 -- ---- what a socket takes
 
 owed-more : (n : ℕ) (live : LiveState) → (takes_more n live).owed ≤ live.owed + n
-owed-more n live = owed-if live.close_said live (record live { owed = live.owed + (n - live.replies); replies = live.replies - n }) (live.owed + n) (omega arith) (omega arith)
+owed-more n live = owed-if live.close_sent live (record live { owed = live.owed + (n - live.replies); replies = live.replies - n }) (live.owed + n) (omega arith) (omega arith)
 
-pub owed-takes : (n : ℕ) (line : Line) → owed_in (takes_in n line) ≤ owed_in line + n
+pub owed-takes : (n : ℕ) (line : ChannelState) → owed_in (takes_in n line) ≤ owed_in line + n
 owed-takes n (Dialing dialog) = omega arith
 owed-takes n (Asked host port version) = omega arith
 owed-takes n (Opened version) = omega arith
@@ -307,7 +307,7 @@ connected-stream (socket.Connecting stream) = refl
 connected-stream (socket.Open stream) = refl
 connected-stream socket.Unmade = refl
 connected-stream (socket.Failed stream) = refl
-connected-stream (socket.Surplus stream) = refl
+connected-stream (socket.NoChannelLeft stream) = refl
 connected-stream socket.Closed = refl
 
 pub failing-stream : (s : Socket) → stream_of (failing s) ≡ stream_of s
@@ -315,5 +315,5 @@ failing-stream (socket.Connecting stream) = refl
 failing-stream (socket.Open stream) = refl
 failing-stream socket.Unmade = refl
 failing-stream (socket.Failed stream) = refl
-failing-stream (socket.Surplus stream) = refl
+failing-stream (socket.NoChannelLeft stream) = refl
 failing-stream socket.Closed = refl

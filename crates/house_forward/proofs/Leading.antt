@@ -20,88 +20,88 @@ use Rattle.proxy_frames.specs.State.{FramerState}
 use Rattle.proxy_frames.specs.Steps.{pushed, switched, front_of, answer_to, after_front}
 use Rattle.proxy_frames.specs.declared.next.Next.{Next}
 use Rattle.proxy_frames.specs.declared.next.Next.TheVariants as next
-use Rattle.mux_outside.specs.House.{says_nothing}
-use Rattle.mux_outside.specs.HouseCalls.{Hears as HearsBytes}
+use Rattle.mux_outside.specs.House.{sends_nothing}
+use Rattle.mux_outside.specs.HouseCalls.{Receives as ReceivesBytes}
 use Rattle.mux_outside.specs.Streams.{among}
-use Rattle.house_forward.specs.Desk.{Desk, desk_of, reply_heard, ForwardingsGo, OrdersListener, MakesListener, GetsListener}
+use Rattle.house_forward.specs.ForwardingState.{ForwardingState, forwarding_state_of, reply_received, ForwardingsGo, OrdersListener, MakesListener, GetsListener}
 use Rattle.house_forward.specs.Forwardings.{has_request, listeners_of, served_at}
-use Rattle.house_forward.specs.Going.{LeavesAt, HearsOn, SaysOn, MakesAt}
-use Rattle.house_forward.specs.Links.{Offers, has_saying, is_awaited}
-use Rattle.house_forward.specs.Lives.{Course, Held, IsCourse, GoesFurther, LinksGo, HouseGoes, DeskGoes, GetsNumber, held, held_of, Follows, with_heard, cut_off, SaysIn}
-use Rattle.house_forward.specs.Said.{framed, said_by}
-use Rattle.house_forward.specs.Lives.{HearsAt, OpensFor, HearsReply, HearsMessage, HearsReading, HearsFrame, HearsFrames, HearsNext, is_grant, port_in}
+use Rattle.house_forward.specs.Going.{LeavesAt, ReceivesOn, SendsOn, MakesAt}
+use Rattle.house_forward.specs.Links.{Offers, has_sending, is_awaited}
+use Rattle.house_forward.specs.RelayTraces.{Trace, Held, IsTrace, GoesFurther, LinksGo, HouseGoes, ForwardingStateGoes, GetsNumber, held, held_of, Follows, with_received, cut_off, SendsIn}
+use Rattle.house_forward.specs.Said.{framed, sent_by}
+use Rattle.house_forward.specs.RelayTraces.{ReceivesAt, OpensFor, ReceivesReply, ReceivesMessage, ReceivesReading, ReceivesFrame, ReceivesFrames, ReceivesNext, is_grant, port_in}
 use Rattle.house_forward.specs.declared.asks.Asks.{Asks}
 use Rattle.house_forward.specs.declared.forwarding.Forwarding.{Forwarding}
 use Rattle.house_forward.specs.declared.forwardings.Forwardings.{Forwardings}
-use Rattle.house_forward.specs.declared.holdings.Stage.{Stage}
-use Rattle.house_forward.specs.declared.holdings.Stage.TheVariants.{Control, Proxy}
+use Rattle.house_forward.specs.declared.forwarder_state.Stage.{Stage}
+use Rattle.house_forward.specs.declared.forwarder_state.Stage.TheVariants.{Control, Proxy}
 use Rattle.house_forward.specs.declared.link.Link.{Link}
 use Rattle.house_forward.specs.declared.ordering.Ordering.{Ordering}
 use Rattle.house_forward.specs.declared.ordering.Ordering.TheVariants as ordering
 use Rattle.house_forward.specs.declared.relays.Relays.{Relays}
-use Rattle.house_forward.proofs.Courses.{of-same, hears, offers, says, makes, desk-goes, desk-becomes}
+use Rattle.house_forward.proofs.Traces.{of-same, receives, offers, says, makes, forwarding_state-goes, forwarding_state-becomes}
 
 -- what goes on in one way does so in another that it gives
-pub further : (P Q : Course → Course → Type 0) (old new : Held) → ((a b : Course) → P a b → Q a b)
+pub further : (P Q : Trace → Trace → Type 0) (old new : Held) → ((a b : Trace) → P a b → Q a b)
     → GoesFurther P old new → GoesFurther Q old new
-further P Q old new f goes most course is =
-    let n = goes most course is in
-    (n.0, f course n.0 n.1, n.2)
+further P Q old new f goes most trace is =
+    let n = goes most trace is in
+    (n.0, f trace n.0 n.1, n.2)
 
-pub links-further : (P Q : Course → Course → Type 0) (old new : List Link) → ((a b : Course) → P a b → Q a b)
+pub links-further : (P Q : Trace → Trace → Type 0) (old new : List Link) → ((a b : Trace) → P a b → Q a b)
     → LinksGo P old new → LinksGo Q old new
-links-further P Q old new f goes framer stage desk =
-    further P Q (held old framer stage desk) (held new framer stage desk) f (goes framer stage desk)
+links-further P Q old new f goes framer stage forwarding_state =
+    further P Q (held old framer stage forwarding_state) (held new framer stage forwarding_state) f (goes framer stage forwarding_state)
 
 -- what changes nothing
-pub stays : (P : Course → Course → Type 0) (h : Held) → ((a : Course) → P a a) → GoesFurther P h h
-stays P h same most course is = (course, same course, is)
+pub stays : (P : Trace → Trace → Type 0) (h : Held) → ((a : Trace) → P a a) → GoesFurther P h h
+stays P h same most trace is = (trace, same trace, is)
 
-pub links-stay : (P : Course → Course → Type 0) (links : List Link) → ((a : Course) → P a a) → LinksGo P links links
-links-stay P links same framer stage desk = stays P (held links framer stage desk) same
+pub links-stay : (P : Trace → Trace → Type 0) (links : List Link) → ((a : Trace) → P a a) → LinksGo P links links
+links-stay P links same framer stage forwarding_state = stays P (held links framer stage forwarding_state) same
 
 -- where the links alone go on
-pub links-house : (P : Course → Course → Type 0) (relays relays' : Relays) (fs : Forwardings) (asks : Asks)
+pub links-house : (P : Trace → Trace → Type 0) (relays relays' : Relays) (fs : Forwardings) (asks : Asks)
     → LinksGo P relays.all.items relays'.all.items → HouseGoes P relays fs asks relays' fs asks
-links-house P relays relays' fs asks goes framer stage gateway greeted = goes framer stage (desk_of gateway greeted fs asks)
+links-house P relays relays' fs asks goes framer stage gateway greeted = goes framer stage (forwarding_state_of gateway greeted fs asks)
 
 -- ---- a payload
 
 -- what is no message
 pub no-message : (reading : Result Said Bad) (bad : Bad) (relays : Relays) (fs : Forwardings) (asks : Asks) → reading ≡ Err bad
-    → HouseGoes (HearsReading reading) relays fs asks relays fs asks
+    → HouseGoes (ReceivesReading reading) relays fs asks relays fs asks
 no-message reading bad relays fs asks e =
-    links-house (HearsReading reading) relays relays fs asks
-    (subst (λ (r : Result Said Bad). LinksGo (HearsReading r) relays.all.items relays.all.items) (sym e)
-    (links-stay (HearsReading (Err bad)) relays.all.items (λ a. refl)))
+    links-house (ReceivesReading reading) relays relays fs asks
+    (subst (λ (r : Result Said Bad). LinksGo (ReceivesReading r) relays.all.items relays.all.items) (sym e)
+    (links-stay (ReceivesReading (Err bad)) relays.all.items (λ a. refl)))
 
 -- a message
 pub a-message : (reading : Result Said Bad) (m : Message) (relays : Relays) (fs : Forwardings) (asks : Asks)
     (relays' : Relays) (fs' : Forwardings) (asks' : Asks) → reading ≡ Ok (message_of m)
-    → HouseGoes (HearsMessage m) relays fs asks relays' fs' asks' → HouseGoes (HearsReading reading) relays fs asks relays' fs' asks'
+    → HouseGoes (ReceivesMessage m) relays fs asks relays' fs' asks' → HouseGoes (ReceivesReading reading) relays fs asks relays' fs' asks'
 a-message reading m relays fs asks relays' fs' asks' e goes framer stage gateway greeted =
     let old = held_of relays framer stage gateway greeted fs asks in
     let new = held_of relays' framer stage gateway greeted fs' asks' in
-    subst (λ (r : Result Said Bad). GoesFurther (HearsReading r) old new) (sym e)
-    (further (HearsMessage m) (HearsReading (Ok (message_of m))) old new (λ a b h. (m, refl, h)) (goes framer stage gateway greeted))
+    subst (λ (r : Result Said Bad). GoesFurther (ReceivesReading r) old new) (sym e)
+    (further (ReceivesMessage m) (ReceivesReading (Ok (message_of m))) old new (λ a b h. (m, refl, h)) (goes framer stage gateway greeted))
 
 -- an OPEN for a forwarding
 an-open : (address : List ℕ) (port remote window maximum : ℕ) (o : Option Forwarding) (old new : List Link) (framer : FramerState)
-    (stage : Stage) (desk : Desk) → o ≡ find (served_at address port) desk.all → (o ≡ None → new ≡ old)
+    (stage : Stage) (forwarding_state : ForwardingState) → o ≡ find (served_at address port) forwarding_state.all → (o ≡ None → new ≡ old)
     → IfSome o (λ f. Offers f remote window maximum old new)
-    → GoesFurther (λ (a : Course) (b : Course). OpensFor (find (served_at address port) a.desk.all) remote window maximum a b)
-    (held old framer stage desk) (held new framer stage desk)
-an-open address port remote window maximum None old new framer stage desk is none some = λ most course its.
-    let same = ap (λ (d : Desk). find (served_at address port) d.all) its.desk_is ∙ sym is in (
-      course,
-      subst (λ (x : Option Forwarding). OpensFor x remote window maximum course course) (sym same) refl,
-      of-same most course framer stage desk old new (none refl) its,
+    → GoesFurther (λ (a : Trace) (b : Trace). OpensFor (find (served_at address port) a.forwarding_state.all) remote window maximum a b)
+    (held old framer stage forwarding_state) (held new framer stage forwarding_state)
+an-open address port remote window maximum None old new framer stage forwarding_state is none some = λ most trace its.
+    let same = ap (λ (d : ForwardingState). find (served_at address port) d.all) its.forwarding_state_is ∙ sym is in (
+      trace,
+      subst (λ (x : Option Forwarding). OpensFor x remote window maximum trace trace) (sym same) refl,
+      of-same most trace framer stage forwarding_state old new (none refl) its,
     )
-an-open address port remote window maximum (Some f) old new framer stage desk is none some = λ most course its.
-    let same = ap (λ (d : Desk). find (served_at address port) d.all) its.desk_is ∙ sym is in
-    let n = offers f remote window maximum old new some framer stage desk most course its in (
+an-open address port remote window maximum (Some f) old new framer stage forwarding_state is none some = λ most trace its.
+    let same = ap (λ (d : ForwardingState). find (served_at address port) d.all) its.forwarding_state_is ∙ sym is in
+    let n = offers f remote window maximum old new some framer stage forwarding_state most trace its in (
       n.0,
-      subst (λ (x : Option Forwarding). OpensFor x remote window maximum course n.0) (sym same) n.1,
+      subst (λ (x : Option Forwarding). OpensFor x remote window maximum trace n.0) (sym same) n.1,
       n.2,
     )
 
@@ -110,22 +110,22 @@ pub a-forwarded : (reading : Result Said Bad) (m : Message) (kind rest address :
     → m ≡ message.Open kind remote window maximum rest what → what ≡ opens.Forwarded (keys.Tcp address port)
     → o ≡ find (served_at address.now port) fs.all.items → (o ≡ None → relays'.all.items ≡ relays.all.items)
     → IfSome o (λ f. Offers f remote window maximum relays.all.items relays'.all.items)
-    → HouseGoes (HearsReading reading) relays fs asks relays' fs asks
+    → HouseGoes (ReceivesReading reading) relays fs asks relays' fs asks
 a-forwarded reading m kind rest address remote window maximum port what o relays relays' fs asks e is forwarded found none some =
     a-message reading m relays fs asks relays' fs asks e
-    (subst (λ (x : Message). HouseGoes (HearsMessage x) relays fs asks relays' fs asks) (sym is)
-    (subst (λ (w : Opening). HouseGoes (HearsMessage (message.Open kind remote window maximum rest w)) relays fs asks relays' fs asks) (sym forwarded)
+    (subst (λ (x : Message). HouseGoes (ReceivesMessage x) relays fs asks relays' fs asks) (sym is)
+    (subst (λ (w : Opening). HouseGoes (ReceivesMessage (message.Open kind remote window maximum rest w)) relays fs asks relays' fs asks) (sym forwarded)
     (λ framer stage gateway greeted.
-    an-open address.now port remote window maximum o relays.all.items relays'.all.items framer stage (desk_of gateway greeted fs asks) found none some)))
+    an-open address.now port remote window maximum o relays.all.items relays'.all.items framer stage (forwarding_state_of gateway greeted fs asks) found none some)))
 
 -- a reply of the server
 replies : (success : Bool) (port : Option ℕ) (relays : Relays) (fs : Forwardings) (asks : Asks) (fs' : Forwardings) (asks' : Asks)
-    → ForwardingsGo (λ old new. new ≡ reply_heard success port old) fs asks fs' asks'
-    → HouseGoes (HearsReply success port) relays fs asks relays fs' asks'
+    → ForwardingsGo (λ old new. new ≡ reply_received success port old) fs asks fs' asks'
+    → HouseGoes (ReceivesReply success port) relays fs asks relays fs' asks'
 replies success port relays fs asks fs' asks' goes framer stage gateway greeted =
-    desk-becomes (reply_heard success port) (held_of relays framer stage gateway greeted fs asks)
+    forwarding_state-becomes (reply_received success port) (held_of relays framer stage gateway greeted fs asks)
     (held_of relays framer stage gateway greeted fs' asks')
-    (ap (λ (d : Desk). held relays.all.items framer stage d) (goes gateway greeted))
+    (ap (λ (d : ForwardingState). held relays.all.items framer stage d) (goes gateway greeted))
 
 -- the port that a success carries
 pub port-read : (o : Option ℕ) (bytes rest : List ℕ) → IfSome o (λ n. take_u32 bytes ≡ Some (n, rest))
@@ -135,18 +135,18 @@ port-read (Some n) bytes rest some none = sym (ap port_in some)
 
 pub a-success : (reading : Result Said Bad) (m : Message) (rest : Bor (List ℕ)) (port : Option ℕ) (relays : Relays) (fs : Forwardings) (asks : Asks)
     (fs' : Forwardings) (asks' : Asks) → reading ≡ Ok (message_of m) → m ≡ message.RequestSuccess rest → port ≡ port_in (take_u32 rest.now)
-    → ForwardingsGo (λ old new. new ≡ reply_heard true port old) fs asks fs' asks' → HouseGoes (HearsReading reading) relays fs asks relays fs' asks'
+    → ForwardingsGo (λ old new. new ≡ reply_received true port old) fs asks fs' asks' → HouseGoes (ReceivesReading reading) relays fs asks relays fs' asks'
 a-success reading m rest port relays fs asks fs' asks' e is its r =
     a-message reading m relays fs asks relays fs' asks' e
-    (subst (λ (x : Message). HouseGoes (HearsMessage x) relays fs asks relays fs' asks') (sym is)
-    (subst (λ (o : Option ℕ). HouseGoes (HearsReply true o) relays fs asks relays fs' asks') its (replies true port relays fs asks fs' asks' r)))
+    (subst (λ (x : Message). HouseGoes (ReceivesMessage x) relays fs asks relays fs' asks') (sym is)
+    (subst (λ (o : Option ℕ). HouseGoes (ReceivesReply true o) relays fs asks relays fs' asks') its (replies true port relays fs asks fs' asks' r)))
 
 pub a-failure : (reading : Result Said Bad) (m : Message) (relays : Relays) (fs : Forwardings) (asks : Asks)
     (fs' : Forwardings) (asks' : Asks) → reading ≡ Ok (message_of m) → m ≡ message.RequestFailure
-    → ForwardingsGo (λ old new. new ≡ reply_heard false None old) fs asks fs' asks' → HouseGoes (HearsReading reading) relays fs asks relays fs' asks'
+    → ForwardingsGo (λ old new. new ≡ reply_received false None old) fs asks fs' asks' → HouseGoes (ReceivesReading reading) relays fs asks relays fs' asks'
 a-failure reading m relays fs asks fs' asks' e is r =
     a-message reading m relays fs asks relays fs' asks' e
-    (subst (λ (x : Message). HouseGoes (HearsMessage x) relays fs asks relays fs' asks') (sym is)
+    (subst (λ (x : Message). HouseGoes (ReceivesMessage x) relays fs asks relays fs' asks') (sym is)
     (replies false None relays fs asks fs' asks' r))
 
 -- the channel of a message, if it is in one
@@ -196,174 +196,174 @@ its-channel m n (inr (inr (inr (inr (inr (inr (inr (inr (inr e))))))))) = ap (λ
 its : (n r : ℕ) → Some r ≡ Some n → n ≡ r
 its n r e = cc
 
-pub in-channel : (m : Message) (n : ℕ) → channel_of m ≡ Some n → (a b : Course) → HearsAt n m a b → HearsMessage m a b
+pub in-channel : (m : Message) (n : ℕ) → channel_of m ≡ Some n → (a b : Trace) → ReceivesAt n m a b → ReceivesMessage m a b
 in-channel (message.Transport number rest) n e a b h = cc
 in-channel (message.GlobalRequest name want rest what) n e a b h = cc
 in-channel (message.RequestSuccess rest) n e a b h = cc
 in-channel message.RequestFailure n e a b h = cc
 in-channel (message.Open kind sender window maximum rest what) n e a b h = cc
 in-channel (message.Confirmation recipient sender window maximum rest) n e a b h =
-    subst (λ (k : ℕ). HearsAt k (message.Confirmation recipient sender window maximum rest) a b) (its n recipient e) h
+    subst (λ (k : ℕ). ReceivesAt k (message.Confirmation recipient sender window maximum rest) a b) (its n recipient e) h
 in-channel (message.OpenFailure recipient reason text language) n e a b h =
-    subst (λ (k : ℕ). HearsAt k (message.OpenFailure recipient reason text language) a b) (its n recipient e) h
+    subst (λ (k : ℕ). ReceivesAt k (message.OpenFailure recipient reason text language) a b) (its n recipient e) h
 in-channel (message.Adjust recipient add) n e a b h =
-    subst (λ (k : ℕ). HearsAt k (message.Adjust recipient add) a b) (its n recipient e) h
+    subst (λ (k : ℕ). ReceivesAt k (message.Adjust recipient add) a b) (its n recipient e) h
 in-channel (message.Data recipient bytes) n e a b h =
-    subst (λ (k : ℕ). HearsAt k (message.Data recipient bytes) a b) (its n recipient e) h
+    subst (λ (k : ℕ). ReceivesAt k (message.Data recipient bytes) a b) (its n recipient e) h
 in-channel (message.Extended recipient code bytes) n e a b h =
-    subst (λ (k : ℕ). HearsAt k (message.Extended recipient code bytes) a b) (its n recipient e) h
+    subst (λ (k : ℕ). ReceivesAt k (message.Extended recipient code bytes) a b) (its n recipient e) h
 in-channel (message.Eof recipient) n e a b h =
-    subst (λ (k : ℕ). HearsAt k (message.Eof recipient) a b) (its n recipient e) h
+    subst (λ (k : ℕ). ReceivesAt k (message.Eof recipient) a b) (its n recipient e) h
 in-channel (message.Close recipient) n e a b h =
-    subst (λ (k : ℕ). HearsAt k (message.Close recipient) a b) (its n recipient e) h
+    subst (λ (k : ℕ). ReceivesAt k (message.Close recipient) a b) (its n recipient e) h
 in-channel (message.Request recipient kind want rest) n e a b h =
-    subst (λ (k : ℕ). HearsAt k (message.Request recipient kind want rest) a b) (its n recipient e) h
+    subst (λ (k : ℕ). ReceivesAt k (message.Request recipient kind want rest) a b) (its n recipient e) h
 in-channel (message.Success recipient) n e a b h =
-    subst (λ (k : ℕ). HearsAt k (message.Success recipient) a b) (its n recipient e) h
+    subst (λ (k : ℕ). ReceivesAt k (message.Success recipient) a b) (its n recipient e) h
 in-channel (message.Failure recipient) n e a b h =
-    subst (λ (k : ℕ). HearsAt k (message.Failure recipient) a b) (its n recipient e) h
+    subst (λ (k : ℕ). ReceivesAt k (message.Failure recipient) a b) (its n recipient e) h
 
 -- a message in a channel
 pub a-channel-message : (reading : Result Said Bad) (m : Message) (n : ℕ) (relays relays' : Relays) (fs : Forwardings) (asks : Asks)
     → reading ≡ Ok (message_of m) → channel_of m ≡ Some n
-    → LeavesAt (position (λ l. l.relay.number == n) relays.all.items) (HearsOn m) relays.all.items relays'.all.items
-    → HouseGoes (HearsReading reading) relays fs asks relays' fs asks
+    → LeavesAt (position (λ l. l.relay.number == n) relays.all.items) (ReceivesOn m) relays.all.items relays'.all.items
+    → HouseGoes (ReceivesReading reading) relays fs asks relays' fs asks
 a-channel-message reading m n relays relays' fs asks e in-it goes =
     a-message reading m relays fs asks relays' fs asks e
-    (links-house (HearsMessage m) relays relays' fs asks
-    (links-further (HearsAt n m) (HearsMessage m) relays.all.items relays'.all.items (in-channel m n in-it)
-    (hears n m relays.all.items relays'.all.items goes)))
+    (links-house (ReceivesMessage m) relays relays' fs asks
+    (links-further (ReceivesAt n m) (ReceivesMessage m) relays.all.items relays'.all.items (in-channel m n in-it)
+    (receives n m relays.all.items relays'.all.items goes)))
 
 -- ---- a frame
 
-pub grants : (content : List ℕ) (links : List Link) (framer : FramerState) (desk : Desk) → is_grant (take_u32 content) ≡ true
-    → GoesFurther (HearsFrame Control content) (held links framer Control desk) (held links (switched framing.Proxy framer) Proxy desk)
-grants content links framer desk e most course is = (
-  record course { stage = Proxy; framer = switched framing.Proxy course.framer },
+pub grants : (content : List ℕ) (links : List Link) (framer : FramerState) (forwarding_state : ForwardingState) → is_grant (take_u32 content) ≡ true
+    → GoesFurther (ReceivesFrame Control content) (held links framer Control forwarding_state) (held links (switched framing.Proxy framer) Proxy forwarding_state)
+grants content links framer forwarding_state e most trace is = (
+  record trace { stage = Proxy; framer = switched framing.Proxy trace.framer },
   rw e refl,
   record {
-    lives = is.lives;
+    relay_traces = is.relay_traces;
     past = is.past;
     framer_is = ap (switched framing.Proxy) is.framer_is;
     stage_is = refl;
-    desk_is = is.desk_is;
+    forwarding_state_is = is.forwarding_state_is;
   },
 )
 
-pub grants-none : (content : List ℕ) (links : List Link) (framer : FramerState) (desk : Desk) → is_grant (take_u32 content) ≡ false
-    → GoesFurther (HearsFrame Control content) (held links framer Control desk) (held links framer Control desk)
-grants-none content links framer desk e most course is = (course, rw e refl, is)
+pub grants-none : (content : List ℕ) (links : List Link) (framer : FramerState) (forwarding_state : ForwardingState) → is_grant (take_u32 content) ≡ false
+    → GoesFurther (ReceivesFrame Control content) (held links framer Control forwarding_state) (held links framer Control forwarding_state)
+grants-none content links framer forwarding_state e most trace is = (trace, rw e refl, is)
 
 -- where the next is no frame
-pub hears-none : (links : List Link) (framer : FramerState) (stage : Stage) (desk : Desk) → answer_to (front_of framer) ≢ next.Frame
-    → GoesFurther (HearsNext false) (held links framer stage desk) (held links (after_front (front_of framer) framer) stage desk)
-hears-none links framer stage desk none most course is = (
-  cut_off (front_of course.framer) course,
+pub receives-none : (links : List Link) (framer : FramerState) (stage : Stage) (forwarding_state : ForwardingState) → answer_to (front_of framer) ≢ next.Frame
+    → GoesFurther (ReceivesNext false) (held links framer stage forwarding_state) (held links (after_front (front_of framer) framer) stage forwarding_state)
+receives-none links framer stage forwarding_state none most trace is = (
+  cut_off (front_of trace.framer) trace,
   (subst (λ (f : FramerState). answer_to (front_of f) ≢ next.Frame) (sym is.framer_is) none, refl),
   record {
-    lives = is.lives;
+    relay_traces = is.relay_traces;
     past = is.past;
     framer_is = ap (λ (f : FramerState). after_front (front_of f) f) is.framer_is;
     stage_is = is.stage_is;
-    desk_is = is.desk_is;
+    forwarding_state_is = is.forwarding_state_is;
   },
 )
 
 -- where it is one
-hears-it : (content rest : List ℕ) (links : List Link) (framer : FramerState) (stage : Stage) (desk : Desk) (new : Held)
+receives-it : (content rest : List ℕ) (links : List Link) (framer : FramerState) (stage : Stage) (forwarding_state : ForwardingState) (new : Held)
     → front_of framer ≡ Frame content rest
-    → GoesFurther (HearsFrame stage content) (held links (after_front (Frame content rest) framer) stage desk) new
-    → GoesFurther (HearsNext true) (held links framer stage desk) new
-hears-it content rest links framer stage desk new front goes most course is =
-    let n = goes most (cut_off (Frame content rest) course) (record {
-      lives = is.lives;
+    → GoesFurther (ReceivesFrame stage content) (held links (after_front (Frame content rest) framer) stage forwarding_state) new
+    → GoesFurther (ReceivesNext true) (held links framer stage forwarding_state) new
+receives-it content rest links framer stage forwarding_state new front goes most trace is =
+    let n = goes most (cut_off (Frame content rest) trace) (record {
+      relay_traces = is.relay_traces;
       past = is.past;
       framer_is = ap (after_front (Frame content rest)) is.framer_is;
       stage_is = is.stage_is;
-      desk_is = is.desk_is;
+      forwarding_state_is = is.forwarding_state_is;
     }) in (
       n.0,
       (
         content,
         rest,
         ap front_of is.framer_is ∙ front,
-        subst (λ (s : Stage). HearsFrame s content (cut_off (Frame content rest) course) n.0) (sym is.stage_is) n.1,
+        subst (λ (s : Stage). ReceivesFrame s content (cut_off (Frame content rest) trace) n.0) (sym is.stage_is) n.1,
       ),
       n.2,
     )
 
-pub hears-front : (front : Front) (links : List Link) (framer : FramerState) (stage : Stage) (desk : Desk) (new : Held)
+pub receives-front : (front : Front) (links : List Link) (framer : FramerState) (stage : Stage) (forwarding_state : ForwardingState) (new : Held)
     → front_of framer ≡ front → answer_to front ≡ next.Frame
-    → IfSome (after_front front framer).current (λ content. GoesFurther (HearsFrame stage content)
-    (held links (after_front front framer) stage desk) new)
-    → GoesFurther (HearsNext true) (held links framer stage desk) new
-hears-front (Frame content rest) links framer stage desk new front is goes =
-    hears-it content rest links framer stage desk new front goes
-hears-front More links framer stage desk new front is goes = cc
-hears-front (Faulty fault) links framer stage desk new front is goes = cc
+    → IfSome (after_front front framer).current (λ content. GoesFurther (ReceivesFrame stage content)
+    (held links (after_front front framer) stage forwarding_state) new)
+    → GoesFurther (ReceivesNext true) (held links framer stage forwarding_state) new
+receives-front (Frame content rest) links framer stage forwarding_state new front is goes =
+    receives-it content rest links framer stage forwarding_state new front goes
+receives-front More links framer stage forwarding_state new front is goes = cc
+receives-front (Faulty fault) links framer stage forwarding_state new front is goes = cc
 
 -- ---- as the frame is current
 
 -- one that grants the proxy
-pub grants-frame : (current : Option (List ℕ)) (content : List ℕ) (links : List Link) (framer after : FramerState) (stage : Stage) (desk : Desk)
+pub grants-frame : (current : Option (List ℕ)) (content : List ℕ) (links : List Link) (framer after : FramerState) (stage : Stage) (forwarding_state : ForwardingState)
     → stage ≡ Control → current ≡ Some content → is_grant (take_u32 content) ≡ true → after ≡ switched framing.Proxy framer
-    → IfSome current (λ x. GoesFurther (HearsFrame stage x) (held links framer stage desk) (held links after Proxy desk))
-grants-frame current content links framer after stage desk control is grant same =
-    subst (λ (o : Option (List ℕ)). IfSome o (λ x. GoesFurther (HearsFrame stage x) (held links framer stage desk) (held links after Proxy desk))) (sym is)
-    (subst (λ (s : Stage). GoesFurther (HearsFrame s content) (held links framer s desk) (held links after Proxy desk)) (sym control)
-    (subst (λ (f : FramerState). GoesFurther (HearsFrame Control content) (held links framer Control desk) (held links f Proxy desk)) (sym same)
-    (grants content links framer desk grant)))
+    → IfSome current (λ x. GoesFurther (ReceivesFrame stage x) (held links framer stage forwarding_state) (held links after Proxy forwarding_state))
+grants-frame current content links framer after stage forwarding_state control is grant same =
+    subst (λ (o : Option (List ℕ)). IfSome o (λ x. GoesFurther (ReceivesFrame stage x) (held links framer stage forwarding_state) (held links after Proxy forwarding_state))) (sym is)
+    (subst (λ (s : Stage). GoesFurther (ReceivesFrame s content) (held links framer s forwarding_state) (held links after Proxy forwarding_state)) (sym control)
+    (subst (λ (f : FramerState). GoesFurther (ReceivesFrame Control content) (held links framer Control forwarding_state) (held links f Proxy forwarding_state)) (sym same)
+    (grants content links framer forwarding_state grant)))
 
 -- a payload
 pub proxy-frame : (current : Option (List ℕ)) (content : List ℕ) (relays : Relays) (fs : Forwardings) (asks : Asks)
     (relays' : Relays) (fs' : Forwardings) (asks' : Asks) (framer : FramerState) (stage : Stage) (gateway greeted : Bool)
-    → stage ≡ Proxy → current ≡ Some content → HouseGoes (HearsReading (reading content)) relays fs asks relays' fs' asks'
-    → IfSome current (λ x. GoesFurther (HearsFrame stage x) (held_of relays framer stage gateway greeted fs asks)
+    → stage ≡ Proxy → current ≡ Some content → HouseGoes (ReceivesReading (reading content)) relays fs asks relays' fs' asks'
+    → IfSome current (λ x. GoesFurther (ReceivesFrame stage x) (held_of relays framer stage gateway greeted fs asks)
     (held_of relays' framer stage gateway greeted fs' asks'))
 proxy-frame current content relays fs asks relays' fs' asks' framer stage gateway greeted proxy is goes =
-    subst (λ (o : Option (List ℕ)). IfSome o (λ x. GoesFurther (HearsFrame stage x) (held_of relays framer stage gateway greeted fs asks)
+    subst (λ (o : Option (List ℕ)). IfSome o (λ x. GoesFurther (ReceivesFrame stage x) (held_of relays framer stage gateway greeted fs asks)
     (held_of relays' framer stage gateway greeted fs' asks'))) (sym is)
-    (subst (λ (s : Stage). GoesFurther (HearsFrame s content) (held_of relays framer s gateway greeted fs asks)
+    (subst (λ (s : Stage). GoesFurther (ReceivesFrame s content) (held_of relays framer s gateway greeted fs asks)
     (held_of relays' framer s gateway greeted fs' asks')) (sym proxy) (goes framer Proxy gateway greeted))
 
 -- as it is cut
-pub next-hears : (answer : Next) (links : List Link) (framer cut : FramerState) (stage : Stage) (desk : Desk) (new : Held)
+pub next-receives : (answer : Next) (links : List Link) (framer cut : FramerState) (stage : Stage) (forwarding_state : ForwardingState) (new : Held)
     → answer ≡ answer_to (front_of framer) → answer ≡ next.Frame → cut ≡ after_front (front_of framer) framer
-    → IfSome cut.current (λ content. GoesFurther (HearsFrame stage content) (held links cut stage desk) new)
-    → GoesFurther (HearsNext true) (held links framer stage desk) new
-next-hears answer links framer cut stage desk new is one same goes =
-    hears-front (front_of framer) links framer stage desk new refl (sym is ∙ one)
-    (subst (λ (f : FramerState). IfSome f.current (λ content. GoesFurther (HearsFrame stage content) (held links f stage desk) new))
+    → IfSome cut.current (λ content. GoesFurther (ReceivesFrame stage content) (held links cut stage forwarding_state) new)
+    → GoesFurther (ReceivesNext true) (held links framer stage forwarding_state) new
+next-receives answer links framer cut stage forwarding_state new is one same goes =
+    receives-front (front_of framer) links framer stage forwarding_state new refl (sym is ∙ one)
+    (subst (λ (f : FramerState). IfSome f.current (λ content. GoesFurther (ReceivesFrame stage content) (held links f stage forwarding_state) new))
     same goes)
 
 -- ---- frame by frame
 
 -- whatever the frames that come bring what is now to, they and those before bring what was to it
 abbrev pub LeadsOn : Held → Held → Type 0
-LeadsOn old now = (most : ℕ) (course : Course) → IsCourse most course old
-    → (middle : Course) × IsCourse most middle now
-    × ((contents : List (List ℕ)) (last : Course) → HearsFrames contents middle last
-    → (more : List (List ℕ)) × HearsFrames more course last)
+LeadsOn old now = (most : ℕ) (trace : Trace) → IsTrace most trace old
+    → (middle : Trace) × IsTrace most middle now
+    × ((contents : List (List ℕ)) (last : Trace) → ReceivesFrames contents middle last
+    → (more : List (List ℕ)) × ReceivesFrames more trace last)
 
 pub leads-first : (h : Held) → LeadsOn h h
-leads-first h most course is = (course, is, λ contents last more. (contents, more))
+leads-first h most trace is = (trace, is, λ contents last more. (contents, more))
 
-pub leads-next : (old now new : Held) → LeadsOn old now → GoesFurther (HearsNext true) now new → LeadsOn old new
-leads-next old now new leads goes most course is =
-    let m = leads most course is in
+pub leads-next : (old now new : Held) → LeadsOn old now → GoesFurther (ReceivesNext true) now new → LeadsOn old new
+leads-next old now new leads goes most trace is =
+    let m = leads most trace is in
     let n = goes most m.0 m.1 in
     (n.0, n.2, λ contents last more. m.2 (n.1.0 ∷ contents) last (n.1.1, n.1.2, (n.0, n.1.3, more)))
 
-pub leads-last : (bytes : List ℕ) (links : List Link) (framer : FramerState) (stage : Stage) (desk : Desk) (now new : Held)
-    → LeadsOn (held links (pushed bytes framer) stage desk) now → GoesFurther (HearsNext false) now new
-    → GoesFurther (Follows (HearsBytes bytes)) (held links framer stage desk) new
-leads-last bytes links framer stage desk now new leads goes most course is =
-    let m = leads most (with_heard bytes course) (record {
-      lives = is.lives;
+pub leads-last : (bytes : List ℕ) (links : List Link) (framer : FramerState) (stage : Stage) (forwarding_state : ForwardingState) (now new : Held)
+    → LeadsOn (held links (pushed bytes framer) stage forwarding_state) now → GoesFurther (ReceivesNext false) now new
+    → GoesFurther (Follows (ReceivesBytes bytes)) (held links framer stage forwarding_state) new
+leads-last bytes links framer stage forwarding_state now new leads goes most trace is =
+    let m = leads most (with_received bytes trace) (record {
+      relay_traces = is.relay_traces;
       past = is.past;
       framer_is = ap (pushed bytes) is.framer_is;
       stage_is = is.stage_is;
-      desk_is = is.desk_is;
+      forwarding_state_is = is.forwarding_state_is;
     }) in
     let n = goes most m.0 m.1 in
     (n.0, m.2 [] n.0 n.1, n.2)
@@ -375,30 +375,30 @@ one-is true e = refl
 one-is false e = cc
 
 -- a relay, where the house greeted and has no request, and one has something to say
-pub says-one : {E : Type 0} (o : Result Bool E) (bytes : List ℕ) (old new : List Link) (framer : FramerState) (stage : Stage) (desk : Desk)
-    → desk.greeted ≡ true → find has_request desk.all ≡ None
-    → OnOk o (says_nothing o ≡ not (list_any has_saying old))
-    → OnOk o (IfSome (find has_saying old) (λ l. bytes ≡ framed (said_by l.relay)))
-    → OnOk o (LeavesAt (position has_saying old) SaysOn old new)
-    → IfOk o (λ said. said ≡ true → GoesFurther (SaysIn bytes) (held old framer stage desk) (held new framer stage desk))
-says-one (Ok true) bytes old new framer stage desk greeted none is spelled goes =
-    λ yes. says bytes old new framer stage desk greeted none (one-is (list_any has_saying old) is) spelled goes
-says-one (Ok false) bytes old new framer stage desk greeted none is spelled goes = λ yes. absurd (false≢true yes)
-says-one (Err e) bytes old new framer stage desk greeted none is spelled goes = tt
+pub says-one : {E : Type 0} (o : Result Bool E) (bytes : List ℕ) (old new : List Link) (framer : FramerState) (stage : Stage) (forwarding_state : ForwardingState)
+    → forwarding_state.greeted ≡ true → find has_request forwarding_state.all ≡ None
+    → OnOk o (sends_nothing o ≡ not (list_any has_sending old))
+    → OnOk o (IfSome (find has_sending old) (λ l. bytes ≡ framed (sent_by l.relay)))
+    → OnOk o (LeavesAt (position has_sending old) SendsOn old new)
+    → IfOk o (λ said. said ≡ true → GoesFurther (SendsIn bytes) (held old framer stage forwarding_state) (held new framer stage forwarding_state))
+says-one (Ok true) bytes old new framer stage forwarding_state greeted none is spelled goes =
+    λ yes. says bytes old new framer stage forwarding_state greeted none (one-is (list_any has_sending old) is) spelled goes
+says-one (Ok false) bytes old new framer stage forwarding_state greeted none is spelled goes = λ yes. absurd (false≢true yes)
+says-one (Err e) bytes old new framer stage forwarding_state greeted none is spelled goes = tt
 
 -- ---- what a call leaves
 
 -- where it changes the relays alone
-pub relays-alone : (P : Course → Course → Type 0) (old : Held) (links : List Link) (f g : FramerState) (s t : Stage) (d e : Desk)
+pub relays-alone : (P : Trace → Trace → Type 0) (old : Held) (links : List Link) (f g : FramerState) (s t : Stage) (d e : ForwardingState)
     → g ≡ f → t ≡ s → e ≡ d → GoesFurther P old (held links f s d) → GoesFurther P old (held links g t e)
-relays-alone P old links f g s t d e framer stage desk goes =
+relays-alone P old links f g s t d e framer stage forwarding_state goes =
     subst (λ (x : FramerState). GoesFurther P old (held links x t e)) (sym framer)
     (subst (λ (x : Stage). GoesFurther P old (held links f x e)) (sym stage)
-    (subst (λ (x : Desk). GoesFurther P old (held links f s x)) (sym desk) goes))
+    (subst (λ (x : ForwardingState). GoesFurther P old (held links f s x)) (sym forwarding_state) goes))
 
-pub same-desk : (gateway gateway' greeted greeted' : Bool) (fs fs' : Forwardings) (asks asks' : Asks) → gateway' ≡ gateway → greeted' ≡ greeted
-    → fs' ≡ fs → asks' ≡ asks → desk_of gateway' greeted' fs' asks' ≡ desk_of gateway greeted fs asks
-same-desk gateway gateway' greeted greeted' fs fs' asks asks' e f g h = rw (e, f, g, h) refl
+pub same-forwarding_state : (gateway gateway' greeted greeted' : Bool) (fs fs' : Forwardings) (asks asks' : Asks) → gateway' ≡ gateway → greeted' ≡ greeted
+    → fs' ≡ fs → asks' ≡ asks → forwarding_state_of gateway' greeted' fs' asks' ≡ forwarding_state_of gateway greeted fs asks
+same-forwarding_state gateway gateway' greeted greeted' fs fs' asks asks' e f g h = rw (e, f, g, h) refl
 
 -- ---- what is made
 
@@ -435,30 +435,30 @@ made-so o number old new is others goes =
     subst (λ (x : Option Ordering). GetsNumber x number old new) (sym c.2) (made-number c.0 c.1 number old new others goes)
 
 -- what goes on of the forwardings does so of the house
-pub desk-by : (so : Desk → Desk → Type 0) (relays : Relays) (framer : FramerState) (stage : Stage) (gateway greeted : Bool)
+pub forwarding_state-by : (so : ForwardingState → ForwardingState → Type 0) (relays : Relays) (framer : FramerState) (stage : Stage) (gateway greeted : Bool)
     (fs : Forwardings) (asks : Asks) (fs' : Forwardings) (asks' : Asks) → ForwardingsGo so fs asks fs' asks'
-    → DeskGoes so (held_of relays framer stage gateway greeted fs asks) (held_of relays framer stage gateway greeted fs' asks')
-desk-by so relays framer stage gateway greeted fs asks fs' asks' goes = (refl, goes gateway greeted)
+    → ForwardingStateGoes so (held_of relays framer stage gateway greeted fs asks) (held_of relays framer stage gateway greeted fs' asks')
+forwarding_state-by so relays framer stage gateway greeted fs asks fs' asks' goes = (refl, goes gateway greeted)
 
 -- no other listener has this number
-abbrev pub IsFresh : Option ℕ → Desk → Type 0
+abbrev pub IsFresh : Option ℕ → ForwardingState → Type 0
 IsFresh number d = IfSome number (λ l. among l (listeners_of d.all) ≡ false)
 
 -- what was ordered of the desk, and what came of it
-both-desks : (host : List ℕ) (port : ℕ) (number : Option ℕ) (before old new : Held) → DeskGoes (OrdersListener host port) before old
-    → IsFresh number old.desk → DeskGoes (MakesListener number) old new → DeskGoes (GetsListener host port number) before new
-both-desks host port number before old new a fresh b = (
-  b.0 ∙ ap (λ (h : Held). record h { desk = new.desk }) a.0,
-  record { between = old.desk; orders = a.1; fresh = fresh; makes = b.1 },
+both-forwarding_states : (host : List ℕ) (port : ℕ) (number : Option ℕ) (before old new : Held) → ForwardingStateGoes (OrdersListener host port) before old
+    → IsFresh number old.forwarding_state → ForwardingStateGoes (MakesListener number) old new → ForwardingStateGoes (GetsListener host port number) before new
+both-forwarding_states host port number before old new a fresh b = (
+  b.0 ∙ ap (λ (h : Held). record h { forwarding_state = new.forwarding_state }) a.0,
+  record { between = old.forwarding_state; orders = a.1; fresh = fresh; makes = b.1 },
 )
 
-listened-number : (host : List ℕ) (port : ℕ) (number : Option ℕ) (old new : Held) → IsFresh number old.desk
-    → DeskGoes (MakesListener number) old new → GetsNumber (Some (ordering.Listen host port)) number old new
+listened-number : (host : List ℕ) (port : ℕ) (number : Option ℕ) (old new : Held) → IsFresh number old.forwarding_state
+    → ForwardingStateGoes (MakesListener number) old new → GetsNumber (Some (ordering.Listen host port)) number old new
 listened-number host port number old new fresh goes = λ before awaits.
-    desk-goes (GetsListener host port number) before new (both-desks host port number before old new awaits fresh goes)
+    forwarding_state-goes (GetsListener host port number) before new (both-forwarding_states host port number before old new awaits fresh goes)
 
-pub listened-so : (o : Option Ordering) (number : Option ℕ) (old new : Held) → listens o ≡ true → IsFresh number old.desk
-    → DeskGoes (MakesListener number) old new → GetsNumber o number old new
+pub listened-so : (o : Option Ordering) (number : Option ℕ) (old new : Held) → listens o ≡ true → IsFresh number old.forwarding_state
+    → ForwardingStateGoes (MakesListener number) old new → GetsNumber o number old new
 listened-so o number old new is fresh goes =
     let l = listen-of o is in
     subst (λ (x : Option Ordering). GetsNumber x number old new) (sym l.2) (listened-number l.0 l.1 number old new fresh goes)

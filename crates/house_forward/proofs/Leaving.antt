@@ -7,9 +7,9 @@ use Rattle.std.proofs.lemmas.List.Edits.{length-remove}
 use Rattle.std.proofs.lemmas.List.Quantifiers.{position-Some}
 use Rattle.mux_outside.specs.Streams.{among, without}
 use Rattle.house_forward.specs.Asks.{settled, settle_one, settled_at, is_about, refused, counted}
-use Rattle.house_forward.specs.Desk.{Desk, reply_heard, ForwardingsGo, OrdersListener, MakesListener, EndsListener}
+use Rattle.house_forward.specs.ForwardingState.{ForwardingState, reply_received, ForwardingsGo, OrdersListener, MakesListener, EndsListener}
 use Rattle.house_forward.specs.Due.{forwarding_due}
-use Rattle.house_forward.specs.Forwardings.{listeners_of, listeners_made, to_listen, is_in_order, has_listener, changed, is_asked, is_cancelled, MadeAt, ordered_asks, serial_of, after_close, after_saying, Opens}
+use Rattle.house_forward.specs.Forwardings.{listeners_of, listeners_made, to_listen, is_in_order, has_listener, changed, is_asked, is_cancelled, MadeAt, ordered_asks, serial_of, after_close, after_sending, Opens}
 use Rattle.house_forward.specs.Forwardings.{opened_asks, live_in, replied_asks, replied_all, first_of}
 use Rattle.house_forward.specs.Known.{open_ask, open_asks}
 use Rattle.house_forward.specs.declared.asks.Asked.{Asked}
@@ -21,8 +21,8 @@ use Rattle.house_forward.specs.declared.asks.Waiting.{Waiting}
 use Rattle.house_forward.specs.declared.forwarding.Change.{Change}
 use Rattle.house_forward.specs.declared.forwarding.Change.TheVariants as change
 use Rattle.house_forward.specs.declared.forwarding.Forwarding.{Forwarding}
-use Rattle.house_forward.specs.declared.forwarding.Request.{Request}
-use Rattle.house_forward.specs.declared.forwarding.Request.TheVariants.{Listen, Cancel}
+use Rattle.house_forward.specs.declared.forwarding.ForwardingRequest.{ForwardingRequest}
+use Rattle.house_forward.specs.declared.forwarding.ForwardingRequest.TheVariants.{Listen, Cancel}
 use Rattle.house_forward.specs.declared.forwarding.Stage.TheVariants.{Ordered, Listening}
 use Rattle.house_forward.specs.declared.forwardings.Forwardings.{Forwardings}
 use Rattle.house_forward.specs.declared.rules.Ends.{Ends}
@@ -73,7 +73,7 @@ opens : (o : Option Outcome) (serial at : ℕ) (ws : List Waiting) → SameAsks 
 opens None serial at ws = same-asks ws
 opens (Some outcome) serial at ws = settles serial true at outcome ws
 
-replied-asks : (success : Bool) (port : Option ℕ) (r : Option Request) (fs : List Forwarding) (at : ℕ) (ws : List Waiting)
+replied-asks : (success : Bool) (port : Option ℕ) (r : Option ForwardingRequest) (fs : List Forwarding) (at : ℕ) (ws : List Waiting)
     → SameAsks ws (replied_asks success port r fs at ws)
 replied-asks true port None fs at ws = same-asks ws
 replied-asks false port None fs at ws = same-asks ws
@@ -130,8 +130,8 @@ pub closes-same : (comes : Asked) (fs : List Forwarding) → SameListeners fs (a
 closes-same (Now outcome) fs = record { listeners = refl; count = refl }
 closes-same (Later serial) fs = changes change.Close serial fs
 
-pub says-same : (r : Request) (fs : List Forwarding) → SameListeners fs (after_saying r fs)
-says-same (Listen serial) fs = changes change.Request serial fs
+pub says-same : (r : ForwardingRequest) (fs : List Forwarding) → SameListeners fs (after_sending r fs)
+says-same (Listen serial) fs = changes change.ForwardingRequest serial fs
 says-same (Cancel serial) fs = changes change.Cancel serial fs
 
 -- ---- a reply of the server
@@ -172,12 +172,12 @@ pub record RepliedMore (fs : Forwardings) (asks : Asks) (fs' : Forwardings) (ask
   pub fewer : length fs'.all.items ≤ length fs.all.items
 
 pub replied-more : (success : Bool) (port : Option ℕ) (fs : Forwardings) (asks : Asks) (fs' : Forwardings) (asks' : Asks)
-    → ForwardingsGo (λ old new. new ≡ reply_heard success port old) fs asks fs' asks' → RepliedMore fs asks fs' asks'
+    → ForwardingsGo (λ old new. new ≡ reply_received success port old) fs asks fs' asks' → RepliedMore fs asks fs' asks'
 replied-more success port fs asks fs' asks' goes =
     let e = goes false false in
     let r = first_of fs.requests.items in
-    let all : fs'.all.items ≡ replied_all success port r fs.all.items = ap (λ (d : Desk). d.all) e in
-    let waiting : asks'.waiting.items ≡ replied_asks success port r fs.all.items asks.done asks.waiting.items = ap (λ (d : Desk). d.waiting) e in
+    let all : fs'.all.items ≡ replied_all success port r fs.all.items = ap (λ (d : ForwardingState). d.all) e in
+    let waiting : asks'.waiting.items ≡ replied_asks success port r fs.all.items asks.done asks.waiting.items = ap (λ (d : ForwardingState). d.waiting) e in
     let keeps = subst (KeepsListeners fs.all.items) (sym all) (on-reply KeepsListeners on-reply-keeps success port r fs.all.items) in record {
       same = subst (SameAsks asks.waiting.items) (sym waiting) (replied-asks success port r fs.all.items asks.done asks.waiting.items);
       listeners = keeps.listeners;
@@ -187,23 +187,23 @@ replied-more success port fs asks fs' asks' goes =
 -- ---- orders about listeners
 
 -- the first that has no listener yet is ordered
-pub ordered-more : (host : List ℕ) (port : ℕ) (old new : Desk) → OrdersListener host port old new → is_in_order old.all ≡ true
+pub ordered-more : (host : List ℕ) (port : ℕ) (old new : ForwardingState) → OrdersListener host port old new → is_in_order old.all ≡ true
     → IsOrdered old.all new.all
 ordered-more host port old new h order =
     let f = h.ordered.0 in
     subst (IsOrdered old.all) (sym h.ordered.2) (orders old.all h.place f (record f { stage = Ordered }) h.first h.ordered.1 order refl)
 
 -- a listener is closed
-pub record EndedMore (l : ℕ) (old new : Desk) : Type 0 where
+pub record EndedMore (l : ℕ) (old new : ForwardingState) : Type 0 where
   pub among : among l (listeners_of old.all) ≡ true
   pub listeners : listeners_of new.all ≡ without l (listeners_of old.all)
   pub due : sum_by forwarding_due new.all + 1 ≤ sum_by forwarding_due old.all
   pub same : SameAsks old.waiting new.waiting
 
-pub ended-more : (l : ℕ) (old new : Desk) → EndsListener l old new → EndedMore l old new
+pub ended-more : (l : ℕ) (old new : ForwardingState) → EndsListener l old new → EndedMore l old new
 ended-more l old new h =
-    let all : new.all ≡ filter (λ f. not (has_listener l f)) old.all = ap (λ (d : Desk). d.all) h.others in
-    let waiting : new.waiting ≡ settled h.serial false old.done Done old.waiting = ap (λ (d : Desk). d.waiting) h.others in
+    let all : new.all ≡ filter (λ f. not (has_listener l f)) old.all = ap (λ (d : ForwardingState). d.all) h.others in
+    let waiting : new.waiting ≡ settled h.serial false old.done Done old.waiting = ap (λ (d : ForwardingState). d.waiting) h.others in
     let u = unlistens old.waiting old.all h.serial l h.next in record {
       among = u.among;
       listeners = ap listeners_of all ∙ listeners-without l old.all;
@@ -212,7 +212,7 @@ ended-more l old new h =
     }
 
 -- one is made, or couldn't be
-pub record MadeMore (number : Option ℕ) (old new : Desk) : Type 0 where
+pub record MadeMore (number : Option ℕ) (old new : ForwardingState) : Type 0 where
   pub listeners : listeners_of new.all ≡ listeners_of old.all ++ listeners_made number
   pub due : sum_by forwarding_due new.all + 1 ≤ sum_by forwarding_due old.all
   pub same : SameAsks old.waiting new.waiting
@@ -229,12 +229,12 @@ made-all (Some l) i old new e order h =
     let n = made old i l (record f { stage = Listening l }) f e order refl in
     rw h.2 (n.listeners, n.due)
 
-pub made-more : (number : Option ℕ) (old new : Desk) → MakesListener number old new → is_in_order old.all ≡ true
+pub made-more : (number : Option ℕ) (old new : ForwardingState) → MakesListener number old new → is_in_order old.all ≡ true
     → MadeMore number old new
 made-more number old new h order =
     let n = made-all number h.place old.all new.all h.first order h.made in
     let waiting : new.waiting ≡ ordered_asks number (serial_of (find to_listen old.all)) old.done old.waiting =
-    ap (λ (d : Desk). d.waiting) h.others in record {
+    ap (λ (d : ForwardingState). d.waiting) h.others in record {
       listeners = n.0;
       due = n.1;
       same = subst (SameAsks old.waiting) (sym waiting)

@@ -5,9 +5,9 @@ use Rattle.std.specs.List.{cons_option, remove}
 use Rattle.std.proofs.lemmas.Bool.{and_parts, both_ways, cases_Bool, eqb-true}
 use Rattle.mux_outside.specs.Streams.{among}
 use Rattle.house_forward.specs.Asks.{turns_away}
-use Rattle.house_forward.specs.Deeds.{Deed, Does, Leave}
-use Rattle.house_forward.specs.Deeds.{Begins, Asks, Answers, Greets, Requests, Replies, Listens, Unlistens}
-use Rattle.house_forward.specs.Desk.{Desk, GetsListener, standing_at}
+use Rattle.house_forward.specs.ForwarderEvents.{ForwarderEvent, Does, Leave}
+use Rattle.house_forward.specs.ForwarderEvents.{Begins, Asks, Answers, Greets, Requests, Replies, Listens, Unlistens}
+use Rattle.house_forward.specs.ForwardingState.{ForwardingState, GetsListener, standing_at}
 use Rattle.house_forward.specs.Forwardings.{is_numbered, changed, request_of, first_of, MadeAt, listener_of, listeners_of, has_listener}
 use Rattle.house_forward.specs.declared.forwarding.Change.{Change}
 use Rattle.house_forward.specs.declared.forwarding.Change.TheVariants as change
@@ -17,7 +17,7 @@ use Rattle.house_forward.proofs.Adding.{HoldsOnAsk, on-starts, on-ask}
 use Rattle.house_forward.proofs.Differing.{Apart}
 use Rattle.house_forward.proofs.InOrder.{changed-listener, first_listens, among-first, among-more}
 use Rattle.house_forward.proofs.Members.{In, out-map, out-filter, out-remove, out-set, out-last}
-use Rattle.house_forward.proofs.Replying.{HoldsOnReply, on-saying, on-reply}
+use Rattle.house_forward.proofs.Replying.{HoldsOnReply, on-outgoing, on-reply}
 use Rattle.house_forward.proofs.Tracking.{changed-serial, numbered-above}
 
 abbrev OneEach : List Forwarding → Type 0
@@ -125,7 +125,7 @@ one-made : (number : Option ℕ) (i : ℕ) (old new : List Forwarding) → IfSom
 one-made None i old new fresh m one = kept old new (subst (From old) (sym m) (from-remove old i)) one
 one-made (Some l) i old new fresh m one = subst OneEach (sym m.2) (one-new l i m.0 old fresh one)
 
-one-listened : (host : List ℕ) (port : ℕ) (number : Option ℕ) (old new : Desk) → GetsListener host port number old new
+one-listened : (host : List ℕ) (port : ℕ) (number : Option ℕ) (old new : ForwardingState) → GetsListener host port number old new
     → OneEach old.all → OneEach new.all
 one-listened host port number old new h one =
     let b = h.between in
@@ -134,26 +134,26 @@ one-listened host port number old new h one =
 
 -- ---- by all that happened
 
-after : (deed : Deed) (old new : Desk) → Does deed old new → OneEach old.all → OneEach new.all
+after : (forwarder_event : ForwarderEvent) (old new : ForwardingState) → Does forwarder_event old new → OneEach old.all → OneEach new.all
 after (Begins starts) old new d one =
     kept old.all new.all (on-starts From on-ask-from starts.gateway starts.asks (length starts.asks) (standing_at old) (standing_at new) (omega arith) d.begins) one
 after (Asks client id opening ask answer) old new d one =
     kept old.all new.all (on-ask From on-ask-from (turns_away client id old.waiting) old.gateway opening ask old.serials old.all new.all d.came_to d.comes) one
-after (Answers client id answer) old new d one = subst OneEach (sym (ap (λ (x : Desk). x.all) d.others)) one
-after Greets old new d one = subst OneEach (sym (ap (λ (x : Desk). x.all) d.1)) one
+after (Answers client id answer) old new d one = subst OneEach (sym (ap (λ (x : ForwardingState). x.all) d.others)) one
+after Greets old new d one = subst OneEach (sym (ap (λ (x : ForwardingState). x.all) d.1)) one
 after (Requests f) old new d one =
-    kept old.all new.all (subst (From old.all) (sym (ap (λ (x : Desk). x.all) d.2)) (on-saying From on-reply-from (request_of f) old.all)) one
+    kept old.all new.all (subst (From old.all) (sym (ap (λ (x : ForwardingState). x.all) d.2)) (on-outgoing From on-reply-from (request_of f) old.all)) one
 after (Replies success port) old new d one =
-    kept old.all new.all (subst (From old.all) (sym (ap (λ (x : Desk). x.all) d)) (on-reply From on-reply-from success port (first_of old.requests) old.all)) one
+    kept old.all new.all (subst (From old.all) (sym (ap (λ (x : ForwardingState). x.all) d)) (on-reply From on-reply-from success port (first_of old.requests) old.all)) one
 after (Listens host port number) old new d one = one-listened host port number old new d one
 after (Unlistens l) old new d one =
-    kept old.all new.all (subst (From old.all) (sym (ap (λ (x : Desk). x.all) d.others))
+    kept old.all new.all (subst (From old.all) (sym (ap (λ (x : ForwardingState). x.all) d.others))
     (from-filter (λ f. not (has_listener l f)) old.all)) one
 
-pub one-each : (deeds : List Deed) (desk : Desk) → Leave deeds desk → (l : ℕ) (f g : Forwarding) → In f desk.all → In g desk.all
+pub one-each : (forwarder_events : List ForwarderEvent) (forwarding_state : ForwardingState) → Leave forwarder_events forwarding_state → (l : ℕ) (f g : Forwarding) → In f forwarding_state.all → In g forwarding_state.all
     → listener_of f ≡ Some l → listener_of g ≡ Some l → f.serial ≡ g.serial
-one-each [] desk left = subst (λ (d : Desk). OneEach d.all) (sym left) (λ l f g here there is its. absurd here)
-one-each (deed ∷ deeds) desk left = after deed left.0 desk left.2 (one-each deeds left.0 left.1)
+one-each [] forwarding_state left = subst (λ (d : ForwardingState). OneEach d.all) (sym left) (λ l f g here there is its. absurd here)
+one-each (forwarder_event ∷ forwarder_events) forwarding_state left = after forwarder_event left.0 forwarding_state left.2 (one-each forwarder_events left.0 left.1)
 
 -- ---- each has a number of its own
 

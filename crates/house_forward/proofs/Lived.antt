@@ -6,14 +6,14 @@ use Rattle.std.proofs.lemmas.Bool.{and_parts, or_parts, eq-eqb, not-true}
 use Rattle.std.proofs.lemmas.List.Elements.{All-nil, All-cons, All-append, All-weaker}
 use Rattle.mux_outside.specs.declared.own_streams.OwnStream.{OwnStream}
 use Rattle.house_relay.specs.Acts.{Relays}
-use Rattle.house_relay.specs.Next.{says_of, orders_of}
+use Rattle.house_relay.specs.Next.{sends_of, orders_of}
 use Rattle.house_relay.specs.Relay.{Stands, Keeps, SilentIn, IsResting, stream_of}
 use Rattle.house_relay.specs.declared.relay.Relay.{Relay}
 use Rattle.house_relay.proofs.Resting.{silent, rests}
 use Rattle.house_relay.proofs.Whole.{relays, keeps}
 use Rattle.house_forward.specs.Laws.{EachRelays, EachKeeps, EachRests, Rests}
-use Rattle.house_forward.specs.Links.{own_of, is_number, order_in, has_order, has_saying}
-use Rattle.house_forward.specs.Lives.{Life, IsLife, AreLives, IsSocketOf}
+use Rattle.house_forward.specs.Links.{own_of, is_number, order_in, has_order, has_sending}
+use Rattle.house_forward.specs.RelayTraces.{Life, IsLife, AreRelayTraces, IsSocketOf}
 use Rattle.house_forward.specs.declared.link.Link.{Link}
 use Rattle.house_forward.specs.declared.link.Stream.{Stream}
 use Rattle.house_forward.specs.declared.link.Stream.TheVariants.{Offered, Awaited, Made, Gone}
@@ -22,29 +22,29 @@ use Rattle.house_forward.proofs.Resting.{none-of, no-order}
 -- ---- all of them
 
 -- each stands for what happened in it
-stands-in : (most : ℕ) (lives : List Life) (links : List Link) → AreLives most lives links
-    → All (λ (l : Life). Stands l.dials l.acts l.relay) lives
+stands-in : (most : ℕ) (relay_traces : List Life) (links : List Link) → AreRelayTraces most relay_traces links
+    → All (λ (l : Life). Stands l.dials l.acts l.relay) relay_traces
 stands-in most [] [] are = All-nil (λ (l : Life). Stands l.dials l.acts l.relay)
 stands-in most [] (link ∷ links) are = absurd are
-stands-in most (life ∷ lives) [] are = absurd are
-stands-in most (life ∷ lives) (link ∷ links) are =
-    All-cons (λ (l : Life). Stands l.dials l.acts l.relay) life lives
+stands-in most (life ∷ relay_traces) [] are = absurd are
+stands-in most (life ∷ relay_traces) (link ∷ links) are =
+    All-cons (λ (l : Life). Stands l.dials l.acts l.relay) life relay_traces
     (subst (λ (r : Relay). Stands life.dials life.acts r) (sym are.0.relay_is) are.0.stands)
-    (stands-in most lives links are.1)
+    (stands-in most relay_traces links are.1)
 
 pub each-relays : EachRelays
 each-relays calls h lived =
     All-weaker (λ (l : Life). Stands l.dials l.acts l.relay) (λ (l : Life). Relays l.dials l.acts)
-    (λ l stands. relays l.dials l.acts l.relay stands) (lived.course.lives ++ lived.course.past)
-    (All-append (λ (l : Life). Stands l.dials l.acts l.relay) lived.course.lives lived.course.past
-    (stands-in _ lived.course.lives h.links lived.is.lives) lived.is.past)
+    (λ l stands. relays l.dials l.acts l.relay stands) (lived.trace.relay_traces ++ lived.trace.past)
+    (All-append (λ (l : Life). Stands l.dials l.acts l.relay) lived.trace.relay_traces lived.trace.past
+    (stands-in _ lived.trace.relay_traces h.links lived.is.relay_traces) lived.is.past)
 
 pub each-keeps : EachKeeps
 each-keeps calls h lived =
     All-weaker (λ (l : Life). Stands l.dials l.acts l.relay) (λ (l : Life). Keeps l.dials l.acts l.relay)
-    (λ l stands. keeps l.dials l.acts l.relay stands) (lived.course.lives ++ lived.course.past)
-    (All-append (λ (l : Life). Stands l.dials l.acts l.relay) lived.course.lives lived.course.past
-    (stands-in _ lived.course.lives h.links lived.is.lives) lived.is.past)
+    (λ l stands. keeps l.dials l.acts l.relay stands) (lived.trace.relay_traces ++ lived.trace.past)
+    (All-append (λ (l : Life). Stands l.dials l.acts l.relay) lived.trace.relay_traces lived.trace.past
+    (stands-in _ lived.trace.relay_traces h.links lived.is.relay_traces) lived.is.past)
 
 -- ---- at rest
 
@@ -58,30 +58,30 @@ stream-rests (Made own) r is order =
     rests r own is.0 (no-order (is_number own.number (stream_of r.socket)) (orders_of r own) its order)
 stream-rests Gone r is order = tt
 
-life-rests : (most : ℕ) (life : Life) (link : Link) → IsLife most life link → has_saying link ≡ false
+life-rests : (most : ℕ) (life : Life) (link : Link) → IsLife most life link → has_sending link ≡ false
     → has_order link ≡ false → Rests life
-life-rests most life link is saying order = record {
+life-rests most life link is outgoing order = record {
   silent = subst (λ (r : Relay). SilentIn r.line r) (sym is.relay_is)
-      (silent link.relay (none-of (says_of link.relay) saying));
+      (silent link.relay (none-of (sends_of link.relay) outgoing));
   resting = subst (λ (r : Relay). IfSome life.own (λ own. IsResting r own)) (sym is.relay_is)
       (subst (λ (o : Option OwnStream). IfSome o (λ own. IsResting link.relay own)) (sym is.own_is)
       (stream-rests link.stream link.relay is.socket order));
 }
 
-rest-in : (most : ℕ) (lives : List Life) (links : List Link) → AreLives most lives links
-    → list_any has_saying links ≡ false → list_any has_order links ≡ false → All Rests lives
-rest-in most [] [] are saying order = All-nil Rests
-rest-in most [] (link ∷ links) are saying order = absurd are
-rest-in most (life ∷ lives) [] are saying order = absurd are
-rest-in most (life ∷ lives) (link ∷ links) are saying order =
-    let says = or_parts (has_saying link) (list_any has_saying links) saying in
+rest-in : (most : ℕ) (relay_traces : List Life) (links : List Link) → AreRelayTraces most relay_traces links
+    → list_any has_sending links ≡ false → list_any has_order links ≡ false → All Rests relay_traces
+rest-in most [] [] are outgoing order = All-nil Rests
+rest-in most [] (link ∷ links) are outgoing order = absurd are
+rest-in most (life ∷ relay_traces) [] are outgoing order = absurd are
+rest-in most (life ∷ relay_traces) (link ∷ links) are outgoing order =
+    let says = or_parts (has_sending link) (list_any has_sending links) outgoing in
     let orders = or_parts (has_order link) (list_any has_order links) order in
-    All-cons Rests life lives (life-rests most life link are.0 says.0 orders.0)
-    (rest-in most lives links are.1 says.1 orders.1)
+    All-cons Rests life relay_traces (life-rests most life link are.0 says.0 orders.0)
+    (rest-in most relay_traces links are.1 says.1 orders.1)
 
 pub each-rests : EachRests
-each-rests calls h lived saying order =
-    let says = and_parts _ (not (list_any has_saying h.links)) (and_parts h.desk.greeted _ saying).1 in
+each-rests calls h lived outgoing order =
+    let says = and_parts _ (not (list_any has_sending h.links)) (and_parts h.forwarding_state.greeted _ outgoing).1 in
     let orders = and_parts (not (list_any has_order h.links)) _ order in
-    rest-in _ lived.course.lives h.links lived.is.lives (not-true (list_any has_saying h.links) says.1)
+    rest-in _ lived.trace.relay_traces h.links lived.is.relay_traces (not-true (list_any has_sending h.links) says.1)
     (not-true (list_any has_order h.links) orders.0)

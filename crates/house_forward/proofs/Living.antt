@@ -6,20 +6,20 @@ use Rattle.conn_messages.specs.declared.message.Message.{Message}
 use Rattle.mux_outside.specs.declared.own_streams.OwnStream.{OwnStream}
 use Rattle.mux_outside.specs.declared.piece.TheConstants.{LONGEST_PIECE}
 use Rattle.house_relay.specs.Acts.{Act, Reads, Takes, taken}
-use Rattle.house_relay.specs.Line.{owed_in, counts}
-use Rattle.house_relay.specs.Next.{says_of}
+use Rattle.house_relay.specs.ChannelState.{owed_in, counts}
+use Rattle.house_relay.specs.Next.{sends_of}
 use Rattle.house_relay.specs.Relay.{GoesOn, MayRead, stream_of}
 use Rattle.house_relay.specs.Steps.{is_closed, is_gone, made_as, taken_of}
 use Rattle.house_relay.specs.declared.relay.Relay.{Relay}
 use Rattle.house_relay.specs.declared.relay.Socket.{Socket}
 use Rattle.house_relay.specs.declared.relay.Socket.TheVariants as socket
-use Rattle.house_forward.specs.Going.{Gets, GetsOn, TakesOf, TakesOn, SaysOn, HearsOn, act_of_saying}
-use Rattle.house_forward.specs.Heard.{act_heard}
+use Rattle.house_forward.specs.Going.{Gets, GetsOn, TakesOf, TakesOn, SendsOn, ReceivesOn, act_of_sending}
+use Rattle.house_forward.specs.Heard.{act_received}
 use Rattle.house_forward.specs.Links.{own_of, numbered, is_number, has_number, is_of, is_without, is_left, is_offered, is_awaited, awaits, offers, made_stream, relay_after, stream_after, link_after}
-use Rattle.house_forward.specs.Lives.{Life, GoesBy, IsLife, IsSocketOf, IsEndOf, is_stream, has_stream, own_after, own_made, act_of, stepped, made_life, is_unmade, unmade}
+use Rattle.house_forward.specs.RelayTraces.{Life, GoesBy, IsLife, IsSocketOf, IsEndOf, is_stream, has_stream, own_after, own_made, act_of, stepped, made_life, is_unmade, unmade}
 use Rattle.house_forward.specs.declared.link.Link.{Link}
-use Rattle.house_forward.specs.declared.link.Step.{Step}
-use Rattle.house_forward.specs.declared.link.Step.TheVariants.{Pause, Finish, End, Close, Writable, Failed as Fail}
+use Rattle.house_forward.specs.declared.link.LinkStep.{LinkStep}
+use Rattle.house_forward.specs.declared.link.LinkStep.TheVariants.{Pause, Finish, End, Close, Writable, Failed as Fail}
 use Rattle.house_forward.specs.declared.link.Stream.{Stream}
 use Rattle.house_forward.specs.declared.link.Stream.TheVariants.{Offered, Awaited, Made, Gone}
 use Rattle.house_forward.proofs.Keeping.{Stays, stays-heard, none-heard, stays-after, none-after, keeps-stream, owed-takes, connected-stream, failing-stream}
@@ -58,7 +58,7 @@ not-closed (socket.Connecting stream) t e = refl
 not-closed (socket.Open stream) t e = refl
 not-closed socket.Unmade t e = refl
 not-closed (socket.Failed stream) t e = refl
-not-closed (socket.Surplus stream) t e = refl
+not-closed (socket.NoChannelLeft stream) t e = refl
 not-closed socket.Closed t e = cc
 
 left-in : (s : Stream) (r : Relay) → IsSocketOf s r → is_gone r ≡ (is_without s && is_gone r)
@@ -123,18 +123,18 @@ onward-same so act most life link r is goes on stays none =
     (socket-same link.stream link.relay r stays.socket_is stays.ended_is is.socket)
     (omega (arith, owed, less, none)) (omega (arith, few, none))
 
-pub hears : (m : Message) (most : ℕ) (life : Life) (link : Link) (r : Relay) → IsLife most life link → HearsOn m link.relay r
-    → Onward (HearsOn m) (act_heard m) most life (record link { relay = r })
-hears m most life link r is h =
-    onward-same (HearsOn m) (act_heard m) most life link r is h h.1
+pub receives : (m : Message) (most : ℕ) (life : Life) (link : Link) (r : Relay) → IsLife most life link → ReceivesOn m link.relay r
+    → Onward (ReceivesOn m) (act_received m) most life (record link { relay = r })
+receives m most life link r is h =
+    onward-same (ReceivesOn m) (act_received m) most life link r is h h.1
     (subst (λ (z : Relay). Stays link.relay z) (sym h.0) (stays-heard m link.relay)) (none-heard m link.relay life.acts)
 
-pub says : (most : ℕ) (life : Life) (link : Link) (r : Relay) → IsLife most life link → SaysOn link.relay r
-    → Onward SaysOn (λ (z : Relay). act_of_saying (says_of z) z) most life (record link { relay = r })
+pub says : (most : ℕ) (life : Life) (link : Link) (r : Relay) → IsLife most life link → SendsOn link.relay r
+    → Onward SendsOn (λ (z : Relay). act_of_sending (sends_of z) z) most life (record link { relay = r })
 says most life link r is h =
-    onward-same SaysOn (λ (z : Relay). act_of_saying (says_of z) z) most life link r is h h.1
-    (subst (λ (z : Relay). Stays link.relay z) (sym h.0) (stays-after (says_of link.relay) link.relay))
-    (none-after (says_of link.relay) link.relay life.acts)
+    onward-same SendsOn (λ (z : Relay). act_of_sending (sends_of z) z) most life link r is h h.1
+    (subst (λ (z : Relay). Stays link.relay z) (sym h.0) (stays-after (sends_of link.relay) link.relay))
+    (none-after (sends_of link.relay) link.relay life.acts)
 
 -- ---- what its socket gives
 
@@ -201,7 +201,7 @@ takes n least life link r small is h =
 
 -- ---- steps
 
-own-after : (step : Step) (s : Stream) → own_after step (own_of s) ≡ own_of (stream_after step s)
+own-after : (step : LinkStep) (s : Stream) → own_after step (own_of s) ≡ own_of (stream_after step s)
 own-after step (Offered host port) = refl
 own-after step Awaited = refl
 own-after (Pause b) (Made own) = refl
@@ -212,7 +212,7 @@ own-after Writable (Made own) = refl
 own-after Fail (Made own) = refl
 own-after step Gone = refl
 
-socket-made : (step : Step) (own : OwnStream) (r : Relay) → IsSocketOf (Made own) r
+socket-made : (step : LinkStep) (own : OwnStream) (r : Relay) → IsSocketOf (Made own) r
     → IsSocketOf (stream_after step (Made own)) (relay_after step r)
 socket-made (Pause b) own r h = h
 socket-made Finish own r h = h
@@ -221,14 +221,14 @@ socket-made Close own r h = refl
 socket-made Writable own r h = (connected-stream r.socket ∙ h.0, h.1)
 socket-made Fail own r h = (failing-stream r.socket ∙ h.0, h.1)
 
-socket-after : (t : ℕ) (step : Step) (s : Stream) (r : Relay) → numbered t s ≡ true → IsSocketOf s r
+socket-after : (t : ℕ) (step : LinkStep) (s : Stream) (r : Relay) → numbered t s ≡ true → IsSocketOf s r
     → IsSocketOf (stream_after step s) (relay_after step r)
 socket-after t step (Offered host port) r n h = cc
 socket-after t step Awaited r n h = cc
 socket-after t step (Made own) r n h = socket-made step own r h
 socket-after t step Gone r n h = cc
 
-end-made : (step : Step) (own : OwnStream) (to : Option (List ℕ × ℕ)) → IsEndOf (stream_after step (Made own)) to
+end-made : (step : LinkStep) (own : OwnStream) (to : Option (List ℕ × ℕ)) → IsEndOf (stream_after step (Made own)) to
 end-made (Pause b) own to = tt
 end-made Finish own to = tt
 end-made End own to = tt
@@ -236,14 +236,14 @@ end-made Close own to = tt
 end-made Writable own to = tt
 end-made Fail own to = tt
 
-end-after : (t : ℕ) (step : Step) (s : Stream) (to : Option (List ℕ × ℕ)) → numbered t s ≡ true
+end-after : (t : ℕ) (step : LinkStep) (s : Stream) (to : Option (List ℕ × ℕ)) → numbered t s ≡ true
     → IsEndOf (stream_after step s) to
 end-after t step (Offered host port) to n = cc
 end-after t step Awaited to n = cc
 end-after t step (Made own) to n = end-made step own to
 end-after t step Gone to n = cc
 
-owed-after : (step : Step) (r : Relay) → owed_in (relay_after step r).line ≡ owed_in r.line
+owed-after : (step : LinkStep) (r : Relay) → owed_in (relay_after step r).line ≡ owed_in r.line
 owed-after (Pause b) r = refl
 owed-after Finish r = refl
 owed-after End r = refl
@@ -251,7 +251,7 @@ owed-after Close r = refl
 owed-after Writable r = refl
 owed-after Fail r = refl
 
-none-after-step : (step : Step) (acts : List Act) → taken (act_of step ∷ acts) ≡ taken acts
+none-after-step : (step : LinkStep) (acts : List Act) → taken (act_of step ∷ acts) ≡ taken acts
 none-after-step (Pause b) acts = refl
 none-after-step Finish acts = refl
 none-after-step End acts = refl
@@ -259,7 +259,7 @@ none-after-step Close acts = refl
 none-after-step Writable acts = refl
 none-after-step Fail acts = refl
 
-steps-if : (b : Bool) (step : Step) (t most : ℕ) (life : Life) (link : Link) → has_number t link ≡ b → IsLife most life link
+steps-if : (b : Bool) (step : LinkStep) (t most : ℕ) (life : Life) (link : Link) → has_number t link ≡ b → IsLife most life link
     → IsLife most
     (if b then record life { relay = relay_after step life.relay; own = own_after step life.own; acts = act_of step ∷ life.acts } else life)
     (if b then record link { relay = relay_after step link.relay; stream = stream_after step link.stream } else link)
@@ -279,7 +279,7 @@ steps-if true step t most life link n is =
     }
 steps-if false step t most life link n is = is
 
-pub steps : (step : Step) (t most : ℕ) (life : Life) (link : Link) → IsLife most life link
+pub steps : (step : LinkStep) (t most : ℕ) (life : Life) (link : Link) → IsLife most life link
     → IsLife most (stepped step t life) (link_after step t link)
 steps step t most life link is =
     subst (λ (b : Bool). IsLife most
@@ -294,7 +294,7 @@ not-unmade (socket.Connecting stream) t e = refl
 not-unmade (socket.Open stream) t e = refl
 not-unmade socket.Unmade t e = cc
 not-unmade (socket.Failed stream) t e = refl
-not-unmade (socket.Surplus stream) t e = refl
+not-unmade (socket.NoChannelLeft stream) t e = refl
 not-unmade socket.Closed t e = refl
 
 unmade-in : (s : Stream) (r : Relay) (to : Option (List ℕ × ℕ)) → IsSocketOf s r → IsEndOf s to

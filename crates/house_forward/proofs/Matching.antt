@@ -6,15 +6,15 @@ use Rattle.std.proofs.lemmas.Bool.{or_parts, or_from, both_ways}
 use Rattle.std.proofs.lemmas.List.{get_or_default}
 use Rattle.std.proofs.lemmas.List.Elements.{All-nil, All-push}
 use Rattle.std.proofs.lemmas.List.Quantifiers.{position-Some}
-use Rattle.house_relay.specs.Line.{counts}
+use Rattle.house_relay.specs.ChannelState.{counts}
 use Rattle.house_relay.specs.Relay.{Stands}
 use Rattle.house_relay.specs.Steps.{is_gone}
 use Rattle.house_relay.specs.declared.relay.Relay.{Relay}
 use Rattle.house_forward.specs.Going.{swept, without_at}
-use Rattle.house_forward.specs.Links.{is_left, link_after, is_full, is_crowded, is_channel, is_dialog, is_awaited, dials}
-use Rattle.house_forward.specs.Lives.{Life, One, IsLife, AreLives, kept_in, left_in, stepped, are_full, are_crowded}
+use Rattle.house_forward.specs.Links.{is_left, link_after, is_full, has_full_dialogs, is_channel, is_dialog, is_awaited, dials}
+use Rattle.house_forward.specs.RelayTraces.{Life, One, IsLife, AreRelayTraces, kept_in, left_in, stepped, are_full, are_dialogs_full}
 use Rattle.house_forward.specs.declared.link.Link.{Link}
-use Rattle.house_forward.specs.declared.link.Step.{Step}
+use Rattle.house_forward.specs.declared.link.LinkStep.{LinkStep}
 use Rattle.house_forward.proofs.Lists.{none-passes}
 use Rattle.house_forward.specs.declared.rules.TheConstants.{MOST_CHANNELS, MOST_DIALOGS}
 use Rattle.house_forward.proofs.Living.{is-gone, steps, not-awaited}
@@ -61,23 +61,23 @@ there p (l ∷ ls) i e =
 
 -- ---- both lists
 
-pub record Split (most : ℕ) (lives : List Life) (before : List Link) (link : Link) (behind : List Link) : Type 0 where
+pub record Split (most : ℕ) (relay_traces : List Life) (before : List Link) (link : Link) (behind : List Link) : Type 0 where
   pub first : List Life
   pub life : Life
   pub last : List Life
-  pub were : lives ≡ first ++ life ∷ last
-  pub front : AreLives most first before
+  pub were : relay_traces ≡ first ++ life ∷ last
+  pub front : AreRelayTraces most first before
   pub is : IsLife most life link
-  pub back : AreLives most last behind
+  pub back : AreRelayTraces most last behind
 
-pub splits : (most : ℕ) (lives : List Life) (before : List Link) (link : Link) (behind : List Link)
-    → AreLives most lives (before ++ link ∷ behind) → Split most lives before link behind
+pub splits : (most : ℕ) (relay_traces : List Life) (before : List Link) (link : Link) (behind : List Link)
+    → AreRelayTraces most relay_traces (before ++ link ∷ behind) → Split most relay_traces before link behind
 splits most [] [] link behind are = absurd are
 splits most [] (x ∷ before) link behind are = absurd are
-splits most (l ∷ lives) [] link behind are =
-    record { first = []; life = l; last = lives; were = refl; front = tt; is = are.0; back = are.1 }
-splits most (l ∷ lives) (x ∷ before) link behind are =
-    let rest = splits most lives before link behind are.1 in
+splits most (l ∷ relay_traces) [] link behind are =
+    record { first = []; life = l; last = relay_traces; were = refl; front = tt; is = are.0; back = are.1 }
+splits most (l ∷ relay_traces) (x ∷ before) link behind are =
+    let rest = splits most relay_traces before link behind are.1 in
     record {
       first = l ∷ rest.first;
       life = rest.life;
@@ -88,8 +88,8 @@ splits most (l ∷ lives) (x ∷ before) link behind are =
       back = rest.back;
     }
 
-pub both-append : (most : ℕ) (a b : List Life) (x y : List Link) → AreLives most a x → AreLives most b y
-    → AreLives most (a ++ b) (x ++ y)
+pub both-append : (most : ℕ) (a b : List Life) (x y : List Link) → AreRelayTraces most a x → AreRelayTraces most b y
+    → AreRelayTraces most (a ++ b) (x ++ y)
 both-append most [] b [] y h k = k
 both-append most [] b (m ∷ x) y h k = absurd h
 both-append most (l ∷ a) b [] y h k = absurd h
@@ -99,51 +99,51 @@ both-append most (l ∷ a) b (m ∷ x) y h k = (h.0, both-append most a b x y h.
 abbrev pub Tests : ℕ → (Life → Bool) → (Link → Bool) → Type 0
 Tests most which p = (life : Life) (link : Link) → IsLife most life link → which life ≡ p link
 
-pub none-lives : (most : ℕ) (which : Life → Bool) (p : Link → Bool) → Tests most which p → (lives : List Life) (links : List Link)
-    → AreLives most lives links → list_any p links ≡ false → list_any which lives ≡ false
-none-lives most which p tests [] [] are e = refl
-none-lives most which p tests [] (x ∷ links) are e = absurd are
-none-lives most which p tests (l ∷ lives) [] are e = absurd are
-none-lives most which p tests (l ∷ lives) (x ∷ links) are e =
+pub none-relay_traces : (most : ℕ) (which : Life → Bool) (p : Link → Bool) → Tests most which p → (relay_traces : List Life) (links : List Link)
+    → AreRelayTraces most relay_traces links → list_any p links ≡ false → list_any which relay_traces ≡ false
+none-relay_traces most which p tests [] [] are e = refl
+none-relay_traces most which p tests [] (x ∷ links) are e = absurd are
+none-relay_traces most which p tests (l ∷ relay_traces) [] are e = absurd are
+none-relay_traces most which p tests (l ∷ relay_traces) (x ∷ links) are e =
     let both = or_parts (p x) (list_any p links) e in
-    or_from (which l) (list_any which lives) (tests l x are.0 ∙ both.0)
-    (none-lives most which p tests lives links are.1 both.1)
+    or_from (which l) (list_any which relay_traces) (tests l x are.0 ∙ both.0)
+    (none-relay_traces most which p tests relay_traces links are.1 both.1)
 
 -- as many of both pass a test
-one-more : (a b : Bool) (l : Life) (x : Link) (lives : List Life) (links : List Link) → a ≡ b → length lives ≡ length links
-    → length (cond a (l ∷ lives) lives) ≡ length (cond b (x ∷ links) links)
-one-more true true l x lives links e h = ap suc h
-one-more true false l x lives links e h = cc
-one-more false true l x lives links e h = cc
-one-more false false l x lives links e h = h
+one-more : (a b : Bool) (l : Life) (x : Link) (relay_traces : List Life) (links : List Link) → a ≡ b → length relay_traces ≡ length links
+    → length (cond a (l ∷ relay_traces) relay_traces) ≡ length (cond b (x ∷ links) links)
+one-more true true l x relay_traces links e h = ap suc h
+one-more true false l x relay_traces links e h = cc
+one-more false true l x relay_traces links e h = cc
+one-more false false l x relay_traces links e h = h
 
-pub same-count : (most : ℕ) (which : Life → Bool) (p : Link → Bool) → Tests most which p → (lives : List Life) (links : List Link)
-    → AreLives most lives links → length (filter which lives) ≡ length (filter p links)
+pub same-count : (most : ℕ) (which : Life → Bool) (p : Link → Bool) → Tests most which p → (relay_traces : List Life) (links : List Link)
+    → AreRelayTraces most relay_traces links → length (filter which relay_traces) ≡ length (filter p links)
 same-count most which p tests [] [] are = refl
 same-count most which p tests [] (x ∷ links) are = absurd are
-same-count most which p tests (l ∷ lives) [] are = absurd are
-same-count most which p tests (l ∷ lives) (x ∷ links) are =
-    one-more (which l) (p x) l x (filter which lives) (filter p links) (tests l x are.0)
-    (same-count most which p tests lives links are.1)
+same-count most which p tests (l ∷ relay_traces) [] are = absurd are
+same-count most which p tests (l ∷ relay_traces) (x ∷ links) are =
+    one-more (which l) (p x) l x (filter which relay_traces) (filter p links) (tests l x are.0)
+    (same-count most which p tests relay_traces links are.1)
 
 -- they are as many as may be
-pub full-same : (most : ℕ) (lives : List Life) (links : List Link) → AreLives most lives links → are_full lives ≡ is_full links
-full-same most lives links are = ap (λ n. nat_le MOST_CHANNELS n)
-    (same-count most (λ l. counts l.relay.line) is_channel (λ l x is. ap (λ (r : Relay). counts r.line) is.relay_is) lives links are)
+pub full-same : (most : ℕ) (relay_traces : List Life) (links : List Link) → AreRelayTraces most relay_traces links → are_full relay_traces ≡ is_full links
+full-same most relay_traces links are = ap (λ n. nat_le MOST_CHANNELS n)
+    (same-count most (λ l. counts l.relay.line) is_channel (λ l x is. ap (λ (r : Relay). counts r.line) is.relay_is) relay_traces links are)
 
-pub crowded-same : (most : ℕ) (lives : List Life) (links : List Link) → AreLives most lives links
-    → are_crowded lives ≡ is_crowded links
-crowded-same most lives links are = ap (λ n. nat_le MOST_DIALOGS n)
-    (same-count most (λ l. dials l.relay.line) is_dialog (λ l x is. ap (λ (r : Relay). dials r.line) is.relay_is) lives links are)
+pub dialogs_full-same : (most : ℕ) (relay_traces : List Life) (links : List Link) → AreRelayTraces most relay_traces links
+    → are_dialogs_full relay_traces ≡ has_full_dialogs links
+dialogs_full-same most relay_traces links are = ap (λ n. nat_le MOST_DIALOGS n)
+    (same-count most (λ l. dials l.relay.line) is_dialog (λ l x is. ap (λ (r : Relay). dials r.line) is.relay_is) relay_traces links are)
 
 -- none is awaited
-pub none-awaited : (most : ℕ) (lives : List Life) (links : List Link) → AreLives most lives links
+pub none-awaited : (most : ℕ) (relay_traces : List Life) (links : List Link) → AreRelayTraces most relay_traces links
     → list_any is_awaited links ≡ false
 none-awaited most [] [] are = refl
 none-awaited most [] (x ∷ links) are = absurd are
-none-awaited most (l ∷ lives) [] are = absurd are
-none-awaited most (l ∷ lives) (x ∷ links) are =
-    or_from (is_awaited x) (list_any is_awaited links) (not-awaited most l x are.0) (none-awaited most lives links are.1)
+none-awaited most (l ∷ relay_traces) [] are = absurd are
+none-awaited most (l ∷ relay_traces) (x ∷ links) are =
+    or_from (is_awaited x) (list_any is_awaited links) (not-awaited most l x are.0) (none-awaited most relay_traces links are.1)
 
 -- only one place is the first that passes a test
 pub record SamePlace (a : List Link) (x : Link) (b c : List Link) (y : Link) (d : List Link) : Type 0 where
@@ -182,48 +182,48 @@ more-taken least most life link less is =
       few = omega (arith, few, less);
     }
 
-pub all-more : (least most : ℕ) (lives : List Life) (links : List Link) → least ≤ most → AreLives least lives links
-    → AreLives most lives links
+pub all-more : (least most : ℕ) (relay_traces : List Life) (links : List Link) → least ≤ most → AreRelayTraces least relay_traces links
+    → AreRelayTraces most relay_traces links
 all-more least most [] [] less are = tt
 all-more least most [] (x ∷ links) less are = absurd are
-all-more least most (l ∷ lives) [] less are = absurd are
-all-more least most (l ∷ lives) (x ∷ links) less are =
-    (more-taken least most l x less are.0, all-more least most lives links less are.1)
+all-more least most (l ∷ relay_traces) [] less are = absurd are
+all-more least most (l ∷ relay_traces) (x ∷ links) less are =
+    (more-taken least most l x less are.0, all-more least most relay_traces links less are.1)
 
 -- ---- one goes on
 
 pub record Went (which : Life → Bool) (to : Life → Life → Type 0) (most : ℕ) (old : List Life) (new : List Link) : Type 0 where
-  pub lives : List Life
-  pub one : One which to old lives
-  pub are : AreLives most lives new
+  pub relay_traces : List Life
+  pub one : One which to old relay_traces
+  pub are : AreRelayTraces most relay_traces new
 
 pub record Next (to : Life → Life → Type 0) (most : ℕ) (life : Life) (link : Link) : Type 0 where
   pub next : Life
   pub goes : to life next
   pub is : IsLife most next link
 
-pub goes-one : (which : Life → Bool) (p : Link → Bool) (to : Life → Life → Type 0) (least most : ℕ) (lives : List Life)
+pub goes-one : (which : Life → Bool) (p : Link → Bool) (to : Life → Life → Type 0) (least most : ℕ) (relay_traces : List Life)
     (links : List Link) (i : ℕ) (x y : Link) → least ≤ most → Tests least which p → position p links ≡ Some i
-    → x ≡ get_or links i x → AreLives least lives links → ((life : Life) → IsLife least life x → Next to most life y)
-    → Went which to most lives (set links i y)
-goes-one which p to least most lives links i x y less tests e same are goes =
+    → x ≡ get_or links i x → AreRelayTraces least relay_traces links → ((life : Life) → IsLife least life x → Next to most life y)
+    → Went which to most relay_traces (set links i y)
+goes-one which p to least most relay_traces links i x y less tests e same are goes =
     let at = at-first p links i x e same in
-    let s = splits least lives (take i links) x (drop (suc i) links) (subst (AreLives least lives) at.were are) in
+    let s = splits least relay_traces (take i links) x (drop (suc i) links) (subst (AreRelayTraces least relay_traces) at.were are) in
     let went = goes s.life s.is in
     record {
-      lives = s.first ++ went.next ∷ s.last;
+      relay_traces = s.first ++ went.next ∷ s.last;
       one = record {
         before = s.first;
         life = s.life;
         next = went.next;
         behind = s.last;
-        others = none-lives least which p tests s.first (take i links) s.front at.none;
+        others = none-relay_traces least which p tests s.first (take i links) s.front at.none;
         is = tests s.life x s.is ∙ at.is;
         goes = went.goes;
         were = s.were;
         are = refl;
       };
-      are = subst (AreLives most (s.first ++ went.next ∷ s.last)) (sym (at.are y))
+      are = subst (AreRelayTraces most (s.first ++ went.next ∷ s.last)) (sym (at.are y))
           (both-append most s.first (went.next ∷ s.last) (take i links) (y ∷ drop (suc i) links)
           (all-more least most s.first (take i links) less s.front)
           (went.is, all-more least most s.last (drop (suc i) links) less s.back));
@@ -231,17 +231,17 @@ goes-one which p to least most lives links i x y less tests e same are goes =
 
 -- ---- one is forgotten
 
-kept-none : (lives : List Life) → list_any (λ (l : Life). is_gone l.relay) lives ≡ false → kept_in lives ≡ lives
+kept-none : (relay_traces : List Life) → list_any (λ (l : Life). is_gone l.relay) relay_traces ≡ false → kept_in relay_traces ≡ relay_traces
 kept-none [] e = refl
-kept-none (l ∷ lives) e =
-    let both = or_parts (is_gone l.relay) (list_any (λ (m : Life). is_gone m.relay) lives) e in
-    rw both.0 (ap (λ ls. l ∷ ls) (kept-none lives both.1))
+kept-none (l ∷ relay_traces) e =
+    let both = or_parts (is_gone l.relay) (list_any (λ (m : Life). is_gone m.relay) relay_traces) e in
+    rw both.0 (ap (λ ls. l ∷ ls) (kept-none relay_traces both.1))
 
-left-none : (lives : List Life) → list_any (λ (l : Life). is_gone l.relay) lives ≡ false → left_in lives ≡ []
+left-none : (relay_traces : List Life) → list_any (λ (l : Life). is_gone l.relay) relay_traces ≡ false → left_in relay_traces ≡ []
 left-none [] e = refl
-left-none (l ∷ lives) e =
-    let both = or_parts (is_gone l.relay) (list_any (λ (m : Life). is_gone m.relay) lives) e in
-    rw both.0 (left-none lives both.1)
+left-none (l ∷ relay_traces) e =
+    let both = or_parts (is_gone l.relay) (list_any (λ (m : Life). is_gone m.relay) relay_traces) e in
+    rw both.0 (left-none relay_traces both.1)
 
 kept-one : (before : List Life) (life : Life) (behind : List Life) → list_any (λ (l : Life). is_gone l.relay) before ≡ false
     → is_gone life.relay ≡ true → kept_in (before ++ life ∷ behind) ≡ before ++ behind
@@ -258,27 +258,27 @@ left-one (l ∷ before) life behind e is =
     rw both.0 (left-one before life behind both.1 is)
 
 -- what is left, and what is forgotten
-pub record Sweeps (most : ℕ) (lives : List Life) (new : List Link) : Type 0 where
-  pub are : AreLives most (kept_in lives) new
-  pub past : All (λ l. Stands l.dials l.acts l.relay) (left_in lives)
+pub record Sweeps (most : ℕ) (relay_traces : List Life) (new : List Link) : Type 0 where
+  pub are : AreRelayTraces most (kept_in relay_traces) new
+  pub past : All (λ l. Stands l.dials l.acts l.relay) (left_in relay_traces)
 
-sweeps-at : (most : ℕ) (lives : List Life) (links : List Link) (o : Option ℕ) → position is_left links ≡ o
-    → AreLives most lives links → Sweeps most lives (without_at o links)
-sweeps-at most lives links None e are =
-    let none = none-lives most (λ (l : Life). is_gone l.relay) is_left (is-gone most) lives links are (none-passes is_left links e) in
+sweeps-at : (most : ℕ) (relay_traces : List Life) (links : List Link) (o : Option ℕ) → position is_left links ≡ o
+    → AreRelayTraces most relay_traces links → Sweeps most relay_traces (without_at o links)
+sweeps-at most relay_traces links None e are =
+    let none = none-relay_traces most (λ (l : Life). is_gone l.relay) is_left (is-gone most) relay_traces links are (none-passes is_left links e) in
     record {
-      are = subst (λ (ls : List Life). AreLives most ls links) (sym (kept-none lives none)) are;
-      past = subst (λ (ls : List Life). All (λ (l : Life). Stands l.dials l.acts l.relay) ls) (sym (left-none lives none))
+      are = subst (λ (ls : List Life). AreRelayTraces most ls links) (sym (kept-none relay_traces none)) are;
+      past = subst (λ (ls : List Life). All (λ (l : Life). Stands l.dials l.acts l.relay) ls) (sym (left-none relay_traces none))
           (All-nil (λ (l : Life). Stands l.dials l.acts l.relay));
     }
-sweeps-at most lives links (Some i) e are =
+sweeps-at most relay_traces links (Some i) e are =
     let x = (there is_left links i e).0 in
     let at = (there is_left links i e).1 in
-    let s = splits most lives (take i links) x (drop (suc i) links) (subst (AreLives most lives) at.were are) in
-    let none = none-lives most (λ (l : Life). is_gone l.relay) is_left (is-gone most) s.first (take i links) s.front at.none in
+    let s = splits most relay_traces (take i links) x (drop (suc i) links) (subst (AreRelayTraces most relay_traces) at.were are) in
+    let none = none-relay_traces most (λ (l : Life). is_gone l.relay) is_left (is-gone most) s.first (take i links) s.front at.none in
     let gone : is_gone s.life.relay ≡ true = is-gone most s.life x s.is ∙ at.is in
     record {
-      are = subst (λ (ls : List Life). AreLives most ls (remove links i))
+      are = subst (λ (ls : List Life). AreRelayTraces most ls (remove links i))
           (sym (ap kept_in s.were ∙ kept-one s.first s.life s.last none gone))
           (both-append most s.first s.last (take i links) (drop (suc i) links) s.front s.back);
       past = subst (λ (ls : List Life). All (λ (l : Life). Stands l.dials l.acts l.relay) ls)
@@ -287,14 +287,14 @@ sweeps-at most lives links (Some i) e are =
           (subst (λ (r : Relay). Stands s.life.dials s.life.acts r) (sym s.is.relay_is) s.is.stands));
     }
 
-pub sweeps : (most : ℕ) (lives : List Life) (links : List Link) → AreLives most lives links → Sweeps most lives (swept links)
-sweeps most lives links are = sweeps-at most lives links (position is_left links) refl are
+pub sweeps : (most : ℕ) (relay_traces : List Life) (links : List Link) → AreRelayTraces most relay_traces links → Sweeps most relay_traces (swept links)
+sweeps most relay_traces links are = sweeps-at most relay_traces links (position is_left links) refl are
 
 -- ---- all take a step
 
-pub all-step : (step : Step) (t most : ℕ) (lives : List Life) (links : List Link) → AreLives most lives links
-    → AreLives most (map (stepped step t) lives) (map (link_after step t) links)
+pub all-step : (step : LinkStep) (t most : ℕ) (relay_traces : List Life) (links : List Link) → AreRelayTraces most relay_traces links
+    → AreRelayTraces most (map (stepped step t) relay_traces) (map (link_after step t) links)
 all-step step t most [] [] are = tt
 all-step step t most [] (x ∷ links) are = absurd are
-all-step step t most (l ∷ lives) [] are = absurd are
-all-step step t most (l ∷ lives) (x ∷ links) are = (steps step t most l x are.0, all-step step t most lives links are.1)
+all-step step t most (l ∷ relay_traces) [] are = absurd are
+all-step step t most (l ∷ relay_traces) (x ∷ links) are = (steps step t most l x are.0, all-step step t most relay_traces links are.1)

@@ -10,13 +10,13 @@ use Rattle.mux_outside.specs.declared.order.Order.{Order}
 use Rattle.mux_outside.specs.declared.order.Order.TheVariants as order
 use Rattle.mux_outside.specs.declared.own_streams.OwnStream.{OwnStream}
 use Rattle.house_relay.specs.Relay.{stuck_in, is_stuck}
-use Rattle.house_relay.specs.declared.line.Line.{Line}
+use Rattle.house_relay.specs.declared.line.ChannelState.{ChannelState}
 use Rattle.house_relay.specs.declared.relay.Relay.{Relay}
 use Rattle.house_forward.specs.Due.{stream_due, link_due, turns}
 use Rattle.house_forward.specs.Links.{streams_of, are_distinct, numbered, has_number, link_after, stream_after, relay_after, obeyed, OrdersIn, IsOrderOf}
 use Rattle.house_forward.specs.declared.link.Link.{Link}
-use Rattle.house_forward.specs.declared.link.Step.{Step}
-use Rattle.house_forward.specs.declared.link.Step.TheVariants.{Pause, Finish, Close}
+use Rattle.house_forward.specs.declared.link.LinkStep.{LinkStep}
+use Rattle.house_forward.specs.declared.link.LinkStep.TheVariants.{Pause, Finish, Close}
 use Rattle.house_forward.specs.declared.link.Stream.{Stream}
 use Rattle.house_forward.specs.declared.link.Stream.TheVariants.{Offered, Awaited, Made, Gone}
 use Rattle.house_forward.proofs.Streams.{has-stream, moves-first, moves-later, rest-distinct, paused-streams, finished-streams, closed-streams}
@@ -24,19 +24,19 @@ use Rattle.house_forward.proofs.Streams.{has-stream, moves-first, moves-later, r
 -- ---- one link
 
 -- what it takes of a link to take a step: it has the stream, and needs one mark's room less then
-record Takes (step : Step) (t : ℕ) (s : Stream) (r : Relay) : Type 0 where
+record Takes (step : LinkStep) (t : ℕ) (s : Stream) (r : Relay) : Type 0 where
   has : numbered t s ≡ true
   less : stream_due (stream_after step s) (relay_after step r) + 1 ≤ stream_due s r
 
 not-empty : (x : ℕ) (xs : List ℕ) → (length (x ∷ xs) == 0) ≡ false
 not-empty x xs = ne_eqb (length (x ∷ xs)) 0 (λ e. absurd (omega arith))
 
-stuck-turn : (held : List ℕ) (line : Line) (paused : Bool) → IsTrue (is_stuck line held)
+stuck-turn : (held : List ℕ) (line : ChannelState) (paused : Bool) → IsTrue (is_stuck line held)
     → (if length held == 0 then paused else (stuck_in line && not paused)) ≡ not paused
 stuck-turn [] line paused stuck = cc
 stuck-turn (x ∷ xs) line paused stuck = rw (not-empty x xs, stuck) refl
 
-free-turn : (held : List ℕ) (line : Line) (paused : Bool) → held ≡ []
+free-turn : (held : List ℕ) (line : ChannelState) (paused : Bool) → held ≡ []
     → (if length held == 0 then paused else (stuck_in line && not paused)) ≡ paused
 free-turn held line paused e = rw e refl
 
@@ -84,11 +84,11 @@ closes t Gone r o = absurd o
 
 -- ---- all links
 
-after-it : (step : Step) (t : ℕ) (x : Link) → has_number t x ≡ true
+after-it : (step : LinkStep) (t : ℕ) (x : Link) → has_number t x ≡ true
     → link_due (link_after step t x) ≡ stream_due (stream_after step x.stream) (relay_after step x.relay)
 after-it step t x n = rw n refl
 
-less-due : (step : Step) (t : ℕ) (ls : List Link) (k : ℕ) (x : Link) → are_distinct (streams_of ls) ≡ true
+less-due : (step : LinkStep) (t : ℕ) (ls : List Link) (k : ℕ) (x : Link) → are_distinct (streams_of ls) ≡ true
     → k < length ls → get_or ls k x ≡ x → Takes step t x.stream x.relay
     → sum_by link_due (map (link_after step t) ls) + 1 ≤ sum_by link_due ls
 less-due step t [] k x d l e takes = absurd (omega arith)

@@ -6,7 +6,7 @@ use Rattle.std.proofs.lemmas.Bool.{cases_Bool, cases_lt, eq-eqb, eqb-true, le-le
 use Rattle.std.proofs.lemmas.List.Elements.{All-nil, All-cons, All-head, All-tail, All-append, All-weaker}
 use Rattle.ssh_fields.specs.Fields.{take_u32}
 use Rattle.ssh_grammar.specs.Frames.{Frame}
-use Rattle.ssh_grammar.specs.Messages.{Message as Told}
+use Rattle.ssh_grammar.specs.Messages.{Message as Recorded}
 use Rattle.ssh_grammar.specs.ReadMessage.{read_message as reading}
 use Rattle.ssh_grammar.specs.declared.fault.Bad.{Bad}
 use Rattle.conn_messages.specs.declared.message.Message.{Message}
@@ -14,7 +14,7 @@ use Rattle.conn_messages.specs.declared.message.Message.TheVariants as message
 use Rattle.conn_messages.specs.declared.message.Opening.{Opening}
 use Rattle.conn_messages.specs.declared.message.Opening.TheVariants as opens
 use Rattle.conn_messages.specs.declared.key.Key.TheVariants as keys
-use Rattle.mux_outside.specs.HouseCalls.{HouseCall, Happening, Begins, Marks, Hears as HearsBytes, Turns, Takes as TakesBytes}
+use Rattle.mux_outside.specs.HouseCalls.{HouseCall, Happening, Begins, Marks, Receives as ReceivesBytes, Turns, Takes as TakesBytes}
 use Rattle.mux_outside.specs.HouseCalls.{Joined, Got, End, Writable, Failed}
 use Rattle.mux_outside.specs.declared.house_mark.HouseMark.{HouseMark}
 use Rattle.mux_outside.specs.declared.house_mark.HouseMark.TheVariants.{HouseIn, HouseSaid, HouseTook, HouseAsked, HouseAnswer, HouseOrder}
@@ -23,23 +23,23 @@ use Rattle.mux_outside.specs.declared.order.Order.TheVariants as order
 use Rattle.mux_outside.specs.declared.own_streams.OwnStream.{OwnStream}
 use Rattle.house_relay.specs.Acts.{Takes}
 use Rattle.house_relay.specs.Steps.{is_gone}
-use Rattle.house_relay.specs.declared.line.Line.{Line}
-use Rattle.house_relay.specs.declared.line.Line.TheVariants.{Dialing, Asked, Opened, Offered, Live, Over}
+use Rattle.house_relay.specs.declared.line.ChannelState.{ChannelState}
+use Rattle.house_relay.specs.declared.line.ChannelState.TheVariants.{Dialing, Asked, Opened, Offered, Live, Over}
 use Rattle.house_forward.specs.Forwardings.{has_request, served_at}
 use Rattle.house_forward.specs.Going.{TakesOn}
-use Rattle.house_forward.specs.Lives.{Life, Course, GoesBy, One, OneAtMost, Speaks, Listens, StepsBy, MakesOne, Reaches, Follows, SaysBy, MarksIn, OrdersIn, TurnsTo, first_course, with_heard}
-use Rattle.house_forward.specs.Lives.{HearsAt, HearsOpen, OpensFor, HearsMessage, HearsReading, HearsFrame, HearsFrames, cut_off, is_grant}
-use Rattle.house_forward.specs.Lives.{joins_after, has_channel, has_stream, has_words, are_full, stepped, made_life, kept_in}
-use Rattle.house_forward.specs.Opening.{EachIsTold, EachWasJoined, OneOpenEach, IsOneJoined, IsJoinedFor, is_open, may_open, opens_by, opens_in, joins_by, joins_by_turn, joins_in, opener_by, opener_marked, opener_of, openers_in, openers_left}
+use Rattle.house_forward.specs.RelayTraces.{Life, Trace, GoesBy, One, OneAtMost, Speaks, Listens, StepsBy, MakesOne, Reaches, Follows, SendsBy, MarksIn, OrdersIn, TurnsTo, first_trace, with_received}
+use Rattle.house_forward.specs.RelayTraces.{ReceivesAt, ReceivesOpen, OpensFor, ReceivesMessage, ReceivesReading, ReceivesFrame, ReceivesFrames, cut_off, is_grant}
+use Rattle.house_forward.specs.RelayTraces.{joins_after, has_channel, has_stream, has_words, are_full, stepped, made_life, kept_in}
+use Rattle.house_forward.specs.Opening.{EachIsRecorded, EachWasJoined, OneOpenEach, IsOneJoined, IsJoinedFor, is_open, may_open, opens_by, opens_in, joins_by, joins_by_turn, joins_in, opener_by, opener_marked, opener_of, openers_in, openers_left}
 use Rattle.house_forward.specs.declared.forwarding.Forwarding.{Forwarding}
-use Rattle.house_forward.specs.declared.holdings.Stage.{Stage}
-use Rattle.house_forward.specs.declared.holdings.Stage.TheVariants.{Control, Proxy}
-use Rattle.house_forward.specs.declared.link.Step.{Step}
-use Rattle.house_forward.specs.declared.link.Step.TheVariants as step
-use Rattle.house_forward.proofs.Courses.{reaches-more}
+use Rattle.house_forward.specs.declared.forwarder_state.Stage.{Stage}
+use Rattle.house_forward.specs.declared.forwarder_state.Stage.TheVariants.{Control, Proxy}
+use Rattle.house_forward.specs.declared.link.LinkStep.{LinkStep}
+use Rattle.house_forward.specs.declared.link.LinkStep.TheVariants as step
+use Rattle.house_forward.proofs.Traces.{reaches-more}
 use Rattle.house_forward.proofs.Directing.{Aimed, Right, all-aimed}
-use Rattle.house_forward.proofs.Frames.{Heeds, frames}
-use Rattle.house_forward.proofs.Opening.{one, opening, hears-one, takes-one, gets-one, says-one}
+use Rattle.house_forward.proofs.Frames.{Applies, frames}
+use Rattle.house_forward.proofs.Opening.{one, opening, receives-one, takes-one, gets-one, says-one}
 use Rattle.house_forward.proofs.Settling.{line-step}
 use Rattle.house_forward.proofs.Sound.{Each, All as OfAll, Sound, Both, each-back, follow-sound, offered_life, joined_life, step_of}
 
@@ -170,21 +170,21 @@ total-kept : (n : ℕ) (ls : List Life) → total n (kept_in ls) ≤ total n ls
 total-kept n [] = omega arith
 total-kept n (l ∷ ls) = kept-if n (is_gone l.relay) l ls (kept_in ls) (total-kept n ls)
 
-stepped-one : (n : ℕ) (s : Step) (b : Bool) (l : Life) → weigh n (if b then step_of s l else l) ≡ weigh n l
-stepped-one n s true l = ap (λ (line : Line). cond (may_open line) (hit n l.joined) 0) (line-step s l.relay)
+stepped-one : (n : ℕ) (s : LinkStep) (b : Bool) (l : Life) → weigh n (if b then step_of s l else l) ≡ weigh n l
+stepped-one n s true l = ap (λ (line : ChannelState). cond (may_open line) (hit n l.joined) 0) (line-step s l.relay)
 stepped-one n s false l = refl
 
-total-stepped : (n : ℕ) (s : Step) (t : ℕ) (ls : List Life) → total n (map (stepped s t) ls) ≡ total n ls
+total-stepped : (n : ℕ) (s : LinkStep) (t : ℕ) (ls : List Life) → total n (map (stepped s t) ls) ≡ total n ls
 total-stepped n s t [] = refl
 total-stepped n s t (l ∷ ls) =
     let its = stepped-one n s (has_stream t l) l in
     let rest = total-stepped n s t ls in
     omega (arith, its, rest)
 
-heeds : (n most : ℕ) → Heeds (λ ls taken. total n ls ≤ most)
-heeds n most = record {
-  hears = λ number m old new taken sounds h goes. (
-      let less = total-most n (has_channel number) (Listens m) old new (λ a b on. weighs-less n a b on.joined (hears-one m a b on)) (inl goes) in
+applies : (n most : ℕ) → Applies (λ ls taken. total n ls ≤ most)
+applies n most = record {
+  receives = λ number m old new taken sounds h goes. (
+      let less = total-most n (has_channel number) (Listens m) old new (λ a b on. weighs-less n a b on.joined (receives-one m a b on)) (inl goes) in
       let kept = total-kept n new in
       omega (arith, h, less, kept)
       );
@@ -200,85 +200,85 @@ said-if : (n : ℕ) (b : Bool) (o : Option ℕ) → times n (cond b (o ∷ []) [
 said-if n true o = omega arith
 said-if n false o = refl
 
-says-total : (n : ℕ) (b : Bool) (o : Option Forwarding) (bytes : List ℕ) (old new : Course) (h : SaysBy b o bytes old new)
-    → times n (opener_by b o bytes old new h) + total n new.lives ≤ total n old.lives
-says-total n false o bytes old new h = let same = ap (λ (c : Course). total n c.lives) h.1 in omega (arith, same)
-says-total n true (Some f) bytes old new h = let same = ap (λ (c : Course). total n c.lives) h.1 in omega (arith, same)
+says-total : (n : ℕ) (b : Bool) (o : Option Forwarding) (bytes : List ℕ) (old new : Trace) (h : SendsBy b o bytes old new)
+    → times n (opener_by b o bytes old new h) + total n new.relay_traces ≤ total n old.relay_traces
+says-total n false o bytes old new h = let same = ap (λ (c : Trace). total n c.relay_traces) h.1 in omega (arith, same)
+says-total n true (Some f) bytes old new h = let same = ap (λ (c : Trace). total n c.relay_traces) h.1 in omega (arith, same)
 says-total n true None bytes old new h =
     let goes = h.1.goes in
     let a = h.1.life in
     let its = weighs-said n bytes a h.1.next goes.1.joined (says-one bytes a h.1.next h.1.is goes) in
-    let less = total-one n has_words (Speaks bytes) old.lives h.0 h.1 (cond (is_open bytes) (hit n a.joined) 0) its in
-    let told = said-if n (is_open bytes) a.joined in
+    let less = total-one n has_words (Speaks bytes) old.relay_traces h.0 h.1 (cond (is_open bytes) (hit n a.joined) 0) its in
+    let recorded = said-if n (is_open bytes) a.joined in
     let kept = total-kept n h.0 in
-    let are = ap (λ (c : Course). total n c.lives) h.2 in
-    omega (arith, less, told, kept, are)
+    let are = ap (λ (c : Trace). total n c.relay_traces) h.2 in
+    omega (arith, less, recorded, kept, are)
 
-steps-total : (n : ℕ) (o : Order) (s : Step) (t : ℕ) (old new : Course) → StepsBy o s t old new → total n new.lives ≤ total n old.lives
+steps-total : (n : ℕ) (o : Order) (s : LinkStep) (t : ℕ) (old new : Trace) → StepsBy o s t old new → total n new.relay_traces ≤ total n old.relay_traces
 steps-total n o s t old new h =
-    let same = total-stepped n s t old.lives in
-    let kept = total-kept n (map (stepped s t) old.lives) in
-    let are = ap (λ (c : Course). total n c.lives) h.1 in
+    let same = total-stepped n s t old.relay_traces in
+    let kept = total-kept n (map (stepped s t) old.relay_traces) in
+    let are = ap (λ (c : Trace). total n c.relay_traces) h.1 in
     omega (arith, same, kept, are)
 
-makes-total : (n : ℕ) (host : List ℕ) (port : ℕ) (number : Option ℕ) (old new : Course) → MakesOne host port number old new
-    → total n new.lives ≤ total n old.lives
+makes-total : (n : ℕ) (host : List ℕ) (port : ℕ) (number : Option ℕ) (old new : Trace) → MakesOne host port number old new
+    → total n new.relay_traces ≤ total n old.relay_traces
 makes-total n host port number old new h =
     let were = ap (total n) h.were in
-    let are = ap (λ (c : Course). total n c.lives) h.are in
+    let are = ap (λ (c : Trace). total n c.relay_traces) h.are in
     let a = total-append n h.before (h.life ∷ h.behind) in
     let b = total-append n (h.before ++ h.behind) (made_life number h.life ∷ []) in
     let c = total-append n h.before h.behind in
     omega (arith, were, are, a, b, c)
 
-same-total : (n : ℕ) (old new : Course) → new.lives ≡ old.lives → total n new.lives ≤ total n old.lives
+same-total : (n : ℕ) (old new : Trace) → new.relay_traces ≡ old.relay_traces → total n new.relay_traces ≤ total n old.relay_traces
 same-total n old new e = let same = ap (total n) e in omega (arith, same)
 
-orders-total : (n : ℕ) (o : Order) (number : Option ℕ) (old new : Course) → OrdersIn o number old new → total n new.lives ≤ total n old.lives
-orders-total n (order.Listen host port) number old new h = same-total n old new (ap (λ (c : Course). c.lives) h.2)
+orders-total : (n : ℕ) (o : Order) (number : Option ℕ) (old new : Trace) → OrdersIn o number old new → total n new.relay_traces ≤ total n old.relay_traces
+orders-total n (order.Listen host port) number old new h = same-total n old new (ap (λ (c : Trace). c.relay_traces) h.2)
 orders-total n (order.Connect host port) number old new h = makes-total n host port number old new h
-orders-total n (order.Unlisten l) number old new h = same-total n old new (ap (λ (c : Course). c.lives) h.2)
+orders-total n (order.Unlisten l) number old new h = same-total n old new (ap (λ (c : Trace). c.relay_traces) h.2)
 orders-total n (order.Pause t) number old new h = steps-total n (order.Pause t) (step.Pause true) t old new h
 orders-total n (order.Resume t) number old new h = steps-total n (order.Resume t) (step.Pause false) t old new h
 orders-total n (order.Finish t) number old new h = steps-total n (order.Finish t) step.Finish t old new h
 orders-total n (order.Close t) number old new h = steps-total n (order.Close t) step.Close t old new h
 
-marks-total : (n : ℕ) (mark : HouseMark) (old new : Course) (h : MarksIn mark old new)
-    → times n (opener_marked mark old new h) + total n new.lives ≤ total n old.lives
-marks-total n HouseIn old new h = let all = same-total n old new (ap (λ (c : Course). c.lives) h) in omega (arith, all)
-marks-total n (HouseSaid bytes) old new h = says-total n old.desk.greeted (find has_request old.desk.all) bytes old new h
-marks-total n (HouseTook size) old new h = let all = same-total n old new (ap (λ (c : Course). c.lives) h) in omega (arith, all)
+marks-total : (n : ℕ) (mark : HouseMark) (old new : Trace) (h : MarksIn mark old new)
+    → times n (opener_marked mark old new h) + total n new.relay_traces ≤ total n old.relay_traces
+marks-total n HouseIn old new h = let all = same-total n old new (ap (λ (c : Trace). c.relay_traces) h) in omega (arith, all)
+marks-total n (HouseSaid bytes) old new h = says-total n old.forwarding_state.greeted (find has_request old.forwarding_state.all) bytes old new h
+marks-total n (HouseTook size) old new h = let all = same-total n old new (ap (λ (c : Trace). c.relay_traces) h) in omega (arith, all)
 marks-total n (HouseAsked client id opening ask reply) old new h =
-    let all = same-total n old new (ap (λ (c : Course). c.lives) h.2) in omega (arith, all)
+    let all = same-total n old new (ap (λ (c : Trace). c.relay_traces) h.2) in omega (arith, all)
 marks-total n (HouseAnswer client id reply) old new h =
-    let all = same-total n old new (ap (λ (c : Course). c.lives) h.2) in omega (arith, all)
+    let all = same-total n old new (ap (λ (c : Trace). c.relay_traces) h.2) in omega (arith, all)
 marks-total n (HouseOrder o number) old new h = let all = orders-total n o number old new h in omega (arith, all)
 
 -- ---- how many were joined
 
-joins-at : (n : ℕ) (m : Message) (old new : Course) → HearsAt n m old new → new.joins ≡ old.joins
-joins-at n m old new (inl h) = ap (λ (c : Course). c.joins) h.2
-joins-at n m old new (inr h) = ap (λ (c : Course). c.joins) h.1
+joins-at : (n : ℕ) (m : Message) (old new : Trace) → ReceivesAt n m old new → new.joins ≡ old.joins
+joins-at n m old new (inl h) = ap (λ (c : Trace). c.joins) h.2
+joins-at n m old new (inr h) = ap (λ (c : Trace). c.joins) h.1
 
-joins-opens : (o : Option Forwarding) (remote window maximum : ℕ) (old new : Course) → OpensFor o remote window maximum old new
+joins-opens : (o : Option Forwarding) (remote window maximum : ℕ) (old new : Trace) → OpensFor o remote window maximum old new
     → new.joins ≡ old.joins
-joins-opens None remote window maximum old new h = ap (λ (c : Course). c.joins) h
-joins-opens (Some f) remote window maximum old new h = ap (λ (c : Course). c.joins) h.more
+joins-opens None remote window maximum old new h = ap (λ (c : Trace). c.joins) h
+joins-opens (Some f) remote window maximum old new h = ap (λ (c : Trace). c.joins) h.more
 
-joins-open : (what : Opening) (remote window maximum : ℕ) (old new : Course) → HearsOpen what remote window maximum old new
+joins-open : (what : Opening) (remote window maximum : ℕ) (old new : Trace) → ReceivesOpen what remote window maximum old new
     → new.joins ≡ old.joins
 joins-open (opens.Forwarded (keys.Tcp address port)) remote window maximum old new h =
-    joins-opens (find (served_at address.now port) old.desk.all) remote window maximum old new h
-joins-open opens.Session remote window maximum old new h = ap (λ (c : Course). c.joins) h
-joins-open (opens.Direct key) remote window maximum old new h = ap (λ (c : Course). c.joins) h
-joins-open (opens.Forwarded (keys.Path path)) remote window maximum old new h = ap (λ (c : Course). c.joins) h
-joins-open opens.Other remote window maximum old new h = ap (λ (c : Course). c.joins) h
+    joins-opens (find (served_at address.now port) old.forwarding_state.all) remote window maximum old new h
+joins-open opens.Session remote window maximum old new h = ap (λ (c : Trace). c.joins) h
+joins-open (opens.Direct key) remote window maximum old new h = ap (λ (c : Trace). c.joins) h
+joins-open (opens.Forwarded (keys.Path path)) remote window maximum old new h = ap (λ (c : Trace). c.joins) h
+joins-open opens.Other remote window maximum old new h = ap (λ (c : Trace). c.joins) h
 
-joins-message : (m : Message) (old new : Course) → HearsMessage m old new → new.joins ≡ old.joins
-joins-message (message.Transport number rest) old new h = ap (λ (c : Course). c.joins) h
-joins-message (message.GlobalRequest name want rest what) old new h = ap (λ (c : Course). c.joins) h
-joins-message (message.RequestSuccess rest) old new h = ap (λ (c : Course). c.joins) h
-joins-message message.RequestFailure old new h = ap (λ (c : Course). c.joins) h
+joins-message : (m : Message) (old new : Trace) → ReceivesMessage m old new → new.joins ≡ old.joins
+joins-message (message.Transport number rest) old new h = ap (λ (c : Trace). c.joins) h
+joins-message (message.GlobalRequest name want rest what) old new h = ap (λ (c : Trace). c.joins) h
+joins-message (message.RequestSuccess rest) old new h = ap (λ (c : Trace). c.joins) h
+joins-message message.RequestFailure old new h = ap (λ (c : Trace). c.joins) h
 joins-message (message.Open kind sender window maximum rest what) old new h = joins-open what sender window maximum old new h
 joins-message (message.Confirmation recipient sender window maximum rest) old new h = joins-at recipient (message.Confirmation recipient sender window maximum rest) old new h
 joins-message (message.OpenFailure recipient reason text language) old new h = joins-at recipient (message.OpenFailure recipient reason text language) old new h
@@ -291,63 +291,63 @@ joins-message (message.Request recipient kind want rest) old new h = joins-at re
 joins-message (message.Success recipient) old new h = joins-at recipient (message.Success recipient) old new h
 joins-message (message.Failure recipient) old new h = joins-at recipient (message.Failure recipient) old new h
 
-joins-reading : (r : Result Told Bad) (old new : Course) → HearsReading r old new → new.joins ≡ old.joins
-joins-reading (Err bad) old new h = ap (λ (c : Course). c.joins) h
+joins-reading : (r : Result Recorded Bad) (old new : Trace) → ReceivesReading r old new → new.joins ≡ old.joins
+joins-reading (Err bad) old new h = ap (λ (c : Trace). c.joins) h
 joins-reading (Ok said) old new h = joins-message h.0 old new h.2
 
-either-joins : (b : Bool) (a old : Course) → a.joins ≡ old.joins → (if b then a else old).joins ≡ old.joins
+either-joins : (b : Bool) (a old : Trace) → a.joins ≡ old.joins → (if b then a else old).joins ≡ old.joins
 either-joins true a old e = e
 either-joins false a old e = refl
 
-joins-frame : (stage : Stage) (content : List ℕ) (old new : Course) → HearsFrame stage content old new → new.joins ≡ old.joins
+joins-frame : (stage : Stage) (content : List ℕ) (old new : Trace) → ReceivesFrame stage content old new → new.joins ≡ old.joins
 joins-frame Control content old new h =
-    ap (λ (c : Course). c.joins) h ∙ either-joins (is_grant (take_u32 content)) _ old refl
+    ap (λ (c : Trace). c.joins) h ∙ either-joins (is_grant (take_u32 content)) _ old refl
 joins-frame Proxy content old new h = joins-reading (reading content) old new h
 
-joins-frames : (contents : List (List ℕ)) (old new : Course) → HearsFrames contents old new → new.joins ≡ old.joins
-joins-frames [] old new h = ap (λ (c : Course). c.joins) h.1
+joins-frames : (contents : List (List ℕ)) (old new : Trace) → ReceivesFrames contents old new → new.joins ≡ old.joins
+joins-frames [] old new h = ap (λ (c : Trace). c.joins) h.1
 joins-frames (content ∷ more) old new h =
     joins-frames more h.2.0 new h.2.2 ∙ joins-frame old.stage content (cut_off (Frame content h.0) old) h.2.0 h.2.1
 
-joins-says : (b : Bool) (o : Option Forwarding) (bytes : List ℕ) (old new : Course) → SaysBy b o bytes old new → new.joins ≡ old.joins
-joins-says false o bytes old new h = ap (λ (c : Course). c.joins) h.1
-joins-says true (Some f) bytes old new h = ap (λ (c : Course). c.joins) h.1
-joins-says true None bytes old new h = ap (λ (c : Course). c.joins) h.2
+joins-says : (b : Bool) (o : Option Forwarding) (bytes : List ℕ) (old new : Trace) → SendsBy b o bytes old new → new.joins ≡ old.joins
+joins-says false o bytes old new h = ap (λ (c : Trace). c.joins) h.1
+joins-says true (Some f) bytes old new h = ap (λ (c : Trace). c.joins) h.1
+joins-says true None bytes old new h = ap (λ (c : Trace). c.joins) h.2
 
-joins-order : (o : Order) (number : Option ℕ) (old new : Course) → OrdersIn o number old new → new.joins ≡ old.joins
-joins-order (order.Listen host port) number old new h = ap (λ (c : Course). c.joins) h.2
-joins-order (order.Connect host port) number old new h = ap (λ (c : Course). c.joins) h.are
-joins-order (order.Unlisten l) number old new h = ap (λ (c : Course). c.joins) h.2
-joins-order (order.Pause t) number old new h = ap (λ (c : Course). c.joins) h.1
-joins-order (order.Resume t) number old new h = ap (λ (c : Course). c.joins) h.1
-joins-order (order.Finish t) number old new h = ap (λ (c : Course). c.joins) h.1
-joins-order (order.Close t) number old new h = ap (λ (c : Course). c.joins) h.1
+joins-order : (o : Order) (number : Option ℕ) (old new : Trace) → OrdersIn o number old new → new.joins ≡ old.joins
+joins-order (order.Listen host port) number old new h = ap (λ (c : Trace). c.joins) h.2
+joins-order (order.Connect host port) number old new h = ap (λ (c : Trace). c.joins) h.are
+joins-order (order.Unlisten l) number old new h = ap (λ (c : Trace). c.joins) h.2
+joins-order (order.Pause t) number old new h = ap (λ (c : Trace). c.joins) h.1
+joins-order (order.Resume t) number old new h = ap (λ (c : Trace). c.joins) h.1
+joins-order (order.Finish t) number old new h = ap (λ (c : Trace). c.joins) h.1
+joins-order (order.Close t) number old new h = ap (λ (c : Trace). c.joins) h.1
 
-joins-mark : (mark : HouseMark) (old new : Course) → MarksIn mark old new → new.joins ≡ old.joins
-joins-mark HouseIn old new h = ap (λ (c : Course). c.joins) h
-joins-mark (HouseSaid bytes) old new h = joins-says old.desk.greeted (find has_request old.desk.all) bytes old new h
-joins-mark (HouseTook size) old new h = ap (λ (c : Course). c.joins) h
-joins-mark (HouseAsked client id opening ask reply) old new h = ap (λ (c : Course). c.joins) h.2
-joins-mark (HouseAnswer client id reply) old new h = ap (λ (c : Course). c.joins) h.2
+joins-mark : (mark : HouseMark) (old new : Trace) → MarksIn mark old new → new.joins ≡ old.joins
+joins-mark HouseIn old new h = ap (λ (c : Trace). c.joins) h
+joins-mark (HouseSaid bytes) old new h = joins-says old.forwarding_state.greeted (find has_request old.forwarding_state.all) bytes old new h
+joins-mark (HouseTook size) old new h = ap (λ (c : Trace). c.joins) h
+joins-mark (HouseAsked client id opening ask reply) old new h = ap (λ (c : Trace). c.joins) h.2
+joins-mark (HouseAnswer client id reply) old new h = ap (λ (c : Trace). c.joins) h.2
 joins-mark (HouseOrder o number) old new h = joins-order o number old new h
 
-joins-turn : (happening : Happening) (old new : Course) (lives : List Life)
-    → new ≡ record old { lives = lives; joins = joins_after happening old.joins } → new.joins ≡ joins_by_turn happening + old.joins
-joins-turn (Joined l t) old new lives h = let its = ap (λ (c : Course). c.joins) h in omega (arith, its)
-joins-turn (Got t bytes) old new lives h = let its = ap (λ (c : Course). c.joins) h in omega (arith, its)
-joins-turn (End t) old new lives h = let its = ap (λ (c : Course). c.joins) h in omega (arith, its)
-joins-turn (Writable t) old new lives h = let its = ap (λ (c : Course). c.joins) h in omega (arith, its)
-joins-turn (Failed t) old new lives h = let its = ap (λ (c : Course). c.joins) h in omega (arith, its)
+joins-turn : (happening : Happening) (old new : Trace) (relay_traces : List Life)
+    → new ≡ record old { relay_traces = relay_traces; joins = joins_after happening old.joins } → new.joins ≡ joins_by_turn happening + old.joins
+joins-turn (Joined l t) old new relay_traces h = let its = ap (λ (c : Trace). c.joins) h in omega (arith, its)
+joins-turn (Got t bytes) old new relay_traces h = let its = ap (λ (c : Trace). c.joins) h in omega (arith, its)
+joins-turn (End t) old new relay_traces h = let its = ap (λ (c : Trace). c.joins) h in omega (arith, its)
+joins-turn (Writable t) old new relay_traces h = let its = ap (λ (c : Trace). c.joins) h in omega (arith, its)
+joins-turn (Failed t) old new relay_traces h = let its = ap (λ (c : Trace). c.joins) h in omega (arith, its)
 
-joins-follow : (call : HouseCall) (old new : Course) → Follows call old new → new.joins ≡ joins_by call + old.joins
-joins-follow (Begins starts) old new h = let its = ap (λ (c : Course). c.joins) h.2 in omega (arith, its)
+joins-follow : (call : HouseCall) (old new : Trace) → Follows call old new → new.joins ≡ joins_by call + old.joins
+joins-follow (Begins starts) old new h = let its = ap (λ (c : Trace). c.joins) h.2 in omega (arith, its)
 joins-follow (Marks mark) old new h = let its = joins-mark mark old new h in omega (arith, its)
-joins-follow (HearsBytes bytes) old new h = let its = joins-frames h.0 (with_heard bytes old) new h.1 in omega (arith, its)
+joins-follow (ReceivesBytes bytes) old new h = let its = joins-frames h.0 (with_received bytes old) new h.1 in omega (arith, its)
 joins-follow (Turns happening) old new h = joins-turn happening old new h.0 h.2
-joins-follow (TakesBytes t n) old new h = let its = ap (λ (c : Course). c.joins) h.2 in omega (arith, its)
+joins-follow (TakesBytes t n) old new h = let its = ap (λ (c : Trace). c.joins) h.2 in omega (arith, its)
 
-joins-reach : (calls : List HouseCall) (old new : Course) → Reaches old calls new → new.joins ≡ joins_in calls + old.joins
-joins-reach [] old new h = let its = ap (λ (c : Course). c.joins) h in omega (arith, its)
+joins-reach : (calls : List HouseCall) (old new : Trace) → Reaches old calls new → new.joins ≡ joins_in calls + old.joins
+joins-reach [] old new h = let its = ap (λ (c : Trace). c.joins) h in omega (arith, its)
 joins-reach (call ∷ calls) old new h =
     let first = joins-follow call old h.0 h.1 in
     let rest = joins-reach calls h.0 new h.2 in
@@ -423,38 +423,38 @@ turns-total n (End t) joins fs old new h = let are = ap (total n) h in let same 
 turns-total n (Writable t) joins fs old new h = let are = ap (total n) h in let same = total-stepped n step.Writable t old in omega (arith, are, same)
 turns-total n (Failed t) joins fs old new h = let are = ap (total n) h in let same = total-stepped n step.Failed t old in omega (arith, are, same)
 
-follow-total : (n : ℕ) (call : HouseCall) (old new : Course) (h : Follows call old new) → OfAll Sound old
-    → times n (opener_of call old new h) + total n new.lives + room n old.joins ≤ room n new.joins + total n old.lives
+follow-total : (n : ℕ) (call : HouseCall) (old new : Trace) (h : Follows call old new) → OfAll Sound old
+    → times n (opener_of call old new h) + total n new.relay_traces + room n old.joins ≤ room n new.joins + total n old.relay_traces
 follow-total n (Begins starts) old new h s =
-    let all = same-total n old new (ap (λ (c : Course). c.lives) h.2) in
-    let same = ap (λ (c : Course). room n c.joins) h.2 in
+    let all = same-total n old new (ap (λ (c : Trace). c.relay_traces) h.2) in
+    let same = ap (λ (c : Trace). room n c.joins) h.2 in
     omega (arith, all, same)
 follow-total n (Marks mark) old new h s =
     let all = marks-total n mark old new h in
     let same = ap (room n) (joins-mark mark old new h) in
     omega (arith, all, same)
-follow-total n (HearsBytes bytes) old new h s =
-    let all = frames (λ ls taken. total n ls ≤ total n old.lives) (heeds n (total n old.lives)) h.0 (with_heard bytes old) new [] h.1
-    (record { lives = s.lives; past = s.past }) (omega arith) in
-    let same = ap (room n) (joins-frames h.0 (with_heard bytes old) new h.1) in
+follow-total n (ReceivesBytes bytes) old new h s =
+    let all = frames (λ ls taken. total n ls ≤ total n old.relay_traces) (applies n (total n old.relay_traces)) h.0 (with_received bytes old) new [] h.1
+    (record { relay_traces = s.relay_traces; past = s.past }) (omega arith) in
+    let same = ap (room n) (joins-frames h.0 (with_received bytes old) new h.1) in
     omega (arith, all, same)
 follow-total n (Turns happening) old new h s =
-    let all = turns-total n happening old.joins old.desk.all old.lives h.0 h.1 in
-    let are = ap (λ (c : Course). total n c.lives) h.2 in
-    let joins = ap (λ (c : Course). room n c.joins) h.2 in
+    let all = turns-total n happening old.joins old.forwarding_state.all old.relay_traces h.0 h.1 in
+    let are = ap (λ (c : Trace). total n c.relay_traces) h.2 in
+    let joins = ap (λ (c : Trace). room n c.joins) h.2 in
     omega (arith, all, are, joins)
 follow-total n (TakesBytes t m) old new h s =
-    let less = total-most n (has_stream t) (GoesBy (TakesOn m) (Takes m)) old.lives h.0
+    let less = total-most n (has_stream t) (GoesBy (TakesOn m) (Takes m)) old.relay_traces h.0
     (λ a b goes. weighs-less n a b goes.joined (takes-one m a b goes)) h.1 in
-    let are = ap (λ (c : Course). total n c.lives) h.2 in
-    let same = ap (λ (c : Course). room n c.joins) h.2 in
+    let are = ap (λ (c : Trace). total n c.relay_traces) h.2 in
+    let same = ap (λ (c : Trace). room n c.joins) h.2 in
     omega (arith, less, are, same)
 
-reach-total : (n : ℕ) (calls : List HouseCall) (old new : Course) (h : Reaches old calls new) → OfAll Sound old
-    → times n (openers_in calls old new h) + total n new.lives + room n old.joins ≤ room n new.joins + total n old.lives
+reach-total : (n : ℕ) (calls : List HouseCall) (old new : Trace) (h : Reaches old calls new) → OfAll Sound old
+    → times n (openers_in calls old new h) + total n new.relay_traces + room n old.joins ≤ room n new.joins + total n old.relay_traces
 reach-total n [] old new h s =
-    let all = ap (λ (c : Course). total n c.lives) h in
-    let same = ap (λ (c : Course). room n c.joins) h in
+    let all = ap (λ (c : Trace). total n c.relay_traces) h in
+    let same = ap (λ (c : Trace). room n c.joins) h in
     omega (arith, all, same)
 reach-total n (call ∷ calls) old new h s =
     let first = follow-total n call old h.0 h.1 s in
@@ -462,53 +462,53 @@ reach-total n (call ∷ calls) old new h s =
     let both = times-append n (opener_of call old h.0 h.1) (openers_in calls h.0 new h.2) in
     omega (arith, first, rest, both)
 
-once : (n : ℕ) (calls : List HouseCall) (course : Course) (h : Reaches first_course calls course)
-    → times n (openers_in calls first_course course h ++ openers_left course.lives) ≤ 1
-once n calls course h =
-    let all = reach-total n calls first_course course h (record { lives = tt; past = tt }) in
-    let both = times-append n (openers_in calls first_course course h) (openers_left course.lives) in
-    let same = left-total n course.lives in
-    let most = room-most n course.joins in
+once : (n : ℕ) (calls : List HouseCall) (trace : Trace) (h : Reaches first_trace calls trace)
+    → times n (openers_in calls first_trace trace h ++ openers_left trace.relay_traces) ≤ 1
+once n calls trace h =
+    let all = reach-total n calls first_trace trace h (record { relay_traces = tt; past = tt }) in
+    let both = times-append n (openers_in calls first_trace trace h) (openers_left trace.relay_traces) in
+    let same = left-total n trace.relay_traces in
+    let most = room-most n trace.joins in
     omega (arith, all, both, same, most)
 
 -- ---- each is told
 
-told-if : (b : Bool) (o : Option ℕ) → length (cond b (o ∷ []) []) ≡ cond {A = ℕ} b 1 0
-told-if true o = refl
-told-if false o = refl
+recorded-if : (b : Bool) (o : Option ℕ) → length (cond b (o ∷ []) []) ≡ cond {A = ℕ} b 1 0
+recorded-if true o = refl
+recorded-if false o = refl
 
-says-told : (b : Bool) (o : Option Forwarding) (bytes : List ℕ) (old new : Course) (h : SaysBy b o bytes old new)
+says-recorded : (b : Bool) (o : Option Forwarding) (bytes : List ℕ) (old new : Trace) (h : SendsBy b o bytes old new)
     → length (opener_by b o bytes old new h) ≡ opening bytes
-says-told false o bytes old new h = let none = ap opening h.0 in omega (arith, none)
-says-told true (Some f) bytes old new h = let none = ap opening h.0 in omega (arith, none)
-says-told true None bytes old new h = told-if (is_open bytes) h.1.life.joined
+says-recorded false o bytes old new h = let none = ap opening h.0 in omega (arith, none)
+says-recorded true (Some f) bytes old new h = let none = ap opening h.0 in omega (arith, none)
+says-recorded true None bytes old new h = recorded-if (is_open bytes) h.1.life.joined
 
-marks-told : (mark : HouseMark) (old new : Course) (h : MarksIn mark old new)
+marks-recorded : (mark : HouseMark) (old new : Trace) (h : MarksIn mark old new)
     → length (opener_marked mark old new h) ≡ opens_by (Marks mark)
-marks-told HouseIn old new h = refl
-marks-told (HouseSaid bytes) old new h = says-told old.desk.greeted (find has_request old.desk.all) bytes old new h
-marks-told (HouseTook size) old new h = refl
-marks-told (HouseAsked client id opening ask reply) old new h = refl
-marks-told (HouseAnswer client id reply) old new h = refl
-marks-told (HouseOrder o number) old new h = refl
+marks-recorded HouseIn old new h = refl
+marks-recorded (HouseSaid bytes) old new h = says-recorded old.forwarding_state.greeted (find has_request old.forwarding_state.all) bytes old new h
+marks-recorded (HouseTook size) old new h = refl
+marks-recorded (HouseAsked client id opening ask reply) old new h = refl
+marks-recorded (HouseAnswer client id reply) old new h = refl
+marks-recorded (HouseOrder o number) old new h = refl
 
-follow-told : (call : HouseCall) (old new : Course) (h : Follows call old new) → length (opener_of call old new h) ≡ opens_by call
-follow-told (Begins starts) old new h = refl
-follow-told (Marks mark) old new h = marks-told mark old new h
-follow-told (HearsBytes bytes) old new h = refl
-follow-told (Turns happening) old new h = refl
-follow-told (TakesBytes t n) old new h = refl
+follow-recorded : (call : HouseCall) (old new : Trace) (h : Follows call old new) → length (opener_of call old new h) ≡ opens_by call
+follow-recorded (Begins starts) old new h = refl
+follow-recorded (Marks mark) old new h = marks-recorded mark old new h
+follow-recorded (ReceivesBytes bytes) old new h = refl
+follow-recorded (Turns happening) old new h = refl
+follow-recorded (TakesBytes t n) old new h = refl
 
-reach-told : (calls : List HouseCall) (old new : Course) (h : Reaches old calls new) → length (openers_in calls old new h) ≡ opens_in calls
-reach-told [] old new h = refl
-reach-told (call ∷ calls) old new h =
-    let first = follow-told call old h.0 h.1 in
-    let rest = reach-told calls h.0 new h.2 in
+reach-recorded : (calls : List HouseCall) (old new : Trace) (h : Reaches old calls new) → length (openers_in calls old new h) ≡ opens_in calls
+reach-recorded [] old new h = refl
+reach-recorded (call ∷ calls) old new h =
+    let first = follow-recorded call old h.0 h.1 in
+    let rest = reach-recorded calls h.0 new h.2 in
     let both = length-append (opener_of call old h.0 h.1) (openers_in calls h.0 new h.2) in
     omega (arith, first, rest, both)
 
-pub each-is-told : EachIsTold
-each-is-told calls course h = reach-told calls first_course course h
+pub each-is-recorded : EachIsRecorded
+each-is-recorded calls trace h = reach-recorded calls first_trace trace h
 
 -- ---- each was joined
 
@@ -516,12 +516,12 @@ was-joined : (calls : List HouseCall) (own : Option OwnStream) (socket : Option 
     → IsJoinedFor calls own socket so → IsOneJoined calls socket
 was-joined calls own socket so h =
     let call = Turns (Joined h.listener h.stream) in
-    let are = joins-reach h.joined.before first_course h.course h.joined.reached in
+    let are = joins-reach h.joined.before first_trace h.trace h.joined.reached in
     let all = ap joins_in h.joined.are in
     let both = joins-append h.joined.before (call ∷ h.joined.behind) in
-    record { number = h.course.joins; is = h.which; joined = omega (arith, are, all, both) }
+    record { number = h.trace.joins; is = h.which; joined = omega (arith, are, all, both) }
 
-right-joined : (calls : List HouseCall) (own : Option OwnStream) (socket : Option ℕ) (line : Line) → may_open line ≡ true
+right-joined : (calls : List HouseCall) (own : Option OwnStream) (socket : Option ℕ) (line : ChannelState) → may_open line ≡ true
     → Right calls own socket line → IsOneJoined calls socket
 right-joined calls own socket (Dialing dialog) e h = was-joined calls own socket _ h
 right-joined calls own socket (Asked host port None) e h = was-joined calls own socket _ h
@@ -564,8 +564,8 @@ says-joined-if : (calls : List HouseCall) (b : Bool) (socket : Option ℕ) → (
 says-joined-if calls true socket h = All-cons (IsOneJoined calls) socket [] (h refl) (All-nil (IsOneJoined calls))
 says-joined-if calls false socket h = All-nil (IsOneJoined calls)
 
-says-joined : (before : List HouseCall) (b : Bool) (o : Option Forwarding) (bytes : List ℕ) (old new : Course) (h : SaysBy b o bytes old new)
-    → Each (Both (Aimed before)) old.lives → All (IsOneJoined before) (opener_by b o bytes old new h)
+says-joined : (before : List HouseCall) (b : Bool) (o : Option Forwarding) (bytes : List ℕ) (old new : Trace) (h : SendsBy b o bytes old new)
+    → Each (Both (Aimed before)) old.relay_traces → All (IsOneJoined before) (opener_by b o bytes old new h)
 says-joined before false o bytes old new h p = All-nil (IsOneJoined before)
 says-joined before true (Some f) bytes old new h p = All-nil (IsOneJoined before)
 says-joined before true None bytes old new h p =
@@ -575,42 +575,42 @@ says-joined before true None bytes old new h p =
     says-joined-if before (is_open bytes) a.joined
     (λ is. right-joined before a.own a.joined a.relay.line (said-opens a bytes h.1.is is (omega (arith, said))) its.0.1.right)
 
-marks-joined : (before : List HouseCall) (mark : HouseMark) (old new : Course) (h : MarksIn mark old new)
-    → Each (Both (Aimed before)) old.lives → All (IsOneJoined before) (opener_marked mark old new h)
+marks-joined : (before : List HouseCall) (mark : HouseMark) (old new : Trace) (h : MarksIn mark old new)
+    → Each (Both (Aimed before)) old.relay_traces → All (IsOneJoined before) (opener_marked mark old new h)
 marks-joined before HouseIn old new h p = All-nil (IsOneJoined before)
-marks-joined before (HouseSaid bytes) old new h p = says-joined before old.desk.greeted (find has_request old.desk.all) bytes old new h p
+marks-joined before (HouseSaid bytes) old new h p = says-joined before old.forwarding_state.greeted (find has_request old.forwarding_state.all) bytes old new h p
 marks-joined before (HouseTook size) old new h p = All-nil (IsOneJoined before)
 marks-joined before (HouseAsked client id opening ask reply) old new h p = All-nil (IsOneJoined before)
 marks-joined before (HouseAnswer client id reply) old new h p = All-nil (IsOneJoined before)
 marks-joined before (HouseOrder o number) old new h p = All-nil (IsOneJoined before)
 
-follow-joined : (before : List HouseCall) (call : HouseCall) (old new : Course) (h : Follows call old new)
-    → Each (Both (Aimed before)) old.lives → All (IsOneJoined before) (opener_of call old new h)
+follow-joined : (before : List HouseCall) (call : HouseCall) (old new : Trace) (h : Follows call old new)
+    → Each (Both (Aimed before)) old.relay_traces → All (IsOneJoined before) (opener_of call old new h)
 follow-joined before (Begins starts) old new h p = All-nil (IsOneJoined before)
 follow-joined before (Marks mark) old new h p = marks-joined before mark old new h p
-follow-joined before (HearsBytes bytes) old new h p = All-nil (IsOneJoined before)
+follow-joined before (ReceivesBytes bytes) old new h p = All-nil (IsOneJoined before)
 follow-joined before (Turns happening) old new h p = All-nil (IsOneJoined before)
 follow-joined before (TakesBytes t n) old new h p = All-nil (IsOneJoined before)
 
-reach-joined : (before calls : List HouseCall) (old new : Course) → Reaches first_course before old → (h : Reaches old calls new)
+reach-joined : (before calls : List HouseCall) (old new : Trace) → Reaches first_trace before old → (h : Reaches old calls new)
     → All (IsOneJoined (before ++ calls)) (openers_in calls old new h)
 reach-joined before [] old new r h = All-nil (IsOneJoined (before ++ []))
 reach-joined before (call ∷ calls) old new r h =
-    let first = follow-joined before call old h.0 h.1 (all-aimed before old r).lives in
-    let rest = reach-joined (before ++ call ∷ []) calls h.0 new (reaches-more before call first_course old h.0 r h.1) h.2 in
+    let first = follow-joined before call old h.0 h.1 (all-aimed before old r).relay_traces in
+    let rest = reach-joined (before ++ call ∷ []) calls h.0 new (reaches-more before call first_trace old h.0 r h.1) h.2 in
     All-append (IsOneJoined (before ++ call ∷ calls)) (opener_of call old h.0 h.1) (openers_in calls h.0 new h.2)
     (All-weaker (IsOneJoined before) (IsOneJoined (before ++ call ∷ calls)) (λ o k. joined-more before (call ∷ calls) o k)
     (opener_of call old h.0 h.1) first)
     (subst (λ (cs : List HouseCall). All (IsOneJoined cs) (openers_in calls h.0 new h.2)) (append_assoc before (call ∷ []) calls) rest)
 
 pub each-was-joined : EachWasJoined
-each-was-joined calls course h =
-    All-append (IsOneJoined calls) (openers_in calls first_course course h) (openers_left course.lives)
-    (reach-joined [] calls first_course course refl h) (left-joined calls course.lives (all-aimed calls course h).lives)
+each-was-joined calls trace h =
+    All-append (IsOneJoined calls) (openers_in calls first_trace trace h) (openers_left trace.relay_traces)
+    (reach-joined [] calls first_trace trace refl h) (left-joined calls trace.relay_traces (all-aimed calls trace h).relay_traces)
 
 -- ---- no two are of one
 
 pub one-open-each : OneOpenEach
-one-open-each calls course h =
-    let os = openers_in calls first_course course h ++ openers_left course.lives in
-    differ os (All-weaker (IsOneJoined calls) IsSome (λ o k. (k.number, k.is)) os (each-was-joined calls course h)) (λ n. once n calls course h)
+one-open-each calls trace h =
+    let os = openers_in calls first_trace trace h ++ openers_left trace.relay_traces in
+    differ os (All-weaker (IsOneJoined calls) IsSome (λ o k. (k.number, k.is)) os (each-was-joined calls trace h)) (λ n. once n calls trace h)

@@ -3,38 +3,38 @@ use Rattle.std.proofs.Common.{◌≡◌, ◌∙◌, refl, ap, ◌⊎◌, inl, in
 use Rattle.std.specs.Prelude.{not, if◌then◌else◌, find, is_some}
 use Rattle.conn_messages.specs.declared.message.Message.{Message}
 use Rattle.conn_messages.specs.declared.message.Message.TheVariants as message
-use Rattle.mux_outside.specs.HouseCalls.{HouseCall, Happening, Begins, Marks, Hears as HearsBytes, Turns, Takes as TakesBytes}
+use Rattle.mux_outside.specs.HouseCalls.{HouseCall, Happening, Begins, Marks, Receives as ReceivesBytes, Turns, Takes as TakesBytes}
 use Rattle.mux_outside.specs.HouseCalls.{Joined, Got, End, Writable, Failed}
 use Rattle.mux_outside.specs.declared.house_mark.HouseMark.{HouseMark}
 use Rattle.mux_outside.specs.declared.house_mark.HouseMark.TheVariants.{HouseIn, HouseSaid, HouseTook, HouseAsked, HouseAnswer, HouseOrder}
 use Rattle.mux_outside.specs.declared.order.Order.{Order}
 use Rattle.mux_outside.specs.declared.order.Order.TheVariants as order
 use Rattle.house_relay.specs.Acts.{Reads, Takes}
-use Rattle.house_relay.specs.Next.{says_of, says_offered}
-use Rattle.house_relay.specs.Steps.{is_gone, said_of, DialsIn}
+use Rattle.house_relay.specs.Next.{sends_of, sends_offered}
+use Rattle.house_relay.specs.Steps.{is_gone, sent_of, DialsIn}
 use Rattle.house_relay.specs.declared.line.Live.{Live as LiveState}
-use Rattle.house_relay.specs.declared.line.Line.{Line}
-use Rattle.house_relay.specs.declared.line.Line.TheVariants.{Dialing, Asked, Opened, Offered, Live, Over}
+use Rattle.house_relay.specs.declared.line.ChannelState.{ChannelState}
+use Rattle.house_relay.specs.declared.line.ChannelState.TheVariants.{Dialing, Asked, Opened, Offered, Live, Over}
 use Rattle.house_relay.specs.declared.relay.Relay.{Relay}
-use Rattle.house_relay.specs.declared.relay.Saying.{Saying}
-use Rattle.house_relay.specs.declared.relay.Saying.TheVariants as saying
+use Rattle.house_relay.specs.declared.relay.Outgoing.{Outgoing}
+use Rattle.house_relay.specs.declared.relay.Outgoing.TheVariants as outgoing
 use Rattle.house_forward.specs.Forwardings.{has_request}
 use Rattle.house_forward.specs.Going.{GetsOn, TakesOn}
-use Rattle.house_forward.specs.Links.{after_saying}
-use Rattle.house_forward.specs.Lives.{Life, Course, GoesBy, One, OneAtMost, Speaks, Listens, StepsBy, MakesOne, Reaches, Follows, SaysBy, MarksIn, OrdersIn, TurnsTo, first_course, with_heard}
-use Rattle.house_forward.specs.Lives.{has_channel, has_stream, has_words, are_full, stepped, made_life, kept_in}
+use Rattle.house_forward.specs.Links.{after_sending}
+use Rattle.house_forward.specs.RelayTraces.{Life, Trace, GoesBy, One, OneAtMost, Speaks, Listens, StepsBy, MakesOne, Reaches, Follows, SendsBy, MarksIn, OrdersIn, TurnsTo, first_trace, with_received}
+use Rattle.house_forward.specs.RelayTraces.{has_channel, has_stream, has_words, are_full, stepped, made_life, kept_in}
 use Rattle.house_forward.specs.Opening.{OneOpenAtMost, is_open, opens_by, opens_by_mark, opens_in, joins_by, joins_by_turn, joins_in, may_open, still_to_open}
-use Rattle.house_forward.specs.Said.{framed, said_by, direct, payload_of, payload_if}
+use Rattle.house_forward.specs.Said.{framed, sent_by, direct, payload_of, payload_if}
 use Rattle.house_forward.specs.declared.forwarding.Forwarding.{Forwarding}
-use Rattle.house_forward.specs.declared.link.Step.{Step}
-use Rattle.house_forward.specs.declared.link.Step.TheVariants as step
-use Rattle.house_forward.proofs.Frames.{Heeds, frames}
-use Rattle.house_forward.proofs.Settling.{SettlesBy, FailsLater, settles-hears, settles-takes, settled-said, with-line, line-step}
+use Rattle.house_forward.specs.declared.link.LinkStep.{LinkStep}
+use Rattle.house_forward.specs.declared.link.LinkStep.TheVariants as step
+use Rattle.house_forward.proofs.Frames.{Applies, frames}
+use Rattle.house_forward.proofs.Settling.{SettlesBy, FailsLater, settles-receives, settles-takes, settled-said, with-line, line-step}
 use Rattle.house_forward.proofs.Sound.{All, Sound, follow-sound, offered_life, joined_life, step_of}
 
 -- ---- where an OPEN is to be said, as the channel goes on
 
-abbrev opens : Line → ℕ
+abbrev opens : ChannelState → ℕ
 opens line = cond (may_open line) 1 0
 
 pub one-most : (b : Bool) → cond b 1 0 ≤ 1
@@ -42,18 +42,18 @@ one-most true = omega arith
 one-most false = omega arith
 
 -- it isn't to be from now on, or the channel stays
-abbrev pub Settles : Line → Line → Type 0
+abbrev pub Settles : ChannelState → ChannelState → Type 0
 Settles old new = SettlesBy may_open old new
 
 pub may-later : FailsLater may_open
 may-later = record { live = λ live. refl; over = refl }
 
-settled-most : (old new : Line) → Settles old new → opens new ≤ opens old
+settled-most : (old new : ChannelState) → Settles old new → opens new ≤ opens old
 settled-most old new (inl e) = let none = ap {B = ℕ} (λ (b : Bool). cond b 1 0) e in omega (arith, none)
 settled-most old new (inr e) = let same = ap opens e in omega (arith, same)
 
 -- what isn't dialing keeps its channel as its socket gives bytes
-gets-line : (line : Line) (free : Bool) (bytes : List ℕ) (old new : Relay) → old.line ≡ line → DialsIn line free bytes old new
+gets-line : (line : ChannelState) (free : Bool) (bytes : List ℕ) (old new : Relay) → old.line ≡ line → DialsIn line free bytes old new
     → opens new.line ≤ opens line
 gets-line (Dialing dialog) free bytes old new e h = one-most (may_open new.line)
 gets-line (Asked host port version) free bytes old new e h = one-most (may_open new.line)
@@ -68,72 +68,72 @@ abbrev pub opening : List ℕ → ℕ
 opening bytes = if is_open bytes then 1 else 0
 
 -- in a channel that is confirmed, or offered, no OPEN is said
-live-none : (s : Saying) (live : LiveState) (r : Relay) → is_open (framed (payload_of (with-line (Live live) r) s)) ≡ false
-live-none saying.Open live r = refl
-live-none saying.Confirmation live r = refl
-live-none saying.OpenFailure live r = refl
-live-none saying.Close live r = refl
-live-none saying.Failure live r = refl
-live-none (saying.Data n) live r = refl
-live-none saying.Eof live r = refl
-live-none (saying.Adjust n) live r = refl
+live-none : (s : Outgoing) (live : LiveState) (r : Relay) → is_open (framed (payload_of (with-line (Live live) r) s)) ≡ false
+live-none outgoing.Open live r = refl
+live-none outgoing.Confirmation live r = refl
+live-none outgoing.OpenFailure live r = refl
+live-none outgoing.Close live r = refl
+live-none outgoing.Failure live r = refl
+live-none (outgoing.Data n) live r = refl
+live-none outgoing.Eof live r = refl
+live-none (outgoing.Adjust n) live r = refl
 
-offered-none : (s : Saying) (remote window maximum : ℕ) (r : Relay)
+offered-none : (s : Outgoing) (remote window maximum : ℕ) (r : Relay)
     → is_open (framed (payload_of (with-line (Offered remote window maximum) r) s)) ≡ false
-offered-none saying.Open remote window maximum r = refl
-offered-none saying.Confirmation remote window maximum r = refl
-offered-none saying.OpenFailure remote window maximum r = refl
-offered-none saying.Close remote window maximum r = refl
-offered-none saying.Failure remote window maximum r = refl
-offered-none (saying.Data n) remote window maximum r = refl
-offered-none saying.Eof remote window maximum r = refl
-offered-none (saying.Adjust n) remote window maximum r = refl
+offered-none outgoing.Open remote window maximum r = refl
+offered-none outgoing.Confirmation remote window maximum r = refl
+offered-none outgoing.OpenFailure remote window maximum r = refl
+offered-none outgoing.Close remote window maximum r = refl
+offered-none outgoing.Failure remote window maximum r = refl
+offered-none (outgoing.Data n) remote window maximum r = refl
+offered-none outgoing.Eof remote window maximum r = refl
+offered-none (outgoing.Adjust n) remote window maximum r = refl
 
-offered-said : (s : Saying) (remote window maximum : ℕ) (r : Relay)
-    → may_open (said_of s (with-line (Offered remote window maximum) r)).line ≡ false
-offered-said saying.Open remote window maximum r = refl
-offered-said saying.Confirmation remote window maximum r = refl
-offered-said saying.OpenFailure remote window maximum r = refl
-offered-said saying.Close remote window maximum r = refl
-offered-said saying.Failure remote window maximum r = refl
-offered-said (saying.Data n) remote window maximum r = refl
-offered-said saying.Eof remote window maximum r = refl
-offered-said (saying.Adjust n) remote window maximum r = refl
+offered-said : (s : Outgoing) (remote window maximum : ℕ) (r : Relay)
+    → may_open (sent_of s (with-line (Offered remote window maximum) r)).line ≡ false
+offered-said outgoing.Open remote window maximum r = refl
+offered-said outgoing.Confirmation remote window maximum r = refl
+offered-said outgoing.OpenFailure remote window maximum r = refl
+offered-said outgoing.Close remote window maximum r = refl
+offered-said outgoing.Failure remote window maximum r = refl
+offered-said (outgoing.Data n) remote window maximum r = refl
+offered-said outgoing.Eof remote window maximum r = refl
+offered-said (outgoing.Adjust n) remote window maximum r = refl
 
 -- what is said in a channel in which an OPEN is to be said is that OPEN, and it is none in another
-pub record SaysOpen (host : List ℕ) (port : ℕ) (version : Option ℕ) (r : Relay) : Type 0 where
+pub record SendsOpen (host : List ℕ) (port : ℕ) (version : Option ℕ) (r : Relay) : Type 0 where
   pub asked : r.line ≡ Asked host port version
-  pub words : said_by r ≡ direct r.number host port
+  pub words : sent_by r ≡ direct r.number host port
 
 pub record Spoken (r : Relay) : Type 0 where
-  pub settled : may_open (after_saying (says_of r) r).line ≡ false
-  pub either : (is_open (framed (said_by r)) ≡ false)
-      ⊎ ((host : List ℕ) × (port : ℕ) × (version : Option ℕ) × SaysOpen host port version r)
+  pub settled : may_open (after_sending (sends_of r) r).line ≡ false
+  pub either : (is_open (framed (sent_by r)) ≡ false)
+      ⊎ ((host : List ℕ) × (port : ℕ) × (version : Option ℕ) × SendsOpen host port version r)
 
-live-spoken : (live : LiveState) (r : Relay) (o : Option Saying) → is_some o ≡ true
-    → (may_open (after_saying o (with-line (Live live) r)).line ≡ false)
+live-spoken : (live : LiveState) (r : Relay) (o : Option Outgoing) → is_some o ≡ true
+    → (may_open (after_sending o (with-line (Live live) r)).line ≡ false)
     × (is_open (framed (payload_if (with-line (Live live) r) o)) ≡ false)
 live-spoken live r None e = cc
 live-spoken live r (Some s) e = (settled-said may_open may-later s live r, live-none s live r)
 
-offered-spoken : (remote window maximum : ℕ) (r : Relay) (o : Option Saying) → is_some o ≡ true
-    → (may_open (after_saying o (with-line (Offered remote window maximum) r)).line ≡ false)
+offered-spoken : (remote window maximum : ℕ) (r : Relay) (o : Option Outgoing) → is_some o ≡ true
+    → (may_open (after_sending o (with-line (Offered remote window maximum) r)).line ≡ false)
     × (is_open (framed (payload_if (with-line (Offered remote window maximum) r) o)) ≡ false)
 offered-spoken remote window maximum r None e = cc
 offered-spoken remote window maximum r (Some s) e = (offered-said s remote window maximum r, offered-none s remote window maximum r)
 
-spoken-in : (line : Line) (r : Relay) → is_some (says_of (with-line line r)) ≡ true → Spoken (with-line line r)
+spoken-in : (line : ChannelState) (r : Relay) → is_some (sends_of (with-line line r)) ≡ true → Spoken (with-line line r)
 spoken-in (Dialing dialog) r e = cc
 spoken-in (Asked host port version) r e =
     record { settled = refl; either = inr (host, port, version, record { asked = refl; words = refl }) }
 spoken-in (Opened version) r e = cc
 spoken-in (Offered remote window maximum) r e =
-    let both = offered-spoken remote window maximum r (says_offered r.socket) e in record { settled = both.0; either = inl both.1 }
+    let both = offered-spoken remote window maximum r (sends_offered r.socket) e in record { settled = both.0; either = inl both.1 }
 spoken-in (Live live) r e =
-    let both = live-spoken live r (says_of (with-line (Live live) r)) e in record { settled = both.0; either = inl both.1 }
+    let both = live-spoken live r (sends_of (with-line (Live live) r)) e in record { settled = both.0; either = inl both.1 }
 spoken-in Over r e = cc
 
-pub spoken : (r : Relay) → is_some (says_of r) ≡ true → Spoken r
+pub spoken : (r : Relay) → is_some (sends_of r) ≡ true → Spoken r
 spoken r e = spoken-in r.line r e
 
 -- ---- how many there are
@@ -185,19 +185,19 @@ count-kept : (ls : List Life) → count (kept_in ls) ≤ count ls
 count-kept [] = omega arith
 count-kept (l ∷ ls) = kept-if (is_gone l.relay) l ls (kept_in ls) (count-kept ls)
 
-stepped-one : (s : Step) (b : Bool) (l : Life) → one (if b then step_of s l else l) ≡ one l
+stepped-one : (s : LinkStep) (b : Bool) (l : Life) → one (if b then step_of s l else l) ≡ one l
 stepped-one s true l = ap opens (line-step s l.relay)
 stepped-one s false l = refl
 
-count-stepped : (s : Step) (t : ℕ) (ls : List Life) → count (map (stepped s t) ls) ≡ count ls
+count-stepped : (s : LinkStep) (t : ℕ) (ls : List Life) → count (map (stepped s t) ls) ≡ count ls
 count-stepped s t [] = refl
 count-stepped s t (l ∷ ls) =
     let its = stepped-one s (has_stream t l) l in
     let rest = count-stepped s t ls in
     omega (arith, its, rest)
 
-pub hears-one : (m : Message) (a b : Life) → Listens m a b → one b ≤ one a
-hears-one m a b h = settled-most a.relay.line b.relay.line (settles-hears may_open may-later m a b h)
+pub receives-one : (m : Message) (a b : Life) → Listens m a b → one b ≤ one a
+receives-one m a b h = settled-most a.relay.line b.relay.line (settles-receives may_open may-later m a b h)
 
 pub takes-one : (n : ℕ) (a b : Life) → GoesBy (TakesOn n) (Takes n) a b → one b ≤ one a
 takes-one n a b h = settled-most a.relay.line b.relay.line (settles-takes may_open may-later n a b h)
@@ -205,22 +205,22 @@ takes-one n a b h = settled-most a.relay.line b.relay.line (settles-takes may_op
 pub gets-one : (free : Bool) (bytes : List ℕ) (a b : Life) → GoesBy (GetsOn free bytes) (Reads bytes) a b → one b ≤ one a
 gets-one free bytes a b h = gets-line a.relay.line free bytes a.relay b.relay refl h.relay.0
 
-says-after : (r : Relay) → Spoken r → opening (framed (said_by r)) + opens (after_saying (says_of r) r).line ≤ opens r.line
+says-after : (r : Relay) → Spoken r → opening (framed (sent_by r)) + opens (after_sending (sends_of r) r).line ≤ opens r.line
 says-after r h = by h.either
   where
-    none : opens (after_saying (says_of r) r).line ≡ 0
+    none : opens (after_sending (sends_of r) r).line ≡ 0
     none = ap {B = ℕ} (λ (b : Bool). cond b 1 0) h.settled
 
-    by : (is_open (framed (said_by r)) ≡ false)
-        ⊎ ((host : List ℕ) × (port : ℕ) × (version : Option ℕ) × SaysOpen host port version r)
-        → opening (framed (said_by r)) + opens (after_saying (says_of r) r).line ≤ opens r.line
+    by : (is_open (framed (sent_by r)) ≡ false)
+        ⊎ ((host : List ℕ) × (port : ℕ) × (version : Option ℕ) × SendsOpen host port version r)
+        → opening (framed (sent_by r)) + opens (after_sending (sends_of r) r).line ≤ opens r.line
     by (inl e) =
         let no = ap {B = ℕ} (λ (b : Bool). cond b 1 0) e in
         let its = none in
         omega (arith, no, its)
     by (inr x) =
         let asked = ap opens x.3.asked in
-        let most = one-most (is_open (framed (said_by r))) in
+        let most = one-most (is_open (framed (sent_by r))) in
         let its = none in
         omega (arith, asked, most, its)
 
@@ -231,10 +231,10 @@ says-one bytes a b is h =
     let line = ap (λ (r : Relay). opens r.line) h.1.relay.0 in
     omega (arith, its, said, line)
 
-heeds : (most : ℕ) → Heeds (λ ls taken. count ls ≤ most)
-heeds most = record {
-  hears = λ n m old new taken sounds h goes. (
-      let less = count-most (has_channel n) (Listens m) old new (λ a b is on. hears-one m a b on) (inl goes) in
+applies : (most : ℕ) → Applies (λ ls taken. count ls ≤ most)
+applies most = record {
+  receives = λ n m old new taken sounds h goes. (
+      let less = count-most (has_channel n) (Listens m) old new (λ a b is on. receives-one m a b on) (inl goes) in
       let kept = count-kept new in
       omega (arith, h, less, kept)
       );
@@ -246,59 +246,59 @@ heeds most = record {
 
 -- ---- by the calls
 
-says-count : (b : Bool) (o : Option Forwarding) (bytes : List ℕ) (old new : Course) → SaysBy b o bytes old new
-    → opening bytes + count new.lives ≤ count old.lives
+says-count : (b : Bool) (o : Option Forwarding) (bytes : List ℕ) (old new : Trace) → SendsBy b o bytes old new
+    → opening bytes + count new.relay_traces ≤ count old.relay_traces
 says-count false o bytes old new h =
-    let same = ap (λ (c : Course). count c.lives) h.1 in
+    let same = ap (λ (c : Trace). count c.relay_traces) h.1 in
     let none = ap opening h.0 in
     omega (arith, same, none)
 says-count true (Some f) bytes old new h =
-    let same = ap (λ (c : Course). count c.lives) h.1 in
+    let same = ap (λ (c : Trace). count c.relay_traces) h.1 in
     let none = ap opening h.0 in
     omega (arith, same, none)
 says-count true None bytes old new h =
-    let less = count-one has_words (Speaks bytes) old.lives h.0 (opening bytes) (says-one bytes) h.1 in
+    let less = count-one has_words (Speaks bytes) old.relay_traces h.0 (opening bytes) (says-one bytes) h.1 in
     let kept = count-kept h.0 in
-    let are = ap (λ (c : Course). count c.lives) h.2 in
+    let are = ap (λ (c : Trace). count c.relay_traces) h.2 in
     omega (arith, less, kept, are)
 
-steps-count : (o : Order) (s : Step) (t : ℕ) (old new : Course) → StepsBy o s t old new → count new.lives ≤ count old.lives
+steps-count : (o : Order) (s : LinkStep) (t : ℕ) (old new : Trace) → StepsBy o s t old new → count new.relay_traces ≤ count old.relay_traces
 steps-count o s t old new h =
-    let same = count-stepped s t old.lives in
-    let kept = count-kept (map (stepped s t) old.lives) in
-    let are = ap (λ (c : Course). count c.lives) h.1 in
+    let same = count-stepped s t old.relay_traces in
+    let kept = count-kept (map (stepped s t) old.relay_traces) in
+    let are = ap (λ (c : Trace). count c.relay_traces) h.1 in
     omega (arith, same, kept, are)
 
-makes-count : (host : List ℕ) (port : ℕ) (number : Option ℕ) (old new : Course) → MakesOne host port number old new
-    → count new.lives ≤ count old.lives
+makes-count : (host : List ℕ) (port : ℕ) (number : Option ℕ) (old new : Trace) → MakesOne host port number old new
+    → count new.relay_traces ≤ count old.relay_traces
 makes-count host port number old new h =
     let were = ap count h.were in
-    let are = ap (λ (c : Course). count c.lives) h.are in
+    let are = ap (λ (c : Trace). count c.relay_traces) h.are in
     let a = count-append h.before (h.life ∷ h.behind) in
     let b = count-append (h.before ++ h.behind) (made_life number h.life ∷ []) in
     let c = count-append h.before h.behind in
     omega (arith, were, are, a, b, c)
 
-same-count : (old new : Course) → new.lives ≡ old.lives → count new.lives ≤ count old.lives
+same-count : (old new : Trace) → new.relay_traces ≡ old.relay_traces → count new.relay_traces ≤ count old.relay_traces
 same-count old new e = let same = ap count e in omega (arith, same)
 
-orders-count : (o : Order) (number : Option ℕ) (old new : Course) → OrdersIn o number old new → count new.lives ≤ count old.lives
-orders-count (order.Listen host port) number old new h = same-count old new (ap (λ (c : Course). c.lives) h.2)
+orders-count : (o : Order) (number : Option ℕ) (old new : Trace) → OrdersIn o number old new → count new.relay_traces ≤ count old.relay_traces
+orders-count (order.Listen host port) number old new h = same-count old new (ap (λ (c : Trace). c.relay_traces) h.2)
 orders-count (order.Connect host port) number old new h = makes-count host port number old new h
-orders-count (order.Unlisten l) number old new h = same-count old new (ap (λ (c : Course). c.lives) h.2)
+orders-count (order.Unlisten l) number old new h = same-count old new (ap (λ (c : Trace). c.relay_traces) h.2)
 orders-count (order.Pause t) number old new h = steps-count (order.Pause t) (step.Pause true) t old new h
 orders-count (order.Resume t) number old new h = steps-count (order.Resume t) (step.Pause false) t old new h
 orders-count (order.Finish t) number old new h = steps-count (order.Finish t) step.Finish t old new h
 orders-count (order.Close t) number old new h = steps-count (order.Close t) step.Close t old new h
 
-marks-count : (mark : HouseMark) (old new : Course) → MarksIn mark old new → opens_by_mark mark + count new.lives ≤ count old.lives
-marks-count HouseIn old new h = let all = same-count old new (ap (λ (c : Course). c.lives) h) in omega (arith, all)
-marks-count (HouseSaid bytes) old new h = says-count old.desk.greeted (find has_request old.desk.all) bytes old new h
-marks-count (HouseTook size) old new h = let all = same-count old new (ap (λ (c : Course). c.lives) h) in omega (arith, all)
+marks-count : (mark : HouseMark) (old new : Trace) → MarksIn mark old new → opens_by_mark mark + count new.relay_traces ≤ count old.relay_traces
+marks-count HouseIn old new h = let all = same-count old new (ap (λ (c : Trace). c.relay_traces) h) in omega (arith, all)
+marks-count (HouseSaid bytes) old new h = says-count old.forwarding_state.greeted (find has_request old.forwarding_state.all) bytes old new h
+marks-count (HouseTook size) old new h = let all = same-count old new (ap (λ (c : Trace). c.relay_traces) h) in omega (arith, all)
 marks-count (HouseAsked client id opening ask reply) old new h =
-    let all = same-count old new (ap (λ (c : Course). c.lives) h.2) in omega (arith, all)
+    let all = same-count old new (ap (λ (c : Trace). c.relay_traces) h.2) in omega (arith, all)
 marks-count (HouseAnswer client id reply) old new h =
-    let all = same-count old new (ap (λ (c : Course). c.lives) h.2) in omega (arith, all)
+    let all = same-count old new (ap (λ (c : Trace). c.relay_traces) h.2) in omega (arith, all)
 marks-count (HouseOrder o number) old new h = let all = orders-count o number old new h in omega (arith, all)
 
 turns-count : (happening : Happening) (joins : ℕ) (fs : List Forwarding) (old new : List Life) → TurnsTo happening joins fs old new
@@ -314,33 +314,33 @@ turns-count (End t) joins fs old new h = let are = ap count h in let same = coun
 turns-count (Writable t) joins fs old new h = let are = ap count h in let same = count-stepped step.Writable t old in omega (arith, are, same)
 turns-count (Failed t) joins fs old new h = let are = ap count h in let same = count-stepped step.Failed t old in omega (arith, are, same)
 
-follow-count : (call : HouseCall) (old new : Course) → Follows call old new → All Sound old
-    → opens_by call + count new.lives ≤ joins_by call + count old.lives
-follow-count (Begins starts) old new h s = let all = same-count old new (ap (λ (c : Course). c.lives) h.2) in omega (arith, all)
+follow-count : (call : HouseCall) (old new : Trace) → Follows call old new → All Sound old
+    → opens_by call + count new.relay_traces ≤ joins_by call + count old.relay_traces
+follow-count (Begins starts) old new h s = let all = same-count old new (ap (λ (c : Trace). c.relay_traces) h.2) in omega (arith, all)
 follow-count (Marks mark) old new h s = let all = marks-count mark old new h in omega (arith, all)
-follow-count (HearsBytes bytes) old new h s =
-    let all = frames (λ ls taken. count ls ≤ count old.lives) (heeds (count old.lives)) h.0 (with_heard bytes old) new [] h.1
-    (record { lives = s.lives; past = s.past }) (omega arith) in
+follow-count (ReceivesBytes bytes) old new h s =
+    let all = frames (λ ls taken. count ls ≤ count old.relay_traces) (applies (count old.relay_traces)) h.0 (with_received bytes old) new [] h.1
+    (record { relay_traces = s.relay_traces; past = s.past }) (omega arith) in
     omega (arith, all)
 follow-count (Turns happening) old new h s =
-    let all = turns-count happening old.joins old.desk.all old.lives h.0 h.1 in
-    let are = ap (λ (c : Course). count c.lives) h.2 in
+    let all = turns-count happening old.joins old.forwarding_state.all old.relay_traces h.0 h.1 in
+    let are = ap (λ (c : Trace). count c.relay_traces) h.2 in
     omega (arith, all, are)
 follow-count (TakesBytes t n) old new h s =
-    let less = count-most (has_stream t) (GoesBy (TakesOn n) (Takes n)) old.lives h.0 (λ a b is goes. takes-one n a b goes) h.1 in
-    let are = ap (λ (c : Course). count c.lives) h.2 in
+    let less = count-most (has_stream t) (GoesBy (TakesOn n) (Takes n)) old.relay_traces h.0 (λ a b is goes. takes-one n a b goes) h.1 in
+    let are = ap (λ (c : Trace). count c.relay_traces) h.2 in
     omega (arith, less, are)
 
-reach-count : (calls : List HouseCall) (old new : Course) → Reaches old calls new → All Sound old
-    → opens_in calls + count new.lives ≤ joins_in calls + count old.lives
-reach-count [] old new h s = let all = same-count old new (ap (λ (c : Course). c.lives) h) in omega (arith, all)
+reach-count : (calls : List HouseCall) (old new : Trace) → Reaches old calls new → All Sound old
+    → opens_in calls + count new.relay_traces ≤ joins_in calls + count old.relay_traces
+reach-count [] old new h s = let all = same-count old new (ap (λ (c : Trace). c.relay_traces) h) in omega (arith, all)
 reach-count (call ∷ calls) old new h s =
     let first = follow-count call old h.0 h.1 s in
     let rest = reach-count calls h.0 new h.2 (follow-sound call old h.0 h.1 s) in
     omega (arith, first, rest)
 
 pub one-open-at-most : OneOpenAtMost
-one-open-at-most calls course h =
-    let all = reach-count calls first_course course h (record { lives = tt; past = tt }) in
-    let same = counted course.lives in
+one-open-at-most calls trace h =
+    let all = reach-count calls first_trace trace h (record { relay_traces = tt; past = tt }) in
+    let same = counted trace.relay_traces in
     omega (arith, all, same)

@@ -7,7 +7,7 @@ use Rattle.std.proofs.lemmas.Bool.{and_parts, or_parts, or_from, both_ways, eq-e
 use Rattle.std.proofs.lemmas.List.{append-nil, map-append}
 use Rattle.conn_messages.specs.declared.message.Message.{Message}
 use Rattle.conn_messages.specs.declared.message.Message.TheVariants as message
-use Rattle.mux_outside.specs.HouseCalls.{HouseCall, Happening, Begins, Marks, Hears as HearsBytes, Turns, Takes as TakesBytes}
+use Rattle.mux_outside.specs.HouseCalls.{HouseCall, Happening, Begins, Marks, Receives as ReceivesBytes, Turns, Takes as TakesBytes}
 use Rattle.mux_outside.specs.HouseCalls.{Joined, Got, End, Writable, Failed}
 use Rattle.mux_outside.specs.Streams.{among, without}
 use Rattle.mux_outside.specs.declared.house_mark.HouseMark.{HouseMark}
@@ -16,33 +16,33 @@ use Rattle.mux_outside.specs.declared.order.Order.{Order}
 use Rattle.mux_outside.specs.declared.order.Order.TheVariants as order
 use Rattle.mux_outside.specs.declared.own_streams.OwnStream.{OwnStream}
 use Rattle.house_relay.specs.Acts.{Act, Reads, Takes}
-use Rattle.house_relay.specs.Next.{says_of}
+use Rattle.house_relay.specs.Next.{sends_of}
 use Rattle.house_relay.specs.Relay.{stream_of}
-use Rattle.house_relay.specs.Steps.{is_closed, is_gone, said_of, confirmed_in, refused_in, data_heard}
+use Rattle.house_relay.specs.Steps.{is_closed, is_gone, sent_of, confirmed_in, refused_in, data_received}
 use Rattle.house_relay.specs.Relay.{delivers}
-use Rattle.house_relay.specs.Line.{counts}
-use Rattle.house_relay.specs.declared.line.Line.{Line}
-use Rattle.house_relay.specs.declared.line.Line.TheVariants.{Dialing, Asked, Opened, Offered, Live, Over}
+use Rattle.house_relay.specs.ChannelState.{counts}
+use Rattle.house_relay.specs.declared.line.ChannelState.{ChannelState}
+use Rattle.house_relay.specs.declared.line.ChannelState.TheVariants.{Dialing, Asked, Opened, Offered, Live, Over}
 use Rattle.house_relay.specs.declared.relay.Relay.{Relay}
-use Rattle.house_relay.specs.declared.relay.Saying.{Saying}
-use Rattle.house_relay.specs.declared.relay.Saying.TheVariants as saying
+use Rattle.house_relay.specs.declared.relay.Outgoing.{Outgoing}
+use Rattle.house_relay.specs.declared.relay.Outgoing.TheVariants as outgoing
 use Rattle.house_relay.specs.declared.relay.Socket.{Socket}
 use Rattle.house_relay.specs.declared.relay.Socket.TheVariants as socket
 use Rattle.house_forward.specs.Forwardings.{has_request}
 use Rattle.house_forward.specs.Going.{GetsOn, TakesOn}
-use Rattle.house_forward.specs.Heard.{heard_of}
-use Rattle.house_forward.specs.Links.{after_saying, relay_after}
-use Rattle.house_forward.specs.Lives.{Life, Course, GoesBy, Speaks, Listens, StepsBy, MakesOne, Reaches, Follows, SaysBy, MarksIn, OrdersIn, TurnsTo, first_course, with_heard}
-use Rattle.house_forward.specs.Lives.{has_channel, has_stream, is_stream, has_words, unmade, are_full, own_after, own_made, stepped, made_life, kept_in}
+use Rattle.house_forward.specs.Heard.{received_of}
+use Rattle.house_forward.specs.Links.{after_sending, relay_after}
+use Rattle.house_forward.specs.RelayTraces.{Life, Trace, GoesBy, Speaks, Listens, StepsBy, MakesOne, Reaches, Follows, SendsBy, MarksIn, OrdersIn, TurnsTo, first_trace, with_received}
+use Rattle.house_forward.specs.RelayTraces.{has_channel, has_stream, is_stream, has_words, unmade, are_full, own_after, own_made, stepped, made_life, kept_in}
 use Rattle.house_forward.specs.Numbers.{ChannelsAreSmall, ChannelsDiffer, StreamsAreTheirs, StreamsDiffer, EachIsNew, BringsNew, channels_of, open_streams, number_of, open_after, made_by, closed_by, without_closed}
 use Rattle.house_forward.specs.declared.forwarding.Forwarding.{Forwarding}
-use Rattle.house_forward.specs.declared.link.Step.{Step}
-use Rattle.house_forward.specs.declared.link.Step.TheVariants as step
+use Rattle.house_forward.specs.declared.link.LinkStep.{LinkStep}
+use Rattle.house_forward.specs.declared.link.LinkStep.TheVariants as step
 use Rattle.house_forward.proofs.Differing.{Apart}
-use Rattle.house_forward.proofs.Frames.{Heeds, frames}
+use Rattle.house_forward.proofs.Frames.{Applies, frames}
 use Rattle.house_forward.proofs.Lists.{any-map, one-passes}
 use Rattle.house_forward.proofs.Picking.{pick-none, pick-push, pick-kept, pick-stepped, one-picks, most-picks, one-maps, most-maps}
-use Rattle.house_forward.proofs.Sound.{Each, All, Kept, Sound, all-reach, offered_life, joined_life, step_of, each-back, each-one, sound-says, sound-hears, stepped-sound, follow-sound}
+use Rattle.house_forward.proofs.Sound.{Each, All, Kept, Sound, all-reach, offered_life, joined_life, step_of, each-back, each-one, sound-says, sound-receives, stepped-sound, follow-sound}
 
 -- ---- numbers of which no two are the same
 
@@ -107,21 +107,21 @@ apart-filtered p (x ∷ ns) h = either (p x) (apart-filtered p ns h.1) (among-fi
 
 -- ---- a channel's number stays
 
-pub number-said : (s : Saying) (r : Relay) → (said_of s r).number ≡ r.number
-number-said saying.Open r = refl
-number-said saying.Confirmation r = refl
-number-said saying.OpenFailure r = refl
-number-said saying.Close r = refl
-number-said saying.Failure r = refl
-number-said (saying.Data n) r = refl
-number-said saying.Eof r = refl
-number-said (saying.Adjust n) r = refl
+pub number-said : (s : Outgoing) (r : Relay) → (sent_of s r).number ≡ r.number
+number-said outgoing.Open r = refl
+number-said outgoing.Confirmation r = refl
+number-said outgoing.OpenFailure r = refl
+number-said outgoing.Close r = refl
+number-said outgoing.Failure r = refl
+number-said (outgoing.Data n) r = refl
+number-said outgoing.Eof r = refl
+number-said (outgoing.Adjust n) r = refl
 
-number-after : (o : Option Saying) (r : Relay) → (after_saying o r).number ≡ r.number
+number-after : (o : Option Outgoing) (r : Relay) → (after_sending o r).number ≡ r.number
 number-after None r = refl
 number-after (Some s) r = number-said s r
 
-number-confirmed : (line : Line) (remote window maximum : ℕ) (r : Relay) → (confirmed_in line remote window maximum r).number ≡ r.number
+number-confirmed : (line : ChannelState) (remote window maximum : ℕ) (r : Relay) → (confirmed_in line remote window maximum r).number ≡ r.number
 number-confirmed (Dialing dialog) remote window maximum r = refl
 number-confirmed (Asked host port version) remote window maximum r = refl
 number-confirmed (Opened version) remote window maximum r = refl
@@ -129,7 +129,7 @@ number-confirmed (Offered theirs room most) remote window maximum r = refl
 number-confirmed (Live live) remote window maximum r = refl
 number-confirmed Over remote window maximum r = refl
 
-number-refused : (line : Line) (reason : ℕ) (r : Relay) → (refused_in line reason r).number ≡ r.number
+number-refused : (line : ChannelState) (reason : ℕ) (r : Relay) → (refused_in line reason r).number ≡ r.number
 number-refused (Dialing dialog) reason r = refl
 number-refused (Asked host port version) reason r = refl
 number-refused (Opened version) reason r = refl
@@ -137,11 +137,11 @@ number-refused (Offered theirs room most) reason r = refl
 number-refused (Live live) reason r = refl
 number-refused Over reason r = refl
 
-number-data : (b : Bool) (bytes : List ℕ) (r : Relay) → (data_heard b bytes r).number ≡ r.number
+number-data : (b : Bool) (bytes : List ℕ) (r : Relay) → (data_received b bytes r).number ≡ r.number
 number-data true bytes r = refl
 number-data false bytes r = refl
 
-pub number-heard : (m : Message) (r : Relay) → (heard_of m r).number ≡ r.number
+pub number-heard : (m : Message) (r : Relay) → (received_of m r).number ≡ r.number
 number-heard (message.Transport number rest) r = refl
 number-heard (message.GlobalRequest name want rest what) r = refl
 number-heard (message.RequestSuccess rest) r = refl
@@ -158,7 +158,7 @@ number-heard (message.Request recipient kind want rest) r = refl
 number-heard (message.Success recipient) r = refl
 number-heard (message.Failure recipient) r = refl
 
-number-step : (s : Step) (r : Relay) → (relay_after s r).number ≡ r.number
+number-step : (s : LinkStep) (r : Relay) → (relay_after s r).number ≡ r.number
 number-step (step.Pause b) r = refl
 number-step step.Finish r = refl
 number-step step.End r = refl
@@ -197,20 +197,20 @@ one-more ls l free h =
     subst Apart (sym (map-append channel ls (l ∷ [])))
     (apart-push (channel l) (channels_of ls) h (any-map (λ (s : ℕ). s == channel l) channel ls ∙ free))
 
-stepped-if : (s : Step) (b : Bool) (l : Life) → channel (if b then step_of s l else l) ≡ channel l
+stepped-if : (s : LinkStep) (b : Bool) (l : Life) → channel (if b then step_of s l else l) ≡ channel l
 stepped-if s true l = number-step s l.relay
 stepped-if s false l = refl
 
-stepped-same : (s : Step) (t : ℕ) (ls : List Life) → channels_of (map (stepped s t) ls) ≡ channels_of ls
+stepped-same : (s : LinkStep) (t : ℕ) (ls : List Life) → channels_of (map (stepped s t) ls) ≡ channels_of ls
 stepped-same s t [] = refl
 stepped-same s t (l ∷ ls) =
     ap (λ n. n ∷ channels_of (map (stepped s t) ls)) (stepped-if s (has_stream t l) l) ∙ ap (λ ns. channel l ∷ ns) (stepped-same s t ls)
 
 says-same : (bytes : List ℕ) (a b : Life) → Speaks bytes a b → channel b ≡ channel a
-says-same bytes a b h = ap (λ (r : Relay). r.number) h.1.relay.0 ∙ number-after (says_of a.relay) a.relay
+says-same bytes a b h = ap (λ (r : Relay). r.number) h.1.relay.0 ∙ number-after (sends_of a.relay) a.relay
 
-hears-same : (m : Message) (a b : Life) → Listens m a b → channel b ≡ channel a
-hears-same m a b h = ap (λ (r : Relay). r.number) h.relay.0 ∙ number-heard m a.relay
+receives-same : (m : Message) (a b : Life) → Listens m a b → channel b ≡ channel a
+receives-same m a b h = ap (λ (r : Relay). r.number) h.relay.0 ∙ number-heard m a.relay
 
 gets-same : (free : Bool) (bytes : List ℕ) (a b : Life) → GoesBy (GetsOn free bytes) (Reads bytes) a b → channel b ≡ channel a
 gets-same free bytes a b h = h.relay.3
@@ -223,53 +223,53 @@ takes-same n a b h = ap (λ (r : Relay). r.number) h.relay.0
 abbrev ChannelsApart : List Life → Type 0
 ChannelsApart ls = Apart (channels_of ls)
 
-heeds-channels : Heeds (λ ls taken. ChannelsApart ls)
-heeds-channels = record {
-  hears = λ n m old new taken sounds h one.
-      kept-apart new (subst Apart (sym (one-maps channel (has_channel n) (Listens m) old new (hears-same m) one)) h);
+applies-channels : Applies (λ ls taken. ChannelsApart ls)
+applies-channels = record {
+  receives = λ n m old new taken sounds h one.
+      kept-apart new (subst Apart (sym (one-maps channel (has_channel n) (Listens m) old new (receives-same m) one)) h);
   offers = λ f number remote window maximum old taken free h. one-more old (offered_life f number remote window maximum) free h;
 }
 
-channels-says : (b : Bool) (o : Option Forwarding) (bytes : List ℕ) (old new : Course) → SaysBy b o bytes old new
-    → ChannelsApart old.lives → ChannelsApart new.lives
-channels-says false o bytes old new h a = subst (λ (c : Course). ChannelsApart c.lives) (sym h.1) a
-channels-says true (Some f) bytes old new h a = subst (λ (c : Course). ChannelsApart c.lives) (sym h.1) a
+channels-says : (b : Bool) (o : Option Forwarding) (bytes : List ℕ) (old new : Trace) → SendsBy b o bytes old new
+    → ChannelsApart old.relay_traces → ChannelsApart new.relay_traces
+channels-says false o bytes old new h a = subst (λ (c : Trace). ChannelsApart c.relay_traces) (sym h.1) a
+channels-says true (Some f) bytes old new h a = subst (λ (c : Trace). ChannelsApart c.relay_traces) (sym h.1) a
 channels-says true None bytes old new h a =
-    subst (λ (c : Course). ChannelsApart c.lives) (sym h.2)
-    (kept-apart h.0 (subst Apart (sym (one-maps channel has_words (Speaks bytes) old.lives h.0 (says-same bytes) h.1)) a))
+    subst (λ (c : Trace). ChannelsApart c.relay_traces) (sym h.2)
+    (kept-apart h.0 (subst Apart (sym (one-maps channel has_words (Speaks bytes) old.relay_traces h.0 (says-same bytes) h.1)) a))
 
-channels-step : (o : Order) (s : Step) (t : ℕ) (old new : Course) → StepsBy o s t old new → ChannelsApart old.lives
-    → ChannelsApart new.lives
+channels-step : (o : Order) (s : LinkStep) (t : ℕ) (old new : Trace) → StepsBy o s t old new → ChannelsApart old.relay_traces
+    → ChannelsApart new.relay_traces
 channels-step o s t old new h a =
-    subst (λ (c : Course). ChannelsApart c.lives) (sym h.1)
-    (kept-apart (map (stepped s t) old.lives) (subst Apart (sym (stepped-same s t old.lives)) a))
+    subst (λ (c : Trace). ChannelsApart c.relay_traces) (sym h.1)
+    (kept-apart (map (stepped s t) old.relay_traces) (subst Apart (sym (stepped-same s t old.relay_traces)) a))
 
-channels-make : (host : List ℕ) (port : ℕ) (number : Option ℕ) (old new : Course) → MakesOne host port number old new
-    → ChannelsApart old.lives → ChannelsApart new.lives
+channels-make : (host : List ℕ) (port : ℕ) (number : Option ℕ) (old new : Trace) → MakesOne host port number old new
+    → ChannelsApart old.relay_traces → ChannelsApart new.relay_traces
 channels-make host port number old new h a =
     let out = apart-out (channel h.life) (channels_of h.before) (channels_of h.behind)
     (subst Apart (ap channels_of h.were ∙ map-append channel h.before (h.life ∷ h.behind)) a) in
-    subst (λ (c : Course). ChannelsApart c.lives) (sym h.are)
+    subst (λ (c : Trace). ChannelsApart c.relay_traces) (sym h.are)
     (subst Apart
     (sym (map-append channel (h.before ++ h.behind) (made_life number h.life ∷ []) ∙ ap (λ ns. ns ++ channel h.life ∷ []) (map-append channel h.before h.behind)))
     (apart-push (channel h.life) (channels_of h.before ++ channels_of h.behind) out.0 out.1))
 
-channels-order : (o : Order) (number : Option ℕ) (old new : Course) → OrdersIn o number old new → ChannelsApart old.lives
-    → ChannelsApart new.lives
-channels-order (order.Listen host port) number old new h a = subst (λ (c : Course). ChannelsApart c.lives) (sym h.2) a
+channels-order : (o : Order) (number : Option ℕ) (old new : Trace) → OrdersIn o number old new → ChannelsApart old.relay_traces
+    → ChannelsApart new.relay_traces
+channels-order (order.Listen host port) number old new h a = subst (λ (c : Trace). ChannelsApart c.relay_traces) (sym h.2) a
 channels-order (order.Connect host port) number old new h a = channels-make host port number old new h a
-channels-order (order.Unlisten l) number old new h a = subst (λ (c : Course). ChannelsApart c.lives) (sym h.2) a
+channels-order (order.Unlisten l) number old new h a = subst (λ (c : Trace). ChannelsApart c.relay_traces) (sym h.2) a
 channels-order (order.Pause t) number old new h a = channels-step (order.Pause t) (step.Pause true) t old new h a
 channels-order (order.Resume t) number old new h a = channels-step (order.Resume t) (step.Pause false) t old new h a
 channels-order (order.Finish t) number old new h a = channels-step (order.Finish t) step.Finish t old new h a
 channels-order (order.Close t) number old new h a = channels-step (order.Close t) step.Close t old new h a
 
-channels-mark : (mark : HouseMark) (old new : Course) → MarksIn mark old new → ChannelsApart old.lives → ChannelsApart new.lives
-channels-mark HouseIn old new h a = subst (λ (c : Course). ChannelsApart c.lives) (sym h) a
-channels-mark (HouseSaid bytes) old new h a = channels-says old.desk.greeted (find has_request old.desk.all) bytes old new h a
-channels-mark (HouseTook size) old new h a = subst (λ (c : Course). ChannelsApart c.lives) (sym h) a
-channels-mark (HouseAsked client id opening ask reply) old new h a = subst (λ (c : Course). ChannelsApart c.lives) (sym h.2) a
-channels-mark (HouseAnswer client id reply) old new h a = subst (λ (c : Course). ChannelsApart c.lives) (sym h.2) a
+channels-mark : (mark : HouseMark) (old new : Trace) → MarksIn mark old new → ChannelsApart old.relay_traces → ChannelsApart new.relay_traces
+channels-mark HouseIn old new h a = subst (λ (c : Trace). ChannelsApart c.relay_traces) (sym h) a
+channels-mark (HouseSaid bytes) old new h a = channels-says old.forwarding_state.greeted (find has_request old.forwarding_state.all) bytes old new h a
+channels-mark (HouseTook size) old new h a = subst (λ (c : Trace). ChannelsApart c.relay_traces) (sym h) a
+channels-mark (HouseAsked client id opening ask reply) old new h a = subst (λ (c : Trace). ChannelsApart c.relay_traces) (sym h.2) a
+channels-mark (HouseAnswer client id reply) old new h a = subst (λ (c : Trace). ChannelsApart c.relay_traces) (sym h.2) a
 channels-mark (HouseOrder o number) old new h a = channels-order o number old new h a
 
 channels-turn : (happening : Happening) (joins : ℕ) (fs : List Forwarding) (old new : List Life) → TurnsTo happening joins fs old new → ChannelsApart old
@@ -281,28 +281,28 @@ channels-turn (End t) joins fs old new h a = subst ChannelsApart (sym h) (subst 
 channels-turn (Writable t) joins fs old new h a = subst ChannelsApart (sym h) (subst Apart (sym (stepped-same step.Writable t old)) a)
 channels-turn (Failed t) joins fs old new h a = subst ChannelsApart (sym h) (subst Apart (sym (stepped-same step.Failed t old)) a)
 
-channels-follow : (call : HouseCall) (old new : Course) → Follows call old new → All Sound old → ChannelsApart old.lives
-    → ChannelsApart new.lives
-channels-follow (Begins starts) old new h s a = subst (λ (c : Course). ChannelsApart c.lives) (sym h.2) a
+channels-follow : (call : HouseCall) (old new : Trace) → Follows call old new → All Sound old → ChannelsApart old.relay_traces
+    → ChannelsApart new.relay_traces
+channels-follow (Begins starts) old new h s a = subst (λ (c : Trace). ChannelsApart c.relay_traces) (sym h.2) a
 channels-follow (Marks mark) old new h s a = channels-mark mark old new h a
-channels-follow (HearsBytes bytes) old new h s a =
-    frames (λ ls taken. ChannelsApart ls) heeds-channels h.0 (with_heard bytes old) new [] h.1
-    (record { lives = s.lives; past = s.past }) a
+channels-follow (ReceivesBytes bytes) old new h s a =
+    frames (λ ls taken. ChannelsApart ls) applies-channels h.0 (with_received bytes old) new [] h.1
+    (record { relay_traces = s.relay_traces; past = s.past }) a
 channels-follow (Turns happening) old new h s a =
-    subst (λ (c : Course). ChannelsApart c.lives) (sym h.2) (channels-turn happening old.joins old.desk.all old.lives h.0 h.1 a)
+    subst (λ (c : Trace). ChannelsApart c.relay_traces) (sym h.2) (channels-turn happening old.joins old.forwarding_state.all old.relay_traces h.0 h.1 a)
 channels-follow (TakesBytes t n) old new h s a =
-    subst (λ (c : Course). ChannelsApart c.lives) (sym h.2)
-    (subst Apart (sym (most-maps channel (has_stream t) (GoesBy (TakesOn n) (Takes n)) old.lives h.0 (takes-same n) h.1)) a)
+    subst (λ (c : Trace). ChannelsApart c.relay_traces) (sym h.2)
+    (subst Apart (sym (most-maps channel (has_stream t) (GoesBy (TakesOn n) (Takes n)) old.relay_traces h.0 (takes-same n) h.1)) a)
 
-channels-reach : (calls : List HouseCall) (old new : Course) → Reaches old calls new → All Sound old → ChannelsApart old.lives
-    → ChannelsApart new.lives
-channels-reach [] old new h s a = subst (λ (c : Course). ChannelsApart c.lives) (sym h) a
+channels-reach : (calls : List HouseCall) (old new : Trace) → Reaches old calls new → All Sound old → ChannelsApart old.relay_traces
+    → ChannelsApart new.relay_traces
+channels-reach [] old new h s a = subst (λ (c : Trace). ChannelsApart c.relay_traces) (sym h) a
 channels-reach (call ∷ calls) old new h s a =
     channels-reach calls h.0 new h.2 (follow-sound call old h.0 h.1 s) (channels-follow call old h.0 h.1 s a)
 
 pub channels-differ : ChannelsDiffer
-channels-differ calls course h =
-    pairs (channels_of course.lives) (channels-reach calls first_course course h (record { lives = tt; past = tt }) tt)
+channels-differ calls trace h =
+    pairs (channels_of trace.relay_traces) (channels-reach calls first_trace trace h (record { relay_traces = tt; past = tt }) tt)
 
 -- each is uint32
 
@@ -313,12 +313,12 @@ small-stays : (a b : Life) → channel b ≡ channel a → HasSmall a → HasSma
 unfolding HasSmall
 small-stays a b same h = subst (λ (n : ℕ). n < 2 ^ 32) (sym same) h
 
-small-kept : Kept (λ call course. Unit {0}) HasSmall
+small-kept : Kept (λ call trace. Unit {0}) HasSmall
 unfolding HasSmall
 small-kept = record {
   says = λ bytes a b p is h. small-stays a b (says-same bytes a b h) p;
-  hears = λ m a b p h. small-stays a b (hears-same m a b h) p;
-  gets = λ t bytes old now a b p is h. small-stays a b (gets-same (not (are_full old.lives)) bytes a b h) p;
+  receives = λ m a b p h. small-stays a b (receives-same m a b h) p;
+  gets = λ t bytes old now a b p is h. small-stays a b (gets-same (not (are_full old.relay_traces)) bytes a b h) p;
   takes = λ t n a b p is h. small-stays a b (takes-same n a b h) p;
   steps = λ s t call old now causes a p is. small-stays a (step_of s a) (number-step s a.relay) p;
   makes = λ host port number old now a p is. p;
@@ -332,9 +332,9 @@ all-small [] h = tt
 all-small (l ∷ ls) h = (h.0, all-small ls h.1)
 
 pub channels-small : ChannelsAreSmall
-channels-small calls course h =
-    let all : All HasSmall course = all-reach (λ call course. Unit {0}) HasSmall small-kept calls first_course course (λ before call behind mid e r. tt) h (record { lives = tt; past = tt }) in
-    all-small course.lives all.lives
+channels-small calls trace h =
+    let all : All HasSmall trace = all-reach (λ call trace. Unit {0}) HasSmall small-kept calls first_trace trace (λ before call behind mid e r. tt) h (record { relay_traces = tt; past = tt }) in
+    all-small trace.relay_traces all.relay_traces
 
 -- ---- the streams of a course
 
@@ -346,7 +346,7 @@ closed-none (socket.Connecting t) e = cc
 closed-none (socket.Open t) e = cc
 closed-none socket.Unmade e = refl
 closed-none (socket.Failed t) e = cc
-closed-none (socket.Surplus t) e = cc
+closed-none (socket.NoChannelLeft t) e = cc
 closed-none socket.Closed e = refl
 
 gone-none : (l : Life) → Sound l → is_gone l.relay ≡ true → stream l ≡ None
@@ -357,14 +357,14 @@ unmade-none (socket.Connecting t) e = cc
 unmade-none (socket.Open t) e = cc
 unmade-none socket.Unmade e = refl
 unmade-none (socket.Failed t) e = cc
-unmade-none (socket.Surplus t) e = cc
+unmade-none (socket.NoChannelLeft t) e = cc
 unmade-none socket.Closed e = refl
 
 goes-same : (so : Relay → Relay → Type 0) (act : Act) (a b : Life) → GoesBy so act a b → stream b ≡ stream a
 goes-same so act a b h = ap number_of h.own
 
 -- which step closes no stream
-abbrev leaves : Step → Type 0
+abbrev leaves : LinkStep → Type 0
 leaves (step.Pause b) = Unit {0}
 leaves step.Finish = Unit {0}
 leaves step.End = Unit {0}
@@ -372,7 +372,7 @@ leaves step.Close = ⊥
 leaves step.Writable = Unit {0}
 leaves step.Failed = Unit {0}
 
-own-same : (s : Step) → leaves s → (own : Option OwnStream) → number_of (own_after s own) ≡ number_of own
+own-same : (s : LinkStep) → leaves s → (own : Option OwnStream) → number_of (own_after s own) ≡ number_of own
 own-same s l None = refl
 own-same (step.Pause b) l (Some own) = refl
 own-same step.Finish l (Some own) = refl
@@ -381,7 +381,7 @@ own-same step.Close l (Some own) = absurd l
 own-same step.Writable l (Some own) = refl
 own-same step.Failed l (Some own) = refl
 
-step-streams : (s : Step) → leaves s → (t : ℕ) (ls : List Life) → Each Sound ls → open_streams (map (stepped s t) ls) ≡ open_streams ls
+step-streams : (s : LinkStep) → leaves s → (t : ℕ) (ls : List Life) → Each Sound ls → open_streams (map (stepped s t) ls) ≡ open_streams ls
 step-streams s l t ls all = pick-stepped stream Sound s t (λ a h is. own-same s l a.own) ls all
 
 close-own : (t : ℕ) (b : Bool) (l : Life) (rest : List ℕ) (own : Option OwnStream) → l.own ≡ own → is_stream t own ≡ b
@@ -404,10 +404,10 @@ close-streams t (l ∷ ls) =
 kept-streams : (ls : List Life) → Each Sound ls → open_streams (kept_in ls) ≡ open_streams ls
 kept-streams ls all = pick-kept stream Sound gone-none ls all
 
-heeds-streams : (there : List ℕ) → Heeds (λ ls taken. open_streams ls ≡ there)
-heeds-streams there = record {
-  hears = λ n m old new taken sounds h one.
-      kept-streams new (each-one Sound (has_channel n) (Listens m) old new (λ a b s is goes. sound-hears m a b s goes) one sounds)
+applies-streams : (there : List ℕ) → Applies (λ ls taken. open_streams ls ≡ there)
+applies-streams there = record {
+  receives = λ n m old new taken sounds h one.
+      kept-streams new (each-one Sound (has_channel n) (Listens m) old new (λ a b s is goes. sound-receives m a b s goes) one sounds)
       ∙ one-picks stream Sound (has_channel n) (Listens m) old new (λ a b s is goes. goes-same _ _ a b goes) sounds one ∙ h;
   offers = λ f number remote window maximum old taken free h.
       pick-push stream old (offered_life f number remote window maximum) ∙ append-nil (open_streams old) ∙ h;
@@ -417,32 +417,32 @@ heeds-streams there = record {
 abbrev pub after : HouseCall → List ℕ → List ℕ
 after call there = without_closed (closed_by call) there ++ option_to_list (made_by call)
 
-streams-says : (b : Bool) (o : Option Forwarding) (bytes : List ℕ) (old new : Course) → SaysBy b o bytes old new → All Sound old
-    → open_streams new.lives ≡ open_streams old.lives
-streams-says false o bytes old new h s = ap (λ (c : Course). open_streams c.lives) h.1
-streams-says true (Some f) bytes old new h s = ap (λ (c : Course). open_streams c.lives) h.1
+streams-says : (b : Bool) (o : Option Forwarding) (bytes : List ℕ) (old new : Trace) → SendsBy b o bytes old new → All Sound old
+    → open_streams new.relay_traces ≡ open_streams old.relay_traces
+streams-says false o bytes old new h s = ap (λ (c : Trace). open_streams c.relay_traces) h.1
+streams-says true (Some f) bytes old new h s = ap (λ (c : Trace). open_streams c.relay_traces) h.1
 streams-says true None bytes old new h s =
-    ap (λ (c : Course). open_streams c.lives) h.2
-    ∙ kept-streams h.0 (each-one Sound has_words (Speaks bytes) old.lives h.0 (λ a b x is goes. sound-says bytes a b x goes) h.1 s.lives)
-    ∙ one-picks stream Sound has_words (Speaks bytes) old.lives h.0 (λ a b x is goes. goes-same _ _ a b goes.1) s.lives h.1
+    ap (λ (c : Trace). open_streams c.relay_traces) h.2
+    ∙ kept-streams h.0 (each-one Sound has_words (Speaks bytes) old.relay_traces h.0 (λ a b x is goes. sound-says bytes a b x goes) h.1 s.relay_traces)
+    ∙ one-picks stream Sound has_words (Speaks bytes) old.relay_traces h.0 (λ a b x is goes. goes-same _ _ a b goes.1) s.relay_traces h.1
 
-streams-step : (o : Order) (k : Step) → leaves k → (t : ℕ) (old new : Course) → StepsBy o k t old new → All Sound old
-    → open_streams new.lives ≡ open_streams old.lives
+streams-step : (o : Order) (k : LinkStep) → leaves k → (t : ℕ) (old new : Trace) → StepsBy o k t old new → All Sound old
+    → open_streams new.relay_traces ≡ open_streams old.relay_traces
 streams-step o k l t old new h s =
-    ap (λ (c : Course). open_streams c.lives) h.1
-    ∙ kept-streams (map (stepped k t) old.lives) (stepped-sound k t old.lives s.lives)
-    ∙ step-streams k l t old.lives s.lives
+    ap (λ (c : Trace). open_streams c.relay_traces) h.1
+    ∙ kept-streams (map (stepped k t) old.relay_traces) (stepped-sound k t old.relay_traces s.relay_traces)
+    ∙ step-streams k l t old.relay_traces s.relay_traces
 
 own-list : (number : Option ℕ) → option_to_list (number_of (own_made number)) ≡ option_to_list number
 own-list None = refl
 own-list (Some t) = refl
 
-streams-make : (host : List ℕ) (port : ℕ) (number : Option ℕ) (old new : Course) → MakesOne host port number old new → All Sound old
-    → open_streams new.lives ≡ open_streams old.lives ++ option_to_list number
+streams-make : (host : List ℕ) (port : ℕ) (number : Option ℕ) (old new : Trace) → MakesOne host port number old new → All Sound old
+    → open_streams new.relay_traces ≡ open_streams old.relay_traces ++ option_to_list number
 streams-make host port number old new h s =
-    let its = each-back Sound h.before (h.life ∷ h.behind) (subst (Each Sound) h.were s.lives) in
+    let its = each-back Sound h.before (h.life ∷ h.behind) (subst (Each Sound) h.were s.relay_traces) in
     let none : stream h.life ≡ None = sym its.0.stream ∙ unmade-none h.life.relay.socket h.is in
-    ap (λ (c : Course). open_streams c.lives) h.are
+    ap (λ (c : Trace). open_streams c.relay_traces) h.are
     ∙ pick-push stream (h.before ++ h.behind) (made_life number h.life)
     ∙ ap (λ ns. open_streams (h.before ++ h.behind) ++ ns) (own-list number)
     ∙ ap (λ ns. ns ++ option_to_list number) (sym (pick-none stream h.before h.behind h.life none) ∙ ap open_streams (sym h.were))
@@ -450,26 +450,26 @@ streams-make host port number old new h s =
 more : (x y : List ℕ) → x ≡ y → x ≡ y ++ []
 more x y e = e ∙ sym (append-nil y)
 
-streams-order : (o : Order) (number : Option ℕ) (old new : Course) → OrdersIn o number old new → All Sound old
-    → open_streams new.lives ≡ after (Marks (HouseOrder o number)) (open_streams old.lives)
-streams-order (order.Listen host port) number old new h s = more _ _ (ap (λ (c : Course). open_streams c.lives) h.2)
+streams-order : (o : Order) (number : Option ℕ) (old new : Trace) → OrdersIn o number old new → All Sound old
+    → open_streams new.relay_traces ≡ after (Marks (HouseOrder o number)) (open_streams old.relay_traces)
+streams-order (order.Listen host port) number old new h s = more _ _ (ap (λ (c : Trace). open_streams c.relay_traces) h.2)
 streams-order (order.Connect host port) number old new h s = streams-make host port number old new h s
-streams-order (order.Unlisten l) number old new h s = more _ _ (ap (λ (c : Course). open_streams c.lives) h.2)
+streams-order (order.Unlisten l) number old new h s = more _ _ (ap (λ (c : Trace). open_streams c.relay_traces) h.2)
 streams-order (order.Pause t) number old new h s = more _ _ (streams-step (order.Pause t) (step.Pause true) tt t old new h s)
 streams-order (order.Resume t) number old new h s = more _ _ (streams-step (order.Resume t) (step.Pause false) tt t old new h s)
 streams-order (order.Finish t) number old new h s = more _ _ (streams-step (order.Finish t) step.Finish tt t old new h s)
 streams-order (order.Close t) number old new h s = more _ _
-    (ap (λ (c : Course). open_streams c.lives) h.1
-    ∙ kept-streams (map (stepped step.Close t) old.lives) (stepped-sound step.Close t old.lives s.lives)
-    ∙ close-streams t old.lives)
+    (ap (λ (c : Trace). open_streams c.relay_traces) h.1
+    ∙ kept-streams (map (stepped step.Close t) old.relay_traces) (stepped-sound step.Close t old.relay_traces s.relay_traces)
+    ∙ close-streams t old.relay_traces)
 
-streams-mark : (mark : HouseMark) (old new : Course) → MarksIn mark old new → All Sound old
-    → open_streams new.lives ≡ after (Marks mark) (open_streams old.lives)
-streams-mark HouseIn old new h s = more _ _ (ap (λ (c : Course). open_streams c.lives) h)
-streams-mark (HouseSaid bytes) old new h s = more _ _ (streams-says old.desk.greeted (find has_request old.desk.all) bytes old new h s)
-streams-mark (HouseTook size) old new h s = more _ _ (ap (λ (c : Course). open_streams c.lives) h)
-streams-mark (HouseAsked client id opening ask reply) old new h s = more _ _ (ap (λ (c : Course). open_streams c.lives) h.2)
-streams-mark (HouseAnswer client id reply) old new h s = more _ _ (ap (λ (c : Course). open_streams c.lives) h.2)
+streams-mark : (mark : HouseMark) (old new : Trace) → MarksIn mark old new → All Sound old
+    → open_streams new.relay_traces ≡ after (Marks mark) (open_streams old.relay_traces)
+streams-mark HouseIn old new h s = more _ _ (ap (λ (c : Trace). open_streams c.relay_traces) h)
+streams-mark (HouseSaid bytes) old new h s = more _ _ (streams-says old.forwarding_state.greeted (find has_request old.forwarding_state.all) bytes old new h s)
+streams-mark (HouseTook size) old new h s = more _ _ (ap (λ (c : Trace). open_streams c.relay_traces) h)
+streams-mark (HouseAsked client id opening ask reply) old new h s = more _ _ (ap (λ (c : Trace). open_streams c.relay_traces) h.2)
+streams-mark (HouseAnswer client id reply) old new h s = more _ _ (ap (λ (c : Trace). open_streams c.relay_traces) h.2)
 streams-mark (HouseOrder o number) old new h s = streams-order o number old new h s
 
 streams-turn : (happening : Happening) (joins : ℕ) (fs : List Forwarding) (old new : List Life) → TurnsTo happening joins fs old new → Each Sound old
@@ -481,28 +481,28 @@ streams-turn (End t) joins fs old new h s = more _ _ (ap open_streams h ∙ step
 streams-turn (Writable t) joins fs old new h s = more _ _ (ap open_streams h ∙ step-streams step.Writable tt t old s)
 streams-turn (Failed t) joins fs old new h s = more _ _ (ap open_streams h ∙ step-streams step.Failed tt t old s)
 
-pub streams-follow : (call : HouseCall) (old new : Course) → Follows call old new → All Sound old
-    → open_streams new.lives ≡ after call (open_streams old.lives)
-streams-follow (Begins starts) old new h s = more _ _ (ap (λ (c : Course). open_streams c.lives) h.2)
+pub streams-follow : (call : HouseCall) (old new : Trace) → Follows call old new → All Sound old
+    → open_streams new.relay_traces ≡ after call (open_streams old.relay_traces)
+streams-follow (Begins starts) old new h s = more _ _ (ap (λ (c : Trace). open_streams c.relay_traces) h.2)
 streams-follow (Marks mark) old new h s = streams-mark mark old new h s
-streams-follow (HearsBytes bytes) old new h s =
-    more _ _ (frames (λ ls taken. open_streams ls ≡ open_streams old.lives) (heeds-streams (open_streams old.lives)) h.0 (with_heard bytes old) new []
-    h.1 (record { lives = s.lives; past = s.past }) refl)
+streams-follow (ReceivesBytes bytes) old new h s =
+    more _ _ (frames (λ ls taken. open_streams ls ≡ open_streams old.relay_traces) (applies-streams (open_streams old.relay_traces)) h.0 (with_received bytes old) new []
+    h.1 (record { relay_traces = s.relay_traces; past = s.past }) refl)
 streams-follow (Turns happening) old new h s =
-    ap (λ (c : Course). open_streams c.lives) h.2 ∙ streams-turn happening old.joins old.desk.all old.lives h.0 h.1 s.lives
+    ap (λ (c : Trace). open_streams c.relay_traces) h.2 ∙ streams-turn happening old.joins old.forwarding_state.all old.relay_traces h.0 h.1 s.relay_traces
 streams-follow (TakesBytes t n) old new h s =
-    more _ _ (ap (λ (c : Course). open_streams c.lives) h.2
-    ∙ most-picks stream Sound (has_stream t) (GoesBy (TakesOn n) (Takes n)) old.lives h.0 (λ a b x is goes. goes-same _ _ a b goes) s.lives h.1)
+    more _ _ (ap (λ (c : Trace). open_streams c.relay_traces) h.2
+    ∙ most-picks stream Sound (has_stream t) (GoesBy (TakesOn n) (Takes n)) old.relay_traces h.0 (λ a b x is goes. goes-same _ _ a b goes) s.relay_traces h.1)
 
-streams-reach : (calls : List HouseCall) (old new : Course) → Reaches old calls new → All Sound old
-    → open_streams new.lives ≡ open_after (open_streams old.lives) calls
-streams-reach [] old new h s = ap (λ (c : Course). open_streams c.lives) h
+streams-reach : (calls : List HouseCall) (old new : Trace) → Reaches old calls new → All Sound old
+    → open_streams new.relay_traces ≡ open_after (open_streams old.relay_traces) calls
+streams-reach [] old new h s = ap (λ (c : Trace). open_streams c.relay_traces) h
 streams-reach (call ∷ calls) old new h s =
     streams-reach calls h.0 new h.2 (follow-sound call old h.0 h.1 s)
     ∙ ap (λ there. open_after there calls) (streams-follow call old h.0 h.1 s)
 
 pub streams-are-theirs : StreamsAreTheirs
-streams-are-theirs calls course h = streams-reach calls first_course course h (record { lives = tt; past = tt })
+streams-are-theirs calls trace h = streams-reach calls first_trace trace h (record { relay_traces = tt; past = tt })
 
 -- ---- no two are the same
 
@@ -543,19 +543,19 @@ made-new : (number : Option ℕ) (ls : List Life) → IfSome number (λ t. list_
 made-new None ls h = tt
 made-new (Some t) ls h = among-none t ls h
 
-abbrev pub IsNew : HouseCall → Course → Type 0
-IsNew call old = IfSome (made_by call) (λ t. among t (open_streams old.lives) ≡ false)
+abbrev pub IsNew : HouseCall → Trace → Type 0
+IsNew call old = IfSome (made_by call) (λ t. among t (open_streams old.relay_traces) ≡ false)
 
-new-order : (o : Order) (number : Option ℕ) (old new : Course) → OrdersIn o number old new → IsNew (Marks (HouseOrder o number)) old
+new-order : (o : Order) (number : Option ℕ) (old new : Trace) → OrdersIn o number old new → IsNew (Marks (HouseOrder o number)) old
 new-order (order.Listen host port) number old new h = tt
-new-order (order.Connect host port) number old new h = made-new number old.lives h.fresh
+new-order (order.Connect host port) number old new h = made-new number old.relay_traces h.fresh
 new-order (order.Unlisten l) number old new h = tt
 new-order (order.Pause t) number old new h = tt
 new-order (order.Resume t) number old new h = tt
 new-order (order.Finish t) number old new h = tt
 new-order (order.Close t) number old new h = tt
 
-new-mark : (mark : HouseMark) (old new : Course) → MarksIn mark old new → IsNew (Marks mark) old
+new-mark : (mark : HouseMark) (old new : Trace) → MarksIn mark old new → IsNew (Marks mark) old
 new-mark HouseIn old new h = tt
 new-mark (HouseSaid bytes) old new h = tt
 new-mark (HouseTook size) old new h = tt
@@ -563,22 +563,22 @@ new-mark (HouseAsked client id opening ask reply) old new h = tt
 new-mark (HouseAnswer client id reply) old new h = tt
 new-mark (HouseOrder o number) old new h = new-order o number old new h
 
-new-turn : (happening : Happening) (old : Course) (new : List Life) → TurnsTo happening old.joins old.desk.all old.lives new
+new-turn : (happening : Happening) (old : Trace) (new : List Life) → TurnsTo happening old.joins old.forwarding_state.all old.relay_traces new
     → IsNew (Turns happening) old
-new-turn (Joined l t) old new h = among-none t old.lives h.fresh
+new-turn (Joined l t) old new h = among-none t old.relay_traces h.fresh
 new-turn (Got t bytes) old new h = tt
 new-turn (End t) old new h = tt
 new-turn (Writable t) old new h = tt
 new-turn (Failed t) old new h = tt
 
-pub new-follow : (call : HouseCall) (old new : Course) → Follows call old new → IsNew call old
+pub new-follow : (call : HouseCall) (old new : Trace) → Follows call old new → IsNew call old
 new-follow (Begins starts) old new h = tt
 new-follow (Marks mark) old new h = new-mark mark old new h
-new-follow (HearsBytes bytes) old new h = tt
+new-follow (ReceivesBytes bytes) old new h = tt
 new-follow (Turns happening) old new h = new-turn happening old h.0 h.1
 new-follow (TakesBytes t n) old new h = tt
 
-new-reach : (calls : List HouseCall) (old new : Course) → Reaches old calls new → All Sound old → BringsNew (open_streams old.lives) calls
+new-reach : (calls : List HouseCall) (old new : Trace) → Reaches old calls new → All Sound old → BringsNew (open_streams old.relay_traces) calls
 new-reach [] old new h s = tt
 new-reach (call ∷ calls) old new h s = (
   new-follow call old h.0 h.1,
@@ -587,9 +587,9 @@ new-reach (call ∷ calls) old new h s = (
 )
 
 pub each-is-new : EachIsNew
-each-is-new calls course h = new-reach calls first_course course h (record { lives = tt; past = tt })
+each-is-new calls trace h = new-reach calls first_trace trace h (record { relay_traces = tt; past = tt })
 
 pub streams-differ : StreamsDiffer
-streams-differ calls course h =
-    pairs (open_streams course.lives)
-    (subst Apart (sym (streams-are-theirs calls course h)) (apart-after calls [] (each-is-new calls course h) tt))
+streams-differ calls trace h =
+    pairs (open_streams trace.relay_traces)
+    (subst Apart (sym (streams-are-theirs calls trace h)) (apart-after calls [] (each-is-new calls trace h) tt))

@@ -5,7 +5,7 @@ use Rattle.std.specs.List.{list_any, cons_option}
 use Rattle.std.proofs.lemmas.Bool.{or_left, or_right, or_parts, both_ways, eqb-true, eq-eqb, ne_eqb}
 use Rattle.std.proofs.lemmas.List.{append-nil}
 use Rattle.conn_messages.specs.declared.message.Message.{Message}
-use Rattle.mux_outside.specs.HouseCalls.{HouseCall, Happening, Begins, Marks, Hears as HearsBytes, Turns, Takes as TakesBytes}
+use Rattle.mux_outside.specs.HouseCalls.{HouseCall, Happening, Begins, Marks, Receives as ReceivesBytes, Turns, Takes as TakesBytes}
 use Rattle.mux_outside.specs.HouseCalls.{Joined, Got, End, Writable, Failed}
 use Rattle.mux_outside.specs.Streams.{among}
 use Rattle.mux_outside.specs.declared.house_mark.HouseMark.{HouseMark}
@@ -19,14 +19,14 @@ use Rattle.house_relay.specs.declared.relay.Relay.{Relay}
 use Rattle.house_forward.specs.Forwardings.{has_request, has_listener}
 use Rattle.house_forward.specs.Going.{GetsOn, TakesOn}
 use Rattle.house_forward.specs.Links.{IsJoined}
-use Rattle.house_forward.specs.Lives.{Life, Course, GoesBy, One, OneAtMost, MakesOne, IsAllowed, StepsBy, Speaks, Listens, Reaches, Follows, SaysBy, MarksIn, OrdersIn, TurnsTo, first_course, with_heard}
-use Rattle.house_forward.specs.Lives.{has_stream, is_stream, has_channel, has_words, is_unmade, are_full, are_crowded, stepped, made_life}
+use Rattle.house_forward.specs.RelayTraces.{Life, Trace, GoesBy, One, OneAtMost, MakesOne, IsAllowed, StepsBy, Speaks, Listens, Reaches, Follows, SendsBy, MarksIn, OrdersIn, TurnsTo, first_trace, with_received}
+use Rattle.house_forward.specs.RelayTraces.{has_stream, is_stream, has_channel, has_words, is_unmade, are_full, are_dialogs_full, stepped, made_life}
 use Rattle.house_forward.specs.Numbers.{number_of, open_streams}
 use Rattle.house_forward.specs.declared.forwarding.Forwarding.{Forwarding}
-use Rattle.house_forward.specs.declared.link.Step.{Step}
-use Rattle.house_forward.specs.declared.link.Step.TheVariants as step
+use Rattle.house_forward.specs.declared.link.LinkStep.{LinkStep}
+use Rattle.house_forward.specs.declared.link.LinkStep.TheVariants as step
 use Rattle.house_forward.proofs.Differing.{Apart}
-use Rattle.house_forward.proofs.Frames.{Heeds, frames}
+use Rattle.house_forward.proofs.Frames.{Applies, frames}
 use Rattle.house_forward.proofs.Owning.{streams-follow, apart-after, new-follow}
 use Rattle.house_forward.proofs.Sound.{Each, All, Sound, each-append, each-front, each-back, each-kept, joined_life, offered_life, step_of, sound-gets, follow-sound}
 
@@ -34,7 +34,7 @@ use Rattle.house_forward.proofs.Sound.{Each, All, Sound, each-append, each-front
 
 -- where the streams are apart, it isn't this one
 abbrev pub IsOther : ℕ → List Life → Life → Type 0
-IsOther t lives a = Apart (open_streams lives) → has_stream t a ≡ false
+IsOther t relay_traces a = Apart (open_streams relay_traces) → has_stream t a ≡ false
 
 not-one : (t : ℕ) (own : Option OwnStream) (rest : List ℕ) → among t (cons_option (number_of own) rest) ≡ false
     → (is_stream t own ≡ false) × (among t rest ≡ false)
@@ -99,23 +99,23 @@ back-other t before l behind e =
 
 -- ---- what a call passes on
 
-abbrev pub UntouchedBy : Happening → Course → Life → Type 0
+abbrev pub UntouchedBy : Happening → Trace → Life → Type 0
 UntouchedBy (Joined l t) old a = Unit {0}
-UntouchedBy (Got t bytes) old a = IsOther t old.lives a
+UntouchedBy (Got t bytes) old a = IsOther t old.relay_traces a
 UntouchedBy (End t) old a = Unit {0}
 UntouchedBy (Writable t) old a = Unit {0}
 UntouchedBy (Failed t) old a = Unit {0}
 
 -- a call is about another
-abbrev pub Untouched : HouseCall → Course → Life → Type 0
+abbrev pub Untouched : HouseCall → Trace → Life → Type 0
 Untouched (Begins starts) old a = Unit {0}
 Untouched (Marks mark) old a = Unit {0}
-Untouched (HearsBytes bytes) old a = Unit {0}
+Untouched (ReceivesBytes bytes) old a = Unit {0}
 Untouched (Turns happening) old a = UntouchedBy happening old a
-Untouched (TakesBytes t n) old a = IsOther t old.lives a
+Untouched (TakesBytes t n) old a = IsOther t old.relay_traces a
 
 -- a call that takes a step of a stream
-abbrev pub Orders : HouseCall → Step → ℕ → Type 0
+abbrev pub Orders : HouseCall → LinkStep → ℕ → Type 0
 Orders call (step.Pause b) t = (o : Order) × (number : Option ℕ) × call ≡ Marks (HouseOrder o number)
 Orders call step.Finish t = (o : Order) × (number : Option ℕ) × call ≡ Marks (HouseOrder o number)
 Orders call step.End t = call ≡ Turns (End t)
@@ -124,31 +124,31 @@ Orders call step.Writable t = call ≡ Turns (Writable t)
 Orders call step.Failed t = call ≡ Turns (Failed t)
 
 -- one that is closed is done
-abbrev pub MayStep : Step → Course → Life → Type 0
+abbrev pub MayStep : LinkStep → Trace → Life → Type 0
 MayStep (step.Pause b) old a = Unit {0}
 MayStep step.Finish old a = Unit {0}
 MayStep step.End old a = Unit {0}
-MayStep step.Close old a = Apart (open_streams old.lives) → is_done a.relay ≡ true
+MayStep step.Close old a = Apart (open_streams old.relay_traces) → is_done a.relay ≡ true
 MayStep step.Writable old a = Unit {0}
 MayStep step.Failed old a = Unit {0}
 
 -- of one thing before the call, another behind it
-pub record Passes (call : HouseCall) (old : Course) (P Q : Life → Type 0) : Type 0 where
+pub record Passes (call : HouseCall) (old : Trace) (P Q : Life → Type 0) : Type 0 where
   pub stays : (a : Life) → P a → Untouched call old a → Q a
-  pub hears : (m : Message) (a b : Life) → Sound a → P a → Listens m a b → P b
+  pub receives : (m : Message) (a b : Life) → Sound a → P a → Listens m a b → P b
   pub offers : (f : Forwarding) (number remote window maximum : ℕ) → P (offered_life f number remote window maximum)
   pub says : (bytes : List ℕ) → call ≡ Marks (HouseSaid bytes) → (a b : Life) → Sound a → P a → has_words a ≡ true
       → Speaks bytes a b → Q b
   pub gets : (t : ℕ) (bytes : List ℕ) → call ≡ Turns (Got t bytes) → (a b : Life) → Sound a → Sound b → P a
-      → has_stream t a ≡ true → GoesBy (GetsOn (not (are_full old.lives)) bytes) (Reads bytes) a b → Q b
+      → has_stream t a ≡ true → GoesBy (GetsOn (not (are_full old.relay_traces)) bytes) (Reads bytes) a b → Q b
   pub takes : (t n : ℕ) → call ≡ TakesBytes t n → (a b : Life) → Sound a → P a → has_stream t a ≡ true
       → GoesBy (TakesOn n) (Takes n) a b → Q b
-  pub steps : (s : Step) (t : ℕ) → Orders call s t → (a : Life) → Sound a → MayStep s old a → P a → has_stream t a ≡ true
+  pub steps : (s : LinkStep) (t : ℕ) → Orders call s t → (a : Life) → Sound a → MayStep s old a → P a → has_stream t a ≡ true
       → Q (step_of s a)
   pub makes : (host : List ℕ) (port : ℕ) (number : Option ℕ) → call ≡ Marks (HouseOrder (order.Connect host port) number)
       → (a : Life) → Sound a → P a → is_unmade a ≡ true → a.to ≡ Some (host, port) → Q (made_life number a)
   pub joins : (l t : ℕ) → call ≡ Turns (Joined l t) → (r : Relay)
-      → IsJoined (are_full old.lives) (are_crowded old.lives) (find (has_listener l) old.desk.all) t r → Q (joined_life old.joins t r)
+      → IsJoined (are_full old.relay_traces) (are_dialogs_full old.relay_traces) (find (has_listener l) old.forwarding_state.all) t r → Q (joined_life old.joins t r)
 
 both-of : (P Q : Life → Type 0) (ls : List Life) → Each P ls → Each Q ls → Each (λ a. P a × Q a) ls
 both-of P Q [] h k = tt
@@ -189,12 +189,12 @@ each-unit : (ls : List Life) → Each (λ a. Unit {0}) ls
 each-unit [] = tt
 each-unit (l ∷ ls) = (tt, each-unit ls)
 
-pass-if : (Q : Life → Type 0) (s : Step) (b : Bool) (l : Life) → (b ≡ false → Q l) → (b ≡ true → Q (step_of s l))
+pass-if : (Q : Life → Type 0) (s : LinkStep) (b : Bool) (l : Life) → (b ≡ false → Q l) → (b ≡ true → Q (step_of s l))
     → Q (if b then step_of s l else l)
 pass-if Q s true l p k = k refl
 pass-if Q s false l p k = p refl
 
-pass-stepped : (P Q E : Life → Type 0) (s : Step) (t : ℕ) (ls : List Life) → Each Sound ls → Each P ls
+pass-stepped : (P Q E : Life → Type 0) (s : LinkStep) (t : ℕ) (ls : List Life) → Each Sound ls → Each P ls
     → Each (λ a. has_stream t a ≡ true → E a) ls → ((a : Life) → P a → Q a)
     → ((a : Life) → Sound a → E a → P a → has_stream t a ≡ true → Q (step_of s a)) → Each Q (map (stepped s t) ls)
 pass-stepped P Q E s t [] sounds all may stays goes = tt
@@ -216,9 +216,9 @@ done-front t ls all h = each-map _ _ ls (λ a f is apart. absurd (both_ways (has
 own-is : (t : ℕ) (o : Option OwnStream) (own : OwnStream) → o ≡ Some own → t ≡ own.number → is_stream t o ≡ true
 own-is t o own e f = ap (is_stream t) e ∙ eq-eqb own.number t (sym f)
 
-done-each : (t : ℕ) (lives : List Life) → IsAllowed (order.Close t) lives
-    → Each (λ a. has_stream t a ≡ true → Apart (open_streams lives) → is_done a.relay ≡ true) lives
-done-each t lives h =
+done-each : (t : ℕ) (relay_traces : List Life) → IsAllowed (order.Close t) relay_traces
+    → Each (λ a. has_stream t a ≡ true → Apart (open_streams relay_traces) → is_done a.relay ≡ true) relay_traces
+done-each t relay_traces h =
     let is = own-is t h.life.own h.own h.is h.right.0 in
     subst (λ (ls : List Life). Each (λ a. has_stream t a ≡ true → Apart (open_streams ls) → is_done a.relay ≡ true) ls) (sym h.were)
     (each-append _ h.before (h.life ∷ h.behind)
@@ -229,136 +229,136 @@ done-each t lives h =
 
 -- ---- the calls
 
-stay-all : (call : HouseCall) (old : Course) (P Q : Life → Type 0) → Passes call old P Q → (new : List Life) → new ≡ old.lives
-    → ((a : Life) → Untouched call old a) → Each P old.lives → Each Q new
-stay-all call old P Q k new e free all = subst (Each Q) (sym e) (each-map P Q old.lives (λ a p. k.stays a p (free a)) all)
+stay-all : (call : HouseCall) (old : Trace) (P Q : Life → Type 0) → Passes call old P Q → (new : List Life) → new ≡ old.relay_traces
+    → ((a : Life) → Untouched call old a) → Each P old.relay_traces → Each Q new
+stay-all call old P Q k new e free all = subst (Each Q) (sym e) (each-map P Q old.relay_traces (λ a p. k.stays a p (free a)) all)
 
-pass-says : (b : Bool) (o : Option Forwarding) (bytes : List ℕ) (old new : Course) (P Q : Life → Type 0)
-    → Passes (Marks (HouseSaid bytes)) old P Q → SaysBy b o bytes old new → Each Sound old.lives → Each P old.lives → Each Q new.lives
+pass-says : (b : Bool) (o : Option Forwarding) (bytes : List ℕ) (old new : Trace) (P Q : Life → Type 0)
+    → Passes (Marks (HouseSaid bytes)) old P Q → SendsBy b o bytes old new → Each Sound old.relay_traces → Each P old.relay_traces → Each Q new.relay_traces
 pass-says false o bytes old new P Q k h s all =
-    stay-all (Marks (HouseSaid bytes)) old P Q k new.lives (ap (λ (c : Course). c.lives) h.1) (λ a. tt) all
+    stay-all (Marks (HouseSaid bytes)) old P Q k new.relay_traces (ap (λ (c : Trace). c.relay_traces) h.1) (λ a. tt) all
 pass-says true (Some f) bytes old new P Q k h s all =
-    stay-all (Marks (HouseSaid bytes)) old P Q k new.lives (ap (λ (c : Course). c.lives) h.1) (λ a. tt) all
+    stay-all (Marks (HouseSaid bytes)) old P Q k new.relay_traces (ap (λ (c : Trace). c.relay_traces) h.1) (λ a. tt) all
 pass-says true None bytes old new P Q k h s all =
-    subst (λ (c : Course). Each Q c.lives) (sym h.2)
-    (each-kept Q h.0 (pass-one P Q (λ a. Unit {0}) has_words (Speaks bytes) old.lives h.0 h.1 s all (each-unit h.1.before) (each-unit h.1.behind)
+    subst (λ (c : Trace). Each Q c.relay_traces) (sym h.2)
+    (each-kept Q h.0 (pass-one P Q (λ a. Unit {0}) has_words (Speaks bytes) old.relay_traces h.0 h.1 s all (each-unit h.1.before) (each-unit h.1.behind)
     (λ a p u. k.stays a p tt) (λ a b sa p is goes. k.says bytes refl a b sa p is goes)))
 
-pass-steps : (o : Order) (number : Option ℕ) (s : Step) (t : ℕ) (old new : Course) (P Q : Life → Type 0)
+pass-steps : (o : Order) (number : Option ℕ) (s : LinkStep) (t : ℕ) (old new : Trace) (P Q : Life → Type 0)
     → Passes (Marks (HouseOrder o number)) old P Q → Orders (Marks (HouseOrder o number)) s t
-    → Each (λ a. has_stream t a ≡ true → MayStep s old a) old.lives → StepsBy o s t old new
-    → Each Sound old.lives → Each P old.lives → Each Q new.lives
+    → Each (λ a. has_stream t a ≡ true → MayStep s old a) old.relay_traces → StepsBy o s t old new
+    → Each Sound old.relay_traces → Each P old.relay_traces → Each Q new.relay_traces
 pass-steps o number s t old new P Q k causes may h sounds all =
-    subst (λ (c : Course). Each Q c.lives) (sym h.1)
-    (each-kept Q (map (stepped s t) old.lives) (pass-stepped P Q (MayStep s old) s t old.lives sounds all may (λ a p. k.stays a p tt)
+    subst (λ (c : Trace). Each Q c.relay_traces) (sym h.1)
+    (each-kept Q (map (stepped s t) old.relay_traces) (pass-stepped P Q (MayStep s old) s t old.relay_traces sounds all may (λ a p. k.stays a p tt)
     (λ a sa e p is. k.steps s t causes a sa e p is)))
 
-pass-makes : (host : List ℕ) (port : ℕ) (number : Option ℕ) (old new : Course) (P Q : Life → Type 0)
+pass-makes : (host : List ℕ) (port : ℕ) (number : Option ℕ) (old new : Trace) (P Q : Life → Type 0)
     → Passes (Marks (HouseOrder (order.Connect host port) number)) old P Q → MakesOne host port number old new
-    → Each Sound old.lives → Each P old.lives → Each Q new.lives
+    → Each Sound old.relay_traces → Each P old.relay_traces → Each Q new.relay_traces
 pass-makes host port number old new P Q k h sounds all =
     let were = subst (Each P) h.were all in
     let its = each-back Sound h.before (h.life ∷ h.behind) (subst (Each Sound) h.were sounds) in
     let behind = each-back P h.before (h.life ∷ h.behind) were in
-    subst (λ (c : Course). Each Q c.lives) (sym h.are)
+    subst (λ (c : Trace). Each Q c.relay_traces) (sym h.are)
     (each-append Q (h.before ++ h.behind) (made_life number h.life ∷ [])
     (each-append Q h.before h.behind
     (each-map P Q h.before (λ a p. k.stays a p tt) (each-front P h.before (h.life ∷ h.behind) were))
     (each-map P Q h.behind (λ a p. k.stays a p tt) behind.1))
     (k.makes host port number refl h.life its.0 behind.0 h.is h.there, tt))
 
-pass-orders : (o : Order) (number : Option ℕ) (old new : Course) (P Q : Life → Type 0) → Passes (Marks (HouseOrder o number)) old P Q
-    → OrdersIn o number old new → Each Sound old.lives → Each P old.lives → Each Q new.lives
+pass-orders : (o : Order) (number : Option ℕ) (old new : Trace) (P Q : Life → Type 0) → Passes (Marks (HouseOrder o number)) old P Q
+    → OrdersIn o number old new → Each Sound old.relay_traces → Each P old.relay_traces → Each Q new.relay_traces
 pass-orders (order.Listen host port) number old new P Q k h s all =
-    stay-all (Marks (HouseOrder (order.Listen host port) number)) old P Q k new.lives (ap (λ (c : Course). c.lives) h.2) (λ a. tt) all
+    stay-all (Marks (HouseOrder (order.Listen host port) number)) old P Q k new.relay_traces (ap (λ (c : Trace). c.relay_traces) h.2) (λ a. tt) all
 pass-orders (order.Connect host port) number old new P Q k h s all = pass-makes host port number old new P Q k h s all
 pass-orders (order.Unlisten l) number old new P Q k h s all =
-    stay-all (Marks (HouseOrder (order.Unlisten l) number)) old P Q k new.lives (ap (λ (c : Course). c.lives) h.2) (λ a. tt) all
+    stay-all (Marks (HouseOrder (order.Unlisten l) number)) old P Q k new.relay_traces (ap (λ (c : Trace). c.relay_traces) h.2) (λ a. tt) all
 pass-orders (order.Pause t) number old new P Q k h s all =
-    pass-steps (order.Pause t) number (step.Pause true) t old new P Q k (order.Pause t, number, refl) (always t (λ a. Unit {0}) old.lives (λ a. tt)) h s all
+    pass-steps (order.Pause t) number (step.Pause true) t old new P Q k (order.Pause t, number, refl) (always t (λ a. Unit {0}) old.relay_traces (λ a. tt)) h s all
 pass-orders (order.Resume t) number old new P Q k h s all =
-    pass-steps (order.Resume t) number (step.Pause false) t old new P Q k (order.Resume t, number, refl) (always t (λ a. Unit {0}) old.lives (λ a. tt)) h s all
+    pass-steps (order.Resume t) number (step.Pause false) t old new P Q k (order.Resume t, number, refl) (always t (λ a. Unit {0}) old.relay_traces (λ a. tt)) h s all
 pass-orders (order.Finish t) number old new P Q k h s all =
-    pass-steps (order.Finish t) number step.Finish t old new P Q k (order.Finish t, number, refl) (always t (λ a. Unit {0}) old.lives (λ a. tt)) h s all
+    pass-steps (order.Finish t) number step.Finish t old new P Q k (order.Finish t, number, refl) (always t (λ a. Unit {0}) old.relay_traces (λ a. tt)) h s all
 pass-orders (order.Close t) number old new P Q k h s all =
-    pass-steps (order.Close t) number step.Close t old new P Q k (order.Close t, number, refl) (done-each t old.lives h.0) h s all
+    pass-steps (order.Close t) number step.Close t old new P Q k (order.Close t, number, refl) (done-each t old.relay_traces h.0) h s all
 
-pass-marks : (mark : HouseMark) (old new : Course) (P Q : Life → Type 0) → Passes (Marks mark) old P Q → MarksIn mark old new
-    → Each Sound old.lives → Each P old.lives → Each Q new.lives
-pass-marks HouseIn old new P Q k h s all = stay-all (Marks HouseIn) old P Q k new.lives (ap (λ (c : Course). c.lives) h) (λ a. tt) all
+pass-marks : (mark : HouseMark) (old new : Trace) (P Q : Life → Type 0) → Passes (Marks mark) old P Q → MarksIn mark old new
+    → Each Sound old.relay_traces → Each P old.relay_traces → Each Q new.relay_traces
+pass-marks HouseIn old new P Q k h s all = stay-all (Marks HouseIn) old P Q k new.relay_traces (ap (λ (c : Trace). c.relay_traces) h) (λ a. tt) all
 pass-marks (HouseSaid bytes) old new P Q k h s all =
-    pass-says old.desk.greeted (find has_request old.desk.all) bytes old new P Q k h s all
+    pass-says old.forwarding_state.greeted (find has_request old.forwarding_state.all) bytes old new P Q k h s all
 pass-marks (HouseTook size) old new P Q k h s all =
-    stay-all (Marks (HouseTook size)) old P Q k new.lives (ap (λ (c : Course). c.lives) h) (λ a. tt) all
+    stay-all (Marks (HouseTook size)) old P Q k new.relay_traces (ap (λ (c : Trace). c.relay_traces) h) (λ a. tt) all
 pass-marks (HouseAsked client id opening ask reply) old new P Q k h s all =
-    stay-all (Marks (HouseAsked client id opening ask reply)) old P Q k new.lives (ap (λ (c : Course). c.lives) h.2) (λ a. tt) all
+    stay-all (Marks (HouseAsked client id opening ask reply)) old P Q k new.relay_traces (ap (λ (c : Trace). c.relay_traces) h.2) (λ a. tt) all
 pass-marks (HouseAnswer client id reply) old new P Q k h s all =
-    stay-all (Marks (HouseAnswer client id reply)) old P Q k new.lives (ap (λ (c : Course). c.lives) h.2) (λ a. tt) all
+    stay-all (Marks (HouseAnswer client id reply)) old P Q k new.relay_traces (ap (λ (c : Trace). c.relay_traces) h.2) (λ a. tt) all
 pass-marks (HouseOrder o number) old new P Q k h s all = pass-orders o number old new P Q k h s all
 
-pass-turns : (happening : Happening) (old : Course) (new : List Life) (P Q : Life → Type 0) → Passes (Turns happening) old P Q
-    → TurnsTo happening old.joins old.desk.all old.lives new → Each Sound old.lives → Each P old.lives → Each Q new
+pass-turns : (happening : Happening) (old : Trace) (new : List Life) (P Q : Life → Type 0) → Passes (Turns happening) old P Q
+    → TurnsTo happening old.joins old.forwarding_state.all old.relay_traces new → Each Sound old.relay_traces → Each P old.relay_traces → Each Q new
 pass-turns (Joined l t) old new P Q k h s all = subst (Each Q) (sym h.more)
-    (each-append Q old.lives (joined_life old.joins t h.relay ∷ []) (each-map P Q old.lives (λ a p. k.stays a p tt) all)
+    (each-append Q old.relay_traces (joined_life old.joins t h.relay ∷ []) (each-map P Q old.relay_traces (λ a p. k.stays a p tt) all)
     (k.joins l t refl h.relay h.joined, tt))
 pass-turns (Got t bytes) old new P Q k h s all =
-    pass-most P Q t (GoesBy (GetsOn (not (are_full old.lives)) bytes) (Reads bytes)) old.lives new h s all (λ a p other. k.stays a p other)
-    (λ a b sa p is goes. k.gets t bytes refl a b sa (sound-gets (not (are_full old.lives)) bytes a b sa goes) p is goes)
+    pass-most P Q t (GoesBy (GetsOn (not (are_full old.relay_traces)) bytes) (Reads bytes)) old.relay_traces new h s all (λ a p other. k.stays a p other)
+    (λ a b sa p is goes. k.gets t bytes refl a b sa (sound-gets (not (are_full old.relay_traces)) bytes a b sa goes) p is goes)
 pass-turns (End t) old new P Q k h s all = subst (Each Q) (sym h)
-    (pass-stepped P Q (λ a. Unit {0}) step.End t old.lives s all (always t (λ a. Unit {0}) old.lives (λ a. tt)) (λ a p. k.stays a p tt)
+    (pass-stepped P Q (λ a. Unit {0}) step.End t old.relay_traces s all (always t (λ a. Unit {0}) old.relay_traces (λ a. tt)) (λ a p. k.stays a p tt)
     (λ a sa e p is. k.steps step.End t refl a sa tt p is))
 pass-turns (Writable t) old new P Q k h s all = subst (Each Q) (sym h)
-    (pass-stepped P Q (λ a. Unit {0}) step.Writable t old.lives s all (always t (λ a. Unit {0}) old.lives (λ a. tt)) (λ a p. k.stays a p tt)
+    (pass-stepped P Q (λ a. Unit {0}) step.Writable t old.relay_traces s all (always t (λ a. Unit {0}) old.relay_traces (λ a. tt)) (λ a p. k.stays a p tt)
     (λ a sa e p is. k.steps step.Writable t refl a sa tt p is))
 pass-turns (Failed t) old new P Q k h s all = subst (Each Q) (sym h)
-    (pass-stepped P Q (λ a. Unit {0}) step.Failed t old.lives s all (always t (λ a. Unit {0}) old.lives (λ a. tt)) (λ a p. k.stays a p tt)
+    (pass-stepped P Q (λ a. Unit {0}) step.Failed t old.relay_traces s all (always t (λ a. Unit {0}) old.relay_traces (λ a. tt)) (λ a p. k.stays a p tt)
     (λ a sa e p is. k.steps step.Failed t refl a sa tt p is))
 
-heeds : (call : HouseCall) (old : Course) (P Q : Life → Type 0) → Passes call old P Q → Heeds (λ ls taken. Each P ls)
-heeds call old P Q k = record {
-  hears = λ n m ls new taken sounds all one.
+applies : (call : HouseCall) (old : Trace) (P Q : Life → Type 0) → Passes call old P Q → Applies (λ ls taken. Each P ls)
+applies call old P Q k = record {
+  receives = λ n m ls new taken sounds all one.
       each-kept P new (pass-one P P (λ a. Unit {0}) (has_channel n) (Listens m) ls new one sounds all (each-unit one.before) (each-unit one.behind)
-      (λ a p u. p) (λ a b sa p is goes. k.hears m a b sa p goes));
+      (λ a p u. p) (λ a b sa p is goes. k.receives m a b sa p goes));
   offers = λ f number remote window maximum ls taken free all.
       each-append P ls (offered_life f number remote window maximum ∷ []) all (k.offers f number remote window maximum, tt);
 }
 
-pub pass-follow : (call : HouseCall) (old new : Course) (P Q : Life → Type 0) → Passes call old P Q → Follows call old new → All Sound old
-    → Each P old.lives → Each Q new.lives
+pub pass-follow : (call : HouseCall) (old new : Trace) (P Q : Life → Type 0) → Passes call old P Q → Follows call old new → All Sound old
+    → Each P old.relay_traces → Each Q new.relay_traces
 pass-follow (Begins starts) old new P Q k h s all =
-    stay-all (Begins starts) old P Q k new.lives (ap (λ (c : Course). c.lives) h.2) (λ a. tt) all
-pass-follow (Marks mark) old new P Q k h s all = pass-marks mark old new P Q k h s.lives all
-pass-follow (HearsBytes bytes) old new P Q k h s all =
-    each-map P Q new.lives (λ a p. k.stays a p tt)
-    (frames (λ ls taken. Each P ls) (heeds (HearsBytes bytes) old P Q k) h.0 (with_heard bytes old) new [] h.1
-    (record { lives = s.lives; past = s.past }) all)
+    stay-all (Begins starts) old P Q k new.relay_traces (ap (λ (c : Trace). c.relay_traces) h.2) (λ a. tt) all
+pass-follow (Marks mark) old new P Q k h s all = pass-marks mark old new P Q k h s.relay_traces all
+pass-follow (ReceivesBytes bytes) old new P Q k h s all =
+    each-map P Q new.relay_traces (λ a p. k.stays a p tt)
+    (frames (λ ls taken. Each P ls) (applies (ReceivesBytes bytes) old P Q k) h.0 (with_received bytes old) new [] h.1
+    (record { relay_traces = s.relay_traces; past = s.past }) all)
 pass-follow (Turns happening) old new P Q k h s all =
-    subst (λ (c : Course). Each Q c.lives) (sym h.2) (pass-turns happening old h.0 P Q k h.1 s.lives all)
+    subst (λ (c : Trace). Each Q c.relay_traces) (sym h.2) (pass-turns happening old h.0 P Q k h.1 s.relay_traces all)
 pass-follow (TakesBytes t n) old new P Q k h s all =
-    subst (λ (c : Course). Each Q c.lives) (sym h.2)
-    (pass-most P Q t (GoesBy (TakesOn n) (Takes n)) old.lives h.0 h.1 s.lives all (λ a p other. k.stays a p other)
+    subst (λ (c : Trace). Each Q c.relay_traces) (sym h.2)
+    (pass-most P Q t (GoesBy (TakesOn n) (Takes n)) old.relay_traces h.0 h.1 s.relay_traces all (λ a p other. k.stays a p other)
     (λ a b sa p is goes. k.takes t n refl a b sa p is goes))
 
 -- ---- from the first call on
 
 pub pass-reach : (P : List HouseCall → Life → Type 0)
-    → ((before : List HouseCall) (call : HouseCall) (old : Course) → Apart (open_streams old.lives)
+    → ((before : List HouseCall) (call : HouseCall) (old : Trace) → Apart (open_streams old.relay_traces)
     → Passes call old (P before) (P (before ++ call ∷ [])))
-    → (calls before : List HouseCall) (old new : Course) → Apart (open_streams old.lives) → Reaches old calls new → All Sound old → Each (P before) old.lives → Each (P (before ++ calls)) new.lives
+    → (calls before : List HouseCall) (old new : Trace) → Apart (open_streams old.relay_traces) → Reaches old calls new → All Sound old → Each (P before) old.relay_traces → Each (P (before ++ calls)) new.relay_traces
 pass-reach P k [] before old new apart h s all =
-    subst (λ (cs : List HouseCall). Each (P cs) new.lives) (sym (append-nil before))
-    (subst (λ (c : Course). Each (P before) c.lives) (sym h) all)
+    subst (λ (cs : List HouseCall). Each (P cs) new.relay_traces) (sym (append-nil before))
+    (subst (λ (c : Trace). Each (P before) c.relay_traces) (sym h) all)
 pass-reach P k (call ∷ calls) before old new apart h s all =
     let same = streams-follow call old h.0 h.1 s in
     let rest = pass-reach P k calls (before ++ call ∷ []) h.0 new
-    (subst Apart (sym same) (apart-after (call ∷ []) (open_streams old.lives) (new-follow call old h.0 h.1, tt) apart))
+    (subst Apart (sym same) (apart-after (call ∷ []) (open_streams old.relay_traces) (new-follow call old h.0 h.1, tt) apart))
     h.2 (follow-sound call old h.0 h.1 s)
     (pass-follow call old h.0 (P before) (P (before ++ call ∷ [])) (k before call old apart) h.1 s all) in
-    subst (λ (cs : List HouseCall). Each (P cs) new.lives) (append_assoc before (call ∷ []) calls) rest
+    subst (λ (cs : List HouseCall). Each (P cs) new.relay_traces) (append_assoc before (call ∷ []) calls) rest
 
 -- of each relay behind the calls
 pub pass-all : (P : List HouseCall → Life → Type 0)
-    → ((before : List HouseCall) (call : HouseCall) (old : Course) → Apart (open_streams old.lives)
+    → ((before : List HouseCall) (call : HouseCall) (old : Trace) → Apart (open_streams old.relay_traces)
     → Passes call old (P before) (P (before ++ call ∷ [])))
-    → (calls : List HouseCall) (course : Course) → Reaches first_course calls course → Each (P calls) course.lives
-pass-all P k calls course h = pass-reach P k calls [] first_course course tt h (record { lives = tt; past = tt }) tt
+    → (calls : List HouseCall) (trace : Trace) → Reaches first_trace calls trace → Each (P calls) trace.relay_traces
+pass-all P k calls trace h = pass-reach P k calls [] first_trace trace tt h (record { relay_traces = tt; past = tt }) tt

@@ -5,8 +5,8 @@ use Rattle.std.specs.List.{filter_map, cons_option}
 use Rattle.std.specs.Option.{option_to_list}
 use Rattle.std.proofs.lemmas.List.Elements.{filter_map-append}
 use Rattle.house_relay.specs.Steps.{is_gone}
-use Rattle.house_forward.specs.Lives.{Life, One, OneAtMost, has_stream, stepped, kept_in}
-use Rattle.house_forward.specs.declared.link.Step.{Step}
+use Rattle.house_forward.specs.RelayTraces.{Life, One, OneAtMost, has_stream, stepped, kept_in}
+use Rattle.house_forward.specs.declared.link.LinkStep.{LinkStep}
 use Rattle.house_forward.proofs.Sound.{Each, each-back, step_of}
 
 -- ---- in a list
@@ -56,7 +56,7 @@ if-stepped h true x l e = e refl
 if-stepped h false x l e = refl
 
 -- the one with a stream takes a step
-pub pick-stepped : {Y : Type 0} (h : Life → Option Y) (P : Life → Type 0) (s : Step) (t : ℕ)
+pub pick-stepped : {Y : Type 0} (h : Life → Option Y) (P : Life → Type 0) (s : LinkStep) (t : ℕ)
     → ((l : Life) → P l → has_stream t l ≡ true → h (step_of s l) ≡ h l) → (ls : List Life) → Each P ls
     → filter_map h (map (stepped s t) ls) ≡ filter_map h ls
 pick-stepped h P s t same [] all = refl

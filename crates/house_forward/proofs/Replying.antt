@@ -1,12 +1,12 @@
 -- What holds between the forwardings before and after a reply of the server, and a request that is said.
 use Rattle.std.proofs.Common.{◌≡◌, refl, ℕ, Bool, true, false, List, map, Option, Some, None}
 use Rattle.std.specs.List.{position, remove}
-use Rattle.house_forward.specs.Forwardings.{changed, after_saying, is_asked, is_cancelled, removed_at, replied_all}
+use Rattle.house_forward.specs.Forwardings.{changed, after_sending, is_asked, is_cancelled, removed_at, replied_all}
 use Rattle.house_forward.specs.declared.forwarding.Change.{Change}
 use Rattle.house_forward.specs.declared.forwarding.Change.TheVariants as change
 use Rattle.house_forward.specs.declared.forwarding.Forwarding.{Forwarding}
-use Rattle.house_forward.specs.declared.forwarding.Request.{Request}
-use Rattle.house_forward.specs.declared.forwarding.Request.TheVariants.{Listen, Cancel}
+use Rattle.house_forward.specs.declared.forwarding.ForwardingRequest.{ForwardingRequest}
+use Rattle.house_forward.specs.declared.forwarding.ForwardingRequest.TheVariants.{Listen, Cancel}
 
 -- it holds where nothing changes, where one changes, and where one is gone whose request is refused or
 -- whose cancel is granted
@@ -16,10 +16,10 @@ pub record HoldsOnReply (R : List Forwarding → List Forwarding → Type 0) : T
   pub refused : (serial : ℕ) (fs : List Forwarding) (i : ℕ) → position (is_asked serial) fs ≡ Some i → R fs (remove fs i)
   pub granted : (serial : ℕ) (fs : List Forwarding) (i : ℕ) → position (is_cancelled serial) fs ≡ Some i → R fs (remove fs i)
 
-pub on-saying : (R : List Forwarding → List Forwarding → Type 0) → HoldsOnReply R → (r : Request) (fs : List Forwarding)
-    → R fs (after_saying r fs)
-on-saying R h (Listen serial) fs = h.changes change.Request serial fs
-on-saying R h (Cancel serial) fs = h.changes change.Cancel serial fs
+pub on-outgoing : (R : List Forwarding → List Forwarding → Type 0) → HoldsOnReply R → (r : ForwardingRequest) (fs : List Forwarding)
+    → R fs (after_sending r fs)
+on-outgoing R h (Listen serial) fs = h.changes change.ForwardingRequest serial fs
+on-outgoing R h (Cancel serial) fs = h.changes change.Cancel serial fs
 
 refused-at : (R : List Forwarding → List Forwarding → Type 0) → HoldsOnReply R → (serial : ℕ) (fs : List Forwarding) (o : Option ℕ)
     → position (is_asked serial) fs ≡ o → R fs (removed_at o fs)
@@ -31,7 +31,7 @@ granted-at : (R : List Forwarding → List Forwarding → Type 0) → HoldsOnRep
 granted-at R h serial fs None e = h.same fs
 granted-at R h serial fs (Some i) e = h.granted serial fs i e
 
-pub on-reply : (R : List Forwarding → List Forwarding → Type 0) → HoldsOnReply R → (success : Bool) (port : Option ℕ) (r : Option Request)
+pub on-reply : (R : List Forwarding → List Forwarding → Type 0) → HoldsOnReply R → (success : Bool) (port : Option ℕ) (r : Option ForwardingRequest)
     (fs : List Forwarding) → R fs (replied_all success port r fs)
 on-reply R h true port None fs = h.same fs
 on-reply R h false port None fs = h.same fs

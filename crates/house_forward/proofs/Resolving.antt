@@ -12,10 +12,10 @@ use Rattle.mux_outside.specs.declared.start_ask.StartAsk.{StartAsk}
 use Rattle.mux_outside.specs.declared.starts.Starts.{Starts}
 use Rattle.house_forward.specs.Asks.{settled, counted, is_about, owes_opening, has_outcome, is_settled, is_waiting, taken_at, waiting_for, turns_away}
 use Rattle.house_forward.specs.Causes.{IsAtRest, AwaitsReply, EachAwaits, ListenersDiffer}
-use Rattle.house_forward.specs.Deeds.{Deed, Does, Leave}
-use Rattle.house_forward.specs.Deeds.{Begins, Asks, Answers, Greets, Requests, Replies, Listens, Unlistens}
-use Rattle.house_forward.specs.Desk.{Desk, empty_desk, BeginsWith, IsAsked, Answers as IsAnswered, greeting_said, request_said, reply_heard, GetsListener, EndsListener, standing_at}
-use Rattle.house_forward.specs.Forwardings.{Begins as BeginsAt, StartsIf, Standing, Opens, serials_after, IsAskedFor, is_first, has_request, requests_at, request_of, after_saying, changed, stage_after, closing_after, standing, counts, how_many, listens_at, connects_to, as_first, outcome_of, outcome_at, opens_of, closes_of, comes_of_ends, after_close, is_new, EndsLeave, ComesIf, ComesUnless, asks_after, is_asked, asks_at, is_cancelled, cancels_at, live_in, opened_asks, replied_all, replied_asks, removed_at, first_of, to_listen, MadeAt, ordered_asks, serial_of, is_numbered, next_of, next_at, ends_at, has_listener, is_listener, listener_of, listener_at, listeners_of}
+use Rattle.house_forward.specs.ForwarderEvents.{ForwarderEvent, Does, Leave}
+use Rattle.house_forward.specs.ForwarderEvents.{Begins, Asks, Answers, Greets, Requests, Replies, Listens, Unlistens}
+use Rattle.house_forward.specs.ForwardingState.{ForwardingState, empty_forwarding_state, BeginsWith, IsAsked, Answers as IsAnswered, greeting_sent, request_sent, reply_received, GetsListener, EndsListener, standing_at}
+use Rattle.house_forward.specs.Forwardings.{Begins as BeginsAt, StartsIf, Standing, Opens, serials_after, IsAskedFor, is_first, has_request, requests_at, request_of, after_sending, changed, stage_after, closing_after, standing, counts, how_many, listens_at, connects_to, as_first, outcome_of, outcome_at, opens_of, closes_of, comes_of_ends, after_close, is_new, EndsLeave, ComesIf, ComesUnless, asks_after, is_asked, asks_at, is_cancelled, cancels_at, live_in, opened_asks, replied_all, replied_asks, removed_at, first_of, to_listen, MadeAt, ordered_asks, serial_of, is_numbered, next_of, next_at, ends_at, has_listener, is_listener, listener_of, listener_at, listeners_of}
 use Rattle.house_forward.specs.Rules.{is_refused_alone}
 use Rattle.house_forward.specs.declared.asks.Asked.{Asked as Comes}
 use Rattle.house_forward.specs.declared.asks.Asked.TheVariants.{Now, Later}
@@ -25,12 +25,12 @@ use Rattle.house_forward.specs.declared.asks.Waiting.{Waiting}
 use Rattle.house_forward.specs.declared.forwarding.Change.{Change}
 use Rattle.house_forward.specs.declared.forwarding.Change.TheVariants as change
 use Rattle.house_forward.specs.declared.forwarding.Forwarding.{Forwarding}
-use Rattle.house_forward.specs.declared.forwarding.Request.{Request}
-use Rattle.house_forward.specs.declared.forwarding.Request.TheVariants.{Listen, Cancel}
+use Rattle.house_forward.specs.declared.forwarding.ForwardingRequest.{ForwardingRequest}
+use Rattle.house_forward.specs.declared.forwarding.ForwardingRequest.TheVariants.{Listen, Cancel}
 use Rattle.house_forward.specs.declared.forwarding.Stage.{Stage}
 use Rattle.house_forward.specs.declared.forwarding.Stage.TheVariants.{ToListen, Ordered, Listening, ToRequest, Requested, Live, Cancelling}
-use Rattle.house_forward.specs.declared.forwardings.Want.{Want}
-use Rattle.house_forward.specs.declared.forwardings.Want.TheVariants as want
+use Rattle.house_forward.specs.declared.forwardings.ForwardingWant.{ForwardingWant}
+use Rattle.house_forward.specs.declared.forwardings.ForwardingWant.TheVariants as want
 use Rattle.house_forward.specs.declared.rules.Ends.{Ends}
 use Rattle.house_forward.specs.declared.rules.TheConstants.{MOST_FORWARDINGS}
 use Rattle.house_forward.proofs.Causing.{placed, all-remove, all-removed, all-taken, in-range, there-is, same-many, one-many, more_than, first-ordered, same-one-found, Closing, next-closing}
@@ -54,7 +54,7 @@ moved old new ws move h =
 
 -- ---- the start
 
-first-awaits : (s : Stage) (n : ℕ) (rs : List Request) → is_first s ≡ true → StageAwaits s n rs
+first-awaits : (s : Stage) (n : ℕ) (rs : List ForwardingRequest) → is_first s ≡ true → StageAwaits s n rs
 first-awaits (ToListen host) n rs e = tt
 first-awaits Ordered n rs e = cc
 first-awaits (Listening l) n rs e = tt
@@ -72,15 +72,15 @@ first-outcome Requested n e = cc
 first-outcome (Live port) n e = cc
 first-outcome (Cancelling port) n e = cc
 
-record More (rs : List Request) (old new : List Forwarding) (serials : ℕ) : Type 0 where
+record More (rs : List ForwardingRequest) (old new : List Forwarding) (serials : ℕ) : Type 0 where
   numbered : is_numbered 0 new serials ≡ true
   stages : All (Awaits rs) new
   keeps : (f : Forwarding) → In f old → In f new
 
-none-more : (rs : List Request) (fs : List Forwarding) (serials : ℕ) → is_numbered 0 fs serials ≡ true → All (Awaits rs) fs → More rs fs fs serials
+none-more : (rs : List ForwardingRequest) (fs : List Forwarding) (serials : ℕ) → is_numbered 0 fs serials ≡ true → All (Awaits rs) fs → More rs fs fs serials
 none-more rs fs serials n h = record { numbered = n; stages = h; keeps = λ f k. k }
 
-one-more : (rs : List Request) (fs : List Forwarding) (serials : ℕ) (ends : Ends) (start : Option ℕ) (f : Forwarding)
+one-more : (rs : List ForwardingRequest) (fs : List Forwarding) (serials : ℕ) (ends : Ends) (start : Option ℕ) (f : Forwarding)
     → IsAskedFor ends serials start f → is_numbered 0 fs serials ≡ true → All (Awaits rs) fs → More rs fs (fs ++ f ∷ []) (serials + 1)
 one-more rs fs serials ends start f a n h = record {
   numbered = numbered_more fs f serials a.serial_is n;
@@ -88,7 +88,7 @@ one-more rs fs serials ends start f a n h = record {
   keeps = λ g k. in-left g fs (f ∷ []) k;
 }
 
-opens-more : (b : Bool) (ends : Ends) (serials : ℕ) (start : Option ℕ) (rs : List Request) (old new : List Forwarding)
+opens-more : (b : Bool) (ends : Ends) (serials : ℕ) (start : Option ℕ) (rs : List ForwardingRequest) (old new : List Forwarding)
     → is_numbered 0 old serials ≡ true → All (Awaits rs) old → Opens b ends serials start old new
     → More rs old new (serials_after b serials)
 opens-more false ends serials start rs old new n h o =
@@ -96,7 +96,7 @@ opens-more false ends serials start rs old new n h o =
 opens-more true ends serials start rs old new n h o =
     subst (λ (fs : List Forwarding). More rs old fs (serials + 1)) (sym o.2) (one-more rs old serials ends start o.0 o.1 n h)
 
-starts-more : (b gateway : Bool) (ask : StartAsk) (i : ℕ) (rs : List Request) (old new : Standing)
+starts-more : (b gateway : Bool) (ask : StartAsk) (i : ℕ) (rs : List ForwardingRequest) (old new : Standing)
     → is_numbered 0 old.all old.serials ≡ true → All (Awaits rs) old.all → StartsIf b gateway ask i old new
     → More rs old.all new.all new.serials
 starts-more true gateway ask i rs old new n h s =
@@ -105,7 +105,7 @@ starts-more false gateway ask i rs old new n h s =
     subst (λ (m : ℕ). More rs old.all new.all m) (sym s.2.serials)
     (opens-more _ s.0 old.serials (Some i) rs old.all new.all n h s.2.all)
 
-begins-more : (gateway : Bool) (asks : List StartAsk) (i : ℕ) (rs : List Request) (old new : Standing) → i ≤ length asks
+begins-more : (gateway : Bool) (asks : List StartAsk) (i : ℕ) (rs : List ForwardingRequest) (old new : Standing) → i ≤ length asks
     → is_numbered 0 old.all old.serials ≡ true → All (Awaits rs) old.all → BeginsAt gateway asks i old new
     → More rs old.all new.all new.serials
 begins-more gateway asks zero rs old new l n h b =
@@ -120,16 +120,16 @@ begins-more gateway asks (suc i) rs old new l n h b =
 kept-fates : (old new : List Forwarding) → ((f : Forwarding) → In f old → In f new) → Moves old new
 kept-fates old new keeps w h = (h.0, keeps h.0 h.1, h.2, h.3)
 
-after-start : (starts : Starts) (old new : Desk) → Tracks old → BeginsWith starts old new
+after-start : (starts : Starts) (old new : ForwardingState) → Tracks old → BeginsWith starts old new
     → Tracks new
 after-start starts old new t b =
     let m = begins-more starts.gateway starts.asks (length starts.asks) old.requests (standing_at old) (standing_at new)
     (omega arith) t.numbered t.stages b.begins in
     record {
       numbered = m.numbered;
-      stages = subst (λ (rs : List Request). All (Awaits rs) new.all) (sym (ap (λ (d : Desk). d.requests) b.others)) m.stages;
+      stages = subst (λ (rs : List ForwardingRequest). All (Awaits rs) new.all) (sym (ap (λ (d : ForwardingState). d.requests) b.others)) m.stages;
       fates = subst (λ (ws : List Waiting). All (Unsettled (HasFate new.all)) ws)
-          (sym (ap (λ (d : Desk). d.waiting) b.others))
+          (sym (ap (λ (d : ForwardingState). d.waiting) b.others))
           (moved old.all new.all old.waiting (kept-fates old.all new.all m.keeps) t.fates);
     }
 
@@ -138,18 +138,18 @@ after-start starts old new t b =
 abbrev Has : Bool → ℕ → List Forwarding → Type 0
 Has opening serial all = (f : Forwarding) × In f all × (f.serial ≡ serial) × Holds opening f
 
-record AskTracks (rs : List Request) (opening : Bool) (comes : Comes) (old new : List Forwarding) (serials : ℕ) : Type 0 where
+record AskTracks (rs : List ForwardingRequest) (opening : Bool) (comes : Comes) (old new : List Forwarding) (serials : ℕ) : Type 0 where
   numbered : is_numbered 0 new serials ≡ true
   stages : All (Awaits rs) new
   moves : Moves old new
   waits : (serial : ℕ) → comes ≡ Later serial → Has opening serial new
 
 -- what is known as an ask comes
-record Asking (rs : List Request) (serials : ℕ) (fs : List Forwarding) : Type 0 where
+record Asking (rs : List ForwardingRequest) (serials : ℕ) (fs : List Forwarding) : Type 0 where
   numbered : is_numbered 0 fs serials ≡ true
   stages : All (Awaits rs) fs
 
-stays : (rs : List Request) (serials : ℕ) (opening : Bool) (comes : Comes) (fs new : List Forwarding) → Asking rs serials fs → new ≡ fs
+stays : (rs : List ForwardingRequest) (serials : ℕ) (opening : Bool) (comes : Comes) (fs new : List Forwarding) → Asking rs serials fs → new ≡ fs
     → ((serial : ℕ) → comes ≡ Later serial → Has opening serial fs) → AskTracks rs opening comes fs new (more_than serials fs new)
 stays rs serials opening comes fs new k same waits =
     subst (λ (xs : List Forwarding). AskTracks rs opening comes fs xs (more_than serials fs xs)) (sym same)
@@ -164,7 +164,7 @@ never : (o : Outcome) (comes : Comes) (opening : Bool) (fs : List Forwarding) �
     → Has opening serial fs
 never o comes opening fs e serial f = cc
 
-opens-none : (rs : List Request) (serials : ℕ) (comes : Comes) (ends : Ends) (fs new : List Forwarding) (b : Bool) → Asking rs serials fs
+opens-none : (rs : List ForwardingRequest) (serials : ℕ) (comes : Comes) (ends : Ends) (fs new : List Forwarding) (b : Bool) → Asking rs serials fs
     → comes ≡ (if b then Later serials else Now Refused) → Opens b ends serials None fs new
     → AskTracks rs true comes fs new (more_than serials fs new)
 opens-none rs serials comes ends fs new false k e o = stays rs serials true comes fs new k o (never Refused comes true fs e)
@@ -186,13 +186,13 @@ again : (comes : Comes) (fs : List Forwarding) (f : Forwarding) (o : Option Outc
 again comes fs f None is e h serial later = let same : f.serial ≡ serial = cc in (f, h, same, is)
 again comes fs f (Some o) is e h serial later = cc
 
-opens-some : (rs : List Request) (serials : ℕ) (comes : Comes) (fs new : List Forwarding) (f : Forwarding) (b : Bool) → Asking rs serials fs
+opens-some : (rs : List ForwardingRequest) (serials : ℕ) (comes : Comes) (fs new : List Forwarding) (f : Forwarding) (b : Bool) → Asking rs serials fs
     → In f fs → comes ≡ (if b then as_first f (outcome_of f) else Now Refused) → new ≡ fs
     → AskTracks rs true comes fs new (more_than serials fs new)
 opens-some rs serials comes fs new f true k h e same = stays rs serials true comes fs new k same (again comes fs f (outcome_of f) refl e h)
 opens-some rs serials comes fs new f false k h e same = stays rs serials true comes fs new k same (never Refused comes true fs e)
 
-opens-by : (rs : List Request) (serials : ℕ) (comes : Comes) (ends : Ends) (fs new : List Forwarding) (o : Option Forwarding)
+opens-by : (rs : List ForwardingRequest) (serials : ℕ) (comes : Comes) (ends : Ends) (fs new : List Forwarding) (o : Option Forwarding)
     → standing ends fs ≡ o → Asking rs serials fs → comes ≡ opens_of serials ends fs o → Opens (is_new ends fs o) ends serials None fs new
     → AskTracks rs true comes fs new (more_than serials fs new)
 opens-by rs serials comes ends fs new None is k e o =
@@ -200,7 +200,7 @@ opens-by rs serials comes ends fs new None is k e o =
 opens-by rs serials comes ends fs new (Some f) is k e o =
     opens-some rs serials comes fs new f (connects_to ends f) k (found-in (λ g. counts g && listens_at ends g) f fs is) e o
 
-close-if : (rs : List Request) (serial : ℕ) (f : Forwarding) (b : Bool) → Awaits rs f
+close-if : (rs : List ForwardingRequest) (serial : ℕ) (f : Forwarding) (b : Bool) → Awaits rs f
     → Awaits rs (if b then record f { stage = stage_after change.Close f.listen_port f.stage; closing = true } else f)
 close-if rs serial f true h = close-awaits f.stage f.listen_port f.serial rs h
 close-if rs serial f false h = h
@@ -208,7 +208,7 @@ close-if rs serial f false h = h
 closed-closes : (f : Forwarding) → (changed change.Close f.serial f).closing ≡ true
 closed-closes f = rw (eq-eqb f.serial f.serial refl) refl
 
-closes-one : (rs : List Request) (serials : ℕ) (comes : Comes) (fs new : List Forwarding) (f : Forwarding) (b : Bool) → Asking rs serials fs
+closes-one : (rs : List ForwardingRequest) (serials : ℕ) (comes : Comes) (fs new : List Forwarding) (f : Forwarding) (b : Bool) → Asking rs serials fs
     → In f fs → comes ≡ (if b then Now Refused else Later f.serial) → new ≡ after_close (if b then Now Refused else Later f.serial) fs
     → AskTracks rs false comes fs new (more_than serials fs new)
 closes-one rs serials comes fs new f true k h e same = stays rs serials false comes fs new k same (never Refused comes false fs e)
@@ -231,26 +231,26 @@ closes-one rs serials comes fs new f false k h e same =
           );
     }))
 
-closes-by : (rs : List Request) (serials : ℕ) (comes : Comes) (ends : Ends) (fs new : List Forwarding) (o : Option Forwarding)
+closes-by : (rs : List ForwardingRequest) (serials : ℕ) (comes : Comes) (ends : Ends) (fs new : List Forwarding) (o : Option Forwarding)
     → standing ends fs ≡ o → Asking rs serials fs → comes ≡ closes_of o → new ≡ after_close (closes_of o) fs
     → AskTracks rs false comes fs new (more_than serials fs new)
 closes-by rs serials comes ends fs new None is k e same = stays rs serials false comes fs new k same (never Refused comes false fs e)
 closes-by rs serials comes ends fs new (Some f) is k e same =
     closes-one rs serials comes fs new f f.closing k (found-in (λ g. counts g && listens_at ends g) f fs is) e same
 
-comes-by : (opening : Bool) (rs : List Request) (serials : ℕ) (comes : Comes) (ends : Ends) (fs new : List Forwarding) → Asking rs serials fs
+comes-by : (opening : Bool) (rs : List ForwardingRequest) (serials : ℕ) (comes : Comes) (ends : Ends) (fs new : List Forwarding) → Asking rs serials fs
     → comes ≡ comes_of_ends opening serials ends fs → EndsLeave opening serials ends fs new
     → AskTracks rs opening comes fs new (more_than serials fs new)
 comes-by true rs serials comes ends fs new k e l = opens-by rs serials comes ends fs new (standing ends fs) refl k e l
 comes-by false rs serials comes ends fs new k e l = closes-by rs serials comes ends fs new (standing ends fs) refl k e l
 
-comes-if : (alone opening gateway : Bool) (ask : StartAsk) (rs : List Request) (serials : ℕ) (comes : Comes) (fs new : List Forwarding)
+comes-if : (alone opening gateway : Bool) (ask : StartAsk) (rs : List ForwardingRequest) (serials : ℕ) (comes : Comes) (fs new : List Forwarding)
     → Asking rs serials fs → ComesIf alone gateway opening ask serials fs new comes
     → AskTracks rs opening comes fs new (more_than serials fs new)
 comes-if true opening gateway ask rs serials comes fs new k c = stays rs serials opening comes fs new k c.1 (never Refused comes opening fs c.0)
 comes-if false opening gateway ask rs serials comes fs new k c = comes-by opening rs serials comes c.0 fs new k c.2 c.3
 
-comes-unless : (away opening gateway : Bool) (ask : StartAsk) (rs : List Request) (serials : ℕ) (comes : Comes) (fs new : List Forwarding)
+comes-unless : (away opening gateway : Bool) (ask : StartAsk) (rs : List ForwardingRequest) (serials : ℕ) (comes : Comes) (fs new : List Forwarding)
     → Asking rs serials fs → ComesUnless away gateway opening ask serials fs new comes
     → AskTracks rs opening comes fs new (more_than serials fs new)
 comes-unless true opening gateway ask rs serials comes fs new k c = stays rs serials opening comes fs new k c.1 (never Refused comes opening fs c.0)
@@ -264,50 +264,50 @@ waits-more (Now o) client id opening all ws waits h = h
 waits-more (Later serial) client id opening all ws waits h =
     All-push (Unsettled (HasFate all)) ws (waiting_for client id opening serial) h (λ none. waits serial refl)
 
-after-ask : (client id : ℕ) (opening : Bool) (ask : StartAsk) (answer : HouseReply) (old new : Desk) → Tracks old
+after-ask : (client id : ℕ) (opening : Bool) (ask : StartAsk) (answer : HouseReply) (old new : ForwardingState) → Tracks old
     → IsAsked client id opening ask answer old new → Tracks new
 after-ask client id opening ask answer old new t a =
     let m = comes-unless (turns_away client id old.waiting) opening old.gateway ask old.requests old.serials a.came_to old.all new.all
     (record { numbered = t.numbered; stages = t.stages }) a.comes in
     record {
-      numbered = subst (λ (n : ℕ). is_numbered 0 new.all n ≡ true) (sym (ap (λ (d : Desk). d.serials) a.others)) m.numbered;
-      stages = subst (λ (rs : List Request). All (Awaits rs) new.all) (sym (ap (λ (d : Desk). d.requests) a.others)) m.stages;
-      fates = subst (λ (ws : List Waiting). All (Unsettled (HasFate new.all)) ws) (sym (ap (λ (d : Desk). d.waiting) a.others))
+      numbered = subst (λ (n : ℕ). is_numbered 0 new.all n ≡ true) (sym (ap (λ (d : ForwardingState). d.serials) a.others)) m.numbered;
+      stages = subst (λ (rs : List ForwardingRequest). All (Awaits rs) new.all) (sym (ap (λ (d : ForwardingState). d.requests) a.others)) m.stages;
+      fates = subst (λ (ws : List Waiting). All (Unsettled (HasFate new.all)) ws) (sym (ap (λ (d : ForwardingState). d.waiting) a.others))
           (waits-more a.came_to client id opening new.all old.waiting m.waits
           (moved old.all new.all old.waiting m.moves t.fates));
     }
 
 -- ---- an answer, the greeting, and a request
 
-after-answering : (client id : ℕ) (answer : HouseReply) (old new : Desk) → Tracks old
+after-answering : (client id : ℕ) (answer : HouseReply) (old new : ForwardingState) → Tracks old
     → IsAnswered client id answer old new → Tracks new
 after-answering client id answer old new t a =
     let at = position (is_waiting client id) old.waiting in
-    let left : Desk = record old { waiting = taken_at at old.waiting } in
+    let left : ForwardingState = record old { waiting = taken_at at old.waiting } in
     let got : Tracks left = record {
       numbered = t.numbered;
       stages = t.stages;
       fates = moved old.all old.all (taken_at at old.waiting) (λ w h. h)
           (all-taken (Unsettled (HasFate old.all)) at old.waiting t.fates);
     } in
-    subst (λ (d : Desk). Tracks d) (sym a.others) got
+    subst (λ (d : ForwardingState). Tracks d) (sym a.others) got
 
-after-greeting : (old new : Desk) → Tracks old → new ≡ greeting_said old → Tracks new
+after-greeting : (old new : ForwardingState) → Tracks old → new ≡ greeting_sent old → Tracks new
 after-greeting old new t e =
-    let got : Tracks (greeting_said old) = record {
+    let got : Tracks (greeting_sent old) = record {
       numbered = t.numbered;
       stages = t.stages;
       fates = moved old.all old.all old.waiting (λ w h. h) t.fates;
     } in
-    subst (λ (d : Desk). Tracks d) (sym e) got
+    subst (λ (d : ForwardingState). Tracks d) (sym e) got
 
-awaits-if : (c : Change) (rs more : List Request) (f : Forwarding) (b : Bool)
+awaits-if : (c : Change) (rs more : List ForwardingRequest) (f : Forwarding) (b : Bool)
     → (b ≡ true → StageAwaits (stage_after c f.listen_port f.stage) f.serial more) → (b ≡ false → Awaits more f)
     → Awaits more (if b then record f { stage = stage_after c f.listen_port f.stage; closing = closing_after c f.closing } else f)
 awaits-if c rs more f true h k = h refl
 awaits-if c rs more f false h k = k refl
 
-all-awaits : (c : Change) (serial : ℕ) (rs more : List Request) (fs : List Forwarding)
+all-awaits : (c : Change) (serial : ℕ) (rs more : List ForwardingRequest) (fs : List Forwarding)
     → ((f : Forwarding) → f.serial ≡ serial → Awaits rs f → StageAwaits (stage_after c f.listen_port f.stage) f.serial more)
     → ((f : Forwarding) → (f.serial == serial) ≡ false → Awaits rs f → Awaits more f)
     → All (Awaits rs) fs → All (Awaits more) (map (changed c serial) fs)
@@ -316,9 +316,9 @@ all-awaits c serial rs more fs its others h =
     (All-weaker (Awaits rs) (λ (f : Forwarding). Awaits more (changed c serial f))
     (λ f a. awaits-if c rs more f (f.serial == serial) (λ is. its f (eqb-true f.serial serial is) a) (λ isnt. others f isnt a)) fs h)
 
-said-stages : (r : Request) (rs : List Request) (fs : List Forwarding) → All (Awaits rs) fs
-    → All (Awaits (rs ++ r ∷ [])) (after_saying r fs)
-said-stages (Listen serial) rs fs h = all-awaits change.Request serial rs (rs ++ Listen serial ∷ []) fs
+said-stages : (r : ForwardingRequest) (rs : List ForwardingRequest) (fs : List Forwarding) → All (Awaits rs) fs
+    → All (Awaits (rs ++ r ∷ [])) (after_sending r fs)
+said-stages (Listen serial) rs fs h = all-awaits change.ForwardingRequest serial rs (rs ++ Listen serial ∷ []) fs
     (λ f is a. listen-awaits f.stage f.listen_port f.serial (rs ++ Listen serial ∷ [])
     (subst (λ (n : ℕ). In (Listen n) (rs ++ Listen serial ∷ [])) (sym is) (in-last (Listen serial) rs))
     (awaits-more f.stage f.serial rs (rs ++ Listen serial ∷ []) (λ x k. in-left x rs (Listen serial ∷ []) k) a))
@@ -329,23 +329,23 @@ said-stages (Cancel serial) rs fs h = all-awaits change.Cancel serial rs (rs ++ 
     (awaits-more f.stage f.serial rs (rs ++ Cancel serial ∷ []) (λ x k. in-left x rs (Cancel serial ∷ []) k) a))
     (λ f isnt a. awaits-more f.stage f.serial rs (rs ++ Cancel serial ∷ []) (λ x k. in-left x rs (Cancel serial ∷ []) k) a) h
 
-said-numbered : (r : Request) (fs : List Forwarding) (serials : ℕ) → is_numbered 0 fs serials ≡ true → is_numbered 0 (after_saying r fs) serials ≡ true
-said-numbered (Listen serial) fs serials h = numbered-changed change.Request serial fs serials h
+said-numbered : (r : ForwardingRequest) (fs : List Forwarding) (serials : ℕ) → is_numbered 0 fs serials ≡ true → is_numbered 0 (after_sending r fs) serials ≡ true
+said-numbered (Listen serial) fs serials h = numbered-changed change.ForwardingRequest serial fs serials h
 said-numbered (Cancel serial) fs serials h = numbered-changed change.Cancel serial fs serials h
 
-said-moves : (r : Request) (fs : List Forwarding) → Moves fs (after_saying r fs)
-said-moves (Listen serial) fs w fate = fate-changed change.Request serial fs w fate (λ is. said-holds change.Request w.opening fate.0 tt fate.3)
+said-moves : (r : ForwardingRequest) (fs : List Forwarding) → Moves fs (after_sending r fs)
+said-moves (Listen serial) fs w fate = fate-changed change.ForwardingRequest serial fs w fate (λ is. said-holds change.ForwardingRequest w.opening fate.0 tt fate.3)
 said-moves (Cancel serial) fs w fate = fate-changed change.Cancel serial fs w fate (λ is. said-holds change.Cancel w.opening fate.0 tt fate.3)
 
-after-request : (f : Forwarding) (old new : Desk) → Tracks old → new ≡ request_said f old
+after-request : (f : Forwarding) (old new : ForwardingState) → Tracks old → new ≡ request_sent f old
     → Tracks new
 after-request f old new t e =
-    let got : Tracks (request_said f old) = record {
+    let got : Tracks (request_sent f old) = record {
       numbered = said-numbered (request_of f) old.all old.serials t.numbered;
       stages = said-stages (request_of f) old.requests old.all t.stages;
-      fates = moved old.all (after_saying (request_of f) old.all) old.waiting (said-moves (request_of f) old.all) t.fates;
+      fates = moved old.all (after_sending (request_of f) old.all) old.waiting (said-moves (request_of f) old.all) t.fates;
     } in
-    subst (λ (d : Desk). Tracks d) (sym e) got
+    subst (λ (d : ForwardingState). Tracks d) (sym e) got
 
 -- ---- a reply
 
@@ -426,7 +426,7 @@ fate-left p (y ∷ fs) (Some i) x e isnt h =
     let first = position-Some p (y ∷ fs) i y e in
     in-remove p x (y ∷ fs) i y first.0 first.1 isnt h
 
-record Replied (rs : List Request) (fs : List Forwarding) (serials : ℕ) (ws : List Waiting) : Type 0 where
+record Replied (rs : List ForwardingRequest) (fs : List Forwarding) (serials : ℕ) (ws : List Waiting) : Type 0 where
   numbered : is_numbered 0 fs serials ≡ true
   stages : All (Awaits rs) fs
   fates : All (Unsettled (HasFate fs)) ws
@@ -484,7 +484,7 @@ stay-fate true f w serial opens is its holds other = stay-holds f false holds
 stay-fate false f w serial opens is its holds other =
     absurd (serial-differs f w.forwarding serial is (of-other serial false w opens other) its)
 
-replied : (success : Bool) (r : Request) (port : Option ℕ) (at serials : ℕ) (rs : List Request) (fs : List Forwarding)
+replied : (success : Bool) (r : ForwardingRequest) (port : Option ℕ) (at serials : ℕ) (rs : List ForwardingRequest) (fs : List Forwarding)
     (ws : List Waiting) → is_numbered 0 fs serials ≡ true → All (Awaits (r ∷ rs)) fs → All (Unsettled (HasFate fs)) ws
     → Replied rs (replied_all success port (Some r) fs) serials (replied_asks success port (Some r) fs at ws)
 replied true (Listen serial) port at serials rs fs ws n h k = record {
@@ -546,25 +546,25 @@ replied false (Cancel serial) port at serials rs fs ws n h k =
           (λ is. stay-fate w.opening fate.0 w serial refl fate.2 is fate.3 other)) k;
     }
 
-replied-by : (success : Bool) (port : Option ℕ) (old : Desk) (rs : List Request) → old.requests ≡ rs → Tracks old
+replied-by : (success : Bool) (port : Option ℕ) (old : ForwardingState) (rs : List ForwardingRequest) → old.requests ≡ rs → Tracks old
     → Replied (drop 1 rs) (replied_all success port (first_of rs) old.all) old.serials
     (replied_asks success port (first_of rs) old.all old.done old.waiting)
 replied-by success port old [] e t = record {
   numbered = t.numbered;
-  stages = subst (λ (rs : List Request). All (Awaits rs) old.all) e t.stages;
+  stages = subst (λ (rs : List ForwardingRequest). All (Awaits rs) old.all) e t.stages;
   fates = moved old.all old.all old.waiting (λ w h. h) t.fates;
 }
 replied-by success port old (r ∷ rs) e t =
     replied success r port old.done old.serials rs old.all old.waiting t.numbered
-    (subst (λ (qs : List Request). All (Awaits qs) old.all) e t.stages) t.fates
+    (subst (λ (qs : List ForwardingRequest). All (Awaits qs) old.all) e t.stages) t.fates
 
-after-reply : (success : Bool) (port : Option ℕ) (old new : Desk) → Tracks old → new ≡ reply_heard success port old
+after-reply : (success : Bool) (port : Option ℕ) (old new : ForwardingState) → Tracks old → new ≡ reply_received success port old
     → Tracks new
 after-reply success port old new t e =
     let r = replied-by success port old old.requests refl t in
-    let got : Tracks (reply_heard success port old) =
+    let got : Tracks (reply_received success port old) =
     record { numbered = r.numbered; stages = r.stages; fates = r.fates } in
-    subst (λ (d : Desk). Tracks d) (sym e) got
+    subst (λ (d : ForwardingState). Tracks d) (sym e) got
 
 -- ---- a listener is ordered
 
@@ -603,7 +603,7 @@ made-of (Some l) i j f old middle new same e first at m =
     ∙ set-set old i (record f { stage = Ordered }) (record f { stage = Listening l })
 
 -- what a listener leaves that was ordered and got its number, or none, one behind the other
-pub record ListenerMade (number : Option ℕ) (old new : Desk) : Type 0 where
+pub record ListenerMade (number : Option ℕ) (old new : ForwardingState) : Type 0 where
   pub place : ℕ
   pub forwarding : Forwarding
   pub done : ℕ
@@ -614,7 +614,7 @@ pub record ListenerMade (number : Option ℕ) (old new : Desk) : Type 0 where
   pub requests : new.requests ≡ old.requests
   pub serials : new.serials ≡ old.serials
 
-pub listener-made : (host : List ℕ) (port : ℕ) (number : Option ℕ) (old new : Desk) → GetsListener host port number old new
+pub listener-made : (host : List ℕ) (port : ℕ) (number : Option ℕ) (old new : ForwardingState) → GetsListener host port number old new
     → ListenerMade number old new
 listener-made host port number old new h =
     let b = h.between in
@@ -634,11 +634,11 @@ listener-made host port number old new h =
       first = h.orders.first;
       is = h.orders.ordered.1;
       made = made-of number i h.makes.place f old.all b.all new.all same h.orders.ordered.2 first h.makes.first h.makes.made;
-      waiting = ap (λ (d : Desk). d.waiting) m
+      waiting = ap (λ (d : ForwardingState). d.waiting) m
           ∙ ap (λ (x : Option Forwarding). ordered_asks number (serial_of x) b.done b.waiting) first
-          ∙ ap (λ (ws : List Waiting). ordered_asks number f.serial b.done ws) (ap (λ (d : Desk). d.waiting) s);
-      requests = ap (λ (d : Desk). d.requests) m ∙ ap (λ (d : Desk). d.requests) s;
-      serials = ap (λ (d : Desk). d.serials) m ∙ ap (λ (d : Desk). d.serials) s;
+          ∙ ap (λ (ws : List Waiting). ordered_asks number f.serial b.done ws) (ap (λ (d : ForwardingState). d.waiting) s);
+      requests = ap (λ (d : ForwardingState). d.requests) m ∙ ap (λ (d : ForwardingState). d.requests) s;
+      serials = ap (λ (d : ForwardingState). d.serials) m ∙ ap (λ (d : ForwardingState). d.serials) s;
     }
 
 -- an ask to close keeps its forwarding as that gets its listener
@@ -654,7 +654,7 @@ made-fate false l i f x old w opens inside other is holds same = (
   ap (λ (z : Forwarding). z.closing) (sym same) ∙ holds,
 )
 
-made : (number : Option ℕ) (rs : List Request) (serials at i : ℕ) (f : Forwarding) (old new : List Forwarding)
+made : (number : Option ℕ) (rs : List ForwardingRequest) (serials at i : ℕ) (f : Forwarding) (old new : List Forwarding)
     (ws : List Waiting) → position to_listen old ≡ Some i → f ≡ get_or old i f → MadeOf number i f old new
     → is_numbered 0 old serials ≡ true → All (Awaits rs) old → All (Unsettled (HasFate old)) ws
     → Replied rs new serials (ordered_asks number f.serial at ws)
@@ -686,7 +686,7 @@ made (Some l) rs serials at i f old new ws first is m n h k =
           ]) k;
     })
 
-after-listen : (host : List ℕ) (port : ℕ) (number : Option ℕ) (old new : Desk) → Tracks old
+after-listen : (host : List ℕ) (port : ℕ) (number : Option ℕ) (old new : ForwardingState) → Tracks old
     → GetsListener host port number old new → Tracks new
 after-listen host port number old new t h =
     let l = listener-made host port number old new h in
@@ -694,7 +694,7 @@ after-listen host port number old new t h =
     t.numbered t.stages t.fates in
     record {
       numbered = subst (λ (n : ℕ). is_numbered 0 new.all n ≡ true) (sym l.serials) r.numbered;
-      stages = subst (λ (rs : List Request). All (Awaits rs) new.all) (sym l.requests) r.stages;
+      stages = subst (λ (rs : List ForwardingRequest). All (Awaits rs) new.all) (sym l.requests) r.stages;
       fates = subst (λ (ws : List Waiting). All (Unsettled (HasFate new.all)) ws) (sym l.waiting) r.fates;
     }
 
@@ -724,14 +724,14 @@ lacks-it false l all serial f w opens one c here is holds other = elim (cases_Bo
   | inr lacks ↦ lacks
 ]
 
-after-unlisten : (l : ℕ) (deeds : List Deed) (old new : Desk) → Leave deeds old → Tracks old → EndsListener l old new
+after-unlisten : (l : ℕ) (forwarder_events : List ForwarderEvent) (old new : ForwardingState) → Leave forwarder_events old → Tracks old → EndsListener l old new
     → Tracks new
-after-unlisten l deeds old new left t h =
-    let one = one-each deeds old left in
+after-unlisten l forwarder_events old new left t h =
+    let one = one-each forwarder_events old left in
     let keep : Forwarding → Bool = λ f. not (has_listener l f) in
     let kept = filter keep old.all in
     let c = next-closing (λ (x : Forwarding). In x old.all) old.waiting old.all h.serial l (all-in (λ (x : Forwarding). In x old.all) old.all (λ x k. k)) h.next in
-    let to : Desk = record old {
+    let to : ForwardingState = record old {
       all = kept;
       waiting = settled h.serial false old.done Done old.waiting;
       done = counted old.done;
@@ -748,32 +748,32 @@ after-unlisten l deeds old new left t h =
             fate.3,
           )) t.fates;
     } in
-    subst (λ (d : Desk). Tracks d) (sym h.others) got
+    subst (λ (d : ForwardingState). Tracks d) (sym h.others) got
 
 -- ---- by all that happened
 
-after : (deed : Deed) (deeds : List Deed) (old new : Desk) → Leave deeds old → Tracks old → Does deed old new → Tracks new
-after (Begins starts) deeds old new left t d = after-start starts old new t d
-after (Asks client id opening ask answer) deeds old new left t d = after-ask client id opening ask answer old new t d
-after (Answers client id answer) deeds old new left t d = after-answering client id answer old new t d
-after Greets deeds old new left t d = after-greeting old new t d.1
-after (Requests f) deeds old new left t d = after-request f old new t d.2
-after (Replies success port) deeds old new left t d = after-reply success port old new t d
-after (Listens host port number) deeds old new left t d = after-listen host port number old new t d
-after (Unlistens l) deeds old new left t d = after-unlisten l deeds old new left t d
+after : (forwarder_event : ForwarderEvent) (forwarder_events : List ForwarderEvent) (old new : ForwardingState) → Leave forwarder_events old → Tracks old → Does forwarder_event old new → Tracks new
+after (Begins starts) forwarder_events old new left t d = after-start starts old new t d
+after (Asks client id opening ask answer) forwarder_events old new left t d = after-ask client id opening ask answer old new t d
+after (Answers client id answer) forwarder_events old new left t d = after-answering client id answer old new t d
+after Greets forwarder_events old new left t d = after-greeting old new t d.1
+after (Requests f) forwarder_events old new left t d = after-request f old new t d.2
+after (Replies success port) forwarder_events old new left t d = after-reply success port old new t d
+after (Listens host port number) forwarder_events old new left t d = after-listen host port number old new t d
+after (Unlistens l) forwarder_events old new left t d = after-unlisten l forwarder_events old new left t d
 
-tracks-nothing : Tracks empty_desk
+tracks-nothing : Tracks empty_forwarding_state
 tracks-nothing = record { numbered = refl; stages = All-nil (Awaits []); fates = All-nil (Unsettled (HasFate [])) }
 
-pub tracks : (deeds : List Deed) (desk : Desk) → Leave deeds desk → Tracks desk
-tracks [] desk left = subst (λ (d : Desk). Tracks d) (sym left) tracks-nothing
-tracks (deed ∷ deeds) desk left = after deed deeds left.0 desk left.1 (tracks deeds left.0 left.1) left.2
+pub tracks : (forwarder_events : List ForwarderEvent) (forwarding_state : ForwardingState) → Leave forwarder_events forwarding_state → Tracks forwarding_state
+tracks [] forwarding_state left = subst (λ (d : ForwardingState). Tracks d) (sym left) tracks-nothing
+tracks (forwarder_event ∷ forwarder_events) forwarding_state left = after forwarder_event forwarder_events left.0 forwarding_state left.1 (tracks forwarder_events left.0 left.1) left.2
 
 -- ---- their listeners
 
 pub listeners-differ : ListenersDiffer
-listeners-differ deeds d left =
-    pairs (listeners_of d.all) (apart-listeners d.all 0 d.serials (tracks deeds d left).numbered (one-each deeds d left))
+listeners-differ forwarder_events d left =
+    pairs (listeners_of d.all) (apart-listeners d.all 0 d.serials (tracks forwarder_events d left).numbered (one-each forwarder_events d left))
 
 -- ---- at rest
 
@@ -827,12 +827,12 @@ ends-none : (owes : Bool) (n l : ℕ) (P : Type 0) → owes ≡ false → (if ow
 ends-none true n l P e f = cc
 ends-none false n l P e f = cc
 
-ends-rest : (closing : Bool) (l serial : ℕ) (ws : List Waiting) (next : Option Want) → owes_opening serial ws ≡ false
+ends-rest : (closing : Bool) (l serial : ℕ) (ws : List Waiting) (next : Option ForwardingWant) → owes_opening serial ws ≡ false
     → ends_at l closing serial ws next ≡ None → (closing ≡ false) × (next ≡ None)
 ends-rest true l serial ws next owes e = ends-none (owes_opening serial ws) serial l ((true ≡ false) × (next ≡ None)) owes e
 ends-rest false l serial ws next owes e = (refl, e)
 
-next-rest : (s : Stage) (closing : Bool) (serial : ℕ) (ws : List Waiting) (rs : List Request) (next : Option Want)
+next-rest : (s : Stage) (closing : Bool) (serial : ℕ) (ws : List Waiting) (rs : List ForwardingRequest) (next : Option ForwardingWant)
     → ((l : ℕ) → s ≡ Listening l → owes_opening serial ws ≡ false) → StageAwaits s serial rs → next_at s closing serial ws next ≡ None
     → Rests s closing × (next ≡ None)
 next-rest (ToListen host) closing serial ws rs next owes a e = cc
@@ -843,7 +843,7 @@ next-rest Requested closing serial ws rs next owes a e = (tt, e)
 next-rest (Live port) closing serial ws rs next owes a e = (tt, e)
 next-rest (Cancelling port) closing serial ws rs next owes a e = (tt, e)
 
-pub all-rest : (all : List Forwarding) (serials : ℕ) (rs : List Request) (ws : List Waiting) (fs : List Forwarding)
+pub all-rest : (all : List Forwarding) (serials : ℕ) (rs : List ForwardingRequest) (ws : List Waiting) (fs : List Forwarding)
     → is_numbered 0 all serials ≡ true → All (HasFate all) ws → ((f : Forwarding) → In f fs → In f all) → All (Awaits rs) fs
     → next_of ws fs ≡ None → (f : Forwarding) → In f fs → Rests f.stage f.closing
 all-rest all serials rs ws [] n fates within h e f here = absurd here
@@ -856,7 +856,7 @@ all-rest all serials rs ws (g ∷ fs) n fates within h e f here =
     ]
 
 -- what an ask then waits for
-waits-opening : (s : Stage) (n asked : ℕ) (closing : Bool) (rs : List Request) → outcome_at s asked ≡ None → Rests s closing
+waits-opening : (s : Stage) (n asked : ℕ) (closing : Bool) (rs : List ForwardingRequest) → outcome_at s asked ≡ None → Rests s closing
     → requests_at s closing ≡ false → StageAwaits s n rs → In (Listen n) rs ⊎ In (Cancel n) rs
 waits-opening (ToListen host) n asked closing rs none rests says a = absurd rests
 waits-opening Ordered n asked closing rs none rests says a = absurd rests
@@ -866,7 +866,7 @@ waits-opening Requested n asked closing rs none rests says a = inl a
 waits-opening (Live port) n asked closing rs none rests says a = cc
 waits-opening (Cancelling port) n asked closing rs none rests says a = cc
 
-waits-closing : (s : Stage) (n : ℕ) (closing : Bool) (rs : List Request) → closing ≡ true → Rests s closing
+waits-closing : (s : Stage) (n : ℕ) (closing : Bool) (rs : List ForwardingRequest) → closing ≡ true → Rests s closing
     → requests_at s closing ≡ false → StageAwaits s n rs → In (Listen n) rs ⊎ In (Cancel n) rs
 waits-closing (ToListen host) n closing rs closes rests says a = absurd rests
 waits-closing Ordered n closing rs closes rests says a = absurd rests
@@ -876,21 +876,21 @@ waits-closing Requested n closing rs closes rests says a = inl a
 waits-closing (Live port) n closing rs closes rests says a = absurd (both_ways closing says closes)
 waits-closing (Cancelling port) n closing rs closes rests says a = inr a
 
-waits-for : (opening : Bool) (f : Forwarding) (rs : List Request) → Holds opening f → Rests f.stage f.closing
+waits-for : (opening : Bool) (f : Forwarding) (rs : List ForwardingRequest) → Holds opening f → Rests f.stage f.closing
     → has_request f ≡ false → Awaits rs f → In (Listen f.serial) rs ⊎ In (Cancel f.serial) rs
 waits-for true f rs holds rests says a = waits-opening f.stage f.serial f.listen_port f.closing rs holds rests says a
 waits-for false f rs holds rests says a = waits-closing f.stage f.serial f.closing rs holds rests says a
 
-awaits-one : (d : Desk) (w : Waiting) (f : Forwarding) → f.serial ≡ w.forwarding
+awaits-one : (d : ForwardingState) (w : Waiting) (f : Forwarding) → f.serial ≡ w.forwarding
     → In (Listen f.serial) d.requests ⊎ In (Cancel f.serial) d.requests → AwaitsReply d.requests w
 awaits-one d w f is (inl h) = inl (subst (λ (n : ℕ). Contains d.requests (Listen n)) is (in-contains (Listen f.serial) d.requests h))
 awaits-one d w f is (inr h) = inr (subst (λ (n : ℕ). Contains d.requests (Cancel n)) is (in-contains (Cancel f.serial) d.requests h))
 
-pub fates-at-rest : (d : Desk) → Tracks d → IsAtRest d → All (HasFate d.all) d.waiting
+pub fates-at-rest : (d : ForwardingState) → Tracks d → IsAtRest d → All (HasFate d.all) d.waiting
 fates-at-rest d t rest =
     all-fates d.all d.waiting t.fates (not-true (list_any has_outcome d.waiting) rest.answers)
 
-awaits-by : (d : Desk) (w : Waiting) → Tracks d → IsAtRest d → HasFate d.all w → AwaitsReply d.requests w
+awaits-by : (d : ForwardingState) (w : Waiting) → Tracks d → IsAtRest d → HasFate d.all w → AwaitsReply d.requests w
 awaits-by d w t rest fate = awaits-one d w fate.0 fate.2 (waits-for w.opening fate.0 d.requests fate.3
     (all-rest d.all d.serials d.requests d.waiting d.all t.numbered (fates-at-rest d t rest) (λ f h. h) t.stages rest.orders
     fate.0 fate.1)
@@ -898,6 +898,6 @@ awaits-by d w t rest fate = awaits-one d w fate.0 fate.2 (waits-for w.opening fa
     (in-all (Awaits d.requests) fate.0 d.all t.stages fate.1))
 
 pub each-awaits : EachAwaits
-each-awaits deeds d left rest =
-    let t = tracks deeds d left in
+each-awaits forwarder_events d left rest =
+    let t = tracks forwarder_events d left in
     All-weaker (HasFate d.all) (AwaitsReply d.requests) (λ w fate. awaits-by d w t rest fate) d.waiting (fates-at-rest d t rest)

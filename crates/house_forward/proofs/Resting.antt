@@ -5,13 +5,13 @@ use Rattle.std.specs.List.{list_any, cons_option}
 use Rattle.std.proofs.lemmas.Bool.{and_parts, or_parts, eqb-true, eq-eqb, not-true}
 use Rattle.mux_outside.specs.OwnStreams.{is_silent}
 use Rattle.mux_outside.specs.declared.own_streams.OwnStream.{OwnStream}
-use Rattle.house_relay.specs.Next.{says_of, orders_of}
+use Rattle.house_relay.specs.Next.{sends_of, orders_of}
 use Rattle.house_relay.specs.Relay.{stream_of}
 use Rattle.house_relay.specs.declared.relay.Relay.{Relay}
 use Rattle.house_relay.proofs.Resting.{silent, rests}
 use Rattle.house_relay.proofs.Whole.{empty-at-rest}
-use Rattle.house_forward.specs.Links.{own_of, streams_of, numbered, is_number, is_of, order_in, has_order, has_saying}
-use Rattle.house_forward.specs.Quiet.{says_none, orders_none}
+use Rattle.house_forward.specs.Links.{own_of, streams_of, numbered, is_number, is_of, order_in, has_order, has_sending}
+use Rattle.house_forward.specs.Quiet.{sends_none, orders_none}
 use Rattle.house_forward.specs.declared.asks.Waiting.{Waiting}
 use Rattle.house_forward.specs.declared.forwarding.Forwarding.{Forwarding}
 use Rattle.house_forward.specs.declared.link.Link.{Link}
@@ -48,18 +48,18 @@ no-order true o e f = none-of o f
 no-order false o e f = cc
 
 link-rests : (s : Stream) (r : Relay) (t : ℕ) (ss : List OwnStream) → (numbered t s && is_number t (stream_of r.socket)) ≡ true
-    → is_some (order_in s r) ≡ false → is_some (says_of r) ≡ false → is_silent t (cons_option (own_of s) ss) ≡ false
+    → is_some (order_in s r) ≡ false → is_some (sends_of r) ≡ false → is_silent t (cons_option (own_of s) ss) ≡ false
     → r.held.waiting ≡ []
-link-rests (Offered host port) r t ss is order saying e = cc
-link-rests Awaited r t ss is order saying e = cc
-link-rests (Made own) r t ss is order saying e =
+link-rests (Offered host port) r t ss is order outgoing e = cc
+link-rests Awaited r t ss is order outgoing e = cc
+link-rests (Made own) r t ss is order outgoing e =
     let both = and_parts (own.number == t) (is_number t (stream_of r.socket)) is in
     let same = eqb-true own.number t both.0 in
     let has : stream_of r.socket ≡ Some own.number = its-number (stream_of r.socket) t both.1 ∙ ap (λ k. Some k) (sym same) in
     let its : is_number own.number (stream_of r.socket) ≡ true = ap (is_number own.number) has ∙ eq-eqb own.number own.number refl in
-    empty-at-rest r own (silent r (none-of (says_of r) saying))
+    empty-at-rest r own (silent r (none-of (sends_of r) outgoing))
     (rests r own has (no-order (is_number own.number (stream_of r.socket)) (orders_of r own) its order)) (loud own t ss e same)
-link-rests Gone r t ss is order saying e = cc
+link-rests Gone r t ss is order outgoing e = cc
 
 -- ---- all links
 
@@ -67,20 +67,20 @@ first-or : (P : Link → Type 0) (b : Bool) (l : Link) (o : Option Link) → (b 
 first-or P true l o first rest = first refl
 first-or P false l o first rest = rest
 
-nothing-held : (ls : List Link) (t : ℕ) → list_any has_order ls ≡ false → list_any has_saying ls ≡ false
+nothing-held : (ls : List Link) (t : ℕ) → list_any has_order ls ≡ false → list_any has_sending ls ≡ false
     → is_silent t (streams_of ls) ≡ false → IfSome (find (is_of t) ls) (λ l. l.relay.held.waiting ≡ [])
-nothing-held [] t order saying e = tt
-nothing-held (l ∷ ls) t order saying e =
+nothing-held [] t order outgoing e = tt
+nothing-held (l ∷ ls) t order outgoing e =
     let orders = or_parts (has_order l) (list_any has_order ls) order in
-    let says = or_parts (has_saying l) (list_any has_saying ls) saying in
+    let says = or_parts (has_sending l) (list_any has_sending ls) outgoing in
     first-or (λ (z : Link). z.relay.held.waiting ≡ []) (is_of t l) l (find (is_of t) ls)
     (λ is. link-rests l.stream l.relay t (streams_of ls) is orders.0 says.0 e)
     (nothing-held ls t orders.1 says.1 (loud-later (own_of l.stream) (streams_of ls) t e))
 
 pub held-at-rest : (greeted : Bool) (fs : List Forwarding) (ls : List Link) (waiting : List Waiting) (t : ℕ)
-    → says_none greeted fs ls ≡ true → orders_none fs ls waiting ≡ true → is_silent t (streams_of ls) ≡ false
+    → sends_none greeted fs ls ≡ true → orders_none fs ls waiting ≡ true → is_silent t (streams_of ls) ≡ false
     → IfSome (find (is_of t) ls) (λ l. l.relay.held.waiting ≡ [])
-held-at-rest greeted fs ls waiting t saying order e =
-    let says = and_parts _ (not (list_any has_saying ls)) (and_parts greeted _ saying).1 in
+held-at-rest greeted fs ls waiting t outgoing order e =
+    let says = and_parts _ (not (list_any has_sending ls)) (and_parts greeted _ outgoing).1 in
     let orders = and_parts (not (list_any has_order ls)) _ order in
-    nothing-held ls t (not-true (list_any has_order ls) orders.0) (not-true (list_any has_saying ls) says.1) e
+    nothing-held ls t (not-true (list_any has_order ls) orders.0) (not-true (list_any has_sending ls) says.1) e

@@ -8,8 +8,8 @@ use Rattle.mux_outside.specs.declared.house.HouseReply.TheVariants as given
 use Rattle.mux_outside.specs.declared.start_ask.StartAsk.{StartAsk}
 use Rattle.house_forward.specs.Asks.{settled, settle_one, settled_at, refused, is_about, same, counted}
 use Rattle.house_forward.specs.Causes.{answers, gateway_in, closes, AreOne, IsFor, ListensSince, IsGranted, CameBy}
-use Rattle.house_forward.specs.Deeds.{Deed}
-use Rattle.house_forward.specs.Deeds.{Asks}
+use Rattle.house_forward.specs.ForwarderEvents.{ForwarderEvent}
+use Rattle.house_forward.specs.ForwarderEvents.{Asks}
 use Rattle.house_forward.specs.Forwardings.{changed, stage_after, closing_after}
 use Rattle.house_forward.specs.Rules.{listens_here}
 use Rattle.house_forward.specs.declared.asks.Outcome.{Outcome}
@@ -24,20 +24,20 @@ use Rattle.house_forward.specs.declared.forwarding.Stage.TheVariants.{ToListen, 
 -- ---- what is known
 
 -- how far a forwarding may be that was asked for as this
-abbrev pub StageFits : Stage → Forwarding → List Deed → Type 0
-StageFits (ToListen host) a deeds = listens_here a.kind ≡ true
-StageFits Ordered a deeds = listens_here a.kind ≡ true
-StageFits (Listening l) a deeds = (listens_here a.kind ≡ true) × ListensSince a.listen_host a.listen_port l deeds
-StageFits ToRequest a deeds = listens_here a.kind ≡ false
-StageFits Requested a deeds = listens_here a.kind ≡ false
-StageFits (Live port) a deeds = (listens_here a.kind ≡ false) × IsGranted a port deeds
-StageFits (Cancelling port) a deeds = (listens_here a.kind ≡ false) × IsGranted a port deeds
+abbrev pub StageFits : Stage → Forwarding → List ForwarderEvent → Type 0
+StageFits (ToListen host) a forwarder_events = listens_here a.kind ≡ true
+StageFits Ordered a forwarder_events = listens_here a.kind ≡ true
+StageFits (Listening l) a forwarder_events = (listens_here a.kind ≡ true) × ListensSince a.listen_host a.listen_port l forwarder_events
+StageFits ToRequest a forwarder_events = listens_here a.kind ≡ false
+StageFits Requested a forwarder_events = listens_here a.kind ≡ false
+StageFits (Live port) a forwarder_events = (listens_here a.kind ≡ false) × IsGranted a port forwarder_events
+StageFits (Cancelling port) a forwarder_events = (listens_here a.kind ≡ false) × IsGranted a port forwarder_events
 
 -- a forwarding is the one that had its serial, and is as far as what happened says
-pub record Stands (home : ℕ → Forwarding) (serials : ℕ) (deeds : List Deed) (f : Forwarding) : Type 0 where
+pub record Stands (home : ℕ → Forwarding) (serials : ℕ) (forwarder_events : List ForwarderEvent) (f : Forwarding) : Type 0 where
   pub below : f.serial < serials
   pub same : AreOne (home f.serial) f
-  pub stage : StageFits f.stage (home f.serial) deeds
+  pub stage : StageFits f.stage (home f.serial) forwarder_events
 
 -- a forwarding whose request was said
 pub record Asked (home : ℕ → Forwarding) (serials : ℕ) (g : Forwarding) : Type 0 where
@@ -46,109 +46,109 @@ pub record Asked (home : ℕ → Forwarding) (serials : ℕ) (g : Forwarding) : 
   pub there : listens_here (home g.serial).kind ≡ false
 
 -- an ask came to this later
-pub record Came (a : Forwarding) (opening : Bool) (outcome : Outcome) (later earlier : List Deed) : Type 0 where
-  pub newer : List Deed
-  pub deed : Deed
-  pub older : List Deed
-  pub were : later ≡ newer ++ deed ∷ older
-  pub by : CameBy deed (older ++ earlier) opening a outcome
+pub record Came (a : Forwarding) (opening : Bool) (outcome : Outcome) (later earlier : List ForwarderEvent) : Type 0 where
+  pub newer : List ForwarderEvent
+  pub forwarder_event : ForwarderEvent
+  pub older : List ForwarderEvent
+  pub were : later ≡ newer ++ forwarder_event ∷ older
+  pub by : CameBy forwarder_event (older ++ earlier) opening a outcome
 
-abbrev pub CameIf : Option (ℕ × Outcome) → Forwarding → Bool → List Deed → List Deed → Type 0
+abbrev pub CameIf : Option (ℕ × Outcome) → Forwarding → Bool → List ForwarderEvent → List ForwarderEvent → Type 0
 CameIf None a opening later earlier = Unit {0}
 CameIf (Some o) a opening later earlier = Came a opening o.1 later earlier
 
 -- an ask that waits is for the forwarding that had its serial
-pub record Waits (home : ℕ → Forwarding) (serials : ℕ) (deeds : List Deed) (w : Waiting) : Type 0 where
+pub record Waits (home : ℕ → Forwarding) (serials : ℕ) (forwarder_events : List ForwarderEvent) (w : Waiting) : Type 0 where
   pub below : w.forwarding < serials
   pub serial : (home w.forwarding).serial ≡ w.forwarding
   pub ask : StartAsk
-  pub later : List Deed
-  pub earlier : List Deed
-  pub were : deeds ≡ later ++ Asks w.client w.id w.opening ask given.Later ∷ earlier
+  pub later : List ForwarderEvent
+  pub earlier : List ForwarderEvent
+  pub were : forwarder_events ≡ later ++ Asks w.client w.id w.opening ask given.Later ∷ earlier
   pub open_yet : list_any (answers w.client w.id) later ≡ false
   pub is_for : IsFor (gateway_in earlier) w.opening ask (home w.forwarding)
   pub came : CameIf w.outcome (home w.forwarding) w.opening later (Asks w.client w.id w.opening ask given.Later ∷ earlier)
 
 -- ---- one more deed
 
-pub listens-later : (deed : Deed) (host : List ℕ) (port l : ℕ) (deeds : List Deed) → closes l deed ≡ false
-    → ListensSince host port l deeds → ListensSince host port l (deed ∷ deeds)
-listens-later deed host port l deeds e h = record {
-  later = deed ∷ h.later;
+pub listens-later : (forwarder_event : ForwarderEvent) (host : List ℕ) (port l : ℕ) (forwarder_events : List ForwarderEvent) → closes l forwarder_event ≡ false
+    → ListensSince host port l forwarder_events → ListensSince host port l (forwarder_event ∷ forwarder_events)
+listens-later forwarder_event host port l forwarder_events e h = record {
+  later = forwarder_event ∷ h.later;
   earlier = h.earlier;
-  were = ap (λ ds. deed ∷ ds) h.were;
-  open_yet = or_from (closes l deed) (list_any (closes l) h.later) e h.open_yet;
+  were = ap (λ ds. forwarder_event ∷ ds) h.were;
+  open_yet = or_from (closes l forwarder_event) (list_any (closes l) h.later) e h.open_yet;
 }
 
-pub granted-later : (deed : Deed) (a : Forwarding) (port : ℕ) (deeds : List Deed) → IsGranted a port deeds
-    → IsGranted a port (deed ∷ deeds)
-granted-later deed a port deeds h = record {
+pub granted-later : (forwarder_event : ForwarderEvent) (a : Forwarding) (port : ℕ) (forwarder_events : List ForwarderEvent) → IsGranted a port forwarder_events
+    → IsGranted a port (forwarder_event ∷ forwarder_events)
+granted-later forwarder_event a port forwarder_events h = record {
   chosen = h.chosen;
-  later = deed ∷ h.later;
+  later = forwarder_event ∷ h.later;
   earlier = h.earlier;
-  were = ap (λ ds. deed ∷ ds) h.were;
+  were = ap (λ ds. forwarder_event ∷ ds) h.were;
   next = h.next;
   bound = h.bound;
 }
 
 -- its listener isn't the one that is closed
-abbrev pub Lets : Stage → Deed → Type 0
-Lets s deed = (l : ℕ) → s ≡ Listening l → closes l deed ≡ false
+abbrev pub Lets : Stage → ForwarderEvent → Type 0
+Lets s forwarder_event = (l : ℕ) → s ≡ Listening l → closes l forwarder_event ≡ false
 
-stage-later : (s : Stage) (a : Forwarding) (deed : Deed) (deeds : List Deed) → Lets s deed → StageFits s a deeds
-    → StageFits s a (deed ∷ deeds)
-stage-later (ToListen host) a deed deeds lets h = h
-stage-later Ordered a deed deeds lets h = h
-stage-later (Listening l) a deed deeds lets h =
-    (h.0, listens-later deed a.listen_host a.listen_port l deeds (lets l refl) h.1)
-stage-later ToRequest a deed deeds lets h = h
-stage-later Requested a deed deeds lets h = h
-stage-later (Live port) a deed deeds lets h = (h.0, granted-later deed a port deeds h.1)
-stage-later (Cancelling port) a deed deeds lets h = (h.0, granted-later deed a port deeds h.1)
+stage-later : (s : Stage) (a : Forwarding) (forwarder_event : ForwarderEvent) (forwarder_events : List ForwarderEvent) → Lets s forwarder_event → StageFits s a forwarder_events
+    → StageFits s a (forwarder_event ∷ forwarder_events)
+stage-later (ToListen host) a forwarder_event forwarder_events lets h = h
+stage-later Ordered a forwarder_event forwarder_events lets h = h
+stage-later (Listening l) a forwarder_event forwarder_events lets h =
+    (h.0, listens-later forwarder_event a.listen_host a.listen_port l forwarder_events (lets l refl) h.1)
+stage-later ToRequest a forwarder_event forwarder_events lets h = h
+stage-later Requested a forwarder_event forwarder_events lets h = h
+stage-later (Live port) a forwarder_event forwarder_events lets h = (h.0, granted-later forwarder_event a port forwarder_events h.1)
+stage-later (Cancelling port) a forwarder_event forwarder_events lets h = (h.0, granted-later forwarder_event a port forwarder_events h.1)
 
-pub stands-later : (home : ℕ → Forwarding) (serials : ℕ) (deed : Deed) (deeds : List Deed) (f : Forwarding) → Lets f.stage deed
-    → Stands home serials deeds f → Stands home serials (deed ∷ deeds) f
-stands-later home serials deed deeds f lets h = record {
+pub stands-later : (home : ℕ → Forwarding) (serials : ℕ) (forwarder_event : ForwarderEvent) (forwarder_events : List ForwarderEvent) (f : Forwarding) → Lets f.stage forwarder_event
+    → Stands home serials forwarder_events f → Stands home serials (forwarder_event ∷ forwarder_events) f
+stands-later home serials forwarder_event forwarder_events f lets h = record {
   below = h.below;
   same = h.same;
-  stage = stage-later f.stage (home f.serial) deed deeds lets h.stage;
+  stage = stage-later f.stage (home f.serial) forwarder_event forwarder_events lets h.stage;
 }
 
-pub all-later : (home : ℕ → Forwarding) (serials : ℕ) (deed : Deed) (deeds : List Deed) (fs : List Forwarding)
-    → ((l : ℕ) → closes l deed ≡ false) → All (Stands home serials deeds) fs → All (Stands home serials (deed ∷ deeds)) fs
-all-later home serials deed deeds fs lets h =
-    All-weaker (Stands home serials deeds) (Stands home serials (deed ∷ deeds))
-    (λ f s. stands-later home serials deed deeds f (λ l e. lets l) s) fs h
+pub all-later : (home : ℕ → Forwarding) (serials : ℕ) (forwarder_event : ForwarderEvent) (forwarder_events : List ForwarderEvent) (fs : List Forwarding)
+    → ((l : ℕ) → closes l forwarder_event ≡ false) → All (Stands home serials forwarder_events) fs → All (Stands home serials (forwarder_event ∷ forwarder_events)) fs
+all-later home serials forwarder_event forwarder_events fs lets h =
+    All-weaker (Stands home serials forwarder_events) (Stands home serials (forwarder_event ∷ forwarder_events))
+    (λ f s. stands-later home serials forwarder_event forwarder_events f (λ l e. lets l) s) fs h
 
-came-later : (o : Option (ℕ × Outcome)) (a : Forwarding) (opening : Bool) (deed : Deed) (later earlier : List Deed)
-    → CameIf o a opening later earlier → CameIf o a opening (deed ∷ later) earlier
-came-later None a opening deed later earlier h = tt
-came-later (Some o) a opening deed later earlier h =
-    record { newer = deed ∷ h.newer; deed = h.deed; older = h.older; were = ap (λ ds. deed ∷ ds) h.were; by = h.by }
+came-later : (o : Option (ℕ × Outcome)) (a : Forwarding) (opening : Bool) (forwarder_event : ForwarderEvent) (later earlier : List ForwarderEvent)
+    → CameIf o a opening later earlier → CameIf o a opening (forwarder_event ∷ later) earlier
+came-later None a opening forwarder_event later earlier h = tt
+came-later (Some o) a opening forwarder_event later earlier h =
+    record { newer = forwarder_event ∷ h.newer; forwarder_event = h.forwarder_event; older = h.older; were = ap (λ ds. forwarder_event ∷ ds) h.were; by = h.by }
 
-pub waits-later : (home : ℕ → Forwarding) (serials : ℕ) (deed : Deed) (deeds : List Deed) (w : Waiting)
-    → answers w.client w.id deed ≡ false → Waits home serials deeds w → Waits home serials (deed ∷ deeds) w
-waits-later home serials deed deeds w e h = record {
+pub waits-later : (home : ℕ → Forwarding) (serials : ℕ) (forwarder_event : ForwarderEvent) (forwarder_events : List ForwarderEvent) (w : Waiting)
+    → answers w.client w.id forwarder_event ≡ false → Waits home serials forwarder_events w → Waits home serials (forwarder_event ∷ forwarder_events) w
+waits-later home serials forwarder_event forwarder_events w e h = record {
   below = h.below;
   serial = h.serial;
   ask = h.ask;
-  later = deed ∷ h.later;
+  later = forwarder_event ∷ h.later;
   earlier = h.earlier;
-  were = ap (λ ds. deed ∷ ds) h.were;
-  open_yet = or_from (answers w.client w.id deed) (list_any (answers w.client w.id) h.later) e h.open_yet;
+  were = ap (λ ds. forwarder_event ∷ ds) h.were;
+  open_yet = or_from (answers w.client w.id forwarder_event) (list_any (answers w.client w.id) h.later) e h.open_yet;
   is_for = h.is_for;
-  came = came-later w.outcome (home w.forwarding) w.opening deed h.later (Asks w.client w.id w.opening h.ask given.Later ∷ h.earlier) h.came;
+  came = came-later w.outcome (home w.forwarding) w.opening forwarder_event h.later (Asks w.client w.id w.opening h.ask given.Later ∷ h.earlier) h.came;
 }
 
 -- it answers no ask
-abbrev pub IsNoAnswer : Deed → Type 0
-IsNoAnswer deed = (client id : ℕ) → answers client id deed ≡ false
+abbrev pub IsNoAnswer : ForwarderEvent → Type 0
+IsNoAnswer forwarder_event = (client id : ℕ) → answers client id forwarder_event ≡ false
 
-pub all-wait-later : (home : ℕ → Forwarding) (serials : ℕ) (deed : Deed) (deeds : List Deed) → IsNoAnswer deed → (ws : List Waiting)
-    → All (Waits home serials deeds) ws → All (Waits home serials (deed ∷ deeds)) ws
-all-wait-later home serials deed deeds none ws h =
-    All-weaker (Waits home serials deeds) (Waits home serials (deed ∷ deeds))
-    (λ w s. waits-later home serials deed deeds w (none w.client w.id) s) ws h
+pub all-wait-later : (home : ℕ → Forwarding) (serials : ℕ) (forwarder_event : ForwarderEvent) (forwarder_events : List ForwarderEvent) → IsNoAnswer forwarder_event → (ws : List Waiting)
+    → All (Waits home serials forwarder_events) ws → All (Waits home serials (forwarder_event ∷ forwarder_events)) ws
+all-wait-later home serials forwarder_event forwarder_events none ws h =
+    All-weaker (Waits home serials forwarder_events) (Waits home serials (forwarder_event ∷ forwarder_events))
+    (λ w s. waits-later home serials forwarder_event forwarder_events w (none w.client w.id) s) ws h
 
 -- ---- more forwardings
 
@@ -156,14 +156,14 @@ all-wait-later home serials deed deeds none ws h =
 abbrev pub Keeps : (ℕ → Forwarding) → (ℕ → Forwarding) → ℕ → Type 0
 Keeps home to serials = (n : ℕ) → n < serials → to n ≡ home n
 
-pub stands-grown : (home to : ℕ → Forwarding) (serials more : ℕ) (deeds : List Deed) (f : Forwarding) → serials ≤ more
-    → Keeps home to serials → Stands home serials deeds f → Stands to more deeds f
-stands-grown home to serials more deeds f less keeps h =
+pub stands-grown : (home to : ℕ → Forwarding) (serials more : ℕ) (forwarder_events : List ForwarderEvent) (f : Forwarding) → serials ≤ more
+    → Keeps home to serials → Stands home serials forwarder_events f → Stands to more forwarder_events f
+stands-grown home to serials more forwarder_events f less keeps h =
     let below = h.below in
     let e = sym (keeps f.serial below) in record {
       below = omega (arith, below, less);
       same = subst (λ (a : Forwarding). AreOne a f) e h.same;
-      stage = subst (λ (a : Forwarding). StageFits f.stage a deeds) e h.stage;
+      stage = subst (λ (a : Forwarding). StageFits f.stage a forwarder_events) e h.stage;
     }
 
 pub asked-grown : (home to : ℕ → Forwarding) (serials more : ℕ) (g : Forwarding) → serials ≤ more → Keeps home to serials
@@ -176,9 +176,9 @@ asked-grown home to serials more g less keeps h =
       there = subst (λ (a : Forwarding). listens_here a.kind ≡ false) e h.there;
     }
 
-pub waits-grown : (home to : ℕ → Forwarding) (serials more : ℕ) (deeds : List Deed) (w : Waiting) → serials ≤ more
-    → Keeps home to serials → Waits home serials deeds w → Waits to more deeds w
-waits-grown home to serials more deeds w less keeps h =
+pub waits-grown : (home to : ℕ → Forwarding) (serials more : ℕ) (forwarder_events : List ForwarderEvent) (w : Waiting) → serials ≤ more
+    → Keeps home to serials → Waits home serials forwarder_events w → Waits to more forwarder_events w
+waits-grown home to serials more forwarder_events w less keeps h =
     let below = h.below in
     let e = sym (keeps w.forwarding below) in record {
       below = omega (arith, below, less);
@@ -195,10 +195,10 @@ waits-grown home to serials more deeds w less keeps h =
 
 -- ---- a forwarding goes on
 
-pub restaged : (home : ℕ → Forwarding) (serials : ℕ) (deeds : List Deed) (f : Forwarding) (s : Stage) (c : Bool)
-    → StageFits s (home f.serial) deeds → Stands home serials deeds f
-    → Stands home serials deeds (record f { stage = s; closing = c })
-restaged home serials deeds f s c fits h = record {
+pub restaged : (home : ℕ → Forwarding) (serials : ℕ) (forwarder_events : List ForwarderEvent) (f : Forwarding) (s : Stage) (c : Bool)
+    → StageFits s (home f.serial) forwarder_events → Stands home serials forwarder_events f
+    → Stands home serials forwarder_events (record f { stage = s; closing = c })
+restaged home serials forwarder_events f s c fits h = record {
   below = h.below;
   same = record {
     serial = h.same.serial;
@@ -211,94 +211,94 @@ restaged home serials deeds f s c fits h = record {
   stage = fits;
 }
 
-changed-if : (home : ℕ → Forwarding) (serials : ℕ) (deeds : List Deed) (c : Change) (serial : ℕ) (f : Forwarding) (b : Bool)
+changed-if : (home : ℕ → Forwarding) (serials : ℕ) (forwarder_events : List ForwarderEvent) (c : Change) (serial : ℕ) (f : Forwarding) (b : Bool)
     → (f.serial == serial) ≡ b
-    → (f.serial ≡ serial → StageFits f.stage (home f.serial) deeds → StageFits (stage_after c f.listen_port f.stage) (home f.serial) deeds)
-    → Stands home serials deeds f → Stands home serials deeds (if b then record f {
+    → (f.serial ≡ serial → StageFits f.stage (home f.serial) forwarder_events → StageFits (stage_after c f.listen_port f.stage) (home f.serial) forwarder_events)
+    → Stands home serials forwarder_events f → Stands home serials forwarder_events (if b then record f {
       stage = stage_after c f.listen_port f.stage;
       closing = closing_after c f.closing;
     } else f)
-changed-if home serials deeds c serial f true e fits h =
+changed-if home serials forwarder_events c serial f true e fits h =
     let is = eqb-true f.serial serial e in
-    restaged home serials deeds f (stage_after c f.listen_port f.stage) (closing_after c f.closing) (fits is h.stage) h
-changed-if home serials deeds c serial f false e fits h = h
+    restaged home serials forwarder_events f (stage_after c f.listen_port f.stage) (closing_after c f.closing) (fits is h.stage) h
+changed-if home serials forwarder_events c serial f false e fits h = h
 
 -- the one with a serial changes
-pub all-changed : (home : ℕ → Forwarding) (serials : ℕ) (deeds : List Deed) (c : Change) (serial : ℕ) (fs : List Forwarding)
-    → ((f : Forwarding) → f.serial ≡ serial → AreOne (home f.serial) f → StageFits f.stage (home f.serial) deeds
-    → StageFits (stage_after c f.listen_port f.stage) (home f.serial) deeds)
-    → All (Stands home serials deeds) fs → All (Stands home serials deeds) (map (changed c serial) fs)
-all-changed home serials deeds c serial fs fits h =
-    All-map (Stands home serials deeds) (changed c serial) fs
-    (All-weaker (Stands home serials deeds) (λ (f : Forwarding). Stands home serials deeds (changed c serial f))
-    (λ f s. changed-if home serials deeds c serial f (f.serial == serial) refl (λ is. fits f is s.same) s) fs h)
+pub all-changed : (home : ℕ → Forwarding) (serials : ℕ) (forwarder_events : List ForwarderEvent) (c : Change) (serial : ℕ) (fs : List Forwarding)
+    → ((f : Forwarding) → f.serial ≡ serial → AreOne (home f.serial) f → StageFits f.stage (home f.serial) forwarder_events
+    → StageFits (stage_after c f.listen_port f.stage) (home f.serial) forwarder_events)
+    → All (Stands home serials forwarder_events) fs → All (Stands home serials forwarder_events) (map (changed c serial) fs)
+all-changed home serials forwarder_events c serial fs fits h =
+    All-map (Stands home serials forwarder_events) (changed c serial) fs
+    (All-weaker (Stands home serials forwarder_events) (λ (f : Forwarding). Stands home serials forwarder_events (changed c serial f))
+    (λ f s. changed-if home serials forwarder_events c serial f (f.serial == serial) refl (λ is. fits f is s.same) s) fs h)
 
 -- all changes but that a forwarding gets live
 abbrev pub IsSteady : Change → Type 0
 IsSteady change.Close = Unit {0}
-IsSteady change.Request = Unit {0}
+IsSteady change.ForwardingRequest = Unit {0}
 IsSteady change.Cancel = Unit {0}
 IsSteady (change.Live port) = ⊥
 IsSteady change.Stay = Unit {0}
 
-pub steady-stage : (c : Change) (asked : ℕ) (s : Stage) (a : Forwarding) (deeds : List Deed) → IsSteady c → StageFits s a deeds
-    → StageFits (stage_after c asked s) a deeds
-steady-stage c asked (ToListen host) a deeds steady h = h
-steady-stage c asked Ordered a deeds steady h = h
-steady-stage c asked (Listening l) a deeds steady h = h
-steady-stage change.Close asked ToRequest a deeds steady h = h
-steady-stage change.Request asked ToRequest a deeds steady h = h
-steady-stage change.Cancel asked ToRequest a deeds steady h = h
-steady-stage (change.Live p) asked ToRequest a deeds steady h = h
-steady-stage change.Stay asked ToRequest a deeds steady h = h
-steady-stage change.Close asked Requested a deeds steady h = h
-steady-stage change.Request asked Requested a deeds steady h = h
-steady-stage change.Cancel asked Requested a deeds steady h = h
-steady-stage (change.Live p) asked Requested a deeds steady h = absurd steady
-steady-stage change.Stay asked Requested a deeds steady h = h
-steady-stage change.Close asked (Live p) a deeds steady h = h
-steady-stage change.Request asked (Live p) a deeds steady h = h
-steady-stage change.Cancel asked (Live p) a deeds steady h = h
-steady-stage (change.Live q) asked (Live p) a deeds steady h = h
-steady-stage change.Stay asked (Live p) a deeds steady h = h
-steady-stage change.Close asked (Cancelling p) a deeds steady h = h
-steady-stage change.Request asked (Cancelling p) a deeds steady h = h
-steady-stage change.Cancel asked (Cancelling p) a deeds steady h = h
-steady-stage (change.Live q) asked (Cancelling p) a deeds steady h = h
-steady-stage change.Stay asked (Cancelling p) a deeds steady h = h
+pub steady-stage : (c : Change) (asked : ℕ) (s : Stage) (a : Forwarding) (forwarder_events : List ForwarderEvent) → IsSteady c → StageFits s a forwarder_events
+    → StageFits (stage_after c asked s) a forwarder_events
+steady-stage c asked (ToListen host) a forwarder_events steady h = h
+steady-stage c asked Ordered a forwarder_events steady h = h
+steady-stage c asked (Listening l) a forwarder_events steady h = h
+steady-stage change.Close asked ToRequest a forwarder_events steady h = h
+steady-stage change.ForwardingRequest asked ToRequest a forwarder_events steady h = h
+steady-stage change.Cancel asked ToRequest a forwarder_events steady h = h
+steady-stage (change.Live p) asked ToRequest a forwarder_events steady h = h
+steady-stage change.Stay asked ToRequest a forwarder_events steady h = h
+steady-stage change.Close asked Requested a forwarder_events steady h = h
+steady-stage change.ForwardingRequest asked Requested a forwarder_events steady h = h
+steady-stage change.Cancel asked Requested a forwarder_events steady h = h
+steady-stage (change.Live p) asked Requested a forwarder_events steady h = absurd steady
+steady-stage change.Stay asked Requested a forwarder_events steady h = h
+steady-stage change.Close asked (Live p) a forwarder_events steady h = h
+steady-stage change.ForwardingRequest asked (Live p) a forwarder_events steady h = h
+steady-stage change.Cancel asked (Live p) a forwarder_events steady h = h
+steady-stage (change.Live q) asked (Live p) a forwarder_events steady h = h
+steady-stage change.Stay asked (Live p) a forwarder_events steady h = h
+steady-stage change.Close asked (Cancelling p) a forwarder_events steady h = h
+steady-stage change.ForwardingRequest asked (Cancelling p) a forwarder_events steady h = h
+steady-stage change.Cancel asked (Cancelling p) a forwarder_events steady h = h
+steady-stage (change.Live q) asked (Cancelling p) a forwarder_events steady h = h
+steady-stage change.Stay asked (Cancelling p) a forwarder_events steady h = h
 
 -- ---- asks come to something
 
 -- what an ask came to stays, or comes by this deed
-abbrev Turns : Deed → List Deed → Bool → Forwarding → Option (ℕ × Outcome) → Option (ℕ × Outcome) → Type 0
-Turns deed deeds opening a old new =
-    (new ≡ old) ⊎ ((o : ℕ × Outcome) × (new ≡ Some o) × CameBy deed deeds opening a o.1)
+abbrev Turns : ForwarderEvent → List ForwarderEvent → Bool → Forwarding → Option (ℕ × Outcome) → Option (ℕ × Outcome) → Type 0
+Turns forwarder_event forwarder_events opening a old new =
+    (new ≡ old) ⊎ ((o : ℕ × Outcome) × (new ≡ Some o) × CameBy forwarder_event forwarder_events opening a o.1)
 
-turned : (home : ℕ → Forwarding) (serials : ℕ) (deed : Deed) (deeds : List Deed) → IsNoAnswer deed → (w : Waiting) (new : Option (ℕ × Outcome))
-    → Waits home serials deeds w → Turns deed deeds w.opening (home w.forwarding) w.outcome new
-    → Waits home serials (deed ∷ deeds) (record w { outcome = new })
-turned home serials deed deeds none w new h (inl e) =
-    subst (λ (o : Option (ℕ × Outcome)). Waits home serials (deed ∷ deeds) (record w { outcome = o })) (sym e)
-    (waits-later home serials deed deeds w (none w.client w.id) h)
-turned home serials deed deeds none w new h (inr s) =
-    let got : Waits home serials (deed ∷ deeds) (record w { outcome = Some s.0 }) = record {
+turned : (home : ℕ → Forwarding) (serials : ℕ) (forwarder_event : ForwarderEvent) (forwarder_events : List ForwarderEvent) → IsNoAnswer forwarder_event → (w : Waiting) (new : Option (ℕ × Outcome))
+    → Waits home serials forwarder_events w → Turns forwarder_event forwarder_events w.opening (home w.forwarding) w.outcome new
+    → Waits home serials (forwarder_event ∷ forwarder_events) (record w { outcome = new })
+turned home serials forwarder_event forwarder_events none w new h (inl e) =
+    subst (λ (o : Option (ℕ × Outcome)). Waits home serials (forwarder_event ∷ forwarder_events) (record w { outcome = o })) (sym e)
+    (waits-later home serials forwarder_event forwarder_events w (none w.client w.id) h)
+turned home serials forwarder_event forwarder_events none w new h (inr s) =
+    let got : Waits home serials (forwarder_event ∷ forwarder_events) (record w { outcome = Some s.0 }) = record {
       below = h.below;
       serial = h.serial;
       ask = h.ask;
-      later = deed ∷ h.later;
+      later = forwarder_event ∷ h.later;
       earlier = h.earlier;
-      were = ap (λ ds. deed ∷ ds) h.were;
-      open_yet = or_from (answers w.client w.id deed) (list_any (answers w.client w.id) h.later) (none w.client w.id) h.open_yet;
+      were = ap (λ ds. forwarder_event ∷ ds) h.were;
+      open_yet = or_from (answers w.client w.id forwarder_event) (list_any (answers w.client w.id) h.later) (none w.client w.id) h.open_yet;
       is_for = h.is_for;
       came = record {
         newer = [];
-        deed = deed;
+        forwarder_event = forwarder_event;
         older = h.later;
         were = refl;
-        by = subst (λ (ds : List Deed). CameBy deed ds w.opening (home w.forwarding) s.0.1) h.were s.2;
+        by = subst (λ (ds : List ForwarderEvent). CameBy forwarder_event ds w.opening (home w.forwarding) s.0.1) h.were s.2;
       };
     } in
-    subst (λ (o : Option (ℕ × Outcome)). Waits home serials (deed ∷ deeds) (record w { outcome = o })) (sym s.1) got
+    subst (λ (o : Option (ℕ × Outcome)). Waits home serials (forwarder_event ∷ forwarder_events) (record w { outcome = o })) (sym s.1) got
 
 abbrev next_outcome : Bool → ℕ → Outcome → Option (ℕ × Outcome) → Option (ℕ × Outcome)
 next_outcome b at outcome o = if b then settled_at at outcome o else o
@@ -309,12 +309,12 @@ settles : (serial : ℕ) (opening : Bool) (at : ℕ) (outcome : Outcome) (w : Wa
 settles serial opening at outcome w o true = refl
 settles serial opening at outcome w o false = refl
 
-turns-at : (deed : Deed) (deeds : List Deed) (opening : Bool) (a : Forwarding) (at : ℕ) (outcome : Outcome) (b : Bool)
-    (first o : Option (ℕ × Outcome)) → (b ≡ true → CameBy deed deeds opening a outcome) → Turns deed deeds opening a first o
-    → Turns deed deeds opening a first (next_outcome b at outcome o)
-turns-at deed deeds opening a at outcome true first None by h = inr ((at, outcome), refl, by refl)
-turns-at deed deeds opening a at outcome true first (Some o) by h = h
-turns-at deed deeds opening a at outcome false first o by h = h
+turns-at : (forwarder_event : ForwarderEvent) (forwarder_events : List ForwarderEvent) (opening : Bool) (a : Forwarding) (at : ℕ) (outcome : Outcome) (b : Bool)
+    (first o : Option (ℕ × Outcome)) → (b ≡ true → CameBy forwarder_event forwarder_events opening a outcome) → Turns forwarder_event forwarder_events opening a first o
+    → Turns forwarder_event forwarder_events opening a first (next_outcome b at outcome o)
+turns-at forwarder_event forwarder_events opening a at outcome true first None by h = inr ((at, outcome), refl, by refl)
+turns-at forwarder_event forwarder_events opening a at outcome true first (Some o) by h = h
+turns-at forwarder_event forwarder_events opening a at outcome false first o by h = h
 
 same-true : (a b : Bool) → same a b ≡ true → a ≡ b
 same-true true true e = refl
@@ -322,32 +322,32 @@ same-true true false e = cc
 same-true false true e = cc
 same-true false false e = refl
 
-about : (home : ℕ → Forwarding) (deed : Deed) (deeds : List Deed) (serial : ℕ) (opening : Bool) (outcome : Outcome) (w : Waiting)
-    → CameBy deed deeds opening (home serial) outcome → is_about serial opening w ≡ true
-    → CameBy deed deeds w.opening (home w.forwarding) outcome
-about home deed deeds serial opening outcome w by e =
+about : (home : ℕ → Forwarding) (forwarder_event : ForwarderEvent) (forwarder_events : List ForwarderEvent) (serial : ℕ) (opening : Bool) (outcome : Outcome) (w : Waiting)
+    → CameBy forwarder_event forwarder_events opening (home serial) outcome → is_about serial opening w ≡ true
+    → CameBy forwarder_event forwarder_events w.opening (home w.forwarding) outcome
+about home forwarder_event forwarder_events serial opening outcome w by e =
     let both = and_parts (w.forwarding == serial) (same w.opening opening) e in
-    subst (λ (n : ℕ). CameBy deed deeds w.opening (home n) outcome) (sym (eqb-true w.forwarding serial both.0))
-    (subst (λ (b : Bool). CameBy deed deeds b (home serial) outcome) (sym (same-true w.opening opening both.1)) by)
+    subst (λ (n : ℕ). CameBy forwarder_event forwarder_events w.opening (home n) outcome) (sym (eqb-true w.forwarding serial both.0))
+    (subst (λ (b : Bool). CameBy forwarder_event forwarder_events b (home serial) outcome) (sym (same-true w.opening opening both.1)) by)
 
 -- those that asked for one thing come to this
-pub all-settled : (home : ℕ → Forwarding) (serials : ℕ) (deed : Deed) (deeds : List Deed) → IsNoAnswer deed → (serial : ℕ) (opening : Bool) (at : ℕ)
-    (outcome : Outcome) (ws : List Waiting) → CameBy deed deeds opening (home serial) outcome
-    → All (Waits home serials deeds) ws → All (Waits home serials (deed ∷ deeds)) (settled serial opening at outcome ws)
-all-settled home serials deed deeds none serial opening at outcome ws by h =
-    All-map (Waits home serials (deed ∷ deeds)) (settle_one serial opening at outcome) ws
-    (All-weaker (Waits home serials deeds) (λ (w : Waiting). Waits home serials (deed ∷ deeds) (settle_one serial opening at outcome w))
-    (λ w s. subst (Waits home serials (deed ∷ deeds))
+pub all-settled : (home : ℕ → Forwarding) (serials : ℕ) (forwarder_event : ForwarderEvent) (forwarder_events : List ForwarderEvent) → IsNoAnswer forwarder_event → (serial : ℕ) (opening : Bool) (at : ℕ)
+    (outcome : Outcome) (ws : List Waiting) → CameBy forwarder_event forwarder_events opening (home serial) outcome
+    → All (Waits home serials forwarder_events) ws → All (Waits home serials (forwarder_event ∷ forwarder_events)) (settled serial opening at outcome ws)
+all-settled home serials forwarder_event forwarder_events none serial opening at outcome ws by h =
+    All-map (Waits home serials (forwarder_event ∷ forwarder_events)) (settle_one serial opening at outcome) ws
+    (All-weaker (Waits home serials forwarder_events) (λ (w : Waiting). Waits home serials (forwarder_event ∷ forwarder_events) (settle_one serial opening at outcome w))
+    (λ w s. subst (Waits home serials (forwarder_event ∷ forwarder_events))
     (sym (settles serial opening at outcome w w.outcome (is_about serial opening w)))
-    (turned home serials deed deeds none w (next_outcome (is_about serial opening w) at outcome w.outcome) s
-    (turns-at deed deeds w.opening (home w.forwarding) at outcome (is_about serial opening w) w.outcome w.outcome
-    (about home deed deeds serial opening outcome w by) (inl refl)))) ws h)
+    (turned home serials forwarder_event forwarder_events none w (next_outcome (is_about serial opening w) at outcome w.outcome) s
+    (turns-at forwarder_event forwarder_events w.opening (home w.forwarding) at outcome (is_about serial opening w) w.outcome w.outcome
+    (about home forwarder_event forwarder_events serial opening outcome w by) (inl refl)))) ws h)
 
 -- all that asked about it are refused
-refuse-one : (home : ℕ → Forwarding) (serials : ℕ) (deed : Deed) (deeds : List Deed) → IsNoAnswer deed → (serial at : ℕ) (w : Waiting)
-    → ((opening : Bool) → CameBy deed deeds opening (home serial) Refused) → Waits home serials deeds w
-    → Waits home serials (deed ∷ deeds) (settle_one serial false (counted at) Refused (settle_one serial true at Refused w))
-refuse-one home serials deed deeds none serial at w by h =
+refuse-one : (home : ℕ → Forwarding) (serials : ℕ) (forwarder_event : ForwarderEvent) (forwarder_events : List ForwarderEvent) → IsNoAnswer forwarder_event → (serial at : ℕ) (w : Waiting)
+    → ((opening : Bool) → CameBy forwarder_event forwarder_events opening (home serial) Refused) → Waits home serials forwarder_events w
+    → Waits home serials (forwarder_event ∷ forwarder_events) (settle_one serial false (counted at) Refused (settle_one serial true at Refused w))
+refuse-one home serials forwarder_event forwarder_events none serial at w by h =
     let a = home w.forwarding in
     let first = next_outcome (is_about serial true w) at Refused w.outcome in
     let last = next_outcome (is_about serial false w) (counted at) Refused first in
@@ -355,20 +355,20 @@ refuse-one home serials deed deeds none serial at w by h =
     let two = settles serial false (counted at) Refused w first (is_about serial false w) in
     let e : settle_one serial false (counted at) Refused (settle_one serial true at Refused w) ≡ record w { outcome = last } =
     ap (settle_one serial false (counted at) Refused) one ∙ two in
-    subst (Waits home serials (deed ∷ deeds)) (sym e)
-    (turned home serials deed deeds none w last h
-    (turns-at deed deeds w.opening a (counted at) Refused (is_about serial false w) w.outcome first
-    (about home deed deeds serial false Refused w (by false))
-    (turns-at deed deeds w.opening a at Refused (is_about serial true w) w.outcome w.outcome
-    (about home deed deeds serial true Refused w (by true)) (inl refl))))
+    subst (Waits home serials (forwarder_event ∷ forwarder_events)) (sym e)
+    (turned home serials forwarder_event forwarder_events none w last h
+    (turns-at forwarder_event forwarder_events w.opening a (counted at) Refused (is_about serial false w) w.outcome first
+    (about home forwarder_event forwarder_events serial false Refused w (by false))
+    (turns-at forwarder_event forwarder_events w.opening a at Refused (is_about serial true w) w.outcome w.outcome
+    (about home forwarder_event forwarder_events serial true Refused w (by true)) (inl refl))))
 
-pub all-refused : (home : ℕ → Forwarding) (serials : ℕ) (deed : Deed) (deeds : List Deed) → IsNoAnswer deed → (serial at : ℕ) (ws : List Waiting)
-    → ((opening : Bool) → CameBy deed deeds opening (home serial) Refused)
-    → All (Waits home serials deeds) ws → All (Waits home serials (deed ∷ deeds)) (refused serial at ws)
-all-refused home serials deed deeds none serial at ws by h =
-    All-map (Waits home serials (deed ∷ deeds)) (settle_one serial false (counted at) Refused) (settled serial true at Refused ws)
-    (All-map (λ (v : Waiting). Waits home serials (deed ∷ deeds) (settle_one serial false (counted at) Refused v))
+pub all-refused : (home : ℕ → Forwarding) (serials : ℕ) (forwarder_event : ForwarderEvent) (forwarder_events : List ForwarderEvent) → IsNoAnswer forwarder_event → (serial at : ℕ) (ws : List Waiting)
+    → ((opening : Bool) → CameBy forwarder_event forwarder_events opening (home serial) Refused)
+    → All (Waits home serials forwarder_events) ws → All (Waits home serials (forwarder_event ∷ forwarder_events)) (refused serial at ws)
+all-refused home serials forwarder_event forwarder_events none serial at ws by h =
+    All-map (Waits home serials (forwarder_event ∷ forwarder_events)) (settle_one serial false (counted at) Refused) (settled serial true at Refused ws)
+    (All-map (λ (v : Waiting). Waits home serials (forwarder_event ∷ forwarder_events) (settle_one serial false (counted at) Refused v))
     (settle_one serial true at Refused) ws
-    (All-weaker (Waits home serials deeds) (λ (w : Waiting). Waits home serials (deed ∷ deeds)
+    (All-weaker (Waits home serials forwarder_events) (λ (w : Waiting). Waits home serials (forwarder_event ∷ forwarder_events)
     (settle_one serial false (counted at) Refused (settle_one serial true at Refused w)))
-    (λ w s. refuse-one home serials deed deeds none serial at w by s) ws h))
+    (λ w s. refuse-one home serials forwarder_event forwarder_events none serial at w by s) ws h))

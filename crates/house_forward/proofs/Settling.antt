@@ -3,36 +3,36 @@ use Rattle.std.proofs.Common.{◌≡◌, refl, sym, subst, ◌⊎◌, inl, inr, 
 use Rattle.conn_messages.specs.declared.message.Message.{Message}
 use Rattle.conn_messages.specs.declared.message.Message.TheVariants as message
 use Rattle.house_relay.specs.Acts.{Takes}
-use Rattle.house_relay.specs.Line.{in_live, over_if, hears_close}
+use Rattle.house_relay.specs.ChannelState.{in_live, over_if, receives_close}
 use Rattle.house_relay.specs.Relay.{delivers}
-use Rattle.house_relay.specs.Steps.{said_of, confirmed_in, refused_in, data_heard}
+use Rattle.house_relay.specs.Steps.{sent_of, confirmed_in, refused_in, data_received}
 use Rattle.house_relay.specs.declared.line.Live.{Live as LiveState}
-use Rattle.house_relay.specs.declared.line.Line.{Line}
-use Rattle.house_relay.specs.declared.line.Line.TheVariants.{Dialing, Asked, Opened, Offered, Live, Over}
+use Rattle.house_relay.specs.declared.line.ChannelState.{ChannelState}
+use Rattle.house_relay.specs.declared.line.ChannelState.TheVariants.{Dialing, Asked, Opened, Offered, Live, Over}
 use Rattle.house_relay.specs.declared.relay.Relay.{Relay}
-use Rattle.house_relay.specs.declared.relay.Saying.{Saying}
-use Rattle.house_relay.specs.declared.relay.Saying.TheVariants as saying
+use Rattle.house_relay.specs.declared.relay.Outgoing.{Outgoing}
+use Rattle.house_relay.specs.declared.relay.Outgoing.TheVariants as outgoing
 use Rattle.house_forward.specs.Going.{TakesOn}
-use Rattle.house_forward.specs.Heard.{heard_of}
+use Rattle.house_forward.specs.Heard.{received_of}
 use Rattle.house_forward.specs.Links.{relay_after}
-use Rattle.house_forward.specs.Lives.{Life, GoesBy, Listens}
-use Rattle.house_forward.specs.declared.link.Step.{Step}
-use Rattle.house_forward.specs.declared.link.Step.TheVariants as step
+use Rattle.house_forward.specs.RelayTraces.{Life, GoesBy, Listens}
+use Rattle.house_forward.specs.declared.link.LinkStep.{LinkStep}
+use Rattle.house_forward.specs.declared.link.LinkStep.TheVariants as step
 
 -- the test fails from now on, or the channel stays
-abbrev pub SettlesBy : (Line → Bool) → Line → Line → Type 0
+abbrev pub SettlesBy : (ChannelState → Bool) → ChannelState → ChannelState → Type 0
 SettlesBy q old new = (q new ≡ false) ⊎ (new ≡ old)
 
 -- it fails in a channel that is confirmed, and in one that is over
-pub record FailsLater (q : Line → Bool) : Type 0 where
+pub record FailsLater (q : ChannelState → Bool) : Type 0 where
   pub live : (live : LiveState) → q (Live live) ≡ false
   pub over : q Over ≡ false
 
-over-none : (q : Line → Bool) → FailsLater q → (b : Bool) (live : LiveState) → q (over_if b live) ≡ false
+over-none : (q : ChannelState → Bool) → FailsLater q → (b : Bool) (live : LiveState) → q (over_if b live) ≡ false
 over-none q fails true live = fails.over
 over-none q fails false live = fails.live live
 
-in-live : (q : Line → Bool) (step : LiveState → Line) (line : Line) → ((live : LiveState) → q (step live) ≡ false)
+in-live : (q : ChannelState → Bool) (step : LiveState → ChannelState) (line : ChannelState) → ((live : LiveState) → q (step live) ≡ false)
     → SettlesBy q line (in_live step line)
 in-live q step (Dialing dialog) none = inr refl
 in-live q step (Asked host port version) none = inr refl
@@ -41,7 +41,7 @@ in-live q step (Offered remote window maximum) none = inr refl
 in-live q step (Live live) none = inl (none live)
 in-live q step Over none = inr refl
 
-confirms : (q : Line → Bool) → FailsLater q → (line : Line) (remote window maximum : ℕ) (r : Relay) → r.line ≡ line
+confirms : (q : ChannelState → Bool) → FailsLater q → (line : ChannelState) (remote window maximum : ℕ) (r : Relay) → r.line ≡ line
     → SettlesBy q line (confirmed_in line remote window maximum r).line
 confirms q fails (Dialing dialog) remote window maximum r is = inr is
 confirms q fails (Asked host port version) remote window maximum r is = inr is
@@ -50,7 +50,7 @@ confirms q fails (Offered theirs room most) remote window maximum r is = inr is
 confirms q fails (Live live) remote window maximum r is = inr is
 confirms q fails Over remote window maximum r is = inr is
 
-refuses : (q : Line → Bool) → FailsLater q → (line : Line) (reason : ℕ) (r : Relay) → r.line ≡ line
+refuses : (q : ChannelState → Bool) → FailsLater q → (line : ChannelState) (reason : ℕ) (r : Relay) → r.line ≡ line
     → SettlesBy q line (refused_in line reason r).line
 refuses q fails (Dialing dialog) reason r is = inr is
 refuses q fails (Asked host port version) reason r is = inr is
@@ -59,11 +59,11 @@ refuses q fails (Offered theirs room most) reason r is = inr is
 refuses q fails (Live live) reason r is = inr is
 refuses q fails Over reason r is = inr is
 
-pub data-same : (b : Bool) (bytes : List ℕ) (r : Relay) → (data_heard b bytes r).line ≡ r.line
+pub data-same : (b : Bool) (bytes : List ℕ) (r : Relay) → (data_received b bytes r).line ≡ r.line
 data-same true bytes r = refl
 data-same false bytes r = refl
 
-settles-heard : (q : Line → Bool) → FailsLater q → (m : Message) (r : Relay) → SettlesBy q r.line (heard_of m r).line
+settles-heard : (q : ChannelState → Bool) → FailsLater q → (m : Message) (r : Relay) → SettlesBy q r.line (received_of m r).line
 settles-heard q fails (message.Transport number rest) r = inr refl
 settles-heard q fails (message.GlobalRequest name want rest what) r = inr refl
 settles-heard q fails (message.RequestSuccess rest) r = inr refl
@@ -75,35 +75,35 @@ settles-heard q fails (message.Adjust recipient add) r = in-live q _ r.line (λ 
 settles-heard q fails (message.Data recipient bytes) r = inr (data-same (delivers r) bytes.now r)
 settles-heard q fails (message.Extended recipient code bytes) r = inr refl
 settles-heard q fails (message.Eof recipient) r = in-live q _ r.line (λ live. fails.live _)
-settles-heard q fails (message.Close recipient) r = in-live q hears_close r.line (λ live. over-none q fails live.close_said _)
+settles-heard q fails (message.Close recipient) r = in-live q receives_close r.line (λ live. over-none q fails live.close_sent _)
 settles-heard q fails (message.Request recipient kind want rest) r = in-live q _ r.line (λ live. fails.live _)
 settles-heard q fails (message.Success recipient) r = inr refl
 settles-heard q fails (message.Failure recipient) r = inr refl
 
-pub settles-hears : (q : Line → Bool) → FailsLater q → (m : Message) (a b : Life) → Listens m a b → SettlesBy q a.relay.line b.relay.line
-settles-hears q fails m a b h =
+pub settles-receives : (q : ChannelState → Bool) → FailsLater q → (m : Message) (a b : Life) → Listens m a b → SettlesBy q a.relay.line b.relay.line
+settles-receives q fails m a b h =
     subst (λ (r : Relay). SettlesBy q a.relay.line r.line) (sym h.relay.0) (settles-heard q fails m a.relay)
 
-pub settles-takes : (q : Line → Bool) → FailsLater q → (n : ℕ) (a b : Life) → GoesBy (TakesOn n) (Takes n) a b
+pub settles-takes : (q : ChannelState → Bool) → FailsLater q → (n : ℕ) (a b : Life) → GoesBy (TakesOn n) (Takes n) a b
     → SettlesBy q a.relay.line b.relay.line
 settles-takes q fails n a b h =
     subst (λ (r : Relay). SettlesBy q a.relay.line r.line) (sym h.relay.0) (in-live q _ a.relay.line (λ live. fails.live _))
 
-abbrev pub with-line : Line → Relay → Relay
+abbrev pub with-line : ChannelState → Relay → Relay
 with-line line r = record r { line = line }
 
-pub settled-said : (q : Line → Bool) → FailsLater q → (s : Saying) (live : LiveState) (r : Relay)
-    → q (said_of s (with-line (Live live) r)).line ≡ false
-settled-said q fails saying.Open live r = fails.live _
-settled-said q fails saying.Confirmation live r = fails.live _
-settled-said q fails saying.OpenFailure live r = fails.over
-settled-said q fails saying.Close live r = over-none q fails live.close_heard _
-settled-said q fails saying.Failure live r = fails.live _
-settled-said q fails (saying.Data n) live r = fails.live _
-settled-said q fails saying.Eof live r = fails.live _
-settled-said q fails (saying.Adjust n) live r = fails.live _
+pub settled-said : (q : ChannelState → Bool) → FailsLater q → (s : Outgoing) (live : LiveState) (r : Relay)
+    → q (sent_of s (with-line (Live live) r)).line ≡ false
+settled-said q fails outgoing.Open live r = fails.live _
+settled-said q fails outgoing.Confirmation live r = fails.live _
+settled-said q fails outgoing.OpenFailure live r = fails.over
+settled-said q fails outgoing.Close live r = over-none q fails live.close_received _
+settled-said q fails outgoing.Failure live r = fails.live _
+settled-said q fails (outgoing.Data n) live r = fails.live _
+settled-said q fails outgoing.Eof live r = fails.live _
+settled-said q fails (outgoing.Adjust n) live r = fails.live _
 
-pub line-step : (s : Step) (r : Relay) → (relay_after s r).line ≡ r.line
+pub line-step : (s : LinkStep) (r : Relay) → (relay_after s r).line ≡ r.line
 line-step (step.Pause b) r = refl
 line-step step.Finish r = refl
 line-step step.End r = refl

@@ -11,7 +11,7 @@ use Rattle.conn_messages.specs.declared.message.Message.TheVariants as message
 use Rattle.conn_messages.specs.declared.message.Opening.{Opening}
 use Rattle.conn_messages.specs.declared.message.Opening.TheVariants as opens
 use Rattle.conn_messages.specs.declared.key.Key.TheVariants as keys
-use Rattle.mux_outside.specs.HouseCalls.{HouseCall, Happening, Begins, Marks, Hears as HearsBytes, Turns, Takes as TakesBytes}
+use Rattle.mux_outside.specs.HouseCalls.{HouseCall, Happening, Begins, Marks, Receives as ReceivesBytes, Turns, Takes as TakesBytes}
 use Rattle.mux_outside.specs.HouseCalls.{Joined, Got, End, Writable, Failed}
 use Rattle.mux_outside.specs.OwnStreams.{new_stream}
 use Rattle.mux_outside.specs.declared.house_mark.HouseMark.{HouseMark}
@@ -20,24 +20,24 @@ use Rattle.mux_outside.specs.declared.order.Order.{Order}
 use Rattle.mux_outside.specs.declared.order.Order.TheVariants as order
 use Rattle.mux_outside.specs.declared.own_streams.OwnStream.{OwnStream}
 use Rattle.house_relay.specs.Acts.{Act, Reads, Takes}
-use Rattle.house_relay.specs.Next.{says_of}
+use Rattle.house_relay.specs.Next.{sends_of}
 use Rattle.house_relay.specs.Relay.{Stands, GoesOn, stream_of}
 use Rattle.house_relay.specs.Steps.{fresh_relay, is_gone, made_as}
-use Rattle.house_relay.specs.declared.line.Line.TheVariants.{Offered as OfServer}
+use Rattle.house_relay.specs.declared.line.ChannelState.TheVariants.{Offered as OfServer}
 use Rattle.house_relay.specs.declared.relay.Relay.{Relay}
 use Rattle.house_relay.specs.declared.relay.Socket.TheVariants as socket
 use Rattle.house_forward.specs.Forwardings.{has_request, has_listener, served_at}
-use Rattle.house_forward.specs.Going.{GetsOn, TakesOn, SaysOn, HearsOn}
+use Rattle.house_forward.specs.Going.{GetsOn, TakesOn, SendsOn, ReceivesOn}
 use Rattle.house_forward.specs.Links.{IsJoined, relay_after, dials}
-use Rattle.house_forward.specs.Lives.{Life, Course, GoesBy, One, OneAtMost, MakesOne, StepsBy, Speaks, Listens, Reaches, Follows}
-use Rattle.house_forward.specs.Lives.{HearsAt, HearsOpen, OpensFor, HearsMessage, HearsReading, HearsFrame, HearsFrames, SaysBy, MarksIn, OrdersIn, TurnsTo, first_course, is_grant, with_heard, cut_off}
-use Rattle.house_forward.specs.Lives.{has_stream, is_stream, has_channel, has_words, is_unmade, are_full, are_crowded, own_after, own_made, act_of, stepped, made_life, kept_in, left_in, with_lives}
+use Rattle.house_forward.specs.RelayTraces.{Life, Trace, GoesBy, One, OneAtMost, MakesOne, StepsBy, Speaks, Listens, Reaches, Follows}
+use Rattle.house_forward.specs.RelayTraces.{ReceivesAt, ReceivesOpen, OpensFor, ReceivesMessage, ReceivesReading, ReceivesFrame, ReceivesFrames, SendsBy, MarksIn, OrdersIn, TurnsTo, first_trace, is_grant, with_received, cut_off}
+use Rattle.house_forward.specs.RelayTraces.{has_stream, is_stream, has_channel, has_words, is_unmade, are_full, are_dialogs_full, own_after, own_made, act_of, stepped, made_life, kept_in, left_in, with_relay_traces}
 use Rattle.house_forward.specs.Numbers.{number_of}
 use Rattle.house_forward.specs.declared.forwarding.Forwarding.{Forwarding}
-use Rattle.house_forward.specs.declared.holdings.Stage.{Stage}
-use Rattle.house_forward.specs.declared.holdings.Stage.TheVariants.{Control, Proxy}
-use Rattle.house_forward.specs.declared.link.Step.{Step}
-use Rattle.house_forward.specs.declared.link.Step.TheVariants as step
+use Rattle.house_forward.specs.declared.forwarder_state.Stage.{Stage}
+use Rattle.house_forward.specs.declared.forwarder_state.Stage.TheVariants.{Control, Proxy}
+use Rattle.house_forward.specs.declared.link.LinkStep.{LinkStep}
+use Rattle.house_forward.specs.declared.link.LinkStep.TheVariants as step
 use Rattle.house_forward.proofs.Fresh.{offered, joined}
 use Rattle.house_forward.proofs.Keeping.{stays-heard, stays-after, keeps-stream, connected-stream, failing-stream}
 use Rattle.house_forward.proofs.Standing.{goes-other, goes-after}
@@ -82,7 +82,7 @@ offered_life f number remote window maximum = record {
   acts = [];
 }
 
-abbrev pub step_of : Step → Life → Life
+abbrev pub step_of : LinkStep → Life → Life
 step_of step l = record l {
   relay = relay_after step l.relay;
   own = own_after step l.own;
@@ -90,7 +90,7 @@ step_of step l = record l {
 }
 
 -- which call takes a step of a stream
-abbrev pub Causes : HouseCall → Step → ℕ → Type 0
+abbrev pub Causes : HouseCall → LinkStep → ℕ → Type 0
 Causes call (step.Pause b) t = Unit {0}
 Causes call step.Finish t = Unit {0}
 Causes call step.End t = call ≡ Turns (End t)
@@ -99,19 +99,19 @@ Causes call step.Writable t = call ≡ Turns (Writable t)
 Causes call step.Failed t = call ≡ Turns (Failed t)
 
 -- what each step keeps, where this is known of a call and of the course before it
-pub record Kept (Now : HouseCall → Course → Type 0) (P : Life → Type 0) : Type 0 where
+pub record Kept (Now : HouseCall → Trace → Type 0) (P : Life → Type 0) : Type 0 where
   pub says : (bytes : List ℕ) (a b : Life) → P a → has_words a ≡ true → Speaks bytes a b → P b
-  pub hears : (m : Message) (a b : Life) → P a → Listens m a b → P b
-  pub gets : (t : ℕ) (bytes : List ℕ) (old : Course) → Now (Turns (Got t bytes)) old → (a b : Life) → P a
-      → has_stream t a ≡ true → GoesBy (GetsOn (not (are_full old.lives)) bytes) (Reads bytes) a b → P b
+  pub receives : (m : Message) (a b : Life) → P a → Listens m a b → P b
+  pub gets : (t : ℕ) (bytes : List ℕ) (old : Trace) → Now (Turns (Got t bytes)) old → (a b : Life) → P a
+      → has_stream t a ≡ true → GoesBy (GetsOn (not (are_full old.relay_traces)) bytes) (Reads bytes) a b → P b
   pub takes : (t n : ℕ) (a b : Life) → P a → has_stream t a ≡ true → GoesBy (TakesOn n) (Takes n) a b → P b
-  pub steps : (s : Step) (t : ℕ) (call : HouseCall) (old : Course) → Now call old → Causes call s t → (a : Life) → P a
+  pub steps : (s : LinkStep) (t : ℕ) (call : HouseCall) (old : Trace) → Now call old → Causes call s t → (a : Life) → P a
       → has_stream t a ≡ true → P (step_of s a)
-  pub makes : (host : List ℕ) (port : ℕ) (number : Option ℕ) (old : Course)
+  pub makes : (host : List ℕ) (port : ℕ) (number : Option ℕ) (old : Trace)
       → Now (Marks (HouseOrder (order.Connect host port) number)) old → (a : Life) → P a → is_unmade a ≡ true
       → P (made_life number a)
-  pub joins : (l t : ℕ) (old : Course) → Now (Turns (Joined l t)) old → (r : Relay)
-      → IsJoined (are_full old.lives) (are_crowded old.lives) (find (has_listener l) old.desk.all) t r → r.number < 2 ^ 32
+  pub joins : (l t : ℕ) (old : Trace) → Now (Turns (Joined l t)) old → (r : Relay)
+      → IsJoined (are_full old.relay_traces) (are_dialogs_full old.relay_traces) (find (has_listener l) old.forwarding_state.all) t r → r.number < 2 ^ 32
       → P (joined_life old.joins t r)
   pub offers : (f : Forwarding) (number remote window maximum : ℕ) → number < 2 ^ 32 → P (offered_life f number remote window maximum)
 
@@ -149,12 +149,12 @@ pub each-left : (P : Life → Type 0) (ls : List Life) → Each P ls → Each P 
 each-left P [] h = tt
 each-left P (l ∷ ls) h = left-if P (is_gone l.relay) l (left_in ls) h.0 (each-left P ls h.1)
 
-stepped-if : (P : Life → Type 0) (s : Step) (b : Bool) (l : Life) → P l → (b ≡ true → P (step_of s l))
+stepped-if : (P : Life → Type 0) (s : LinkStep) (b : Bool) (l : Life) → P l → (b ≡ true → P (step_of s l))
     → P (if b then step_of s l else l)
 stepped-if P s true l p k = k refl
 stepped-if P s false l p k = p
 
-pub each-stepped : (P : Life → Type 0) (s : Step) (t : ℕ) → ((a : Life) → P a → has_stream t a ≡ true → P (step_of s a))
+pub each-stepped : (P : Life → Type 0) (s : LinkStep) (t : ℕ) → ((a : Life) → P a → has_stream t a ≡ true → P (step_of s a))
     → (ls : List Life) → Each P ls → Each P (map (stepped s t) ls)
 each-stepped P s t keeps [] h = tt
 each-stepped P s t keeps (l ∷ ls) h =
@@ -162,54 +162,54 @@ each-stepped P s t keeps (l ∷ ls) h =
 
 -- ---- of those of a course
 
-pub record All (P : Life → Type 0) (course : Course) : Type 0 where
-  pub lives : Each P course.lives
-  pub past : Each P course.past
+pub record All (P : Life → Type 0) (trace : Trace) : Type 0 where
+  pub relay_traces : Each P trace.relay_traces
+  pub past : Each P trace.past
 
-pub same-lives : (P : Life → Type 0) (old new : Course) → new.lives ≡ old.lives → new.past ≡ old.past → All P old → All P new
-same-lives P old new e f h = record { lives = subst (Each P) (sym e) h.lives; past = subst (Each P) (sym f) h.past }
+pub same-relay_traces : (P : Life → Type 0) (old new : Trace) → new.relay_traces ≡ old.relay_traces → new.past ≡ old.past → All P old → All P new
+same-relay_traces P old new e f h = record { relay_traces = subst (Each P) (sym e) h.relay_traces; past = subst (Each P) (sym f) h.past }
 
-all-same : (P : Life → Type 0) (old new : Course) → new ≡ old → All P old → All P new
+all-same : (P : Life → Type 0) (old new : Trace) → new ≡ old → All P old → All P new
 all-same P old new e h = subst (All P) (sym e) h
 
-all-left : (P : Life → Type 0) (old new : Course) (lives : List Life) → new ≡ with_lives lives old → Each P lives → All P old
+all-left : (P : Life → Type 0) (old new : Trace) (relay_traces : List Life) → new ≡ with_relay_traces relay_traces old → Each P relay_traces → All P old
     → All P new
-all-left P old new lives e h all = subst (All P) (sym e) (record {
-  lives = each-kept P lives h;
-  past = each-append P old.past (left_in lives) all.past (each-left P lives h);
+all-left P old new relay_traces e h all = subst (All P) (sym e) (record {
+  relay_traces = each-kept P relay_traces h;
+  past = each-append P old.past (left_in relay_traces) all.past (each-left P relay_traces h);
 })
 
-all-at : (Now : HouseCall → Course → Type 0) (P : Life → Type 0) → Kept Now P → (n : ℕ) (m : Message) (old new : Course) → HearsAt n m old new → All P old → All P new
+all-at : (Now : HouseCall → Trace → Type 0) (P : Life → Type 0) → Kept Now P → (n : ℕ) (m : Message) (old new : Trace) → ReceivesAt n m old new → All P old → All P new
 all-at Now P k n m old new (inl h) all =
     all-left P old new h.0 h.2
-    (each-one P (has_channel n) (Listens m) old.lives h.0 (λ a b p is goes. k.hears m a b p goes) h.1 all.lives) all
+    (each-one P (has_channel n) (Listens m) old.relay_traces h.0 (λ a b p is goes. k.receives m a b p goes) h.1 all.relay_traces) all
 all-at Now P k n m old new (inr h) all = all-same P old new h.1 all
 
-all-opens : (Now : HouseCall → Course → Type 0) (P : Life → Type 0) → Kept Now P → (o : Option Forwarding) (remote window maximum : ℕ) (old new : Course)
+all-opens : (Now : HouseCall → Trace → Type 0) (P : Life → Type 0) → Kept Now P → (o : Option Forwarding) (remote window maximum : ℕ) (old new : Trace)
     → OpensFor o remote window maximum old new → All P old → All P new
 all-opens Now P k None remote window maximum old new h all = all-same P old new h all
 all-opens Now P k (Some f) remote window maximum old new h all = subst (All P) (sym h.more) (record {
-  lives = each-append P old.lives _ all.lives (k.offers f h.number remote window maximum h.small, tt);
+  relay_traces = each-append P old.relay_traces _ all.relay_traces (k.offers f h.number remote window maximum h.small, tt);
   past = all.past;
 })
 
-all-open : (Now : HouseCall → Course → Type 0) (P : Life → Type 0) → Kept Now P → (what : Opening) (remote window maximum : ℕ) (old new : Course)
-    → HearsOpen what remote window maximum old new → All P old → All P new
+all-open : (Now : HouseCall → Trace → Type 0) (P : Life → Type 0) → Kept Now P → (what : Opening) (remote window maximum : ℕ) (old new : Trace)
+    → ReceivesOpen what remote window maximum old new → All P old → All P new
 all-open Now P k (opens.Forwarded (keys.Tcp address port)) remote window maximum old new h all =
-    all-opens Now P k (find (served_at address.now port) old.desk.all) remote window maximum old new h all
+    all-opens Now P k (find (served_at address.now port) old.forwarding_state.all) remote window maximum old new h all
 all-open Now P k opens.Session remote window maximum old new h all = all-same P old new h all
 all-open Now P k (opens.Direct key) remote window maximum old new h all = all-same P old new h all
 all-open Now P k (opens.Forwarded (keys.Path path)) remote window maximum old new h all = all-same P old new h all
 all-open Now P k opens.Other remote window maximum old new h all = all-same P old new h all
 
-all-desk : (P : Life → Type 0) (old new : Course) → new ≡ record old { desk = new.desk } → All P old → All P new
-all-desk P old new e h = subst (All P) (sym e) (record { lives = h.lives; past = h.past })
+all-forwarding_state : (P : Life → Type 0) (old new : Trace) → new ≡ record old { forwarding_state = new.forwarding_state } → All P old → All P new
+all-forwarding_state P old new e h = subst (All P) (sym e) (record { relay_traces = h.relay_traces; past = h.past })
 
-all-message : (Now : HouseCall → Course → Type 0) (P : Life → Type 0) → Kept Now P → (m : Message) (old new : Course) → HearsMessage m old new → All P old → All P new
+all-message : (Now : HouseCall → Trace → Type 0) (P : Life → Type 0) → Kept Now P → (m : Message) (old new : Trace) → ReceivesMessage m old new → All P old → All P new
 all-message Now P k (message.Transport number rest) old new h all = all-same P old new h all
 all-message Now P k (message.GlobalRequest name want rest what) old new h all = all-same P old new h all
-all-message Now P k (message.RequestSuccess rest) old new h all = subst (All P) (sym h) (record { lives = all.lives; past = all.past })
-all-message Now P k message.RequestFailure old new h all = subst (All P) (sym h) (record { lives = all.lives; past = all.past })
+all-message Now P k (message.RequestSuccess rest) old new h all = subst (All P) (sym h) (record { relay_traces = all.relay_traces; past = all.past })
+all-message Now P k message.RequestFailure old new h all = subst (All P) (sym h) (record { relay_traces = all.relay_traces; past = all.past })
 all-message Now P k (message.Open kind sender window maximum rest what) old new h all = all-open Now P k what sender window maximum old new h all
 all-message Now P k (message.Confirmation recipient sender window maximum rest) old new h all = all-at Now P k recipient (message.Confirmation recipient sender window maximum rest) old new h all
 all-message Now P k (message.OpenFailure recipient reason text language) old new h all = all-at Now P k recipient (message.OpenFailure recipient reason text language) old new h all
@@ -222,59 +222,59 @@ all-message Now P k (message.Request recipient kind want rest) old new h all = a
 all-message Now P k (message.Success recipient) old new h all = all-at Now P k recipient (message.Success recipient) old new h all
 all-message Now P k (message.Failure recipient) old new h all = all-at Now P k recipient (message.Failure recipient) old new h all
 
-all-reading : (Now : HouseCall → Course → Type 0) (P : Life → Type 0) → Kept Now P → (r : Result Said Bad) (old new : Course) → HearsReading r old new → All P old → All P new
+all-reading : (Now : HouseCall → Trace → Type 0) (P : Life → Type 0) → Kept Now P → (r : Result Said Bad) (old new : Trace) → ReceivesReading r old new → All P old → All P new
 all-reading Now P k (Err bad) old new h all = all-same P old new h all
 all-reading Now P k (Ok said) old new h all = all-message Now P k h.0 old new h.2 all
 
-granted : (P : Life → Type 0) (b : Bool) (old : Course) (a : Course) → All P a → All P old → All P (if b then a else old)
+granted : (P : Life → Type 0) (b : Bool) (old : Trace) (a : Trace) → All P a → All P old → All P (if b then a else old)
 granted P true old a h all = h
 granted P false old a h all = all
 
-pub all-frame : (Now : HouseCall → Course → Type 0) (P : Life → Type 0) → Kept Now P → (stage : Stage) (content : List ℕ) (old new : Course) → HearsFrame stage content old new
+pub all-frame : (Now : HouseCall → Trace → Type 0) (P : Life → Type 0) → Kept Now P → (stage : Stage) (content : List ℕ) (old new : Trace) → ReceivesFrame stage content old new
     → All P old → All P new
 all-frame Now P k Control content old new h all = subst (All P) (sym h)
-    (granted P (is_grant (take_u32 content)) old _ (record { lives = all.lives; past = all.past }) all)
+    (granted P (is_grant (take_u32 content)) old _ (record { relay_traces = all.relay_traces; past = all.past }) all)
 all-frame Now P k Proxy content old new h all = all-reading Now P k (reading content) old new h all
 
-all-frames : (Now : HouseCall → Course → Type 0) (P : Life → Type 0) → Kept Now P → (contents : List (List ℕ)) (old new : Course) → HearsFrames contents old new → All P old
+all-frames : (Now : HouseCall → Trace → Type 0) (P : Life → Type 0) → Kept Now P → (contents : List (List ℕ)) (old new : Trace) → ReceivesFrames contents old new → All P old
     → All P new
-all-frames Now P k [] old new h all = subst (All P) (sym h.1) (record { lives = all.lives; past = all.past })
+all-frames Now P k [] old new h all = subst (All P) (sym h.1) (record { relay_traces = all.relay_traces; past = all.past })
 all-frames Now P k (content ∷ more) old new h all =
     all-frames Now P k more h.2.0 new h.2.2
-    (all-frame Now P k old.stage content (cut_off (Frame content h.0) old) h.2.0 h.2.1 (record { lives = all.lives; past = all.past }))
+    (all-frame Now P k old.stage content (cut_off (Frame content h.0) old) h.2.0 h.2.1 (record { relay_traces = all.relay_traces; past = all.past }))
 
-all-says : (Now : HouseCall → Course → Type 0) (P : Life → Type 0) → Kept Now P → (b : Bool) (o : Option Forwarding) (bytes : List ℕ) (old new : Course) → SaysBy b o bytes old new
+all-says : (Now : HouseCall → Trace → Type 0) (P : Life → Type 0) → Kept Now P → (b : Bool) (o : Option Forwarding) (bytes : List ℕ) (old new : Trace) → SendsBy b o bytes old new
     → All P old → All P new
-all-says Now P k false o bytes old new h all = subst (All P) (sym h.1) (record { lives = all.lives; past = all.past })
-all-says Now P k true (Some f) bytes old new h all = subst (All P) (sym h.1) (record { lives = all.lives; past = all.past })
+all-says Now P k false o bytes old new h all = subst (All P) (sym h.1) (record { relay_traces = all.relay_traces; past = all.past })
+all-says Now P k true (Some f) bytes old new h all = subst (All P) (sym h.1) (record { relay_traces = all.relay_traces; past = all.past })
 all-says Now P k true None bytes old new h all =
     all-left P old new h.0 h.2
-    (each-one P has_words (Speaks bytes) old.lives h.0 (λ a b p is goes. k.says bytes a b p is goes) h.1 all.lives) all
+    (each-one P has_words (Speaks bytes) old.relay_traces h.0 (λ a b p is goes. k.says bytes a b p is goes) h.1 all.relay_traces) all
 
-all-steps : (Now : HouseCall → Course → Type 0) (P : Life → Type 0) → Kept Now P → (call : HouseCall) (o : Order) (s : Step) (t : ℕ)
-    (old new : Course) → Now call old → Causes call s t → StepsBy o s t old new → All P old → All P new
+all-steps : (Now : HouseCall → Trace → Type 0) (P : Life → Type 0) → Kept Now P → (call : HouseCall) (o : Order) (s : LinkStep) (t : ℕ)
+    (old new : Trace) → Now call old → Causes call s t → StepsBy o s t old new → All P old → All P new
 all-steps Now P k call o s t old new now causes h all =
-    all-left P old new (map (stepped s t) old.lives) h.1
-    (each-stepped P s t (k.steps s t call old now causes) old.lives all.lives) all
+    all-left P old new (map (stepped s t) old.relay_traces) h.1
+    (each-stepped P s t (k.steps s t call old now causes) old.relay_traces all.relay_traces) all
 
-all-makes : (Now : HouseCall → Course → Type 0) (P : Life → Type 0) → Kept Now P → (host : List ℕ) (port : ℕ) (number : Option ℕ)
-    (old new : Course) → Now (Marks (HouseOrder (order.Connect host port) number)) old → MakesOne host port number old new
+all-makes : (Now : HouseCall → Trace → Type 0) (P : Life → Type 0) → Kept Now P → (host : List ℕ) (port : ℕ) (number : Option ℕ)
+    (old new : Trace) → Now (Marks (HouseOrder (order.Connect host port) number)) old → MakesOne host port number old new
     → All P old → All P new
 all-makes Now P k host port number old new now h all =
-    let were = subst (Each P) h.were all.lives in
+    let were = subst (Each P) h.were all.relay_traces in
     let front = each-front P h.before (h.life ∷ h.behind) were in
     let back = each-back P h.before (h.life ∷ h.behind) were in
     subst (All P) (sym h.are) (record {
-      lives = each-append P (h.before ++ h.behind) (made_life number h.life ∷ [])
+      relay_traces = each-append P (h.before ++ h.behind) (made_life number h.life ∷ [])
           (each-append P h.before h.behind front back.1) (k.makes host port number old now h.life back.0 h.is, tt);
       past = all.past;
     })
 
-all-orders : (Now : HouseCall → Course → Type 0) (P : Life → Type 0) → Kept Now P → (o : Order) (number : Option ℕ) (old new : Course)
+all-orders : (Now : HouseCall → Trace → Type 0) (P : Life → Type 0) → Kept Now P → (o : Order) (number : Option ℕ) (old new : Trace)
     → Now (Marks (HouseOrder o number)) old → OrdersIn o number old new → All P old → All P new
-all-orders Now P k (order.Listen host port) number old new now h all = subst (All P) (sym h.2) (record { lives = all.lives; past = all.past })
+all-orders Now P k (order.Listen host port) number old new now h all = subst (All P) (sym h.2) (record { relay_traces = all.relay_traces; past = all.past })
 all-orders Now P k (order.Connect host port) number old new now h all = all-makes Now P k host port number old new now h all
-all-orders Now P k (order.Unlisten l) number old new now h all = subst (All P) (sym h.2) (record { lives = all.lives; past = all.past })
+all-orders Now P k (order.Unlisten l) number old new now h all = subst (All P) (sym h.2) (record { relay_traces = all.relay_traces; past = all.past })
 all-orders Now P k (order.Pause t) number old new now h all =
     all-steps Now P k (Marks (HouseOrder (order.Pause t) number)) (order.Pause t) (step.Pause true) t old new now tt h all
 all-orders Now P k (order.Resume t) number old new now h all =
@@ -284,55 +284,55 @@ all-orders Now P k (order.Finish t) number old new now h all =
 all-orders Now P k (order.Close t) number old new now h all =
     all-steps Now P k (Marks (HouseOrder (order.Close t) number)) (order.Close t) step.Close t old new now tt h all
 
-all-marks : (Now : HouseCall → Course → Type 0) (P : Life → Type 0) → Kept Now P → (mark : HouseMark) (old new : Course) → Now (Marks mark) old
+all-marks : (Now : HouseCall → Trace → Type 0) (P : Life → Type 0) → Kept Now P → (mark : HouseMark) (old new : Trace) → Now (Marks mark) old
     → MarksIn mark old new → All P old → All P new
 all-marks Now P k HouseIn old new now h all = all-same P old new h all
-all-marks Now P k (HouseSaid bytes) old new now h all = all-says Now P k old.desk.greeted (find has_request old.desk.all) bytes old new h all
+all-marks Now P k (HouseSaid bytes) old new now h all = all-says Now P k old.forwarding_state.greeted (find has_request old.forwarding_state.all) bytes old new h all
 all-marks Now P k (HouseTook size) old new now h all = all-same P old new h all
-all-marks Now P k (HouseAsked client id opening ask reply) old new now h all = subst (All P) (sym h.2) (record { lives = all.lives; past = all.past })
-all-marks Now P k (HouseAnswer client id reply) old new now h all = subst (All P) (sym h.2) (record { lives = all.lives; past = all.past })
+all-marks Now P k (HouseAsked client id opening ask reply) old new now h all = subst (All P) (sym h.2) (record { relay_traces = all.relay_traces; past = all.past })
+all-marks Now P k (HouseAnswer client id reply) old new now h all = subst (All P) (sym h.2) (record { relay_traces = all.relay_traces; past = all.past })
 all-marks Now P k (HouseOrder o number) old new now h all = all-orders Now P k o number old new now h all
 
-each-turn : (Now : HouseCall → Course → Type 0) (P : Life → Type 0) → Kept Now P → (happening : Happening) (old : Course) (new : List Life)
-    → Now (Turns happening) old → TurnsTo happening old.joins old.desk.all old.lives new → Each P old.lives → Each P new
+each-turn : (Now : HouseCall → Trace → Type 0) (P : Life → Type 0) → Kept Now P → (happening : Happening) (old : Trace) (new : List Life)
+    → Now (Turns happening) old → TurnsTo happening old.joins old.forwarding_state.all old.relay_traces new → Each P old.relay_traces → Each P new
 each-turn Now P k (Joined l t) old new now h all = subst (Each P) (sym h.more)
-    (each-append P old.lives (joined_life old.joins t h.relay ∷ []) all (k.joins l t old now h.relay h.joined h.small, tt))
+    (each-append P old.relay_traces (joined_life old.joins t h.relay ∷ []) all (k.joins l t old now h.relay h.joined h.small, tt))
 each-turn Now P k (Got t bytes) old new now h all =
-    each-most P (has_stream t) (GoesBy (GetsOn (not (are_full old.lives)) bytes) (Reads bytes)) old.lives new
+    each-most P (has_stream t) (GoesBy (GetsOn (not (are_full old.relay_traces)) bytes) (Reads bytes)) old.relay_traces new
     (λ a b p is goes. k.gets t bytes old now a b p is goes) h all
 each-turn Now P k (End t) old new now h all =
-    subst (Each P) (sym h) (each-stepped P step.End t (k.steps step.End t (Turns (End t)) old now refl) old.lives all)
+    subst (Each P) (sym h) (each-stepped P step.End t (k.steps step.End t (Turns (End t)) old now refl) old.relay_traces all)
 each-turn Now P k (Writable t) old new now h all =
-    subst (Each P) (sym h) (each-stepped P step.Writable t (k.steps step.Writable t (Turns (Writable t)) old now refl) old.lives all)
+    subst (Each P) (sym h) (each-stepped P step.Writable t (k.steps step.Writable t (Turns (Writable t)) old now refl) old.relay_traces all)
 each-turn Now P k (Failed t) old new now h all =
-    subst (Each P) (sym h) (each-stepped P step.Failed t (k.steps step.Failed t (Turns (Failed t)) old now refl) old.lives all)
+    subst (Each P) (sym h) (each-stepped P step.Failed t (k.steps step.Failed t (Turns (Failed t)) old now refl) old.relay_traces all)
 
-pub all-follow : (Now : HouseCall → Course → Type 0) (P : Life → Type 0) → Kept Now P → (call : HouseCall) (old new : Course) → Now call old
+pub all-follow : (Now : HouseCall → Trace → Type 0) (P : Life → Type 0) → Kept Now P → (call : HouseCall) (old new : Trace) → Now call old
     → Follows call old new → All P old → All P new
-all-follow Now P k (Begins starts) old new now h all = subst (All P) (sym h.2) (record { lives = all.lives; past = all.past })
+all-follow Now P k (Begins starts) old new now h all = subst (All P) (sym h.2) (record { relay_traces = all.relay_traces; past = all.past })
 all-follow Now P k (Marks mark) old new now h all = all-marks Now P k mark old new now h all
-all-follow Now P k (HearsBytes bytes) old new now h all =
-    all-frames Now P k h.0 (with_heard bytes old) new h.1 (record { lives = all.lives; past = all.past })
+all-follow Now P k (ReceivesBytes bytes) old new now h all =
+    all-frames Now P k h.0 (with_received bytes old) new h.1 (record { relay_traces = all.relay_traces; past = all.past })
 all-follow Now P k (Turns happening) old new now h all = subst (All P) (sym h.2) (record {
-  lives = each-turn Now P k happening old h.0 now h.1 all.lives;
+  relay_traces = each-turn Now P k happening old h.0 now h.1 all.relay_traces;
   past = all.past;
 })
 all-follow Now P k (TakesBytes t n) old new now h all = subst (All P) (sym h.2) (record {
-  lives = each-most P (has_stream t) (GoesBy (TakesOn n) (Takes n)) old.lives h.0 (λ a b p is goes. k.takes t n a b p is goes) h.1 all.lives;
+  relay_traces = each-most P (has_stream t) (GoesBy (TakesOn n) (Takes n)) old.relay_traces h.0 (λ a b p is goes. k.takes t n a b p is goes) h.1 all.relay_traces;
   past = all.past;
 })
 
 -- what is known of each of the calls
-abbrev pub Known : (HouseCall → Course → Type 0) → Course → List HouseCall → Type 0
-Known Now old calls = (before : List HouseCall) (call : HouseCall) (behind : List HouseCall) (course : Course)
-    → calls ≡ before ++ call ∷ behind → Reaches old before course → Now call course
+abbrev pub Known : (HouseCall → Trace → Type 0) → Trace → List HouseCall → Type 0
+Known Now old calls = (before : List HouseCall) (call : HouseCall) (behind : List HouseCall) (trace : Trace)
+    → calls ≡ before ++ call ∷ behind → Reaches old before trace → Now call trace
 
-pub all-reach : (Now : HouseCall → Course → Type 0) (P : Life → Type 0) → Kept Now P → (calls : List HouseCall) (old new : Course)
+pub all-reach : (Now : HouseCall → Trace → Type 0) (P : Life → Type 0) → Kept Now P → (calls : List HouseCall) (old new : Trace)
     → Known Now old calls → Reaches old calls new → All P old → All P new
 all-reach Now P k [] old new known h all = all-same P old new h all
 all-reach Now P k (call ∷ calls) old new known h all =
     all-reach Now P k calls h.0 new
-    (λ before c behind course e r. known (call ∷ before) c behind course (ap (λ cs. call ∷ cs) e) (h.0, h.1, r))
+    (λ before c behind trace e r. known (call ∷ before) c behind trace (ap (λ cs. call ∷ cs) e) (h.0, h.1, r))
     h.2 (all-follow Now P k call old h.0 (known [] call calls old refl refl) h.1 all)
 
 -- ---- each stands for what happened in it, and has its own stream
@@ -350,7 +350,7 @@ went so act a b h s on same = record {
   stream = same ∙ s.stream ∙ ap number_of (sym h.own);
 }
 
-own-step : (s : Step) (t : ℕ) (r : Relay) (own : Option OwnStream) → is_stream t own ≡ true → stream_of r.socket ≡ number_of own
+own-step : (s : LinkStep) (t : ℕ) (r : Relay) (own : Option OwnStream) → is_stream t own ≡ true → stream_of r.socket ≡ number_of own
     → stream_of (relay_after s r).socket ≡ number_of (own_after s own)
 own-step s t r None is e = cc
 own-step (step.Pause b) t r (Some own) is e = e
@@ -365,11 +365,11 @@ own-make None = refl
 own-make (Some t) = refl
 
 pub sound-says : (bytes : List ℕ) (a b : Life) → Sound a → Speaks bytes a b → Sound b
-sound-says bytes a b s h = went SaysOn _ a b h.1 s h.1.relay.1
-    (ap (λ (r : Relay). stream_of r.socket) h.1.relay.0 ∙ ap stream_of (stays-after (says_of a.relay) a.relay).socket_is)
+sound-says bytes a b s h = went SendsOn _ a b h.1 s h.1.relay.1
+    (ap (λ (r : Relay). stream_of r.socket) h.1.relay.0 ∙ ap stream_of (stays-after (sends_of a.relay) a.relay).socket_is)
 
-pub sound-hears : (m : Message) (a b : Life) → Sound a → Listens m a b → Sound b
-sound-hears m a b s h = went (HearsOn m) _ a b h s h.relay.1
+pub sound-receives : (m : Message) (a b : Life) → Sound a → Listens m a b → Sound b
+sound-receives m a b s h = went (ReceivesOn m) _ a b h s h.relay.1
     (ap (λ (r : Relay). stream_of r.socket) h.relay.0 ∙ ap stream_of (stays-heard m a.relay).socket_is)
 
 pub sound-gets : (free : Bool) (bytes : List ℕ) (a b : Life) → Sound a → GoesBy (GetsOn free bytes) (Reads bytes) a b → Sound b
@@ -379,7 +379,7 @@ sound-gets free bytes a b s h = went (GetsOn free bytes) (Reads bytes) a b h s h
 pub sound-takes : (n : ℕ) (a b : Life) → Sound a → GoesBy (TakesOn n) (Takes n) a b → Sound b
 sound-takes n a b s h = went (TakesOn n) (Takes n) a b h s h.relay.1 (ap (λ (r : Relay). stream_of r.socket) h.relay.0)
 
-pub sound-steps : (s : Step) (t : ℕ) (a : Life) → Sound a → has_stream t a ≡ true → Sound (step_of s a)
+pub sound-steps : (s : LinkStep) (t : ℕ) (a : Life) → Sound a → has_stream t a ≡ true → Sound (step_of s a)
 sound-steps s t a h is = record {
   stands = goes-after s a.relay a.dials a.acts h.stands;
   stream = own-step s t a.relay a.own is h.stream;
@@ -391,10 +391,10 @@ sound-makes number a h = record {
   stream = own-make number;
 }
 
-pub sound-joins : (full crowded : Bool) (f : Option Forwarding) (joins t : ℕ) (r : Relay) → IsJoined full crowded f t r
+pub sound-joins : (full dialogs_full : Bool) (f : Option Forwarding) (joins t : ℕ) (r : Relay) → IsJoined full dialogs_full f t r
     → Sound (joined_life joins t r)
-sound-joins full crowded f joins t r h =
-    let begins = joined full crowded f t r h in record { stands = begins.stands; stream = begins.stream }
+sound-joins full dialogs_full f joins t r h =
+    let begins = joined full dialogs_full f t r h in record { stands = begins.stands; stream = begins.stream }
 
 pub sound-offers : (f : Forwarding) (number remote window maximum : ℕ) → Sound (offered_life f number remote window maximum)
 sound-offers f number remote window maximum =
@@ -402,66 +402,66 @@ sound-offers f number remote window maximum =
 
 -- ---- what else each step keeps of one that is sound
 
-pub record KeptSound (Now : HouseCall → Course → Type 0) (P : Life → Type 0) : Type 0 where
+pub record KeptSound (Now : HouseCall → Trace → Type 0) (P : Life → Type 0) : Type 0 where
   pub says : (bytes : List ℕ) (a b : Life) → Sound a → P a → has_words a ≡ true → Speaks bytes a b → P b
-  pub hears : (m : Message) (a b : Life) → Sound a → P a → Listens m a b → P b
-  pub gets : (t : ℕ) (bytes : List ℕ) (old : Course) → Now (Turns (Got t bytes)) old → (a b : Life) → Sound a → Sound b → P a
-      → has_stream t a ≡ true → GoesBy (GetsOn (not (are_full old.lives)) bytes) (Reads bytes) a b → P b
+  pub receives : (m : Message) (a b : Life) → Sound a → P a → Listens m a b → P b
+  pub gets : (t : ℕ) (bytes : List ℕ) (old : Trace) → Now (Turns (Got t bytes)) old → (a b : Life) → Sound a → Sound b → P a
+      → has_stream t a ≡ true → GoesBy (GetsOn (not (are_full old.relay_traces)) bytes) (Reads bytes) a b → P b
   pub takes : (t n : ℕ) (a b : Life) → Sound a → P a → has_stream t a ≡ true → GoesBy (TakesOn n) (Takes n) a b → P b
-  pub steps : (s : Step) (t : ℕ) (call : HouseCall) (old : Course) → Now call old → Causes call s t → (a : Life) → Sound a
+  pub steps : (s : LinkStep) (t : ℕ) (call : HouseCall) (old : Trace) → Now call old → Causes call s t → (a : Life) → Sound a
       → P a → has_stream t a ≡ true → P (step_of s a)
-  pub makes : (host : List ℕ) (port : ℕ) (number : Option ℕ) (old : Course)
+  pub makes : (host : List ℕ) (port : ℕ) (number : Option ℕ) (old : Trace)
       → Now (Marks (HouseOrder (order.Connect host port) number)) old → (a : Life) → Sound a → P a → is_unmade a ≡ true
       → P (made_life number a)
-  pub joins : (l t : ℕ) (old : Course) → Now (Turns (Joined l t)) old → (r : Relay)
-      → IsJoined (are_full old.lives) (are_crowded old.lives) (find (has_listener l) old.desk.all) t r → r.number < 2 ^ 32
+  pub joins : (l t : ℕ) (old : Trace) → Now (Turns (Joined l t)) old → (r : Relay)
+      → IsJoined (are_full old.relay_traces) (are_dialogs_full old.relay_traces) (find (has_listener l) old.forwarding_state.all) t r → r.number < 2 ^ 32
       → P (joined_life old.joins t r)
   pub offers : (f : Forwarding) (number remote window maximum : ℕ) → number < 2 ^ 32 → P (offered_life f number remote window maximum)
 
 abbrev pub Both : (Life → Type 0) → Life → Type 0
 Both P l = Sound l × P l
 
-pub with-sound : (Now : HouseCall → Course → Type 0) (P : Life → Type 0) → KeptSound Now P → Kept Now (Both P)
+pub with-sound : (Now : HouseCall → Trace → Type 0) (P : Life → Type 0) → KeptSound Now P → Kept Now (Both P)
 with-sound Now P k = record {
   says = λ bytes a b p is h. (sound-says bytes a b p.0 h, k.says bytes a b p.0 p.1 is h);
-  hears = λ m a b p h. (sound-hears m a b p.0 h, k.hears m a b p.0 p.1 h);
+  receives = λ m a b p h. (sound-receives m a b p.0 h, k.receives m a b p.0 p.1 h);
   gets = λ t bytes old now a b p is h. (
-      let its = sound-gets (not (are_full old.lives)) bytes a b p.0 h in
+      let its = sound-gets (not (are_full old.relay_traces)) bytes a b p.0 h in
       (its, k.gets t bytes old now a b p.0 its p.1 is h)
       );
   takes = λ t n a b p is h. (sound-takes n a b p.0 h, k.takes t n a b p.0 p.1 is h);
   steps = λ s t call old now causes a p is. (sound-steps s t a p.0 is, k.steps s t call old now causes a p.0 p.1 is);
   makes = λ host port number old now a p is. (sound-makes number a p.0, k.makes host port number old now a p.0 p.1 is);
   joins = λ l t old now r h small.
-      (sound-joins (are_full old.lives) (are_crowded old.lives) (find (has_listener l) old.desk.all) old.joins t r h, k.joins l t old now r h small);
+      (sound-joins (are_full old.relay_traces) (are_dialogs_full old.relay_traces) (find (has_listener l) old.forwarding_state.all) old.joins t r h, k.joins l t old now r h small);
   offers = λ f number remote window maximum small.
       (sound-offers f number remote window maximum, k.offers f number remote window maximum small);
 }
 
-abbrev Whenever : HouseCall → Course → Type 0
-Whenever call course = Unit {0}
+abbrev Whenever : HouseCall → Trace → Type 0
+Whenever call trace = Unit {0}
 
 sound : Kept Whenever Sound
 sound = record {
   says = λ bytes a b s is h. sound-says bytes a b s h;
-  hears = λ m a b s h. sound-hears m a b s h;
-  gets = λ t bytes old now a b s is h. sound-gets (not (are_full old.lives)) bytes a b s h;
+  receives = λ m a b s h. sound-receives m a b s h;
+  gets = λ t bytes old now a b s is h. sound-gets (not (are_full old.relay_traces)) bytes a b s h;
   takes = λ t n a b s is h. sound-takes n a b s h;
   steps = λ s t call old now causes a h is. sound-steps s t a h is;
   makes = λ host port number old now a h is. sound-makes number a h;
-  joins = λ l t old now r h small. sound-joins (are_full old.lives) (are_crowded old.lives) (find (has_listener l) old.desk.all) old.joins t r h;
+  joins = λ l t old now r h small. sound-joins (are_full old.relay_traces) (are_dialogs_full old.relay_traces) (find (has_listener l) old.forwarding_state.all) old.joins t r h;
   offers = λ f number remote window maximum small. sound-offers f number remote window maximum;
 }
 
-pub stepped-sound : (s : Step) (t : ℕ) (ls : List Life) → Each Sound ls → Each Sound (map (stepped s t) ls)
+pub stepped-sound : (s : LinkStep) (t : ℕ) (ls : List Life) → Each Sound ls → Each Sound (map (stepped s t) ls)
 stepped-sound s t ls all = each-stepped Sound s t (sound-steps s t) ls all
 
-pub frame-sound : (stage : Stage) (content : List ℕ) (old new : Course) → HearsFrame stage content old new → All Sound old → All Sound new
+pub frame-sound : (stage : Stage) (content : List ℕ) (old new : Trace) → ReceivesFrame stage content old new → All Sound old → All Sound new
 frame-sound stage content old new h all = all-frame Whenever Sound sound stage content old new h all
 
-pub follow-sound : (call : HouseCall) (old new : Course) → Follows call old new → All Sound old → All Sound new
+pub follow-sound : (call : HouseCall) (old new : Trace) → Follows call old new → All Sound old → All Sound new
 follow-sound call old new h all = all-follow Whenever Sound sound call old new tt h all
 
-pub all-sound : (calls : List HouseCall) (course : Course) → Reaches first_course calls course → All Sound course
-all-sound calls course h =
-    all-reach Whenever Sound sound calls first_course course (λ before call behind mid e r. tt) h (record { lives = tt; past = tt })
+pub all-sound : (calls : List HouseCall) (trace : Trace) → Reaches first_trace calls trace → All Sound trace
+all-sound calls trace h =
+    all-reach Whenever Sound sound calls first_trace trace (λ before call behind mid e r. tt) h (record { relay_traces = tt; past = tt })

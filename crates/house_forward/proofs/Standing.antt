@@ -3,31 +3,31 @@ use Rattle.std.proofs.Common.{◌≡◌, ◌∙◌, refl, sym, ap, subst, arith,
 use Rattle.std.specs.Prelude.{IsTrue}
 use Rattle.socks_dialog.specs.declared.outcome.Outcome.{Outcome}
 use Rattle.socks_dialog.specs.declared.outcome.Outcome.TheVariants.{Connects}
-use Rattle.house_relay.specs.Acts.{Act, Ends, Fails, Other, read, sent, delivered, taken, adjusted, has_ended, heard_eof, heard_close, said_eof, said_close, answer, outcome_in, before_in, replies, replies_if, to_take, behind_if, taken_data}
+use Rattle.house_relay.specs.Acts.{Act, Ends, Fails, Other, read, sent, delivered, taken, adjusted, has_ended, received_eof, received_close, sent_eof, sent_close, answer, outcome_in, before_in, replies, replies_if, to_take, behind_if, taken_data}
 use Rattle.house_relay.specs.Relay.{Stands, GoesOn, LineStands, IsLive, NothingYet, WaitsFor, IsSettled, HasAsked}
 use Rattle.house_relay.specs.declared.line.Live.{Live as LiveState}
-use Rattle.house_relay.specs.declared.line.Line.{Line}
-use Rattle.house_relay.specs.declared.line.Line.TheVariants.{Dialing, Asked, Opened, Offered, Live, Over}
+use Rattle.house_relay.specs.declared.line.ChannelState.{ChannelState}
+use Rattle.house_relay.specs.declared.line.ChannelState.TheVariants.{Dialing, Asked, Opened, Offered, Live, Over}
 use Rattle.house_relay.specs.declared.relay.Relay.{Relay}
 use Rattle.house_relay.specs.declared.relay.Socket.{Socket}
 use Rattle.house_relay.specs.declared.relay.Socket.TheVariants as socket
 use Rattle.house_relay.specs.Steps.{connected, failing}
 use Rattle.house_forward.specs.Links.{relay_after}
-use Rattle.house_forward.specs.Lives.{act_of}
-use Rattle.house_forward.specs.declared.link.Step.{Step}
-use Rattle.house_forward.specs.declared.link.Step.TheVariants.{Pause, Finish, End, Close, Writable, Failed as Fail}
+use Rattle.house_forward.specs.RelayTraces.{act_of}
+use Rattle.house_forward.specs.declared.link.LinkStep.{LinkStep}
+use Rattle.house_forward.specs.declared.link.LinkStep.TheVariants.{Pause, Finish, End, Close, Writable, Failed as Fail}
 
 -- what is counted of a channel is the same
 record SameIn (old new : List Act) : Type 0 where
   bytes : read new ≡ read old
-  data_said : sent new ≡ sent old
-  data_heard : delivered new ≡ delivered old
+  data_sent : sent new ≡ sent old
+  data_received : delivered new ≡ delivered old
   takes : taken new ≡ taken old
   grants : adjusted new ≡ adjusted old
-  eof_heard : heard_eof new ≡ heard_eof old
-  close_heard : heard_close new ≡ heard_close old
-  eof_said : said_eof new ≡ said_eof old
-  close_said : said_close new ≡ said_close old
+  eof_received : received_eof new ≡ received_eof old
+  close_received : received_close new ≡ received_close old
+  eof_sent : sent_eof new ≡ sent_eof old
+  close_sent : sent_close new ≡ sent_close old
   answers : answer new ≡ answer old
 
 replies-same : (dials : Bool) (old new : List Act) → SameIn old new → replies dials new ≡ replies dials old
@@ -41,13 +41,13 @@ nothing-same dials old new same s =
     let took = same.takes in
     record {
       no_answer = same.answers ∙ s.no_answer;
-      no_data = same.data_heard ∙ s.no_data;
+      no_data = same.data_received ∙ s.no_data;
       no_take = omega (arith, sizes, most, took);
       no_room = same.grants ∙ s.no_room;
-      no_eof = same.eof_said ∙ s.no_eof;
-      no_close = same.close_said ∙ s.no_close;
-      none_heard = same.eof_heard ∙ s.none_heard;
-      none_closed = same.close_heard ∙ s.none_closed;
+      no_eof = same.eof_sent ∙ s.no_eof;
+      no_close = same.close_sent ∙ s.no_close;
+      none_received = same.eof_received ∙ s.none_received;
+      none_closed = same.close_received ∙ s.none_closed;
     }
 
 waits-same : (version : Option ℕ) (outcome : Outcome) (dials : Bool) (old new : List Act) → SameIn old new
@@ -63,10 +63,10 @@ data-same dials old new same =
 live-same : (live : LiveState) (dials : Bool) (old new : List Act) → SameIn old new → IsLive live dials old
     → IsLive live dials new
 live-same live dials old new same s = record {
-  eof_said = s.eof_said ∙ sym same.eof_said;
-  eof_heard = s.eof_heard ∙ sym same.eof_heard;
-  close_said = s.close_said ∙ sym same.close_said;
-  close_heard = s.close_heard ∙ sym same.close_heard;
+  eof_sent = s.eof_sent ∙ sym same.eof_sent;
+  eof_received = s.eof_received ∙ sym same.eof_received;
+  close_sent = s.close_sent ∙ sym same.close_sent;
+  close_received = s.close_received ∙ sym same.close_received;
   replies = λ f. s.replies f ∙ ap (λ r. length r - taken old) (sym (replies-same dials old new same))
       ∙ ap (λ n. length (replies dials new) - n) (sym same.takes);
   owed = λ f. ap (λ n. n + live.owed) same.grants ∙ s.owed f ∙ sym (data-same dials old new same);
@@ -76,7 +76,7 @@ live-same live dials old new same s = record {
   asked = subst (HasAsked dials) (sym same.bytes) s.asked;
 }
 
-line-same : (line : Line) (dials : Bool) (old new : List Act) → SameIn old new → LineStands line dials old
+line-same : (line : ChannelState) (dials : Bool) (old new : List Act) → SameIn old new → LineStands line dials old
     → LineStands line dials new
 line-same (Dialing dialog) dials old new same s = record {
   socks = s.socks;
@@ -108,39 +108,39 @@ line-same Over dials old new same s = record {
 
 take-same : (dials : Bool) (old new : List Act) → SameIn old new → to_take dials new ≡ to_take dials old
 take-same dials old new same =
-    ap (λ r. r ++ delivered new) (replies-same dials old new same) ∙ ap (λ b. replies dials old ++ b) same.data_heard
+    ap (λ r. r ++ delivered new) (replies-same dials old new same) ∙ ap (λ b. replies dials old ++ b) same.data_received
 
 -- another socket, and its end
 stands-same : (dials : Bool) (old new : List Act) (r : Relay) (s : Socket) (ended : Bool) → SameIn old new
     → ended ≡ has_ended new → (IsTrue (has_ended old) → IsTrue (has_ended new)) → Stands dials old r
     → Stands dials new (record r { socket = s; ended = ended })
 stands-same dials old new r s ended same is more h = record {
-  sends = ap (λ b. b ++ r.held.waiting) same.data_said ∙ h.sends ∙ ap (behind_if dials) (sym same.bytes);
+  sends = ap (λ b. b ++ r.held.waiting) same.data_sent ∙ h.sends ∙ ap (behind_if dials) (sym same.bytes);
   delivers = (
     h.delivers.0,
     h.delivers.1 ∙ sym (take-same dials old new same),
     h.delivers.2 ∙ sym same.takes,
   );
   ends = is;
-  last = λ said. let both = h.last (sym same.eof_said ∙ said) in (more both.0, both.1);
+  last = λ said. let both = h.last (sym same.eof_sent ∙ said) in (more both.0, both.1);
   few = h.few;
   line = line-same r.line dials old new same h.line;
 }
 
 same-behind : (act : Act) (acts : List Act) → read (act ∷ acts) ≡ read acts → sent (act ∷ acts) ≡ sent acts → delivered (act ∷ acts) ≡ delivered acts → taken (act ∷ acts) ≡ taken acts
-    → adjusted (act ∷ acts) ≡ adjusted acts → heard_eof (act ∷ acts) ≡ heard_eof acts → heard_close (act ∷ acts) ≡ heard_close acts
-    → said_eof (act ∷ acts) ≡ said_eof acts → said_close (act ∷ acts) ≡ said_close acts → answer (act ∷ acts) ≡ answer acts
+    → adjusted (act ∷ acts) ≡ adjusted acts → received_eof (act ∷ acts) ≡ received_eof acts → received_close (act ∷ acts) ≡ received_close acts
+    → sent_eof (act ∷ acts) ≡ sent_eof acts → sent_close (act ∷ acts) ≡ sent_close acts → answer (act ∷ acts) ≡ answer acts
     → SameIn acts (act ∷ acts)
 same-behind act acts a b c d e f g h i j = record {
   bytes = a;
-  data_said = b;
-  data_heard = c;
+  data_sent = b;
+  data_received = c;
   takes = d;
   grants = e;
-  eof_heard = f;
-  close_heard = g;
-  eof_said = h;
-  close_said = i;
+  eof_received = f;
+  close_received = g;
+  eof_sent = h;
+  close_sent = i;
   answers = j;
 }
 
@@ -158,7 +158,7 @@ pub goes-other : (r : Relay) (s : Socket) → GoesOn r (record r { socket = s })
 goes-other r s = λ dials acts h. stands-same dials acts (Other ∷ acts) r s r.ended (same-other acts) h.ends (λ e. e) h
 
 -- a step of its stream
-pub goes-after : (step : Step) (r : Relay) → GoesOn r (relay_after step r) (act_of step)
+pub goes-after : (step : LinkStep) (r : Relay) → GoesOn r (relay_after step r) (act_of step)
 goes-after (Pause b) r = goes-other r r.socket
 goes-after Finish r = goes-other r r.socket
 goes-after End r = λ dials acts h. stands-same dials acts (Ends ∷ acts) r r.socket true (same-ends acts) refl (λ e. refl) h

@@ -8,20 +8,20 @@ use Rattle.mux_outside.specs.declared.start_ask.StartAsk.{StartAsk}
 use Rattle.mux_outside.specs.declared.starts.Starts.{Starts}
 use Rattle.house_forward.specs.Asks.{turns_away}
 use Rattle.house_forward.specs.Causes.{AreOne, IsFor, IsAtRest}
-use Rattle.house_forward.specs.Deeds.{Deed, Does, Leave}
-use Rattle.house_forward.specs.Deeds.{Begins, Asks, Answers, Greets, Requests, Replies, Listens, Unlistens}
-use Rattle.house_forward.specs.Desk.{Desk, empty_desk, standing_at}
-use Rattle.house_forward.specs.Forwardings.{first_refused, refused_if, replied_refused, made_refused, start_of, Begins as BeginsAt, StartsIf, Standing, Opens, is_first, has_request, requests_at, request_of, after_saying, changed, stage_after, closing_after, standing, counts, how_many, listens_at, connects_to, opens_of, after_close, is_new, EndsLeave, ComesIf, ComesUnless, is_asked, asks_at, is_cancelled, cancels_at, replied_all, removed_at, first_of, to_listen, is_numbered, has_listener, is_listener, listener_at}
+use Rattle.house_forward.specs.ForwarderEvents.{ForwarderEvent, Does, Leave}
+use Rattle.house_forward.specs.ForwarderEvents.{Begins, Asks, Answers, Greets, Requests, Replies, Listens, Unlistens}
+use Rattle.house_forward.specs.ForwardingState.{ForwardingState, empty_forwarding_state, standing_at}
+use Rattle.house_forward.specs.Forwardings.{first_refused, refused_if, replied_refused, made_refused, start_of, Begins as BeginsAt, StartsIf, Standing, Opens, is_first, has_request, requests_at, request_of, after_sending, changed, stage_after, closing_after, standing, counts, how_many, listens_at, connects_to, opens_of, after_close, is_new, EndsLeave, ComesIf, ComesUnless, is_asked, asks_at, is_cancelled, cancels_at, replied_all, removed_at, first_of, to_listen, is_numbered, has_listener, is_listener, listener_at}
 use Rattle.house_forward.specs.Rules.{AreEnds, is_refused_alone}
-use Rattle.house_forward.specs.Starting.{HasBegun, WasOrdered, WasRequested, WasRefused, WasServed, IsTold, EachStart}
+use Rattle.house_forward.specs.Starting.{HasBegun, WasOrdered, WasRequested, WasRefused, WasServed, IsRecorded, EachStart}
 use Rattle.house_forward.specs.declared.asks.Asked.{Asked as Comes}
 use Rattle.house_forward.specs.declared.asks.Asked.TheVariants.{Now, Later}
 use Rattle.house_forward.specs.declared.asks.Outcome.TheVariants.{Done, Port, Refused}
 use Rattle.house_forward.specs.declared.forwarding.Change.{Change}
 use Rattle.house_forward.specs.declared.forwarding.Change.TheVariants as change
 use Rattle.house_forward.specs.declared.forwarding.Forwarding.{Forwarding}
-use Rattle.house_forward.specs.declared.forwarding.Request.{Request}
-use Rattle.house_forward.specs.declared.forwarding.Request.TheVariants.{Listen, Cancel}
+use Rattle.house_forward.specs.declared.forwarding.ForwardingRequest.{ForwardingRequest}
+use Rattle.house_forward.specs.declared.forwarding.ForwardingRequest.TheVariants.{Listen, Cancel}
 use Rattle.house_forward.specs.declared.forwarding.Stage.{Stage}
 use Rattle.house_forward.specs.declared.forwarding.Stage.TheVariants.{ToListen, Ordered, Listening, ToRequest, Requested, Live, Cancelling}
 use Rattle.house_forward.specs.declared.rules.Ends.{Ends}
@@ -42,16 +42,16 @@ pub record Pending (starts : Starts) (ask : StartAsk) (all : List Forwarding) : 
 
 -- one that was refused, and is told or one before it
 abbrev pub Fails : Starts → ℕ → StartAsk → Option ℕ → Type 0
-Fails starts i ask refused = WasRefused starts i ask × IsTold refused i
+Fails starts i ask refused = WasRefused starts i ask × IsRecorded refused i
 
 -- only those before are told
 abbrev IsLow : Option ℕ → ℕ → Type 0
 IsLow None i = Unit {0}
 IsLow (Some first) i = first < i
 
-told-first : (refused : Option ℕ) (i : ℕ) → IsLow refused i → IsTold (first_refused refused (Some i)) i
-told-first None i low = omega arith
-told-first (Some first) i low = omega (arith, low)
+recorded-first : (refused : Option ℕ) (i : ℕ) → IsLow refused i → IsRecorded (first_refused refused (Some i)) i
+recorded-first None i low = omega arith
+recorded-first (Some first) i low = omega (arith, low)
 
 low-first : (refused : Option ℕ) (i : ℕ) → IsLow refused i → IsLow (first_refused refused (Some i)) (suc i)
 low-first None i low = omega arith
@@ -61,15 +61,15 @@ low-more : (refused : Option ℕ) (i : ℕ) → IsLow refused i → IsLow refuse
 low-more None i low = tt
 low-more (Some first) i low = omega (arith, low)
 
-told-still : (refused more : Option ℕ) (i : ℕ) → IsTold refused i → IsTold (first_refused refused more) i
-told-still None more i told = absurd told
-told-still (Some first) more i told = told
+recorded-still : (refused more : Option ℕ) (i : ℕ) → IsRecorded refused i → IsRecorded (first_refused refused more) i
+recorded-still None more i recorded = absurd recorded
+recorded-still (Some first) more i recorded = recorded
 
-told-if : (comes : Comes) (i j : ℕ) (refused : Option ℕ) → IsTold refused j → IsTold (refused_if comes i refused) j
-told-if (Now Done) i j refused told = told
-told-if (Now (Port port)) i j refused told = told
-told-if (Now Refused) i j refused told = told-still refused (Some i) j told
-told-if (Later serial) i j refused told = told
+recorded-if : (comes : Comes) (i j : ℕ) (refused : Option ℕ) → IsRecorded refused j → IsRecorded (refused_if comes i refused) j
+recorded-if (Now Done) i j refused recorded = recorded
+recorded-if (Now (Port port)) i j refused recorded = recorded
+recorded-if (Now Refused) i j refused recorded = recorded-still refused (Some i) j recorded
+recorded-if (Later serial) i j refused recorded = recorded
 
 low-if : (comes : Comes) (i : ℕ) (refused : Option ℕ) → IsLow refused i → IsLow (refused_if comes i refused) (suc i)
 low-if (Now Done) i refused low = low-more refused i low
@@ -129,19 +129,19 @@ passes-found : (p : Forwarding → Bool) (x : Forwarding) (xs : List Forwarding)
 passes-found p x xs e = (found (λ (y : Forwarding). Unit {0}) p xs x e (λ k d lt. tt)).1
 
 opens-by : (starts : Starts) (i : ℕ) (ask : StartAsk) (ends : Ends) (old new : Standing) (o : Option Forwarding) → standing ends old.all ≡ o
-    → BeginsAt starts.gateway starts.asks i (standing_at empty_desk) old → ((f : Forwarding) → In f old.all → is_first f.stage ≡ true)
+    → BeginsAt starts.gateway starts.asks i (standing_at empty_forwarding_state) old → ((f : Forwarding) → In f old.all → is_first f.stage ≡ true)
     → AreEnds starts.gateway ask ends → Opens (is_new ends old.all o) ends old.serials (Some i) old.all new.all
-    → (opens_of old.serials ends old.all o ≡ Now Refused → IsTold new.refused i) → One starts i ask new.refused old.all new.all
-opens-by starts i ask ends old new None is before firsts are opens told =
+    → (opens_of old.serials ends old.all o ≡ Now Refused → IsRecorded new.refused i) → One starts i ask new.refused old.all new.all
+opens-by starts i ask ends old new None is before firsts are opens recorded =
     room-if starts i ask ends old new (nat_lt (how_many old.all) MOST_FORWARDINGS) firsts are opens (λ full. (
       record {
         stood = old;
         before = before;
         cause = inr (ends, are, ap (λ o. opens_of old.serials ends old.all o) is ∙ rw full refl);
       },
-      told (rw full refl),
+      recorded (rw full refl),
     ))
-opens-by starts i ask ends old new (Some f) is before firsts are opens told =
+opens-by starts i ask ends old new (Some f) is before firsts are opens recorded =
     let test : Forwarding → Bool = λ g. counts g && listens_at ends g in
     let here = found-in test f old.all is in
     let passes = passes-found test f old.all is in
@@ -153,36 +153,36 @@ opens-by starts i ask ends old new (Some f) is before firsts are opens told =
         before = before;
         cause = inr (ends, are, ap (λ o. opens_of old.serials ends old.all o) is ∙ rw elsewhere refl);
       },
-      told (rw elsewhere refl),
+      recorded (rw elsewhere refl),
     )))
 
 starts-one : (b : Bool) (starts : Starts) (i : ℕ) (ask : StartAsk) (old new : Standing) → is_refused_alone ask ≡ b
-    → BeginsAt starts.gateway starts.asks i (standing_at empty_desk) old → ((f : Forwarding) → In f old.all → is_first f.stage ≡ true)
+    → BeginsAt starts.gateway starts.asks i (standing_at empty_forwarding_state) old → ((f : Forwarding) → In f old.all → is_first f.stage ≡ true)
     → IsLow old.refused i → StartsIf b starts.gateway ask i old new → One starts i ask new.refused old.all new.all
 starts-one true starts i ask old new e before firsts low s =
     same-all starts i ask new.refused old.all new.all firsts (ap (λ (t : Standing). t.all) s)
     (inl (
       record { stood = old; before = before; cause = inl e },
-      subst (λ (o : Option ℕ). IsTold o i) (sym (ap (λ (t : Standing). t.refused) s)) (told-first old.refused i low),
+      subst (λ (o : Option ℕ). IsRecorded o i) (sym (ap (λ (t : Standing). t.refused) s)) (recorded-first old.refused i low),
     ))
 starts-one false starts i ask old new e before firsts low s =
     opens-by starts i ask s.0 old new (standing s.0 old.all) refl before firsts s.1 s.2.all
-    (λ is. subst (λ (o : Option ℕ). IsTold o i) (sym (s.2.refused ∙ ap (λ (c : Comes). refused_if c i old.refused) is))
-    (told-first old.refused i low))
+    (λ is. subst (λ (o : Option ℕ). IsRecorded o i) (sym (s.2.refused ∙ ap (λ (c : Comes). refused_if c i old.refused) is))
+    (recorded-first old.refused i low))
 
 keeps-fate : (starts : Starts) (j : ℕ) (ask : StartAsk) (r more : Option ℕ) (old new : List Forwarding)
-    → ((f : Forwarding) → In f old → In f new) → (IsTold r j → IsTold more j)
+    → ((f : Forwarding) → In f old → In f new) → (IsRecorded r j → IsRecorded more j)
     → Fails starts j ask r ⊎ Pending starts ask old → Fails starts j ask more ⊎ Pending starts ask new
-keeps-fate starts j ask r more old new keeps tells (inl f) = inl (f.0, tells f.1)
-keeps-fate starts j ask r more old new keeps tells (inr p) = inr (record { f = p.f; here = keeps p.f p.here; first = p.first; is_for = p.is_for })
+keeps-fate starts j ask r more old new keeps records (inl f) = inl (f.0, records f.1)
+keeps-fate starts j ask r more old new keeps records (inr p) = inr (record { f = p.f; here = keeps p.f p.here; first = p.first; is_for = p.is_for })
 
 -- who is told after one more
-tells-one : (b gateway : Bool) (ask : StartAsk) (i j : ℕ) (old new : Standing) → StartsIf b gateway ask i old new
-    → IsTold old.refused j → IsTold new.refused j
-tells-one true gateway ask i j old new s told =
-    subst (λ (o : Option ℕ). IsTold o j) (sym (ap (λ (t : Standing). t.refused) s)) (told-still old.refused (Some i) j told)
-tells-one false gateway ask i j old new s told =
-    subst (λ (o : Option ℕ). IsTold o j) (sym s.2.refused) (told-if _ i j old.refused told)
+records-one : (b gateway : Bool) (ask : StartAsk) (i j : ℕ) (old new : Standing) → StartsIf b gateway ask i old new
+    → IsRecorded old.refused j → IsRecorded new.refused j
+records-one true gateway ask i j old new s recorded =
+    subst (λ (o : Option ℕ). IsRecorded o j) (sym (ap (λ (t : Standing). t.refused) s)) (recorded-still old.refused (Some i) j recorded)
+records-one false gateway ask i j old new s recorded =
+    subst (λ (o : Option ℕ). IsRecorded o j) (sym s.2.refused) (recorded-if _ i j old.refused recorded)
 
 low-one : (b gateway : Bool) (ask : StartAsk) (i : ℕ) (old new : Standing) → StartsIf b gateway ask i old new
     → IsLow old.refused i → IsLow new.refused (suc i)
@@ -195,7 +195,7 @@ same-some : (a b : StartAsk) (o : Option StartAsk) → o ≡ Some a → o ≡ So
 same-some a b o e f = let both : Some a ≡ Some b = sym e ∙ f in cc
 
 pub begins : (starts : Starts) (i : ℕ) (now : Standing) → i ≤ length starts.asks
-    → BeginsAt starts.gateway starts.asks i (standing_at empty_desk) now → StartsOn starts i now
+    → BeginsAt starts.gateway starts.asks i (standing_at empty_forwarding_state) now → StartsOn starts i now
 begins starts zero now l b =
     subst (λ (t : Standing). StartsOn starts 0 t) (sym b) (record { firsts = λ f h. absurd h; fates = λ j ask lt is. absurd (omega arith); low = tt })
 begins starts (suc i) now l b =
@@ -207,7 +207,7 @@ begins starts (suc i) now l b =
       firsts = one.firsts;
       fates = λ j ask lt is. elim (cases_lt j i) [
         | inl below ↦ keeps-fate starts j ask b.0.refused now.refused b.0.all now.all one.keeps
-            (tells-one (is_refused_alone at.0) starts.gateway at.0 i j b.0 now s) (first.fates j ask below is)
+            (records-one (is_refused_alone at.0) starts.gateway at.0 i j b.0 now s) (first.fates j ask below is)
         | inr last ↦ (let same : j ≡ i = omega arith in
             let its : at.0 ≡ ask = same-some at.0 ask (slice_get starts.asks i) at.1 (ap (λ k. slice_get starts.asks k) (sym same) ∙ is) in
             subst (λ (k : ℕ). Fails starts k ask now.refused ⊎ Pending starts ask now.all) (sym same)
@@ -218,22 +218,22 @@ begins starts (suc i) now l b =
 
 -- ---- what happens then
 
-begun-later : (deed : Deed) (deeds : List Deed) (f : Forwarding) → HasBegun f deeds → HasBegun f (deed ∷ deeds)
-begun-later deed deeds f (WasOrdered number later earlier e) = WasOrdered number (deed ∷ later) earlier (ap (λ ds. deed ∷ ds) e)
-begun-later deed deeds f (WasRequested first later earlier e one is) =
-    WasRequested first (deed ∷ later) earlier (ap (λ ds. deed ∷ ds) e) one is
+begun-later : (forwarder_event : ForwarderEvent) (forwarder_events : List ForwarderEvent) (f : Forwarding) → HasBegun f forwarder_events → HasBegun f (forwarder_event ∷ forwarder_events)
+begun-later forwarder_event forwarder_events f (WasOrdered number later earlier e) = WasOrdered number (forwarder_event ∷ later) earlier (ap (λ ds. forwarder_event ∷ ds) e)
+begun-later forwarder_event forwarder_events f (WasRequested first later earlier e one is) =
+    WasRequested first (forwarder_event ∷ later) earlier (ap (λ ds. forwarder_event ∷ ds) e) one is
 
 -- it waits to begin, or has begun
-abbrev Fate : Starts → StartAsk → List Deed → List Forwarding → Type 0
-Fate starts ask deeds all = Pending starts ask all ⊎ WasServed starts ask deeds
+abbrev Fate : Starts → StartAsk → List ForwarderEvent → List Forwarding → Type 0
+Fate starts ask forwarder_events all = Pending starts ask all ⊎ WasServed starts ask forwarder_events
 
-served-later : (starts : Starts) (ask : StartAsk) (deed : Deed) (deeds : List Deed) → WasServed starts ask deeds → WasServed starts ask (deed ∷ deeds)
-served-later starts ask deed deeds s =
-    record { forwarding = s.forwarding; is_for = s.is_for; begun = begun-later deed deeds s.forwarding s.begun }
+served-later : (starts : Starts) (ask : StartAsk) (forwarder_event : ForwarderEvent) (forwarder_events : List ForwarderEvent) → WasServed starts ask forwarder_events → WasServed starts ask (forwarder_event ∷ forwarder_events)
+served-later starts ask forwarder_event forwarder_events s =
+    record { forwarding = s.forwarding; is_for = s.is_for; begun = begun-later forwarder_event forwarder_events s.forwarding s.begun }
 
 abbrev IsNoRequest : Change → Type 0
 IsNoRequest change.Close = Unit {0}
-IsNoRequest change.Request = ⊥
+IsNoRequest change.ForwardingRequest = ⊥
 IsNoRequest change.Cancel = Unit {0}
 IsNoRequest (change.Live port) = Unit {0}
 IsNoRequest change.Stay = Unit {0}
@@ -243,7 +243,7 @@ first-stays c asked (ToListen host) k e = refl
 first-stays c asked Ordered k e = cc
 first-stays c asked (Listening l) k e = cc
 first-stays change.Close asked ToRequest k e = refl
-first-stays change.Request asked ToRequest k e = absurd k
+first-stays change.ForwardingRequest asked ToRequest k e = absurd k
 first-stays change.Cancel asked ToRequest k e = refl
 first-stays (change.Live port) asked ToRequest k e = refl
 first-stays change.Stay asked ToRequest k e = refl
@@ -335,22 +335,22 @@ request-its f serial e = elim (request-is f.stage f.serial) [
   | inr is ↦ (let both : Listen serial ≡ Cancel f.serial = sym e ∙ is in cc)
 ]
 
-said : (starts : Starts) (ask : StartAsk) (deeds : List Deed) (old : Desk) (g : Forwarding) (r : Request) → request_of g ≡ r
+said : (starts : Starts) (ask : StartAsk) (forwarder_events : List ForwarderEvent) (old : ForwardingState) (g : Forwarding) (r : ForwardingRequest) → request_of g ≡ r
     → In g old.all → is_numbered 0 old.all old.serials ≡ true → Pending starts ask old.all
-    → Fate starts ask (Requests g ∷ deeds) (after_saying r old.all)
-said starts ask deeds old g (Cancel serial) e here n p = inl (pending-changed starts ask change.Cancel serial old.all tt p)
-said starts ask deeds old g (Listen serial) e here n p =
+    → Fate starts ask (Requests g ∷ forwarder_events) (after_sending r old.all)
+said starts ask forwarder_events old g (Cancel serial) e here n p = inl (pending-changed starts ask change.Cancel serial old.all tt p)
+said starts ask forwarder_events old g (Listen serial) e here n p =
     let its = request-its g serial e in
     elim (cases_Bool (p.f.serial == serial)) [
       | inl same ↦ (let one : p.f ≡ g = one-serial old.all p.f g 0 old.serials n p.here here (eqb-true p.f.serial serial same ∙ its.0) in
           inr (record {
             forwarding = p.f;
             is_for = p.is_for;
-            begun = WasRequested g [] deeds refl (subst (λ (x : Forwarding). AreOne p.f x) one (itself p.f)) its.1;
+            begun = WasRequested g [] forwarder_events refl (subst (λ (x : Forwarding). AreOne p.f x) one (itself p.f)) its.1;
           }))
-      | inr other ↦ inl (pending-in starts ask old.all (map (changed change.Request serial) old.all) p
-          (subst (λ (x : Forwarding). In x (map (changed change.Request serial) old.all)) (changed-other change.Request serial p.f other)
-          (in-map (changed change.Request serial) p.f old.all p.here)))
+      | inr other ↦ inl (pending-in starts ask old.all (map (changed change.ForwardingRequest serial) old.all) p
+          (subst (λ (x : Forwarding). In x (map (changed change.ForwardingRequest serial) old.all)) (changed-other change.ForwardingRequest serial p.f other)
+          (in-map (changed change.ForwardingRequest serial) p.f old.all p.here)))
     ]
 
 -- a reply
@@ -363,7 +363,7 @@ first-asks Requested e = cc
 first-asks (Live port) e = cc
 first-asks (Cancelling port) e = cc
 
-replied : (starts : Starts) (ask : StartAsk) (success : Bool) (port : Option ℕ) (o : Option Request) (fs : List Forwarding) → Pending starts ask fs
+replied : (starts : Starts) (ask : StartAsk) (success : Bool) (port : Option ℕ) (o : Option ForwardingRequest) (fs : List Forwarding) → Pending starts ask fs
     → Pending starts ask (replied_all success port o fs)
 replied starts ask true port None fs p = p
 replied starts ask false port None fs p = p
@@ -379,36 +379,36 @@ replied starts ask true port (Some (Cancel serial)) fs p =
 replied starts ask false port (Some (Cancel serial)) fs p = pending-changed starts ask change.Stay serial fs tt p
 
 -- a listener
-ordered : (starts : Starts) (ask : StartAsk) (host : List ℕ) (port : ℕ) (number : Option ℕ) (deeds : List Deed) (p f : Forwarding)
+ordered : (starts : Starts) (ask : StartAsk) (host : List ℕ) (port : ℕ) (number : Option ℕ) (forwarder_events : List ForwarderEvent) (p f : Forwarding)
     → p ≡ f → IsFor starts.gateway true ask p → (host ≡ f.listen_host) × (port ≡ f.listen_port)
-    → WasServed starts ask (Listens host port number ∷ deeds)
-ordered starts ask host port number deeds p f same is ends = record {
+    → WasServed starts ask (Listens host port number ∷ forwarder_events)
+ordered starts ask host port number forwarder_events p f same is ends = record {
   forwarding = p;
   is_for = is;
-  begun = WasOrdered number [] deeds (ap (λ h. Listens h port number ∷ deeds) (ends.0 ∙ ap (λ x. x.listen_host) (sym same))
-      ∙ ap (λ n. Listens p.listen_host n number ∷ deeds) (ends.1 ∙ ap (λ x. x.listen_port) (sym same)));
+  begun = WasOrdered number [] forwarder_events (ap (λ h. Listens h port number ∷ forwarder_events) (ends.0 ∙ ap (λ x. x.listen_host) (sym same))
+      ∙ ap (λ n. Listens p.listen_host n number ∷ forwarder_events) (ends.1 ∙ ap (λ x. x.listen_port) (sym same)));
 }
 
-made : (starts : Starts) (ask : StartAsk) (host : List ℕ) (port : ℕ) (number : Option ℕ) (deeds : List Deed) (serials i : ℕ) (f : Forwarding)
+made : (starts : Starts) (ask : StartAsk) (host : List ℕ) (port : ℕ) (number : Option ℕ) (forwarder_events : List ForwarderEvent) (serials i : ℕ) (f : Forwarding)
     (old new : List Forwarding) → is_numbered 0 old serials ≡ true → position to_listen old ≡ Some i → f ≡ get_or old i f
     → (host ≡ f.listen_host) × (port ≡ f.listen_port) → MadeOf number i f old new → Pending starts ask old
-    → Fate starts ask (Listens host port number ∷ deeds) new
-made starts ask host port None deeds serials i f old new n first is ends m p =
+    → Fate starts ask (Listens host port number ∷ forwarder_events) new
+made starts ask host port None forwarder_events serials i f old new n first is ends m p =
     let inside = (position-Some to_listen old i f first).0 in
     let there : In f old = subst (λ (x : Forwarding). In x old) (sym is) (in-get old i f inside) in
     elim (cases_Bool (p.f.serial == f.serial)) [
-      | inl same ↦ inr (ordered starts ask host port None deeds p.f f
+      | inl same ↦ inr (ordered starts ask host port None forwarder_events p.f f
           (one-serial old p.f f 0 serials n p.here there (eqb-true p.f.serial f.serial same)) p.is_for ends)
       | inr other ↦ inl (pending-all starts ask (remove old i) new m (pending-in starts ask old (remove old i) p
           (in-remove (λ (x : Forwarding). x.serial == f.serial) p.f old i f inside
           (eq-eqb (get_or old i f).serial f.serial (ap (λ (x : Forwarding). x.serial) (sym is))) other p.here)))
     ]
-made starts ask host port (Some l) deeds serials i f old new n first is ends m p =
+made starts ask host port (Some l) forwarder_events serials i f old new n first is ends m p =
     let inside = (position-Some to_listen old i f first).0 in
     let g : Forwarding = record f { stage = Listening l } in
     elim (in-set p.f old i g f inside p.here) [
       | inl stays ↦ inl (pending-all starts ask (set old i g) new m (pending-in starts ask old (set old i g) p stays))
-      | inr its ↦ inr (ordered starts ask host port (Some l) deeds p.f f (its ∙ sym is) p.is_for ends)
+      | inr its ↦ inr (ordered starts ask host port (Some l) forwarder_events p.f f (its ∙ sym is) p.is_for ends)
     ]
 
 first-lacks : (l : ℕ) (s : Stage) → is_first s ≡ true → is_listener l (listener_at s) ≡ false
@@ -420,23 +420,23 @@ first-lacks l Requested e = cc
 first-lacks l (Live port) e = cc
 first-lacks l (Cancelling port) e = cc
 
-goes : (starts : Starts) (ask : StartAsk) (deed : Deed) (deeds : List Deed) (old new : Desk) → Tracks old → Does deed old new
-    → Pending starts ask old.all → Fate starts ask (deed ∷ deeds) new.all
-goes starts ask (Begins more) deeds old new t d p =
+goes : (starts : Starts) (ask : StartAsk) (forwarder_event : ForwarderEvent) (forwarder_events : List ForwarderEvent) (old new : ForwardingState) → Tracks old → Does forwarder_event old new
+    → Pending starts ask old.all → Fate starts ask (forwarder_event ∷ forwarder_events) new.all
+goes starts ask (Begins more) forwarder_events old new t d p =
     inl (pending-in starts ask old.all new.all p
     (pushed more.gateway more.asks (length more.asks) (standing_at old) (standing_at new) p.f (omega arith) d.begins p.here))
-goes starts ask (Asks client id opening what answer) deeds old new t d p =
+goes starts ask (Asks client id opening what answer) forwarder_events old new t d p =
     inl (pending-asked starts ask old.all new.all
     (ask-leaves (turns_away client id old.waiting) old.gateway opening what old.serials old.all new.all d.came_to d.comes) p)
-goes starts ask (Answers client id answer) deeds old new t d p = inl (pending-all starts ask old.all new.all (ap (λ (x : Desk). x.all) d.others) p)
-goes starts ask Greets deeds old new t d p = inl (pending-all starts ask old.all new.all (ap (λ (x : Desk). x.all) d.1) p)
-goes starts ask (Requests g) deeds old new t d p =
-    subst (λ (fs : List Forwarding). Fate starts ask (Requests g ∷ deeds) fs) (sym (ap (λ (x : Desk). x.all) d.2))
-    (said starts ask deeds old g (request_of g) refl (found-in has_request g old.all d.1) t.numbered p)
-goes starts ask (Replies success port) deeds old new t d p =
-    inl (pending-all starts ask (replied_all success port (first_of old.requests) old.all) new.all (ap (λ (x : Desk). x.all) d)
+goes starts ask (Answers client id answer) forwarder_events old new t d p = inl (pending-all starts ask old.all new.all (ap (λ (x : ForwardingState). x.all) d.others) p)
+goes starts ask Greets forwarder_events old new t d p = inl (pending-all starts ask old.all new.all (ap (λ (x : ForwardingState). x.all) d.1) p)
+goes starts ask (Requests g) forwarder_events old new t d p =
+    subst (λ (fs : List Forwarding). Fate starts ask (Requests g ∷ forwarder_events) fs) (sym (ap (λ (x : ForwardingState). x.all) d.2))
+    (said starts ask forwarder_events old g (request_of g) refl (found-in has_request g old.all d.1) t.numbered p)
+goes starts ask (Replies success port) forwarder_events old new t d p =
+    inl (pending-all starts ask (replied_all success port (first_of old.requests) old.all) new.all (ap (λ (x : ForwardingState). x.all) d)
     (replied starts ask success port (first_of old.requests) old.all p))
-goes starts ask (Listens host port number) deeds old new t d p =
+goes starts ask (Listens host port number) forwarder_events old new t d p =
     let f = d.orders.ordered.0 in
     let g : Forwarding = record f { stage = Ordered } in
     let i = d.orders.place in
@@ -445,80 +445,80 @@ goes starts ask (Listens host port number) deeds old new t d p =
     (subst (λ (fs : List Forwarding). position to_listen fs ≡ Some d.makes.place) d.orders.ordered.2 d.makes.first) in
     let at = placed (λ (x : Forwarding). Unit {0}) to_listen old.all i f d.orders.first d.orders.ordered.1 (λ k z lt. tt) in
     let ends = there-is (λ (x : Forwarding). (host ≡ x.listen_host) × (port ≡ x.listen_port)) (find to_listen old.all) f at.2 d.orders.there in
-    made starts ask host port number deeds old.serials i f old.all new.all t.numbered d.orders.first d.orders.ordered.1 ends
+    made starts ask host port number forwarder_events old.serials i f old.all new.all t.numbered d.orders.first d.orders.ordered.1 ends
     (made-of number i d.makes.place f old.all d.between.all new.all same d.orders.ordered.2 first d.makes.first d.makes.made) p
-goes starts ask (Unlistens l) deeds old new t d p =
+goes starts ask (Unlistens l) forwarder_events old new t d p =
     let keep : Forwarding → Bool = λ f. not (has_listener l f) in
-    inl (pending-all starts ask (filter keep old.all) new.all (ap (λ (x : Desk). x.all) d.others)
+    inl (pending-all starts ask (filter keep old.all) new.all (ap (λ (x : ForwardingState). x.all) d.others)
     (pending-in starts ask old.all (filter keep old.all) p
     (in-filter keep p.f old.all (ap not (first-lacks l p.f.stage p.first)) p.here)))
 
 -- who is told stays
-told-begins : (gateway : Bool) (asks : List StartAsk) (i j : ℕ) (old new : Standing) → i ≤ length asks → BeginsAt gateway asks i old new
-    → IsTold old.refused j → IsTold new.refused j
-told-begins gateway asks zero j old new l begins told = subst (λ (t : Standing). IsTold t.refused j) (sym begins) told
-told-begins gateway asks (suc i) j old new l begins told =
-    let first = told-begins gateway asks i j old begins.0 (omega arith) begins.1 told in
+recorded-begins : (gateway : Bool) (asks : List StartAsk) (i j : ℕ) (old new : Standing) → i ≤ length asks → BeginsAt gateway asks i old new
+    → IsRecorded old.refused j → IsRecorded new.refused j
+recorded-begins gateway asks zero j old new l begins recorded = subst (λ (t : Standing). IsRecorded t.refused j) (sym begins) recorded
+recorded-begins gateway asks (suc i) j old new l begins recorded =
+    let first = recorded-begins gateway asks i j old begins.0 (omega arith) begins.1 recorded in
     let at = in-range asks i (omega arith) in
     let s = there-is (λ (ask : StartAsk). StartsIf (is_refused_alone ask) gateway ask i begins.0 new) (slice_get asks i) at.0 at.1 begins.2 in
-    tells-one (is_refused_alone at.0) gateway at.0 i j begins.0 new s first
+    records-one (is_refused_alone at.0) gateway at.0 i j begins.0 new s first
 
-told-reply : (success : Bool) (o : Option Request) (fs : List Forwarding) (refused : Option ℕ) (j : ℕ) → IsTold refused j
-    → IsTold (replied_refused success o fs refused) j
-told-reply true None fs refused j told = told
-told-reply false None fs refused j told = told
-told-reply true (Some (Listen serial)) fs refused j told = told
-told-reply false (Some (Listen serial)) fs refused j told = told-still refused (start_of (find (is_asked serial) fs)) j told
-told-reply true (Some (Cancel serial)) fs refused j told = told
-told-reply false (Some (Cancel serial)) fs refused j told = told
+recorded-reply : (success : Bool) (o : Option ForwardingRequest) (fs : List Forwarding) (refused : Option ℕ) (j : ℕ) → IsRecorded refused j
+    → IsRecorded (replied_refused success o fs refused) j
+recorded-reply true None fs refused j recorded = recorded
+recorded-reply false None fs refused j recorded = recorded
+recorded-reply true (Some (Listen serial)) fs refused j recorded = recorded
+recorded-reply false (Some (Listen serial)) fs refused j recorded = recorded-still refused (start_of (find (is_asked serial) fs)) j recorded
+recorded-reply true (Some (Cancel serial)) fs refused j recorded = recorded
+recorded-reply false (Some (Cancel serial)) fs refused j recorded = recorded
 
-told-made : (number : Option ℕ) (o : Option Forwarding) (refused : Option ℕ) (j : ℕ) → IsTold refused j
-    → IsTold (made_refused number o refused) j
-told-made None o refused j told = told-still refused (start_of o) j told
-told-made (Some l) o refused j told = told
+recorded-made : (number : Option ℕ) (o : Option Forwarding) (refused : Option ℕ) (j : ℕ) → IsRecorded refused j
+    → IsRecorded (made_refused number o refused) j
+recorded-made None o refused j recorded = recorded-still refused (start_of o) j recorded
+recorded-made (Some l) o refused j recorded = recorded
 
-told-goes : (deed : Deed) (old new : Desk) (j : ℕ) → Does deed old new → IsTold old.refused j → IsTold new.refused j
-told-goes (Begins more) old new j d told =
-    told-begins more.gateway more.asks (length more.asks) j (standing_at old) (standing_at new) (omega arith) d.begins told
-told-goes (Asks client id opening what answer) old new j d told =
-    subst (λ (o : Option ℕ). IsTold o j) (sym (ap (λ (x : Desk). x.refused) d.others)) told
-told-goes (Answers client id answer) old new j d told = subst (λ (o : Option ℕ). IsTold o j) (sym (ap (λ (x : Desk). x.refused) d.others)) told
-told-goes Greets old new j d told = subst (λ (o : Option ℕ). IsTold o j) (sym (ap (λ (x : Desk). x.refused) d.1)) told
-told-goes (Requests g) old new j d told = subst (λ (o : Option ℕ). IsTold o j) (sym (ap (λ (x : Desk). x.refused) d.2)) told
-told-goes (Replies success port) old new j d told =
-    subst (λ (o : Option ℕ). IsTold o j) (sym (ap (λ (x : Desk). x.refused) d))
-    (told-reply success (first_of old.requests) old.all old.refused j told)
-told-goes (Listens host port number) old new j d told =
-    subst (λ (o : Option ℕ). IsTold o j) (sym (ap (λ (x : Desk). x.refused) d.makes.others))
-    (told-made number (find to_listen d.between.all) d.between.refused j
-    (subst (λ (o : Option ℕ). IsTold o j) (sym (ap (λ (x : Desk). x.refused) d.orders.others)) told))
-told-goes (Unlistens l) old new j d told = subst (λ (o : Option ℕ). IsTold o j) (sym (ap (λ (x : Desk). x.refused) d.others)) told
+recorded-goes : (forwarder_event : ForwarderEvent) (old new : ForwardingState) (j : ℕ) → Does forwarder_event old new → IsRecorded old.refused j → IsRecorded new.refused j
+recorded-goes (Begins more) old new j d recorded =
+    recorded-begins more.gateway more.asks (length more.asks) j (standing_at old) (standing_at new) (omega arith) d.begins recorded
+recorded-goes (Asks client id opening what answer) old new j d recorded =
+    subst (λ (o : Option ℕ). IsRecorded o j) (sym (ap (λ (x : ForwardingState). x.refused) d.others)) recorded
+recorded-goes (Answers client id answer) old new j d recorded = subst (λ (o : Option ℕ). IsRecorded o j) (sym (ap (λ (x : ForwardingState). x.refused) d.others)) recorded
+recorded-goes Greets old new j d recorded = subst (λ (o : Option ℕ). IsRecorded o j) (sym (ap (λ (x : ForwardingState). x.refused) d.1)) recorded
+recorded-goes (Requests g) old new j d recorded = subst (λ (o : Option ℕ). IsRecorded o j) (sym (ap (λ (x : ForwardingState). x.refused) d.2)) recorded
+recorded-goes (Replies success port) old new j d recorded =
+    subst (λ (o : Option ℕ). IsRecorded o j) (sym (ap (λ (x : ForwardingState). x.refused) d))
+    (recorded-reply success (first_of old.requests) old.all old.refused j recorded)
+recorded-goes (Listens host port number) old new j d recorded =
+    subst (λ (o : Option ℕ). IsRecorded o j) (sym (ap (λ (x : ForwardingState). x.refused) d.makes.others))
+    (recorded-made number (find to_listen d.between.all) d.between.refused j
+    (subst (λ (o : Option ℕ). IsRecorded o j) (sym (ap (λ (x : ForwardingState). x.refused) d.orders.others)) recorded))
+recorded-goes (Unlistens l) old new j d recorded = subst (λ (o : Option ℕ). IsRecorded o j) (sym (ap (λ (x : ForwardingState). x.refused) d.others)) recorded
 
-fate-goes : (starts : Starts) (ask : StartAsk) (i : ℕ) (deed : Deed) (deeds : List Deed) (old new : Desk) → Tracks old → Does deed old new
-    → Fails starts i ask old.refused ⊎ Fate starts ask deeds old.all → Fails starts i ask new.refused ⊎ Fate starts ask (deed ∷ deeds) new.all
-fate-goes starts ask i deed deeds old new t d (inl f) = inl (f.0, told-goes deed old new i d f.1)
-fate-goes starts ask i deed deeds old new t d (inr (inl p)) = inr (goes starts ask deed deeds old new t d p)
-fate-goes starts ask i deed deeds old new t d (inr (inr s)) = inr (inr (served-later starts ask deed deeds s))
+fate-goes : (starts : Starts) (ask : StartAsk) (i : ℕ) (forwarder_event : ForwarderEvent) (forwarder_events : List ForwarderEvent) (old new : ForwardingState) → Tracks old → Does forwarder_event old new
+    → Fails starts i ask old.refused ⊎ Fate starts ask forwarder_events old.all → Fails starts i ask new.refused ⊎ Fate starts ask (forwarder_event ∷ forwarder_events) new.all
+fate-goes starts ask i forwarder_event forwarder_events old new t d (inl f) = inl (f.0, recorded-goes forwarder_event old new i d f.1)
+fate-goes starts ask i forwarder_event forwarder_events old new t d (inr (inl p)) = inr (goes starts ask forwarder_event forwarder_events old new t d p)
+fate-goes starts ask i forwarder_event forwarder_events old new t d (inr (inr s)) = inr (inr (served-later starts ask forwarder_event forwarder_events s))
 
 within : (asks : List StartAsk) (i : ℕ) (ask : StartAsk) → slice_get asks i ≡ Some ask → i < length asks
 within [] i ask e = cc
 within (x ∷ asks) zero ask e = omega arith
 within (x ∷ asks) (suc i) ask e = let rest = within asks i ask e in omega (arith, rest)
 
-or-pending : (starts : Starts) (ask : StartAsk) (i : ℕ) (r : Option ℕ) (deeds : List Deed) (all : List Forwarding)
-    → Fails starts i ask r ⊎ Pending starts ask all → Fails starts i ask r ⊎ Fate starts ask deeds all
-or-pending starts ask i r deeds all (inl f) = inl f
-or-pending starts ask i r deeds all (inr p) = inr (inl p)
+or-pending : (starts : Starts) (ask : StartAsk) (i : ℕ) (r : Option ℕ) (forwarder_events : List ForwarderEvent) (all : List Forwarding)
+    → Fails starts i ask r ⊎ Pending starts ask all → Fails starts i ask r ⊎ Fate starts ask forwarder_events all
+or-pending starts ask i r forwarder_events all (inl f) = inl f
+or-pending starts ask i r forwarder_events all (inr p) = inr (inl p)
 
-fates : (starts : Starts) (later : List Deed) (d : Desk) → Leave (later ++ Begins starts ∷ []) d → (i : ℕ) (ask : StartAsk)
+fates : (starts : Starts) (later : List ForwarderEvent) (d : ForwardingState) → Leave (later ++ Begins starts ∷ []) d → (i : ℕ) (ask : StartAsk)
     → slice_get starts.asks i ≡ Some ask → Fails starts i ask d.refused ⊎ Fate starts ask (later ++ Begins starts ∷ []) d.all
 fates starts [] d left i ask is =
-    let from : BeginsAt starts.gateway starts.asks (length starts.asks) (standing_at empty_desk) (standing_at d) =
-    subst (λ (x : Desk). BeginsAt starts.gateway starts.asks (length starts.asks) (standing_at x) (standing_at d)) left.1 left.2.begins in
+    let from : BeginsAt starts.gateway starts.asks (length starts.asks) (standing_at empty_forwarding_state) (standing_at d) =
+    subst (λ (x : ForwardingState). BeginsAt starts.gateway starts.asks (length starts.asks) (standing_at x) (standing_at d)) left.1 left.2.begins in
     let on = begins starts (length starts.asks) (standing_at d) (omega arith) from in
     or-pending starts ask i d.refused (Begins starts ∷ []) d.all (on.fates i ask (within starts.asks i ask is) is)
-fates starts (deed ∷ later) d left i ask is =
-    fate-goes starts ask i deed (later ++ Begins starts ∷ []) left.0 d (tracks (later ++ Begins starts ∷ []) left.0 left.1) left.2
+fates starts (forwarder_event ∷ later) d left i ask is =
+    fate-goes starts ask i forwarder_event (later ++ Begins starts ∷ []) left.0 d (tracks (later ++ Begins starts ∷ []) left.0 left.1) left.2
     (fates starts later left.0 left.1 i ask is)
 
 -- ---- at rest none waits to begin
@@ -532,12 +532,12 @@ begun-at Requested closing P e rests says = cc
 begun-at (Live port) closing P e rests says = cc
 begun-at (Cancelling port) closing P e rests says = cc
 
-settle : (starts : Starts) (ask : StartAsk) (i : ℕ) (deeds : List Deed) (d : Desk) → Tracks d → IsAtRest d
-    → Fails starts i ask d.refused ⊎ Fate starts ask deeds d.all → Fails starts i ask d.refused ⊎ WasServed starts ask deeds
-settle starts ask i deeds d t rest (inl r) = inl r
-settle starts ask i deeds d t rest (inr (inr s)) = inr s
-settle starts ask i deeds d t rest (inr (inl p)) =
-    begun-at p.f.stage p.f.closing (Fails starts i ask d.refused ⊎ WasServed starts ask deeds) p.first
+settle : (starts : Starts) (ask : StartAsk) (i : ℕ) (forwarder_events : List ForwarderEvent) (d : ForwardingState) → Tracks d → IsAtRest d
+    → Fails starts i ask d.refused ⊎ Fate starts ask forwarder_events d.all → Fails starts i ask d.refused ⊎ WasServed starts ask forwarder_events
+settle starts ask i forwarder_events d t rest (inl r) = inl r
+settle starts ask i forwarder_events d t rest (inr (inr s)) = inr s
+settle starts ask i forwarder_events d t rest (inr (inl p)) =
+    begun-at p.f.stage p.f.closing (Fails starts i ask d.refused ⊎ WasServed starts ask forwarder_events) p.first
     (all-rest d.all d.serials d.requests d.waiting d.all t.numbered (fates-at-rest d t rest) (λ f h. h) t.stages rest.orders
     p.f p.here)
     (none-passes-in has_request d.all p.f rest.says p.here)

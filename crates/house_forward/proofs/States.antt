@@ -3,16 +3,16 @@ use Rattle.std.proofs.Common.{◌≡◌, ◌∙◌, sym, ℕ, Bool, true, false,
 use Rattle.std.specs.Prelude.{IfOk, Result, Ok, Err}
 use Rattle.std.proofs.lemmas.Bool.{false≢true}
 use Rattle.mux_outside.specs.HouseCalls.{HouseCall, HandsOn}
-use Rattle.house_forward.specs.Greeting.{said_in}
-use Rattle.house_forward.specs.Lives.{GoesFurther, Follows, SaysIn, taken_in}
-use Rattle.house_forward.specs.State.{held_in, HasSaid, StandsIn}
-use Rattle.house_forward.specs.declared.holdings.Holdings.{Holdings}
+use Rattle.house_forward.specs.Greeting.{sent_in}
+use Rattle.house_forward.specs.RelayTraces.{GoesFurther, Follows, SendsIn, taken_in}
+use Rattle.house_forward.specs.State.{held_in, HasSent, StandsIn}
+use Rattle.house_forward.specs.declared.forwarder_state.ForwarderState.{ForwarderState}
 use Rattle.house_forward.proofs.Calling.{since-on}
 use Rattle.house_forward.proofs.Greeted.{greeted-on}
 
 -- a call in which nothing is said and nothing is taken
-pub hands-on : (call : HouseCall) (old new : Holdings) → old.ordering ≡ None → new.ordering ≡ None → taken_in (call ∷ []) ≡ 0
-    → said_in (call ∷ []) ≡ [] → new.greeted ≡ old.greeted → GoesFurther (Follows call) (held_in old) (held_in new)
+pub hands-on : (call : HouseCall) (old new : ForwarderState) → old.ordering ≡ None → new.ordering ≡ None → taken_in (call ∷ []) ≡ 0
+    → sent_in (call ∷ []) ≡ [] → new.greeted ≡ old.greeted → GoesFurther (Follows call) (held_in old) (held_in new)
     → HandsOn (StandsIn old) (StandsIn new) (call ∷ [])
 hands-on call old new e f none silent same goes = λ calls h. record {
   since = since-on old.ordering new.ordering calls call (held_in old) (held_in new) e f none goes h.since;
@@ -20,9 +20,9 @@ hands-on call old new e f none silent same goes = λ calls h. record {
 }
 
 -- where something is said, it was greeted before
-pub says-so : {E : Type 0} (r : Result Bool E) (bytes : List ℕ) (old new : Holdings) → old.greeted ≡ true → new.greeted ≡ old.greeted
-    → IfOk r (λ said. said ≡ true → GoesFurther (SaysIn bytes) (held_in old) (held_in new))
-    → IfOk r (λ said. said ≡ true → HasSaid bytes old new)
+pub says-so : {E : Type 0} (r : Result Bool E) (bytes : List ℕ) (old new : ForwarderState) → old.greeted ≡ true → new.greeted ≡ old.greeted
+    → IfOk r (λ said. said ≡ true → GoesFurther (SendsIn bytes) (held_in old) (held_in new))
+    → IfOk r (λ said. said ≡ true → HasSent bytes old new)
 says-so (Ok said) bytes old new so same h = λ is. record {
   goes = h is;
   greeted = same ∙ so;

@@ -9,15 +9,15 @@ use Rattle.mux_outside.specs.declared.piece.TheConstants.{LONGEST_PIECE}
 use Rattle.house_relay.specs.declared.relay.Relay.{Relay}
 use Rattle.house_forward.specs.Links.{streams_of, are_distinct, link_after, relay_after, has_number, stream_after}
 use Rattle.house_forward.specs.declared.link.Link.{Link}
-use Rattle.house_forward.specs.declared.link.Step.{Step}
-use Rattle.house_forward.specs.declared.link.Step.TheVariants.{Pause, Finish, End, Close, Writable, Failed}
+use Rattle.house_forward.specs.declared.link.LinkStep.{LinkStep}
+use Rattle.house_forward.specs.declared.link.LinkStep.TheVariants.{Pause, Finish, End, Close, Writable, Failed}
 use Rattle.house_forward.proofs.Streams.{paused-streams, finished-streams, ended-streams, closed-streams, writable-streams, failed-streams, distinct-map, distinct-filter}
 
 -- no more than one piece has at most is held
 pub record IsFew (l : Link) : Type 0 where
   pub few : length l.relay.held.waiting ≤ LONGEST_PIECE
 
-held-relay : (step : Step) (r : Relay) → (relay_after step r).held ≡ r.held
+held-relay : (step : LinkStep) (r : Relay) → (relay_after step r).held ≡ r.held
 held-relay (Pause b) r = refl
 held-relay Finish r = refl
 held-relay End r = refl
@@ -29,11 +29,11 @@ held-if : (b : Bool) (x y : Link) → x.relay.held ≡ y.relay.held → (if b th
 held-if true x y e = e
 held-if false x y e = refl
 
-held-after : (step : Step) (t : ℕ) (l : Link) → (link_after step t l).relay.held ≡ l.relay.held
+held-after : (step : LinkStep) (t : ℕ) (l : Link) → (link_after step t l).relay.held ≡ l.relay.held
 held-after step t l = held-if (has_number t l)
     (record l { relay = relay_after step l.relay; stream = stream_after step l.stream }) l (held-relay step l.relay)
 
-pub few-after : (step : Step) (t : ℕ) (ls : List Link) → All (λ l. length l.relay.held.waiting ≤ LONGEST_PIECE) ls
+pub few-after : (step : LinkStep) (t : ℕ) (ls : List Link) → All (λ l. length l.relay.held.waiting ≤ LONGEST_PIECE) ls
     → All (λ l. length l.relay.held.waiting ≤ LONGEST_PIECE) (map (link_after step t) ls)
 few-after step t ls few = All-map (λ l. length l.relay.held.waiting ≤ LONGEST_PIECE) (link_after step t) ls
     (All-weaker (λ l. length l.relay.held.waiting ≤ LONGEST_PIECE) (λ l. length (link_after step t l).relay.held.waiting ≤ LONGEST_PIECE)
@@ -43,7 +43,7 @@ number-if : (b : Bool) (x y : OwnStream) → x.number ≡ y.number → (if b the
 number-if true x y e = e
 number-if false x y e = refl
 
-pub distinct-after : (step : Step) (t : ℕ) (ls : List Link) → are_distinct (streams_of ls) ≡ true
+pub distinct-after : (step : LinkStep) (t : ℕ) (ls : List Link) → are_distinct (streams_of ls) ≡ true
     → are_distinct (streams_of (map (link_after step t) ls)) ≡ true
 distinct-after (Pause b) t ls d = rw (paused-streams b t ls)
     (distinct-map (pause_one b t) (λ s. number-if (s.number == t) (record s { paused = b }) s refl) (streams_of ls) ∙ d)

@@ -6,31 +6,31 @@ use Rattle.std.proofs.lemmas.List.{append-nil}
 use Rattle.std.proofs.lemmas.List.Elements.{All-nil, All-cons}
 use Rattle.conn_messages.specs.declared.message.Message.{Message}
 use Rattle.conn_messages.specs.declared.message.Message.TheVariants as message
-use Rattle.mux_outside.specs.HouseCalls.{HouseCall, Begins, Marks, Hears as HearsBytes, Turns, Takes as TakesBytes}
+use Rattle.mux_outside.specs.HouseCalls.{HouseCall, Begins, Marks, Receives as ReceivesBytes, Turns, Takes as TakesBytes}
 use Rattle.mux_outside.specs.HouseCalls.{Joined, Got, End, Writable, Failed}
 use Rattle.mux_outside.specs.declared.house_mark.HouseMark.TheVariants.{HouseOrder}
 use Rattle.mux_outside.specs.declared.order.Order.TheVariants as order
 use Rattle.mux_outside.specs.declared.own_streams.OwnStream.{OwnStream}
-use Rattle.house_relay.specs.Acts.{Act, Reads, Takes, Confirms, Refuses, Delivers, HearsEof, HearsClose, Other, read, taken}
-use Rattle.house_relay.specs.Next.{says_of}
-use Rattle.house_relay.specs.Relay.{stream_of, delivers, answered_in, heard_in, said_act}
+use Rattle.house_relay.specs.Acts.{Act, Reads, Takes, Confirms, Refuses, Delivers, ReceivesEof, ReceivesClose, Other, read, taken}
+use Rattle.house_relay.specs.Next.{sends_of}
+use Rattle.house_relay.specs.Relay.{stream_of, delivers, answered_in, received_in, sent_act}
 use Rattle.house_relay.specs.Steps.{made_as}
-use Rattle.house_relay.specs.declared.line.Line.{Line}
-use Rattle.house_relay.specs.declared.line.Line.TheVariants.{Dialing, Asked, Opened, Offered, Live, Over}
+use Rattle.house_relay.specs.declared.line.ChannelState.{ChannelState}
+use Rattle.house_relay.specs.declared.line.ChannelState.TheVariants.{Dialing, Asked, Opened, Offered, Live, Over}
 use Rattle.house_relay.specs.declared.relay.Relay.{Relay}
-use Rattle.house_relay.specs.declared.relay.Saying.{Saying}
-use Rattle.house_relay.specs.declared.relay.Saying.TheVariants as saying
+use Rattle.house_relay.specs.declared.relay.Outgoing.{Outgoing}
+use Rattle.house_relay.specs.declared.relay.Outgoing.TheVariants as outgoing
 use Rattle.house_relay.specs.declared.relay.Socket.{Socket}
 use Rattle.house_relay.specs.declared.relay.Socket.TheVariants as socket
-use Rattle.house_forward.specs.Going.{act_of_saying}
-use Rattle.house_forward.specs.Heard.{act_heard}
+use Rattle.house_forward.specs.Going.{act_of_sending}
+use Rattle.house_forward.specs.Heard.{act_received}
 use Rattle.house_forward.specs.Links.{relay_after}
-use Rattle.house_forward.specs.Lives.{Life, Course, GoesBy}
-use Rattle.house_forward.specs.Lives.{is_stream, unmade, own_after, own_made, act_of, made_life}
+use Rattle.house_forward.specs.RelayTraces.{Life, Trace, GoesBy}
+use Rattle.house_forward.specs.RelayTraces.{is_stream, unmade, own_after, own_made, act_of, made_life}
 use Rattle.house_forward.specs.Numbers.{open_streams, number_of, made_by}
 use Rattle.house_forward.specs.Streaming.{EachHasItsStream, IsOf, got_in, got_call, took_in, took_call}
-use Rattle.house_forward.specs.declared.link.Step.{Step}
-use Rattle.house_forward.specs.declared.link.Step.TheVariants as step
+use Rattle.house_forward.specs.declared.link.LinkStep.{LinkStep}
+use Rattle.house_forward.specs.declared.link.LinkStep.TheVariants as step
 use Rattle.house_forward.proofs.Differing.{Apart}
 use Rattle.house_forward.proofs.Keeping.{none-heard, none-after, stays-heard, stays-after}
 use Rattle.house_forward.proofs.Passing.{Passes, Untouched, Orders, pass-all}
@@ -38,7 +38,7 @@ use Rattle.house_forward.proofs.Sound.{Each}
 
 -- ---- what a step reads
 
-read-answered : (line : Line) (act : Act) (acts : List Act) → read (act ∷ acts) ≡ read acts → read (answered_in line act ∷ acts) ≡ read acts
+read-answered : (line : ChannelState) (act : Act) (acts : List Act) → read (act ∷ acts) ≡ read acts → read (answered_in line act ∷ acts) ≡ read acts
 read-answered (Dialing dialog) act acts e = refl
 read-answered (Asked host port version) act acts e = refl
 read-answered (Opened version) act acts e = e
@@ -46,7 +46,7 @@ read-answered (Offered remote window maximum) act acts e = refl
 read-answered (Live live) act acts e = refl
 read-answered Over act acts e = refl
 
-read-in : (line : Line) (act : Act) (acts : List Act) → read (act ∷ acts) ≡ read acts → read (heard_in line act ∷ acts) ≡ read acts
+read-in : (line : ChannelState) (act : Act) (acts : List Act) → read (act ∷ acts) ≡ read acts → read (received_in line act ∷ acts) ≡ read acts
 read-in (Dialing dialog) act acts e = refl
 read-in (Asked host port version) act acts e = refl
 read-in (Opened version) act acts e = refl
@@ -58,7 +58,7 @@ read-data : (b : Bool) (bytes : List ℕ) (acts : List Act) → read ((if b then
 read-data true bytes acts = refl
 read-data false bytes acts = refl
 
-read-heard : (m : Message) (r : Relay) (acts : List Act) → read (act_heard m r ∷ acts) ≡ read acts
+read-heard : (m : Message) (r : Relay) (acts : List Act) → read (act_received m r ∷ acts) ≡ read acts
 read-heard (message.Transport number rest) r acts = refl
 read-heard (message.GlobalRequest name want rest what) r acts = refl
 read-heard (message.RequestSuccess rest) r acts = refl
@@ -69,23 +69,23 @@ read-heard (message.OpenFailure recipient reason text language) r acts = read-an
 read-heard (message.Adjust recipient add) r acts = refl
 read-heard (message.Data recipient bytes) r acts = read-data (delivers r) bytes.now acts
 read-heard (message.Extended recipient code bytes) r acts = refl
-read-heard (message.Eof recipient) r acts = read-in r.line HearsEof acts refl
-read-heard (message.Close recipient) r acts = read-in r.line HearsClose acts refl
+read-heard (message.Eof recipient) r acts = read-in r.line ReceivesEof acts refl
+read-heard (message.Close recipient) r acts = read-in r.line ReceivesClose acts refl
 read-heard (message.Request recipient kind want rest) r acts = refl
 read-heard (message.Success recipient) r acts = refl
 read-heard (message.Failure recipient) r acts = refl
 
-read-said : (s : Saying) (r : Relay) (acts : List Act) → read (said_act s r ∷ acts) ≡ read acts
-read-said saying.Open r acts = refl
-read-said saying.Confirmation r acts = refl
-read-said saying.OpenFailure r acts = refl
-read-said saying.Close r acts = refl
-read-said saying.Failure r acts = refl
-read-said (saying.Data n) r acts = refl
-read-said saying.Eof r acts = refl
-read-said (saying.Adjust n) r acts = refl
+read-said : (s : Outgoing) (r : Relay) (acts : List Act) → read (sent_act s r ∷ acts) ≡ read acts
+read-said outgoing.Open r acts = refl
+read-said outgoing.Confirmation r acts = refl
+read-said outgoing.OpenFailure r acts = refl
+read-said outgoing.Close r acts = refl
+read-said outgoing.Failure r acts = refl
+read-said (outgoing.Data n) r acts = refl
+read-said outgoing.Eof r acts = refl
+read-said (outgoing.Adjust n) r acts = refl
 
-read-after : (o : Option Saying) (r : Relay) (acts : List Act) → read (act_of_saying o r ∷ acts) ≡ read acts
+read-after : (o : Option Outgoing) (r : Relay) (acts : List Act) → read (act_of_sending o r ∷ acts) ≡ read acts
 read-after None r acts = refl
 read-after (Some s) r acts = read-said s r acts
 
@@ -166,11 +166,11 @@ fed-on calls so act a b h same e f p =
     (subst (λ (s : Socket). FedBy a.own calls s b.acts) (sym same)
     (fed-acts calls a.own a.relay.socket a.acts b.acts (ap read h.acts ∙ e) (ap taken h.acts ∙ f) p))
 
-untouched : (call : HouseCall) (old : Course) (a : Life) → Apart (open_streams old.lives) → Untouched call old a → (own : OwnStream)
+untouched : (call : HouseCall) (old : Trace) (a : Life) → Apart (open_streams old.relay_traces) → Untouched call old a → (own : OwnStream)
     → a.own ≡ Some own → Silent own.number call
 untouched (Begins starts) old a apart u own e = record { gives = refl; takes = refl }
 untouched (Marks mark) old a apart u own e = record { gives = refl; takes = refl }
-untouched (HearsBytes bytes) old a apart u own e = record { gives = refl; takes = refl }
+untouched (ReceivesBytes bytes) old a apart u own e = record { gives = refl; takes = refl }
 untouched (Turns (Joined l t)) old a apart u own e = record { gives = refl; takes = refl }
 untouched (Turns (Got t bytes)) old a apart u own e = record {
   gives = ap (λ (b : Bool). if b then bytes else []) (ap (is_stream t) (sym e) ∙ u apart);
@@ -205,7 +205,7 @@ takes-fed calls t n (Some own) s s' acts is h =
     (ap (λ k. taken acts + k) (sym (took t own.number n is))) h
 
 -- a step of a stream gives and takes nothing
-silent-step : (call : HouseCall) (s : Step) (t n : ℕ) → Orders call s t → Silent n call
+silent-step : (call : HouseCall) (s : LinkStep) (t n : ℕ) → Orders call s t → Silent n call
 silent-step call (step.Pause b) t n h =
     record { gives = ap (got_call n) h.2; takes = ap (took_call n) h.2 }
 silent-step call step.Finish t n h = record { gives = ap (got_call n) h.2; takes = ap (took_call n) h.2 }
@@ -214,7 +214,7 @@ silent-step call step.Close t n h = record { gives = ap (got_call n) h.2; takes 
 silent-step call step.Writable t n h = record { gives = ap (got_call n) h; takes = ap (took_call n) h }
 silent-step call step.Failed t n h = record { gives = ap (got_call n) h; takes = ap (took_call n) h }
 
-steps-fed : (calls : List HouseCall) (call : HouseCall) (s : Step) (t : ℕ) (o : Option OwnStream) (r : Relay) (acts : List Act)
+steps-fed : (calls : List HouseCall) (call : HouseCall) (s : LinkStep) (t : ℕ) (o : Option OwnStream) (r : Relay) (acts : List Act)
     → Orders call s t → is_stream t o ≡ true → FedBy o calls r.socket acts
     → FedBy (own_after s o) (calls ++ call ∷ []) (relay_after s r).socket (act_of s ∷ acts)
 steps-fed calls call s t None r acts ord is h = cc
@@ -242,7 +242,7 @@ unmade-none (socket.Connecting t) e = cc
 unmade-none (socket.Open t) e = cc
 unmade-none socket.Unmade e = refl
 unmade-none (socket.Failed t) e = cc
-unmade-none (socket.Surplus t) e = cc
+unmade-none (socket.NoChannelLeft t) e = cc
 unmade-none socket.Closed e = cc
 
 makes-fed : (calls : List HouseCall) (host : List ℕ) (port : ℕ) (number : Option ℕ) (o : Option OwnStream) (s : Socket) (acts : List Act)
@@ -265,17 +265,17 @@ makes-fed calls host port (Some t) None s acts is none h =
 
 -- ---- all steps
 
-fed : (before : List HouseCall) (call : HouseCall) (old : Course) → Apart (open_streams old.lives)
+fed : (before : List HouseCall) (call : HouseCall) (old : Trace) → Apart (open_streams old.relay_traces)
     → Passes call old (Fed before) (Fed (before ++ call ∷ []))
 fed before call old apart = record {
   stays = λ a p u. fed-more before call a.own a.relay.socket a.acts (untouched call old a apart u) p;
-  hears = λ m a b s p h. fed-on before _ _ a b h (ap (λ (r : Relay). r.socket) h.relay.0 ∙ (stays-heard m a.relay).socket_is)
+  receives = λ m a b s p h. fed-on before _ _ a b h (ap (λ (r : Relay). r.socket) h.relay.0 ∙ (stays-heard m a.relay).socket_is)
       (read-heard m a.relay a.acts) (none-heard m a.relay a.acts) p;
   offers = λ f number remote window maximum. λ is. record { reads = refl; takes = refl };
   says = λ bytes e a b s p is h.
       fed-more before call b.own b.relay.socket b.acts (λ own its. record { gives = ap (got_call own.number) e; takes = ap (took_call own.number) e })
-      (fed-on before _ _ a b h.1 (ap (λ (r : Relay). r.socket) h.1.relay.0 ∙ (stays-after (says_of a.relay) a.relay).socket_is)
-      (read-after (says_of a.relay) a.relay a.acts) (none-after (says_of a.relay) a.relay a.acts) p);
+      (fed-on before _ _ a b h.1 (ap (λ (r : Relay). r.socket) h.1.relay.0 ∙ (stays-after (sends_of a.relay) a.relay).socket_is)
+      (read-after (sends_of a.relay) a.relay a.acts) (none-after (sends_of a.relay) a.relay a.acts) p);
   gets = λ t bytes e a b s s' p is h.
       subst (λ (c : HouseCall). FedBy b.own (before ++ c ∷ []) b.relay.socket b.acts) (sym e)
       (subst (λ (o : Option OwnStream). FedBy o (before ++ Turns (Got t bytes) ∷ []) b.relay.socket b.acts) (sym h.own)
@@ -308,4 +308,4 @@ all-of calls (l ∷ ls) h =
     (all-of calls ls h.1)
 
 pub each-has-its-stream : EachHasItsStream
-each-has-its-stream calls course h = all-of calls course.lives (pass-all Fed fed calls course h)
+each-has-its-stream calls trace h = all-of calls trace.relay_traces (pass-all Fed fed calls trace h)

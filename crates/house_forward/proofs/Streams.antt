@@ -7,8 +7,8 @@ use Rattle.mux_outside.specs.OwnStreams.{is_one, is_finished, with_pause, with_f
 use Rattle.mux_outside.specs.declared.own_streams.OwnStream.{OwnStream}
 use Rattle.house_forward.specs.Links.{own_of, streams_of, are_distinct, numbered, has_number, link_after, stream_after, finishes}
 use Rattle.house_forward.specs.declared.link.Link.{Link}
-use Rattle.house_forward.specs.declared.link.Step.{Step}
-use Rattle.house_forward.specs.declared.link.Step.TheVariants.{Pause, Finish, End, Close, Writable, Failed}
+use Rattle.house_forward.specs.declared.link.LinkStep.{LinkStep}
+use Rattle.house_forward.specs.declared.link.LinkStep.TheVariants.{Pause, Finish, End, Close, Writable, Failed}
 use Rattle.house_forward.specs.declared.link.Stream.{Stream}
 use Rattle.house_forward.specs.declared.link.Stream.TheVariants.{Offered, Awaited, Made, Gone}
 
@@ -58,17 +58,17 @@ has-stream (y ∷ ls) zero t x l e n = has-one y.stream (streams_of ls) t (subst
 has-stream (y ∷ ls) (suc k) t x l e n = behind-one (own_of y.stream) (streams_of ls) t (has-stream ls k t x (omega arith) e n)
 
 -- where none has it no link takes the step
-pub unmoved : (step : Step) (t : ℕ) (ls : List Link) → is_one t (streams_of ls) ≡ false → map (link_after step t) ls ≡ ls
+pub unmoved : (step : LinkStep) (t : ℕ) (ls : List Link) → is_one t (streams_of ls) ≡ false → map (link_after step t) ls ≡ ls
 unmoved step t [] e = refl
 unmoved step t (y ∷ ls) e =
     let both = lacks-one y.stream (streams_of ls) t e in
     rw both.0 (ap (λ zs. y ∷ zs) (unmoved step t ls both.1))
 
-pub moves-first : (step : Step) (t : ℕ) (y : Link) (ls : List Link) → are_distinct (streams_of (y ∷ ls)) ≡ true
+pub moves-first : (step : LinkStep) (t : ℕ) (y : Link) (ls : List Link) → are_distinct (streams_of (y ∷ ls)) ≡ true
     → has_number t y ≡ true → map (link_after step t) ls ≡ ls
 moves-first step t y ls e n = unmoved step t ls (alone y.stream (streams_of ls) t e n)
 
-pub moves-later : (step : Step) (t : ℕ) (y : Link) (ls : List Link) → are_distinct (streams_of (y ∷ ls)) ≡ true
+pub moves-later : (step : LinkStep) (t : ℕ) (y : Link) (ls : List Link) → are_distinct (streams_of (y ∷ ls)) ≡ true
     → is_one t (streams_of ls) ≡ true → link_after step t y ≡ y
 moves-later step t y ls e is = rw (differs-in y.stream (streams_of ls) t _ refl e is) refl
 
@@ -81,10 +81,10 @@ own-if : (b : Bool) (x y : Link) → own_of (if b then x else y).stream ≡ (if 
 own-if true x y = refl
 own-if false x y = refl
 
-abbrev own_after : Step → ℕ → Stream → Option OwnStream
+abbrev own_after : LinkStep → ℕ → Stream → Option OwnStream
 own_after step t s = if numbered t s then own_of (stream_after step s) else own_of s
 
-own-after : (step : Step) (t : ℕ) (l : Link) → own_of (link_after step t l).stream ≡ own_after step t l.stream
+own-after : (step : LinkStep) (t : ℕ) (l : Link) → own_of (link_after step t l).stream ≡ own_after step t l.stream
 own-after step t l = own-if (numbered t l.stream) _ l
 
 abbrev option_f : (OwnStream → OwnStream) → Option OwnStream → Option OwnStream
@@ -92,10 +92,10 @@ option_f f None = None
 option_f f (Some own) = Some (f own)
 
 -- a change of the streams that a step makes
-pub record Makes (step : Step) (t : ℕ) (f : OwnStream → OwnStream) : Type 0 where
+pub record Makes (step : LinkStep) (t : ℕ) (f : OwnStream → OwnStream) : Type 0 where
   pub at : (own : OwnStream) → own_after step t (Made own) ≡ Some (f own)
 
-after-one : (step : Step) (t : ℕ) (f : OwnStream → OwnStream) → Makes step t f → (s : Stream) → own_after step t s ≡ option_f f (own_of s)
+after-one : (step : LinkStep) (t : ℕ) (f : OwnStream → OwnStream) → Makes step t f → (s : Stream) → own_after step t s ≡ option_f f (own_of s)
 after-one step t f m (Offered host port) = refl
 after-one step t f m Awaited = refl
 after-one step t f m (Made own) = m.at own
@@ -106,7 +106,7 @@ cons-map : (f : OwnStream → OwnStream) (o : Option OwnStream) (ss : List OwnSt
 cons-map f None ss = refl
 cons-map f (Some own) ss = refl
 
-pub mapped-streams : (step : Step) (t : ℕ) (f : OwnStream → OwnStream) → Makes step t f → (ls : List Link)
+pub mapped-streams : (step : LinkStep) (t : ℕ) (f : OwnStream → OwnStream) → Makes step t f → (ls : List Link)
     → streams_of (map (link_after step t) ls) ≡ map f (streams_of ls)
 mapped-streams step t f m [] = refl
 mapped-streams step t f m (l ∷ ls) =

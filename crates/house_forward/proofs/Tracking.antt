@@ -5,7 +5,7 @@ use Rattle.std.specs.List.{All, remove}
 use Rattle.std.proofs.lemmas.Bool.{and_parts, both_ways, eqb-true, leb-true}
 use Rattle.std.proofs.lemmas.List.Elements.{All-weaker, All-map}
 use Rattle.house_forward.specs.Asks.{settled, settle_one, settled_at, is_about, same, counted, refused}
-use Rattle.house_forward.specs.Desk.{Desk}
+use Rattle.house_forward.specs.ForwardingState.{ForwardingState}
 use Rattle.house_forward.specs.Forwardings.{is_numbered, changed, stage_after, closing_after, outcome_of, outcome_at, asks_at, cancels_at}
 use Rattle.house_forward.specs.declared.asks.Outcome.{Outcome}
 use Rattle.house_forward.specs.declared.asks.Outcome.TheVariants.{Refused}
@@ -13,8 +13,8 @@ use Rattle.house_forward.specs.declared.asks.Waiting.{Waiting}
 use Rattle.house_forward.specs.declared.forwarding.Change.{Change}
 use Rattle.house_forward.specs.declared.forwarding.Change.TheVariants as change
 use Rattle.house_forward.specs.declared.forwarding.Forwarding.{Forwarding}
-use Rattle.house_forward.specs.declared.forwarding.Request.{Request}
-use Rattle.house_forward.specs.declared.forwarding.Request.TheVariants.{Listen, Cancel}
+use Rattle.house_forward.specs.declared.forwarding.ForwardingRequest.{ForwardingRequest}
+use Rattle.house_forward.specs.declared.forwarding.ForwardingRequest.TheVariants.{Listen, Cancel}
 use Rattle.house_forward.specs.declared.forwarding.Stage.{Stage}
 use Rattle.house_forward.specs.declared.forwarding.Stage.TheVariants.{ToListen, Ordered, Listening, ToRequest, Requested, Live, Cancelling}
 use Rattle.house_forward.proofs.Members.{In, in-map, in-get}
@@ -34,7 +34,7 @@ abbrev pub Unsettled : (Waiting → Type 0) → Waiting → Type 0
 Unsettled P w = w.outcome ≡ None → P w
 
 -- a request that was said for it is unanswered; and none is ordered and has no number
-abbrev pub StageAwaits : Stage → ℕ → List Request → Type 0
+abbrev pub StageAwaits : Stage → ℕ → List ForwardingRequest → Type 0
 StageAwaits (ToListen host) n rs = Unit {0}
 StageAwaits Ordered n rs = ⊥
 StageAwaits (Listening l) n rs = Unit {0}
@@ -43,10 +43,10 @@ StageAwaits Requested n rs = In (Listen n) rs
 StageAwaits (Live port) n rs = Unit {0}
 StageAwaits (Cancelling port) n rs = In (Cancel n) rs
 
-abbrev pub Awaits : List Request → Forwarding → Type 0
+abbrev pub Awaits : List ForwardingRequest → Forwarding → Type 0
 Awaits rs f = StageAwaits f.stage f.serial rs
 
-pub record Tracks (d : Desk) : Type 0 where
+pub record Tracks (d : ForwardingState) : Type 0 where
   pub numbered : is_numbered 0 d.all d.serials ≡ true
   pub stages : All (Awaits d.requests) d.all
   pub fates : All (Unsettled (HasFate d.all)) d.waiting
@@ -167,12 +167,12 @@ stage-outcome c asked n (ToListen host) steady e = refl
 stage-outcome c asked n Ordered steady e = refl
 stage-outcome c asked n (Listening l) steady e = cc
 stage-outcome change.Close asked n ToRequest steady e = refl
-stage-outcome change.Request asked n ToRequest steady e = refl
+stage-outcome change.ForwardingRequest asked n ToRequest steady e = refl
 stage-outcome change.Cancel asked n ToRequest steady e = refl
 stage-outcome (change.Live p) asked n ToRequest steady e = refl
 stage-outcome change.Stay asked n ToRequest steady e = refl
 stage-outcome change.Close asked n Requested steady e = refl
-stage-outcome change.Request asked n Requested steady e = refl
+stage-outcome change.ForwardingRequest asked n Requested steady e = refl
 stage-outcome change.Cancel asked n Requested steady e = refl
 stage-outcome (change.Live p) asked n Requested steady e = absurd steady
 stage-outcome change.Stay asked n Requested steady e = refl
@@ -211,28 +211,28 @@ fate-changed c serial all w fate k =
     )
 
 -- a change but Live and Stay
-abbrev pub IsSaid : Change → Type 0
-IsSaid change.Close = Unit {0}
-IsSaid change.Request = Unit {0}
-IsSaid change.Cancel = Unit {0}
-IsSaid (change.Live port) = ⊥
-IsSaid change.Stay = ⊥
+abbrev pub IsSent : Change → Type 0
+IsSent change.Close = Unit {0}
+IsSent change.ForwardingRequest = Unit {0}
+IsSent change.Cancel = Unit {0}
+IsSent (change.Live port) = ⊥
+IsSent change.Stay = ⊥
 
-said-closing : (c : Change) (b : Bool) → IsSaid c → b ≡ true → closing_after c b ≡ true
+said-closing : (c : Change) (b : Bool) → IsSent c → b ≡ true → closing_after c b ≡ true
 said-closing change.Close b s e = refl
-said-closing change.Request b s e = e
+said-closing change.ForwardingRequest b s e = e
 said-closing change.Cancel b s e = e
 said-closing (change.Live port) b s e = absurd s
 said-closing change.Stay b s e = absurd s
 
-said-steady : (c : Change) → IsSaid c → IsSteady c
+said-steady : (c : Change) → IsSent c → IsSteady c
 said-steady change.Close s = tt
-said-steady change.Request s = tt
+said-steady change.ForwardingRequest s = tt
 said-steady change.Cancel s = tt
 said-steady (change.Live port) s = absurd s
 said-steady change.Stay s = absurd s
 
-pub said-holds : (c : Change) (opening : Bool) (f : Forwarding) → IsSaid c → Holds opening f
+pub said-holds : (c : Change) (opening : Bool) (f : Forwarding) → IsSent c → Holds opening f
     → Holds opening (record f { stage = stage_after c f.listen_port f.stage; closing = closing_after c f.closing })
 said-holds c true f s h = stage-outcome c f.listen_port f.listen_port f.stage (said-steady c s) h
 said-holds c false f s h = said-closing c f.closing s h
@@ -248,7 +248,7 @@ stay-holds f c h = stage-outcome change.Stay f.listen_port f.listen_port f.stage
 
 -- ---- requests
 
-pub awaits-more : (s : Stage) (n : ℕ) (rs more : List Request) → ((r : Request) → In r rs → In r more) → StageAwaits s n rs → StageAwaits s n more
+pub awaits-more : (s : Stage) (n : ℕ) (rs more : List ForwardingRequest) → ((r : ForwardingRequest) → In r rs → In r more) → StageAwaits s n rs → StageAwaits s n more
 awaits-more (ToListen host) n rs more k h = tt
 awaits-more Ordered n rs more k h = h
 awaits-more (Listening l) n rs more k h = tt
@@ -257,8 +257,8 @@ awaits-more Requested n rs more k h = k (Listen n) h
 awaits-more (Live port) n rs more k h = tt
 awaits-more (Cancelling port) n rs more k h = k (Cancel n) h
 
-pub listen-awaits : (s : Stage) (asked n : ℕ) (rs : List Request) → In (Listen n) rs → StageAwaits s n rs
-    → StageAwaits (stage_after change.Request asked s) n rs
+pub listen-awaits : (s : Stage) (asked n : ℕ) (rs : List ForwardingRequest) → In (Listen n) rs → StageAwaits s n rs
+    → StageAwaits (stage_after change.ForwardingRequest asked s) n rs
 listen-awaits (ToListen host) asked n rs k h = tt
 listen-awaits Ordered asked n rs k h = h
 listen-awaits (Listening l) asked n rs k h = tt
@@ -267,7 +267,7 @@ listen-awaits Requested asked n rs k h = h
 listen-awaits (Live port) asked n rs k h = tt
 listen-awaits (Cancelling port) asked n rs k h = h
 
-pub cancel-awaits : (s : Stage) (asked n : ℕ) (rs : List Request) → In (Cancel n) rs → StageAwaits s n rs
+pub cancel-awaits : (s : Stage) (asked n : ℕ) (rs : List ForwardingRequest) → In (Cancel n) rs → StageAwaits s n rs
     → StageAwaits (stage_after change.Cancel asked s) n rs
 cancel-awaits (ToListen host) asked n rs k h = tt
 cancel-awaits Ordered asked n rs k h = h
@@ -277,7 +277,7 @@ cancel-awaits Requested asked n rs k h = h
 cancel-awaits (Live port) asked n rs k h = k
 cancel-awaits (Cancelling port) asked n rs k h = h
 
-pub close-awaits : (s : Stage) (asked n : ℕ) (rs : List Request) → StageAwaits s n rs
+pub close-awaits : (s : Stage) (asked n : ℕ) (rs : List ForwardingRequest) → StageAwaits s n rs
     → StageAwaits (stage_after change.Close asked s) n rs
 close-awaits (ToListen host) asked n rs h = tt
 close-awaits Ordered asked n rs h = h
@@ -287,12 +287,12 @@ close-awaits Requested asked n rs h = h
 close-awaits (Live port) asked n rs h = tt
 close-awaits (Cancelling port) asked n rs h = h
 
-rest-of : (r x : Request) (rs : List Request) → (r ≡ x → ⊥) → In x (r ∷ rs) → In x rs
+rest-of : (r x : ForwardingRequest) (rs : List ForwardingRequest) → (r ≡ x → ⊥) → In x (r ∷ rs) → In x rs
 rest-of r x rs differ (inl e) = absurd (differ e)
 rest-of r x rs differ (inr h) = h
 
 -- the first request is answered
-pub live-awaits : (s : Stage) (chosen : Option ℕ) (asked n serial : ℕ) (rs : List Request) → StageAwaits s n (Listen serial ∷ rs)
+pub live-awaits : (s : Stage) (chosen : Option ℕ) (asked n serial : ℕ) (rs : List ForwardingRequest) → StageAwaits s n (Listen serial ∷ rs)
     → StageAwaits (stage_after (change.Live chosen) asked s) n rs
 live-awaits (ToListen host) chosen asked n serial rs h = tt
 live-awaits Ordered chosen asked n serial rs h = h
@@ -302,7 +302,7 @@ live-awaits Requested chosen asked n serial rs h = tt
 live-awaits (Live port) chosen asked n serial rs h = tt
 live-awaits (Cancelling port) chosen asked n serial rs h = rest-of (Listen serial) (Cancel n) rs (λ e. cc) h
 
-pub stay-awaits : (s : Stage) (asked n serial : ℕ) (rs : List Request) → StageAwaits s n (Cancel serial ∷ rs)
+pub stay-awaits : (s : Stage) (asked n serial : ℕ) (rs : List ForwardingRequest) → StageAwaits s n (Cancel serial ∷ rs)
     → StageAwaits (stage_after change.Stay asked s) n rs
 stay-awaits (ToListen host) asked n serial rs h = tt
 stay-awaits Ordered asked n serial rs h = h
@@ -312,7 +312,7 @@ stay-awaits Requested asked n serial rs h = rest-of (Cancel serial) (Listen n) r
 stay-awaits (Live port) asked n serial rs h = tt
 stay-awaits (Cancelling port) asked n serial rs h = tt
 
-pub other-awaits : (s : Stage) (n : ℕ) (r : Request) (rs : List Request) → (asks_at s ≡ true → r ≡ Listen n → ⊥)
+pub other-awaits : (s : Stage) (n : ℕ) (r : ForwardingRequest) (rs : List ForwardingRequest) → (asks_at s ≡ true → r ≡ Listen n → ⊥)
     → (cancels_at s ≡ true → r ≡ Cancel n → ⊥) → StageAwaits s n (r ∷ rs) → StageAwaits s n rs
 other-awaits (ToListen host) n r rs a c h = tt
 other-awaits Ordered n r rs a c h = h

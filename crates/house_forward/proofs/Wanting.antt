@@ -8,10 +8,10 @@ use Rattle.std.proofs.lemmas.List.Quantifiers.{position-Some}
 use Rattle.mux_outside.specs.declared.house.HouseReply.{HouseReply}
 use Rattle.mux_outside.specs.declared.start_ask.StartAsk.{StartAsk}
 use Rattle.house_forward.specs.Asks.{settled, settle_one, refused, counted, is_about, same, has_open, is_waiting, taken_at, answer_in, reply_of, earliest, has_outcome, is_settled, waiting_for, turns_away}
-use Rattle.house_forward.specs.Deeds.{Deed, Does, Leave}
-use Rattle.house_forward.specs.Deeds.{Begins, Asks, Answers, Greets, Requests, Replies, Listens, Unlistens}
-use Rattle.house_forward.specs.Desk.{Desk, empty_desk, IsAsked, Answers as IsAnswered, request_said, reply_heard, GetsListener, EndsListener, standing_at}
-use Rattle.house_forward.specs.Forwardings.{Begins as BeginsAt, StartsIf, Standing, Opens, has_request, requests_at, request_of, request_at, after_saying, changed, stage_after, closing_after, standing, closes_of, comes_of_ends, after_close, EndsLeave, ComesIf, ComesUnless, asks_after, is_asked, asks_at, is_cancelled, cancels_at, live_in, opened_asks, replied_all, replied_asks, removed_at, first_of, to_listen, waits_at, ordered_asks, is_numbered, has_listener, is_listener, listener_at}
+use Rattle.house_forward.specs.ForwarderEvents.{ForwarderEvent, Does, Leave}
+use Rattle.house_forward.specs.ForwarderEvents.{Begins, Asks, Answers, Greets, Requests, Replies, Listens, Unlistens}
+use Rattle.house_forward.specs.ForwardingState.{ForwardingState, empty_forwarding_state, IsAsked, Answers as IsAnswered, request_sent, reply_received, GetsListener, EndsListener, standing_at}
+use Rattle.house_forward.specs.Forwardings.{Begins as BeginsAt, StartsIf, Standing, Opens, has_request, requests_at, request_of, request_at, after_sending, changed, stage_after, closing_after, standing, closes_of, comes_of_ends, after_close, EndsLeave, ComesIf, ComesUnless, asks_after, is_asked, asks_at, is_cancelled, cancels_at, live_in, opened_asks, replied_all, replied_asks, removed_at, first_of, to_listen, waits_at, ordered_asks, is_numbered, has_listener, is_listener, listener_at}
 use Rattle.house_forward.specs.Rules.{is_refused_alone}
 use Rattle.house_forward.specs.declared.asks.Asked.{Asked as Comes}
 use Rattle.house_forward.specs.declared.asks.Asked.TheVariants.{Now, Later}
@@ -21,8 +21,8 @@ use Rattle.house_forward.specs.declared.asks.Waiting.{Waiting}
 use Rattle.house_forward.specs.declared.forwarding.Change.{Change}
 use Rattle.house_forward.specs.declared.forwarding.Change.TheVariants as change
 use Rattle.house_forward.specs.declared.forwarding.Forwarding.{Forwarding}
-use Rattle.house_forward.specs.declared.forwarding.Request.{Request}
-use Rattle.house_forward.specs.declared.forwarding.Request.TheVariants.{Listen, Cancel}
+use Rattle.house_forward.specs.declared.forwarding.ForwardingRequest.{ForwardingRequest}
+use Rattle.house_forward.specs.declared.forwarding.ForwardingRequest.TheVariants.{Listen, Cancel}
 use Rattle.house_forward.specs.declared.forwarding.Stage.{Stage}
 use Rattle.house_forward.specs.declared.forwarding.Stage.TheVariants.{ToListen, Ordered, Listening, ToRequest, Requested, Live, Cancelling}
 use Rattle.house_forward.specs.declared.rules.Ends.{Ends}
@@ -48,18 +48,18 @@ abbrev pub Closers : List Waiting → List Forwarding → Type 0
 Closers ws all = (f : Forwarding) → In f all → f.closing ≡ true → Closer ws f.serial
 
 -- a request has its forwarding
-abbrev pub IsOf : List Forwarding → Request → Type 0
+abbrev pub IsOf : List Forwarding → ForwardingRequest → Type 0
 IsOf all (Listen n) = (f : Forwarding) × In f all × (f.serial ≡ n) × (asks_at f.stage ≡ true)
 IsOf all (Cancel n) = (f : Forwarding) × In f all × (f.serial ≡ n) × (cancels_at f.stage ≡ true) × (f.closing ≡ true)
 
-abbrev pub Said : List Request → List Forwarding → Type 0
-Said rs all = (r : Request) → In r rs → IsOf all r
+abbrev pub Said : List ForwardingRequest → List Forwarding → Type 0
+Said rs all = (r : ForwardingRequest) → In r rs → IsOf all r
 
-abbrev Once : List Request → Type 0
+abbrev Once : List ForwardingRequest → Type 0
 Once [] = Unit {0}
 Once (r ∷ rs) = (In r rs → ⊥) × Once rs
 
-pub record Wants (d : Desk) : Type 0 where
+pub record Wants (d : ForwardingState) : Type 0 where
   pub closers : Closers d.waiting d.all
   pub said : Said d.requests d.all
   once : Once d.requests
@@ -120,14 +120,14 @@ yet-same old new e g here closes = (g, subst (In g) e here, refl, closes)
 -- a change that closes none
 abbrev LeavesOpen : Change → Type 0
 LeavesOpen change.Close = ⊥
-LeavesOpen change.Request = Unit {0}
+LeavesOpen change.ForwardingRequest = Unit {0}
 LeavesOpen change.Cancel = Unit {0}
 LeavesOpen (change.Live port) = Unit {0}
 LeavesOpen change.Stay = Unit {0}
 
 closed-before : (c : Change) (b : Bool) → LeavesOpen c → closing_after c b ≡ true → b ≡ true
 closed-before change.Close b l e = absurd l
-closed-before change.Request b l e = e
+closed-before change.ForwardingRequest b l e = e
 closed-before change.Cancel b l e = e
 closed-before (change.Live port) b l e = e
 closed-before change.Stay b l e = cc
@@ -214,15 +214,15 @@ begins-more gateway asks (suc i) old new l b =
           (y.0, y.1, y.2 ∙ x.2, y.3);
     }
 
-is-kept : (old new : List Forwarding) (r : Request) → ((f : Forwarding) → In f old → In f new) → IsOf old r → IsOf new r
+is-kept : (old new : List Forwarding) (r : ForwardingRequest) → ((f : Forwarding) → In f old → In f new) → IsOf old r → IsOf new r
 is-kept old new (Listen n) keeps h = (h.0, keeps h.0 h.1, h.2, h.3)
 is-kept old new (Cancel n) keeps h = (h.0, keeps h.0 h.1, h.2, h.3, h.4)
 
-wants-more : (old new : Desk) → More old.all new.all → new.waiting ≡ old.waiting → new.requests ≡ old.requests → Wants old → Wants new
+wants-more : (old new : ForwardingState) → More old.all new.all → new.waiting ≡ old.waiting → new.requests ≡ old.requests → Wants old → Wants new
 wants-more old new m waiting requests w = record {
   closers = subst (λ (ws : List Waiting). Closers ws new.all) (sym waiting)
       (closers-by old.waiting old.waiting old.all new.all m.yet (λ g here closes c. c) w.closers);
-  said = subst (λ (rs : List Request). Said rs new.all) (sym requests) (λ r h. is-kept old.all new.all r m.keeps (w.said r h));
+  said = subst (λ (rs : List ForwardingRequest). Said rs new.all) (sym requests) (λ r h. is-kept old.all new.all r m.keeps (w.said r h));
   once = subst Once (sym requests) w.once;
 }
 
@@ -236,11 +236,11 @@ closer-asked (Now o) client id opening ws n c = c
 closer-asked (Later serial) client id opening ws n c = closer-more ws (waiting_for client id opening serial) n c
 
 -- what it leaves
-record AskWants (ws more : List Waiting) (rs : List Request) (old new : List Forwarding) : Type 0 where
+record AskWants (ws more : List Waiting) (rs : List ForwardingRequest) (old new : List Forwarding) : Type 0 where
   closers : Closers more new
   said : Said rs new
 
-asked-more : (comes : Comes) (client id : ℕ) (opening : Bool) (ws : List Waiting) (rs : List Request) (old new : List Forwarding)
+asked-more : (comes : Comes) (client id : ℕ) (opening : Bool) (ws : List Waiting) (rs : List ForwardingRequest) (old new : List Forwarding)
     → More old new → Closers ws old → Said rs old → AskWants ws (asks_after comes client id opening ws) rs old new
 asked-more comes client id opening ws rs old new m closers said = record {
   closers = closers-by ws (asks_after comes client id opening ws) old new m.yet
@@ -279,7 +279,7 @@ closes-if : (c : Change) (b : Bool) (f : Forwarding) → f.closing ≡ true → 
 closes-if c true f h k = k refl
 closes-if c false f h k = h
 
-is-changed : (c : Change) (serial : ℕ) (fs : List Forwarding) (r : Request)
+is-changed : (c : Change) (serial : ℕ) (fs : List Forwarding) (r : ForwardingRequest)
     → ((f : Forwarding) → f.serial ≡ serial → r ≡ Listen f.serial → asks_at f.stage ≡ true → asks_at (stage_after c f.listen_port f.stage) ≡ true)
     → ((f : Forwarding) → f.serial ≡ serial → r ≡ Cancel f.serial → cancels_at f.stage ≡ true → cancels_at (stage_after c f.listen_port f.stage) ≡ true)
     → ((f : Forwarding) → f.serial ≡ serial → r ≡ Cancel f.serial → f.closing ≡ true → closing_after c f.closing ≡ true)
@@ -303,7 +303,7 @@ is-changed c serial fs (Cancel n) asks cancels closes h =
           (λ is. closes f (eqb-true f.serial serial is) (ap (λ m. Cancel m) (sym h.2)) h.4),
     )
 
-asked-close : (comes : Comes) (client id : ℕ) (ws : List Waiting) (rs : List Request) (old new : List Forwarding)
+asked-close : (comes : Comes) (client id : ℕ) (ws : List Waiting) (rs : List ForwardingRequest) (old new : List Forwarding)
     → new ≡ after_close comes old → Closers ws old → Said rs old → AskWants ws (asks_after comes client id false ws) rs old new
 asked-close (Now o) client id ws rs old new e closers said =
     asked-more (Now o) client id false ws rs old new (none-more old new e) closers said
@@ -319,7 +319,7 @@ asked-close (Later serial) client id ws rs old new e closers said =
           (λ f is of k. (closed-stage f.listen_port f.stage).1 ∙ k) (λ f is of k. refl) (said r h);
     })
 
-asked-ends : (opening : Bool) (serial client id : ℕ) (ends : Ends) (comes : Comes) (ws : List Waiting) (rs : List Request) (old new : List Forwarding)
+asked-ends : (opening : Bool) (serial client id : ℕ) (ends : Ends) (comes : Comes) (ws : List Waiting) (rs : List ForwardingRequest) (old new : List Forwarding)
     → EndsLeave opening serial ends old new → (opening ≡ false → comes ≡ closes_of (standing ends old)) → Closers ws old → Said rs old
     → AskWants ws (asks_after comes client id opening ws) rs old new
 asked-ends true serial client id ends comes ws rs old new h e closers said =
@@ -332,7 +332,7 @@ comes-closed : (opening : Bool) (serial : ℕ) (ends : Ends) (comes : Comes) (ol
 comes-closed true serial ends comes old e is = cc
 comes-closed false serial ends comes old e is = e
 
-asked-if : (alone gateway opening : Bool) (ask : StartAsk) (serial client id : ℕ) (comes : Comes) (ws : List Waiting) (rs : List Request)
+asked-if : (alone gateway opening : Bool) (ask : StartAsk) (serial client id : ℕ) (comes : Comes) (ws : List Waiting) (rs : List ForwardingRequest)
     (old new : List Forwarding) → ComesIf alone gateway opening ask serial old new comes → Closers ws old → Said rs old
     → AskWants ws (asks_after comes client id opening ws) rs old new
 asked-if true gateway opening ask serial client id comes ws rs old new h closers said =
@@ -340,7 +340,7 @@ asked-if true gateway opening ask serial client id comes ws rs old new h closers
 asked-if false gateway opening ask serial client id comes ws rs old new h closers said =
     asked-ends opening serial client id h.0 comes ws rs old new h.3 (comes-closed opening serial h.0 comes old h.2) closers said
 
-asked-unless : (away gateway opening : Bool) (ask : StartAsk) (serial client id : ℕ) (comes : Comes) (ws : List Waiting) (rs : List Request)
+asked-unless : (away gateway opening : Bool) (ask : StartAsk) (serial client id : ℕ) (comes : Comes) (ws : List Waiting) (rs : List ForwardingRequest)
     (old new : List Forwarding) → ComesUnless away gateway opening ask serial old new comes → Closers ws old → Said rs old
     → AskWants ws (asks_after comes client id opening ws) rs old new
 asked-unless true gateway opening ask serial client id comes ws rs old new h closers said =
@@ -348,15 +348,15 @@ asked-unless true gateway opening ask serial client id comes ws rs old new h clo
 asked-unless false gateway opening ask serial client id comes ws rs old new h closers said =
     asked-if (is_refused_alone ask) gateway opening ask serial client id comes ws rs old new h closers said
 
-after-ask : (client id : ℕ) (opening : Bool) (ask : StartAsk) (answer : HouseReply) (old new : Desk)
+after-ask : (client id : ℕ) (opening : Bool) (ask : StartAsk) (answer : HouseReply) (old new : ForwardingState)
     → IsAsked client id opening ask answer old new → Wants old → Wants new
 after-ask client id opening ask answer old new a w =
     let m = asked-unless (turns_away client id old.waiting) old.gateway opening ask old.serials client id a.came_to old.waiting old.requests
     old.all new.all a.comes w.closers w.said in
     record {
-      closers = subst (λ (ws : List Waiting). Closers ws new.all) (sym (ap (λ (d : Desk). d.waiting) a.others)) m.closers;
-      said = subst (λ (rs : List Request). Said rs new.all) (sym (ap (λ (d : Desk). d.requests) a.others)) m.said;
-      once = subst Once (sym (ap (λ (d : Desk). d.requests) a.others)) w.once;
+      closers = subst (λ (ws : List Waiting). Closers ws new.all) (sym (ap (λ (d : ForwardingState). d.waiting) a.others)) m.closers;
+      said = subst (λ (rs : List ForwardingRequest). Said rs new.all) (sym (ap (λ (d : ForwardingState). d.requests) a.others)) m.said;
+      once = subst Once (sym (ap (λ (d : ForwardingState). d.requests) a.others)) w.once;
     }
 
 -- ---- an answer
@@ -424,7 +424,7 @@ closer-left client id (x ∷ ws) (Some i) n e apart a c =
     ] in
     (w, in-remove (is_waiting client id) w (x ∷ ws) i x first.0 first.1 not c.1, c.2)
 
-after-answering : (client id : ℕ) (answer : HouseReply) (old new : Desk) → Apart old.waiting → IsAnswered client id answer old new
+after-answering : (client id : ℕ) (answer : HouseReply) (old new : ForwardingState) → Apart old.waiting → IsAnswered client id answer old new
     → Wants old → Wants new
 after-answering client id answer old new apart a w =
     let at = position (is_waiting client id) old.waiting in
@@ -435,11 +435,11 @@ after-answering client id answer old new apart a w =
       said = w.said;
       once = w.once;
     } in
-    subst (λ (d : Desk). Wants d) (sym a.others) got
+    subst (λ (d : ForwardingState). Wants d) (sym a.others) got
 
 -- ---- a request
 
-once-more : (rs : List Request) (r : Request) → Once rs → (In r rs → ⊥) → Once (rs ++ r ∷ [])
+once-more : (rs : List ForwardingRequest) (r : ForwardingRequest) → Once rs → (In r rs → ⊥) → Once (rs ++ r ∷ [])
 once-more [] r once new = (λ h. h, tt)
 once-more (q ∷ rs) r once new = (
   λ h. elim (out-last q r rs h) [
@@ -468,7 +468,7 @@ cancels-not Requested closing P e f = cc
 cancels-not (Live port) closing P e f = cc
 cancels-not (Cancelling port) closing P e f = cc
 
-not-said : (r : Request) (all : List Forwarding) (serials : ℕ) (f : Forwarding) → is_numbered 0 all serials ≡ true → In f all
+not-said : (r : ForwardingRequest) (all : List Forwarding) (serials : ℕ) (f : Forwarding) → is_numbered 0 all serials ≡ true → In f all
     → has_request f ≡ true → (r ≡ Listen f.serial) ⊎ (r ≡ Cancel f.serial) → IsOf all r → ⊥
 not-said (Listen n) all serials f numbered here has which h =
     let same : n ≡ f.serial = listen-is n f.serial which in
@@ -497,8 +497,8 @@ which-request (Live port) n = inr refl
 which-request (Cancelling port) n = inl refl
 
 -- a request that was said is that of its forwarding still
-listen-keeps : (n : ℕ) (s : Stage) → (asks_at s ≡ true → asks_at (stage_after change.Request n s) ≡ true)
-    × (cancels_at s ≡ true → cancels_at (stage_after change.Request n s) ≡ true)
+listen-keeps : (n : ℕ) (s : Stage) → (asks_at s ≡ true → asks_at (stage_after change.ForwardingRequest n s) ≡ true)
+    × (cancels_at s ≡ true → cancels_at (stage_after change.ForwardingRequest n s) ≡ true)
 listen-keeps n (ToListen host) = (λ e. e, λ e. e)
 listen-keeps n Ordered = (λ e. e, λ e. e)
 listen-keeps n (Listening l) = (λ e. e, λ e. e)
@@ -517,8 +517,8 @@ cancel-keeps n Requested = (λ e. e, λ e. e)
 cancel-keeps n (Live port) = (λ e. cc, λ e. refl)
 cancel-keeps n (Cancelling port) = (λ e. e, λ e. e)
 
-said-keeps : (r q : Request) (fs : List Forwarding) → IsOf fs r → IsOf (after_saying q fs) r
-said-keeps r (Listen serial) fs h = is-changed change.Request serial fs r (λ f is of k. (listen-keeps f.listen_port f.stage).0 k)
+said-keeps : (r q : ForwardingRequest) (fs : List Forwarding) → IsOf fs r → IsOf (after_sending q fs) r
+said-keeps r (Listen serial) fs h = is-changed change.ForwardingRequest serial fs r (λ f is of k. (listen-keeps f.listen_port f.stage).0 k)
     (λ f is of k. (listen-keeps f.listen_port f.stage).1 k) (λ f is of k. k) h
 said-keeps r (Cancel serial) fs h = is-changed change.Cancel serial fs r (λ f is of k. (cancel-keeps f.listen_port f.stage).0 k)
     (λ f is of k. (cancel-keeps f.listen_port f.stage).1 k) (λ f is of k. k) h
@@ -529,16 +529,16 @@ changed-its : (c : Change) (f : Forwarding)
 changed-its c f = rw (eq-eqb f.serial f.serial refl) refl
 
 said-its : (s : Stage) (f : Forwarding) (fs : List Forwarding) → f.stage ≡ s → requests_at s f.closing ≡ true → In f fs
-    → IsOf (after_saying (request_at s f.serial) fs) (request_at s f.serial)
+    → IsOf (after_sending (request_at s f.serial) fs) (request_at s f.serial)
 said-its (ToListen host) f fs is e h = cc
 said-its Ordered f fs is e h = cc
 said-its (Listening l) f fs is e h = cc
 said-its ToRequest f fs is e h = (
-  changed change.Request f.serial f,
-  in-map (changed change.Request f.serial) f fs h,
-  changed-serial change.Request f.serial f,
-  ap (λ (x : Forwarding). asks_at x.stage) (changed-its change.Request f)
-      ∙ ap (λ (s : Stage). asks_at (stage_after change.Request f.listen_port s)) is,
+  changed change.ForwardingRequest f.serial f,
+  in-map (changed change.ForwardingRequest f.serial) f fs h,
+  changed-serial change.ForwardingRequest f.serial f,
+  ap (λ (x : Forwarding). asks_at x.stage) (changed-its change.ForwardingRequest f)
+      ∙ ap (λ (s : Stage). asks_at (stage_after change.ForwardingRequest f.listen_port s)) is,
 )
 said-its Requested f fs is e h = cc
 said-its (Live port) f fs is e h = (
@@ -551,29 +551,29 @@ said-its (Live port) f fs is e h = (
 )
 said-its (Cancelling port) f fs is e h = cc
 
-yet-said : (q : Request) (fs : List Forwarding) → ClosedYet fs (after_saying q fs)
-yet-said (Listen serial) fs = yet-changed change.Request serial fs tt
+yet-said : (q : ForwardingRequest) (fs : List Forwarding) → ClosedYet fs (after_sending q fs)
+yet-said (Listen serial) fs = yet-changed change.ForwardingRequest serial fs tt
 yet-said (Cancel serial) fs = yet-changed change.Cancel serial fs tt
 
-after-request : (f : Forwarding) (old new : Desk) → Tracks old → find has_request old.all ≡ Some f → new ≡ request_said f old → Wants old → Wants new
+after-request : (f : Forwarding) (old new : ForwardingState) → Tracks old → find has_request old.all ≡ Some f → new ≡ request_sent f old → Wants old → Wants new
 after-request f old new t is e w =
     let q = request_of f in
     let here = found-in has_request f old.all is in
     let has = (found (λ (x : Forwarding). Unit {0}) has_request old.all f is (all-in (λ (x : Forwarding). Unit {0}) old.all (λ x h. tt))).1 in
-    let got : Wants (request_said f old) = record {
-      closers = closers-by old.waiting old.waiting old.all (after_saying q old.all) (yet-said q old.all) (λ g here closes c. c) w.closers;
+    let got : Wants (request_sent f old) = record {
+      closers = closers-by old.waiting old.waiting old.all (after_sending q old.all) (yet-said q old.all) (λ g here closes c. c) w.closers;
       said = λ r h. elim (out-last r q old.requests h) [
         | inl there ↦ said-keeps r q old.all (w.said r there)
-        | inr same ↦ subst (IsOf (after_saying q old.all)) same (said-its f.stage f old.all refl has here)
+        | inr same ↦ subst (IsOf (after_sending q old.all)) same (said-its f.stage f old.all refl has here)
       ];
       once = once-more old.requests q w.once
           (λ h. not-said q old.all old.serials f t.numbered here has (which-request f.stage f.serial) (w.said q h));
     } in
-    subst (λ (d : Desk). Wants d) (sym e) got
+    subst (λ (d : ForwardingState). Wants d) (sym e) got
 
 -- ---- a reply
 
-record ReplyWants (rs : List Request) (new : List Forwarding) (ws : List Waiting) : Type 0 where
+record ReplyWants (rs : List ForwardingRequest) (new : List Forwarding) (ws : List Waiting) : Type 0 where
   closers : Closers ws new
   said : Said rs new
 
@@ -632,7 +632,7 @@ left-differs q serial fs serials h f n here is passes left same =
     (and_from _ _ (eq-eqb f.serial serial same) (subst (λ (x : Forwarding). q x ≡ true) (sym one) passes))
 
 -- a request that isn't the one that is answered has its forwarding still
-listens-left : (serial : ℕ) (fs : List Forwarding) (r : Request) → (r ≡ Listen serial → ⊥) → IsOf fs r
+listens-left : (serial : ℕ) (fs : List Forwarding) (r : ForwardingRequest) → (r ≡ Listen serial → ⊥) → IsOf fs r
     → IsOf (removed_at (position (is_asked serial) fs) fs) r
 listens-left serial fs (Listen n) other h = (
   h.0,
@@ -650,7 +650,7 @@ listens-left serial fs (Cancel n) other h = (
   h.4,
 )
 
-cancels-left : (serial : ℕ) (fs : List Forwarding) (r : Request) → (r ≡ Cancel serial → ⊥) → IsOf fs r
+cancels-left : (serial : ℕ) (fs : List Forwarding) (r : ForwardingRequest) → (r ≡ Cancel serial → ⊥) → IsOf fs r
     → IsOf (removed_at (position (is_cancelled serial) fs) fs) r
 cancels-left serial fs (Listen n) other h = (
   h.0,
@@ -669,8 +669,8 @@ cancels-left serial fs (Cancel n) other h = (
 )
 
 -- of those with another request
-not-first : (r : Request) (rs : List Request) (q : Request) → Once (r ∷ rs) → In q rs → q ≡ r → ⊥
-not-first r rs q once h e = once.0 (subst (λ (x : Request). In x rs) e h)
+not-first : (r : ForwardingRequest) (rs : List ForwardingRequest) (q : ForwardingRequest) → Once (r ∷ rs) → In q rs → q ≡ r → ⊥
+not-first r rs q once h e = once.0 (subst (λ (x : ForwardingRequest). In x rs) e h)
 
 stays-not : (b : Bool) (P : Type 0) → closing_after change.Stay b ≡ true → P
 stays-not b P e = cc
@@ -688,7 +688,7 @@ stay-differs serial fs g here closes same =
     stayed-if serial (at.0.serial == serial) at.0 refl (ap (λ (x : Forwarding). x.closing) at.2 ∙ closes)
     (sym (changed-serial change.Stay serial at.0) ∙ ap (λ (x : Forwarding). x.serial) at.2 ∙ same)
 
-replied : (success : Bool) (r : Request) (port : Option ℕ) (at serials : ℕ) (rs : List Request) (fs : List Forwarding) (ws : List Waiting)
+replied : (success : Bool) (r : ForwardingRequest) (port : Option ℕ) (at serials : ℕ) (rs : List ForwardingRequest) (fs : List Forwarding) (ws : List Waiting)
     → is_numbered 0 fs serials ≡ true → Closers ws fs → Said (r ∷ rs) fs → Once (r ∷ rs)
     → ReplyWants rs (replied_all success port (Some r) fs) (replied_asks success port (Some r) fs at ws)
 replied true (Listen serial) port at serials rs fs ws n closers said once = record {
@@ -725,24 +725,24 @@ replied false (Cancel serial) port at serials rs fs ws n closers said once = rec
       (λ f is of k. absurd (not-first (Cancel serial) rs q once h (of ∙ ap (λ m. Cancel m) is))) (said q (inr h));
 }
 
-replied-by : (success : Bool) (port : Option ℕ) (old : Desk) (rs : List Request) → old.requests ≡ rs → Tracks old → Wants old
+replied-by : (success : Bool) (port : Option ℕ) (old : ForwardingState) (rs : List ForwardingRequest) → old.requests ≡ rs → Tracks old → Wants old
     → ReplyWants (drop 1 rs) (replied_all success port (first_of rs) old.all) (replied_asks success port (first_of rs) old.all old.done old.waiting)
-replied-by true port old [] e t w = record { closers = w.closers; said = subst (λ (rs : List Request). Said rs old.all) e w.said }
-replied-by false port old [] e t w = record { closers = w.closers; said = subst (λ (rs : List Request). Said rs old.all) e w.said }
+replied-by true port old [] e t w = record { closers = w.closers; said = subst (λ (rs : List ForwardingRequest). Said rs old.all) e w.said }
+replied-by false port old [] e t w = record { closers = w.closers; said = subst (λ (rs : List ForwardingRequest). Said rs old.all) e w.said }
 replied-by success port old (r ∷ rs) e t w =
     replied success r port old.done old.serials rs old.all old.waiting t.numbered w.closers
-    (subst (λ (qs : List Request). Said qs old.all) e w.said) (subst Once e w.once)
+    (subst (λ (qs : List ForwardingRequest). Said qs old.all) e w.said) (subst Once e w.once)
 
-once-rest : (rs : List Request) → Once rs → Once (drop 1 rs)
+once-rest : (rs : List ForwardingRequest) → Once rs → Once (drop 1 rs)
 once-rest [] once = tt
 once-rest (r ∷ rs) once = once.1
 
-after-reply : (success : Bool) (port : Option ℕ) (old new : Desk) → Tracks old → new ≡ reply_heard success port old → Wants old → Wants new
+after-reply : (success : Bool) (port : Option ℕ) (old new : ForwardingState) → Tracks old → new ≡ reply_received success port old → Wants old → Wants new
 after-reply success port old new t e w =
     let r = replied-by success port old old.requests refl t w in
-    let got : Wants (reply_heard success port old) =
+    let got : Wants (reply_received success port old) =
     record { closers = r.closers; said = r.said; once = once-rest old.requests w.once } in
-    subst (λ (d : Desk). Wants d) (sym e) got
+    subst (λ (d : ForwardingState). Wants d) (sym e) got
 
 -- ---- a listener is ordered
 
@@ -765,7 +765,7 @@ cancels-waits (Live port) e = refl
 cancels-waits (Cancelling port) e = refl
 
 -- those with requests are others than those that have no listener yet
-is-other : (old new : List Forwarding) (r : Request) → ((f : Forwarding) → In f old → to_listen f ≡ false → In f new) → IsOf old r → IsOf new r
+is-other : (old new : List Forwarding) (r : ForwardingRequest) → ((f : Forwarding) → In f old → to_listen f ≡ false → In f new) → IsOf old r → IsOf new r
 is-other old new (Listen n) keeps h = (h.0, keeps h.0 h.1 (asks-waits h.0.stage h.3), h.2, h.3)
 is-other old new (Cancel n) keeps h = (h.0, keeps h.0 h.1 (cancels-waits h.0.stage h.3), h.2, h.3, h.4)
 
@@ -776,7 +776,7 @@ set-other x f g d fs i inside here isnt is = elim (in-set x fs i g d inside here
   | inr same ↦ absurd (both_ways (to_listen x) isnt (subst (λ (y : Forwarding). to_listen y ≡ true) (sym same) is))
 ]
 
-made : (number : Option ℕ) (rs : List Request) (serials at i : ℕ) (f : Forwarding) (old new : List Forwarding) (ws : List Waiting)
+made : (number : Option ℕ) (rs : List ForwardingRequest) (serials at i : ℕ) (f : Forwarding) (old new : List Forwarding) (ws : List Waiting)
     → position to_listen old ≡ Some i → f ≡ get_or old i f → MadeOf number i f old new → is_numbered 0 old serials ≡ true
     → Closers ws old → Said rs old → ReplyWants rs new (ordered_asks number f.serial at ws)
 made None rs serials at i f old new ws first is m n closers said =
@@ -797,7 +797,7 @@ made (Some l) rs serials at i f old new ws first is m n closers said =
       said = λ r h. is-other old (set old i g) r (λ x here isnt. set-other x f g f old i its.0 here isnt its.1) (said r h);
     })
 
-after-listen : (host : List ℕ) (port : ℕ) (number : Option ℕ) (old new : Desk) → Tracks old → GetsListener host port number old new
+after-listen : (host : List ℕ) (port : ℕ) (number : Option ℕ) (old new : ForwardingState) → Tracks old → GetsListener host port number old new
     → Wants old → Wants new
 after-listen host port number old new t h w =
     let l = listener-made host port number old new h in
@@ -805,7 +805,7 @@ after-listen host port number old new t h w =
     t.numbered w.closers w.said in
     record {
       closers = subst (λ (ws : List Waiting). Closers ws new.all) (sym l.waiting) r.closers;
-      said = subst (λ (rs : List Request). Said rs new.all) (sym l.requests) r.said;
+      said = subst (λ (rs : List ForwardingRequest). Said rs new.all) (sym l.requests) r.said;
       once = subst Once (sym l.requests) w.once;
     }
 
@@ -829,7 +829,7 @@ cancels-lacks l Requested e = refl
 cancels-lacks l (Live port) e = refl
 cancels-lacks l (Cancelling port) e = refl
 
-is-unlistened : (l : ℕ) (fs : List Forwarding) (r : Request) → IsOf fs r → IsOf (filter (λ f. not (has_listener l f)) fs) r
+is-unlistened : (l : ℕ) (fs : List Forwarding) (r : ForwardingRequest) → IsOf fs r → IsOf (filter (λ f. not (has_listener l f)) fs) r
 is-unlistened l fs (Listen n) h =
     (h.0, in-filter (λ f. not (has_listener l f)) h.0 fs (asks-lacks l h.0.stage h.3) h.1, h.2, h.3)
 is-unlistened l fs (Cancel n) h =
@@ -845,7 +845,7 @@ not-closed-one serial l all serials g n c here same =
     both_ways (has_listener l g) (not-true (has_listener l g) at.1)
     (ap (λ (s : Stage). is_listener l (listener_at s)) stage ∙ eq-eqb l l refl)
 
-after-unlisten : (l : ℕ) (old new : Desk) → Tracks old → EndsListener l old new → Wants old → Wants new
+after-unlisten : (l : ℕ) (old new : ForwardingState) → Tracks old → EndsListener l old new → Wants old → Wants new
 after-unlisten l old new t h w =
     let kept = filter (λ (f : Forwarding). not (has_listener l f)) old.all in
     let c = next-closing (λ (x : Forwarding). In x old.all) old.waiting old.all h.serial l
@@ -858,27 +858,27 @@ after-unlisten l old new t h w =
       said = λ r k. is-unlistened l old.all r (w.said r k);
       once = w.once;
     } in
-    subst (λ (d : Desk). Wants d) (sym h.others) got
+    subst (λ (d : ForwardingState). Wants d) (sym h.others) got
 
 -- ---- by all that happened
 
-after : (deed : Deed) (old new : Desk) → Apart old.waiting → Tracks old → Does deed old new → Wants old → Wants new
+after : (forwarder_event : ForwarderEvent) (old new : ForwardingState) → Apart old.waiting → Tracks old → Does forwarder_event old new → Wants old → Wants new
 after (Begins starts) old new apart t d w =
     wants-more old new (begins-more starts.gateway starts.asks (length starts.asks) (standing_at old) (standing_at new) (omega arith) d.begins)
-    (ap (λ (x : Desk). x.waiting) d.others) (ap (λ (x : Desk). x.requests) d.others) w
+    (ap (λ (x : ForwardingState). x.waiting) d.others) (ap (λ (x : ForwardingState). x.requests) d.others) w
 after (Asks client id opening ask answer) old new apart t d w = after-ask client id opening ask answer old new d w
 after (Answers client id answer) old new apart t d w = after-answering client id answer old new apart d w
-after Greets old new apart t d w = wants-more old new (none-more old.all new.all (ap (λ (x : Desk). x.all) d.1))
-    (ap (λ (x : Desk). x.waiting) d.1) (ap (λ (x : Desk). x.requests) d.1) w
+after Greets old new apart t d w = wants-more old new (none-more old.all new.all (ap (λ (x : ForwardingState). x.all) d.1))
+    (ap (λ (x : ForwardingState). x.waiting) d.1) (ap (λ (x : ForwardingState). x.requests) d.1) w
 after (Requests f) old new apart t d w = after-request f old new t d.1 d.2 w
 after (Replies success port) old new apart t d w = after-reply success port old new t d w
 after (Listens host port number) old new apart t d w = after-listen host port number old new t d w
 after (Unlistens l) old new apart t d w = after-unlisten l old new t d w
 
-wants-nothing : Wants empty_desk
+wants-nothing : Wants empty_forwarding_state
 wants-nothing = record { closers = λ f h. absurd h; said = λ r h. absurd h; once = tt }
 
-pub wants : (deeds : List Deed) (desk : Desk) → Leave deeds desk → Wants desk
-wants [] desk left = subst (λ (d : Desk). Wants d) (sym left) wants-nothing
-wants (deed ∷ deeds) desk left =
-    after deed left.0 desk (knows deeds left.0 left.1).apart (tracks deeds left.0 left.1) left.2 (wants deeds left.0 left.1)
+pub wants : (forwarder_events : List ForwarderEvent) (forwarding_state : ForwardingState) → Leave forwarder_events forwarding_state → Wants forwarding_state
+wants [] forwarding_state left = subst (λ (d : ForwardingState). Wants d) (sym left) wants-nothing
+wants (forwarder_event ∷ forwarder_events) forwarding_state left =
+    after forwarder_event left.0 forwarding_state (knows forwarder_events left.0 left.1).apart (tracks forwarder_events left.0 left.1) left.2 (wants forwarder_events left.0 left.1)

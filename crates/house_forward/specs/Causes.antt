@@ -6,9 +6,9 @@ use Rattle.mux_outside.specs.declared.house.HouseReply.{HouseReply}
 use Rattle.mux_outside.specs.declared.house.HouseReply.TheVariants as given
 use Rattle.mux_outside.specs.declared.start_ask.StartAsk.{StartAsk}
 use Rattle.house_forward.specs.Asks.{turns_away, waiting_for}
-use Rattle.house_forward.specs.Deeds.{Deed, Does, Leave}
-use Rattle.house_forward.specs.Deeds.{Begins, Asks, Answers, Greets, Requests, Replies, Listens, Unlistens}
-use Rattle.house_forward.specs.Desk.{Desk}
+use Rattle.house_forward.specs.ForwarderEvents.{ForwarderEvent, Does, Leave}
+use Rattle.house_forward.specs.ForwarderEvents.{Begins, Asks, Answers, Greets, Requests, Replies, Listens, Unlistens}
+use Rattle.house_forward.specs.ForwardingState.{ForwardingState}
 use Rattle.house_forward.specs.Forwardings.{first_of, granted, bound_to, request_of, outcome_of, reply_to, standing, connects_to, how_many, has_request, next_of, listener_of, listeners_of, listeners_made, counts}
 use Rattle.house_forward.specs.Quiet.{answers_none}
 use Rattle.house_forward.specs.Rules.{AreEnds, is_refused_alone, kind_of, listen_host, listens_here, connects_there}
@@ -17,8 +17,8 @@ use Rattle.house_forward.specs.declared.asks.Outcome.{Outcome}
 use Rattle.house_forward.specs.declared.asks.Outcome.TheVariants.{Done, Refused}
 use Rattle.house_forward.specs.declared.asks.Waiting.{Waiting}
 use Rattle.house_forward.specs.declared.forwarding.Forwarding.{Forwarding}
-use Rattle.house_forward.specs.declared.forwarding.Request.{Request}
-use Rattle.house_forward.specs.declared.forwarding.Request.TheVariants.{Listen, Cancel}
+use Rattle.house_forward.specs.declared.forwarding.ForwardingRequest.{ForwardingRequest}
+use Rattle.house_forward.specs.declared.forwarding.ForwardingRequest.TheVariants.{Listen, Cancel}
 use Rattle.house_forward.specs.declared.forwarding.Stage.{Stage}
 use Rattle.house_forward.specs.declared.forwarding.Stage.TheVariants.{ToListen, Ordered, Listening, ToRequest, Requested, Live, Cancelling}
 use Rattle.house_forward.specs.declared.rules.Ends.{Ends}
@@ -27,32 +27,32 @@ use Rattle.house_forward.specs.declared.rules.TheConstants.{MOST_FORWARDINGS}
 -- ---- what happened
 
 -- whether a listen host of none means all addresses: the latest start says it
-abbrev pub gateway_in : List Deed → Bool
+abbrev pub gateway_in : List ForwarderEvent → Bool
 gateway_in [] = false
-gateway_in (Begins starts ∷ deeds) = starts.gateway
-gateway_in (Asks client id opening ask reply ∷ deeds) = gateway_in deeds
-gateway_in (Answers client id reply ∷ deeds) = gateway_in deeds
-gateway_in (Greets ∷ deeds) = gateway_in deeds
-gateway_in (Requests f ∷ deeds) = gateway_in deeds
-gateway_in (Replies success port ∷ deeds) = gateway_in deeds
-gateway_in (Listens host port number ∷ deeds) = gateway_in deeds
-gateway_in (Unlistens l ∷ deeds) = gateway_in deeds
+gateway_in (Begins starts ∷ forwarder_events) = starts.gateway
+gateway_in (Asks client id opening ask reply ∷ forwarder_events) = gateway_in forwarder_events
+gateway_in (Answers client id reply ∷ forwarder_events) = gateway_in forwarder_events
+gateway_in (Greets ∷ forwarder_events) = gateway_in forwarder_events
+gateway_in (Requests f ∷ forwarder_events) = gateway_in forwarder_events
+gateway_in (Replies success port ∷ forwarder_events) = gateway_in forwarder_events
+gateway_in (Listens host port number ∷ forwarder_events) = gateway_in forwarder_events
+gateway_in (Unlistens l ∷ forwarder_events) = gateway_in forwarder_events
 
 -- the forwardings whose requests were said and have no reply yet, as they were then: a reply of the
 -- server is to the first
-abbrev pub unanswered : List Deed → List Forwarding
+abbrev pub unanswered : List ForwarderEvent → List Forwarding
 unanswered [] = []
-unanswered (Begins starts ∷ deeds) = unanswered deeds
-unanswered (Asks client id opening ask reply ∷ deeds) = unanswered deeds
-unanswered (Answers client id reply ∷ deeds) = unanswered deeds
-unanswered (Greets ∷ deeds) = unanswered deeds
-unanswered (Requests f ∷ deeds) = unanswered deeds ++ f ∷ []
-unanswered (Replies success port ∷ deeds) = drop 1 (unanswered deeds)
-unanswered (Listens host port number ∷ deeds) = unanswered deeds
-unanswered (Unlistens l ∷ deeds) = unanswered deeds
+unanswered (Begins starts ∷ forwarder_events) = unanswered forwarder_events
+unanswered (Asks client id opening ask reply ∷ forwarder_events) = unanswered forwarder_events
+unanswered (Answers client id reply ∷ forwarder_events) = unanswered forwarder_events
+unanswered (Greets ∷ forwarder_events) = unanswered forwarder_events
+unanswered (Requests f ∷ forwarder_events) = unanswered forwarder_events ++ f ∷ []
+unanswered (Replies success port ∷ forwarder_events) = drop 1 (unanswered forwarder_events)
+unanswered (Listens host port number ∷ forwarder_events) = unanswered forwarder_events
+unanswered (Unlistens l ∷ forwarder_events) = unanswered forwarder_events
 
 -- whether this listener is closed
-abbrev pub closes : ℕ → Deed → Bool
+abbrev pub closes : ℕ → ForwarderEvent → Bool
 closes l (Begins starts) = false
 closes l (Asks client id opening ask reply) = false
 closes l (Answers client id reply) = false
@@ -63,7 +63,7 @@ closes l (Listens host port number) = false
 closes l (Unlistens k) = l == k
 
 -- whether this is the answer to a client's ask with this id
-abbrev pub answers : ℕ → ℕ → Deed → Bool
+abbrev pub answers : ℕ → ℕ → ForwarderEvent → Bool
 answers client id (Begins starts) = false
 answers client id (Asks c i opening ask reply) = false
 answers client id (Answers c i reply) = (client == c) && (id == i)
@@ -94,41 +94,41 @@ pub record IsFor (gateway opening : Bool) (ask : StartAsk) (f : Forwarding) : Ty
       → (f.connect_host ≡ ask.connect_host) × (f.connect_port ≡ ask.connect_port)
 
 -- a listener was made at this host and port, and was not closed since
-pub record ListensSince (host : List ℕ) (port l : ℕ) (deeds : List Deed) : Type 0 where
-  pub later : List Deed
-  pub earlier : List Deed
-  pub were : deeds ≡ later ++ Listens host port (Some l) ∷ earlier
+pub record ListensSince (host : List ℕ) (port l : ℕ) (forwarder_events : List ForwarderEvent) : Type 0 where
+  pub later : List ForwarderEvent
+  pub earlier : List ForwarderEvent
+  pub were : forwarder_events ≡ later ++ Listens host port (Some l) ∷ earlier
   pub open_yet : list_any (closes l) later ≡ false
 
 -- the first request that has no reply is this one, for this forwarding, which the server is to
 -- listen for
-pub record IsNext (what : ℕ → Request) (f : Forwarding) (deeds : List Deed) : Type 0 where
+pub record IsNext (what : ℕ → ForwardingRequest) (f : Forwarding) (forwarder_events : List ForwarderEvent) : Type 0 where
   pub first : Forwarding
   pub others : List Forwarding
-  pub were : unanswered deeds ≡ first ∷ others
+  pub were : unanswered forwarder_events ≡ first ∷ others
   pub is : AreOne f first
   pub asks : request_of first ≡ what first.serial
   pub there : listens_here f.kind ≡ false
 
 -- the server said that it listens for it on this port: it granted the request to listen
-pub record IsGranted (f : Forwarding) (port : ℕ) (deeds : List Deed) : Type 0 where
+pub record IsGranted (f : Forwarding) (port : ℕ) (forwarder_events : List ForwarderEvent) : Type 0 where
   pub chosen : Option ℕ
-  pub later : List Deed
-  pub earlier : List Deed
-  pub were : deeds ≡ later ++ Replies true chosen ∷ earlier
+  pub later : List ForwarderEvent
+  pub earlier : List ForwarderEvent
+  pub were : forwarder_events ≡ later ++ Replies true chosen ∷ earlier
   pub next : IsNext Listen f earlier
   pub bound : port ≡ bound_to f.listen_port chosen
 
 -- it is served: it has a listener, or the server listens for it
-abbrev pub ServesAt : Stage → Forwarding → List Deed → Type 0
-ServesAt (ToListen host) f deeds = ⊥
-ServesAt Ordered f deeds = ⊥
-ServesAt (Listening l) f deeds =
-    (listens_here f.kind ≡ true) × ListensSince f.listen_host f.listen_port l deeds
-ServesAt ToRequest f deeds = ⊥
-ServesAt Requested f deeds = ⊥
-ServesAt (Live port) f deeds = (listens_here f.kind ≡ false) × IsGranted f port deeds
-ServesAt (Cancelling port) f deeds = (listens_here f.kind ≡ false) × IsGranted f port deeds
+abbrev pub ServesAt : Stage → Forwarding → List ForwarderEvent → Type 0
+ServesAt (ToListen host) f forwarder_events = ⊥
+ServesAt Ordered f forwarder_events = ⊥
+ServesAt (Listening l) f forwarder_events =
+    (listens_here f.kind ≡ true) × ListensSince f.listen_host f.listen_port l forwarder_events
+ServesAt ToRequest f forwarder_events = ⊥
+ServesAt Requested f forwarder_events = ⊥
+ServesAt (Live port) f forwarder_events = (listens_here f.kind ≡ false) × IsGranted f port forwarder_events
+ServesAt (Cancelling port) f forwarder_events = (listens_here f.kind ≡ false) × IsGranted f port forwarder_events
 
 -- ---- what an ask gets at once
 
@@ -142,22 +142,22 @@ IsGrant given.Later = ⊥
 -- an ask to open that gets Done or a port at once: the very forwarding that it asks for is there, has a
 -- listener that isn't to be closed or is live, and gives the port where the server was to choose one
 pub record IsServed (opening : Bool) (ask : StartAsk) (reply : HouseReply) (all : List Forwarding)
-    (deeds : List Deed) : Type 0 where
+    (forwarder_events : List ForwarderEvent) : Type 0 where
   pub opens : opening ≡ true
   pub forwarding : Forwarding
   pub outcome : Outcome
   pub stands : Contains all forwarding
-  pub is_for : IsFor (gateway_in deeds) true ask forwarding
+  pub is_for : IsFor (gateway_in forwarder_events) true ask forwarding
   pub counts_yet : counts forwarding ≡ true
-  pub serves : ServesAt forwarding.stage forwarding deeds
+  pub serves : ServesAt forwarding.stage forwarding forwarder_events
   pub comes : outcome_of forwarding ≡ Some outcome
   pub replies : reply ≡ reply_to (Now outcome)
 
 -- each that does
 abbrev pub EachServed : Type 0
-EachServed = (client id : ℕ) (opening : Bool) (ask : StartAsk) (reply : HouseReply) (deeds : List Deed)
-    (old new : Desk) → Leave deeds old → Does (Asks client id opening ask reply) old new → IsGrant reply
-    → IsServed opening ask reply old.all deeds
+EachServed = (client id : ℕ) (opening : Bool) (ask : StartAsk) (reply : HouseReply) (forwarder_events : List ForwarderEvent)
+    (old new : ForwardingState) → Leave forwarder_events old → Does (Asks client id opening ask reply) old new → IsGrant reply
+    → IsServed opening ask reply old.all forwarder_events
 
 -- ---- what an ask comes to later
 
@@ -170,7 +170,7 @@ MadeBy (Some l) false outcome = ⊥
 
 -- a success makes it live, with the port where the server was to choose one, or ends it; a failure
 -- refuses it to all that asked, or lets it live
-abbrev pub RepliedBy : Bool → Option ℕ → List Deed → Bool → Forwarding → Outcome → Type 0
+abbrev pub RepliedBy : Bool → Option ℕ → List ForwarderEvent → Bool → Forwarding → Outcome → Type 0
 RepliedBy true port earlier true f outcome = IsNext Listen f earlier
     × (outcome ≡ granted f.listen_port (bound_to f.listen_port port))
 RepliedBy true port earlier false f outcome = IsNext Cancel f earlier × (outcome ≡ Done)
@@ -184,7 +184,7 @@ ClosedBy true outcome = ⊥
 ClosedBy false outcome = outcome ≡ Done
 
 -- those that asked to open or to close it came to this by this deed, behind the earlier ones
-abbrev pub CameBy : Deed → List Deed → Bool → Forwarding → Outcome → Type 0
+abbrev pub CameBy : ForwarderEvent → List ForwarderEvent → Bool → Forwarding → Outcome → Type 0
 CameBy (Begins starts) earlier opening f outcome = ⊥
 CameBy (Asks client id opens ask reply) earlier opening f outcome = ⊥
 CameBy (Answers client id reply) earlier opening f outcome = ⊥
@@ -199,38 +199,38 @@ CameBy (Unlistens l) earlier opening f outcome = (listens_here f.kind ≡ true)
 
 -- an answer: its ask had none yet, and came to this by what happened since, to the forwarding that it
 -- is for
-pub record HasCause (client id : ℕ) (reply : HouseReply) (deeds : List Deed) : Type 0 where
+pub record HasCause (client id : ℕ) (reply : HouseReply) (forwarder_events : List ForwarderEvent) : Type 0 where
   pub opening : Bool
   pub ask : StartAsk
   pub forwarding : Forwarding
   pub outcome : Outcome
-  pub later : List Deed
-  pub deed : Deed
-  pub between : List Deed
-  pub earlier : List Deed
-  pub were : deeds ≡ later ++ deed ∷ (between ++ Asks client id opening ask given.Later ∷ earlier)
-  pub open_yet : list_any (answers client id) (later ++ deed ∷ between) ≡ false
+  pub later : List ForwarderEvent
+  pub forwarder_event : ForwarderEvent
+  pub between : List ForwarderEvent
+  pub earlier : List ForwarderEvent
+  pub were : forwarder_events ≡ later ++ forwarder_event ∷ (between ++ Asks client id opening ask given.Later ∷ earlier)
+  pub open_yet : list_any (answers client id) (later ++ forwarder_event ∷ between) ≡ false
   pub is_for : IsFor (gateway_in earlier) opening ask forwarding
-  pub came : CameBy deed (between ++ Asks client id opening ask given.Later ∷ earlier) opening
+  pub came : CameBy forwarder_event (between ++ Asks client id opening ask given.Later ∷ earlier) opening
       forwarding outcome
   pub replies : reply ≡ reply_to (Now outcome)
 
 -- each has its cause
 abbrev pub EachAnswer : Type 0
-EachAnswer = (client id : ℕ) (reply : HouseReply) (deeds : List Deed) (old new : Desk) → Leave deeds old
-    → Does (Answers client id reply) old new → HasCause client id reply deeds
+EachAnswer = (client id : ℕ) (reply : HouseReply) (forwarder_events : List ForwarderEvent) (old new : ForwardingState) → Leave forwarder_events old
+    → Does (Answers client id reply) old new → HasCause client id reply forwarder_events
 
 -- ---- what is closed
 
 -- a client asked to close it, and was to get its answer later; it has none yet: its ask waits, and came
 -- to nothing
-pub record WaitsToClose (f : Forwarding) (waiting : List Waiting) (deeds : List Deed) : Type 0 where
+pub record WaitsToClose (f : Forwarding) (waiting : List Waiting) (forwarder_events : List ForwarderEvent) : Type 0 where
   pub client : ℕ
   pub id : ℕ
   pub ask : StartAsk
-  pub later : List Deed
-  pub earlier : List Deed
-  pub were : deeds ≡ later ++ Asks client id false ask given.Later ∷ earlier
+  pub later : List ForwarderEvent
+  pub earlier : List ForwarderEvent
+  pub were : forwarder_events ≡ later ++ Asks client id false ask given.Later ∷ earlier
   pub open_yet : list_any (answers client id) later ≡ false
   pub is_for : IsFor (gateway_in earlier) false ask f
   pub waits : Contains waiting (waiting_for client id false f.serial)
@@ -241,28 +241,28 @@ come_to at outcome w = record w { outcome = Some (at, outcome) }
 
 -- a listener that is closed is that of a forwarding that a client asked to close, and that ask has no
 -- answer yet: it comes to Done now
-pub record EndsAsked (l : ℕ) (deeds : List Deed) (old new : Desk) : Type 0 where
+pub record EndsAsked (l : ℕ) (forwarder_events : List ForwarderEvent) (old new : ForwardingState) : Type 0 where
   pub forwarding : Forwarding
   pub stands : Contains old.all forwarding
   pub listens : listener_of forwarding ≡ Some l
-  pub serves : ListensSince forwarding.listen_host forwarding.listen_port l deeds
-  pub asked : WaitsToClose forwarding old.waiting deeds
+  pub serves : ListensSince forwarding.listen_host forwarding.listen_port l forwarder_events
+  pub asked : WaitsToClose forwarding old.waiting forwarder_events
   pub comes : Contains new.waiting
       (come_to old.done Done (waiting_for asked.client asked.id false forwarding.serial))
 
 abbrev pub EachUnlisten : Type 0
-EachUnlisten = (l : ℕ) (deeds : List Deed) (old new : Desk) → Leave deeds old
-    → Does (Unlistens l) old new → EndsAsked l deeds old new
+EachUnlisten = (l : ℕ) (forwarder_events : List ForwarderEvent) (old new : ForwardingState) → Leave forwarder_events old
+    → Does (Unlistens l) old new → EndsAsked l forwarder_events old new
 
 -- a cancel is said for a forwarding that is live and that a client asked to close, and that ask has no
 -- answer yet
-pub record CancelsAsked (f : Forwarding) (waiting : List Waiting) (deeds : List Deed) : Type 0 where
-  pub serves : ServesAt f.stage f deeds
-  pub asked : WaitsToClose f waiting deeds
+pub record CancelsAsked (f : Forwarding) (waiting : List Waiting) (forwarder_events : List ForwarderEvent) : Type 0 where
+  pub serves : ServesAt f.stage f forwarder_events
+  pub asked : WaitsToClose f waiting forwarder_events
 
 abbrev pub EachCancel : Type 0
-EachCancel = (f : Forwarding) (deeds : List Deed) (old new : Desk) → Leave deeds old
-    → Does (Requests f) old new → request_of f ≡ Cancel f.serial → CancelsAsked f old.waiting deeds
+EachCancel = (f : Forwarding) (forwarder_events : List ForwarderEvent) (old new : ForwardingState) → Leave forwarder_events old
+    → Does (Requests f) old new → request_of f ≡ Cancel f.serial → CancelsAsked f old.waiting forwarder_events
 
 -- what an ask to close comes to as the server replies to its cancel
 abbrev pub cancelled : Bool → Outcome
@@ -271,18 +271,18 @@ cancelled false = Refused
 
 -- the reply to a cancel is for a forwarding that is live and that a client asked to close, and that ask
 -- has no answer yet: it comes to Done now where the cancel was granted, and else it is refused
-pub record EndsCancel (serial : ℕ) (success : Bool) (deeds : List Deed) (old new : Desk) : Type 0 where
+pub record EndsCancel (serial : ℕ) (success : Bool) (forwarder_events : List ForwarderEvent) (old new : ForwardingState) : Type 0 where
   pub forwarding : Forwarding
   pub stands : Contains old.all forwarding
   pub is : forwarding.serial ≡ serial
-  pub cancels : CancelsAsked forwarding old.waiting deeds
+  pub cancels : CancelsAsked forwarding old.waiting forwarder_events
   pub comes : Contains new.waiting (come_to old.done (cancelled success)
       (waiting_for cancels.asked.client cancels.asked.id false serial))
 
 abbrev pub EachCancelReply : Type 0
-EachCancelReply = (serial : ℕ) (success : Bool) (port : Option ℕ) (deeds : List Deed)
-    (old new : Desk) → Leave deeds old → Does (Replies success port) old new
-    → first_of old.requests ≡ Some (Cancel serial) → EndsCancel serial success deeds old new
+EachCancelReply = (serial : ℕ) (success : Bool) (port : Option ℕ) (forwarder_events : List ForwarderEvent)
+    (old new : ForwardingState) → Leave forwarder_events old → Does (Replies success port) old new
+    → first_of old.requests ≡ Some (Cancel serial) → EndsCancel serial success forwarder_events old new
 
 -- ---- what is refused at once
 
@@ -290,7 +290,7 @@ EachCancelReply = (serial : ℕ) (success : Bool) (port : Option ℕ) (deeds : L
 -- is refused whatever stands; one to open, where the forwarding that listens there connects elsewhere,
 -- or none does and as many are asked or live as may be; one to close, where none listens there, or one
 -- that closes already
-pub data IsRefused (client id : ℕ) (opening : Bool) (ask : StartAsk) (d : Desk) : Type 0 where
+pub data IsRefused (client id : ℕ) (opening : Bool) (ask : StartAsk) (d : ForwardingState) : Type 0 where
   TurnedAway : turns_away client id d.waiting ≡ true → IsRefused client id opening ask d
   RefusedAlone : is_refused_alone ask ≡ true → IsRefused client id opening ask d
   ConnectsElsewhere : (ends : Ends) (f : Forwarding) → opening ≡ true → AreEnds d.gateway ask ends
@@ -304,51 +304,51 @@ pub data IsRefused (client id : ℕ) (opening : Bool) (ask : StartAsk) (d : Desk
 
 -- each has one of these causes
 abbrev pub EachRefused : Type 0
-EachRefused = (client id : ℕ) (opening : Bool) (ask : StartAsk) (old new : Desk)
+EachRefused = (client id : ℕ) (opening : Bool) (ask : StartAsk) (old new : ForwardingState)
     → Does (Asks client id opening ask given.Refused) old new → IsRefused client id opening ask old
 
 -- ---- at rest
 
 -- there is no request to say, no listener to order or to close, and no answer to give
-pub record IsAtRest (d : Desk) : Type 0 where
+pub record IsAtRest (d : ForwardingState) : Type 0 where
   pub says : find has_request d.all ≡ None
   pub orders : next_of d.waiting d.all ≡ None
   pub answers : answers_none d.waiting ≡ true
 
 -- the request to listen for the forwarding that an ask waits for, or its cancel, was said and has no
 -- reply yet
-abbrev pub AwaitsReply : List Request → Waiting → Type 0
+abbrev pub AwaitsReply : List ForwardingRequest → Waiting → Type 0
 AwaitsReply requests w =
     Contains requests (Listen w.forwarding) ⊎ Contains requests (Cancel w.forwarding)
 
 -- at rest each ask that waits awaits a reply of the server
 abbrev pub EachAwaits : Type 0
-EachAwaits = (deeds : List Deed) (d : Desk) → Leave deeds d → IsAtRest d → All (AwaitsReply d.requests) d.waiting
+EachAwaits = (forwarder_events : List ForwarderEvent) (d : ForwardingState) → Leave forwarder_events d → IsAtRest d → All (AwaitsReply d.requests) d.waiting
 
 -- ---- listeners
 
 -- those that were made and not closed since, in the order in which they were made
-abbrev pub listened : List Deed → List ℕ
+abbrev pub listened : List ForwarderEvent → List ℕ
 listened [] = []
-listened (Begins starts ∷ deeds) = listened deeds
-listened (Asks client id opening ask reply ∷ deeds) = listened deeds
-listened (Answers client id reply ∷ deeds) = listened deeds
-listened (Greets ∷ deeds) = listened deeds
-listened (Requests f ∷ deeds) = listened deeds
-listened (Replies success port ∷ deeds) = listened deeds
-listened (Listens host port number ∷ deeds) = listened deeds ++ listeners_made number
-listened (Unlistens l ∷ deeds) = without l (listened deeds)
+listened (Begins starts ∷ forwarder_events) = listened forwarder_events
+listened (Asks client id opening ask reply ∷ forwarder_events) = listened forwarder_events
+listened (Answers client id reply ∷ forwarder_events) = listened forwarder_events
+listened (Greets ∷ forwarder_events) = listened forwarder_events
+listened (Requests f ∷ forwarder_events) = listened forwarder_events
+listened (Replies success port ∷ forwarder_events) = listened forwarder_events
+listened (Listens host port number ∷ forwarder_events) = listened forwarder_events ++ listeners_made number
+listened (Unlistens l ∷ forwarder_events) = without l (listened forwarder_events)
 
 -- these are exactly those of the forwardings, each of one, in their order
 abbrev pub ListenersAreTheirs : Type 0
-ListenersAreTheirs = (deeds : List Deed) (d : Desk) → Leave deeds d → listeners_of d.all ≡ listened deeds
+ListenersAreTheirs = (forwarder_events : List ForwarderEvent) (d : ForwardingState) → Leave forwarder_events d → listeners_of d.all ≡ listened forwarder_events
 
 -- each that is made has a number that none of them has
 abbrev pub EachListenerIsNew : Type 0
-EachListenerIsNew = (host : List ℕ) (port : ℕ) (number : Option ℕ) (deeds : List Deed)
-    (old new : Desk) → Leave deeds old → Does (Listens host port number) old new
-    → IfSome number (λ l. among l (listened deeds) ≡ false)
+EachListenerIsNew = (host : List ℕ) (port : ℕ) (number : Option ℕ) (forwarder_events : List ForwarderEvent)
+    (old new : ForwardingState) → Leave forwarder_events old → Does (Listens host port number) old new
+    → IfSome number (λ l. among l (listened forwarder_events) ≡ false)
 
 -- no two forwardings have the same
 abbrev pub ListenersDiffer : Type 0
-ListenersDiffer = (deeds : List Deed) (d : Desk) → Leave deeds d → AllPairs (λ a b. a ≢ b) (listeners_of d.all)
+ListenersDiffer = (forwarder_events : List ForwarderEvent) (d : ForwardingState) → Leave forwarder_events d → AllPairs (λ a b. a ≢ b) (listeners_of d.all)

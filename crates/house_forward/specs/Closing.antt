@@ -5,9 +5,9 @@ use Rattle.mux_outside.specs.HouseCalls.{HouseCall, Marks, Turns, Joined, Got}
 use Rattle.mux_outside.specs.declared.house_mark.HouseMark.TheVariants.{HouseOrder}
 use Rattle.mux_outside.specs.declared.order.Order.TheVariants as order
 use Rattle.mux_outside.specs.declared.own_streams.OwnStream.{OwnStream}
-use Rattle.house_relay.specs.Acts.{Act, Fails, Refused, answer, read, outcome_in, waiting, has_ended, heard_close, said_close}
+use Rattle.house_relay.specs.Acts.{Act, Fails, Refused, answer, read, outcome_in, waiting, has_ended, received_close, sent_close}
 use Rattle.house_forward.specs.Forwardings.{has_listener}
-use Rattle.house_forward.specs.Lives.{Life, Course, Follows, Reaches, first_course, are_full, are_crowded}
+use Rattle.house_forward.specs.RelayTraces.{Life, Trace, Follows, Reaches, first_trace, are_full, are_dialogs_full}
 use Rattle.house_forward.specs.Opening.{IsBefore}
 
 -- whether its socket failed
@@ -20,8 +20,8 @@ has_failed (_ ∷ acts) = has_failed acts
 
 -- CLOSE went both ways
 pub record IsClosed (acts : List Act) : Type 0 where
-  pub heard : heard_close acts ≡ true
-  pub said : said_close acts ≡ true
+  pub heard : received_close acts ≡ true
+  pub said : sent_close acts ≡ true
 
 -- its OPEN was refused
 abbrev pub IsRefused : List Act → Type 0
@@ -59,20 +59,20 @@ IsStream own t = IfSome own (λ o. o.number ≡ t)
 pub record IsTurnedAway (calls : List HouseCall) (own : Option OwnStream) : Type 0 where
   pub listener : ℕ
   pub stream : ℕ
-  pub course : Course
-  pub joined : IsBefore calls (Turns (Joined listener stream)) course
+  pub trace : Trace
+  pub joined : IsBefore calls (Turns (Joined listener stream)) trace
   pub its : IsStream own stream
-  pub cause : (are_full course.lives ≡ true) ⊎ ((are_crowded course.lives ≡ true)
-      ⊎ (find (has_listener listener) course.desk.all ≡ None))
+  pub cause : (are_full trace.relay_traces ≡ true) ⊎ ((are_dialogs_full trace.relay_traces ≡ true)
+      ⊎ (find (has_listener listener) trace.forwarding_state.all ≡ None))
 
 -- its dialog asked for an end where the house had all channels that it may have
 pub record IsTooLate (calls : List HouseCall) (own : Option OwnStream) : Type 0 where
   pub stream : ℕ
   pub bytes : List ℕ
-  pub course : Course
-  pub gave : IsBefore calls (Turns (Got stream bytes)) course
+  pub trace : Trace
+  pub gave : IsBefore calls (Turns (Got stream bytes)) trace
   pub its : IsStream own stream
-  pub cause : are_full course.lives ≡ true
+  pub cause : are_full trace.relay_traces ≡ true
 
 abbrev pub HasNoChannel : List HouseCall → Option OwnStream → Type 0
 HasNoChannel calls own = IsTurnedAway calls own ⊎ IsTooLate calls own
@@ -81,12 +81,12 @@ HasNoChannel calls own = IsTurnedAway calls own ⊎ IsTooLate calls own
 
 -- the stream is that of one of the relays: its socket failed, or it is through with it, or there was
 -- no channel for it
-pub record IsCloseOf (calls : List HouseCall) (lives : List Life) (t : ℕ) : Type 0 where
+pub record IsCloseOf (calls : List HouseCall) (relay_traces : List Life) (t : ℕ) : Type 0 where
   pub before : List Life
   pub life : Life
   pub behind : List Life
   pub own : OwnStream
-  pub were : lives ≡ before ++ life ∷ behind
+  pub were : relay_traces ≡ before ++ life ∷ behind
   pub is : life.own ≡ Some own
   pub number : own.number ≡ t
   pub cause : (has_failed life.acts ≡ true)
@@ -94,7 +94,7 @@ pub record IsCloseOf (calls : List HouseCall) (lives : List Life) (t : ℕ) : Ty
 
 -- each Close that is ordered behind these calls
 abbrev pub ClosesHaveCause : Type 0
-ClosesHaveCause = (calls : List HouseCall) (course next : Course) (t : ℕ) (number : Option ℕ)
-    → Reaches first_course calls course
-    → Follows (Marks (HouseOrder (order.Close t) number)) course next
-    → IsCloseOf calls course.lives t
+ClosesHaveCause = (calls : List HouseCall) (trace next : Trace) (t : ℕ) (number : Option ℕ)
+    → Reaches first_trace calls trace
+    → Follows (Marks (HouseOrder (order.Close t) number)) trace next
+    → IsCloseOf calls trace.relay_traces t

@@ -4,10 +4,10 @@ use Rattle.ssh_grammar.specs.declared.numbers.TheConstants.{CHANNEL_OPEN_CONFIRM
 use Rattle.mux_outside.specs.HouseCalls.{HouseCall, Happening, Marks, Turns, Writable, Failed}
 use Rattle.mux_outside.specs.declared.house_mark.HouseMark.TheVariants.{HouseSaid, HouseOrder}
 use Rattle.mux_outside.specs.declared.order.Order.TheVariants as order
-use Rattle.house_relay.specs.declared.line.Line.TheVariants.{Offered}
+use Rattle.house_relay.specs.declared.line.ChannelState.TheVariants.{Offered}
 use Rattle.house_forward.specs.Closing.{IsStream}
 use Rattle.house_forward.specs.Connects.{Place}
-use Rattle.house_forward.specs.Lives.{Life, Course, Follows, Reaches, first_course}
+use Rattle.house_forward.specs.RelayTraces.{Life, Trace, Follows, Reaches, first_trace}
 use Rattle.house_forward.specs.Said.{framed, confirmed, not_connected}
 
 -- whether what is said is an OPEN_CONFIRMATION, or an OPEN_FAILURE: its payload begins behind the
@@ -40,10 +40,10 @@ pub record HasFailedSince (calls : List HouseCall) (l : Life) (to : Place) : Typ
   pub failed : HasHappened calls to stream (Failed stream)
 
 -- one of the relays, which the server opened and the house didn't answer yet
-pub record IsUnanswered (lives : List Life) (l : Life) (remote : ℕ) (to : Place) : Type 0 where
+pub record IsUnanswered (relay_traces : List Life) (l : Life) (remote : ℕ) (to : Place) : Type 0 where
   pub before : List Life
   pub behind : List Life
-  pub were : lives ≡ before ++ l ∷ behind
+  pub were : relay_traces ≡ before ++ l ∷ behind
   pub window : ℕ
   pub maximum : ℕ
   pub line : l.relay.line ≡ Offered remote window maximum
@@ -51,34 +51,34 @@ pub record IsUnanswered (lives : List Life) (l : Life) (remote : ℕ) (to : Plac
 
 -- what is said confirms the OPEN of one whose stream a Connect to where that is to be connected made,
 -- and which was writable since
-pub record IsConfirmationOf (calls : List HouseCall) (lives : List Life) (bytes : List ℕ) : Type 0
+pub record IsConfirmationOf (calls : List HouseCall) (relay_traces : List Life) (bytes : List ℕ) : Type 0
   where
     pub life : Life
     pub remote : ℕ
     pub to : Place
     pub stream : ℕ
-    pub unanswered : IsUnanswered lives life remote to
+    pub unanswered : IsUnanswered relay_traces life remote to
     pub says : bytes ≡ framed (confirmed remote life.relay.number)
     pub its : IsStream life.own stream
     pub writable : HasHappened calls to stream (Writable stream)
 
 abbrev pub ConfirmsConnected : Type 0
-ConfirmsConnected = (calls : List HouseCall) (course next : Course) (bytes : List ℕ)
-    → Reaches first_course calls course
-    → Follows (Marks (HouseSaid bytes)) course next → is_confirmation bytes ≡ true
-    → IsConfirmationOf calls course.lives bytes
+ConfirmsConnected = (calls : List HouseCall) (trace next : Trace) (bytes : List ℕ)
+    → Reaches first_trace calls trace
+    → Follows (Marks (HouseSaid bytes)) trace next → is_confirmation bytes ≡ true
+    → IsConfirmationOf calls trace.relay_traces bytes
 
 -- what is said refuses the OPEN of one whose Connect got no number, or whose stream failed
-pub record IsFailureOf (calls : List HouseCall) (lives : List Life) (bytes : List ℕ) : Type 0 where
+pub record IsFailureOf (calls : List HouseCall) (relay_traces : List Life) (bytes : List ℕ) : Type 0 where
   pub life : Life
   pub remote : ℕ
   pub to : Place
-  pub unanswered : IsUnanswered lives life remote to
+  pub unanswered : IsUnanswered relay_traces life remote to
   pub says : bytes ≡ framed (not_connected remote)
   pub cause : HasNoNumber calls to ⊎ HasFailedSince calls life to
 
 abbrev pub RefusesUnconnected : Type 0
-RefusesUnconnected = (calls : List HouseCall) (course next : Course) (bytes : List ℕ)
-    → Reaches first_course calls course
-    → Follows (Marks (HouseSaid bytes)) course next → is_failure bytes ≡ true
-    → IsFailureOf calls course.lives bytes
+RefusesUnconnected = (calls : List HouseCall) (trace next : Trace) (bytes : List ℕ)
+    → Reaches first_trace calls trace
+    → Follows (Marks (HouseSaid bytes)) trace next → is_failure bytes ≡ true
+    → IsFailureOf calls trace.relay_traces bytes

@@ -6,16 +6,16 @@ use Rattle.ssh_grammar.specs.Messages.{Message, Plain, To, PlainMessage, Transpo
 use Rattle.ssh_grammar.specs.Messages.{Opens, Session, Direct, Forwarded, OtherType, Key, Tcp, Path}
 use Rattle.ssh_grammar.specs.ReadMessage.{read_message}
 use Rattle.ssh_grammar.specs.declared.fault.Bad.{Bad}
-use Rattle.mux_outside.specs.HouseCalls.{HouseCall, Begins, Marks, Hears, Turns, Takes}
+use Rattle.mux_outside.specs.HouseCalls.{HouseCall, Begins, Marks, Receives, Turns, Takes}
 use Rattle.mux_outside.specs.declared.house_mark.HouseMark.{HouseMark}
 use Rattle.mux_outside.specs.declared.house_mark.HouseMark.TheVariants.{HouseIn, HouseSaid, HouseTook, HouseAsked, HouseAnswer, HouseOrder}
 use Rattle.mux_outside.specs.declared.order.Order.{Order}
 use Rattle.mux_outside.specs.declared.order.Order.TheVariants as order
 use Rattle.house_forward.specs.Forwardings.{served_at}
-use Rattle.house_forward.specs.Lives.{Life, Course, Follows, Reaches, HearsFrames, first_course, with_heard, is_unmade}
+use Rattle.house_forward.specs.RelayTraces.{Life, Trace, Follows, Reaches, ReceivesFrames, first_trace, with_received, is_unmade}
 use Rattle.house_forward.specs.declared.forwarding.Forwarding.{Forwarding}
-use Rattle.house_forward.specs.declared.holdings.Stage.{Stage}
-use Rattle.house_forward.specs.declared.holdings.Stage.TheVariants.{Control, Proxy}
+use Rattle.house_forward.specs.declared.forwarder_state.Stage.{Stage}
+use Rattle.house_forward.specs.declared.forwarder_state.Stage.TheVariants.{Control, Proxy}
 
 -- a host and a port to which a socket is connected
 abbrev pub Place : Type 0
@@ -43,7 +43,7 @@ connect_marked (HouseOrder order number) = connect_in order
 abbrev pub connect_of : HouseCall → List Place
 connect_of (Begins starts) = []
 connect_of (Marks mark) = connect_marked mark
-connect_of (Hears bytes) = []
+connect_of (Receives bytes) = []
 connect_of (Turns happening) = []
 connect_of (Takes t n) = []
 
@@ -54,7 +54,7 @@ connects_in (call ∷ calls) = connect_of call ++ connects_in calls
 
 -- where the sockets are to be connected that aren't ordered yet
 abbrev pub still_to_connect : List Life → List Place
-still_to_connect lives = filter_map (λ l. if is_unmade l then l.to else None) lives
+still_to_connect relay_traces = filter_map (λ l. if is_unmade l then l.to else None) relay_traces
 
 -- ---- the OPENs
 
@@ -96,22 +96,22 @@ taken_frame Control content all = []
 taken_frame Proxy content all = taken_reading (read_message content) all
 
 -- frame by frame, as the forwardings are when that is heard
-abbrev pub taken_frames : (contents : List (List ℕ)) (old new : Course)
-    → HearsFrames contents old new → List Place
-taken_frames [] old new hears = []
-taken_frames (content ∷ more) old new hears =
-    taken_frame old.stage content old.desk.all ++ taken_frames more hears.2.0 new hears.2.2
+abbrev pub taken_frames : (contents : List (List ℕ)) (old new : Trace)
+    → ReceivesFrames contents old new → List Place
+taken_frames [] old new receives = []
+taken_frames (content ∷ more) old new receives =
+    taken_frame old.stage content old.forwarding_state.all ++ taken_frames more receives.2.0 new receives.2.2
 
-abbrev pub taken_call : (call : HouseCall) (old new : Course) → Follows call old new → List Place
+abbrev pub taken_call : (call : HouseCall) (old new : Trace) → Follows call old new → List Place
 taken_call (Begins starts) old new follows = []
 taken_call (Marks mark) old new follows = []
-taken_call (Hears bytes) old new follows =
-    taken_frames follows.0 (with_heard bytes old) new follows.1
+taken_call (Receives bytes) old new follows =
+    taken_frames follows.0 (with_received bytes old) new follows.1
 taken_call (Turns happening) old new follows = []
 taken_call (Takes t n) old new follows = []
 
 -- where the OPENs are to be connected that are taken in these calls, in their order
-abbrev pub taken_in : (calls : List HouseCall) (old new : Course) → Reaches old calls new → List Place
+abbrev pub taken_in : (calls : List HouseCall) (old new : Trace) → Reaches old calls new → List Place
 taken_in [] old new reaches = []
 taken_in (call ∷ calls) old new reaches =
     taken_call call old reaches.0 reaches.1 ++ taken_in calls reaches.0 new reaches.2
@@ -119,5 +119,5 @@ taken_in (call ∷ calls) old new reaches =
 -- of each OPEN that is taken one Connect is ordered, in their order, to where its forwarding connects,
 -- or it is still to be; and none is ordered besides
 abbrev pub OneConnectEach : Type 0
-OneConnectEach = (calls : List HouseCall) (course : Course) (reaches : Reaches first_course calls course)
-    → taken_in calls first_course course reaches ≡ connects_in calls ++ still_to_connect course.lives
+OneConnectEach = (calls : List HouseCall) (trace : Trace) (reaches : Reaches first_trace calls trace)
+    → taken_in calls first_trace trace reaches ≡ connects_in calls ++ still_to_connect trace.relay_traces

@@ -15,16 +15,16 @@ use Rattle.house_forward.specs.declared.asks.Waiting.{Waiting}
 use Rattle.house_forward.specs.declared.forwarding.Change.{Change}
 use Rattle.house_forward.specs.declared.forwarding.Change.TheVariants as change
 use Rattle.house_forward.specs.declared.forwarding.Forwarding.{Forwarding}
-use Rattle.house_forward.specs.declared.forwarding.Request.{Request}
-use Rattle.house_forward.specs.declared.forwarding.Request.TheVariants.{Listen, Cancel}
+use Rattle.house_forward.specs.declared.forwarding.ForwardingRequest.{ForwardingRequest}
+use Rattle.house_forward.specs.declared.forwarding.ForwardingRequest.TheVariants.{Listen, Cancel}
 use Rattle.house_forward.specs.declared.forwarding.Stage.{Stage}
 use Rattle.house_forward.specs.declared.forwarding.Stage.TheVariants.{ToListen, Ordered, Listening, ToRequest, Requested, Live, Cancelling}
 use Rattle.house_forward.specs.declared.asks.Asked.{Asked}
 use Rattle.house_forward.specs.declared.asks.Asked.TheVariants.{Now, Later}
 use Rattle.house_forward.specs.declared.forwardings.ListenerOrder.{ListenerOrder}
 use Rattle.house_forward.specs.declared.forwardings.ListenerOrder.TheVariants.{Listen as ListensAt, Unlisten as Unlistens}
-use Rattle.house_forward.specs.declared.forwardings.Want.{Want}
-use Rattle.house_forward.specs.declared.forwardings.Want.TheVariants as want
+use Rattle.house_forward.specs.declared.forwardings.ForwardingWant.{ForwardingWant}
+use Rattle.house_forward.specs.declared.forwardings.ForwardingWant.TheVariants as want
 use Rattle.house_forward.specs.declared.rules.Ends.{Ends}
 use Rattle.house_forward.specs.declared.rules.Kind.{Kind}
 use Rattle.house_forward.specs.declared.rules.Kind.TheVariants.{Local, Remote, Dynamic}
@@ -192,7 +192,7 @@ requests_at (Cancelling port) closing = false
 abbrev pub has_request : Forwarding → Bool
 has_request f = requests_at f.stage f.closing
 
-abbrev pub request_at : Stage → ℕ → Request
+abbrev pub request_at : Stage → ℕ → ForwardingRequest
 request_at (ToListen host) serial = Listen serial
 request_at Ordered serial = Listen serial
 request_at (Listening l) serial = Listen serial
@@ -202,7 +202,7 @@ request_at (Live port) serial = Cancel serial
 request_at (Cancelling port) serial = Listen serial
 
 -- the request that is to be said for it: where the server listens it is to do so no longer
-abbrev pub request_of : Forwarding → Request
+abbrev pub request_of : Forwarding → ForwardingRequest
 request_of f = request_at f.stage f.serial
 
 -- ---- listeners
@@ -238,12 +238,12 @@ has_listener l f = is_listener l (listener_of f)
 
 -- ---- what is ordered
 
-abbrev pub ends_at : ℕ → Bool → ℕ → List Waiting → Option Want → Option Want
+abbrev pub ends_at : ℕ → Bool → ℕ → List Waiting → Option ForwardingWant → Option ForwardingWant
 ends_at listener false serial waiting next = next
 ends_at listener true serial waiting next =
     if owes_opening serial waiting then None else Some (want.Unlisten serial listener)
 
-abbrev pub next_at : Stage → Bool → ℕ → List Waiting → Option Want → Option Want
+abbrev pub next_at : Stage → Bool → ℕ → List Waiting → Option ForwardingWant → Option ForwardingWant
 next_at (ToListen host) closing serial waiting next = Some want.Listen
 next_at Ordered closing serial waiting next = None
 next_at (Listening l) closing serial waiting next = ends_at l closing serial waiting next
@@ -254,7 +254,7 @@ next_at (Cancelling port) closing serial waiting next = next
 
 -- the next order about a listener, in the order of asking: the first that is to listen, or that is to be
 -- closed; that one waits for the answers of those that asked for it
-abbrev pub next_of : List Waiting → List Forwarding → Option Want
+abbrev pub next_of : List Waiting → List Forwarding → Option ForwardingWant
 next_of waiting [] = None
 next_of waiting (f ∷ fs) = next_at f.stage f.closing f.serial waiting (next_of waiting fs)
 
@@ -272,7 +272,7 @@ abbrev pub is_pending : Forwarding → Bool
 is_pending f = pends f.stage f.closing
 
 -- the order that it is to have, if nothing is in the way
-abbrev pub want_in : List Waiting → Option Forwarding → Option Want
+abbrev pub want_in : List Waiting → Option Forwarding → Option ForwardingWant
 want_in waiting None = None
 want_in waiting (Some f) = next_at f.stage f.closing f.serial waiting None
 
@@ -329,29 +329,29 @@ stage_after c asked (ToListen host) = ToListen host
 stage_after c asked Ordered = Ordered
 stage_after c asked (Listening l) = Listening l
 stage_after change.Close asked ToRequest = ToRequest
-stage_after change.Request asked ToRequest = Requested
+stage_after change.ForwardingRequest asked ToRequest = Requested
 stage_after change.Cancel asked ToRequest = ToRequest
 stage_after (change.Live port) asked ToRequest = ToRequest
 stage_after change.Stay asked ToRequest = ToRequest
 stage_after change.Close asked Requested = Requested
-stage_after change.Request asked Requested = Requested
+stage_after change.ForwardingRequest asked Requested = Requested
 stage_after change.Cancel asked Requested = Requested
 stage_after (change.Live port) asked Requested = Live (bound_to asked port)
 stage_after change.Stay asked Requested = Requested
 stage_after change.Close asked (Live port) = Live port
-stage_after change.Request asked (Live port) = Live port
+stage_after change.ForwardingRequest asked (Live port) = Live port
 stage_after change.Cancel asked (Live port) = Cancelling port
 stage_after (change.Live chosen) asked (Live port) = Live port
 stage_after change.Stay asked (Live port) = Live port
 stage_after change.Close asked (Cancelling port) = Cancelling port
-stage_after change.Request asked (Cancelling port) = Cancelling port
+stage_after change.ForwardingRequest asked (Cancelling port) = Cancelling port
 stage_after change.Cancel asked (Cancelling port) = Cancelling port
 stage_after (change.Live chosen) asked (Cancelling port) = Cancelling port
 stage_after change.Stay asked (Cancelling port) = Live port
 
 abbrev pub closing_after : Change → Bool → Bool
 closing_after change.Close closing = true
-closing_after change.Request closing = closing
+closing_after change.ForwardingRequest closing = closing
 closing_after change.Cancel closing = closing
 closing_after (change.Live port) closing = closing
 closing_after change.Stay closing = false
@@ -417,9 +417,9 @@ asks_after (Later serial) client id opening waiting =
     waiting ++ waiting_for client id opening serial ∷ []
 
 -- a request that was said is unanswered
-abbrev pub after_saying : Request → List Forwarding → List Forwarding
-after_saying (Listen serial) fs = map (changed change.Request serial) fs
-after_saying (Cancel serial) fs = map (changed change.Cancel serial) fs
+abbrev pub after_sending : ForwardingRequest → List Forwarding → List Forwarding
+after_sending (Listen serial) fs = map (changed change.ForwardingRequest serial) fs
+after_sending (Cancel serial) fs = map (changed change.Cancel serial) fs
 
 -- the first of those asked for at the start that was refused, with one more
 abbrev pub first_refused : Option ℕ → Option ℕ → Option ℕ
@@ -524,7 +524,7 @@ abbrev pub opened_asks : Option Outcome → ℕ → ℕ → List Waiting → Lis
 opened_asks None serial at waiting = waiting
 opened_asks (Some outcome) serial at waiting = settled serial true at outcome waiting
 
-abbrev pub replied_asks : Bool → Option ℕ → Option Request → List Forwarding → ℕ → List Waiting → List Waiting
+abbrev pub replied_asks : Bool → Option ℕ → Option ForwardingRequest → List Forwarding → ℕ → List Waiting → List Waiting
 replied_asks success port None fs at waiting = waiting
 replied_asks true port (Some (Listen serial)) fs at waiting =
     opened_asks (live_in port (find (is_asked serial) fs)) serial at waiting
@@ -537,7 +537,7 @@ opened_done None at = at
 opened_done (Some outcome) at = counted at
 
 -- how many asks came to something after a reply
-abbrev pub replied_done : Bool → Option ℕ → Option Request → List Forwarding → ℕ → ℕ
+abbrev pub replied_done : Bool → Option ℕ → Option ForwardingRequest → List Forwarding → ℕ → ℕ
 replied_done success port None fs at = at
 replied_done true port (Some (Listen serial)) fs at =
     opened_done (live_in port (find (is_asked serial) fs)) at
@@ -549,21 +549,21 @@ removed_at None fs = fs
 removed_at (Some i) fs = remove fs i
 
 -- what a reply leaves: a forwarding whose request is refused, or whose cancel is granted, is gone
-abbrev pub replied_all : Bool → Option ℕ → Option Request → List Forwarding → List Forwarding
+abbrev pub replied_all : Bool → Option ℕ → Option ForwardingRequest → List Forwarding → List Forwarding
 replied_all success port None fs = fs
 replied_all true port (Some (Listen serial)) fs = map (changed (change.Live port) serial) fs
 replied_all false port (Some (Listen serial)) fs = removed_at (position (is_asked serial) fs) fs
 replied_all true port (Some (Cancel serial)) fs = removed_at (position (is_cancelled serial) fs) fs
 replied_all false port (Some (Cancel serial)) fs = map (changed change.Stay serial) fs
 
-abbrev pub replied_refused : Bool → Option Request → List Forwarding → Option ℕ → Option ℕ
+abbrev pub replied_refused : Bool → Option ForwardingRequest → List Forwarding → Option ℕ → Option ℕ
 replied_refused success None fs refused = refused
 replied_refused true (Some (Listen serial)) fs refused = refused
 replied_refused false (Some (Listen serial)) fs refused =
     first_refused refused (start_of (find (is_asked serial) fs))
 replied_refused success (Some (Cancel serial)) fs refused = refused
 
-abbrev pub first_of : List Request → Option Request
+abbrev pub first_of : List ForwardingRequest → Option ForwardingRequest
 first_of [] = None
 first_of (r ∷ rs) = Some r
 

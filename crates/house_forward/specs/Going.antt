@@ -3,16 +3,16 @@ use Rattle.std.specs.Prelude.{◌≡◌, ◌+◌, ◌<◌, ◌^◌, ℕ, Bool, L
 use Rattle.std.specs.List.{position, remove}
 use Rattle.conn_messages.specs.declared.message.Message.{Message}
 use Rattle.house_relay.specs.Acts.{Act, Reads, Takes, Other}
-use Rattle.house_relay.specs.Line.{owed_in}
-use Rattle.house_relay.specs.Next.{says_of}
-use Rattle.house_relay.specs.Relay.{GoesOn, MayRead, said_act}
+use Rattle.house_relay.specs.ChannelState.{owed_in}
+use Rattle.house_relay.specs.Next.{sends_of}
+use Rattle.house_relay.specs.Relay.{GoesOn, MayRead, sent_act}
 use Rattle.house_relay.specs.Steps.{Dials, taken_of, made_as}
 use Rattle.house_relay.specs.declared.relay.Relay.{Relay}
-use Rattle.house_relay.specs.declared.relay.Saying.{Saying}
+use Rattle.house_relay.specs.declared.relay.Outgoing.{Outgoing}
 use Rattle.mux_outside.specs.OwnStreams.{is_one}
 use Rattle.mux_outside.specs.declared.order.Order.{Order}
-use Rattle.house_forward.specs.Heard.{heard_of, act_heard}
-use Rattle.house_forward.specs.Links.{streams_of, is_left, after_saying, has_order, IsOrderOf, obeyed, made_stream}
+use Rattle.house_forward.specs.Heard.{received_of, act_received}
+use Rattle.house_forward.specs.Links.{streams_of, is_left, after_sending, has_order, IsOrderOf, obeyed, made_stream}
 use Rattle.house_forward.specs.declared.link.Link.{Link}
 use Rattle.house_forward.specs.declared.link.Stream.TheVariants.{Awaited}
 
@@ -57,24 +57,24 @@ TakesOn n old new = (new ≡ taken_of n old) × GoesOn old new (Takes n)
 
 -- it said what it had to say
 abbrev pub Says : Relay → Relay → Type 0
-Says old new = new ≡ after_saying (says_of old) old
+Says old new = new ≡ after_sending (sends_of old) old
 
 -- what happens as that is said
-abbrev pub act_of_saying : Option Saying → Relay → Act
-act_of_saying None r = Other
-act_of_saying (Some saying) r = said_act saying r
+abbrev pub act_of_sending : Option Outgoing → Relay → Act
+act_of_sending None r = Other
+act_of_sending (Some outgoing) r = sent_act outgoing r
 
 -- it stands for that too
-abbrev pub SaysOn : Relay → Relay → Type 0
-SaysOn old new = Says old new × GoesOn old new (act_of_saying (says_of old) old)
+abbrev pub SendsOn : Relay → Relay → Type 0
+SendsOn old new = Says old new × GoesOn old new (act_of_sending (sends_of old) old)
 
 -- it heard a message in its channel
-abbrev pub Hears : Message → Relay → Relay → Type 0
-Hears message old new = new ≡ heard_of message old
+abbrev pub Receives : Message → Relay → Relay → Type 0
+Receives message old new = new ≡ received_of message old
 
 -- it stands for that too
-abbrev pub HearsOn : Message → Relay → Relay → Type 0
-HearsOn message old new = Hears message old new × GoesOn old new (act_heard message old)
+abbrev pub ReceivesOn : Message → Relay → Relay → Type 0
+ReceivesOn message old new = Receives message old new × GoesOn old new (act_received message old)
 
 -- ---- orders
 

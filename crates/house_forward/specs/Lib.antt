@@ -3,8 +3,8 @@ pub mod Causes
 pub mod Closing
 pub mod Confirming
 pub mod Connects
-pub mod Deeds
-pub mod Desk
+pub mod ForwarderEvents
+pub mod ForwardingState
 pub mod Due
 pub mod Forwardings
 pub mod Going
@@ -13,7 +13,7 @@ pub mod Heard
 pub mod Known
 pub mod Laws
 pub mod Links
-pub mod Lives
+pub mod RelayTraces
 pub mod Numbers
 pub mod Opening
 pub mod Places

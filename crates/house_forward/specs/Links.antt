@@ -6,22 +6,22 @@ use Rattle.mux_outside.specs.declared.order.Order.TheVariants.{Listen, Connect, 
 use Rattle.mux_outside.specs.declared.order.Order.TheVariants as order
 use Rattle.mux_outside.specs.declared.own_streams.OwnStream.{OwnStream}
 use Rattle.std.specs.List.{list_any, filter_map}
-use Rattle.house_relay.specs.Line.{counts}
-use Rattle.house_relay.specs.Next.{says_of, orders_of}
+use Rattle.house_relay.specs.ChannelState.{counts}
+use Rattle.house_relay.specs.Next.{sends_of, orders_of}
 use Rattle.house_relay.specs.Relay.{stream_of, OrdersRight}
-use Rattle.house_relay.specs.Steps.{is_gone, connected, failing, said_of, fresh_relay, fresh_dialing}
-use Rattle.house_relay.specs.declared.line.Line.{Line}
-use Rattle.house_relay.specs.declared.line.Line.TheVariants.{Dialing, Asked, Opened, Live, Over, Offered as OfServer}
+use Rattle.house_relay.specs.Steps.{is_gone, connected, failing, sent_of, fresh_relay, fresh_dialing}
+use Rattle.house_relay.specs.declared.line.ChannelState.{ChannelState}
+use Rattle.house_relay.specs.declared.line.ChannelState.TheVariants.{Dialing, Asked, Opened, Live, Over, Offered as OfServer}
 use Rattle.house_relay.specs.declared.relay.Relay.{Relay}
-use Rattle.house_relay.specs.declared.relay.Saying.{Saying}
+use Rattle.house_relay.specs.declared.relay.Outgoing.{Outgoing}
 use Rattle.house_relay.specs.declared.relay.Socket.TheVariants as socket
 use Rattle.house_forward.specs.declared.forwarding.Forwarding.{Forwarding}
 use Rattle.house_forward.specs.declared.rules.Kind.{Kind}
 use Rattle.house_forward.specs.declared.rules.Kind.TheVariants.{Local, Remote, Dynamic}
 use Rattle.house_forward.specs.declared.rules.TheConstants.{MOST_CHANNELS, MOST_DIALOGS}
 use Rattle.house_forward.specs.declared.link.Link.{Link}
-use Rattle.house_forward.specs.declared.link.Step.{Step}
-use Rattle.house_forward.specs.declared.link.Step.TheVariants.{Pause, Finish, End, Close, Writable, Failed}
+use Rattle.house_forward.specs.declared.link.LinkStep.{LinkStep}
+use Rattle.house_forward.specs.declared.link.LinkStep.TheVariants.{Pause, Finish, End, Close, Writable, Failed}
 use Rattle.house_forward.specs.declared.link.Stream.{Stream}
 use Rattle.house_forward.specs.declared.link.Stream.TheVariants.{Offered, Awaited, Made, Gone}
 
@@ -131,7 +131,7 @@ abbrev pub is_full : List Link → Bool
 is_full links = nat_le MOST_CHANNELS (channels links)
 
 -- whether a dialog is to say its end
-abbrev pub dials : Line → Bool
+abbrev pub dials : ChannelState → Bool
 dials (Dialing dialog) = true
 dials (Asked host port version) = false
 dials (Opened version) = false
@@ -146,8 +146,8 @@ abbrev pub dialogs : List Link → ℕ
 dialogs links = length (filter is_dialog links)
 
 -- whether the house has all dialogs that it may have
-abbrev pub is_crowded : List Link → Bool
-is_crowded links = nat_le MOST_DIALOGS (dialogs links)
+abbrev pub has_full_dialogs : List Link → Bool
+has_full_dialogs links = nat_le MOST_DIALOGS (dialogs links)
 
 -- whether the house's own number of a channel is this one
 abbrev pub is_number_of : ℕ → List Link → Bool
@@ -155,7 +155,7 @@ is_number_of number links = list_any (λ l. l.relay.number == number) links
 
 -- ---- steps
 
-abbrev pub stream_after : Step → Stream → Stream
+abbrev pub stream_after : LinkStep → Stream → Stream
 stream_after step (Offered host port) = Offered host port
 stream_after step Awaited = Awaited
 stream_after (Pause b) (Made own) = Made (record own { paused = b })
@@ -166,7 +166,7 @@ stream_after Writable (Made own) = Made own
 stream_after Failed (Made own) = Made own
 stream_after step Gone = Gone
 
-abbrev pub relay_after : Step → Relay → Relay
+abbrev pub relay_after : LinkStep → Relay → Relay
 relay_after (Pause b) r = r
 relay_after Finish r = r
 relay_after End r = record r { ended = true }
@@ -175,7 +175,7 @@ relay_after Writable r = record r { socket = connected r.socket }
 relay_after Failed r = record r { socket = failing r.socket }
 
 -- the one that has this stream takes a step
-abbrev pub link_after : Step → ℕ → Link → Link
+abbrev pub link_after : LinkStep → ℕ → Link → Link
 link_after step t l = if has_number t l
     then record l { relay = relay_after step l.relay; stream = stream_after step l.stream } else l
 
@@ -226,12 +226,12 @@ obeyed (order.Close t) links = map (link_after Close t) links
 -- ---- sayings
 
 -- whether its relay has something to say
-abbrev pub has_saying : Link → Bool
-has_saying l = is_some (says_of l.relay)
+abbrev pub has_sending : Link → Bool
+has_sending l = is_some (sends_of l.relay)
 
-abbrev pub after_saying : Option Saying → Relay → Relay
-after_saying None r = r
-after_saying (Some saying) r = said_of saying r
+abbrev pub after_sending : Option Outgoing → Relay → Relay
+after_sending None r = r
+after_sending (Some outgoing) r = sent_of outgoing r
 
 -- ---- what the server opens
 
@@ -268,33 +268,33 @@ pub record Offers (f : Forwarding) (remote window maximum : ℕ) (old new : List
 -- ---- what is joined at a listener
 
 -- one that is joined beyond what the house may have is closed
-abbrev pub IsSurplus : ℕ → Relay → Type 0
-IsSurplus t r = r ≡ fresh_relay r.number Over (socket.Surplus t)
+abbrev pub HasNoChannelLeft : ℕ → Relay → Type 0
+HasNoChannelLeft t r = r ≡ fresh_relay r.number Over (socket.NoChannelLeft t)
 
 -- a dialog is to say the channel's end; where the house has all dialogs that it may have, the socket is
 -- closed
 abbrev pub IsDialed : Bool → ℕ → Relay → Type 0
-IsDialed true t r = IsSurplus t r
+IsDialed true t r = HasNoChannelLeft t r
 IsDialed false t r = r ≡ fresh_relay r.number fresh_dialing (socket.Open t)
 
 -- the channel is to be to where the forwarding connects, or to where a dialog says
 abbrev pub IsJoinedAt : Kind → Bool → Forwarding → ℕ → Relay → Type 0
-IsJoinedAt Local crowded f t r =
+IsJoinedAt Local dialogs_full f t r =
     r ≡ fresh_relay r.number (Asked f.connect_host f.connect_port None) (socket.Open t)
-IsJoinedAt Remote crowded f t r =
+IsJoinedAt Remote dialogs_full f t r =
     r ≡ fresh_relay r.number (Asked f.connect_host f.connect_port None) (socket.Open t)
-IsJoinedAt Dynamic crowded f t r = IsDialed crowded t r
+IsJoinedAt Dynamic dialogs_full f t r = IsDialed dialogs_full t r
 
 -- the relay of a socket that is joined: where the house has all channels that it may have, it is closed
 abbrev pub IsJoined : Bool → Bool → Option Forwarding → ℕ → Relay → Type 0
-IsJoined true crowded f t r = IsSurplus t r
-IsJoined false crowded None t r = IsSurplus t r
-IsJoined false crowded (Some f) t r = IsJoinedAt f.kind crowded f t r
+IsJoined true dialogs_full f t r = HasNoChannelLeft t r
+IsJoined false dialogs_full None t r = HasNoChannelLeft t r
+IsJoined false dialogs_full (Some f) t r = IsJoinedAt f.kind dialogs_full f t r
 
 -- one relay more, for a socket that is joined
 pub record Joins (f : Option Forwarding) (t : ℕ) (old new : List Link) : Type 0 where
   pub relay : Relay
-  pub joined : IsJoined (is_full old) (is_crowded old) f t relay
+  pub joined : IsJoined (is_full old) (has_full_dialogs old) f t relay
   pub free : is_number_of relay.number old ≡ false
   pub small : relay.number < 2 ^ 32
   pub fresh : is_one t (streams_of old) ≡ false

@@ -2,7 +2,7 @@
 use Rattle.std.specs.Prelude.{◌≡◌, ◌≢◌, ◌<◌, ◌^◌, ℕ, false, List, [], ◌∷◌, ◌++◌, map, IfSome, Option, Some, None}
 use Rattle.std.specs.List.{AllByRecursion, AllPairs, filter_map}
 use Rattle.std.specs.Option.{option_to_list}
-use Rattle.mux_outside.specs.HouseCalls.{HouseCall, Happening, Begins, Marks, Hears, Turns, Takes}
+use Rattle.mux_outside.specs.HouseCalls.{HouseCall, Happening, Begins, Marks, Receives, Turns, Takes}
 use Rattle.mux_outside.specs.HouseCalls.{Joined, Got, End, Writable, Failed}
 use Rattle.mux_outside.specs.Streams.{among, without}
 use Rattle.mux_outside.specs.declared.house_mark.HouseMark.{HouseMark}
@@ -10,23 +10,23 @@ use Rattle.mux_outside.specs.declared.house_mark.HouseMark.TheVariants.{HouseIn,
 use Rattle.mux_outside.specs.declared.order.Order.{Order}
 use Rattle.mux_outside.specs.declared.order.Order.TheVariants.{Listen, Connect, Unlisten, Pause, Resume, Finish, Close}
 use Rattle.mux_outside.specs.declared.own_streams.OwnStream.{OwnStream}
-use Rattle.house_forward.specs.Lives.{Life, Course, Reaches, first_course}
+use Rattle.house_forward.specs.RelayTraces.{Life, Trace, Reaches, first_trace}
 
 -- ---- channels
 
 -- the channel numbers of the relays
 abbrev pub channels_of : List Life → List ℕ
-channels_of lives = map (λ l. l.relay.number) lives
+channels_of relay_traces = map (λ l. l.relay.number) relay_traces
 
 -- no two relays have the same, whatever the calls were
 abbrev pub ChannelsDiffer : Type 0
-ChannelsDiffer = (calls : List HouseCall) (course : Course) → Reaches first_course calls course
-    → AllPairs (λ a b. a ≢ b) (channels_of course.lives)
+ChannelsDiffer = (calls : List HouseCall) (trace : Trace) → Reaches first_trace calls trace
+    → AllPairs (λ a b. a ≢ b) (channels_of trace.relay_traces)
 
 -- each is a uint32 (RFC 4254, section 5.1)
 abbrev pub ChannelsAreSmall : Type 0
-ChannelsAreSmall = (calls : List HouseCall) (course : Course) → Reaches first_course calls course
-    → AllByRecursion (λ n. n < 2 ^ 32) (channels_of course.lives)
+ChannelsAreSmall = (calls : List HouseCall) (trace : Trace) → Reaches first_trace calls trace
+    → AllByRecursion (λ n. n < 2 ^ 32) (channels_of trace.relay_traces)
 
 -- ---- streams
 
@@ -36,7 +36,7 @@ number_of (Some own) = Some own.number
 
 -- the numbers of the streams that the relays have open
 abbrev pub open_streams : List Life → List ℕ
-open_streams lives = filter_map (λ l. number_of l.own) lives
+open_streams relay_traces = filter_map (λ l. number_of l.own) relay_traces
 
 -- the number of the stream that a happening, an order or a call brings, if it does
 abbrev pub joined_by : Happening → Option ℕ
@@ -66,7 +66,7 @@ made_by_mark (HouseOrder order number) = connected_by order number
 abbrev pub made_by : HouseCall → Option ℕ
 made_by (Begins starts) = None
 made_by (Marks mark) = made_by_mark mark
-made_by (Hears bytes) = None
+made_by (Receives bytes) = None
 made_by (Turns happening) = joined_by happening
 made_by (Takes t n) = None
 
@@ -91,7 +91,7 @@ closed_by_mark (HouseOrder order number) = closed_by_order order
 abbrev pub closed_by : HouseCall → Option ℕ
 closed_by (Begins starts) = None
 closed_by (Marks mark) = closed_by_mark mark
-closed_by (Hears bytes) = None
+closed_by (Receives bytes) = None
 closed_by (Turns happening) = None
 closed_by (Takes t n) = None
 
@@ -114,15 +114,15 @@ BringsNew there (call ∷ calls) = IfSome (made_by call) (λ t. among t there �
 
 -- of the calls that lead to a course
 abbrev pub EachIsNew : Type 0
-EachIsNew = (calls : List HouseCall) (course : Course) → Reaches first_course calls course
+EachIsNew = (calls : List HouseCall) (trace : Trace) → Reaches first_trace calls trace
     → BringsNew [] calls
 
 -- the relays have exactly the streams that are open by the calls, each one of its own, in their order
 abbrev pub StreamsAreTheirs : Type 0
-StreamsAreTheirs = (calls : List HouseCall) (course : Course) → Reaches first_course calls course
-    → open_streams course.lives ≡ open_after [] calls
+StreamsAreTheirs = (calls : List HouseCall) (trace : Trace) → Reaches first_trace calls trace
+    → open_streams trace.relay_traces ≡ open_after [] calls
 
 -- no two relays have the same stream
 abbrev pub StreamsDiffer : Type 0
-StreamsDiffer = (calls : List HouseCall) (course : Course) → Reaches first_course calls course
-    → AllPairs (λ a b. a ≢ b) (open_streams course.lives)
+StreamsDiffer = (calls : List HouseCall) (trace : Trace) → Reaches first_trace calls trace
+    → AllPairs (λ a b. a ≢ b) (open_streams trace.relay_traces)

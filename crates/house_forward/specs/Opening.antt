@@ -3,16 +3,16 @@ use Rattle.std.specs.Prelude.{◌≡◌, ◌≢◌, ◌⊎◌, ◌≤◌, ◌<�
 use Rattle.std.specs.List.{All, AllPairs}
 use Rattle.ssh_grammar.specs.declared.numbers.TheConstants.{CHANNEL_OPEN}
 use Rattle.socks_dialog.specs.declared.outcome.Outcome.TheVariants.{Connects}
-use Rattle.mux_outside.specs.HouseCalls.{HouseCall, Happening, Begins, Marks, Hears, Turns, Takes}
+use Rattle.mux_outside.specs.HouseCalls.{HouseCall, Happening, Begins, Marks, Receives, Turns, Takes}
 use Rattle.mux_outside.specs.HouseCalls.{Joined, Got, End, Writable, Failed}
 use Rattle.mux_outside.specs.declared.house_mark.HouseMark.{HouseMark}
 use Rattle.mux_outside.specs.declared.house_mark.HouseMark.TheVariants.{HouseIn, HouseSaid, HouseTook, HouseAsked, HouseAnswer, HouseOrder}
 use Rattle.mux_outside.specs.declared.own_streams.OwnStream.{OwnStream}
 use Rattle.house_relay.specs.Acts.{read, outcome_in}
-use Rattle.house_relay.specs.declared.line.Line.{Line}
-use Rattle.house_relay.specs.declared.line.Line.TheVariants.{Dialing, Asked, Opened, Offered, Live, Over}
+use Rattle.house_relay.specs.declared.line.ChannelState.{ChannelState}
+use Rattle.house_relay.specs.declared.line.ChannelState.TheVariants.{Dialing, Asked, Opened, Offered, Live, Over}
 use Rattle.house_forward.specs.Forwardings.{has_listener, has_request}
-use Rattle.house_forward.specs.Lives.{Life, Course, Follows, MarksIn, SaysBy, Reaches, first_course}
+use Rattle.house_forward.specs.RelayTraces.{Life, Trace, Follows, MarksIn, SendsBy, Reaches, first_trace}
 use Rattle.house_forward.specs.Said.{framed, direct}
 use Rattle.house_forward.specs.declared.forwarding.Forwarding.{Forwarding}
 use Rattle.house_forward.specs.declared.rules.Kind.{Kind}
@@ -35,7 +35,7 @@ opens_by_mark (HouseOrder order number) = 0
 abbrev pub opens_by : HouseCall → ℕ
 opens_by (Begins starts) = 0
 opens_by (Marks mark) = opens_by_mark mark
-opens_by (Hears bytes) = 0
+opens_by (Receives bytes) = 0
 opens_by (Turns happening) = 0
 opens_by (Takes t n) = 0
 
@@ -54,7 +54,7 @@ joins_by_turn (Failed t) = 0
 abbrev pub joins_by : HouseCall → ℕ
 joins_by (Begins starts) = 0
 joins_by (Marks mark) = 0
-joins_by (Hears bytes) = 0
+joins_by (Receives bytes) = 0
 joins_by (Turns happening) = joins_by_turn happening
 joins_by (Takes t n) = 0
 
@@ -64,7 +64,7 @@ joins_in [] = 0
 joins_in (call ∷ calls) = joins_by call + joins_in calls
 
 -- whether an OPEN is to be said, or is once the dialog asks for an end
-abbrev pub may_open : Line → Bool
+abbrev pub may_open : ChannelState → Bool
 may_open (Dialing dialog) = true
 may_open (Asked host port version) = true
 may_open (Opened version) = false
@@ -74,40 +74,40 @@ may_open Over = false
 
 -- of how many relays
 abbrev pub still_to_open : List Life → ℕ
-still_to_open lives = length (filter (λ l. may_open l.relay.line) lives)
+still_to_open relay_traces = length (filter (λ l. may_open l.relay.line) relay_traces)
 
 -- no more OPENs are said, or still to be, than sockets were joined
 abbrev pub OneOpenAtMost : Type 0
-OneOpenAtMost = (calls : List HouseCall) (course : Course) → Reaches first_course calls course
-    → opens_in calls + still_to_open course.lives ≤ joins_in calls
+OneOpenAtMost = (calls : List HouseCall) (trace : Trace) → Reaches first_trace calls trace
+    → opens_in calls + still_to_open trace.relay_traces ≤ joins_in calls
 
 -- ---- of which sockets
 
 -- of which socket the OPEN is that is said, if one is: that of the relay that says it
 abbrev pub opener_by : (greeted : Bool) (first : Option Forwarding) (bytes : List ℕ)
-    (old new : Course) → SaysBy greeted first bytes old new → List (Option ℕ)
+    (old new : Trace) → SendsBy greeted first bytes old new → List (Option ℕ)
 opener_by false first bytes old new says = []
 opener_by true (Some f) bytes old new says = []
 opener_by true None bytes old new says = if is_open bytes then says.1.life.joined ∷ [] else []
 
-abbrev pub opener_marked : (mark : HouseMark) (old new : Course) → MarksIn mark old new → List (Option ℕ)
+abbrev pub opener_marked : (mark : HouseMark) (old new : Trace) → MarksIn mark old new → List (Option ℕ)
 opener_marked HouseIn old new marks = []
 opener_marked (HouseSaid bytes) old new marks =
-    opener_by old.desk.greeted (find has_request old.desk.all) bytes old new marks
+    opener_by old.forwarding_state.greeted (find has_request old.forwarding_state.all) bytes old new marks
 opener_marked (HouseTook size) old new marks = []
 opener_marked (HouseAsked client id opening ask reply) old new marks = []
 opener_marked (HouseAnswer client id reply) old new marks = []
 opener_marked (HouseOrder order number) old new marks = []
 
-abbrev pub opener_of : (call : HouseCall) (old new : Course) → Follows call old new → List (Option ℕ)
+abbrev pub opener_of : (call : HouseCall) (old new : Trace) → Follows call old new → List (Option ℕ)
 opener_of (Begins starts) old new follows = []
 opener_of (Marks mark) old new follows = opener_marked mark old new follows
-opener_of (Hears bytes) old new follows = []
+opener_of (Receives bytes) old new follows = []
 opener_of (Turns happening) old new follows = []
 opener_of (Takes t n) old new follows = []
 
 -- of which sockets the OPENs are that are said in these calls, in their order
-abbrev pub openers_in : (calls : List HouseCall) (old new : Course) → Reaches old calls new
+abbrev pub openers_in : (calls : List HouseCall) (old new : Trace) → Reaches old calls new
     → List (Option ℕ)
 openers_in [] old new reaches = []
 openers_in (call ∷ calls) old new reaches =
@@ -115,12 +115,12 @@ openers_in (call ∷ calls) old new reaches =
 
 -- and of which those are that are still to be said
 abbrev pub openers_left : List Life → List (Option ℕ)
-openers_left lives = map (λ l. l.joined) (filter (λ l. may_open l.relay.line) lives)
+openers_left relay_traces = map (λ l. l.joined) (filter (λ l. may_open l.relay.line) relay_traces)
 
 -- each OPEN that is said is told so
-abbrev pub EachIsTold : Type 0
-EachIsTold = (calls : List HouseCall) (course : Course) (reaches : Reaches first_course calls course)
-    → length (openers_in calls first_course course reaches) ≡ opens_in calls
+abbrev pub EachIsRecorded : Type 0
+EachIsRecorded = (calls : List HouseCall) (trace : Trace) (reaches : Reaches first_trace calls trace)
+    → length (openers_in calls first_trace trace reaches) ≡ opens_in calls
 
 -- it is one of those that were joined
 pub record IsOneJoined (calls : List HouseCall) (socket : Option ℕ) : Type 0 where
@@ -130,24 +130,24 @@ pub record IsOneJoined (calls : List HouseCall) (socket : Option ℕ) : Type 0 w
 
 -- each OPEN that is said, or still to be, is of a socket that was joined
 abbrev pub EachWasJoined : Type 0
-EachWasJoined = (calls : List HouseCall) (course : Course) (reaches : Reaches first_course calls course)
+EachWasJoined = (calls : List HouseCall) (trace : Trace) (reaches : Reaches first_trace calls trace)
     → All (IsOneJoined calls)
-    (openers_in calls first_course course reaches ++ openers_left course.lives)
+    (openers_in calls first_trace trace reaches ++ openers_left trace.relay_traces)
 
 -- and no two are of one
 abbrev pub OneOpenEach : Type 0
-OneOpenEach = (calls : List HouseCall) (course : Course) (reaches : Reaches first_course calls course)
+OneOpenEach = (calls : List HouseCall) (trace : Trace) (reaches : Reaches first_trace calls trace)
     → AllPairs (λ a b. a ≢ b)
-    (openers_in calls first_course course reaches ++ openers_left course.lives)
+    (openers_in calls first_trace trace reaches ++ openers_left trace.relay_traces)
 
 -- ---- for what, and to where
 
 -- this is one of the calls, and the course was this before it
-pub record IsBefore (calls : List HouseCall) (call : HouseCall) (course : Course) : Type 0 where
+pub record IsBefore (calls : List HouseCall) (call : HouseCall) (trace : Trace) : Type 0 where
   pub before : List HouseCall
   pub behind : List HouseCall
   pub are : calls ≡ before ++ call ∷ behind
-  pub reached : Reaches first_course before course
+  pub reached : Reaches first_trace before trace
 
 -- this socket was joined at the listener of a forwarding of which this is so, and it is this stream,
 -- while that is open
@@ -155,11 +155,11 @@ pub record IsJoinedFor (calls : List HouseCall) (own : Option OwnStream) (socket
     (so : Forwarding → Type 0) : Type 0 where
   pub listener : ℕ
   pub stream : ℕ
-  pub course : Course
+  pub trace : Trace
   pub forwarding : Forwarding
-  pub joined : IsBefore calls (Turns (Joined listener stream)) course
-  pub which : socket ≡ Some course.joins
-  pub found : find (has_listener listener) course.desk.all ≡ Some forwarding
+  pub joined : IsBefore calls (Turns (Joined listener stream)) trace
+  pub which : socket ≡ Some trace.joins
+  pub found : find (has_listener listener) trace.forwarding_state.all ≡ Some forwarding
   pub its : IfSome own (λ o. o.number ≡ stream)
   pub right : so forwarding
 
@@ -185,19 +185,19 @@ pub record IsDialed (calls : List HouseCall) (l : Life) (host : List ℕ) (port 
 
 -- what is said is the OPEN of direct-tcpip of one of the relays, to where the forwarding connects at
 -- whose listener its socket was joined, or to the end that its dialog asked for
-pub record IsOpenOf (calls : List HouseCall) (lives : List Life) (bytes : List ℕ) : Type 0 where
+pub record IsOpenOf (calls : List HouseCall) (relay_traces : List Life) (bytes : List ℕ) : Type 0 where
   pub before : List Life
   pub life : Life
   pub behind : List Life
   pub host : List ℕ
   pub port : ℕ
-  pub were : lives ≡ before ++ life ∷ behind
+  pub were : relay_traces ≡ before ++ life ∷ behind
   pub says : bytes ≡ framed (direct life.relay.number host port)
   pub goes : IsJoinedFor calls life.own life.joined (ConnectsTo host port)
       ⊎ IsDialed calls life host port
 
 -- each OPEN that is said behind these calls
 abbrev pub OpensGoRight : Type 0
-OpensGoRight = (calls : List HouseCall) (course next : Course) (bytes : List ℕ)
-    → Reaches first_course calls course → Follows (Marks (HouseSaid bytes)) course next
-    → is_open bytes ≡ true → IsOpenOf calls course.lives bytes
+OpensGoRight = (calls : List HouseCall) (trace next : Trace) (bytes : List ℕ)
+    → Reaches first_trace calls trace → Follows (Marks (HouseSaid bytes)) trace next
+    → is_open bytes ≡ true → IsOpenOf calls trace.relay_traces bytes

@@ -4,15 +4,15 @@ use Rattle.std.specs.List.{list_any}
 use Rattle.mux_outside.specs.House.{Quiet}
 use Rattle.house_forward.specs.Asks.{has_outcome}
 use Rattle.house_forward.specs.Forwardings.{has_request, next_of}
-use Rattle.house_forward.specs.Links.{has_saying, has_order, is_offered}
+use Rattle.house_forward.specs.Links.{has_sending, has_order, is_offered}
 use Rattle.house_forward.specs.declared.asks.Waiting.{Waiting}
 use Rattle.house_forward.specs.declared.forwarding.Forwarding.{Forwarding}
 use Rattle.house_forward.specs.declared.link.Link.{Link}
 
 -- it has greeted, and neither a forwarding nor a relay has something to say
-abbrev pub says_none : Bool → List Forwarding → List Link → Bool
-says_none greeted forwardings links =
-    greeted && (not (is_some (find has_request forwardings)) && not (list_any has_saying links))
+abbrev pub sends_none : Bool → List Forwarding → List Link → Bool
+sends_none greeted forwardings links =
+    greeted && (not (is_some (find has_request forwardings)) && not (list_any has_sending links))
 
 -- no relay has an order of its stream, no socket is to be connected, and there is no order about a
 -- listener
@@ -26,7 +26,7 @@ answers_none waiting = not (list_any has_outcome waiting)
 
 abbrev pub quiet_of : Bool → List Forwarding → List Link → List Waiting → Quiet
 quiet_of greeted forwardings links waiting = record {
-  says = says_none greeted forwardings links;
+  says = sends_none greeted forwardings links;
   orders = orders_none forwardings links waiting;
   answers = answers_none waiting;
 }

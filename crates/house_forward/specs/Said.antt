@@ -7,13 +7,13 @@ use Rattle.ssh_grammar.specs.declared.numbers.TheConstants.{CHANNEL_OPEN, GLOBAL
 use Rattle.house_forward.specs.declared.forwarding.Forwarding.{Forwarding}
 use Rattle.house_forward.specs.declared.forwarding.Stage.{Stage}
 use Rattle.house_forward.specs.declared.forwarding.Stage.TheVariants.{ToListen, Ordered, Listening, ToRequest, Requested, Live as ServedOn, Cancelling}
-use Rattle.house_relay.specs.Next.{says_of}
+use Rattle.house_relay.specs.Next.{sends_of}
 use Rattle.house_relay.specs.declared.TheConstants.{MAXIMUM, WINDOW}
-use Rattle.house_relay.specs.declared.line.Line.{Line}
-use Rattle.house_relay.specs.declared.line.Line.TheVariants.{Dialing, Asked, Opened, Offered, Live, Over}
+use Rattle.house_relay.specs.declared.line.ChannelState.{ChannelState}
+use Rattle.house_relay.specs.declared.line.ChannelState.TheVariants.{Dialing, Asked, Opened, Offered, Live, Over}
 use Rattle.house_relay.specs.declared.relay.Relay.{Relay}
-use Rattle.house_relay.specs.declared.relay.Saying.{Saying}
-use Rattle.house_relay.specs.declared.relay.Saying.TheVariants.{Open, Confirmation, OpenFailure, Close, Failure, Data, Eof, Adjust}
+use Rattle.house_relay.specs.declared.relay.Outgoing.{Outgoing}
+use Rattle.house_relay.specs.declared.relay.Outgoing.TheVariants.{Open, Confirmation, OpenFailure, Close, Failure, Data, Eof, Adjust}
 
 -- a payload in the frame of a proxy client
 abbrev pub framed : List ℕ → List ℕ
@@ -65,7 +65,7 @@ request_payload f =
     requested (request_name f.stage) f.listen_host (request_port f.stage f.listen_port)
 
 -- whether data is said
-abbrev pub is_data : Saying → Bool
+abbrev pub is_data : Outgoing → Bool
 is_data (Data n) = true
 is_data Open = false
 is_data Confirmation = false
@@ -76,7 +76,7 @@ is_data Eof = false
 is_data (Adjust n) = false
 
 -- in a channel that is confirmed: of the bytes that are held so many as are said
-abbrev pub in_live : Saying → ℕ → List ℕ → List ℕ
+abbrev pub in_live : Outgoing → ℕ → List ℕ → List ℕ
 in_live Open remote held = []
 in_live Confirmation remote held = []
 in_live OpenFailure remote held = not_connected remote
@@ -87,7 +87,7 @@ in_live Eof remote held = spell (To remote GivesEof)
 in_live (Adjust n) remote held = spell (To remote (Adjusts n))
 
 -- an answer to the server's OPEN
-abbrev pub in_offer : Saying → ℕ → ℕ → List ℕ
+abbrev pub in_offer : Outgoing → ℕ → ℕ → List ℕ
 in_offer Open remote number = not_connected remote
 in_offer Confirmation remote number = confirmed remote number
 in_offer OpenFailure remote number = not_connected remote
@@ -97,22 +97,22 @@ in_offer (Data n) remote number = not_connected remote
 in_offer Eof remote number = not_connected remote
 in_offer (Adjust n) remote number = not_connected remote
 
-abbrev pub payload_in : Line → Relay → Saying → List ℕ
-payload_in (Dialing dialog) r saying = []
-payload_in (Asked host port version) r saying = direct r.number host port
-payload_in (Opened version) r saying = []
-payload_in (Offered remote window maximum) r saying = in_offer saying remote r.number
-payload_in (Live live) r saying = in_live saying live.remote r.held.waiting
-payload_in Over r saying = []
+abbrev pub payload_in : ChannelState → Relay → Outgoing → List ℕ
+payload_in (Dialing dialog) r outgoing = []
+payload_in (Asked host port version) r outgoing = direct r.number host port
+payload_in (Opened version) r outgoing = []
+payload_in (Offered remote window maximum) r outgoing = in_offer outgoing remote r.number
+payload_in (Live live) r outgoing = in_live outgoing live.remote r.held.waiting
+payload_in Over r outgoing = []
 
 -- the payload of what a relay says
-abbrev pub payload_of : Relay → Saying → List ℕ
-payload_of r saying = payload_in r.line r saying
+abbrev pub payload_of : Relay → Outgoing → List ℕ
+payload_of r outgoing = payload_in r.line r outgoing
 
-abbrev pub payload_if : Relay → Option Saying → List ℕ
+abbrev pub payload_if : Relay → Option Outgoing → List ℕ
 payload_if r None = []
-payload_if r (Some saying) = payload_of r saying
+payload_if r (Some outgoing) = payload_of r outgoing
 
 -- the payload of what it says next
-abbrev pub said_by : Relay → List ℕ
-said_by r = payload_if r (says_of r)
+abbrev pub sent_by : Relay → List ℕ
+sent_by r = payload_if r (sends_of r)

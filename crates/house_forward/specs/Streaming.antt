@@ -1,10 +1,10 @@
 -- What the streams gave and took, by the calls.
 use Rattle.std.specs.Prelude.{◌≡◌, ◌+◌, ◌==◌, ℕ, if◌then◌else◌, List, [], ◌∷◌, ◌++◌, IfSome, Some}
 use Rattle.std.specs.List.{All}
-use Rattle.mux_outside.specs.HouseCalls.{HouseCall, Happening, Begins, Marks, Hears, Turns, Takes}
+use Rattle.mux_outside.specs.HouseCalls.{HouseCall, Happening, Begins, Marks, Receives, Turns, Takes}
 use Rattle.mux_outside.specs.HouseCalls.{Joined, Got, End, Writable, Failed}
 use Rattle.house_relay.specs.Acts.{Act, read, taken}
-use Rattle.house_forward.specs.Lives.{Course, Reaches, first_course}
+use Rattle.house_forward.specs.RelayTraces.{Trace, Reaches, first_trace}
 use Rattle.house_forward.specs.Numbers.{made_by}
 
 abbrev pub got_turn : ℕ → Happening → List ℕ
@@ -17,7 +17,7 @@ got_turn s (Failed t) = []
 abbrev pub got_call : ℕ → HouseCall → List ℕ
 got_call s (Begins starts) = []
 got_call s (Marks mark) = []
-got_call s (Hears bytes) = []
+got_call s (Receives bytes) = []
 got_call s (Turns happening) = got_turn s happening
 got_call s (Takes t n) = []
 
@@ -29,7 +29,7 @@ got_in s (call ∷ calls) = got_call s call ++ got_in s calls
 abbrev pub took_call : ℕ → HouseCall → ℕ
 took_call s (Begins starts) = 0
 took_call s (Marks mark) = 0
-took_call s (Hears bytes) = 0
+took_call s (Receives bytes) = 0
 took_call s (Turns happening) = 0
 took_call s (Takes t n) = if s == t then n else 0
 
@@ -50,5 +50,5 @@ pub record IsOf (calls : List HouseCall) (t : ℕ) (acts : List Act) : Type 0 wh
 
 -- this is so of each relay and its stream
 abbrev pub EachHasItsStream : Type 0
-EachHasItsStream = (calls : List HouseCall) (course : Course) → Reaches first_course calls course
-    → All (λ l. IfSome l.own (λ own. IsOf calls own.number l.acts)) course.lives
+EachHasItsStream = (calls : List HouseCall) (trace : Trace) → Reaches first_trace calls trace
+    → All (λ l. IfSome l.own (λ own. IsOf calls own.number l.acts)) trace.relay_traces

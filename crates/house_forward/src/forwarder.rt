@@ -4,7 +4,7 @@ ghost use Rattle.std.specs.Option.{option_to_list};
 ghost use Rattle.mux_outside.specs.House.{IsBlank, IsFresh, NoMark, ask_of, order_marks};
 ghost use Rattle.house_forward.specs.State.{due_in, most_due_in, state_of};
 
-use crate::holdings::Holdings;
+use crate::forwarder_state::ForwarderState;
 use crate::reserved::Reserved;
 use mux_outside::{
     Asks, FwdAsk, House, HouseMark, HouseReply, Notes, Order, OwnTurn, Piece, StartAsk, Starts,
@@ -18,20 +18,20 @@ use std::alloc::Global;
 pub struct Forwarder<N: Notes + Drop> {
     alloc: Global,
     notes: Reserved<N>,
-    has: Holdings,
+    has: ForwarderState,
     ghost room: { due_in has ≤ notes.marks },
 }
 
 impl<N: Notes + Drop> Forwarder<N> {
     /// A house that has nothing yet.
     pub fn new(alloc: Global, notes: N) -> Result<Forwarder<N>, OutOfMemory>
-        requires { NoMark (N.told notes) }
-        ensures { IfOk result (λ f. IsFresh (state_of (N.told f.notes.notes) f.has)) }
+        requires { NoMark (N.recorded notes) }
+        ensures { IfOk result (λ f. IsFresh (state_of (N.recorded f.notes.notes) f.has)) }
     {
         Ok(Forwarder {
             alloc,
             notes: Reserved::new(notes),
-            has: Holdings::new(alloc),
+            has: ForwarderState::new(alloc),
         })
     }
 
@@ -53,7 +53,7 @@ impl<N: Notes + Drop> Forwarder<N> {
     ) -> Result<(), OutOfMemory>
         ensures room { OnOk result (most_due_in self.old.has forwardings relays asks + marks
             ≤ self.new.notes.marks) }
-        ensures told { N.told self.new.notes.notes ≡ N.told self.old.notes.notes }
+        ensures recorded { N.recorded self.new.notes.notes ≡ N.recorded self.old.notes.notes }
         ensures has { self.new.has ≡ self.old.has }
     {
         let most = self
@@ -107,9 +107,9 @@ fn copy_of(alloc: Global, what: &FwdAsk<'_>) -> Result<StartAsk, OutOfMemory>
 impl<N: Notes + Drop> Asks for Forwarder<N> {
     ghost may = { λ _. Unit {0} };
 
-    ghost state = { λ f. state_of (N.told f.notes.notes) f.has };
+    ghost state = { λ f. state_of (N.recorded f.notes.notes) f.has };
 
-    #[tactic(auto, using(crate::proofs::Told::none_more, crate::proofs::Room::due_most))]
+    #[tactic(auto, using(crate::proofs::Recorded::none_more, crate::proofs::Room::due_most))]
     fn ask(
         &mut self,
         client: u64,
@@ -132,16 +132,16 @@ impl<N: Notes + Drop> Asks for Forwarder<N> {
 }
 
 impl<N: Notes + Drop> House for Forwarder<N> {
-    ghost fresh = { λ f. IsFresh (state_of (N.told f.notes.notes) f.has) };
+    ghost fresh = { λ f. IsFresh (state_of (N.recorded f.notes.notes) f.has) };
 
-    ghost begun = { λ f. let state = state_of (N.told f.notes.notes) f.has in
-        IsBlank state.known state.told };
+    ghost begun = { λ f. let state = state_of (N.recorded f.notes.notes) f.has in
+        IsBlank state.known state.recorded };
 
     fn present(&self) -> bool {
         true
     }
 
-    #[tactic(auto, using(crate::proofs::Told::none_more, crate::proofs::Room::due_most))]
+    #[tactic(auto, using(crate::proofs::Recorded::none_more, crate::proofs::Room::due_most))]
     fn begin(&mut self, starts: &Starts) -> Result<(), OutOfMemory> {
         self.reserve(starts.asks.len(), 0, 0, 0)?;
         self.has.begin(starts)
@@ -154,22 +154,22 @@ impl<N: Notes + Drop> House for Forwarder<N> {
         Some((client, id, reply))
     }
 
-    #[tactic(auto, using(crate::proofs::Told::none_more, crate::proofs::Room::due_most))]
+    #[tactic(auto, using(crate::proofs::Recorded::none_more, crate::proofs::Room::due_most))]
     fn says(&mut self, into: &mut Piece) -> Result<bool, OutOfMemory> {
         self.reserve(0, 0, 0, 1)?;
-        if !self.has.say(into)? {
+        if !self.has.send(into)? {
             return Ok(false);
         }
-        self.notes.note_said(self.alloc, into.as_bytes())?;
+        self.notes.note_sent(self.alloc, into.as_bytes())?;
         Ok(true)
     }
 
-    #[tactic(auto, using(crate::proofs::Told::none_more, crate::proofs::Room::due_most))]
+    #[tactic(auto, using(crate::proofs::Recorded::none_more, crate::proofs::Room::due_most))]
     fn takes(&mut self, bytes: &[u8]) -> Result<(), OutOfMemory> {
         self.has.take(bytes)?;
         loop {
             self.reserve(0, 1, 0, 1)?;
-            if !self.has.hear()? {
+            if !self.has.receive()? {
                 break;
             }
         }
@@ -191,7 +191,7 @@ impl<N: Notes + Drop> House for Forwarder<N> {
         }
     }
 
-    #[tactic(auto, using(crate::proofs::Told::none_more, crate::proofs::Room::due_most))]
+    #[tactic(auto, using(crate::proofs::Recorded::none_more, crate::proofs::Room::due_most))]
     fn turn(&mut self, t: OwnTurn<'_>) -> Result<(), OutOfMemory> {
         self.reserve(0, 1, 0, 0)?;
         self.has.turn(t)

@@ -6,7 +6,7 @@ ghost use Rattle.house_forward.specs.Rules.{listens_here};
 ghost use Rattle.house_forward.specs.Forwardings.{to_listen, waits_at, has_listener, changed, stage_after, bound_to, granted, is_asked, is_cancelled, is_to_listen, is_pending, want_in, served_at};
 
 use crate::asks::{Asked, Asks, Outcome};
-use crate::forwardings::Want;
+use crate::forwardings::ForwardingWant;
 use crate::rules::{Ends, Kind, same_kind};
 use crate::two_texts::TwoTexts;
 use ssh_fields::{OutOfMemory, Text};
@@ -15,7 +15,7 @@ use std::mem;
 
 /// A request to the server that has no reply yet.
 #[derive(Clone, Copy)]
-pub enum Request {
+pub enum ForwardingRequest {
     /// To listen for this forwarding.
     Listen(u64),
     /// To listen for it no longer.
@@ -47,7 +47,7 @@ pub enum Change {
     /// It is asked to close.
     Close,
     /// The request to listen is said.
-    Request,
+    ForwardingRequest,
     /// The cancel is said.
     Cancel,
     /// The server listens, on this port if it was to choose one.
@@ -208,14 +208,14 @@ impl Forwarding {
 
     /// Which order it is to have. One that is closed waits for the answers of those that asked for
     /// it.
-    pub fn wants(&self, asks: &Asks) -> Option<Want>
+    pub fn wants(&self, asks: &Asks) -> Option<ForwardingWant>
         ensures { result ≡ want_in asks.now.waiting.items (Some self.now) }
     {
         match self.stage {
-            Stage::ToListen(_) => Some(Want::Listen),
+            Stage::ToListen(_) => Some(ForwardingWant::Listen),
             Stage::Listening(listener) => {
                 if self.closing && !asks.owes_opening(self.serial) {
-                    Some(Want::Unlisten(self.serial, listener))
+                    Some(ForwardingWant::Unlisten(self.serial, listener))
                 } else {
                     None
                 }
@@ -273,7 +273,7 @@ impl Forwarding {
         match change {
             Change::Close => self.closing = true,
             Change::Stay => self.closing = false,
-            Change::Request | Change::Cancel | Change::Live(_) => {}
+            Change::ForwardingRequest | Change::Cancel | Change::Live(_) => {}
         }
     }
 
@@ -284,7 +284,7 @@ impl Forwarding {
         } }
     {
         let next = match (change, &self.stage) {
-            (Change::Request, Stage::ToRequest) => Stage::Requested,
+            (Change::ForwardingRequest, Stage::ToRequest) => Stage::Requested,
             (Change::Cancel, Stage::Live(port)) => Stage::Cancelling(*port),
             (Change::Live(port), Stage::Requested) => Stage::Live(self.bound_to(port)),
             (Change::Stay, Stage::Cancelling(port)) => Stage::Live(*port),
@@ -391,17 +391,17 @@ impl Forwarding {
     }
 
     /// The request that is to be said for it, where there is one.
-    pub fn request(&self) -> Request
+    pub fn request(&self) -> ForwardingRequest
         ensures { result ≡ request_of self.now }
     {
         match self.stage {
-            Stage::Live(_) => Request::Cancel(self.serial),
+            Stage::Live(_) => ForwardingRequest::Cancel(self.serial),
             Stage::ToListen(_)
             | Stage::Ordered
             | Stage::Listening(_)
             | Stage::ToRequest
             | Stage::Requested
-            | Stage::Cancelling(_) => Request::Listen(self.serial),
+            | Stage::Cancelling(_) => ForwardingRequest::Listen(self.serial),
         }
     }
 

@@ -9,10 +9,10 @@ ghost use Rattle.house_forward.specs.Forwardings.{first_refused, FailsAt, IsAt, 
 ghost use Rattle.house_forward.specs.Forwardings.{Begins, StartsIf, OrderedAt, removed_at, serials_after, start_of, what_stands};
 ghost use Rattle.house_forward.specs.Rules.{is_refused_alone};
 ghost use Rattle.house_forward.specs.Forwardings.{listeners_of, is_pending, to_listen, is_first_to_listen, is_ordered_first, is_in_order, next_of, changed, after_close, is_new, Opens};
-ghost use Rattle.house_forward.specs.Forwardings.{is_asked, is_cancelled, live_in, after_saying, served_at, has_listener};
+ghost use Rattle.house_forward.specs.Forwardings.{is_asked, is_cancelled, live_in, after_sending, served_at, has_listener};
 
 use crate::asks::{Asked, Asks, Outcome};
-use crate::forwarding::{Change, Forwarding, Request, Stage};
+use crate::forwarding::{Change, Forwarding, ForwardingRequest, Stage};
 use crate::rules::{Ends, Kind, MOST_FORWARDINGS, ends_of, of_start};
 use crate::two_texts::TwoTexts;
 use mux_outside::{StartAsk, Starts};
@@ -23,7 +23,7 @@ use std::mem;
 
 /// Which order about a listener is next.
 #[derive(Clone, Copy)]
-pub enum Want {
+pub enum ForwardingWant {
     /// To listen for the first forwarding that has no listener yet.
     Listen,
     /// To listen no longer: the serial of the forwarding, and its listener.
@@ -44,7 +44,7 @@ pub enum ListenerOrder {
 pub struct Forwardings {
     alloc: Global,
     all: Vec<Forwarding>,
-    requests: VecDeque<Request>,
+    requests: VecDeque<ForwardingRequest>,
     /// How many there were so far.
     serials: u64,
     /// The first of those asked for at the start that was refused.
@@ -55,7 +55,7 @@ pub struct Forwardings {
 }
 
 impl Forwardings {
-    ghost use Rattle.house_forward.specs.Desk.{ChangesList, ForwardingsGo, MakesListener, OrdersBy, reply_heard};
+    ghost use Rattle.house_forward.specs.ForwardingState.{ChangesList, ForwardingsGo, MakesListener, OrdersBy, reply_received};
 
     pub fn new(alloc: Global) -> Forwardings
         ensures refused { result.refused ≡ None }
@@ -235,7 +235,7 @@ impl Forwardings {
     /// so a place is free before it is listened on again. One that is closed waits for the answers
     /// of those that asked for it.
     #[tactic(auto, using(crate::proofs::InOrder::found_next))]
-    fn next(&self, asks: &Asks) -> Option<Want>
+    fn next(&self, asks: &Asks) -> Option<ForwardingWant>
         ensures { result ≡ next_of asks.now.waiting.items self.now.all.items }
     {
         self.pending()?.wants(asks)
@@ -258,8 +258,8 @@ impl Forwardings {
         ensures silent { result ≡ None → (self.new ≡ self.old) × (asks.new ≡ asks.old) }
     {
         match self.next(asks)? {
-            Want::Listen => self.order_listen(),
-            Want::Unlisten(serial, listener) => {
+            ForwardingWant::Listen => self.order_listen(),
+            ForwardingWant::Unlisten(serial, listener) => {
                 self.unlisten(listener);
                 asks.settle(serial, false, Outcome::Done);
                 Some(ListenerOrder::Unlisten(listener))
@@ -341,16 +341,16 @@ impl Forwardings {
     }
 
     /// The forwarding whose request is to be said next, if any.
-    pub fn to_say(&self) -> Option<&Forwarding>
+    pub fn to_send(&self) -> Option<&Forwarding>
         ensures { option_copied result ≡ find has_request self.now.all.items }
     {
         self.all.iter().find(|f| f.has_request())
     }
 
     /// A request is said now.
-    pub fn said(&mut self, request: Request) -> Result<(), OutOfMemory>
+    pub fn said(&mut self, request: ForwardingRequest) -> Result<(), OutOfMemory>
         ensures all { OnOk result
-            (self.new.all.items ≡ after_saying request self.old.all.items) }
+            (self.new.all.items ≡ after_sending request self.old.all.items) }
         ensures requests { OnOk result
             (self.new.requests.items ≡ self.old.requests.items ++ request ∷ []) }
         ensures serials { self.new.serials ≡ self.old.serials }
@@ -359,8 +359,8 @@ impl Forwardings {
     {
         self.requests.push_back(request)?;
         match request {
-            Request::Listen(serial) => self.change(serial, Change::Request),
-            Request::Cancel(serial) => self.change(serial, Change::Cancel),
+            ForwardingRequest::Listen(serial) => self.change(serial, Change::ForwardingRequest),
+            ForwardingRequest::Cancel(serial) => self.change(serial, Change::Cancel),
         }
         Ok(())
     }
@@ -368,12 +368,12 @@ impl Forwardings {
     /// The server's reply to the earliest request that has none. A success to a request of port 0
     /// carries the port that it chose.
     pub fn replied(&mut self, success: bool, port: Option<u32>, asks: &mut Asks)
-        ensures { ForwardingsGo (λ old new. new ≡ reply_heard success port old)
+        ensures { ForwardingsGo (λ old new. new ≡ reply_received success port old)
             self.old asks.old self.new asks.new }
     {
         match self.requests.pop_front() {
             None => {}
-            Some(Request::Listen(serial)) => {
+            Some(ForwardingRequest::Listen(serial)) => {
                 if success {
                     let outcome = self.granted(serial, port);
                     self.change(serial, Change::Live(port));
@@ -385,7 +385,7 @@ impl Forwardings {
                     asks.refuse(serial);
                 }
             }
-            Some(Request::Cancel(serial)) => {
+            Some(ForwardingRequest::Cancel(serial)) => {
                 if success {
                     self.forget(serial);
                     asks.settle(serial, false, Outcome::Done);

@@ -5,11 +5,11 @@ ghost use Rattle.house_forward.specs.Causes.{EachServed, EachRefused, EachAnswer
 ghost use Rattle.house_forward.specs.Closing.{ClosesHaveCause};
 ghost use Rattle.house_forward.specs.Confirming.{ConfirmsConnected, RefusesUnconnected};
 ghost use Rattle.house_forward.specs.Connects.{OneConnectEach};
-ghost use Rattle.house_forward.specs.Deeds.{EachHappens};
+ghost use Rattle.house_forward.specs.ForwarderEvents.{EachHappens};
 ghost use Rattle.house_forward.specs.Greeting.{EachGreets};
 ghost use Rattle.house_forward.specs.Laws.{EachRelays, EachKeeps, EachRests};
 ghost use Rattle.house_forward.specs.Numbers.{ChannelsAreSmall, ChannelsDiffer, EachIsNew, StreamsAreTheirs, StreamsDiffer};
-ghost use Rattle.house_forward.specs.Opening.{EachIsTold, EachWasJoined, OneOpenAtMost, OneOpenEach, OpensGoRight};
+ghost use Rattle.house_forward.specs.Opening.{EachIsRecorded, EachWasJoined, OneOpenAtMost, OneOpenEach, OpensGoRight};
 ghost use Rattle.house_forward.specs.Starting.{EachQuiet, EachStart};
 ghost use Rattle.house_forward.specs.Streaming.{EachHasItsStream};
 
@@ -53,7 +53,7 @@ pub fn each_open_that_is_taken_is_connected_once()
 /// its dialog asked for.
 pub fn opens_are_for_joined_sockets()
     ensures count { OneOpenAtMost }
-    ensures told { EachIsTold }
+    ensures recorded { EachIsRecorded }
     ensures joined { EachWasJoined }
     ensures once { OneOpenEach }
     ensures goes { OpensGoRight }
@@ -115,7 +115,7 @@ pub fn what_is_closed_was_asked_to_close()
 /// The house greets once and first: the first piece that it says is HELLO and PROXY, and each behind
 /// it is one frame, of the request of a forwarding or of what a relay has to say. It says no other
 /// control message.
-pub fn the_greeting_is_said_once_and_first()
+pub fn the_greeting_is_sent_once_and_first()
     ensures { EachGreets }
 {}
 

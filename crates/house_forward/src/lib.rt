@@ -16,25 +16,25 @@
 //! - The end of a side goes on to the other behind all bytes. When both have ended and nothing
 //!   waits, or a side fails, the channel is closed, and the socket behind it.
 //!
-//! What the calls of the house tell, call by call, is defined in specs/Lives.antt, of its relays, and
-//! in specs/Desk.antt, of all else that it has; the house stands for that. What holds of each relay,
+//! What the calls of the house tell, call by call, is defined in specs/RelayTraces.antt, of its relays, and
+//! in specs/ForwardingState.antt, of all else that it has; the house stands for that. What holds of each relay,
 //! whatever the calls were, are the laws.
 #![tactic(auto)]
 
 mod asks;
 mod forwarder;
+mod forwarder_state;
 mod forwarding;
 mod forwardings;
-mod hearing;
-mod holdings;
 pub mod laws;
 mod link;
 mod ordering;
+mod outgoing;
 mod places;
+mod receiving;
 mod relays;
 mod reserved;
 mod rules;
-mod saying;
 mod two_texts;
 
 pub use forwarder::Forwarder;

@@ -2,12 +2,12 @@
 ghost use Rattle.std.specs.Prelude.{◌≡◌, is_some, true, IfSome, OnOk, None};
 ghost use Rattle.house_relay.specs.Relay.{stream_of, GoesOn};
 ghost use Rattle.house_relay.specs.Steps.{made_as};
-ghost use Rattle.house_forward.specs.Heard.{heard_of, act_heard};
-ghost use Rattle.house_forward.specs.Links.{has_number, is_of, is_offered, is_awaited, is_left, link_after, relay_after, made_stream, link_order, has_order, has_saying, finishes, number_in, is_channel, is_dialog, ConnectsAt, IsOrderOf};
+ghost use Rattle.house_forward.specs.Heard.{received_of, act_received};
+ghost use Rattle.house_forward.specs.Links.{has_number, is_of, is_offered, is_awaited, is_left, link_after, relay_after, made_stream, link_order, has_order, has_sending, finishes, number_in, is_channel, is_dialog, ConnectsAt, IsOrderOf};
 
 use crate::two_texts::TwoTexts;
 use conn_messages::Message;
-use house_relay::{Line, Relay};
+use house_relay::{ChannelState, Relay};
 use mux_outside::{Order, OwnStream};
 use ssh_fields::OutOfMemory;
 use std::mem;
@@ -27,7 +27,7 @@ pub enum Stream {
 
 /// What a stream is ordered, or what happens to it.
 #[derive(Clone, Copy)]
-pub enum Step {
+pub enum LinkStep {
     /// It is paused from now on, or isn't.
     Pause(bool),
     Finish,
@@ -114,12 +114,12 @@ impl Link {
         ensures { result ≡ is_dialog self.now }
     {
         match &self.relay.line {
-            Line::Dialing(_) => true,
-            Line::Asked { .. }
-            | Line::Opened { .. }
-            | Line::Offered { .. }
-            | Line::Live(_)
-            | Line::Over => false,
+            ChannelState::Dialing(_) => true,
+            ChannelState::Asked { .. }
+            | ChannelState::Opened { .. }
+            | ChannelState::Offered { .. }
+            | ChannelState::Live(_)
+            | ChannelState::Over => false,
         }
     }
 
@@ -134,8 +134,8 @@ impl Link {
     }
 
     /// Whether its relay has something to say.
-    pub fn has_saying(&self) -> bool
-        ensures { result ≡ has_saying self.now }
+    pub fn has_sending(&self) -> bool
+        ensures { result ≡ has_sending self.now }
     {
         self.relay.says().is_some()
     }
@@ -165,7 +165,7 @@ impl Link {
     }
 
     /// It takes a step, if its stream has this number.
-    pub fn take(&mut self, stream: u64, step: Step)
+    pub fn take(&mut self, stream: u64, step: LinkStep)
         ensures { self.new ≡ link_after step stream self.old }
     {
         if !self.has_number(stream) {
@@ -176,24 +176,24 @@ impl Link {
             return;
         };
         match step {
-            Step::Pause(paused) => own.paused = paused,
-            Step::Finish => own.finished = true,
-            Step::End => own.ended = true,
-            Step::Close => self.stream = Stream::Gone,
-            Step::Writable | Step::Failed => {}
+            LinkStep::Pause(paused) => own.paused = paused,
+            LinkStep::Finish => own.finished = true,
+            LinkStep::End => own.ended = true,
+            LinkStep::Close => self.stream = Stream::Gone,
+            LinkStep::Writable | LinkStep::Failed => {}
         }
     }
 
     /// Its relay takes a step.
-    fn relay_takes(&mut self, step: Step)
+    fn relay_takes(&mut self, step: LinkStep)
         ensures { self.new ≡ record self.old { relay = relay_after step self.old.relay } }
     {
         match step {
-            Step::Pause(_) | Step::Finish => {}
-            Step::End => self.relay.ends(),
-            Step::Close => self.relay.closed(),
-            Step::Writable => self.relay.writable(),
-            Step::Failed => self.relay.failed(),
+            LinkStep::Pause(_) | LinkStep::Finish => {}
+            LinkStep::End => self.relay.ends(),
+            LinkStep::Close => self.relay.closed(),
+            LinkStep::Writable => self.relay.writable(),
+            LinkStep::Failed => self.relay.failed(),
         }
     }
 
@@ -230,11 +230,11 @@ impl Link {
     }
 
     /// Its relay hears a message in its channel.
-    pub fn hears(&mut self, message: &Message<'_>) -> Result<(), OutOfMemory>
+    pub fn receives(&mut self, message: &Message<'_>) -> Result<(), OutOfMemory>
         ensures heard { OnOk result
-            (self.new.relay ≡ heard_of message.now self.old.relay) }
+            (self.new.relay ≡ received_of message.now self.old.relay) }
         ensures goes { OnOk result (GoesOn self.old.relay self.new.relay
-            (act_heard message.now self.old.relay)) }
+            (act_received message.now self.old.relay)) }
         ensures stream { self.new.stream ≡ self.old.stream }
         ensures held { self.new.relay.held ≡ self.old.relay.held }
     {
@@ -246,13 +246,13 @@ impl Link {
                 ..
             } => self.relay.confirmed(*sender, *window, *maximum)?,
             Message::OpenFailure { reason, .. } => self.relay.refused(*reason)?,
-            Message::Adjust { add, .. } => self.relay.hears_room(*add),
+            Message::Adjust { add, .. } => self.relay.receives_room(*add),
             Message::Data { bytes, .. } => {
-                self.relay.hears_data(bytes)?;
+                self.relay.receives_data(bytes)?;
             }
-            Message::Eof { .. } => self.relay.hears_eof(),
-            Message::Close { .. } => self.relay.hears_close(),
-            Message::Request { want, .. } => self.relay.hears_request(*want),
+            Message::Eof { .. } => self.relay.receives_eof(),
+            Message::Close { .. } => self.relay.receives_close(),
+            Message::Request { want, .. } => self.relay.receives_request(*want),
             Message::Transport { .. }
             | Message::GlobalRequest { .. }
             | Message::RequestSuccess { .. }

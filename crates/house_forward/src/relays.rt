@@ -2,18 +2,18 @@
 ghost use Rattle.std.specs.Prelude.{◌≡◌, ◌≤◌, ◌<◌, ◌^◌, ◌%◌, ◌+◌, ◌++◌, ◌∷◌, [], ℕ, true, false, not, length, map, find, ◌==◌, IfOk, IfSome, OnOk, OnErr, OnSome, None, Some, Ok};
 ghost use Rattle.std.specs.List.{All, list_any, position, sum_by};
 ghost use Rattle.std.specs.Option.{option_copied};
-ghost use Rattle.mux_outside.specs.House.{SaysFits, says_nothing, gives_none, order_marks, OrderFits, Known as TheKnown, known_after_order, queue_after_took};
+ghost use Rattle.mux_outside.specs.House.{SendsFits, sends_nothing, gives_none, order_marks, OrderFits, Known as TheKnown, known_after_order, queue_after_took};
 ghost use Rattle.mux_outside.specs.OwnStreams.{is_one, is_finished};
 ghost use Rattle.mux_outside.specs.declared.piece.TheConstants.{LONGEST_PIECE};
 ghost use Rattle.house_forward.specs.Due.{link_due};
-ghost use Rattle.house_forward.specs.Going.{GoesAt, LeavesAt, Gets, TakesOf, SaysOn, HearsOn, Obeys, AwaitsAt, MakesAt, swept};
-ghost use Rattle.house_forward.specs.Said.{framed, said_by};
-ghost use Rattle.house_forward.specs.Links.{streams_of, has_number, are_distinct, is_taken, is_of, queue_in, link_after, is_offered, is_awaited, is_left, is_full, channels, dialogs, is_crowded, is_number_of, has_order, has_saying, made_streams, obeyed, ConnectsAt};
+ghost use Rattle.house_forward.specs.Going.{GoesAt, LeavesAt, Gets, TakesOf, SendsOn, ReceivesOn, Obeys, AwaitsAt, MakesAt, swept};
+ghost use Rattle.house_forward.specs.Said.{framed, sent_by};
+ghost use Rattle.house_forward.specs.Links.{streams_of, has_number, are_distinct, is_taken, is_of, queue_in, link_after, is_offered, is_awaited, is_left, is_full, channels, dialogs, has_full_dialogs, is_number_of, has_order, has_sending, made_streams, obeyed, ConnectsAt};
 
-use crate::link::{Link, Step};
+use crate::link::{Link, LinkStep};
+use crate::outgoing;
 use crate::places::Places;
 use crate::rules::{MOST_CHANNELS, MOST_DIALOGS};
-use crate::saying;
 use crate::two_texts::TwoTexts;
 use conn_messages::Message;
 use mux_outside::{Order, Piece};
@@ -76,8 +76,8 @@ impl Relays {
     }
 
     /// Whether it has all dialogs that it may have.
-    pub fn is_crowded(&self) -> bool
-        ensures { result ≡ is_crowded self.now.all.items }
+    pub fn has_full_dialogs(&self) -> bool
+        ensures { result ≡ has_full_dialogs self.now.all.items }
     {
         dialogs_in(&self.all) >= MOST_DIALOGS
     }
@@ -195,16 +195,16 @@ impl Relays {
         self.all.iter().position(|l| l.has_order())
     }
 
-    fn saying(&self) -> Option<usize>
-        ensures { result ≡ position has_saying self.now.all.items }
+    fn outgoing(&self) -> Option<usize>
+        ensures { result ≡ position has_sending self.now.all.items }
     {
-        self.all.iter().position(|l| l.has_saying())
+        self.all.iter().position(|l| l.has_sending())
     }
 
     // ---- what happens to streams
 
     /// A stream takes a step.
-    pub fn step(&mut self, stream: u64, step: Step)
+    pub fn step(&mut self, stream: u64, step: LinkStep)
         ensures steps { self.new.all.items ≡ map (link_after step stream) self.old.all.items }
         ensures next { self.new.next ≡ self.old.next }
     {
@@ -277,10 +277,10 @@ impl Relays {
         ensures { self.new.all.items ≡ obeyed order.now self.old.all.items }
     {
         match order {
-            Order::Pause(stream) => self.step(*stream, Step::Pause(true)),
-            Order::Resume(stream) => self.step(*stream, Step::Pause(false)),
-            Order::Finish(stream) => self.step(*stream, Step::Finish),
-            Order::Close(stream) => self.step(*stream, Step::Close),
+            Order::Pause(stream) => self.step(*stream, LinkStep::Pause(true)),
+            Order::Resume(stream) => self.step(*stream, LinkStep::Pause(false)),
+            Order::Finish(stream) => self.step(*stream, LinkStep::Finish),
+            Order::Close(stream) => self.step(*stream, LinkStep::Close),
             Order::Listen { .. } | Order::Connect { .. } | Order::Unlisten(_) => {}
         }
     }
@@ -339,47 +339,47 @@ impl Relays {
     // ---- what is said and heard
 
     /// Puts what the first relay that has something to say says into the piece.
-    pub fn say(&mut self, into: &mut Piece) -> Result<bool, OutOfMemory>
-        ensures fits { SaysFits result into.new }
+    pub fn send(&mut self, into: &mut Piece) -> Result<bool, OutOfMemory>
+        ensures fits { SendsFits result into.new }
         ensures exact { OnOk result
-            (says_nothing result ≡ not (list_any has_saying self.old.all.items)) }
+            (sends_nothing result ≡ not (list_any has_sending self.old.all.items)) }
         ensures streams { streams_of self.new.all.items ≡ streams_of self.old.all.items }
         ensures count { length self.new.all.items ≤ length self.old.all.items }
-        ensures says { OnOk result (LeavesAt (position has_saying self.old.all.items) SaysOn
+        ensures says { OnOk result (LeavesAt (position has_sending self.old.all.items) SendsOn
             self.old.all.items self.new.all.items) }
-        ensures spelled { OnOk result (IfSome (find has_saying self.old.all.items)
-            (λ l. into.new ≡ framed (said_by l.relay))) }
+        ensures spelled { OnOk result (IfSome (find has_sending self.old.all.items)
+            (λ l. into.new ≡ framed (sent_by l.relay))) }
         ensures silent { result ≡ Ok false → self.new ≡ self.old }
     {
-        let Some(i) = self.saying() else {
+        let Some(i) = self.outgoing() else {
             return Ok(false);
         };
-        let said = self.say_at(i, into)?;
+        let said = self.send_at(i, into)?;
         self.sweep();
         Ok(said)
     }
 
     /// What the first that has something to say says.
-    fn say_at(&mut self, i: usize, into: &mut Piece) -> Result<bool, OutOfMemory>
-        requires { position has_saying self.old.all.items ≡ Some i }
-        ensures fits { SaysFits result into.new }
+    fn send_at(&mut self, i: usize, into: &mut Piece) -> Result<bool, OutOfMemory>
+        requires { position has_sending self.old.all.items ≡ Some i }
+        ensures fits { SendsFits result into.new }
         ensures exact { IfOk result (λ said. said ≡ true) }
-        ensures says { OnOk result (GoesAt (Some i) SaysOn
+        ensures says { OnOk result (GoesAt (Some i) SendsOn
             self.old.all.items self.new.all.items) }
-        ensures spelled { OnOk result (IfSome (find has_saying self.old.all.items)
-            (λ l. into.new ≡ framed (said_by l.relay))) }
+        ensures spelled { OnOk result (IfSome (find has_sending self.old.all.items)
+            (λ l. into.new ≡ framed (sent_by l.relay))) }
         ensures streams { streams_of self.new.all.items ≡ streams_of self.old.all.items }
         ensures count { length self.new.all.items ≡ length self.old.all.items }
     {
         let link = &mut self.all[i];
-        saying::say(self.alloc, &mut link.relay, into)
+        outgoing::send(self.alloc, &mut link.relay, into)
     }
 
     /// The relay whose channel has this number hears a message.
-    pub fn hear(&mut self, number: u32, message: &Message<'_>) -> Result<(), OutOfMemory>
-        ensures hears { OnOk result (LeavesAt
+    pub fn receive(&mut self, number: u32, message: &Message<'_>) -> Result<(), OutOfMemory>
+        ensures receives { OnOk result (LeavesAt
             (position (λ l. l.relay.number == number) self.old.all.items)
-            (HearsOn message.now) self.old.all.items self.new.all.items) }
+            (ReceivesOn message.now) self.old.all.items self.new.all.items) }
         ensures streams { streams_of self.new.all.items ≡ streams_of self.old.all.items }
         ensures count { length self.new.all.items ≤ length self.old.all.items }
         ensures next { self.new.next ≡ self.old.next }
@@ -387,27 +387,32 @@ impl Relays {
         let Some(i) = self.place(number) else {
             return Ok(());
         };
-        self.hear_at(i, number, message)?;
+        self.receive_at(i, number, message)?;
         self.sweep();
         Ok(())
     }
 
     /// The first whose channel has this number hears a message.
-    fn hear_at(&mut self, i: usize, number: u32, message: &Message<'_>) -> Result<(), OutOfMemory>
+    fn receive_at(
+        &mut self,
+        i: usize,
+        number: u32,
+        message: &Message<'_>,
+    ) -> Result<(), OutOfMemory>
         requires { position (λ l. l.relay.number == number) self.old.all.items ≡ Some i }
-        ensures hears { OnOk result (GoesAt (Some i) (HearsOn message.now)
+        ensures receives { OnOk result (GoesAt (Some i) (ReceivesOn message.now)
             self.old.all.items self.new.all.items) }
         ensures streams { streams_of self.new.all.items ≡ streams_of self.old.all.items }
         ensures count { length self.new.all.items ≡ length self.old.all.items }
         ensures next { self.new.next ≡ self.old.next }
     {
         let link = &mut self.all[i];
-        link.hears(message)
+        link.receives(message)
     }
 }
 
 /// The one that has a stream takes a step.
-fn step_all(links: &mut Vec<Link>, stream: u64, step: Step)
+fn step_all(links: &mut Vec<Link>, stream: u64, step: LinkStep)
     ensures { links.new.items ≡ map (link_after step stream) links.old.items }
 {
     for l in links.iter_mut() {

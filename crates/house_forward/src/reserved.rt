@@ -26,7 +26,7 @@ impl<N: Notes + Drop> Reserved<N> {
     pub fn room(&mut self, marks: usize) -> Result<(), OutOfMemory>
         ensures ok { OnOk result (marks ≤ self.new.marks) }
         ensures more { self.old.marks ≤ self.new.marks }
-        ensures told { N.told self.new.notes ≡ N.told self.old.notes }
+        ensures recorded { N.recorded self.new.notes ≡ N.recorded self.old.notes }
     {
         if self.marks < marks {
             self.notes.room(marks)?;
@@ -38,8 +38,8 @@ impl<N: Notes + Drop> Reserved<N> {
     /// Takes a mark.
     pub fn note(&mut self, mark: HouseMark)
         requires { 1 ≤ self.old.marks }
-        ensures told { N.told self.new.notes
-            ≡ option_map (λ marks. marks ++ mark ∷ []) (N.told self.old.notes) }
+        ensures recorded { N.recorded self.new.notes
+            ≡ option_map (λ marks. marks ++ mark ∷ []) (N.recorded self.old.notes) }
         ensures marks { self.new.marks + 1 ≡ self.old.marks }
     {
         self.notes.note(mark);
@@ -47,10 +47,10 @@ impl<N: Notes + Drop> Reserved<N> {
     }
 
     /// Takes the mark of what the house said, which is made only where marks are kept.
-    pub fn note_said(&mut self, alloc: Global, said: &[u8]) -> Result<(), OutOfMemory>
+    pub fn note_sent(&mut self, alloc: Global, said: &[u8]) -> Result<(), OutOfMemory>
         requires { 1 ≤ self.old.marks }
-        ensures told { OnOk result (N.told self.new.notes
-            ≡ option_map (λ marks. marks ++ HouseSaid said.now ∷ []) (N.told self.old.notes)) }
+        ensures recorded { OnOk result (N.recorded self.new.notes
+            ≡ option_map (λ marks. marks ++ HouseSaid said.now ∷ []) (N.recorded self.old.notes)) }
         ensures marks { OnOk result (self.old.marks ≤ self.new.marks + 1) }
         ensures unchanged { OnErr result (self.new ≡ self.old) }
     {

@@ -7,12 +7,12 @@ use Rattle.ssh_grammar.specs.declared.side.Side.TheVariants.{Up, Down}
 use Rattle.ssh_grammar.specs.declared.fault.Breach.{Breach}
 use Rattle.ssh_grammar.specs.declared.fault.Breach.TheVariants.{AfterClose, NotOpen, Overflow, TooManyAsks}
 use Rattle.mux_history.specs.Channels.{Channel, any_by, is_closes, is_confirmed, is_confirms}
-use Rattle.mux_history.specs.Gist.{Act, Answers, Asks, Carries, Closes, Confirms, Ends, Fails, Grants}
+use Rattle.mux_history.specs.Summary.{Act, Answers, Asks, Carries, Closes, Confirms, Ends, Fails, Grants}
 use Rattle.mux_history.specs.Laws.{IsWithin, with_act}
 use Rattle.mux_history.specs.Ledger.{act_breach, breach, carried, granted, initial, maximum_of, packet_breach, room, sum_of, unanswered, first_window, packet}
 use Rattle.mux_history.proofs.Accounts.{rooms-go-on}
 use Rattle.mux_history.proofs.RoomActs.{accounted-act, may-of}
-use Rattle.house_history.proofs.Views.{Acct, IsAccount, MaySay, says, hears, more_asks}
+use Rattle.house_history.proofs.Views.{Acct, IsAccount, MaySend, says, receives, more_asks}
 
 -- ---- no breach
 
@@ -27,7 +27,7 @@ room-down x n window within le = by_side x.by window within
     by_side Up window within = omega arith
     by_side Down window within = omega arith
 
-no-act-breach : (act : Act) (x : Channel) (a : Acct) → IsAccount x a → MaySay act a → act_breach Up act x ≡ None
+no-act-breach : (act : Act) (x : Channel) (a : Acct) → IsAccount x a → MaySend act a → act_breach Up act x ≡ None
 no-act-breach (Carries n) x a is may = rw (is.eof ∙ may.1, act_breach) (packet-fits (maximum_of Up x) (room Up x) n (subst (λ (m : ℕ). n ≤ m) (sym is.maximum) may.3) (subst (λ (m : ℕ). n ≤ m) (sym is.room_is) may.2))
 no-act-breach Ends x a is may = rw (is.eof ∙ may.1, act_breach) refl
 no-act-breach Closes x a is may = refl
@@ -42,7 +42,7 @@ no-act-breach (Confirms w m) x a is may = absurd may
 no-act-breach Fails x a is may = absurd may
 no-act-breach (Asks wants) x a is may = absurd may
 
-may-closed : (act : Act) (a : Acct) → MaySay act a → a.close_said ≡ false
+may-closed : (act : Act) (a : Acct) → MaySend act a → a.close_sent ≡ false
 may-closed (Carries n) a may = may.0
 may-closed Ends a may = may.0
 may-closed Closes a may = may
@@ -52,7 +52,7 @@ may-closed (Confirms w m) a may = absurd may
 may-closed Fails a may = absurd may
 may-closed (Asks wants) a may = absurd may
 
-pub no-breach : (act : Act) (x : Channel) (a : Acct) → IsAccount x a → MaySay act a → breach Up act x ≡ None
+pub no-breach : (act : Act) (x : Channel) (a : Acct) → IsAccount x a → MaySend act a → breach Up act x ≡ None
 no-breach act x a is may = rw (is.confirmed, is.closed ∙ may-closed act a may, breach) (no-act-breach act x a is may)
 
 -- ---- what stays
@@ -102,7 +102,7 @@ window-same Down act x p = by_side x.by
 
 -- ---- what is said
 
-pub says-account : (act : Act) (x : Channel) (a : Acct) → IsAccount x a → MaySay act a → IsAccount (with_act Up act x) (says act a)
+pub says-account : (act : Act) (x : Channel) (a : Acct) → IsAccount x a → MaySend act a → IsAccount (with_act Up act x) (says act a)
 says-account (Carries n) x a is may = record {
   remote = is.remote;
   confirmed = is.confirmed;
@@ -217,8 +217,8 @@ asks-few x e = by_case (nat_lt (unanswered Down x) 1024) refl e
     by_case true h e = grind (arith, nat_tests)
     by_case false h e = cc
 
-pub hears-account : (act : Act) (x : Channel) (a : Acct) → IsAccount x a → is_confirms act ≡ false → breach Down act x ≡ None → IsAccount (with_act Down act x) (hears act a)
-hears-account (Carries n) x a is plain fine = record {
+pub receives-account : (act : Act) (x : Channel) (a : Acct) → IsAccount x a → is_confirms act ≡ false → breach Down act x ≡ None → IsAccount (with_act Down act x) (receives act a)
+receives-account (Carries n) x a is plain fine = record {
   remote = is.remote;
   confirmed = is.confirmed;
   room_is = (rooms-go-on Down n x).leaves ∙ is.room_is;
@@ -234,7 +234,7 @@ hears-account (Carries n) x a is plain fine = record {
   came = let c = is.came in omega (arith, c);
   accounted = accounted-act Down (Carries n) x (may-of Down (Carries n) x fine) is.accounted;
 }
-hears-account (Grants n) x a is plain fine = record {
+receives-account (Grants n) x a is plain fine = record {
   remote = is.remote;
   confirmed = is.confirmed;
   room_is = (rooms-go-on Down n x).grants (is.accounted Up).within ∙ ap (λ (r : ℕ). r + n) is.room_is;
@@ -250,7 +250,7 @@ hears-account (Grants n) x a is plain fine = record {
   came = let c = is.came in omega (arith, c);
   accounted = accounted-act Down (Grants n) x tt is.accounted;
 }
-hears-account Ends x a is plain fine = record {
+receives-account Ends x a is plain fine = record {
   remote = is.remote;
   confirmed = is.confirmed;
   room_is = room-plain Down Ends x (record { grants = refl; carries = refl; opens = refl; packs = refl }) ∙ is.room_is;
@@ -266,7 +266,7 @@ hears-account Ends x a is plain fine = record {
   came = let c = is.came in omega (arith, c);
   accounted = accounted-act Down Ends x tt is.accounted;
 }
-hears-account Closes x a is plain fine = record {
+receives-account Closes x a is plain fine = record {
   remote = is.remote;
   confirmed = is.confirmed;
   room_is = room-plain Down Closes x (record { grants = refl; carries = refl; opens = refl; packs = refl }) ∙ is.room_is;
@@ -282,7 +282,7 @@ hears-account Closes x a is plain fine = record {
   came = let c = is.came in omega (arith, c);
   accounted = accounted-act Down Closes x tt is.accounted;
 }
-hears-account (Asks true) x a is plain fine = record {
+receives-account (Asks true) x a is plain fine = record {
   remote = is.remote;
   confirmed = is.confirmed;
   room_is = room-plain Down (Asks true) x (record { grants = refl; carries = refl; opens = refl; packs = refl }) ∙ is.room_is;
@@ -291,14 +291,14 @@ hears-account (Asks true) x a is plain fine = record {
   eof = is.eof;
   closed = is.closed;
   heard = is.heard;
-  asks = λ h. let e = is.asks h in let f : more_asks true a.close_said a.failures ≡ a.failures + 1 = rw h refl in let some = (is.accounted Down).answered in omega (arith, e, f, some);
-  few = λ h. let e = is.asks h in let f : more_asks true a.close_said a.failures ≡ a.failures + 1 = rw h refl in let le = asks-few x (legal-of (Asks true) x fine).within in omega (arith, e, f, le);
+  asks = λ h. let e = is.asks h in let f : more_asks true a.close_sent a.failures ≡ a.failures + 1 = rw h refl in let some = (is.accounted Down).answered in omega (arith, e, f, some);
+  few = λ h. let e = is.asks h in let f : more_asks true a.close_sent a.failures ≡ a.failures + 1 = rw h refl in let le = asks-few x (legal-of (Asks true) x fine).within in omega (arith, e, f, le);
   window = window-same Down (Asks true) x refl ∙ is.window;
   given = is.given;
   came = let c = is.came in omega (arith, c);
   accounted = accounted-act Down (Asks true) x tt is.accounted;
 }
-hears-account (Asks false) x a is plain fine = record {
+receives-account (Asks false) x a is plain fine = record {
   remote = is.remote;
   confirmed = is.confirmed;
   room_is = room-plain Down (Asks false) x (record { grants = refl; carries = refl; opens = refl; packs = refl }) ∙ is.room_is;
@@ -314,7 +314,7 @@ hears-account (Asks false) x a is plain fine = record {
   came = let c = is.came in omega (arith, c);
   accounted = accounted-act Down (Asks false) x tt is.accounted;
 }
-hears-account Answers x a is plain fine = record {
+receives-account Answers x a is plain fine = record {
   remote = is.remote;
   confirmed = is.confirmed;
   room_is = room-plain Down Answers x (record { grants = refl; carries = refl; opens = refl; packs = refl }) ∙ is.room_is;
@@ -330,7 +330,7 @@ hears-account Answers x a is plain fine = record {
   came = let c = is.came in omega (arith, c);
   accounted = accounted-act Down Answers x (may-of Down Answers x fine) is.accounted;
 }
-hears-account Fails x a is plain fine = record {
+receives-account Fails x a is plain fine = record {
   remote = is.remote;
   confirmed = is.confirmed;
   room_is = room-plain Down Fails x (record { grants = refl; carries = refl; opens = refl; packs = refl }) ∙ is.room_is;
@@ -346,4 +346,4 @@ hears-account Fails x a is plain fine = record {
   came = let c = is.came in omega (arith, c);
   accounted = accounted-act Down Fails x tt is.accounted;
 }
-hears-account (Confirms w m) x a is plain fine = absurd (let bad : true ≡ false = plain in cc)
+receives-account (Confirms w m) x a is plain fine = absurd (let bad : true ≡ false = plain in cc)

@@ -8,12 +8,12 @@ use Rattle.mux_outside.specs.declared.mark.Mark.{Mark}
 use Rattle.ssh_fields.specs.Fields.{of_four}
 use Rattle.ssh_grammar.specs.Frames.{Faulty, Frame, Front, More, cut_content, cut_length, cut_padding, first_frame, frame_payload}
 use Rattle.ssh_grammar.specs.Messages.{Global}
-use Rattle.ssh_grammar.specs.Said.{InProxy, Saying, parse, parse_by, parse_front}
+use Rattle.ssh_grammar.specs.Said.{InProxy, Outgoing, parse, parse_by, parse_front}
 use Rattle.ssh_grammar.specs.SpellMessage.{request_failure}
 use Rattle.ssh_grammar.specs.declared.fault.BadFrame.TheVariants as bad_frame
 use Rattle.ssh_grammar.specs.declared.framing.Framing.TheVariants as framing
-use Rattle.mux_history.specs.Gist.{reading}
-use Rattle.mux_history.specs.Journal.{IsLawful, heard_item, items_in, log_of_journal, new_heard}
+use Rattle.mux_history.specs.Summary.{reading}
+use Rattle.mux_history.specs.Journal.{IsLawful, received_item, items_in, log_of_journal, new_received}
 use Rattle.mux_history.specs.Kept.{AtEach}
 use Rattle.mux_history.specs.Log.{Setting, bare, makes_next, more_all, more_of, new_answers, next_row}
 use Rattle.mux_history.specs.Policy.{Policy}
@@ -182,25 +182,25 @@ first-sized (w ∷ x ∷ []) = tt
 first-sized (w ∷ x ∷ y ∷ []) = tt
 first-sized (w ∷ x ∷ y ∷ z ∷ rest) = length-sized (of_four w x y z) rest
 
-abbrev SizedSaying : Saying → Type 0
-SizedSaying s = IsSizedItem (heard_item s)
+abbrev SizedSending : Outgoing → Type 0
+SizedSending s = IsSizedItem (received_item s)
 
-parse-sized : (n : ℕ) (bytes : List ℕ) → Each SizedSaying (parse_by n InProxy bytes).says
+parse-sized : (n : ℕ) (bytes : List ℕ) → Each SizedSending (parse_by n InProxy bytes).says
 parse-sized zero bytes = tt
 parse-sized (suc n) bytes = by_front (first_frame framing.Proxy bytes) (first-sized bytes) (λ rest. parse-sized n rest)
   where
-    by_front : (f : Front) → SizedFront f → ((rest : List ℕ) → Each SizedSaying (parse_by n InProxy rest).says) → Each SizedSaying (parse_front (parse_by n) InProxy bytes f).says
+    by_front : (f : Front) → SizedFront f → ((rest : List ℕ) → Each SizedSending (parse_by n InProxy rest).says) → Each SizedSending (parse_front (parse_by n) InProxy bytes f).says
     by_front (Frame content rest) sized ih = (sized, ih rest)
     by_front More sized ih = tt
     by_front (Faulty fault) sized ih = (tt, tt)
 
-heard-each : (n : ℕ) (ss : List Saying) → Each SizedSaying ss → Each IsSizedItem (map heard_item (drop n ss))
+heard-each : (n : ℕ) (ss : List Outgoing) → Each SizedSending ss → Each IsSizedItem (map received_item (drop n ss))
 heard-each zero [] all = tt
 heard-each zero (s ∷ ss) all = (all.0, heard-each zero ss all.1)
 heard-each (suc n) [] all = tt
 heard-each (suc n) (s ∷ ss) all = heard-each n ss all.1
 
-pub heard-sized : (before bytes : List ℕ) → Each IsSizedItem (new_heard before (before ++ bytes))
+pub heard-sized : (before bytes : List ℕ) → Each IsSizedItem (new_received before (before ++ bytes))
 heard-sized before bytes = heard-each (length (parse InProxy before).says) (parse InProxy (before ++ bytes)).says (parse-sized (length (before ++ bytes)) (before ++ bytes))
 
 -- ---- no reply is left over, in a journal

@@ -17,33 +17,33 @@ use Rattle.conn_messages.specs.declared.key.Key.TheVariants as keys
 use Rattle.socks_dialog.specs.State.{State}
 use Rattle.socks_dialog.specs.declared.outcome.Outcome.{Outcome}
 use Rattle.socks_dialog.specs.declared.outcome.Outcome.TheVariants.{Wants, Connects, Breaks}
-use Rattle.mux_outside.specs.HouseCalls.{HouseCall, Happening, Begins, Marks, Hears, Turns, Takes as TakesBytes}
+use Rattle.mux_outside.specs.HouseCalls.{HouseCall, Happening, Begins, Marks, Receives, Turns, Takes as TakesBytes}
 use Rattle.mux_outside.specs.HouseCalls.{Joined, Got, End, Writable, Failed}
 use Rattle.mux_outside.specs.declared.house_mark.HouseMark.{HouseMark}
 use Rattle.mux_outside.specs.declared.house_mark.HouseMark.TheVariants.{HouseIn, HouseSaid, HouseTook, HouseAsked, HouseAnswer, HouseOrder}
 use Rattle.mux_outside.specs.declared.order.Order.{Order}
 use Rattle.mux_outside.specs.declared.order.Order.TheVariants as order
 use Rattle.mux_history.specs.Channels.{Channel, is_number}
-use Rattle.mux_history.specs.Gist as gist
-use Rattle.house_relay.specs.Acts.{Act, Confirms, Delivers, HearsClose, HearsEof, Other, Reads, Refuses, Takes, adjusted, delivered, outcome_in}
+use Rattle.mux_history.specs.Summary as summary
+use Rattle.house_relay.specs.Acts.{Act, Confirms, Delivers, ReceivesClose, ReceivesEof, Other, Reads, Refuses, Takes, adjusted, delivered, outcome_in}
 use Rattle.house_relay.specs.Dialing.{IsReading}
-use Rattle.house_relay.specs.Line.{counts, hears_close, hears_eof, hears_request, hears_room, in_live, over_if, takes_in}
-use Rattle.house_relay.specs.Relay.{answered_in, delivers, delivers_in, heard_in}
-use Rattle.house_relay.specs.Steps.{ComesOf, DialsIn, IsAskedFor, IsToDial, confirmed_in, data_heard, is_closed, is_gone, refused_in}
+use Rattle.house_relay.specs.ChannelState.{counts, receives_close, receives_eof, receives_request, receives_room, in_live, over_if, takes_in}
+use Rattle.house_relay.specs.Relay.{answered_in, delivers, delivers_in, received_in}
+use Rattle.house_relay.specs.Steps.{ComesOf, DialsIn, IsAskedFor, IsToDial, confirmed_in, data_received, is_closed, is_gone, refused_in}
 use Rattle.house_relay.specs.declared.line.Live.{Live as LiveState}
-use Rattle.house_relay.specs.declared.line.Line.{Line}
-use Rattle.house_relay.specs.declared.line.Line.TheVariants.{Asked, Dialing, Live, Offered, Opened, Over}
+use Rattle.house_relay.specs.declared.line.ChannelState.{ChannelState}
+use Rattle.house_relay.specs.declared.line.ChannelState.TheVariants.{Asked, Dialing, Live, Offered, Opened, Over}
 use Rattle.house_relay.specs.declared.relay.Relay.{Relay}
 use Rattle.house_relay.specs.declared.relay.Socket.{Socket}
 use Rattle.house_forward.specs.Forwardings.{has_listener, served_at}
 use Rattle.house_forward.specs.Going.{GetsOn, TakesOn}
-use Rattle.house_forward.specs.Heard.{act_heard, heard_of}
+use Rattle.house_forward.specs.Heard.{act_received, received_of}
 use Rattle.house_forward.specs.Links.{IsJoined, IsJoinedAt, IsDialed}
-use Rattle.house_forward.specs.Lives.{Course, Follows, GoesBy, HearsAt, HearsMessage, HearsOpen, HearsReading, JoinsOne, Life, MakesOne, MarksIn, OffersOne, One, OneAtMost, OpensFor, OrdersIn, StepsBy, TurnsTo, are_crowded, are_full, has_channel, has_stream, kept_in, made_life, stepped, with_lives}
+use Rattle.house_forward.specs.RelayTraces.{Trace, Follows, GoesBy, ReceivesAt, ReceivesMessage, ReceivesOpen, ReceivesReading, JoinsOne, Life, MakesOne, MarksIn, OffersOne, One, OneAtMost, OpensFor, OrdersIn, StepsBy, TurnsTo, are_dialogs_full, are_full, has_channel, has_stream, kept_in, made_life, stepped, with_relay_traces}
 use Rattle.house_forward.specs.Numbers.{channels_of}
 use Rattle.house_forward.specs.declared.forwarding.Forwarding.{Forwarding}
-use Rattle.house_forward.specs.declared.link.Step.{Step}
-use Rattle.house_forward.specs.declared.link.Step.TheVariants as step
+use Rattle.house_forward.specs.declared.link.LinkStep.{LinkStep}
+use Rattle.house_forward.specs.declared.link.LinkStep.TheVariants as step
 use Rattle.house_forward.specs.declared.rules.Kind.{Kind}
 use Rattle.house_forward.specs.declared.rules.Kind.TheVariants.{Dynamic, Local, Remote}
 use Rattle.house_forward.proofs.Keeping.{is-reading}
@@ -53,8 +53,8 @@ use Rattle.house_history.proofs.Lists.{Each, each-append, each-front, each-behin
 use Rattle.house_history.proofs.Views.{Acct, IsLive, IsOffered, IsOpened, NoChannel, View, more_asks}
 use Rattle.house_history.proofs.Fitting.{Entry}
 use Rattle.house_history.proofs.Shifts.{AreFree, has}
-use Rattle.house_history.proofs.Notes.{Accepts, Bound, BoundView, Does, Later, Next, Note, Nothing, Offers, Same, Swap, Swapped, Then, append-three, at-number, fresh-acct, if-has, later-named, later-swapped, later-with, later-without, note-of, opened-hears, swapped-front, swapped-more, to-end, unless-over, view-accepts, view-hears}
-use Rattle.house_history.proofs.Hearing.{HearsAll}
+use Rattle.house_history.proofs.Notes.{Accepts, Bound, BoundView, Does, Later, Next, Note, Nothing, Offers, Same, Swap, Swapped, Then, append-three, at-number, fresh-acct, if-has, later-named, later-swapped, later-with, later-without, note-of, opened-receives, swapped-front, swapped-more, to-end, unless-over, view-accepts, view-receives}
+use Rattle.house_history.proofs.Receiving.{ReceivesAll}
 use Rattle.house_history.proofs.Seen.{AreViews, IsView, LiveIs, Seen, Unnumbered, Untouched, ViewOf, note-in}
 
 -- ---- lists of relays and of how they are seen
@@ -91,9 +91,9 @@ came-live live acts acts' a n given came i = record {
   remote = i.remote;
   room = i.room;
   maximum = i.maximum;
-  eof_said = i.eof_said;
-  close_said = i.close_said;
-  close_heard = i.close_heard;
+  eof_sent = i.eof_sent;
+  close_sent = i.close_sent;
+  close_received = i.close_received;
   failures = i.failures;
   given = given ∙ i.given;
   came = came;
@@ -102,7 +102,7 @@ came-live live acts acts' a n given came i = record {
 acts-live : (live : LiveState) (acts acts' : List Act) (a : Acct) → adjusted acts' ≡ adjusted acts → delivered acts' ≡ delivered acts → LiveIs live acts a → LiveIs live acts' a
 acts-live live acts acts' a given came i = came-live live acts acts' a a.came given (subst (λ (d : List ℕ). length d ≤ a.came) (sym came) i.came) i
 
-acts-view : (line : Line) (acts acts' : List Act) (v : View) → adjusted acts' ≡ adjusted acts → delivered acts' ≡ delivered acts → ViewOf line acts v → ViewOf line acts' v
+acts-view : (line : ChannelState) (acts acts' : List Act) (v : View) → adjusted acts' ≡ adjusted acts → delivered acts' ≡ delivered acts → ViewOf line acts v → ViewOf line acts' v
 acts-view (Dialing dialog) acts acts' v given came i = (i.0, (given ∙ i.1.0, came ∙ i.1.1))
 acts-view (Asked host port version) acts acts' v given came i = (i.0, (given ∙ i.1.0, came ∙ i.1.1))
 acts-view (Opened version) acts acts' v given came i = (i.0, (given ∙ i.1.0, came ∙ i.1.1))
@@ -115,21 +115,21 @@ live-if true x y acts v i j = i
 live-if false x y acts v i j = j
 
 -- the socket took some
-takes-view : (n : ℕ) (line : Line) (acts : List Act) (v : View) → ViewOf line acts v → ViewOf (takes_in n line) acts v
+takes-view : (n : ℕ) (line : ChannelState) (acts : List Act) (v : View) → ViewOf line acts v → ViewOf (takes_in n line) acts v
 takes-view n (Dialing dialog) acts v i = i
 takes-view n (Asked host port version) acts v i = i
 takes-view n (Opened version) acts v i = i
 takes-view n (Offered remote window maximum) acts v i = i
-takes-view n (Live live) acts v i = live-if live.close_said live _ acts v i (
+takes-view n (Live live) acts v i = live-if live.close_sent live _ acts v i (
   i.0,
   i.1,
   record {
     remote = i.2.remote;
     room = i.2.room;
     maximum = i.2.maximum;
-    eof_said = i.2.eof_said;
-    close_said = i.2.close_said;
-    close_heard = i.2.close_heard;
+    eof_sent = i.2.eof_sent;
+    close_sent = i.2.close_sent;
+    close_received = i.2.close_received;
     failures = i.2.failures;
     given = i.2.given;
     came = i.2.came;
@@ -138,7 +138,7 @@ takes-view n (Live live) acts v i = live-if live.close_said live _ acts v i (
 takes-view n Over acts v i = i
 
 -- a dialog was read
-to-dial : (line : Line) (acts : List Act) (v : View) → IsToDial line → v ≡ NoChannel → Untouched acts → ViewOf line acts v
+to-dial : (line : ChannelState) (acts : List Act) (v : View) → IsToDial line → v ≡ NoChannel → Untouched acts → ViewOf line acts v
 to-dial (Dialing dialog) acts v h e u = (e, u)
 to-dial (Asked host port version) acts v h e u = absurd h
 to-dial (Opened version) acts v h e u = absurd h
@@ -146,7 +146,7 @@ to-dial (Offered remote window maximum) acts v h e u = absurd h
 to-dial (Live live) acts v h e u = absurd h
 to-dial Over acts v h e u = absurd h
 
-to-ask : (host : List ℕ) (port : ℕ) (line : Line) (acts : List Act) (v : View) → IsAskedFor host port line → v ≡ NoChannel → Untouched acts → ViewOf line acts v
+to-ask : (host : List ℕ) (port : ℕ) (line : ChannelState) (acts : List Act) (v : View) → IsAskedFor host port line → v ≡ NoChannel → Untouched acts → ViewOf line acts v
 to-ask host port (Dialing dialog) acts v h e u = absurd h
 to-ask host port (Asked host' port' version) acts v h e u = (e, u)
 to-ask host port (Opened version) acts v h e u = absurd h
@@ -154,8 +154,8 @@ to-ask host port (Offered remote window maximum) acts v h e u = absurd h
 to-ask host port (Live live) acts v h e u = absurd h
 to-ask host port Over acts v h e u = absurd h
 
-over-view : (line : Line) (acts : List Act) (v : View) → line ≡ Over → v ≡ NoChannel → ViewOf line acts v
-over-view line acts v is e = subst (λ (l : Line). ViewOf l acts v) (sym is) e
+over-view : (line : ChannelState) (acts : List Act) (v : View) → line ≡ Over → v ≡ NoChannel → ViewOf line acts v
+over-view line acts v is e = subst (λ (l : ChannelState). ViewOf l acts v) (sym is) e
 
 comes-view : (o : Outcome) (free : Bool) (old new : Relay) (acts : List Act) (v : View) → ComesOf o free old new → v ≡ NoChannel → Untouched acts → ViewOf new.line acts v
 comes-view Wants free old new acts v h e u = to-dial new.line acts v h.0 e u
@@ -163,15 +163,15 @@ comes-view (Connects host port) true old new acts v h e u = to-ask host port new
 comes-view (Connects host port) false old new acts v h e u = over-view new.line acts v h.0 e
 comes-view (Breaks reply) free old new acts v h e u = over-view new.line acts v h.0 e
 
-dials-view : (line : Line) (free : Bool) (bytes : List ℕ) (old new : Relay) (acts : List Act) (v : View)
+dials-view : (line : ChannelState) (free : Bool) (bytes : List ℕ) (old new : Relay) (acts : List Act) (v : View)
     → ((dialog : State) → line ≡ Dialing dialog → IsReading dialog) → old.line ≡ line → DialsIn line free bytes old new → ViewOf line acts v → ViewOf new.line acts v
 dials-view (Dialing dialog) free bytes old new acts v reads e h i =
     comes-view (outcome_in (dialog.bytes ++ bytes)) free old new acts v (h (reads dialog refl)) i.0 i.1
-dials-view (Asked host port version) free bytes old new acts v reads e h i = subst (λ (l : Line). ViewOf l acts v) (sym (h.0 ∙ e)) i
-dials-view (Opened version) free bytes old new acts v reads e h i = subst (λ (l : Line). ViewOf l acts v) (sym (h.0 ∙ e)) i
-dials-view (Offered remote window maximum) free bytes old new acts v reads e h i = subst (λ (l : Line). ViewOf l acts v) (sym (h.0 ∙ e)) i
-dials-view (Live live) free bytes old new acts v reads e h i = subst (λ (l : Line). ViewOf l acts v) (sym (h.0 ∙ e)) i
-dials-view Over free bytes old new acts v reads e h i = subst (λ (l : Line). ViewOf l acts v) (sym (h.0 ∙ e)) i
+dials-view (Asked host port version) free bytes old new acts v reads e h i = subst (λ (l : ChannelState). ViewOf l acts v) (sym (h.0 ∙ e)) i
+dials-view (Opened version) free bytes old new acts v reads e h i = subst (λ (l : ChannelState). ViewOf l acts v) (sym (h.0 ∙ e)) i
+dials-view (Offered remote window maximum) free bytes old new acts v reads e h i = subst (λ (l : ChannelState). ViewOf l acts v) (sym (h.0 ∙ e)) i
+dials-view (Live live) free bytes old new acts v reads e h i = subst (λ (l : ChannelState). ViewOf l acts v) (sym (h.0 ∙ e)) i
+dials-view Over free bytes old new acts v reads e h i = subst (λ (l : ChannelState). ViewOf l acts v) (sym (h.0 ∙ e)) i
 
 gets-view : (free : Bool) (bytes : List ℕ) (a b : Life) (e : Entry) → Sound a → GoesBy (GetsOn free bytes) (Reads bytes) a b → IsView a e → IsView b e
 gets-view free bytes a b e s h i = record {
@@ -189,7 +189,7 @@ took-view n a b e s h i = record {
       (subst (λ (r : Relay). ViewOf r.line a.acts e.1) (sym h.relay.0) (takes-view n a.relay.line a.acts e.1 i.view)));
 }
 
-step-view : (s : Step) (l : Life) (e : Entry) → IsView l e → IsView (step_of s l) e
+step-view : (s : LinkStep) (l : Life) (e : Entry) → IsView l e → IsView (step_of s l) e
 step-view (step.Pause b) l e i = record { number = i.number; view = acts-view l.relay.line l.acts _ e.1 refl refl i.view }
 step-view step.Finish l e i = record { number = i.number; view = acts-view l.relay.line l.acts _ e.1 refl refl i.view }
 step-view step.End l e i = record { number = i.number; view = acts-view l.relay.line l.acts _ e.1 refl refl i.view }
@@ -197,11 +197,11 @@ step-view step.Close l e i = record { number = i.number; view = acts-view l.rela
 step-view step.Writable l e i = record { number = i.number; view = acts-view l.relay.line l.acts _ e.1 refl refl i.view }
 step-view step.Failed l e i = record { number = i.number; view = acts-view l.relay.line l.acts _ e.1 refl refl i.view }
 
-stepped-view : (s : Step) (b : Bool) (l : Life) (e : Entry) → IsView l e → IsView (if b then step_of s l else l) e
+stepped-view : (s : LinkStep) (b : Bool) (l : Life) (e : Entry) → IsView l e → IsView (if b then step_of s l else l) e
 stepped-view s true l e i = step-view s l e i
 stepped-view s false l e i = i
 
-stepped-views : (s : Step) (t : ℕ) (ls : List Life) (es : List Entry) → AreViews ls es → AreViews (map (stepped s t) ls) es
+stepped-views : (s : LinkStep) (t : ℕ) (ls : List Life) (es : List Entry) → AreViews ls es → AreViews (map (stepped s t) ls) es
 stepped-views s t [] [] a = tt
 stepped-views s t [] (e ∷ es) a = absurd a
 stepped-views s t (l ∷ ls) [] a = absurd a
@@ -227,12 +227,12 @@ views-most : (which : Life → Bool) (so : Life → Life → Type 0) (old new : 
 views-most which so old new keeps (inl h) all es a = views-one which so old new keeps h all es a
 views-most which so old new keeps (inr h) all es a = subst (λ (ls : List Life). AreViews ls es) (sym h.1) a
 
-seen-lives : (hs : List Channel) (notes : List Note) (old new : List Life) → ((es : List Entry) → AreViews old es → AreViews new es) → Seen hs old notes → Seen hs new notes
-seen-lives hs notes old new views s = record { entries = s.entries; orphans = s.orphans; views = views s.entries s.views; unnumbered = s.unnumbered; later = s.later }
+seen-relay_traces : (hs : List Channel) (notes : List Note) (old new : List Life) → ((es : List Entry) → AreViews old es → AreViews new es) → Seen hs old notes → Seen hs new notes
+seen-relay_traces hs notes old new views s = record { entries = s.entries; orphans = s.orphans; views = views s.entries s.views; unnumbered = s.unnumbered; later = s.later }
 
 -- ---- one of which nothing is left is forgotten
 
-no-count : (line : Line) (acts : List Act) (v : View) → not (counts line) ≡ true → ViewOf line acts v → v ≡ NoChannel
+no-count : (line : ChannelState) (acts : List Act) (v : View) → not (counts line) ≡ true → ViewOf line acts v → v ≡ NoChannel
 no-count (Dialing dialog) acts v h i = i.0
 no-count (Asked host port version) acts v h i = absurd (let bad : false ≡ true = h in cc)
 no-count (Opened version) acts v h i = absurd (let bad : false ≡ true = h in cc)
@@ -243,18 +243,18 @@ no-count Over acts v h i = i
 gone-view : (l : Life) (e : Entry) → is_gone l.relay ≡ true → IsView l e → e.1 ≡ NoChannel
 gone-view l e h i = no-count l.relay.line l.acts e.1 (and_parts (is_closed l.relay.socket) (not (counts l.relay.line)) h).1 i.view
 
-record Swept (lives : List Life) (es : List Entry) : Type 0 where
+record Swept (relay_traces : List Life) (es : List Entry) : Type 0 where
   front : List Entry
   number : Option ℕ
   back : List Entry
   are : es ≡ front ++ (number, NoChannel) ∷ back
-  views : AreViews lives (front ++ back)
+  views : AreViews relay_traces (front ++ back)
 
-swept-more : (l : Life) (e : Entry) (lives : List Life) (es : List Entry) → IsView l e → (AreViews lives es ⊎ Swept lives es) → AreViews (l ∷ lives) (e ∷ es) ⊎ Swept (l ∷ lives) (e ∷ es)
-swept-more l e lives es i (inl a) = inl (i, a)
-swept-more l e lives es i (inr s) = inr (record { front = e ∷ s.front; number = s.number; back = s.back; are = ap (λ (x : List Entry). e ∷ x) s.are; views = (i, s.views) })
+swept-more : (l : Life) (e : Entry) (relay_traces : List Life) (es : List Entry) → IsView l e → (AreViews relay_traces es ⊎ Swept relay_traces es) → AreViews (l ∷ relay_traces) (e ∷ es) ⊎ Swept (l ∷ relay_traces) (e ∷ es)
+swept-more l e relay_traces es i (inl a) = inl (i, a)
+swept-more l e relay_traces es i (inr s) = inr (record { front = e ∷ s.front; number = s.number; back = s.back; are = ap (λ (x : List Entry). e ∷ x) s.are; views = (i, s.views) })
 
-kept-views : (lives : List Life) (es : List Entry) → AreViews lives es → AreViews (kept_in lives) es ⊎ Swept (kept_in lives) es
+kept-views : (relay_traces : List Life) (es : List Entry) → AreViews relay_traces es → AreViews (kept_in relay_traces) es ⊎ Swept (kept_in relay_traces) es
 kept-views [] [] a = inl tt
 kept-views [] (e ∷ es) a = absurd a
 kept-views (l ∷ ls) [] a = absurd a
@@ -265,10 +265,10 @@ kept-views (l ∷ ls) (e ∷ es) a = by_gone (is_gone l.relay) refl (kept-views 
     by_gone true h k = inr (record { front = []; number = e.0; back = es; are = ap (λ (v : View). (e.0, v) ∷ es) (gone-view l e h a.0); views = a.1 })
     by_gone false h k = swept-more l e (kept_in ls) es a.0 k
 
-seen-kept : (hs : List Channel) (notes : List Note) (lives : List Life) → Seen hs lives notes → Seen hs (kept_in lives) notes
-seen-kept hs notes lives s = by_swept (kept-views lives s.entries s.views)
+seen-kept : (hs : List Channel) (notes : List Note) (relay_traces : List Life) → Seen hs relay_traces notes → Seen hs (kept_in relay_traces) notes
+seen-kept hs notes relay_traces s = by_swept (kept-views relay_traces s.entries s.views)
   where
-    by_swept : (AreViews (kept_in lives) s.entries ⊎ Swept (kept_in lives) s.entries) → Seen hs (kept_in lives) notes
+    by_swept : (AreViews (kept_in relay_traces) s.entries ⊎ Swept (kept_in relay_traces) s.entries) → Seen hs (kept_in relay_traces) notes
     by_swept (inl a) = record { entries = s.entries; orphans = s.orphans; views = a; unnumbered = s.unnumbered; later = s.later }
     by_swept (inr w) = record {
       entries = w.front ++ w.back;
@@ -280,12 +280,12 @@ seen-kept hs notes lives s = by_swept (kept-views lives s.entries s.views)
           (subst (λ (vs : List Entry). Later hs vs notes) (ap (λ (l : List Entry). l ++ s.orphans) w.are ∙ append-three w.front ((w.number, NoChannel) ∷ w.back) s.orphans) s.later));
     }
 
-seen-left : (hs : List Channel) (notes : List Note) (old new : Course) (lives : List Life) → new ≡ with_lives lives old → Seen hs lives notes → Seen hs new.lives notes
-seen-left hs notes old new lives e s = subst (λ (c : Course). Seen hs c.lives notes) (sym e) (seen-kept hs notes lives s)
+seen-left : (hs : List Channel) (notes : List Note) (old new : Trace) (relay_traces : List Life) → new ≡ with_relay_traces relay_traces old → Seen hs relay_traces notes → Seen hs new.relay_traces notes
+seen-left hs notes old new relay_traces e s = subst (λ (c : Trace). Seen hs c.relay_traces notes) (sym e) (seen-kept hs notes relay_traces s)
 
 -- ---- one more is joined
 
-free-views : (n : ℕ) (lives : List Life) (es : List Entry) → AreViews lives es → list_any (has_channel n) lives ≡ false → AreFree n es
+free-views : (n : ℕ) (relay_traces : List Life) (es : List Entry) → AreViews relay_traces es → list_any (has_channel n) relay_traces ≡ false → AreFree n es
 free-views n [] [] a h = tt
 free-views n [] (e ∷ es) a h = absurd a
 free-views n (l ∷ ls) [] a h = absurd a
@@ -297,22 +297,22 @@ free-orphans : (n : ℕ) (es : List Entry) → Each Unnumbered es → AreFree n 
 free-orphans n es u = each-of Unnumbered (λ (e : Entry). has n e.0 ≡ false) (λ e h. ap (λ (o : Option ℕ). has n o) h) es u
 
 -- a channel of one that is joined is not opened yet
-none-view : (line : Line) → (r : Relay) → r.line ≡ line → ViewOf line [] NoChannel → ViewOf r.line [] NoChannel
-none-view line r e i = subst (λ (l : Line). ViewOf l [] NoChannel) (sym e) i
+none-view : (line : ChannelState) → (r : Relay) → r.line ≡ line → ViewOf line [] NoChannel → ViewOf r.line [] NoChannel
+none-view line r e i = subst (λ (l : ChannelState). ViewOf l [] NoChannel) (sym e) i
 
-dialed-view : (crowded : Bool) (t : ℕ) (r : Relay) → IsDialed crowded t r → ViewOf r.line [] NoChannel
+dialed-view : (dialogs_full : Bool) (t : ℕ) (r : Relay) → IsDialed dialogs_full t r → ViewOf r.line [] NoChannel
 dialed-view true t r h = none-view _ r (ap (λ (x : Relay). x.line) h) refl
 dialed-view false t r h = none-view _ r (ap (λ (x : Relay). x.line) h) (refl, (refl, refl))
 
-joined-at-view : (kind : Kind) (crowded : Bool) (f : Forwarding) (t : ℕ) (r : Relay) → IsJoinedAt kind crowded f t r → ViewOf r.line [] NoChannel
-joined-at-view Local crowded f t r h = none-view _ r (ap (λ (x : Relay). x.line) h) (refl, (refl, refl))
-joined-at-view Remote crowded f t r h = none-view _ r (ap (λ (x : Relay). x.line) h) (refl, (refl, refl))
-joined-at-view Dynamic crowded f t r h = dialed-view crowded t r h
+joined-at-view : (kind : Kind) (dialogs_full : Bool) (f : Forwarding) (t : ℕ) (r : Relay) → IsJoinedAt kind dialogs_full f t r → ViewOf r.line [] NoChannel
+joined-at-view Local dialogs_full f t r h = none-view _ r (ap (λ (x : Relay). x.line) h) (refl, (refl, refl))
+joined-at-view Remote dialogs_full f t r h = none-view _ r (ap (λ (x : Relay). x.line) h) (refl, (refl, refl))
+joined-at-view Dynamic dialogs_full f t r h = dialed-view dialogs_full t r h
 
-joined-view : (full crowded : Bool) (f : Option Forwarding) (t : ℕ) (r : Relay) → IsJoined full crowded f t r → ViewOf r.line [] NoChannel
-joined-view true crowded f t r h = none-view _ r (ap (λ (x : Relay). x.line) h) refl
-joined-view false crowded None t r h = none-view _ r (ap (λ (x : Relay). x.line) h) refl
-joined-view false crowded (Some f) t r h = joined-at-view f.kind crowded f t r h
+joined-view : (full dialogs_full : Bool) (f : Option Forwarding) (t : ℕ) (r : Relay) → IsJoined full dialogs_full f t r → ViewOf r.line [] NoChannel
+joined-view true dialogs_full f t r h = none-view _ r (ap (λ (x : Relay). x.line) h) refl
+joined-view false dialogs_full None t r h = none-view _ r (ap (λ (x : Relay). x.line) h) refl
+joined-view false dialogs_full (Some f) t r h = joined-at-view f.kind dialogs_full f t r h
 
 seen-joins : (hs : List Channel) (notes : List Note) (f : Option Forwarding) (t joins : ℕ) (old new : List Life) → JoinsOne f t joins old new → Seen hs old notes → Seen hs new notes
 seen-joins hs notes f t joins old new h s =
@@ -322,7 +322,7 @@ seen-joins hs notes f t joins old new h s =
       entries = s.entries ++ e ∷ [];
       orphans = s.orphans;
       views = views-append old (joined_life joins t h.relay ∷ []) s.entries (e ∷ []) s.views
-          (record { number = refl; view = joined-view (are_full old) (are_crowded old) f t h.relay h.joined }, tt);
+          (record { number = refl; view = joined-view (are_full old) (are_dialogs_full old) f t h.relay h.joined }, tt);
       unnumbered = s.unnumbered;
       later = subst (λ (vs : List Entry). Later hs vs notes) (sym (append-three s.entries (e ∷ []) s.orphans))
           (later-with hs n notes s.entries s.orphans (free-views n old s.entries s.views h.free) (free-orphans n s.orphans s.unnumbered) s.later);
@@ -330,7 +330,7 @@ seen-joins hs notes f t joins old new h s =
 
 -- ---- the socket of one is made
 
-seen-makes : (hs : List Channel) (notes : List Note) (host : List ℕ) (port : ℕ) (number : Option ℕ) (old new : Course) → MakesOne host port number old new → Seen hs old.lives notes → Seen hs new.lives notes
+seen-makes : (hs : List Channel) (notes : List Note) (host : List ℕ) (port : ℕ) (number : Option ℕ) (old new : Trace) → MakesOne host port number old new → Seen hs old.relay_traces notes → Seen hs new.relay_traces notes
 seen-makes hs notes host port number old new h s =
     let w = split h.before h.life h.behind s.entries (subst (λ (ls : List Life). AreViews ls s.entries) h.were s.views) in
     let e = w.entry in
@@ -339,7 +339,7 @@ seen-makes hs notes host port number old new h s =
     (swapped-more s.orphans (w.front ++ e ∷ w.back) ((w.front ++ w.back) ++ e ∷ [])
     (subst (λ (vs : List Entry). Swapped (w.front ++ e ∷ w.back) vs) (sym (append-three w.front w.back (e ∷ [])))
     (swapped-front w.front (e ∷ w.back) (w.back ++ e ∷ []) (to-end e w.back)))) in
-    subst (λ (c : Course). Seen hs c.lives notes) (sym h.are) (record {
+    subst (λ (c : Trace). Seen hs c.relay_traces notes) (sym h.are) (record {
       entries = (w.front ++ w.back) ++ e ∷ [];
       orphans = s.orphans;
       views = views-append (h.before ++ h.behind) (made_life number h.life ∷ []) (w.front ++ w.back) (e ∷ [])
@@ -350,17 +350,17 @@ seen-makes hs notes host port number old new h s =
 
 -- ---- by its calls
 
-seen-same : (hs : List Channel) (notes : List Note) (old new : Course) → new.lives ≡ old.lives → Seen hs old.lives notes → Seen hs new.lives notes
+seen-same : (hs : List Channel) (notes : List Note) (old new : Trace) → new.relay_traces ≡ old.relay_traces → Seen hs old.relay_traces notes → Seen hs new.relay_traces notes
 seen-same hs notes old new e s = subst (λ (ls : List Life). Seen hs ls notes) (sym e) s
 
-same-of : (old new c : Course) → new ≡ c → c.lives ≡ old.lives → new.lives ≡ old.lives
-same-of old new c e l = ap (λ (x : Course). x.lives) e ∙ l
+same-of : (old new c : Trace) → new ≡ c → c.relay_traces ≡ old.relay_traces → new.relay_traces ≡ old.relay_traces
+same-of old new c e l = ap (λ (x : Trace). x.relay_traces) e ∙ l
 
-seen-steps : (hs : List Channel) (notes : List Note) (o : Order) (s : Step) (t : ℕ) (old new : Course) → StepsBy o s t old new → Seen hs old.lives notes → Seen hs new.lives notes
+seen-steps : (hs : List Channel) (notes : List Note) (o : Order) (s : LinkStep) (t : ℕ) (old new : Trace) → StepsBy o s t old new → Seen hs old.relay_traces notes → Seen hs new.relay_traces notes
 seen-steps hs notes o s t old new h seen =
-    seen-left hs notes old new (map (stepped s t) old.lives) h.1 (seen-lives hs notes old.lives (map (stepped s t) old.lives) (stepped-views s t old.lives) seen)
+    seen-left hs notes old new (map (stepped s t) old.relay_traces) h.1 (seen-relay_traces hs notes old.relay_traces (map (stepped s t) old.relay_traces) (stepped-views s t old.relay_traces) seen)
 
-seen-orders : (hs : List Channel) (notes : List Note) (o : Order) (number : Option ℕ) (old new : Course) → OrdersIn o number old new → Seen hs old.lives notes → Seen hs new.lives notes
+seen-orders : (hs : List Channel) (notes : List Note) (o : Order) (number : Option ℕ) (old new : Trace) → OrdersIn o number old new → Seen hs old.relay_traces notes → Seen hs new.relay_traces notes
 seen-orders hs notes (order.Listen host port) number old new h s = seen-same hs notes old new (same-of old new _ h.2 refl) s
 seen-orders hs notes (order.Connect host port) number old new h s = seen-makes hs notes host port number old new h s
 seen-orders hs notes (order.Unlisten l) number old new h s = seen-same hs notes old new (same-of old new _ h.2 refl) s
@@ -381,11 +381,11 @@ IsCalmMark (HouseOrder o number) = Unit {0}
 abbrev pub IsCalm : HouseCall → Type 0
 IsCalm (Begins starts) = Unit {0}
 IsCalm (Marks mark) = IsCalmMark mark
-IsCalm (Hears bytes) = ⊥
+IsCalm (Receives bytes) = ⊥
 IsCalm (Turns happening) = Unit {0}
 IsCalm (TakesBytes t n) = Unit {0}
 
-calm-mark : (hs : List Channel) (notes : List Note) (mark : HouseMark) (old new : Course) → IsCalmMark mark → MarksIn mark old new → Seen hs old.lives notes → Seen hs new.lives notes
+calm-mark : (hs : List Channel) (notes : List Note) (mark : HouseMark) (old new : Trace) → IsCalmMark mark → MarksIn mark old new → Seen hs old.relay_traces notes → Seen hs new.relay_traces notes
 calm-mark hs notes HouseIn old new c h s = seen-same hs notes old new (same-of old new _ h refl) s
 calm-mark hs notes (HouseSaid bytes) old new c h s = absurd c
 calm-mark hs notes (HouseTook size) old new c h s = seen-same hs notes old new (same-of old new _ h refl) s
@@ -393,29 +393,29 @@ calm-mark hs notes (HouseAsked client id opening ask reply) old new c h s = seen
 calm-mark hs notes (HouseAnswer client id reply) old new c h s = seen-same hs notes old new (same-of old new _ h.2 refl) s
 calm-mark hs notes (HouseOrder o number) old new c h s = seen-orders hs notes o number old new h s
 
-calm-turn : (hs : List Channel) (notes : List Note) (happening : Happening) (old : Course) (new : List Life) → EachLife Sound old.lives
-    → TurnsTo happening old.joins old.desk.all old.lives new → Seen hs old.lives notes → Seen hs new notes
-calm-turn hs notes (Joined l t) old new all h s = seen-joins hs notes (find (has_listener l) old.desk.all) t old.joins old.lives new h s
+calm-turn : (hs : List Channel) (notes : List Note) (happening : Happening) (old : Trace) (new : List Life) → EachLife Sound old.relay_traces
+    → TurnsTo happening old.joins old.forwarding_state.all old.relay_traces new → Seen hs old.relay_traces notes → Seen hs new notes
+calm-turn hs notes (Joined l t) old new all h s = seen-joins hs notes (find (has_listener l) old.forwarding_state.all) t old.joins old.relay_traces new h s
 calm-turn hs notes (Got t bytes) old new all h s =
-    seen-lives hs notes old.lives new
-    (views-most (has_stream t) (GoesBy (GetsOn (not (are_full old.lives)) bytes) (Reads bytes)) old.lives new (gets-view (not (are_full old.lives)) bytes) h all) s
+    seen-relay_traces hs notes old.relay_traces new
+    (views-most (has_stream t) (GoesBy (GetsOn (not (are_full old.relay_traces)) bytes) (Reads bytes)) old.relay_traces new (gets-view (not (are_full old.relay_traces)) bytes) h all) s
 calm-turn hs notes (End t) old new all h s =
-    subst (λ (ls : List Life). Seen hs ls notes) (sym h) (seen-lives hs notes old.lives (map (stepped step.End t) old.lives) (stepped-views step.End t old.lives) s)
+    subst (λ (ls : List Life). Seen hs ls notes) (sym h) (seen-relay_traces hs notes old.relay_traces (map (stepped step.End t) old.relay_traces) (stepped-views step.End t old.relay_traces) s)
 calm-turn hs notes (Writable t) old new all h s =
-    subst (λ (ls : List Life). Seen hs ls notes) (sym h) (seen-lives hs notes old.lives (map (stepped step.Writable t) old.lives) (stepped-views step.Writable t old.lives) s)
+    subst (λ (ls : List Life). Seen hs ls notes) (sym h) (seen-relay_traces hs notes old.relay_traces (map (stepped step.Writable t) old.relay_traces) (stepped-views step.Writable t old.relay_traces) s)
 calm-turn hs notes (Failed t) old new all h s =
-    subst (λ (ls : List Life). Seen hs ls notes) (sym h) (seen-lives hs notes old.lives (map (stepped step.Failed t) old.lives) (stepped-views step.Failed t old.lives) s)
+    subst (λ (ls : List Life). Seen hs ls notes) (sym h) (seen-relay_traces hs notes old.relay_traces (map (stepped step.Failed t) old.relay_traces) (stepped-views step.Failed t old.relay_traces) s)
 
 -- where the relays are sound a call by which nothing is said or heard leaves what is seen of them
-pub calm : (hs : List Channel) (notes : List Note) (call : HouseCall) (old new : Course) → All Sound old → IsCalm call → Follows call old new → Seen hs old.lives notes → Seen hs new.lives notes
+pub calm : (hs : List Channel) (notes : List Note) (call : HouseCall) (old new : Trace) → All Sound old → IsCalm call → Follows call old new → Seen hs old.relay_traces notes → Seen hs new.relay_traces notes
 calm hs notes (Begins starts) old new all c h s = seen-same hs notes old new (same-of old new _ h.2 refl) s
 calm hs notes (Marks mark) old new all c h s = calm-mark hs notes mark old new c h s
-calm hs notes (Hears bytes) old new all c h s = absurd c
+calm hs notes (Receives bytes) old new all c h s = absurd c
 calm hs notes (Turns happening) old new all c h s =
-    subst (λ (x : Course). Seen hs x.lives notes) (sym h.2) (calm-turn hs notes happening old h.0 all.lives h.1 s)
+    subst (λ (x : Trace). Seen hs x.relay_traces notes) (sym h.2) (calm-turn hs notes happening old h.0 all.relay_traces h.1 s)
 calm hs notes (TakesBytes t n) old new all c h s =
-    subst (λ (x : Course). Seen hs x.lives notes) (sym h.2)
-    (seen-lives hs notes old.lives h.0 (views-most (has_stream t) (GoesBy (TakesOn n) (Takes n)) old.lives h.0 (took-view n) h.1 all.lives) s)
+    subst (λ (x : Trace). Seen hs x.relay_traces notes) (sym h.2)
+    (seen-relay_traces hs notes old.relay_traces h.0 (views-most (has_stream t) (GoesBy (TakesOn n) (Takes n)) old.relay_traces h.0 (took-view n) h.1 all.relay_traces) s)
 
 -- ---- no two have the same number
 
@@ -431,7 +431,7 @@ differs-all : (n : ℕ) (ls : List Life) → ((j d : ℕ) → j < length (channe
 differs-all n [] h = tt
 differs-all n (k ∷ ls) h = (ne_eqb k.relay.number n (λ e. h zero 0 (omega arith) (sym e)), differs-all n ls (λ j d lt. h (suc j) d (omega (arith, lt))))
 
-pub distinct-of : (lives : List Life) → AllPairs (λ (a b : ℕ). a ≢ b) (channels_of lives) → Distinct lives
+pub distinct-of : (relay_traces : List Life) → AllPairs (λ (a b : ℕ). a ≢ b) (channels_of relay_traces) → Distinct relay_traces
 distinct-of [] h = tt
 distinct-of (l ∷ ls) h = (
   differs-all l.relay.number ls (λ j d lt. h zero (suc j) d (omega arith) (omega (arith, lt))),
@@ -510,12 +510,12 @@ unnumbered-at n f [] u = tt
 unnumbered-at n f (e ∷ es) u = (u.0, unnumbered-at n f es u.1)
 
 -- what is seen of one that hears a message
-abbrev HearsAs : Message → (View → View) → (View → Type 0) → Type 0
-HearsAs m f Q = (r : Relay) (acts : List Act) (v : View) → Q v → ViewOf r.line acts v → ViewOf (heard_of m r).line (act_heard m r ∷ acts) (if-has true f v)
+abbrev ReceivesAs : Message → (View → View) → (View → Type 0) → Type 0
+ReceivesAs m f Q = (r : Relay) (acts : List Act) (v : View) → Q v → ViewOf r.line acts v → ViewOf (received_of m r).line (act_received m r ∷ acts) (if-has true f v)
 
-seen-at : (hs : List Channel) (notes : List Note) (n : ℕ) (m : Message) (f : View → View) (Q : View → Type 0) → HearsAs m f Q → (old new : Course) → Distinct old.lives → HearsAt n m old new
-    → (es os : List Entry) → AreViews old.lives es → Each Unnumbered os → Each (λ (e : Entry). is_number e.0 n ≡ true → Q e.1) (es ++ os) → Later hs (map (at-number n f) (es ++ os)) notes
-    → Seen hs new.lives notes × Distinct new.lives
+seen-at : (hs : List Channel) (notes : List Note) (n : ℕ) (m : Message) (f : View → View) (Q : View → Type 0) → ReceivesAs m f Q → (old new : Trace) → Distinct old.relay_traces → ReceivesAt n m old new
+    → (es os : List Entry) → AreViews old.relay_traces es → Each Unnumbered os → Each (λ (e : Entry). is_number e.0 n ≡ true → Q e.1) (es ++ os) → Later hs (map (at-number n f) (es ++ os)) notes
+    → Seen hs new.relay_traces notes × Distinct new.relay_traces
 seen-at hs notes n m f Q goes old new d (inl h) es os views unnumbered bound later =
     let one = h.1 in
     let g : Entry → Entry = at-number n f in
@@ -530,7 +530,7 @@ seen-at hs notes n m f Q goes old new d (inl h) es os views unnumbered bound lat
       number = w.is.number ∙ ap (λ (k : ℕ). Some k) (sym same);
       view = subst (λ (b : Bool). ViewOf one.next.relay.line one.next.acts (if-has b f e.1)) (sym is)
           (subst (λ (r : Relay). ViewOf r.line one.next.acts (if-has true f e.1)) (sym one.goes.relay.0)
-          (subst (λ (acts : List Act). ViewOf (heard_of m one.life.relay).line acts (if-has true f e.1)) (sym one.goes.acts)
+          (subst (λ (acts : List Act). ViewOf (received_of m one.life.relay).line acts (if-has true f e.1)) (sym one.goes.acts)
           (goes one.life.relay one.life.acts e.1 its w.is.view)));
     } in
     let mapped : map g (es ++ os) ≡ (map g w.front ++ g e ∷ map g w.back) ++ map g os =
@@ -544,24 +544,24 @@ seen-at hs notes n m f Q goes old new d (inl h) es os views unnumbered bound lat
         unnumbered = unnumbered-at n f os unnumbered;
         later = subst (λ (vs : List Entry). Later hs vs notes) mapped later;
       })),
-      subst (λ (c : Course). Distinct c.lives) (sym h.2) (distinct-kept h.0 (subst Distinct (sym one.are) (distinct-next one.before one.life one.next one.behind same were))),
+      subst (λ (c : Trace). Distinct c.relay_traces) (sym h.2) (distinct-kept h.0 (subst Distinct (sym one.are) (distinct-next one.before one.life one.next one.behind same were))),
     )
 seen-at hs notes n m f Q goes old new d (inr h) es os views unnumbered bound later =
     let g : Entry → Entry = at-number n f in (
-      subst (λ (c : Course). Seen hs c.lives notes) (sym h.1) (record {
+      subst (λ (c : Trace). Seen hs c.relay_traces notes) (sym h.1) (record {
         entries = map g es;
         orphans = map g os;
-        views = views-not-at n f old.lives es (none-at n old.lives h.0) views;
+        views = views-not-at n f old.relay_traces es (none-at n old.relay_traces h.0) views;
         unnumbered = unnumbered-at n f os unnumbered;
         later = subst (λ (vs : List Entry). Later hs vs notes) (map-append g es os) later;
       }),
-      subst (λ (c : Course). Distinct c.lives) (sym h.1) d,
+      subst (λ (c : Trace). Distinct c.relay_traces) (sym h.1) d,
     )
 
 -- ---- what one hears
 
 -- a line of which no note changes what is seen
-abbrev IsIdle : Line → Type 0
+abbrev IsIdle : ChannelState → Type 0
 IsIdle (Dialing dialog) = Unit {0}
 IsIdle (Asked host port version) = Unit {0}
 IsIdle (Opened version) = ⊥
@@ -569,7 +569,7 @@ IsIdle (Offered remote window maximum) = Unit {0}
 IsIdle (Live live) = ⊥
 IsIdle Over = Unit {0}
 
-idle-fixed : (line : Line) (f : View → View) (acts : List Act) (v : View) → IsIdle line → ViewOf line acts v → if-has true f v ≡ v
+idle-fixed : (line : ChannelState) (f : View → View) (acts : List Act) (v : View) → IsIdle line → ViewOf line acts v → if-has true f v ≡ v
 idle-fixed (Dialing dialog) f acts v h i = ap (λ (x : View). if-has true f x) i.0 ∙ sym i.0
 idle-fixed (Asked host port version) f acts v h i = ap (λ (x : View). if-has true f x) i.0 ∙ sym i.0
 idle-fixed (Opened version) f acts v h i = absurd h
@@ -577,14 +577,14 @@ idle-fixed (Offered remote window maximum) f acts v h i = ap (λ (x : View). if-
 idle-fixed (Live live) f acts v h i = absurd h
 idle-fixed Over f acts v h i = ap (λ (x : View). if-has true f x) i ∙ sym i
 
-idle : (line : Line) (f : View → View) (acts acts' : List Act) (v : View) → IsIdle line → adjusted acts' ≡ adjusted acts → delivered acts' ≡ delivered acts → ViewOf line acts v → ViewOf line acts' (if-has true f v)
+idle : (line : ChannelState) (f : View → View) (acts acts' : List Act) (v : View) → IsIdle line → adjusted acts' ≡ adjusted acts → delivered acts' ≡ delivered acts → ViewOf line acts v → ViewOf line acts' (if-has true f v)
 idle line f acts acts' v h given came i = subst (λ (x : View). ViewOf line acts' x) (sym (idle-fixed line f acts v h i)) (acts-view line acts acts' v given came i)
 
 -- its OPEN is confirmed
-confirmed-view : (line : Line) (s w m : ℕ) (r : Relay) (acts : List Act) (v : View) → r.line ≡ line → ViewOf line acts v
+confirmed-view : (line : ChannelState) (s w m : ℕ) (r : Relay) (acts : List Act) (v : View) → r.line ≡ line → ViewOf line acts v
     → ViewOf (confirmed_in line s w m r).line (answered_in line Confirms ∷ acts) (if-has true (view-accepts s w m) v)
-confirmed-view (Dialing dialog) s w m r acts v e i = subst (λ (l : Line). ViewOf l (Other ∷ acts) (if-has true (view-accepts s w m) v)) (sym e) (idle (Dialing dialog) (view-accepts s w m) acts (Other ∷ acts) v tt refl refl i)
-confirmed-view (Asked host port version) s w m r acts v e i = subst (λ (l : Line). ViewOf l (Other ∷ acts) (if-has true (view-accepts s w m) v)) (sym e) (idle (Asked host port version) (view-accepts s w m) acts (Other ∷ acts) v tt refl refl i)
+confirmed-view (Dialing dialog) s w m r acts v e i = subst (λ (l : ChannelState). ViewOf l (Other ∷ acts) (if-has true (view-accepts s w m) v)) (sym e) (idle (Dialing dialog) (view-accepts s w m) acts (Other ∷ acts) v tt refl refl i)
+confirmed-view (Asked host port version) s w m r acts v e i = subst (λ (l : ChannelState). ViewOf l (Other ∷ acts) (if-has true (view-accepts s w m) v)) (sym e) (idle (Asked host port version) (view-accepts s w m) acts (Other ∷ acts) v tt refl refl i)
 confirmed-view (Opened version) s w m r acts v e i = (
   fresh-acct s w m,
   ap (λ (x : View). if-has true (view-accepts s w m) x) i.0,
@@ -592,44 +592,44 @@ confirmed-view (Opened version) s w m r acts v e i = (
     remote = refl;
     room = refl;
     maximum = refl;
-    eof_said = refl;
-    close_said = refl;
-    close_heard = refl;
+    eof_sent = refl;
+    close_sent = refl;
+    close_received = refl;
     failures = λ c. refl;
     given = i.1.0;
     came = let none : length (delivered acts) ≡ 0 = ap (λ (l : List ℕ). length l) i.1.1 in omega (arith, none);
   },
 )
-confirmed-view (Offered theirs room most) s w m r acts v e i = subst (λ (l : Line). ViewOf l (Other ∷ acts) (if-has true (view-accepts s w m) v)) (sym e) (idle (Offered theirs room most) (view-accepts s w m) acts (Other ∷ acts) v tt refl refl i)
-confirmed-view (Live live) s w m r acts v e i = subst (λ (l : Line). ViewOf l (Other ∷ acts) (if-has true (view-accepts s w m) v)) (sym e)
+confirmed-view (Offered theirs room most) s w m r acts v e i = subst (λ (l : ChannelState). ViewOf l (Other ∷ acts) (if-has true (view-accepts s w m) v)) (sym e) (idle (Offered theirs room most) (view-accepts s w m) acts (Other ∷ acts) v tt refl refl i)
+confirmed-view (Live live) s w m r acts v e i = subst (λ (l : ChannelState). ViewOf l (Other ∷ acts) (if-has true (view-accepts s w m) v)) (sym e)
     (i.0, ap (λ (x : View). if-has true (view-accepts s w m) x) i.1, acts-live live acts (Other ∷ acts) i.0 refl refl i.2)
-confirmed-view Over s w m r acts v e i = subst (λ (l : Line). ViewOf l (Other ∷ acts) (if-has true (view-accepts s w m) v)) (sym e) (idle Over (view-accepts s w m) acts (Other ∷ acts) v tt refl refl i)
+confirmed-view Over s w m r acts v e i = subst (λ (l : ChannelState). ViewOf l (Other ∷ acts) (if-has true (view-accepts s w m) v)) (sym e) (idle Over (view-accepts s w m) acts (Other ∷ acts) v tt refl refl i)
 
 -- or refused
-refused-view : (line : Line) (reason : ℕ) (r : Relay) (acts : List Act) (v : View) → r.line ≡ line → ViewOf line acts v
-    → ViewOf (refused_in line reason r).line (answered_in line (Refuses reason) ∷ acts) (if-has true (view-hears gist.Fails) v)
-refused-view (Dialing dialog) reason r acts v e i = subst (λ (l : Line). ViewOf l (Other ∷ acts) (if-has true (view-hears gist.Fails) v)) (sym e) (idle (Dialing dialog) (view-hears gist.Fails) acts (Other ∷ acts) v tt refl refl i)
-refused-view (Asked host port version) reason r acts v e i = subst (λ (l : Line). ViewOf l (Other ∷ acts) (if-has true (view-hears gist.Fails) v)) (sym e) (idle (Asked host port version) (view-hears gist.Fails) acts (Other ∷ acts) v tt refl refl i)
-refused-view (Opened version) reason r acts v e i = ap (λ (x : View). if-has true (view-hears gist.Fails) x) i.0
-refused-view (Offered theirs room most) reason r acts v e i = subst (λ (l : Line). ViewOf l (Other ∷ acts) (if-has true (view-hears gist.Fails) v)) (sym e) (idle (Offered theirs room most) (view-hears gist.Fails) acts (Other ∷ acts) v tt refl refl i)
-refused-view (Live live) reason r acts v e i = subst (λ (l : Line). ViewOf l (Other ∷ acts) (if-has true (view-hears gist.Fails) v)) (sym e)
-    (i.0, ap (λ (x : View). if-has true (view-hears gist.Fails) x) i.1, acts-live live acts (Other ∷ acts) i.0 refl refl i.2)
-refused-view Over reason r acts v e i = subst (λ (l : Line). ViewOf l (Other ∷ acts) (if-has true (view-hears gist.Fails) v)) (sym e) (idle Over (view-hears gist.Fails) acts (Other ∷ acts) v tt refl refl i)
+refused-view : (line : ChannelState) (reason : ℕ) (r : Relay) (acts : List Act) (v : View) → r.line ≡ line → ViewOf line acts v
+    → ViewOf (refused_in line reason r).line (answered_in line (Refuses reason) ∷ acts) (if-has true (view-receives summary.Fails) v)
+refused-view (Dialing dialog) reason r acts v e i = subst (λ (l : ChannelState). ViewOf l (Other ∷ acts) (if-has true (view-receives summary.Fails) v)) (sym e) (idle (Dialing dialog) (view-receives summary.Fails) acts (Other ∷ acts) v tt refl refl i)
+refused-view (Asked host port version) reason r acts v e i = subst (λ (l : ChannelState). ViewOf l (Other ∷ acts) (if-has true (view-receives summary.Fails) v)) (sym e) (idle (Asked host port version) (view-receives summary.Fails) acts (Other ∷ acts) v tt refl refl i)
+refused-view (Opened version) reason r acts v e i = ap (λ (x : View). if-has true (view-receives summary.Fails) x) i.0
+refused-view (Offered theirs room most) reason r acts v e i = subst (λ (l : ChannelState). ViewOf l (Other ∷ acts) (if-has true (view-receives summary.Fails) v)) (sym e) (idle (Offered theirs room most) (view-receives summary.Fails) acts (Other ∷ acts) v tt refl refl i)
+refused-view (Live live) reason r acts v e i = subst (λ (l : ChannelState). ViewOf l (Other ∷ acts) (if-has true (view-receives summary.Fails) v)) (sym e)
+    (i.0, ap (λ (x : View). if-has true (view-receives summary.Fails) x) i.1, acts-live live acts (Other ∷ acts) i.0 refl refl i.2)
+refused-view Over reason r acts v e i = subst (λ (l : ChannelState). ViewOf l (Other ∷ acts) (if-has true (view-receives summary.Fails) v)) (sym e) (idle Over (view-receives summary.Fails) acts (Other ∷ acts) v tt refl refl i)
 
 -- a step of a channel that is confirmed
-live-view : (step : LiveState → Line) (act : gist.Act) (line : Line) (acts acts' : List Act) (v : View) → adjusted acts' ≡ adjusted acts → delivered acts' ≡ delivered acts
-    → opened-hears act ≡ IsOpened → ((live : LiveState) (a : Acct) → BoundView act (IsLive a) → LiveIs live acts' a → ViewOf (step live) acts' (view-hears act (IsLive a)))
-    → BoundView act v → ViewOf line acts v → ViewOf (in_live step line) acts' (if-has true (view-hears act) v)
-live-view step act (Dialing dialog) acts acts' v given came opened goes bound i = idle (Dialing dialog) (view-hears act) acts acts' v tt given came i
-live-view step act (Asked host port version) acts acts' v given came opened goes bound i = idle (Asked host port version) (view-hears act) acts acts' v tt given came i
-live-view step act (Opened version) acts acts' v given came opened goes bound i = (ap (λ (x : View). if-has true (view-hears act) x) i.0 ∙ opened, (given ∙ i.1.0, came ∙ i.1.1))
-live-view step act (Offered remote window maximum) acts acts' v given came opened goes bound i = idle (Offered remote window maximum) (view-hears act) acts acts' v tt given came i
+live-view : (step : LiveState → ChannelState) (act : summary.Act) (line : ChannelState) (acts acts' : List Act) (v : View) → adjusted acts' ≡ adjusted acts → delivered acts' ≡ delivered acts
+    → opened-receives act ≡ IsOpened → ((live : LiveState) (a : Acct) → BoundView act (IsLive a) → LiveIs live acts' a → ViewOf (step live) acts' (view-receives act (IsLive a)))
+    → BoundView act v → ViewOf line acts v → ViewOf (in_live step line) acts' (if-has true (view-receives act) v)
+live-view step act (Dialing dialog) acts acts' v given came opened goes bound i = idle (Dialing dialog) (view-receives act) acts acts' v tt given came i
+live-view step act (Asked host port version) acts acts' v given came opened goes bound i = idle (Asked host port version) (view-receives act) acts acts' v tt given came i
+live-view step act (Opened version) acts acts' v given came opened goes bound i = (ap (λ (x : View). if-has true (view-receives act) x) i.0 ∙ opened, (given ∙ i.1.0, came ∙ i.1.1))
+live-view step act (Offered remote window maximum) acts acts' v given came opened goes bound i = idle (Offered remote window maximum) (view-receives act) acts acts' v tt given came i
 live-view step act (Live live) acts acts' v given came opened goes bound i =
-    subst (λ (x : View). ViewOf (step live) acts' (if-has true (view-hears act) x)) (sym i.1)
+    subst (λ (x : View). ViewOf (step live) acts' (if-has true (view-receives act) x)) (sym i.1)
     (goes live i.0 (subst (λ (x : View). BoundView act x) i.1 bound) (acts-live live acts acts' i.0 given came i.2))
-live-view step act Over acts acts' v given came opened goes bound i = idle Over (view-hears act) acts acts' v tt given came i
+live-view step act Over acts acts' v given came opened goes bound i = idle Over (view-receives act) acts acts' v tt given came i
 
-in-live-same : (line : Line) → in_live Live line ≡ line
+in-live-same : (line : ChannelState) → in_live Live line ≡ line
 in-live-same (Dialing dialog) = refl
 in-live-same (Asked host port version) = refl
 in-live-same (Opened version) = refl
@@ -637,13 +637,13 @@ in-live-same (Offered remote window maximum) = refl
 in-live-same (Live live) = refl
 in-live-same Over = refl
 
-stays-view : (act : gist.Act) (line : Line) (acts acts' : List Act) (v : View) → adjusted acts' ≡ adjusted acts → delivered acts' ≡ delivered acts
-    → opened-hears act ≡ IsOpened → ((live : LiveState) (a : Acct) → BoundView act (IsLive a) → LiveIs live acts' a → ViewOf (Live live) acts' (view-hears act (IsLive a)))
-    → BoundView act v → ViewOf line acts v → ViewOf line acts' (if-has true (view-hears act) v)
+stays-view : (act : summary.Act) (line : ChannelState) (acts acts' : List Act) (v : View) → adjusted acts' ≡ adjusted acts → delivered acts' ≡ delivered acts
+    → opened-receives act ≡ IsOpened → ((live : LiveState) (a : Acct) → BoundView act (IsLive a) → LiveIs live acts' a → ViewOf (Live live) acts' (view-receives act (IsLive a)))
+    → BoundView act v → ViewOf line acts v → ViewOf line acts' (if-has true (view-receives act) v)
 stays-view act line acts acts' v given came opened goes bound i =
-    subst (λ (l : Line). ViewOf l acts' (if-has true (view-hears act) v)) (in-live-same line) (live-view Live act line acts acts' v given came opened goes bound i)
+    subst (λ (l : ChannelState). ViewOf l acts' (if-has true (view-receives act) v)) (in-live-same line) (live-view Live act line acts acts' v given came opened goes bound i)
 
-heard-given : (line : Line) (act : Act) (acts : List Act) → adjusted (act ∷ acts) ≡ adjusted acts → adjusted (heard_in line act ∷ acts) ≡ adjusted acts
+heard-given : (line : ChannelState) (act : Act) (acts : List Act) → adjusted (act ∷ acts) ≡ adjusted acts → adjusted (received_in line act ∷ acts) ≡ adjusted acts
 heard-given (Dialing dialog) act acts e = refl
 heard-given (Asked host port version) act acts e = refl
 heard-given (Opened version) act acts e = refl
@@ -651,7 +651,7 @@ heard-given (Offered remote window maximum) act acts e = refl
 heard-given (Live live) act acts e = e
 heard-given Over act acts e = refl
 
-heard-came : (line : Line) (act : Act) (acts : List Act) → delivered (act ∷ acts) ≡ delivered acts → delivered (heard_in line act ∷ acts) ≡ delivered acts
+heard-came : (line : ChannelState) (act : Act) (acts : List Act) → delivered (act ∷ acts) ≡ delivered acts → delivered (received_in line act ∷ acts) ≡ delivered acts
 heard-came (Dialing dialog) act acts e = refl
 heard-came (Asked host port version) act acts e = refl
 heard-came (Opened version) act acts e = refl
@@ -659,7 +659,7 @@ heard-came (Offered remote window maximum) act acts e = refl
 heard-came (Live live) act acts e = e
 heard-came Over act acts e = refl
 
-room-view : (n : ℕ) (acts : List Act) (live : LiveState) (a : Acct) → a.room + n ≤ 4294967295 → LiveIs live acts a → ViewOf (Live (hears_room n live)) acts (IsLive (record a { room = a.room + n }))
+room-view : (n : ℕ) (acts : List Act) (live : LiveState) (a : Acct) → a.room + n ≤ 4294967295 → LiveIs live acts a → ViewOf (Live (receives_room n live)) acts (IsLive (record a { room = a.room + n }))
 room-view n acts live a bound i =
     let room = i.room in
     let below : live.room + n < 4294967296 = omega (arith, room, bound) in
@@ -671,16 +671,16 @@ room-view n acts live a bound i =
         remote = i.remote;
         room = omega (arith, room);
         maximum = i.maximum;
-        eof_said = i.eof_said;
-        close_said = i.close_said;
-        close_heard = i.close_heard;
+        eof_sent = i.eof_sent;
+        close_sent = i.close_sent;
+        close_received = i.close_received;
         failures = i.failures;
         given = i.given;
         came = i.came;
       },
     )
 
-eof-view : (acts : List Act) (live : LiveState) (a : Acct) → LiveIs live acts a → ViewOf (Live (hears_eof live)) acts (IsLive a)
+eof-view : (acts : List Act) (live : LiveState) (a : Acct) → LiveIs live acts a → ViewOf (Live (receives_eof live)) acts (IsLive a)
 eof-view acts live a i = (
   a,
   refl,
@@ -688,50 +688,50 @@ eof-view acts live a i = (
     remote = i.remote;
     room = i.room;
     maximum = i.maximum;
-    eof_said = i.eof_said;
-    close_said = i.close_said;
-    close_heard = i.close_heard;
+    eof_sent = i.eof_sent;
+    close_sent = i.close_sent;
+    close_received = i.close_received;
     failures = i.failures;
     given = i.given;
     came = i.came;
   },
 )
 
-close-view : (acts : List Act) (live : LiveState) (a : Acct) → LiveIs live acts a → ViewOf (hears_close live) acts (unless-over a.close_said (record a { close_heard = true }))
+close-view : (acts : List Act) (live : LiveState) (a : Acct) → LiveIs live acts a → ViewOf (receives_close live) acts (unless-over a.close_sent (record a { close_received = true }))
 close-view acts live a i =
-    subst (λ (b : Bool). ViewOf (hears_close live) acts (unless-over b (record a { close_heard = true }))) i.close_said
-    (go live.close_said)
+    subst (λ (b : Bool). ViewOf (receives_close live) acts (unless-over b (record a { close_received = true }))) i.close_sent
+    (go live.close_sent)
   where
-    go : (b : Bool) → ViewOf (over_if b (record live { close_heard = true })) acts (unless-over b (record a { close_heard = true }))
+    go : (b : Bool) → ViewOf (over_if b (record live { close_received = true })) acts (unless-over b (record a { close_received = true }))
     go true = refl
     go false = (
-      record a { close_heard = true },
+      record a { close_received = true },
       refl,
       record {
         remote = i.remote;
         room = i.room;
         maximum = i.maximum;
-        eof_said = i.eof_said;
-        close_said = i.close_said;
-        close_heard = refl;
+        eof_sent = i.eof_sent;
+        close_sent = i.close_sent;
+        close_received = refl;
         failures = i.failures;
         given = i.given;
         came = i.came;
       },
     )
 
-request-view : (want : Bool) (acts : List Act) (live : LiveState) (a : Acct) → BoundView (gist.Asks want) (IsLive a) → LiveIs live acts a
-    → ViewOf (Live (hears_request want live)) acts (IsLive (record a { failures = more_asks want a.close_said a.failures }))
+request-view : (want : Bool) (acts : List Act) (live : LiveState) (a : Acct) → BoundView (summary.Asks want) (IsLive a) → LiveIs live acts a
+    → ViewOf (Live (receives_request want live)) acts (IsLive (record a { failures = more_asks want a.close_sent a.failures }))
 request-view false acts live a bound i = (a, refl, i)
 request-view true acts live a bound i =
-    subst (λ (c : Bool). ViewOf (Live (hears_request true live)) acts (IsLive (record a { failures = more_asks true c a.failures }))) i.close_said
-    (go live.close_said refl)
+    subst (λ (c : Bool). ViewOf (Live (receives_request true live)) acts (IsLive (record a { failures = more_asks true c a.failures }))) i.close_sent
+    (go live.close_sent refl)
   where
-    go : (b : Bool) → live.close_said ≡ b
+    go : (b : Bool) → live.close_sent ≡ b
         → ViewOf (Live (if true && not b then record live { failures = min (live.failures + 1) (2 ^ 32 - 1) } else live)) acts (IsLive (record a { failures = more_asks true b a.failures }))
     go true e = (a, refl, i)
     go false e =
-        let few = bound (sym i.close_said ∙ e) in
+        let few = bound (sym i.close_sent ∙ e) in
         let same = i.failures e in (
           record a { failures = a.failures + 1 },
           refl,
@@ -739,9 +739,9 @@ request-view true acts live a bound i =
             remote = i.remote;
             room = i.room;
             maximum = i.maximum;
-            eof_said = i.eof_said;
-            close_said = i.close_said;
-            close_heard = i.close_heard;
+            eof_sent = i.eof_sent;
+            close_sent = i.close_sent;
+            close_received = i.close_received;
             failures = λ c. omega (arith, few, same);
             given = i.given;
             came = i.came;
@@ -755,56 +755,56 @@ came-view n acts acts' live a given more i =
     (record a { came = a.came + n }, refl, came-live live acts acts' a (a.came + n) given (omega (arith, more, came)) i)
 
 -- data is delivered or not
-data-view : (line : Line) (s : Socket) (bytes : List ℕ) (acts : List Act) (v : View) → ViewOf line acts v
-    → ViewOf line ((if delivers_in line s then Delivers bytes else Other) ∷ acts) (if-has true (view-hears (gist.Carries (length bytes))) v)
-data-view (Dialing dialog) s bytes acts v i = idle (Dialing dialog) (view-hears (gist.Carries (length bytes))) acts (Other ∷ acts) v tt refl refl i
-data-view (Asked host port version) s bytes acts v i = idle (Asked host port version) (view-hears (gist.Carries (length bytes))) acts (Other ∷ acts) v tt refl refl i
-data-view (Opened version) s bytes acts v i = (ap (λ (x : View). if-has true (view-hears (gist.Carries (length bytes))) x) i.0, i.1)
-data-view (Offered remote window maximum) s bytes acts v i = idle (Offered remote window maximum) (view-hears (gist.Carries (length bytes))) acts (Other ∷ acts) v tt refl refl i
+data-view : (line : ChannelState) (s : Socket) (bytes : List ℕ) (acts : List Act) (v : View) → ViewOf line acts v
+    → ViewOf line ((if delivers_in line s then Delivers bytes else Other) ∷ acts) (if-has true (view-receives (summary.Carries (length bytes))) v)
+data-view (Dialing dialog) s bytes acts v i = idle (Dialing dialog) (view-receives (summary.Carries (length bytes))) acts (Other ∷ acts) v tt refl refl i
+data-view (Asked host port version) s bytes acts v i = idle (Asked host port version) (view-receives (summary.Carries (length bytes))) acts (Other ∷ acts) v tt refl refl i
+data-view (Opened version) s bytes acts v i = (ap (λ (x : View). if-has true (view-receives (summary.Carries (length bytes))) x) i.0, i.1)
+data-view (Offered remote window maximum) s bytes acts v i = idle (Offered remote window maximum) (view-receives (summary.Carries (length bytes))) acts (Other ∷ acts) v tt refl refl i
 data-view (Live live) s bytes acts v i =
-    subst (λ (x : View). ViewOf (Live live) ((if delivers_in (Live live) s then Delivers bytes else Other) ∷ acts) (if-has true (view-hears (gist.Carries (length bytes))) x)) (sym i.1)
+    subst (λ (x : View). ViewOf (Live live) ((if delivers_in (Live live) s then Delivers bytes else Other) ∷ acts) (if-has true (view-receives (summary.Carries (length bytes))) x)) (sym i.1)
     (go (delivers_in (Live live) s))
   where
     go : (b : Bool) → ViewOf (Live live) ((if b then Delivers bytes else Other) ∷ acts) (IsLive (record i.0 { came = i.0.came + length bytes }))
     go true = let sum : length (delivered acts ++ bytes) ≡ length (delivered acts) + length bytes = length-append (delivered acts) bytes in
         came-view (length bytes) acts (Delivers bytes ∷ acts) live i.0 refl (omega (arith, sum)) i.2
     go false = came-view (length bytes) acts (Other ∷ acts) live i.0 refl (omega arith) i.2
-data-view Over s bytes acts v i = idle Over (view-hears (gist.Carries (length bytes))) acts (Other ∷ acts) v tt refl refl i
+data-view Over s bytes acts v i = idle Over (view-receives (summary.Carries (length bytes))) acts (Other ∷ acts) v tt refl refl i
 
-data-line : (b : Bool) (bytes : List ℕ) (r : Relay) → (data_heard b bytes r).line ≡ r.line
+data-line : (b : Bool) (bytes : List ℕ) (r : Relay) → (data_received b bytes r).line ≡ r.line
 data-line true bytes r = refl
 data-line false bytes r = refl
 
 -- ---- one message
 
-seen-does : (hs : List Channel) (notes : List Note) (n : ℕ) (act : gist.Act) (m : Message) → HearsAs m (view-hears act) (BoundView act) → (old new : Course) → Distinct old.lives → HearsAt n m old new
-    → Seen hs old.lives (Does n act ∷ notes) → Seen hs new.lives notes × Distinct new.lives
-seen-does hs notes n act m goes old new d h s = seen-at hs notes n m (view-hears act) (BoundView act) goes old new d h s.entries s.orphans s.views s.unnumbered s.later.0 s.later.1
+seen-does : (hs : List Channel) (notes : List Note) (n : ℕ) (act : summary.Act) (m : Message) → ReceivesAs m (view-receives act) (BoundView act) → (old new : Trace) → Distinct old.relay_traces → ReceivesAt n m old new
+    → Seen hs old.relay_traces (Does n act ∷ notes) → Seen hs new.relay_traces notes × Distinct new.relay_traces
+seen-does hs notes n act m goes old new d h s = seen-at hs notes n m (view-receives act) (BoundView act) goes old new d h s.entries s.orphans s.views s.unnumbered s.later.0 s.later.1
 
-seen-accepts : (hs : List Channel) (notes : List Note) (n s w x : ℕ) (m : Message) → HearsAs m (view-accepts s w x) (λ (v : View). Unit {0}) → (old new : Course) → Distinct old.lives → HearsAt n m old new
-    → Seen hs old.lives (Accepts n s w x ∷ notes) → Seen hs new.lives notes × Distinct new.lives
+seen-accepts : (hs : List Channel) (notes : List Note) (n s w x : ℕ) (m : Message) → ReceivesAs m (view-accepts s w x) (λ (v : View). Unit {0}) → (old new : Trace) → Distinct old.relay_traces → ReceivesAt n m old new
+    → Seen hs old.relay_traces (Accepts n s w x ∷ notes) → Seen hs new.relay_traces notes × Distinct new.relay_traces
 seen-accepts hs notes n s w x m goes old new d h seen =
     seen-at hs notes n m (view-accepts s w x) (λ (v : View). Unit {0}) goes old new d h seen.entries seen.orphans seen.views seen.unnumbered
     (each-of (Bound (Accepts n s w x)) (λ (e : Entry). is_number e.0 n ≡ true → Unit {0}) (λ e b i. tt) (seen.entries ++ seen.orphans) seen.later.0) seen.later.1
 
-seen-nothing : (hs : List Channel) (notes : List Note) (old new c : Course) → new ≡ c → c.lives ≡ old.lives → Distinct old.lives → Seen hs old.lives (Nothing ∷ notes) → Seen hs new.lives notes × Distinct new.lives
+seen-nothing : (hs : List Channel) (notes : List Note) (old new c : Trace) → new ≡ c → c.relay_traces ≡ old.relay_traces → Distinct old.relay_traces → Seen hs old.relay_traces (Nothing ∷ notes) → Seen hs new.relay_traces notes × Distinct new.relay_traces
 seen-nothing hs notes old new c is e d s =
-    let same : new.lives ≡ old.lives = same-of old new c is e in (
+    let same : new.relay_traces ≡ old.relay_traces = same-of old new c is e in (
       subst (λ (ls : List Life). Seen hs ls notes) (sym same) (record { entries = s.entries; orphans = s.orphans; views = s.views; unnumbered = s.unnumbered; later = s.later.1 }),
       subst Distinct (sym same) d,
     )
 
 -- an OPEN that the house doesn't take
-seen-orphan : (hs : List Channel) (notes : List Note) (s w m : ℕ) (old new : Course) → new ≡ old → Distinct old.lives → Seen hs old.lives (Offers s w m ∷ notes) → Seen hs new.lives notes × Distinct new.lives
+seen-orphan : (hs : List Channel) (notes : List Note) (s w m : ℕ) (old new : Trace) → new ≡ old → Distinct old.relay_traces → Seen hs old.relay_traces (Offers s w m ∷ notes) → Seen hs new.relay_traces notes × Distinct new.relay_traces
 seen-orphan hs notes s w m old new is d seen = (
-  subst (λ (c : Course). Seen hs c.lives notes) (sym is) (record {
+  subst (λ (c : Trace). Seen hs c.relay_traces notes) (sym is) (record {
     entries = seen.entries;
     orphans = seen.orphans ++ (None, IsOffered s w m) ∷ [];
     views = seen.views;
     unnumbered = each-append Unnumbered seen.orphans ((None, IsOffered s w m) ∷ []) seen.unnumbered (refl, tt);
     later = subst (λ (vs : List Entry). Later hs vs notes) (append-three seen.entries seen.orphans ((None, IsOffered s w m) ∷ [])) seen.later.1;
   }),
-  subst (λ (c : Course). Distinct c.lives) (sym is) d,
+  subst (λ (c : Trace). Distinct c.relay_traces) (sym is) d,
 )
 
 from-end : (e : Entry) (bs : List Entry) → Swapped (bs ++ e ∷ []) (e ∷ bs)
@@ -812,39 +812,39 @@ from-end e [] = Same (e ∷ [])
 from-end e (b ∷ bs) = Then (b ∷ (bs ++ e ∷ [])) (b ∷ e ∷ bs) (e ∷ b ∷ bs) (Next b (bs ++ e ∷ []) (e ∷ bs) (from-end e bs)) (Swap b e bs)
 
 -- and one that it takes
-seen-offered : (hs : List Channel) (notes : List Note) (f : Forwarding) (s w m : ℕ) (old new : Course) → OffersOne f s w m old new → Distinct old.lives → Seen hs old.lives (Offers s w m ∷ notes) → Seen hs new.lives notes × Distinct new.lives
+seen-offered : (hs : List Channel) (notes : List Note) (f : Forwarding) (s w m : ℕ) (old new : Trace) → OffersOne f s w m old new → Distinct old.relay_traces → Seen hs old.relay_traces (Offers s w m ∷ notes) → Seen hs new.relay_traces notes × Distinct new.relay_traces
 seen-offered hs notes f s w m old new h d seen =
     let n = h.number in
     let e : Entry = (Some n, IsOffered s w m) in
     let es = seen.entries in
     let os = seen.orphans in
-    let free : AreFree n (es ++ os) = each-append (λ (x : Entry). has n x.0 ≡ false) es os (free-views n old.lives es seen.views h.free) (free-orphans n os seen.unnumbered) in
+    let free : AreFree n (es ++ os) = each-append (λ (x : Entry). has n x.0 ≡ false) es os (free-views n old.relay_traces es seen.views h.free) (free-orphans n os seen.unnumbered) in
     let moved : Swapped ((es ++ os) ++ e ∷ []) ((es ++ e ∷ []) ++ os) =
     subst (λ (vs : List Entry). Swapped vs ((es ++ e ∷ []) ++ os)) (sym (append-three es os (e ∷ [])))
     (subst (λ (vs : List Entry). Swapped (es ++ (os ++ e ∷ [])) vs) (sym (append-three es (e ∷ []) os))
     (swapped-front es (os ++ e ∷ []) (e ∷ os) (from-end e os))) in (
-      subst (λ (c : Course). Seen hs c.lives notes) (sym h.more) (record {
+      subst (λ (c : Trace). Seen hs c.relay_traces notes) (sym h.more) (record {
         entries = es ++ e ∷ [];
         orphans = os;
-        views = views-append old.lives (offered_life f n s w m ∷ []) es (e ∷ []) seen.views (record { number = refl; view = (refl, (refl, refl)) }, tt);
+        views = views-append old.relay_traces (offered_life f n s w m ∷ []) es (e ∷ []) seen.views (record { number = refl; view = (refl, (refl, refl)) }, tt);
         unnumbered = seen.unnumbered;
         later = later-swapped hs notes ((es ++ os) ++ e ∷ []) ((es ++ e ∷ []) ++ os) moved (later-named hs n s w m notes (es ++ os) [] free tt seen.later.1);
       }),
-      subst (λ (c : Course). Distinct c.lives) (sym h.more) (distinct-more old.lives (offered_life f n s w m) (none-at n old.lives h.free) d),
+      subst (λ (c : Trace). Distinct c.relay_traces) (sym h.more) (distinct-more old.relay_traces (offered_life f n s w m) (none-at n old.relay_traces h.free) d),
     )
 
-seen-opens : (hs : List Channel) (notes : List Note) (o : Option Forwarding) (s w m : ℕ) (old new : Course) → OpensFor o s w m old new → Distinct old.lives → Seen hs old.lives (Offers s w m ∷ notes) → Seen hs new.lives notes × Distinct new.lives
+seen-opens : (hs : List Channel) (notes : List Note) (o : Option Forwarding) (s w m : ℕ) (old new : Trace) → OpensFor o s w m old new → Distinct old.relay_traces → Seen hs old.relay_traces (Offers s w m ∷ notes) → Seen hs new.relay_traces notes × Distinct new.relay_traces
 seen-opens hs notes None s w m old new h d seen = seen-orphan hs notes s w m old new h d seen
 seen-opens hs notes (Some f) s w m old new h d seen = seen-offered hs notes f s w m old new h d seen
 
-seen-open : (hs : List Channel) (notes : List Note) (what : Opening) (s w m : ℕ) (old new : Course) → HearsOpen what s w m old new → Distinct old.lives → Seen hs old.lives (Offers s w m ∷ notes) → Seen hs new.lives notes × Distinct new.lives
-seen-open hs notes (opens.Forwarded (keys.Tcp address port)) s w m old new h d seen = seen-opens hs notes (find (served_at address.now port) old.desk.all) s w m old new h d seen
+seen-open : (hs : List Channel) (notes : List Note) (what : Opening) (s w m : ℕ) (old new : Trace) → ReceivesOpen what s w m old new → Distinct old.relay_traces → Seen hs old.relay_traces (Offers s w m ∷ notes) → Seen hs new.relay_traces notes × Distinct new.relay_traces
+seen-open hs notes (opens.Forwarded (keys.Tcp address port)) s w m old new h d seen = seen-opens hs notes (find (served_at address.now port) old.forwarding_state.all) s w m old new h d seen
 seen-open hs notes (opens.Forwarded (keys.Path path)) s w m old new h d seen = seen-orphan hs notes s w m old new h d seen
 seen-open hs notes opens.Session s w m old new h d seen = seen-orphan hs notes s w m old new h d seen
 seen-open hs notes (opens.Direct key) s w m old new h d seen = seen-orphan hs notes s w m old new h d seen
 seen-open hs notes opens.Other s w m old new h d seen = seen-orphan hs notes s w m old new h d seen
 
-heard-message : (hs : List Channel) (notes : List Note) (m : Message) (old new : Course) → Distinct old.lives → HearsMessage m old new → Seen hs old.lives (note-of (gist.gist (message_of m)) ∷ notes) → Seen hs new.lives notes × Distinct new.lives
+heard-message : (hs : List Channel) (notes : List Note) (m : Message) (old new : Trace) → Distinct old.relay_traces → ReceivesMessage m old new → Seen hs old.relay_traces (note-of (summary.summary (message_of m)) ∷ notes) → Seen hs new.relay_traces notes × Distinct new.relay_traces
 heard-message hs notes (message.Transport number rest) old new d h s = seen-nothing hs notes old new _ h refl d s
 heard-message hs notes (message.GlobalRequest name want rest what) old new d h s = seen-nothing hs notes old new _ h refl d s
 heard-message hs notes (message.RequestSuccess rest) old new d h s = seen-nothing hs notes old new _ h refl d s
@@ -854,62 +854,62 @@ heard-message hs notes (message.Confirmation recipient sender window maximum res
     seen-accepts hs notes recipient sender window maximum (message.Confirmation recipient sender window maximum rest)
     (λ r acts v q i. confirmed-view r.line sender window maximum r acts v refl i) old new d h s
 heard-message hs notes (message.OpenFailure recipient reason text language) old new d h s =
-    seen-does hs notes recipient gist.Fails (message.OpenFailure recipient reason text language)
+    seen-does hs notes recipient summary.Fails (message.OpenFailure recipient reason text language)
     (λ r acts v q i. refused-view r.line reason r acts v refl i) old new d h s
 heard-message hs notes (message.Adjust recipient add) old new d h s =
-    seen-does hs notes recipient (gist.Grants add) (message.Adjust recipient add)
-    (λ r acts v q i. live-view (λ (live : LiveState). Live (hears_room add live)) (gist.Grants add) r.line acts (Other ∷ acts) v refl refl refl (λ live a bound is. room-view add (Other ∷ acts) live a bound is) q i) old new d h s
+    seen-does hs notes recipient (summary.Grants add) (message.Adjust recipient add)
+    (λ r acts v q i. live-view (λ (live : LiveState). Live (receives_room add live)) (summary.Grants add) r.line acts (Other ∷ acts) v refl refl refl (λ live a bound is. room-view add (Other ∷ acts) live a bound is) q i) old new d h s
 heard-message hs notes (message.Data recipient bytes) old new d h s =
-    seen-does hs notes recipient (gist.Carries (length bytes.now)) (message.Data recipient bytes)
-    (λ r acts v q i. subst (λ (l : Line). ViewOf l ((if delivers r then Delivers bytes.now else Other) ∷ acts) (if-has true (view-hears (gist.Carries (length bytes.now))) v))
+    seen-does hs notes recipient (summary.Carries (length bytes.now)) (message.Data recipient bytes)
+    (λ r acts v q i. subst (λ (l : ChannelState). ViewOf l ((if delivers r then Delivers bytes.now else Other) ∷ acts) (if-has true (view-receives (summary.Carries (length bytes.now))) v))
     (sym (data-line (delivers r) bytes.now r)) (data-view r.line r.socket bytes.now acts v i)) old new d h s
 heard-message hs notes (message.Extended recipient code bytes) old new d h s =
-    seen-does hs notes recipient (gist.Carries (length bytes.now)) (message.Extended recipient code bytes)
-    (λ r acts v q i. stays-view (gist.Carries (length bytes.now)) r.line acts (Other ∷ acts) v refl refl refl (λ live a bound is. came-view (length bytes.now) (Other ∷ acts) (Other ∷ acts) live a refl (omega arith) is) q i) old new d h s
+    seen-does hs notes recipient (summary.Carries (length bytes.now)) (message.Extended recipient code bytes)
+    (λ r acts v q i. stays-view (summary.Carries (length bytes.now)) r.line acts (Other ∷ acts) v refl refl refl (λ live a bound is. came-view (length bytes.now) (Other ∷ acts) (Other ∷ acts) live a refl (omega arith) is) q i) old new d h s
 heard-message hs notes (message.Eof recipient) old new d h s =
-    seen-does hs notes recipient gist.Ends (message.Eof recipient)
-    (λ r acts v q i. live-view (λ (live : LiveState). Live (hears_eof live)) gist.Ends r.line acts (heard_in r.line HearsEof ∷ acts) v
-    (heard-given r.line HearsEof acts refl) (heard-came r.line HearsEof acts refl) refl (λ live a bound is. eof-view (heard_in r.line HearsEof ∷ acts) live a is) q i) old new d h s
+    seen-does hs notes recipient summary.Ends (message.Eof recipient)
+    (λ r acts v q i. live-view (λ (live : LiveState). Live (receives_eof live)) summary.Ends r.line acts (received_in r.line ReceivesEof ∷ acts) v
+    (heard-given r.line ReceivesEof acts refl) (heard-came r.line ReceivesEof acts refl) refl (λ live a bound is. eof-view (received_in r.line ReceivesEof ∷ acts) live a is) q i) old new d h s
 heard-message hs notes (message.Close recipient) old new d h s =
-    seen-does hs notes recipient gist.Closes (message.Close recipient)
-    (λ r acts v q i. live-view hears_close gist.Closes r.line acts (heard_in r.line HearsClose ∷ acts) v
-    (heard-given r.line HearsClose acts refl) (heard-came r.line HearsClose acts refl) refl (λ live a bound is. close-view (heard_in r.line HearsClose ∷ acts) live a is) q i) old new d h s
+    seen-does hs notes recipient summary.Closes (message.Close recipient)
+    (λ r acts v q i. live-view receives_close summary.Closes r.line acts (received_in r.line ReceivesClose ∷ acts) v
+    (heard-given r.line ReceivesClose acts refl) (heard-came r.line ReceivesClose acts refl) refl (λ live a bound is. close-view (received_in r.line ReceivesClose ∷ acts) live a is) q i) old new d h s
 heard-message hs notes (message.Request recipient kind want rest) old new d h s =
-    seen-does hs notes recipient (gist.Asks want) (message.Request recipient kind want rest)
-    (λ r acts v q i. live-view (λ (live : LiveState). Live (hears_request want live)) (gist.Asks want) r.line acts (Other ∷ acts) v refl refl refl (λ live a bound is. request-view want (Other ∷ acts) live a bound is) q i) old new d h s
+    seen-does hs notes recipient (summary.Asks want) (message.Request recipient kind want rest)
+    (λ r acts v q i. live-view (λ (live : LiveState). Live (receives_request want live)) (summary.Asks want) r.line acts (Other ∷ acts) v refl refl refl (λ live a bound is. request-view want (Other ∷ acts) live a bound is) q i) old new d h s
 heard-message hs notes (message.Success recipient) old new d h s =
-    seen-does hs notes recipient gist.Answers (message.Success recipient)
-    (λ r acts v q i. stays-view gist.Answers r.line acts (Other ∷ acts) v refl refl refl (λ live a bound is. (a, refl, is)) q i) old new d h s
+    seen-does hs notes recipient summary.Answers (message.Success recipient)
+    (λ r acts v q i. stays-view summary.Answers r.line acts (Other ∷ acts) v refl refl refl (λ live a bound is. (a, refl, is)) q i) old new d h s
 heard-message hs notes (message.Failure recipient) old new d h s =
-    seen-does hs notes recipient gist.Answers (message.Failure recipient)
-    (λ r acts v q i. stays-view gist.Answers r.line acts (Other ∷ acts) v refl refl refl (λ live a bound is. (a, refl, is)) q i) old new d h s
+    seen-does hs notes recipient summary.Answers (message.Failure recipient)
+    (λ r acts v q i. stays-view summary.Answers r.line acts (Other ∷ acts) v refl refl refl (λ live a bound is. (a, refl, is)) q i) old new d h s
 
 -- ---- payloads
 
 -- the note of what a payload reads as
 abbrev note-as : Result Said Bad → Note
-note-as (Ok said) = note-of (gist.gist said)
+note-as (Ok said) = note-of (summary.summary said)
 note-as (Err bad) = Nothing
 
 note-reads : (p : List ℕ) → note-in p ≡ note-as (reading p)
 note-reads p = go (reading p)
   where
-    go : (r : Result Said Bad) → (elim (elim r as (λ _. Result gist.Gist Bad) [ Ok m ↦ Ok (gist.gist m) | Err e ↦ Err e ]) as (λ _. Note) [ Ok g ↦ note-of g | Err bad ↦ Nothing ]) ≡ note-as r
+    go : (r : Result Said Bad) → (elim (elim r as (λ _. Result summary.Summary Bad) [ Ok m ↦ Ok (summary.summary m) | Err e ↦ Err e ]) as (λ _. Note) [ Ok g ↦ note-of g | Err bad ↦ Nothing ]) ≡ note-as r
     go (Ok said) = refl
     go (Err bad) = refl
 
-heard-as : (hs : List Channel) (notes : List Note) (r : Result Said Bad) (old new : Course) → Distinct old.lives → HearsReading r old new → Seen hs old.lives (note-as r ∷ notes) → Seen hs new.lives notes × Distinct new.lives
+heard-as : (hs : List Channel) (notes : List Note) (r : Result Said Bad) (old new : Trace) → Distinct old.relay_traces → ReceivesReading r old new → Seen hs old.relay_traces (note-as r ∷ notes) → Seen hs new.relay_traces notes × Distinct new.relay_traces
 heard-as hs notes (Err bad) old new d h s = seen-nothing hs notes old new _ h refl d s
 heard-as hs notes (Ok said) old new d h s =
-    heard-message hs notes h.0 old new d h.2 (subst (λ (x : Said). Seen hs old.lives (note-of (gist.gist x) ∷ notes)) (sym h.1) s)
+    heard-message hs notes h.0 old new d h.2 (subst (λ (x : Said). Seen hs old.relay_traces (note-of (summary.summary x) ∷ notes)) (sym h.1) s)
 
 -- it hears a payload that it was told
-pub heard-one : (hs : List Channel) (notes : List Note) (p : List ℕ) (old new : Course) → Distinct old.lives → HearsReading (reading p) old new → Seen hs old.lives (note-in p ∷ notes) → Seen hs new.lives notes × Distinct new.lives
-heard-one hs notes p old new d h s = heard-as hs notes (reading p) old new d h (subst (λ (n : Note). Seen hs old.lives (n ∷ notes)) (note-reads p) s)
+pub heard-one : (hs : List Channel) (notes : List Note) (p : List ℕ) (old new : Trace) → Distinct old.relay_traces → ReceivesReading (reading p) old new → Seen hs old.relay_traces (note-in p ∷ notes) → Seen hs new.relay_traces notes × Distinct new.relay_traces
+heard-one hs notes p old new d h s = heard-as hs notes (reading p) old new d h (subst (λ (n : Note). Seen hs old.relay_traces (n ∷ notes)) (note-reads p) s)
 
 -- it hears some of them, one behind the other
-pub heard-all : (hs : List Channel) (notes : List Note) (ps : List (List ℕ)) (old new : Course) → Distinct old.lives → HearsAll ps old new → Seen hs old.lives (map note-in ps ++ notes) → Seen hs new.lives notes
-heard-all hs notes [] old new d h s = seen-same hs notes old new h.lives s
+pub heard-all : (hs : List Channel) (notes : List Note) (ps : List (List ℕ)) (old new : Trace) → Distinct old.relay_traces → ReceivesAll ps old new → Seen hs old.relay_traces (map note-in ps ++ notes) → Seen hs new.relay_traces notes
+heard-all hs notes [] old new d h s = seen-same hs notes old new h.relay_traces s
 heard-all hs notes (p ∷ ps) old new d h s =
-    let one = heard-one hs (map note-in ps ++ notes) p h.0 h.1 (subst Distinct (sym h.2.lives) d) h.3 (seen-same hs (note-in p ∷ (map note-in ps ++ notes)) old h.0 h.2.lives s) in
+    let one = heard-one hs (map note-in ps ++ notes) p h.0 h.1 (subst Distinct (sym h.2.relay_traces) d) h.3 (seen-same hs (note-in p ∷ (map note-in ps ++ notes)) old h.0 h.2.relay_traces s) in
     heard-all hs notes ps h.1 new one.1 h.4 one.0

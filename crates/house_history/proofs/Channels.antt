@@ -11,10 +11,10 @@ use Rattle.ssh_grammar.specs.declared.fault.Bad.{Bad}
 use Rattle.ssh_grammar.specs.declared.side.Side.{Side}
 use Rattle.ssh_grammar.specs.declared.side.Side.TheVariants.{Up, Down}
 use Rattle.ssh_grammar.specs.Messages.{Global, Opens}
-use Rattle.ssh_grammar.specs.Said.{BadFraming, Body, Payload, Saying}
+use Rattle.ssh_grammar.specs.Said.{BadFraming, Body, Payload, Outgoing}
 use Rattle.ssh_grammar.specs.SpellMessage.{with_sender}
-use Rattle.mux_history.specs.Channels.{Channel, after_farewell, after_item, any_act, any_by, begun_by, channels_of, heard_by, held_of, is_closes, is_fails, is_held, is_number, opened_down, opened_up, own_of, with_down, with_up, with_ups}
-use Rattle.mux_history.specs.Gist.{Act, Confirmation, Confirms, Fails, Gist, Open, Refuses, Requests, Succeeds, Transport, Within, read_gist, reading, sender_of}
+use Rattle.mux_history.specs.Channels.{Channel, after_farewell, after_item, any_act, any_by, begun_by, channels_of, received_by, held_of, is_closes, is_fails, is_held, is_number, opened_down, opened_up, own_of, with_down, with_up, with_ups}
+use Rattle.mux_history.specs.Summary.{Act, Confirmation, Confirms, Fails, Summary, Open, Refuses, Requests, Succeeds, Transport, Within, read_summary, reading, sender_of}
 use Rattle.mux_history.specs.Journal.{IsLawful, log_of_journal}
 use Rattle.mux_history.specs.Kept.{AtEach, ForEach}
 use Rattle.mux_history.specs.Laws.{with_act}
@@ -119,7 +119,7 @@ plain-step item k up down own =
 
 -- what the row does to a channel of its client
 abbrev does : Item → List (List ℕ) → Channel → Channel
-does item up x = with_ups (own_of item) up (heard_by item x)
+does item up x = with_ups (own_of item) up (received_by item x)
 
 at-mine : (item : Item) (k : ℕ) (up down : List (List ℕ)) (x : Channel) → x.client ≡ k → after_item (plain_row item k up down) x ≡ does item up x
 at-mine item k up down x mine =
@@ -210,10 +210,10 @@ fresh-held Down w m acts e = ap (λ (l : List (Side × Act)). not (any_act is_fa
 
 -- ---- what the client says
 
-begun-said : (k : ℕ) (p : List ℕ) (given : Option HouseReply) (up : List (List ℕ)) (m : Gist) → read_gist p ≡ Ok m → begun_by k up (Says k (Payload p) given) ≡ opened_up k up m
+begun-said : (k : ℕ) (p : List ℕ) (given : Option HouseReply) (up : List (List ℕ)) (m : Summary) → read_summary p ≡ Ok m → begun_by k up (Says k (Payload p) given) ≡ opened_up k up m
 begun-said k p given up m reads = reading-ok p m (opened_up k up) [] reads
 
-pub said-act : (k : ℕ) (own : List Row) (p : List ℕ) (given : Option HouseReply) (down : List (List ℕ)) (s : ℕ) (act : Act) → read_gist p ≡ Ok (Within s act)
+pub said-act : (k : ℕ) (own : List Row) (p : List ℕ) (given : Option HouseReply) (down : List (List ℕ)) (s : ℕ) (act : Act) → read_summary p ≡ Ok (Within s act)
     → Good (held_of own) → Each (IsMine k) (held_of own) → (fs bs : List Channel) (x : Channel) → held_of own ≡ fs ++ x ∷ bs → x.remote ≡ Some s
     → held_of (plain_row (Says k (Payload p) given) k (p ∷ []) down ∷ own) ≡ fs ++ kept (with_act Up act x) bs
 said-act k own p given down s act reads good mine fs bs x are remote =
@@ -223,14 +223,14 @@ said-act k own p given down s act reads good mine fs bs x are remote =
     (λ its held. reading-ok p (Within s act) (λ m. with_up (own_of item) m x) x reads ∙ up-within (own_of item) s act x remote held)
     (begun-said k p given (p ∷ []) (Within s act) reads)
 
-pub said-confirmation : (k : ℕ) (own : List Row) (p : List ℕ) (given : Option HouseReply) (down : List (List ℕ)) (pick s n w m : ℕ) → AreBytes p → read_gist p ≡ Ok (Confirmation s n w m)
+pub said-confirmation : (k : ℕ) (own : List Row) (p : List ℕ) (given : Option HouseReply) (down : List (List ℕ)) (pick s n w m : ℕ) → AreBytes p → read_summary p ≡ Ok (Confirmation s n w m)
     → Good (held_of own) → Each (IsMine k) (held_of own) → (fs bs : List Channel) (x : Channel) → held_of own ≡ fs ++ x ∷ bs → x.remote ≡ Some s → x.acts ≡ []
     → (number : ℕ) × (held_of (plain_row (Says k (Payload p) given) k (with_sender p pick ∷ []) down ∷ own) ≡ fs ++ (record x { own = Some n; number = Some number; acts = (Up, Confirms w m) ∷ x.acts }) ∷ bs)
 said-confirmation k own p given down pick s n w m bytes reads good mine fs bs x are remote fresh =
     let item = Says k (Payload p) given in
     let q = with_sender p pick in
     let in_it : SenderIn p (Confirmation s n w m) = sender-in p (Confirmation s n w m) n bytes reads refl in
-    let sent : read_gist q ≡ Ok (Confirmation s (word pick) w m) = reads-sent p (Confirmation s n w m) in_it pick in
+    let sent : read_summary q ≡ Ok (Confirmation s (word pick) w m) = reads-sent p (Confirmation s n w m) in_it pick in
     let owns : own_of item ≡ Some n = reading-ok p (Confirmation s n w m) sender_of None reads in
     let x' : Channel = record x { own = Some n; number = Some (word pick); acts = (Up, Confirms w m) ∷ x.acts } in (
       word pick,
@@ -242,14 +242,14 @@ said-confirmation k own p given down pick s n w m bytes reads good mine fs bs x 
           ∙ ap (λ (l : List Channel). fs ++ l) (kept-held x' bs (fresh-held Up w m x.acts fresh)),
     )
 
-pub said-open : (k : ℕ) (own : List Row) (p : List ℕ) (given : Option HouseReply) (down : List (List ℕ)) (pick : ℕ) (what : Opens) (n w m : ℕ) → AreBytes p → read_gist p ≡ Ok (Open what n w m)
+pub said-open : (k : ℕ) (own : List Row) (p : List ℕ) (given : Option HouseReply) (down : List (List ℕ)) (pick : ℕ) (what : Opens) (n w m : ℕ) → AreBytes p → read_summary p ≡ Ok (Open what n w m)
     → (number : ℕ) × (held_of (plain_row (Says k (Payload p) given) k (with_sender p pick ∷ []) down ∷ own)
     ≡ held_of own ++ (record { client = k; by = Up; own = Some n; number = Some number; remote = None; window = w; maximum = m; acts = [] }) ∷ [])
 said-open k own p given down pick what n w m bytes reads =
     let item = Says k (Payload p) given in
     let q = with_sender p pick in
     let in_it : SenderIn p (Open what n w m) = sender-in p (Open what n w m) n bytes reads refl in
-    let sent : read_gist q ≡ Ok (Open what (word pick) w m) = reads-sent p (Open what n w m) in_it pick in
+    let sent : read_summary q ≡ Ok (Open what (word pick) w m) = reads-sent p (Open what n w m) in_it pick in
     let z : Channel = record { client = k; by = Up; own = Some n; number = Some (word pick); remote = None; window = w; maximum = m; acts = [] } in (
       word pick,
       none-changes item k (q ∷ []) down own (z ∷ [])
@@ -259,17 +259,17 @@ said-open k own p given down pick what n w m bytes reads =
           (refl, tt),
     )
 
-begun-nothing : (k : ℕ) (saying : Saying) (given : Option HouseReply) → begun_by k [] (Says k saying given) ≡ []
-begun-nothing k (Payload p) given = elim (read_gist p) as (λ (r : Result Gist Bad). (elim r as (λ _. List Channel) [ Err e ↦ [] | Ok m ↦ opened_up k [] m ]) ≡ []) [ Err e ↦ refl | Ok m ↦ refl ]
+begun-nothing : (k : ℕ) (outgoing : Outgoing) (given : Option HouseReply) → begun_by k [] (Says k outgoing given) ≡ []
+begun-nothing k (Payload p) given = elim (read_summary p) as (λ (r : Result Summary Bad). (elim r as (λ _. List Channel) [ Err e ↦ [] | Ok m ↦ opened_up k [] m ]) ≡ []) [ Err e ↦ refl | Ok m ↦ refl ]
 begun-nothing k (Body body) given = refl
 begun-nothing k (BadFraming fault) given = refl
 
-pub said-nothing : (k : ℕ) (own : List Row) (saying : Saying) (given : Option HouseReply) (down : List (List ℕ)) → held_of (plain_row (Says k saying given) k [] down ∷ own) ≡ held_of own
-said-nothing k own saying given down =
-    let item = Says k saying given in
-    still item k [] down own (each-any (λ (y : Channel). does item [] y ≡ y) (λ y. refl) (held_of own)) (begun-nothing k saying given)
+pub said-nothing : (k : ℕ) (own : List Row) (outgoing : Outgoing) (given : Option HouseReply) (down : List (List ℕ)) → held_of (plain_row (Says k outgoing given) k [] down ∷ own) ≡ held_of own
+said-nothing k own outgoing given down =
+    let item = Says k outgoing given in
+    still item k [] down own (each-any (λ (y : Channel). does item [] y ≡ y) (λ y. refl) (held_of own)) (begun-nothing k outgoing given)
 
-pub said-request : (k : ℕ) (own : List Row) (p : List ℕ) (given : Option HouseReply) (down : List (List ℕ)) (what : Global) (wants : Bool) → read_gist p ≡ Ok (Requests what wants)
+pub said-request : (k : ℕ) (own : List Row) (p : List ℕ) (given : Option HouseReply) (down : List (List ℕ)) (what : Global) (wants : Bool) → read_summary p ≡ Ok (Requests what wants)
     → held_of (plain_row (Says k (Payload p) given) k (p ∷ []) down ∷ own) ≡ held_of own
 said-request k own p given down what wants reads =
     let item = Says k (Payload p) given in
@@ -279,16 +279,16 @@ said-request k own p given down what wants reads =
 
 -- ---- what it hears
 
-begun-heard : (k : ℕ) (p : List ℕ) (up : List (List ℕ)) (m : Gist) (zs : List Channel) → read_gist p ≡ Ok m → opened_down k up m ≡ zs → (k == 0) ≡ false → begun_by k up (Heard p) ≡ zs
+begun-heard : (k : ℕ) (p : List ℕ) (up : List (List ℕ)) (m : Summary) (zs : List Channel) → read_summary p ≡ Ok m → opened_down k up m ≡ zs → (k == 0) ≡ false → begun_by k up (Heard p) ≡ zs
 begun-heard k p up m zs reads opened real =
     ap (λ (b : Bool). elim b as (λ _. List Channel) [ true ↦ [] | false ↦ reading p (opened_down k up) [] ]) real
     ∙ (reading-ok p m (opened_down k up) [] reads ∙ opened)
 
-heard-none : (k : ℕ) (p : List ℕ) (up : List (List ℕ)) (m : Gist) → read_gist p ≡ Ok m → opened_down k up m ≡ [] → begun_by k up (Heard p) ≡ []
+heard-none : (k : ℕ) (p : List ℕ) (up : List (List ℕ)) (m : Summary) → read_summary p ≡ Ok m → opened_down k up m ≡ [] → begun_by k up (Heard p) ≡ []
 heard-none k p up m reads opened =
     elim (k == 0) as (λ b. (elim b as (λ _. List Channel) [ true ↦ [] | false ↦ reading p (opened_down k up) [] ]) ≡ []) [ true ↦ refl | false ↦ reading-ok p m (opened_down k up) [] reads ∙ opened ]
 
-pub heard-act : (k : ℕ) (own : List Row) (p : List ℕ) (down : List (List ℕ)) (n : ℕ) (act : Act) → read_gist p ≡ Ok (Within n act)
+pub heard-act : (k : ℕ) (own : List Row) (p : List ℕ) (down : List (List ℕ)) (n : ℕ) (act : Act) → read_summary p ≡ Ok (Within n act)
     → Good (held_of own) → Each (IsMine k) (held_of own) → (fs bs : List Channel) (x : Channel) → held_of own ≡ fs ++ x ∷ bs → x.number ≡ Some n
     → held_of (plain_row (Heard p) k [] down ∷ own) ≡ fs ++ kept (with_act Down act x) bs
 heard-act k own p down n act reads good mine fs bs x are number =
@@ -297,7 +297,7 @@ heard-act k own p down n act reads good mine fs bs x are number =
     (λ its held. reading-ok p (Within n act) (λ m. with_down m x) x reads ∙ down-within n act x number held)
     (heard-none k p [] (Within n act) reads refl)
 
-pub heard-confirmation : (k : ℕ) (own : List Row) (p : List ℕ) (down : List (List ℕ)) (n s w m : ℕ) → read_gist p ≡ Ok (Confirmation n s w m)
+pub heard-confirmation : (k : ℕ) (own : List Row) (p : List ℕ) (down : List (List ℕ)) (n s w m : ℕ) → read_summary p ≡ Ok (Confirmation n s w m)
     → Good (held_of own) → Each (IsMine k) (held_of own) → (fs bs : List Channel) (x : Channel) → held_of own ≡ fs ++ x ∷ bs → x.number ≡ Some n → x.acts ≡ []
     → held_of (plain_row (Heard p) k [] down ∷ own) ≡ fs ++ (record x { remote = Some s; acts = (Down, Confirms w m) ∷ x.acts }) ∷ bs
 heard-confirmation k own p down n s w m reads good mine fs bs x are number fresh =
@@ -311,7 +311,7 @@ heard-confirmation k own p down n s w m reads good mine fs bs x are number fresh
 not-zero : (k : ℕ) → 0 < k → (k == 0) ≡ false
 not-zero k lt = grind (arith, nat_tests)
 
-pub heard-open : (k : ℕ) (own : List Row) (p : List ℕ) (down : List (List ℕ)) (what : Opens) (s w m : ℕ) → read_gist p ≡ Ok (Open what s w m) → 0 < k
+pub heard-open : (k : ℕ) (own : List Row) (p : List ℕ) (down : List (List ℕ)) (what : Opens) (s w m : ℕ) → read_summary p ≡ Ok (Open what s w m) → 0 < k
     → held_of (plain_row (Heard p) k [] down ∷ own)
     ≡ held_of own ++ (record { client = k; by = Down; own = None; number = None; remote = Some s; window = w; maximum = m; acts = [] }) ∷ []
 heard-open k own p down what s w m reads real =
@@ -321,7 +321,7 @@ heard-open k own p down what s w m reads real =
     (begun-heard k p [] (Open what s w m) (z ∷ []) reads refl (not-zero k real))
     (refl, tt)
 
-pub heard-refused : (k : ℕ) (own : List Row) (p q : List ℕ) (down : List (List ℕ)) (what : Opens) (s w m : ℕ) → read_gist p ≡ Ok (Open what s w m) → read_gist q ≡ Ok (Within s Fails)
+pub heard-refused : (k : ℕ) (own : List Row) (p q : List ℕ) (down : List (List ℕ)) (what : Opens) (s w m : ℕ) → read_summary p ≡ Ok (Open what s w m) → read_summary q ≡ Ok (Within s Fails)
     → Each (λ (x : Channel). is_number x.remote s ≡ false) (held_of own)
     → held_of (plain_row (Heard p) k (q ∷ []) down ∷ own) ≡ held_of own
 heard-refused k own p q down what s w m reads fails unused =
@@ -332,7 +332,7 @@ heard-refused k own p q down what s w m reads fails unused =
     (heard-none k p (q ∷ []) (Open what s w m) reads refl)
 
 -- to no channel, and no open
-abbrev pub IsOutside : Gist → Type 0
+abbrev pub IsOutside : Summary → Type 0
 IsOutside (Transport number) = Unit {0}
 IsOutside (Requests what wants) = Unit {0}
 IsOutside (Succeeds rest) = Unit {0}
@@ -341,16 +341,16 @@ IsOutside (Open what s w m) = ⊥
 IsOutside (Confirmation n s w m) = ⊥
 IsOutside (Within n act) = ⊥
 
-outside-begins : (k : ℕ) (m : Gist) → IsOutside m → opened_down k [] m ≡ []
+outside-begins : (k : ℕ) (m : Summary) → IsOutside m → opened_down k [] m ≡ []
 outside-begins k (Open what s w m) out = absurd out
 outside-begins k m out = refl
 
-outside-stays : (m : Gist) (y : Channel) → IsOutside m → with_down m y ≡ y
+outside-stays : (m : Summary) (y : Channel) → IsOutside m → with_down m y ≡ y
 outside-stays (Confirmation n s w m) y out = absurd out
 outside-stays (Within n act) y out = absurd out
 outside-stays m y out = refl
 
-pub heard-other : (k : ℕ) (own : List Row) (p : List ℕ) (down : List (List ℕ)) (m : Gist) → read_gist p ≡ Ok m → IsOutside m
+pub heard-other : (k : ℕ) (own : List Row) (p : List ℕ) (down : List (List ℕ)) (m : Summary) → read_summary p ≡ Ok m → IsOutside m
     → held_of (plain_row (Heard p) k [] down ∷ own) ≡ held_of own
 heard-other k own p down m reads out =
     still (Heard p) k [] down own
@@ -359,17 +359,17 @@ heard-other k own p down m reads out =
 
 -- an item that no one says
 abbrev pub IsUnsaid : Item → Type 0
-IsUnsaid (Says j saying given) = ⊥
+IsUnsaid (Says j outgoing given) = ⊥
 IsUnsaid (Heard p) = ⊥
 IsUnsaid item = Unit {0}
 
 unsaid-begins : (k : ℕ) (item : Item) → IsUnsaid item → begun_by k [] item ≡ []
-unsaid-begins k (Says j saying given) out = absurd out
+unsaid-begins k (Says j outgoing given) out = absurd out
 unsaid-begins k (Heard p) out = absurd out
 unsaid-begins k item out = refl
 
 unsaid-stays : (item : Item) (y : Channel) → IsUnsaid item → does item [] y ≡ y
-unsaid-stays (Says j saying given) y out = absurd out
+unsaid-stays (Says j outgoing given) y out = absurd out
 unsaid-stays (Heard p) y out = absurd out
 unsaid-stays item y out = refl
 
@@ -379,14 +379,14 @@ plain-other k own item down out =
 
 -- ---- the channels stay the client's
 
-begins-mine : (k : ℕ) (up : List (List ℕ)) (m : Gist) → Each (IsMine k) (opened_up k up m) × Each (IsMine k) (opened_down k up m)
+begins-mine : (k : ℕ) (up : List (List ℕ)) (m : Summary) → Each (IsMine k) (opened_up k up m) × Each (IsMine k) (opened_down k up m)
 begins-mine k [] (Open what s w m) = (tt, (refl, tt))
 begins-mine k (q ∷ qs) (Open what s w m) = ((refl, tt), tt)
 begins-mine k [] m = (tt, tt)
 begins-mine k (q ∷ qs) m = (tt, tt)
 
-reads-mine : (k : ℕ) (p : List ℕ) (f : Gist → List Channel) → ((m : Gist) → Each (IsMine k) (f m)) → Each (IsMine k) (reading p f [])
-reads-mine k p f each = elim (read_gist p) as (λ (r : Result Gist Bad). Each (IsMine k) (elim r as (λ _. List Channel) [ Err e ↦ [] | Ok m ↦ f m ])) [ Err e ↦ tt | Ok m ↦ each m ]
+reads-mine : (k : ℕ) (p : List ℕ) (f : Summary → List Channel) → ((m : Summary) → Each (IsMine k) (f m)) → Each (IsMine k) (reading p f [])
+reads-mine k p f each = elim (read_summary p) as (λ (r : Result Summary Bad). Each (IsMine k) (elim r as (λ _. List Channel) [ Err e ↦ [] | Ok m ↦ f m ])) [ Err e ↦ tt | Ok m ↦ each m ]
 
 begun-mine : (k : ℕ) (up : List (List ℕ)) (item : Item) → Each (IsMine k) (begun_by k up item)
 begun-mine k up (Says j (Payload p) given) = reads-mine k p (opened_up k up) (λ m. (begins-mine k up m).0)

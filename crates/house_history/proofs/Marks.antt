@@ -10,7 +10,7 @@ use Rattle.ssh_grammar.specs.Said.{InProxy, parse}
 use Rattle.ssh_grammar.specs.SpellControl.{spell_answer}
 use Rattle.ssh_grammar.specs.declared.numbers.TheConstants.{VERSION}
 use Rattle.mux_outside.specs.Greeting.{GreetsFirst}
-use Rattle.mux_outside.specs.HouseCalls.{Begins, Got, End, Failed, Hears, HouseCall, Joined, Marks, Turns, Writable}
+use Rattle.mux_outside.specs.HouseCalls.{Begins, Got, End, Failed, Receives, HouseCall, Joined, Marks, Turns, Writable}
 use Rattle.mux_outside.specs.HouseCalls as call
 use Rattle.mux_outside.specs.OwnStreams.{is_own}
 use Rattle.mux_outside.specs.Whose.{is_server}
@@ -23,7 +23,7 @@ use Rattle.mux_outside.specs.declared.mark.Mark.TheVariants.{Waits, Accepts, Get
 use Rattle.mux_outside.specs.declared.starts.Starts.{Starts}
 use Rattle.mux_outside.specs.declared.turn.Want.TheVariants.{Read, WriteOnly}
 use Rattle.mux_history.specs.declared.limits.TheConstants.{HOUSE}
-use Rattle.mux_history.specs.Journal.{IsLawful, LawfulMark, bytes_in, bytes_of, is_accepted, is_own_stream, items_in, log_of_journal, new_heard, new_sayings, server_end, unless_own, LawfulHouse}
+use Rattle.mux_history.specs.Journal.{IsLawful, LawfulMark, bytes_in, bytes_of, is_accepted, is_own_stream, items_in, log_of_journal, new_received, new_sayings, server_end, unless_own, LawfulHouse}
 use Rattle.mux_history.specs.Kept.{AtEach}
 use Rattle.mux_history.specs.Log.{Setting, is_took, makes_row, more_all, more_of, next_row, makes_next}
 use Rattle.mux_history.specs.Pending.{pending}
@@ -32,37 +32,37 @@ use Rattle.mux_history.specs.Promises.{SpeaksInTime, Throughout, WaitsAt}
 use Rattle.mux_history.specs.Rows.{Admit, BadServer, Gone, Heard, HouseSays, Item, Row, RunEnd, Says, ServerCut, ServerEnd, ServerFailed, Took, is_ended, is_lost, rows_of}
 use Rattle.mux_history.specs.Settings.{by_lists}
 use Rattle.mux_history.specs.Wires.{FollowsRead, ReadsWhenAsked}
-use Rattle.mux_clients.specs.Asked.{asked_of}
+use Rattle.mux_peers.specs.Asked.{asked_of}
 use Rattle.mux_engine.specs.Answers.{AnswersDeferred, is_deferred}
 use Rattle.mux_engine.specs.Called.{calls_at, calls_in, if_own}
 use Rattle.mux_engine.specs.Places.{IsOfOthers, is_about}
 use Rattle.mux_engine.proofs.Greeting.{greets-before}
-use Rattle.house_forward.specs.Lives.{Course, Follows, Life, Reaches, SaysBy, first_course}
+use Rattle.house_forward.specs.RelayTraces.{Trace, Follows, Life, Reaches, SendsBy, first_trace}
 use Rattle.house_forward.proofs.Sound.{All, Sound, all-sound, follow-sound}
 use Rattle.house_history.specs.Runs.{HouseStays}
 use Rattle.house_history.proofs.Lists.{Each, each-found, each-front, found}
-use Rattle.house_history.proofs.Hearing.{NoGrant, Told, Waits as WaitsFor, hears, none-left}
+use Rattle.house_history.proofs.Receiving.{NoGrant, Recorded, Waits as WaitsFor, receives, none-left}
 use Rattle.house_history.proofs.Requesting.{requests-few}
 use Rattle.house_history.proofs.RowsOf.{heard-size, plain_row, total}
 use Rattle.house_history.proofs.AnswersOf.{atEach-before, atEach-here, heard-sized}
 use Rattle.house_history.proofs.Calm.{IsCalm, distinct-of}
-use Rattle.house_history.proofs.Going.{After, Going, IsOn, IsOver, RightAt, SaidSo, in-kept, others-stay, own-more}
-use Rattle.house_history.proofs.Items.{HeardRow, IsOther, OnWith, heard-items, is-bytes-all, is-heard-all, is-other-all, others-items, next-other, IsHeardItem}
+use Rattle.house_history.proofs.Going.{After, Going, IsOn, IsOver, RightAt, SentSo, in-kept, others-stay, own-more}
+use Rattle.house_history.proofs.Items.{ReceivedRow, IsOther, OnWith, heard-items, is-bytes-all, is-heard-all, is-other-all, others-items, next-other, IsReceivedItem}
 use Rattle.house_history.proofs.Takes.{calm-rest, calm-step, took-step}
-use Rattle.house_history.proofs.Desks.{desk-heard}
+use Rattle.house_history.proofs.ForwardingStates.{forwarding_state-heard}
 use Rattle.house_history.proofs.Asks.{greets-step, request-step}
 use Rattle.house_history.proofs.Relays.{EachSmall, WindowIn, relay-step}
 use Rattle.house_history.proofs.Remotes.{IsSmallChannel, remotes-held, stream-bytes}
-use Rattle.house_history.proofs.HeardRows.{heard-client, heard-row}
+use Rattle.house_history.proofs.ReceivedRows.{heard-client, heard-row}
 use Rattle.house_history.proofs.Right.{right-held}
-use Rattle.house_history.proofs.Unasked.{course-greets, house-unasked}
+use Rattle.house_history.proofs.Unasked.{trace-greets, house-unasked}
 use Rattle.house_history.proofs.Readings.{SmallIn}
 use Rattle.house_history.proofs.Views.{IsOffered, View}
 use Rattle.house_history.proofs.Fitting.{Entry, Fits, FitsAs, Owns, number-is, offered-at, owned-at}
 use Rattle.house_history.proofs.Seen.{AreViews, Seen, ViewOf, note-in}
 use Rattle.house_relay.specs.Acts.{Act}
-use Rattle.house_relay.specs.declared.line.Line.{Line}
-use Rattle.house_relay.specs.declared.line.Line.TheVariants as line
+use Rattle.house_relay.specs.declared.line.ChannelState.{ChannelState}
+use Rattle.house_relay.specs.declared.line.ChannelState.TheVariants as line
 use Rattle.house_forward.specs.Forwardings.{has_request}
 use Rattle.house_forward.specs.declared.forwarding.Forwarding.{Forwarding}
 use Rattle.house_forward.specs.Numbers.{channels_of}
@@ -101,7 +101,7 @@ owned-small : (hs : List Channel) (o : Option ℕ) (x : Channel) → Each IsSmal
 owned-small hs None x small f = absurd f
 owned-small hs (Some n) x small f = each-found IsSmallChannel (owned-at n) x hs f small
 
-small-view : (hs : List Channel) (l : Line) (acts : List Act) (o : Option ℕ) (v : View) → Each IsSmallChannel hs → ViewOf l acts v → FitsAs hs o v → SmallIn l × WindowIn l
+small-view : (hs : List Channel) (l : ChannelState) (acts : List Act) (o : Option ℕ) (v : View) → Each IsSmallChannel hs → ViewOf l acts v → FitsAs hs o v → SmallIn l × WindowIn l
 small-view hs (line.Dialing dialog) acts o v small h f = (tt, tt)
 small-view hs (line.Asked host port version) acts o v small h f = (tt, tt)
 small-view hs (line.Opened version) acts o v small h f = (tt, tt)
@@ -113,54 +113,54 @@ small-view hs (line.Live live) acts o v small h f =
     (subst (λ (n : ℕ). n < 2 ^ 32) (sym h.2.remote) n, tt)
 small-view hs line.Over acts o v small h f = (tt, tt)
 
-small-lives : (hs : List Channel) (lives : List Life) (es : List Entry) → Each IsSmallChannel hs → AreViews lives es → Each (Fits hs) es → EachSmall lives
-small-lives hs [] es small views fits = tt
-small-lives hs (l ∷ lives) [] small views fits = absurd views
-small-lives hs (l ∷ lives) (e ∷ es) small views fits = (small-view hs l.relay.line l.acts e.0 e.1 small views.0.view fits.0, small-lives hs lives es small views.1 fits.1)
+small-relay_traces : (hs : List Channel) (relay_traces : List Life) (es : List Entry) → Each IsSmallChannel hs → AreViews relay_traces es → Each (Fits hs) es → EachSmall relay_traces
+small-relay_traces hs [] es small views fits = tt
+small-relay_traces hs (l ∷ relay_traces) [] small views fits = absurd views
+small-relay_traces hs (l ∷ relay_traces) (e ∷ es) small views fits = (small-view hs l.relay.line l.acts e.0 e.1 small views.0.view fits.0, small-relay_traces hs relay_traces es small views.1 fits.1)
 
-lives-small : (rows : List Row) (course : Course) (told : Told) → Going rows course told → pending HOUSE rows ≡ [] → HeldSmall rows → EachSmall course.lives
-lives-small rows course told g empty small =
+relay_traces-small : (rows : List Row) (trace : Trace) (recorded : Recorded) → Going rows trace recorded → pending HOUSE rows ≡ [] → HeldSmall rows → EachSmall trace.relay_traces
+relay_traces-small rows trace recorded g empty small =
     let hs = held_of (rows_of HOUSE rows) in
-    let none = none-left course told (subst (λ (b : List ℕ). WaitsFor course b told) empty g.waits) in
-    let s : Seen hs course.lives [] = subst (λ (ps : List (List ℕ)). Seen hs course.lives (map note-in ps)) none.1 g.seen in
-    small-lives hs course.lives s.entries small s.views (each-front (Fits hs) s.entries s.orphans s.later.fits)
+    let none = none-left trace recorded (subst (λ (b : List ℕ). WaitsFor trace b recorded) empty g.waits) in
+    let s : Seen hs trace.relay_traces [] = subst (λ (ps : List (List ℕ)). Seen hs trace.relay_traces (map note-in ps)) none.1 g.seen in
+    small-relay_traces hs trace.relay_traces s.entries small s.views (each-front (Fits hs) s.entries s.orphans s.later.fits)
 
 -- and those of the house
-numbers-each : (lives : List Life) → AllByRecursion (λ n. n < 2 ^ 32) (channels_of lives) → Each (λ (l : Life). l.relay.number < 2 ^ 32) lives
+numbers-each : (relay_traces : List Life) → AllByRecursion (λ n. n < 2 ^ 32) (channels_of relay_traces) → Each (λ (l : Life). l.relay.number < 2 ^ 32) relay_traces
 numbers-each [] all = tt
-numbers-each (l ∷ lives) all = (all.0, numbers-each lives all.1)
+numbers-each (l ∷ relay_traces) all = (all.0, numbers-each relay_traces all.1)
 
-numbers-small : (calls : List HouseCall) (course : Course) → Reaches first_course calls course → Each (λ (l : Life). l.relay.number < 2 ^ 32) course.lives
-numbers-small calls course h = numbers-each course.lives (channels-small calls course h)
+numbers-small : (calls : List HouseCall) (trace : Trace) → Reaches first_trace calls trace → Each (λ (l : Life). l.relay.number < 2 ^ 32) trace.relay_traces
+numbers-small calls trace h = numbers-each trace.relay_traces (channels-small calls trace h)
 
 -- ---- calls
 
-pub record Split (calls more : List HouseCall) (a c : Course) : Type 0 where
-  pub middle : Course
+pub record Split (calls more : List HouseCall) (a c : Trace) : Type 0 where
+  pub middle : Trace
   pub first : Reaches a calls middle
   pub rest : Reaches middle more c
 
-reach-split : (calls more : List HouseCall) (a c : Course) → Reaches a (calls ++ more) c → Split calls more a c
+reach-split : (calls more : List HouseCall) (a c : Trace) → Reaches a (calls ++ more) c → Split calls more a c
 reach-split [] more a c h = record { middle = a; first = refl; rest = h }
 reach-split (one ∷ calls) more a c h =
     let s = reach-split calls more h.0 c h.2 in
     record { middle = s.middle; first = (h.0, h.1, s.first); rest = s.rest }
 
 -- calls that are calm leave the run and its house going on
-pub record Calmed (rows : List Row) (course new : Course) : Type 0 where
-  pub goes : (told : Told) → Going rows course told → Going rows new told
-  pub greeted : new.desk.greeted ≡ course.desk.greeted
+pub record Calmed (rows : List Row) (trace new : Trace) : Type 0 where
+  pub goes : (recorded : Recorded) → Going rows trace recorded → Going rows new recorded
+  pub greeted : new.forwarding_state.greeted ≡ trace.forwarding_state.greeted
 
-calms : (rows : List Row) (calls : List HouseCall) (course new : Course) → Each IsCalm calls → All Sound course → Reaches course calls new → Calmed rows course new
-calms rows [] course new calm sound h = record {
-  goes = λ told g. subst (λ (c : Course). Going rows c told) (sym h) g;
-  greeted = ap (λ c. c.desk.greeted) h;
+calms : (rows : List Row) (calls : List HouseCall) (trace new : Trace) → Each IsCalm calls → All Sound trace → Reaches trace calls new → Calmed rows trace new
+calms rows [] trace new calm sound h = record {
+  goes = λ recorded g. subst (λ (c : Trace). Going rows c recorded) (sym h) g;
+  greeted = ap (λ c. c.forwarding_state.greeted) h;
 }
-calms rows (one ∷ calls) course new calm sound h =
-    let rest = calms rows calls h.0 new calm.1 (follow-sound one course h.0 h.1 sound) h.2 in
-    let first = calm-rest one course h.0 calm.0 h.1 in
+calms rows (one ∷ calls) trace new calm sound h =
+    let rest = calms rows calls h.0 new calm.1 (follow-sound one trace h.0 h.1 sound) h.2 in
+    let first = calm-rest one trace h.0 calm.0 h.1 in
     record {
-      goes = λ told g. rest.goes told (calm-step rows course h.0 one told sound calm.0 h.1 g);
+      goes = λ recorded g. rest.goes recorded (calm-step rows trace h.0 one recorded sound calm.0 h.1 g);
       greeted = rest.greeted ∙ first.greeted;
     }
 
@@ -173,9 +173,9 @@ if-calm t one calm = go (is_own t)
 
 -- ---- what is so behind each mark
 
-pub data Inv (setting : Setting) (journal : List Mark) (course : Course) : Type 0 where
-  Past : is_ended (log_of_journal setting journal) ≡ true → is_lost (rows_of HOUSE (log_of_journal setting journal)) ≡ false → Inv setting journal course
-  Here : (told : Told) → Going (log_of_journal setting journal) course told → SaidSo course.desk.greeted (bytes_of HOUSE journal) → Inv setting journal course
+pub data Inv (setting : Setting) (journal : List Mark) (trace : Trace) : Type 0 where
+  Past : is_ended (log_of_journal setting journal) ≡ true → is_lost (rows_of HOUSE (log_of_journal setting journal)) ≡ false → Inv setting journal trace
+  Here : (recorded : Recorded) → Going (log_of_journal setting journal) trace recorded → SentSo trace.forwarding_state.greeted (bytes_of HOUSE journal) → Inv setting journal trace
 
 -- the house says nothing at this mark
 bytes-same : (mark : Mark) (before : List Mark) → bytes_in HOUSE mark ≡ [] → bytes_of HOUSE (mark ∷ before) ≡ bytes_of HOUSE before
@@ -186,21 +186,21 @@ record IsQuiet (setting : Setting) (before : List Mark) (mark : Mark) : Type 0 w
   silent : bytes_in HOUSE mark ≡ []
   calm : Each IsCalm (calls_at setting before mark)
 
-after-so : (setting : Setting) (before : List Mark) (mark : Mark) (course new : Course) → bytes_of HOUSE (mark ∷ before) ≡ bytes_of HOUSE before → new.desk.greeted ≡ course.desk.greeted
-    → SaidSo course.desk.greeted (bytes_of HOUSE before) → SaidSo new.desk.greeted (bytes_of HOUSE (mark ∷ before))
-after-so setting before mark course new same greeted said =
-    subst (λ (b : Bool). SaidSo b (bytes_of HOUSE (mark ∷ before))) (sym greeted) (subst (λ (bytes : List ℕ). SaidSo course.desk.greeted bytes) (sym same) said)
+after-so : (setting : Setting) (before : List Mark) (mark : Mark) (trace new : Trace) → bytes_of HOUSE (mark ∷ before) ≡ bytes_of HOUSE before → new.forwarding_state.greeted ≡ trace.forwarding_state.greeted
+    → SentSo trace.forwarding_state.greeted (bytes_of HOUSE before) → SentSo new.forwarding_state.greeted (bytes_of HOUSE (mark ∷ before))
+after-so setting before mark trace new same greeted said =
+    subst (λ (b : Bool). SentSo b (bytes_of HOUSE (mark ∷ before))) (sym greeted) (subst (λ (bytes : List ℕ). SentSo trace.forwarding_state.greeted bytes) (sym same) said)
 
 -- where its items are after, so is all
-pub quiet-step : (policy : Policy) (pid : ℕ) (picks : List ℕ) (given : List HouseReply) (before : List Mark) (mark : Mark) (course new : Course) → bytes_in HOUSE mark ≡ []
-    → Each IsCalm (calls_at (by_lists policy pid picks given) before mark) → All Sound course → Reaches course (calls_at (by_lists policy pid picks given) before mark) new
-    → SaidSo course.desk.greeted (bytes_of HOUSE before)
-    → After (log_of_journal (by_lists policy pid picks given) (mark ∷ before)) course → Inv (by_lists policy pid picks given) (mark ∷ before) new
-quiet-step policy pid picks given before mark course new silent calm sound reached said (IsOver ended kept) = Past ended kept
-quiet-step policy pid picks given before mark course new silent calm sound reached said (IsOn told g) =
+pub quiet-step : (policy : Policy) (pid : ℕ) (picks : List ℕ) (given : List HouseReply) (before : List Mark) (mark : Mark) (trace new : Trace) → bytes_in HOUSE mark ≡ []
+    → Each IsCalm (calls_at (by_lists policy pid picks given) before mark) → All Sound trace → Reaches trace (calls_at (by_lists policy pid picks given) before mark) new
+    → SentSo trace.forwarding_state.greeted (bytes_of HOUSE before)
+    → After (log_of_journal (by_lists policy pid picks given) (mark ∷ before)) trace → Inv (by_lists policy pid picks given) (mark ∷ before) new
+quiet-step policy pid picks given before mark trace new silent calm sound reached said (IsOver ended kept) = Past ended kept
+quiet-step policy pid picks given before mark trace new silent calm sound reached said (IsOn recorded g) =
     let setting = by_lists policy pid picks given in
-    let c = calms (log_of_journal setting (mark ∷ before)) (calls_at setting before mark) course new calm sound reached in
-    Here told (c.goes told g) (after-so setting before mark course new (bytes-same mark before silent) c.greeted said)
+    let c = calms (log_of_journal setting (mark ∷ before)) (calls_at setting before mark) trace new calm sound reached in
+    Here recorded (c.goes recorded g) (after-so setting before mark trace new (bytes-same mark before silent) c.greeted said)
 
 -- behind the end only what is taken makes rows
 pub record IsPast (rows : List Row) : Type 0 where
@@ -239,7 +239,7 @@ module _ (policy : Policy) (pid : ℕ) (picks : List ℕ) (given : List HouseRep
   past-item : (item : Item) (rows : List Row) → IsPast rows → IsPast (more_of setting rows item)
   past-item (Took t n) rows p = past-took t n rows p
   past-item (Admit k) rows p = past-same (Admit k) rows refl p
-  past-item (Says k saying reply) rows p = past-same (Says k saying reply) rows refl p
+  past-item (Says k outgoing reply) rows p = past-same (Says k outgoing reply) rows refl p
   past-item (HouseSays k id reply) rows p = past-same (HouseSays k id reply) rows refl p
   past-item (Gone k) rows p = past-same (Gone k) rows refl p
   past-item (Heard payload) rows p = past-same (Heard payload) rows refl p
@@ -300,7 +300,7 @@ module _ (policy : Policy) (pid : ℕ) (picks : List ℕ) (given : List HouseRep
   -- ---- one mark more
 
   -- what is known of it
-  record OneMore (before : List Mark) (mark : Mark) (course new : Course) : Type 0 where
+  record OneMore (before : List Mark) (mark : Mark) (trace new : Trace) : Type 0 where
     lawful : LawfulMark before mark
     lawful_before : IsLawful before
     asked : ReadsWhenAsked before mark
@@ -310,85 +310,85 @@ module _ (policy : Policy) (pid : ℕ) (picks : List ℕ) (given : List HouseRep
     right : AtEach RightAt (log_of_journal setting (mark ∷ before))
     small : HeldSmall (log_of_journal setting before)
     calls : List HouseCall
-    reached : Reaches first_course calls course
-    goes : Reaches course (calls_at setting before mark) new
+    reached : Reaches first_trace calls trace
+    goes : Reaches trace (calls_at setting before mark) new
 
   -- what its items leave
-  after-is : (mark : Mark) (before : List Mark) (new : Course) → After (log_of_journal setting (mark ∷ before)) new → SaidSo new.desk.greeted (bytes_of HOUSE (mark ∷ before)) → Inv setting (mark ∷ before) new
+  after-is : (mark : Mark) (before : List Mark) (new : Trace) → After (log_of_journal setting (mark ∷ before)) new → SentSo new.forwarding_state.greeted (bytes_of HOUSE (mark ∷ before)) → Inv setting (mark ∷ before) new
   after-is mark before new (IsOver ended kept) said = Past ended kept
-  after-is mark before new (IsOn told g) said = Here told g said
+  after-is mark before new (IsOn recorded g) said = Here recorded g said
 
   -- a mark of others
-  other-mark : (before : List Mark) (mark : Mark) (course new : Course) (told : Told) → OneMore before mark course new → Going (log_of_journal setting before) course told → SaidSo course.desk.greeted (bytes_of HOUSE before)
+  other-mark : (before : List Mark) (mark : Mark) (trace new : Trace) (recorded : Recorded) → OneMore before mark trace new → Going (log_of_journal setting before) trace recorded → SentSo trace.forwarding_state.greeted (bytes_of HOUSE before)
       → bytes_in HOUSE mark ≡ [] → Each IsCalm (calls_at setting before mark) → Each IsOther (items_in before mark) → Inv setting (mark ∷ before) new
-  other-mark before mark course new told one g said silent calm others =
-      quiet-step policy pid picks given before mark course new silent calm (all-sound one.calls course one.reached) one.goes said
-      (others-items policy pid picks given (items_in before mark) (log_of_journal setting before) course others (IsOn told g))
+  other-mark before mark trace new recorded one g said silent calm others =
+      quiet-step policy pid picks given before mark trace new silent calm (all-sound one.calls trace one.reached) one.goes said
+      (others-items policy pid picks given (items_in before mark) (log_of_journal setting before) trace others (IsOn recorded g))
 
-  server-mark : HeardRow policy pid → (before : List Mark) (bytes : List ℕ) (course new : Course) (told : Told) → OneMore before (Gets 0 bytes) course new → Going (log_of_journal setting before) course told → SaidSo course.desk.greeted (bytes_of HOUSE before)
+  server-mark : ReceivedRow policy pid → (before : List Mark) (bytes : List ℕ) (trace new : Trace) (recorded : Recorded) → OneMore before (Gets 0 bytes) trace new → Going (log_of_journal setting before) trace recorded → SentSo trace.forwarding_state.greeted (bytes_of HOUSE before)
       → Inv setting (Gets 0 bytes ∷ before) new
-  server-mark heard before bytes course new told one g said =
+  server-mark heard before bytes trace new recorded one g said =
       let was = bytes_of 0 before in
-      let size : total (new_heard was (was ++ bytes)) ≤ 327683 = heard-size was bytes (stream-bytes 0 before one.lawful_before) one.lawful.3 one.lawful.2 in
+      let size : total (new_received was (was ++ bytes)) ≤ 327683 = heard-size was bytes (stream-bytes 0 before one.lawful_before) one.lawful.3 one.lawful.2 in
       let none : pending HOUSE (log_of_journal setting before) ≡ [] = none-before before (one.asked refl) one.waits in
-      let room : length (pending HOUSE (log_of_journal setting before)) + 65 * total (new_heard was (was ++ bytes)) ≤ 33554432 = let l : length (pending HOUSE (log_of_journal setting before)) ≡ 0 = ap length none in omega (arith, size, l) in
-      quiet-step policy pid picks given before (Gets 0 bytes) course new refl tt (all-sound one.calls course one.reached) one.goes said
-      (heard-items policy pid picks given heard (new_heard was (was ++ bytes)) (log_of_journal setting before) course (is-heard-all was bytes) (heard-sized was bytes) (is-bytes-all was bytes (stream-bytes 0 before one.lawful_before) one.lawful.3) one.right
-      (requests-few one.calls course one.reached) (OnWith told g room))
+      let room : length (pending HOUSE (log_of_journal setting before)) + 65 * total (new_received was (was ++ bytes)) ≤ 33554432 = let l : length (pending HOUSE (log_of_journal setting before)) ≡ 0 = ap length none in omega (arith, size, l) in
+      quiet-step policy pid picks given before (Gets 0 bytes) trace new refl tt (all-sound one.calls trace one.reached) one.goes said
+      (heard-items policy pid picks given heard (new_received was (was ++ bytes)) (log_of_journal setting before) trace (is-heard-all was bytes) (heard-sized was bytes) (is-bytes-all was bytes (stream-bytes 0 before one.lawful_before) one.lawful.3) one.right
+      (requests-few one.calls trace one.reached) (OnWith recorded g room))
 
-  gets-mark : HeardRow policy pid → (before : List Mark) (t : ℕ) (bytes : List ℕ) (course new : Course) (told : Told) → OneMore before (Gets t bytes) course new → Going (log_of_journal setting before) course told → SaidSo course.desk.greeted (bytes_of HOUSE before)
+  gets-mark : ReceivedRow policy pid → (before : List Mark) (t : ℕ) (bytes : List ℕ) (trace new : Trace) (recorded : Recorded) → OneMore before (Gets t bytes) trace new → Going (log_of_journal setting before) trace recorded → SentSo trace.forwarding_state.greeted (bytes_of HOUSE before)
       → Inv setting (Gets t bytes ∷ before) new
-  gets-mark heard before t bytes course new told one g said = go (is_server t) refl
+  gets-mark heard before t bytes trace new recorded one g said = go (is_server t) refl
     where
       go : (b : Bool) → is_server t ≡ b → Inv setting (Gets t bytes ∷ before) new
-      go true e = subst P (sym zero) (λ one. server-mark heard before bytes course new told one g said) one
+      go true e = subst P (sym zero) (λ one. server-mark heard before bytes trace new recorded one g said) one
         where
           zero : t ≡ 0
           zero = grind (arith, nat_tests)
 
           P : ℕ → Type 0
-          P i = OneMore before (Gets i bytes) course new → Inv setting (Gets i bytes ∷ before) new
-      go false e = other-mark before (Gets t bytes) course new told one g said (gets-none t bytes one.other) (if-calm t (Turns (Got t bytes)) tt)
+          P i = OneMore before (Gets i bytes) trace new → Inv setting (Gets i bytes ∷ before) new
+      go false e = other-mark before (Gets t bytes) trace new recorded one g said (gets-none t bytes one.other) (if-calm t (Turns (Got t bytes)) tt)
           (subst (Each IsOther) (sym items) (gets-other t (bytes_of t before) bytes (is_own_stream t) one.other))
         where
           items : items_in before (Gets t bytes) ≡ unless_own t (new_sayings t (bytes_of t before) (bytes_of t before ++ bytes))
-          items = ap (λ (b : Bool). elim b as (λ _. List Item) [ true ↦ new_heard (bytes_of 0 before) (bytes_of 0 before ++ bytes) | false ↦ unless_own t (new_sayings t (bytes_of t before) (bytes_of t before ++ bytes)) ]) e
+          items = ap (λ (b : Bool). elim b as (λ _. List Item) [ true ↦ new_received (bytes_of 0 before) (bytes_of 0 before ++ bytes) | false ↦ unless_own t (new_sayings t (bytes_of t before) (bytes_of t before ++ bytes)) ]) e
 
-  ends-mark : (before : List Mark) (t : ℕ) (course new : Course) (told : Told) → OneMore before (Ends t) course new → Going (log_of_journal setting before) course told → SaidSo course.desk.greeted (bytes_of HOUSE before)
+  ends-mark : (before : List Mark) (t : ℕ) (trace new : Trace) (recorded : Recorded) → OneMore before (Ends t) trace new → Going (log_of_journal setting before) trace recorded → SentSo trace.forwarding_state.greeted (bytes_of HOUSE before)
       → Inv setting (Ends t ∷ before) new
-  ends-mark before t course new told one g said = other-mark before (Ends t) course new told one g said refl (if-calm t (Turns (End t)) tt)
+  ends-mark before t trace new recorded one g said = other-mark before (Ends t) trace new recorded one g said refl (if-calm t (Turns (End t)) tt)
       (ends-other t (parse InProxy (bytes_of 0 before)).rest (is_server t) (is_own_stream t) one.other)
 
-  fails-mark : (before : List Mark) (t : ℕ) (course new : Course) (told : Told) → OneMore before (Fails t) course new → Going (log_of_journal setting before) course told → SaidSo course.desk.greeted (bytes_of HOUSE before)
+  fails-mark : (before : List Mark) (t : ℕ) (trace new : Trace) (recorded : Recorded) → OneMore before (Fails t) trace new → Going (log_of_journal setting before) trace recorded → SentSo trace.forwarding_state.greeted (bytes_of HOUSE before)
       → Inv setting (Fails t ∷ before) new
-  fails-mark before t course new told one g said = other-mark before (Fails t) course new told one g said refl (if-calm t (Turns (Failed t)) tt) (fails-other t (is_server t) (is_own_stream t) one.other)
+  fails-mark before t trace new recorded one g said = other-mark before (Fails t) trace new recorded one g said refl (if-calm t (Turns (Failed t)) tt) (fails-other t (is_server t) (is_own_stream t) one.other)
 
-  write-fails-mark : (before : List Mark) (t : ℕ) (course new : Course) (told : Told) → OneMore before (WriteFails t) course new → Going (log_of_journal setting before) course told → SaidSo course.desk.greeted (bytes_of HOUSE before)
+  write-fails-mark : (before : List Mark) (t : ℕ) (trace new : Trace) (recorded : Recorded) → OneMore before (WriteFails t) trace new → Going (log_of_journal setting before) trace recorded → SentSo trace.forwarding_state.greeted (bytes_of HOUSE before)
       → Inv setting (WriteFails t ∷ before) new
-  write-fails-mark before t course new told one g said = other-mark before (WriteFails t) course new told one g said refl (if-calm t (Turns (Failed t)) tt) (fails-other t (is_server t) (is_own_stream t) one.other)
+  write-fails-mark before t trace new recorded one g said = other-mark before (WriteFails t) trace new recorded one g said refl (if-calm t (Turns (Failed t)) tt) (fails-other t (is_server t) (is_own_stream t) one.other)
 
-  takes-mark : (before : List Mark) (t : ℕ) (bytes : List ℕ) (course new : Course) (told : Told) → OneMore before (Takes t bytes) course new → Going (log_of_journal setting before) course told → SaidSo course.desk.greeted (bytes_of HOUSE before)
+  takes-mark : (before : List Mark) (t : ℕ) (bytes : List ℕ) (trace new : Trace) (recorded : Recorded) → OneMore before (Takes t bytes) trace new → Going (log_of_journal setting before) trace recorded → SentSo trace.forwarding_state.greeted (bytes_of HOUSE before)
       → Inv setting (Takes t bytes ∷ before) new
-  takes-mark before t bytes course new told one g said = other-mark before (Takes t bytes) course new told one g said refl (if-calm t (call.Takes t (length bytes)) tt) (takes-other t (length bytes) (is_own_stream t) one.other)
+  takes-mark before t bytes trace new recorded one g said = other-mark before (Takes t bytes) trace new recorded one g said refl (if-calm t (call.Takes t (length bytes)) tt) (takes-other t (length bytes) (is_own_stream t) one.other)
 
   -- ---- the house takes
 
-  took-mark : (before : List Mark) (size : ℕ) (course new : Course) (told : Told) → OneMore before (House (HouseTook size)) course new → Going (log_of_journal setting before) course told → SaidSo course.desk.greeted (bytes_of HOUSE before)
+  took-mark : (before : List Mark) (size : ℕ) (trace new : Trace) (recorded : Recorded) → OneMore before (House (HouseTook size)) trace new → Going (log_of_journal setting before) trace recorded → SentSo trace.forwarding_state.greeted (bytes_of HOUSE before)
       → Inv setting (House (HouseTook size) ∷ before) new
-  took-mark before size course new told one g said =
+  took-mark before size trace new recorded one g said =
       let rows = log_of_journal setting before in
-      let follows : Follows (Hears (take size (pending HOUSE rows))) course new = subst (λ (c : Course). Follows (Hears (take size (pending HOUSE rows))) course c) (sym one.goes.2) one.goes.1 in
-      let apart = distinct-of course.lives (channels-differ one.calls course one.reached) in
-      let heard = hears course new size (pending HOUSE rows) told g.waits follows in
-      let desk = desk-heard heard.heard course new heard.goes in
-      after-is (House (HouseTook size)) before new (took-step setting rows course new size told apart g follows)
-      (after-so setting before (House (HouseTook size)) course new (bytes-same (House (HouseTook size)) before refl) desk.greeted said)
+      let follows : Follows (Receives (take size (pending HOUSE rows))) trace new = subst (λ (c : Trace). Follows (Receives (take size (pending HOUSE rows))) trace c) (sym one.goes.2) one.goes.1 in
+      let apart = distinct-of trace.relay_traces (channels-differ one.calls trace one.reached) in
+      let heard = receives trace new size (pending HOUSE rows) recorded g.waits follows in
+      let forwarding_state = forwarding_state-heard heard.heard trace new heard.goes in
+      after-is (House (HouseTook size)) before new (took-step setting rows trace new size recorded apart g follows)
+      (after-so setting before (House (HouseTook size)) trace new (bytes-same (House (HouseTook size)) before refl) forwarding_state.greeted said)
 
   -- ---- the house speaks
 
-  said-mark : (before : List Mark) (bytes : List ℕ) (course new : Course) (told : Told) → OneMore before (House (HouseSaid bytes)) course new → Going (log_of_journal setting before) course told → SaidSo course.desk.greeted (bytes_of HOUSE before)
+  said-mark : (before : List Mark) (bytes : List ℕ) (trace new : Trace) (recorded : Recorded) → OneMore before (House (HouseSaid bytes)) trace new → Going (log_of_journal setting before) trace recorded → SentSo trace.forwarding_state.greeted (bytes_of HOUSE before)
       → Inv setting (House (HouseSaid bytes) ∷ before) new
-  said-mark before bytes course new told one g said = by_greeted course.desk.greeted refl says said
+  said-mark before bytes trace new recorded one g said = by_greeted trace.forwarding_state.greeted refl says said
     where
       rows : List Row
       rows = log_of_journal setting before
@@ -396,80 +396,80 @@ module _ (policy : Policy) (pid : ℕ) (picks : List ℕ) (given : List HouseRep
       was : List ℕ
       was = bytes_of HOUSE before
 
-      says : SaysBy course.desk.greeted (find has_request course.desk.all) bytes course new
-      says = subst (λ (c : Course). SaysBy course.desk.greeted (find has_request course.desk.all) bytes course c) (sym one.goes.2) one.goes.1
+      says : SendsBy trace.forwarding_state.greeted (find has_request trace.forwarding_state.all) bytes trace new
+      says = subst (λ (c : Trace). SendsBy trace.forwarding_state.greeted (find has_request trace.forwarding_state.all) bytes trace c) (sym one.goes.2) one.goes.1
 
-      ends : After (more_all setting rows (new_sayings HOUSE was (was ++ bytes))) new → new.desk.greeted ≡ true → SaidSo true (was ++ bytes) → Inv setting (House (HouseSaid bytes) ∷ before) new
-      ends after greets so = after-is (House (HouseSaid bytes)) before new after (subst (λ (b : Bool). SaidSo b (was ++ bytes)) (sym greets) so)
+      ends : After (more_all setting rows (new_sayings HOUSE was (was ++ bytes))) new → new.forwarding_state.greeted ≡ true → SentSo true (was ++ bytes) → Inv setting (House (HouseSaid bytes) ∷ before) new
+      ends after greets so = after-is (House (HouseSaid bytes)) before new after (subst (λ (b : Bool). SentSo b (was ++ bytes)) (sym greets) so)
 
-      greets : course.desk.greeted ≡ false → SaysBy false (find has_request course.desk.all) bytes course new → was ≡ [] → Inv setting (House (HouseSaid bytes) ∷ before) new
+      greets : trace.forwarding_state.greeted ≡ false → SendsBy false (find has_request trace.forwarding_state.all) bytes trace new → was ≡ [] → Inv setting (House (HouseSaid bytes) ∷ before) new
       greets e says none =
           let right : AtEach RightAt (more_all setting rows (new_sayings HOUSE [] ([] ++ bytes))) = subst (λ (b : List ℕ). AtEach RightAt (more_all setting rows (new_sayings HOUSE b (b ++ bytes)))) none one.right in
-          let h = greets-step policy pid picks given rows course new bytes told right g e one.speaks.heard says in
-          ends (subst (λ (b : List ℕ). After (more_all setting rows (new_sayings HOUSE b (b ++ bytes))) new) (sym none) h.after) h.greeted (subst (λ (b : List ℕ). SaidSo true (b ++ bytes)) (sym none) h.said)
+          let h = greets-step policy pid picks given rows trace new bytes recorded right g e one.speaks.heard says in
+          ends (subst (λ (b : List ℕ). After (more_all setting rows (new_sayings HOUSE b (b ++ bytes))) new) (sym none) h.after) h.greeted (subst (λ (b : List ℕ). SentSo true (b ++ bytes)) (sym none) h.said)
 
-      by_request : (o : Option Forwarding) → find has_request course.desk.all ≡ o → course.desk.greeted ≡ true → SaysBy true o bytes course new → SaidSo true was → Inv setting (House (HouseSaid bytes) ∷ before) new
+      by_request : (o : Option Forwarding) → find has_request trace.forwarding_state.all ≡ o → trace.forwarding_state.greeted ≡ true → SendsBy true o bytes trace new → SentSo true was → Inv setting (House (HouseSaid bytes) ∷ before) new
       by_request (Some f) found e says so =
-          let h = request-step policy pid picks given rows course new was bytes told f one.right g e (requests-few one.calls course one.reached) one.speaks.heard one.lawful.3 one.lawful.2 so found says in
+          let h = request-step policy pid picks given rows trace new was bytes recorded f one.right g e (requests-few one.calls trace one.reached) one.speaks.heard one.lawful.3 one.lawful.2 so found says in
           ends h.after h.greeted h.said
       by_request None found e says so =
-          let sound = all-sound one.calls course one.reached in
-          let h = relay-step policy pid picks given rows course new was bytes told one.right g e one.speaks.heard one.lawful.3 one.lawful.2 so sound.lives (numbers-small one.calls course one.reached)
-          (lives-small rows course told g one.speaks.heard one.small) says in
+          let sound = all-sound one.calls trace one.reached in
+          let h = relay-step policy pid picks given rows trace new was bytes recorded one.right g e one.speaks.heard one.lawful.3 one.lawful.2 so sound.relay_traces (numbers-small one.calls trace one.reached)
+          (relay_traces-small rows trace recorded g one.speaks.heard one.small) says in
           ends h.after h.greeted h.so
 
-      by_greeted : (b : Bool) → course.desk.greeted ≡ b → SaysBy b (find has_request course.desk.all) bytes course new → SaidSo b was → Inv setting (House (HouseSaid bytes) ∷ before) new
+      by_greeted : (b : Bool) → trace.forwarding_state.greeted ≡ b → SendsBy b (find has_request trace.forwarding_state.all) bytes trace new → SentSo b was → Inv setting (House (HouseSaid bytes) ∷ before) new
       by_greeted false e says none = greets e says none
-      by_greeted true e says so = by_request (find has_request course.desk.all) refl e says so
+      by_greeted true e says so = by_request (find has_request trace.forwarding_state.all) refl e says so
 
   -- ---- each mark
 
-  house-step : (before : List Mark) (mark : HouseMark) (course new : Course) (told : Told) → (mark ≡ HouseIn → ⊥) → OneMore before (House mark) course new → Going (log_of_journal setting before) course told → SaidSo course.desk.greeted (bytes_of HOUSE before)
+  house-step : (before : List Mark) (mark : HouseMark) (trace new : Trace) (recorded : Recorded) → (mark ≡ HouseIn → ⊥) → OneMore before (House mark) trace new → Going (log_of_journal setting before) trace recorded → SentSo trace.forwarding_state.greeted (bytes_of HOUSE before)
       → Inv setting (House mark ∷ before) new
-  house-step before HouseIn course new told other one g said = absurd (other refl)
-  house-step before (HouseSaid bytes) course new told other one g said = said-mark before bytes course new told one g said
-  house-step before (HouseTook size) course new told other one g said = took-mark before size course new told one g said
-  house-step before (HouseAsked client id opening ask reply) course new told other one g said = other-mark before (House (HouseAsked client id opening ask reply)) course new told one g said refl (tt, tt) tt
-  house-step before (HouseAnswer client id reply) course new told other one g said = other-mark before (House (HouseAnswer client id reply)) course new told one g said refl (tt, tt) (one.other, tt)
-  house-step before (HouseOrder order number) course new told other one g said = other-mark before (House (HouseOrder order number)) course new told one g said refl (tt, tt) tt
+  house-step before HouseIn trace new recorded other one g said = absurd (other refl)
+  house-step before (HouseSaid bytes) trace new recorded other one g said = said-mark before bytes trace new recorded one g said
+  house-step before (HouseTook size) trace new recorded other one g said = took-mark before size trace new recorded one g said
+  house-step before (HouseAsked client id opening ask reply) trace new recorded other one g said = other-mark before (House (HouseAsked client id opening ask reply)) trace new recorded one g said refl (tt, tt) tt
+  house-step before (HouseAnswer client id reply) trace new recorded other one g said = other-mark before (House (HouseAnswer client id reply)) trace new recorded one g said refl (tt, tt) (one.other, tt)
+  house-step before (HouseOrder order number) trace new recorded other one g said = other-mark before (House (HouseOrder order number)) trace new recorded one g said refl (tt, tt) tt
 
-  step : HeardRow policy pid → (before : List Mark) (mark : Mark) (course new : Course) (told : Told) → (mark ≡ House HouseIn → ⊥) → OneMore before mark course new → Going (log_of_journal setting before) course told → SaidSo course.desk.greeted (bytes_of HOUSE before)
+  step : ReceivedRow policy pid → (before : List Mark) (mark : Mark) (trace new : Trace) (recorded : Recorded) → (mark ≡ House HouseIn → ⊥) → OneMore before mark trace new → Going (log_of_journal setting before) trace recorded → SentSo trace.forwarding_state.greeted (bytes_of HOUSE before)
       → Inv setting (mark ∷ before) new
-  step heard before (Waits waiting want streams accepts) course new told other one g said = other-mark before (Waits waiting want streams accepts) course new told one g said refl tt tt
-  step heard before (Accepts k) course new told other one g said = other-mark before (Accepts k) course new told one g said refl tt (client-other k one.lawful.1, tt)
-  step heard before (Gets t bytes) course new told other one g said = gets-mark heard before t bytes course new told one g said
-  step heard before (Ends t) course new told other one g said = ends-mark before t course new told one g said
-  step heard before (Frees t) course new told other one g said = other-mark before (Frees t) course new told one g said refl (if-calm t (Turns (Writable t)) tt) tt
-  step heard before (Fails t) course new told other one g said = fails-mark before t course new told one g said
-  step heard before (Takes t bytes) course new told other one g said = takes-mark before t bytes course new told one g said
-  step heard before (Holds t) course new told other one g said = other-mark before (Holds t) course new told one g said refl tt tt
-  step heard before (WriteFails t) course new told other one g said = write-fails-mark before t course new told one g said
-  step heard before (Joins l t) course new told other one g said = other-mark before (Joins l t) course new told one g said refl (tt, tt) tt
-  step heard before (House mark) course new told other one g said = house-step before mark course new told (λ e. other (ap House e)) one g said
+  step heard before (Waits waiting want streams accepts) trace new recorded other one g said = other-mark before (Waits waiting want streams accepts) trace new recorded one g said refl tt tt
+  step heard before (Accepts k) trace new recorded other one g said = other-mark before (Accepts k) trace new recorded one g said refl tt (client-other k one.lawful.1, tt)
+  step heard before (Gets t bytes) trace new recorded other one g said = gets-mark heard before t bytes trace new recorded one g said
+  step heard before (Ends t) trace new recorded other one g said = ends-mark before t trace new recorded one g said
+  step heard before (Frees t) trace new recorded other one g said = other-mark before (Frees t) trace new recorded one g said refl (if-calm t (Turns (Writable t)) tt) tt
+  step heard before (Fails t) trace new recorded other one g said = fails-mark before t trace new recorded one g said
+  step heard before (Takes t bytes) trace new recorded other one g said = takes-mark before t bytes trace new recorded one g said
+  step heard before (Holds t) trace new recorded other one g said = other-mark before (Holds t) trace new recorded one g said refl tt tt
+  step heard before (WriteFails t) trace new recorded other one g said = write-fails-mark before t trace new recorded one g said
+  step heard before (Joins l t) trace new recorded other one g said = other-mark before (Joins l t) trace new recorded one g said refl (tt, tt) tt
+  step heard before (House mark) trace new recorded other one g said = house-step before mark trace new recorded (λ e. other (ap House e)) one g said
 
-  next : HeardRow policy pid → (before : List Mark) (mark : Mark) (course new : Course) → (mark ≡ House HouseIn → ⊥) → OneMore before mark course new → Inv setting before course → Inv setting (mark ∷ before) new
-  next heard before mark course new other one (Past ended kept) =
+  next : ReceivedRow policy pid → (before : List Mark) (mark : Mark) (trace new : Trace) → (mark ≡ House HouseIn → ⊥) → OneMore before mark trace new → Inv setting before trace → Inv setting (mark ∷ before) new
+  next heard before mark trace new other one (Past ended kept) =
       let p = past-items (items_in before mark) (log_of_journal setting before) (record { ended = ended; kept = kept }) in Past p.ended p.kept
-  next heard before mark course new other one (Here told g said) = step heard before mark course new told other one g said
+  next heard before mark trace new other one (Here recorded g said) = step heard before mark trace new recorded other one g said
 
   -- ---- the house is let in
 
   first-own : List Row
   first-own = plain_row (Admit HOUSE) HOUSE [] (frame_answer (Greets VERSION) ∷ []) ∷ []
 
-  first-told : Told
-  first-told = record { answers = spell_answer (Greets VERSION) ∷ []; payloads = [] }
+  first-recorded : Recorded
+  first-recorded = record { answers = spell_answer (Greets VERSION) ∷ []; payloads = [] }
 
   first-log : log_of_journal setting (House HouseIn ∷ []) ≡ first-own
   unfolding first-own
   first-log = refl
 
-  no-grant : NoGrant first-told
-  unfolding first-told
+  no-grant : NoGrant first-recorded
+  unfolding first-recorded
   no-grant = record { none = refl; plain = (refl, tt) }
 
-  first-going : Going first-own first_course first-told
-  unfolding first-own first-told
+  first-going : Going first-own first_trace first-recorded
+  unfolding first-own first-recorded
   first-going = record {
     on = refl;
     inside = refl;
@@ -487,15 +487,15 @@ module _ (policy : Policy) (pid : ℕ) (picks : List ℕ) (given : List HouseRep
   }
 
   -- the house began with some forwardings, and then it is let in
-  let-in : (starts : Starts) (course : Course) → Reaches first_course (Begins starts ∷ []) course → Inv setting (House HouseIn ∷ []) course
-  let-in starts course reached =
-      let c = calms first-own (Begins starts ∷ []) first_course course (tt, tt) (record { lives = tt; past = tt }) reached in
-      Here first-told (subst (λ (rows : List Row). Going rows course first-told) (sym first-log) (c.goes first-told first-going))
-      (subst (λ (b : Bool). SaidSo b []) (sym c.greeted) refl)
+  let-in : (starts : Starts) (trace : Trace) → Reaches first_trace (Begins starts ∷ []) trace → Inv setting (House HouseIn ∷ []) trace
+  let-in starts trace reached =
+      let c = calms first-own (Begins starts ∷ []) first_trace trace (tt, tt) (record { relay_traces = tt; past = tt }) reached in
+      Here first-recorded (subst (λ (rows : List Row). Going rows trace first-recorded) (sym first-log) (c.goes first-recorded first-going))
+      (subst (λ (b : Bool). SentSo b []) (sym c.greeted) refl)
 
   -- ---- the whole journal
 
-  pub record Journey (journal : List Mark) (course : Course) : Type 0 where
+  pub record Journey (journal : List Mark) (trace : Trace) : Type 0 where
     pub lawful : IsLawful journal
     pub asked : Throughout ReadsWhenAsked journal
     pub waits : Throughout (WaitsAt setting) journal
@@ -505,7 +505,7 @@ module _ (policy : Policy) (pid : ℕ) (picks : List ℕ) (given : List HouseRep
     pub small : AtEach HeldSmall (log_of_journal setting journal)
     pub within : is_accepted HOUSE journal ≡ true
     pub starts : Starts
-    pub reached : Reaches first_course (Begins starts ∷ calls_in setting journal) course
+    pub reached : Reaches first_trace (Begins starts ∷ calls_in setting journal) trace
 
   same-house : (mark : HouseMark) (before : List Mark) → (House mark ≡ House HouseIn → ⊥) → is_accepted HOUSE (House mark ∷ before) ≡ is_accepted HOUSE before
   same-house HouseIn before other = absurd (other refl)
@@ -517,8 +517,8 @@ module _ (policy : Policy) (pid : ℕ) (picks : List ℕ) (given : List HouseRep
   same-within (House mark) before other e = same-house mark before other
   same-within mark before other e = refl
 
-  before-more : (before : List Mark) (mark : Mark) (course : Course) → (mark ≡ House HouseIn → ⊥) → (j : Journey (mark ∷ before) course) → (h : Split (Begins j.starts ∷ calls_in setting before) (calls_at setting before mark) first_course course) → Journey before h.middle
-  before-more before mark course other j h = record {
+  before-more : (before : List Mark) (mark : Mark) (trace : Trace) → (mark ≡ House HouseIn → ⊥) → (j : Journey (mark ∷ before) trace) → (h : Split (Begins j.starts ∷ calls_in setting before) (calls_at setting before mark) first_trace trace) → Journey before h.middle
+  before-more before mark trace other j h = record {
     lawful = j.lawful.1;
     asked = j.asked.1;
     waits = j.waits.1;
@@ -531,8 +531,8 @@ module _ (policy : Policy) (pid : ℕ) (picks : List ℕ) (given : List HouseRep
     reached = h.first;
   }
 
-  one-more : (before : List Mark) (mark : Mark) (course : Course) → (j : Journey (mark ∷ before) course) → (h : Split (Begins j.starts ∷ calls_in setting before) (calls_at setting before mark) first_course course) → OneMore before mark h.middle course
-  one-more before mark course j h = record {
+  one-more : (before : List Mark) (mark : Mark) (trace : Trace) → (j : Journey (mark ∷ before) trace) → (h : Split (Begins j.starts ∷ calls_in setting before) (calls_at setting before mark) first_trace trace) → OneMore before mark h.middle trace
+  one-more before mark trace j h = record {
     lawful = j.lawful.0;
     lawful_before = j.lawful.1;
     asked = j.asked.0;
@@ -546,30 +546,30 @@ module _ (policy : Policy) (pid : ℕ) (picks : List ℕ) (given : List HouseRep
     goes = h.rest;
   }
 
-  comes-in : (before : List Mark) (course : Course) → Journey (House HouseIn ∷ before) course → Inv setting (House HouseIn ∷ before) course
-  comes-in [] course j = let-in j.starts course j.reached
-  comes-in (mark ∷ before) course j = absurd (let none = j.lawful.0 in cc)
+  comes-in : (before : List Mark) (trace : Trace) → Journey (House HouseIn ∷ before) trace → Inv setting (House HouseIn ∷ before) trace
+  comes-in [] trace j = let-in j.starts trace j.reached
+  comes-in (mark ∷ before) trace j = absurd (let none = j.lawful.0 in cc)
 
-  journeys : HeardRow policy pid → (journal : List Mark) (course : Course) → Journey journal course → Inv setting journal course
-  journeys heard [] course j = absurd (let bad = j.within in cc)
-  journeys heard (mark ∷ before) course j = by_mark mark j (λ (c : Course) (j : Journey before c). journeys heard before c j)
+  journeys : ReceivedRow policy pid → (journal : List Mark) (trace : Trace) → Journey journal trace → Inv setting journal trace
+  journeys heard [] trace j = absurd (let bad = j.within in cc)
+  journeys heard (mark ∷ before) trace j = by_mark mark j (λ (c : Trace) (j : Journey before c). journeys heard before c j)
     where
-      goes : (mark : Mark) → (mark ≡ House HouseIn → ⊥) → Journey (mark ∷ before) course → ((c : Course) → Journey before c → Inv setting before c) → Inv setting (mark ∷ before) course
+      goes : (mark : Mark) → (mark ≡ House HouseIn → ⊥) → Journey (mark ∷ before) trace → ((c : Trace) → Journey before c → Inv setting before c) → Inv setting (mark ∷ before) trace
       goes mark other j earlier =
-          let h = reach-split (Begins j.starts ∷ calls_in setting before) (calls_at setting before mark) first_course course j.reached in
-          next heard before mark h.middle course other (one-more before mark course j h) (earlier h.middle (before-more before mark course other j h))
+          let h = reach-split (Begins j.starts ∷ calls_in setting before) (calls_at setting before mark) first_trace trace j.reached in
+          next heard before mark h.middle trace other (one-more before mark trace j h) (earlier h.middle (before-more before mark trace other j h))
 
-      by_house : (mark : HouseMark) → Journey (House mark ∷ before) course → ((c : Course) → Journey before c → Inv setting before c) → Inv setting (House mark ∷ before) course
-      by_house HouseIn j earlier = comes-in before course j
+      by_house : (mark : HouseMark) → Journey (House mark ∷ before) trace → ((c : Trace) → Journey before c → Inv setting before c) → Inv setting (House mark ∷ before) trace
+      by_house HouseIn j earlier = comes-in before trace j
       by_house mark j earlier = goes (House mark) (λ e. absurd (cc)) j earlier
 
-      by_mark : (mark : Mark) → Journey (mark ∷ before) course → ((c : Course) → Journey before c → Inv setting before c) → Inv setting (mark ∷ before) course
+      by_mark : (mark : Mark) → Journey (mark ∷ before) trace → ((c : Trace) → Journey before c → Inv setting before c) → Inv setting (mark ∷ before) trace
       by_mark (House mark) j earlier = by_house mark j earlier
       by_mark mark j earlier = goes mark (λ e. absurd (cc)) j earlier
 
-  ends-unlost : (journal : List Mark) (course : Course) → Inv setting journal course → is_lost (rows_of HOUSE (log_of_journal setting journal)) ≡ false
-  ends-unlost journal course (Past ended kept) = kept
-  ends-unlost journal course (Here told g said) = in-kept (rows_of HOUSE (log_of_journal setting journal)) g.inside
+  ends-unlost : (journal : List Mark) (trace : Trace) → Inv setting journal trace → is_lost (rows_of HOUSE (log_of_journal setting journal)) ≡ false
+  ends-unlost journal trace (Past ended kept) = kept
+  ends-unlost journal trace (Here recorded g said) = in-kept (rows_of HOUSE (log_of_journal setting journal)) g.inside
 
   -- ---- a house that was not let in has no rows
 
@@ -588,13 +588,13 @@ module _ (policy : Policy) (pid : ℕ) (picks : List ℕ) (given : List HouseRep
   nobody-others [] rows all none = none
   nobody-others (item ∷ items) rows all none = nobody-others items (more_of setting rows item) all.1 (nobody-more item rows (next-other policy pid picks given rows item all.0) none)
 
-  heard-other : (rows : List Row) (item : Item) → IsHeardItem item → Nobody rows → ((next_row setting rows item).client == HOUSE) ≡ false
+  heard-other : (rows : List Row) (item : Item) → IsReceivedItem item → Nobody rows → ((next_row setting rows item).client == HOUSE) ≡ false
   unfolding Nobody
   heard-other rows (Heard p) is none = heard-client rows p none
   heard-other rows (BadServer fault) is none = refl
   heard-other rows item is none = absurd is
 
-  nobody-heard : (items : List Item) (rows : List Row) → Each IsHeardItem items → Nobody rows → Nobody (more_all setting rows items)
+  nobody-heard : (items : List Item) (rows : List Row) → Each IsReceivedItem items → Nobody rows → Nobody (more_all setting rows items)
   nobody-heard [] rows all none = none
   nobody-heard (item ∷ items) rows all none = nobody-heard items (more_of setting rows item) all.1 (nobody-more item rows (heard-other rows item all.0 none) none)
 
@@ -604,8 +604,8 @@ module _ (policy : Policy) (pid : ℕ) (picks : List ℕ) (given : List HouseRep
       rows : List Row
       rows = log_of_journal setting before
 
-      by_server : (b : Bool) → Nobody (more_all setting rows (elim b as (λ _. List Item) [ true ↦ new_heard (bytes_of 0 before) (bytes_of 0 before ++ bytes) | false ↦ unless_own t (new_sayings t (bytes_of t before) (bytes_of t before ++ bytes)) ]))
-      by_server true = nobody-heard (new_heard (bytes_of 0 before) (bytes_of 0 before ++ bytes)) rows (is-heard-all (bytes_of 0 before) bytes) none
+      by_server : (b : Bool) → Nobody (more_all setting rows (elim b as (λ _. List Item) [ true ↦ new_received (bytes_of 0 before) (bytes_of 0 before ++ bytes) | false ↦ unless_own t (new_sayings t (bytes_of t before) (bytes_of t before ++ bytes)) ]))
+      by_server true = nobody-heard (new_received (bytes_of 0 before) (bytes_of 0 before ++ bytes)) rows (is-heard-all (bytes_of 0 before) bytes) none
       by_server false = nobody-others (unless_own t (new_sayings t (bytes_of t before) (bytes_of t before ++ bytes))) rows (gets-other t (bytes_of t before) bytes (is_own_stream t) other) none
 
   nobody-house : (before : List Mark) (mark : HouseMark) → (mark ≡ HouseIn → ⊥) → LawfulHouse before mark → names_in mark ≡ false → is_accepted HOUSE before ≡ false → Nobody (log_of_journal setting before)
@@ -681,14 +681,14 @@ module _ (policy : Policy) (pid : ℕ) (picks : List ℕ) (given : List HouseRep
       by_mark mark other due = other
 
 pub house-stays : HouseStays
-house-stays policy pid picks replies journal course h = by_within (is_accepted HOUSE journal) refl
+house-stays policy pid picks replies journal trace h = by_within (is_accepted HOUSE journal) refl
   where
     others : Throughout NamesOthers journal
-    others = names-others policy pid picks replies journal h.others h.answered (course-greets (Begins h.starts ∷ calls_in (by_lists policy pid picks replies) journal) first_course course refl h.reached)
+    others = names-others policy pid picks replies journal h.others h.answered (trace-greets (Begins h.starts ∷ calls_in (by_lists policy pid picks replies) journal) first_trace trace refl h.reached)
 
     by_within : (b : Bool) → is_accepted HOUSE journal ≡ b → is_lost (rows_of HOUSE (log_of_journal (by_lists policy pid picks replies) journal)) ≡ false
     by_within false out = unlost policy pid picks replies journal h.lawful others out
-    by_within true within = ends-unlost policy pid picks replies journal course (journeys policy pid picks replies (heard-row policy pid) journal course (record {
+    by_within true within = ends-unlost policy pid picks replies journal trace (journeys policy pid picks replies (heard-row policy pid) journal trace (record {
       lawful = h.lawful;
       asked = h.asked;
       waits = h.waits;

@@ -2,9 +2,9 @@
 use Rattle.std.proofs.Common.{◌≡◌, ◌≤◌, ◌+◌, ℕ, Bool, true, false, ◌||◌, Option, Some, None, List, [], ◌∷◌, ◌++◌, refl, sym, ap, ◌∙◌, subst, map}
 use Rattle.std.proofs.lemmas.List.{map-append}
 use Rattle.mux_history.specs.Channels.{Channel, is_number}
-use Rattle.mux_history.specs.Gist.{Act, Answers, Asks, Carries, Closes, Confirmation, Confirms, Ends, Fails, Gist, Grants, Open, Refuses, Requests, Succeeds, Transport, Within}
+use Rattle.mux_history.specs.Summary.{Act, Answers, Asks, Carries, Closes, Confirmation, Confirms, Ends, Fails, Summary, Grants, Open, Refuses, Requests, Succeeds, Transport, Within}
 use Rattle.house_history.proofs.Lists.{Each, each-append, each-behind, each-front, each-of}
-use Rattle.house_history.proofs.Views.{Acct, IsLive, IsOffered, IsOpened, NoChannel, View, hears}
+use Rattle.house_history.proofs.Views.{Acct, IsLive, IsOffered, IsOpened, NoChannel, View, receives}
 use Rattle.mux_history.specs.Rows.{any_of}
 use Rattle.house_history.proofs.Fitting.{AllOther, Entry, Fit, Fits, KnownBy, Other, numbers, other-back}
 use Rattle.house_history.proofs.Shifts.{AreFree, fit-named, fit-with, fit-without, has}
@@ -19,7 +19,7 @@ pub data Note : Type 0 where
   Does : (number : ℕ) (act : Act) → Note
   Nothing : Note
 
-abbrev pub note-of : Gist → Note
+abbrev pub note-of : Summary → Note
 note-of (Open what s w m) = Offers s w m
 note-of (Confirmation n s w m) = Accepts n s w m
 note-of (Within n act) = Does n act
@@ -36,9 +36,9 @@ fresh-acct s w m = record {
   remote = s;
   room = w;
   maximum = m;
-  eof_said = false;
-  close_said = false;
-  close_heard = false;
+  eof_sent = false;
+  close_sent = false;
+  close_received = false;
   failures = 0;
   given = 0;
   came = 0;
@@ -48,31 +48,31 @@ abbrev pub unless-over : Bool → Acct → View
 unless-over true a = NoChannel
 unless-over false a = IsLive a
 
-abbrev pub live-hears : Act → Acct → View
-live-hears Closes a = unless-over a.close_said (hears Closes a)
-live-hears (Carries n) a = IsLive (hears (Carries n) a)
-live-hears (Grants n) a = IsLive (hears (Grants n) a)
-live-hears Ends a = IsLive (hears Ends a)
-live-hears (Asks wants) a = IsLive (hears (Asks wants) a)
-live-hears Answers a = IsLive (hears Answers a)
-live-hears Fails a = IsLive a
-live-hears (Confirms w m) a = IsLive a
+abbrev pub live-receives : Act → Acct → View
+live-receives Closes a = unless-over a.close_sent (receives Closes a)
+live-receives (Carries n) a = IsLive (receives (Carries n) a)
+live-receives (Grants n) a = IsLive (receives (Grants n) a)
+live-receives Ends a = IsLive (receives Ends a)
+live-receives (Asks wants) a = IsLive (receives (Asks wants) a)
+live-receives Answers a = IsLive (receives Answers a)
+live-receives Fails a = IsLive a
+live-receives (Confirms w m) a = IsLive a
 
-abbrev pub opened-hears : Act → View
-opened-hears Fails = NoChannel
-opened-hears (Carries n) = IsOpened
-opened-hears (Grants n) = IsOpened
-opened-hears Ends = IsOpened
-opened-hears Closes = IsOpened
-opened-hears (Asks wants) = IsOpened
-opened-hears Answers = IsOpened
-opened-hears (Confirms w m) = IsOpened
+abbrev pub opened-receives : Act → View
+opened-receives Fails = NoChannel
+opened-receives (Carries n) = IsOpened
+opened-receives (Grants n) = IsOpened
+opened-receives Ends = IsOpened
+opened-receives Closes = IsOpened
+opened-receives (Asks wants) = IsOpened
+opened-receives Answers = IsOpened
+opened-receives (Confirms w m) = IsOpened
 
-abbrev pub view-hears : Act → View → View
-view-hears act NoChannel = NoChannel
-view-hears act IsOpened = opened-hears act
-view-hears act (IsOffered s w m) = IsOffered s w m
-view-hears act (IsLive a) = live-hears act a
+abbrev pub view-receives : Act → View → View
+view-receives act NoChannel = NoChannel
+view-receives act IsOpened = opened-receives act
+view-receives act (IsOffered s w m) = IsOffered s w m
+view-receives act (IsLive a) = live-receives act a
 
 abbrev pub view-accepts : ℕ → ℕ → ℕ → View → View
 view-accepts s w m NoChannel = NoChannel
@@ -98,7 +98,7 @@ at-number n f e = (e.0, if-has (is_number e.0 n) f e.1)
 abbrev pub noted : Note → List Entry → List Entry
 noted (Offers s w m) vs = vs ++ (None, IsOffered s w m) ∷ []
 noted (Accepts n s w m) vs = map (at-number n (view-accepts s w m)) vs
-noted (Does n act) vs = map (at-number n (view-hears act)) vs
+noted (Does n act) vs = map (at-number n (view-receives act)) vs
 noted Nothing vs = vs
 
 -- it keeps an account within bounds
@@ -107,7 +107,7 @@ BoundView act NoChannel = Unit {0}
 BoundView act IsOpened = Unit {0}
 BoundView act (IsOffered s w m) = Unit {0}
 BoundView (Grants k) (IsLive a) = a.room + k ≤ 4294967295
-BoundView (Asks true) (IsLive a) = a.close_said ≡ false → a.failures + 1 ≤ 1024
+BoundView (Asks true) (IsLive a) = a.close_sent ≡ false → a.failures + 1 ≤ 1024
 BoundView act (IsLive a) = Unit {0}
 
 abbrev pub Bound : Note → Entry → Type 0
@@ -171,37 +171,37 @@ append-three (x ∷ xs) ys zs = ap (λ (l : List Entry). x ∷ l) (append-three 
 abbrev pub front-of : Note → List Entry → List Entry
 front-of (Offers s w m) fs = fs
 front-of (Accepts n s w m) fs = map (at-number n (view-accepts s w m)) fs
-front-of (Does n act) fs = map (at-number n (view-hears act)) fs
+front-of (Does n act) fs = map (at-number n (view-receives act)) fs
 front-of Nothing fs = fs
 
 abbrev pub behind-of : Note → List Entry → List Entry
 behind-of (Offers s w m) bs = bs ++ (None, IsOffered s w m) ∷ []
 behind-of (Accepts n s w m) bs = map (at-number n (view-accepts s w m)) bs
-behind-of (Does n act) bs = map (at-number n (view-hears act)) bs
+behind-of (Does n act) bs = map (at-number n (view-receives act)) bs
 behind-of Nothing bs = bs
 
 pub noted-parts : (note : Note) (fs bs : List Entry) → noted note (fs ++ bs) ≡ front-of note fs ++ behind-of note bs
 noted-parts (Offers s w m) fs bs = append-three fs bs ((None, IsOffered s w m) ∷ [])
 noted-parts (Accepts n s w m) fs bs = map-append (at-number n (view-accepts s w m)) fs bs
-noted-parts (Does n act) fs bs = map-append (at-number n (view-hears act)) fs bs
+noted-parts (Does n act) fs bs = map-append (at-number n (view-receives act)) fs bs
 noted-parts Nothing fs bs = refl
 
 pub noted-three : (note : Note) (fs bs : List Entry) (o : Option ℕ) (v : View) → IsFixedView v → noted note (fs ++ (o, v) ∷ bs) ≡ front-of note fs ++ (o, v) ∷ behind-of note bs
 noted-three (Offers s w m) fs bs o v h = append-three fs ((o, v) ∷ bs) ((None, IsOffered s w m) ∷ [])
 noted-three (Accepts n s w m) fs bs o v h = map-append (at-number n (view-accepts s w m)) fs ((o, v) ∷ bs) ∙ ap (λ (e : Entry). map (at-number n (view-accepts s w m)) fs ++ e ∷ map (at-number n (view-accepts s w m)) bs) (fixed-at n (view-accepts s w m) o v h)
-noted-three (Does n act) fs bs o v h = map-append (at-number n (view-hears act)) fs ((o, v) ∷ bs) ∙ ap (λ (e : Entry). map (at-number n (view-hears act)) fs ++ e ∷ map (at-number n (view-hears act)) bs) (fixed-at n (view-hears act) o v h)
+noted-three (Does n act) fs bs o v h = map-append (at-number n (view-receives act)) fs ((o, v) ∷ bs) ∙ ap (λ (e : Entry). map (at-number n (view-receives act)) fs ++ e ∷ map (at-number n (view-receives act)) bs) (fixed-at n (view-receives act) o v h)
 noted-three Nothing fs bs o v h = refl
 
 free-front : (n : ℕ) (note : Note) (fs : List Entry) → AreFree n fs → AreFree n (front-of note fs)
 free-front n (Offers s w m) fs free = free
 free-front n (Accepts k s w m) fs free = free-mapped n k (view-accepts s w m) fs free
-free-front n (Does k act) fs free = free-mapped n k (view-hears act) fs free
+free-front n (Does k act) fs free = free-mapped n k (view-receives act) fs free
 free-front n Nothing fs free = free
 
 free-behind : (n : ℕ) (note : Note) (bs : List Entry) → AreFree n bs → AreFree n (behind-of note bs)
 free-behind n (Offers s w m) bs free = each-append (λ (e : Entry). has n e.0 ≡ false) bs ((None, IsOffered s w m) ∷ []) free (refl, tt)
 free-behind n (Accepts k s w m) bs free = free-mapped n k (view-accepts s w m) bs free
-free-behind n (Does k act) bs free = free-mapped n k (view-hears act) bs free
+free-behind n (Does k act) bs free = free-mapped n k (view-receives act) bs free
 free-behind n Nothing bs free = free
 
 bound-fixed : (note : Note) (o : Option ℕ) (v : View) → IsFixedView v → Bound note (o, v)
@@ -277,7 +277,7 @@ swapped-front (e ∷ es) vs ws s = Next e (es ++ vs) (es ++ ws) (swapped-front e
 noted-swapped : (note : Note) (vs ws : List Entry) → Swapped vs ws → Swapped (noted note vs) (noted note ws)
 noted-swapped (Offers s w m) vs ws h = swapped-more ((None, IsOffered s w m) ∷ []) vs ws h
 noted-swapped (Accepts n s w m) vs ws h = swapped-map (at-number n (view-accepts s w m)) vs ws h
-noted-swapped (Does n act) vs ws h = swapped-map (at-number n (view-hears act)) vs ws h
+noted-swapped (Does n act) vs ws h = swapped-map (at-number n (view-receives act)) vs ws h
 noted-swapped Nothing vs ws h = h
 
 -- it moves behind the others

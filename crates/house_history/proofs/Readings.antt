@@ -13,23 +13,23 @@ use Rattle.ssh_grammar.specs.IsMessage.{Spells}
 use Rattle.ssh_grammar.specs.Frames.{Frame, first_frame}
 use Rattle.ssh_grammar.specs.Control.{Hello, Proxy}
 use Rattle.ssh_grammar.specs.ReadControl.{read_control}
-use Rattle.ssh_grammar.specs.Said.{Mode, InControl, InProxy, Saying as Spoken, Body, Payload, Parsed, parse, said}
+use Rattle.ssh_grammar.specs.Said.{Mode, InControl, InProxy, Outgoing as Spoken, Body, Payload, Parsed, parse, said}
 use Rattle.ssh_grammar.proofs.MessageSpelled.{spelled_reads}
 use Rattle.ssh_grammar.proofs.Frames.{first-frame}
 use Rattle.ssh_grammar.proofs.Parses.{parse-at, parse-append}
 use Rattle.mux_outside.specs.declared.greeting.TheConstants.{GREETING}
-use Rattle.mux_history.specs.Gist.{Answers, Carries, Closes, Ends, Fails, Grants, Gist, Open as Opens, Confirmation as Confirms, Requests, Within, gist, read_gist}
-use Rattle.mux_history.specs.Journal.{new_sayings, said_item}
+use Rattle.mux_history.specs.Summary.{Answers, Carries, Closes, Ends, Fails, Grants, Summary, Open as Opens, Confirmation as Confirms, Requests, Within, summary, read_summary}
+use Rattle.mux_history.specs.Journal.{new_sayings, sent_item}
 use Rattle.mux_history.specs.Rows.{Says}
 use Rattle.mux_history.specs.declared.limits.TheConstants.{HOUSE}
-use Rattle.house_relay.specs.Next.{chunk, says_held, says_in, says_live, says_of, says_offered}
+use Rattle.house_relay.specs.Next.{chunk, sends_held, sends_in, sends_live, sends_of, sends_offered}
 use Rattle.house_relay.specs.Relay.{is_finished}
 use Rattle.house_relay.specs.declared.line.Live.{Live as LiveState}
-use Rattle.house_relay.specs.declared.line.Line.{Line}
-use Rattle.house_relay.specs.declared.line.Line.TheVariants.{Dialing, Asked, Opened, Offered, Live, Over}
+use Rattle.house_relay.specs.declared.line.ChannelState.{ChannelState}
+use Rattle.house_relay.specs.declared.line.ChannelState.TheVariants.{Dialing, Asked, Opened, Offered, Live, Over}
 use Rattle.house_relay.specs.declared.relay.Relay.{Relay}
-use Rattle.house_relay.specs.declared.relay.Saying.{Saying}
-use Rattle.house_relay.specs.declared.relay.Saying.TheVariants.{Open, Confirmation, OpenFailure, Close, Failure, Data, Eof, Adjust}
+use Rattle.house_relay.specs.declared.relay.Outgoing.{Outgoing}
+use Rattle.house_relay.specs.declared.relay.Outgoing.TheVariants.{Open, Confirmation, OpenFailure, Close, Failure, Data, Eof, Adjust}
 use Rattle.house_relay.specs.declared.relay.Socket.{Socket}
 use Rattle.house_relay.specs.declared.relay.Socket.TheVariants as socket
 use Rattle.house_forward.specs.Forwardings.{has_request}
@@ -59,13 +59,13 @@ as-four n =
     }
 
 -- a payload of a message has its gist
-reads-as : (m : Message) (p : List ℕ) → Spells m p → read_gist p ≡ Ok (gist m)
-reads-as m p is = ap (λ (r : Result Message Bad). elim r as (λ _. Result Gist Bad) [ Ok m ↦ Ok (gist m) | Err e ↦ Err e ]) (spelled_reads m p is)
+reads-as : (m : Message) (p : List ℕ) → Spells m p → read_summary p ≡ Ok (summary m)
+reads-as m p is = ap (λ (r : Result Message Bad). elim r as (λ _. Result Summary Bad) [ Ok m ↦ Ok (summary m) | Err e ↦ Err e ]) (spelled_reads m p is)
 
 -- ---- what a relay says
 
 -- the numbers of both ends are uint32
-abbrev pub SmallIn : Line → Type 0
+abbrev pub SmallIn : ChannelState → Type 0
 SmallIn (Dialing dialog) = Unit {0}
 SmallIn (Asked host port version) = Unit {0}
 SmallIn (Opened version) = Unit {0}
@@ -78,28 +78,28 @@ pub record IsSmall (r : Relay) : Type 0 where
   pub line : SmallIn r.line
 
 -- in a channel that is confirmed
-abbrev pub ReadsLive : ℕ → Saying → List ℕ → Type 0
+abbrev pub ReadsLive : ℕ → Outgoing → List ℕ → Type 0
 ReadsLive remote Open p = ⊥
 ReadsLive remote Confirmation p = ⊥
 ReadsLive remote OpenFailure p = ⊥
-ReadsLive remote Close p = read_gist p ≡ Ok (Within remote Closes)
-ReadsLive remote Failure p = read_gist p ≡ Ok (Within remote Answers)
-ReadsLive remote (Data n) p = read_gist p ≡ Ok (Within remote (Carries n))
-ReadsLive remote Eof p = read_gist p ≡ Ok (Within remote Ends)
-ReadsLive remote (Adjust n) p = read_gist p ≡ Ok (Within remote (Grants n))
+ReadsLive remote Close p = read_summary p ≡ Ok (Within remote Closes)
+ReadsLive remote Failure p = read_summary p ≡ Ok (Within remote Answers)
+ReadsLive remote (Data n) p = read_summary p ≡ Ok (Within remote (Carries n))
+ReadsLive remote Eof p = read_summary p ≡ Ok (Within remote Ends)
+ReadsLive remote (Adjust n) p = read_summary p ≡ Ok (Within remote (Grants n))
 
 -- in one that the server opened
-abbrev pub ReadsOffer : ℕ → ℕ → Saying → List ℕ → Type 0
-ReadsOffer remote number Confirmation p = read_gist p ≡ Ok (Confirms remote number 2097152 32768)
-ReadsOffer remote number OpenFailure p = read_gist p ≡ Ok (Within remote Fails)
-ReadsOffer remote number saying p = ⊥
+abbrev pub ReadsOffer : ℕ → ℕ → Outgoing → List ℕ → Type 0
+ReadsOffer remote number Confirmation p = read_summary p ≡ Ok (Confirms remote number 2097152 32768)
+ReadsOffer remote number OpenFailure p = read_summary p ≡ Ok (Within remote Fails)
+ReadsOffer remote number outgoing p = ⊥
 
 -- before there is one
-abbrev pub ReadsOpen : ℕ → Saying → List ℕ → Type 0
-ReadsOpen number Open p = (key : Key) × (read_gist p ≡ Ok (Opens (Direct key) number 2097152 32768))
-ReadsOpen number saying p = ⊥
+abbrev pub ReadsOpen : ℕ → Outgoing → List ℕ → Type 0
+ReadsOpen number Open p = (key : Key) × (read_summary p ≡ Ok (Opens (Direct key) number 2097152 32768))
+ReadsOpen number outgoing p = ⊥
 
-abbrev pub ReadsIn : Line → ℕ → Saying → List ℕ → Type 0
+abbrev pub ReadsIn : ChannelState → ℕ → Outgoing → List ℕ → Type 0
 ReadsIn (Dialing dialog) number s p = ⊥
 ReadsIn (Asked host port version) number s p = ReadsOpen number s p
 ReadsIn (Opened version) number s p = ⊥
@@ -108,12 +108,12 @@ ReadsIn (Live live) number s p = ReadsLive live.remote s p
 ReadsIn Over number s p = ⊥
 
 -- the payload reads as what the relay says
-abbrev pub Reads : Relay → Saying → List ℕ → Type 0
+abbrev pub Reads : Relay → Outgoing → List ℕ → Type 0
 Reads r s p = ReadsIn r.line r.number s p
 
 -- ---- before there is a channel
 
-direct-reads : (number : ℕ) (host : List ℕ) (port : ℕ) → number < 2 ^ 32 → length host < 2 ^ 32 → (key : Key) × (read_gist (direct number host port) ≡ Ok (Opens (Direct key) number 2097152 32768))
+direct-reads : (number : ℕ) (host : List ℕ) (port : ℕ) → number < 2 ^ 32 → length host < 2 ^ 32 → (key : Key) × (read_summary (direct number host port) ≡ Ok (Opens (Direct key) number 2097152 32768))
 direct-reads number host port small fits =
     let p = as-four port in
     let rest : List ℕ = (str host ++ u32 port) ++ (str (codes "127.0.0.1") ++ u32 0) in (
@@ -148,29 +148,29 @@ direct-long number host port =
     let inner = length-append host (u32 port) in
     omega (arith, outer, inner)
 
-open-reads : (number : ℕ) (host : List ℕ) (port : ℕ) (s : Saying) → Some Open ≡ Some s → number < 2 ^ 32 → length (framed (direct number host port)) ≤ 65536 → ReadsOpen number s (direct number host port)
+open-reads : (number : ℕ) (host : List ℕ) (port : ℕ) (s : Outgoing) → Some Open ≡ Some s → number < 2 ^ 32 → length (framed (direct number host port)) ≤ 65536 → ReadsOpen number s (direct number host port)
 open-reads number host port s e small fits =
     let long = direct-long number host port in
     let same : Open ≡ s = cc in
-    subst (λ (s : Saying). ReadsOpen number s (direct number host port)) same (direct-reads number host port small (omega (arith, long, fits)))
+    subst (λ (s : Outgoing). ReadsOpen number s (direct number host port)) same (direct-reads number host port small (omega (arith, long, fits)))
 
 -- ---- a channel that the server opened
 
-abbrev pub OfferSays : Option Saying → Type 0
-OfferSays None = Unit {0}
-OfferSays (Some Confirmation) = Unit {0}
-OfferSays (Some OpenFailure) = Unit {0}
-OfferSays (Some s) = ⊥
+abbrev pub OfferSends : Option Outgoing → Type 0
+OfferSends None = Unit {0}
+OfferSends (Some Confirmation) = Unit {0}
+OfferSends (Some OpenFailure) = Unit {0}
+OfferSends (Some s) = ⊥
 
-pub offer-says : (k : Socket) → OfferSays (says_offered k)
+pub offer-says : (k : Socket) → OfferSends (sends_offered k)
 offer-says (socket.Open t) = tt
 offer-says socket.Unmade = tt
 offer-says (socket.Connecting t) = tt
 offer-says (socket.Failed t) = tt
-offer-says (socket.Surplus t) = tt
+offer-says (socket.NoChannelLeft t) = tt
 offer-says socket.Closed = tt
 
-offer-reads : (remote number : ℕ) (s : Saying) → OfferSays (Some s) → remote < 2 ^ 32 → number < 2 ^ 32 → ReadsOffer remote number s (in_offer s remote number)
+offer-reads : (remote number : ℕ) (s : Outgoing) → OfferSends (Some s) → remote < 2 ^ 32 → number < 2 ^ 32 → ReadsOffer remote number s (in_offer s remote number)
 offer-reads remote number Open h there here = absurd h
 offer-reads remote number Confirmation h there here = reads-as (full.To remote (full.Confirmation number 2097152 32768 [])) (confirmed remote number) (record {
   is_message = (there, (here, omega arith, omega arith));
@@ -192,35 +192,35 @@ offer-reads remote number (Adjust n) h there here = absurd h
 
 -- ---- a channel that is confirmed
 
-abbrev LiveSays : ℕ → Option Saying → Type 0
-LiveSays held None = Unit {0}
-LiveSays held (Some Open) = ⊥
-LiveSays held (Some Confirmation) = ⊥
-LiveSays held (Some OpenFailure) = ⊥
-LiveSays held (Some Close) = Unit {0}
-LiveSays held (Some Failure) = Unit {0}
-LiveSays held (Some (Data n)) = n ≤ held
-LiveSays held (Some Eof) = Unit {0}
-LiveSays held (Some (Adjust n)) = n < 2 ^ 32
+abbrev LiveSends : ℕ → Option Outgoing → Type 0
+LiveSends held None = Unit {0}
+LiveSends held (Some Open) = ⊥
+LiveSends held (Some Confirmation) = ⊥
+LiveSends held (Some OpenFailure) = ⊥
+LiveSends held (Some Close) = Unit {0}
+LiveSends held (Some Failure) = Unit {0}
+LiveSends held (Some (Data n)) = n ≤ held
+LiveSends held (Some Eof) = Unit {0}
+LiveSends held (Some (Adjust n)) = n < 2 ^ 32
 
-either : (held : ℕ) (b : Bool) (x y : Option Saying) → LiveSays held x → LiveSays held y → LiveSays held (if b then x else y)
+either : (held : ℕ) (b : Bool) (x y : Option Outgoing) → LiveSends held x → LiveSends held y → LiveSends held (if b then x else y)
 either held true x y h k = h
 either held false x y h k = k
 
-live-says : (r : Relay) (live : LiveState) → LiveSays (length r.held.waiting) (says_live r live)
+live-says : (r : Relay) (live : LiveState) → LiveSends (length r.held.waiting) (sends_live r live)
 live-says r live =
     let held = length r.held.waiting in
     let at-most : chunk r live ≤ length r.held.waiting = omega arith in
     let adjusts : min live.owed (2 ^ 32 - 1) < 2 ^ 32 = omega arith in
     let fills = either held (nat_lt 0 (chunk r live)) (Some (Data (chunk r live))) None at-most tt in
-    let end = either held (r.ended && not live.eof_said) (Some Eof) None tt tt in
-    let holds = either held (nat_lt 0 held) (if nat_lt 0 (chunk r live) then Some (Data (chunk r live)) else None) (if r.ended && not live.eof_said then Some Eof else None) fills end in
-    let adjust = either held (nat_lt 0 live.owed) (Some (Adjust (min live.owed (2 ^ 32 - 1)))) (says_held r live) adjusts holds in
-    let fail = either held (nat_lt 0 live.failures) (Some Failure) (if nat_lt 0 live.owed then Some (Adjust (min live.owed (2 ^ 32 - 1))) else says_held r live) tt adjust in
-    let close = either held (is_finished r.socket r.queue.waiting live) (Some Close) (if nat_lt 0 live.failures then Some Failure else (if nat_lt 0 live.owed then Some (Adjust (min live.owed (2 ^ 32 - 1))) else says_held r live)) tt fail in
-    either held live.close_said None (if is_finished r.socket r.queue.waiting live then Some Close else (if nat_lt 0 live.failures then Some Failure else (if nat_lt 0 live.owed then Some (Adjust (min live.owed (2 ^ 32 - 1))) else says_held r live))) tt close
+    let end = either held (r.ended && not live.eof_sent) (Some Eof) None tt tt in
+    let holds = either held (nat_lt 0 held) (if nat_lt 0 (chunk r live) then Some (Data (chunk r live)) else None) (if r.ended && not live.eof_sent then Some Eof else None) fills end in
+    let adjust = either held (nat_lt 0 live.owed) (Some (Adjust (min live.owed (2 ^ 32 - 1)))) (sends_held r live) adjusts holds in
+    let fail = either held (nat_lt 0 live.failures) (Some Failure) (if nat_lt 0 live.owed then Some (Adjust (min live.owed (2 ^ 32 - 1))) else sends_held r live) tt adjust in
+    let close = either held (is_finished r.socket r.queue.waiting live) (Some Close) (if nat_lt 0 live.failures then Some Failure else (if nat_lt 0 live.owed then Some (Adjust (min live.owed (2 ^ 32 - 1))) else sends_held r live)) tt fail in
+    either held live.close_sent None (if is_finished r.socket r.queue.waiting live then Some Close else (if nat_lt 0 live.failures then Some Failure else (if nat_lt 0 live.owed then Some (Adjust (min live.owed (2 ^ 32 - 1))) else sends_held r live))) tt close
 
-live-reads : (remote : ℕ) (held : List ℕ) (s : Saying) → LiveSays (length held) (Some s) → remote < 2 ^ 32 → length (framed (in_live s remote held)) ≤ 65536 → ReadsLive remote s (in_live s remote held)
+live-reads : (remote : ℕ) (held : List ℕ) (s : Outgoing) → LiveSends (length held) (Some s) → remote < 2 ^ 32 → length (framed (in_live s remote held)) ≤ 65536 → ReadsLive remote s (in_live s remote held)
 live-reads remote held Open h there fits = absurd h
 live-reads remote held Confirmation h there fits = absurd h
 live-reads remote held OpenFailure h there fits = absurd h
@@ -235,26 +235,26 @@ live-reads remote held (Adjust n) h there fits = reads-as (full.To remote (full.
 
 -- ---- any
 
-reads-in : (line : Line) (r : Relay) (s : Saying) → says_in line r ≡ Some s → r.number < 2 ^ 32 → SmallIn line → length (framed (payload_in line r s)) ≤ 65536 → ReadsIn line r.number s (payload_in line r s)
+reads-in : (line : ChannelState) (r : Relay) (s : Outgoing) → sends_in line r ≡ Some s → r.number < 2 ^ 32 → SmallIn line → length (framed (payload_in line r s)) ≤ 65536 → ReadsIn line r.number s (payload_in line r s)
 reads-in (Dialing dialog) r s e here there fits = absurd (cc)
 reads-in (Asked host port version) r s e here there fits = open-says s e fits
   where
-    open-says : (s : Saying) → Some Open ≡ Some s → length (framed (payload_in (Asked host port version) r s)) ≤ 65536 → ReadsOpen r.number s (payload_in (Asked host port version) r s)
+    open-says : (s : Outgoing) → Some Open ≡ Some s → length (framed (payload_in (Asked host port version) r s)) ≤ 65536 → ReadsOpen r.number s (payload_in (Asked host port version) r s)
     open-says s e fits = open-reads r.number host port s e here fits
 reads-in (Opened version) r s e here there fits = absurd (cc)
-reads-in (Offered remote window maximum) r s e here there fits = offer-reads remote r.number s (subst OfferSays e (offer-says r.socket)) there here
-reads-in (Live live) r s e here there fits = live-reads live.remote r.held.waiting s (subst (LiveSays (length r.held.waiting)) e (live-says r live)) there fits
+reads-in (Offered remote window maximum) r s e here there fits = offer-reads remote r.number s (subst OfferSends e (offer-says r.socket)) there here
+reads-in (Live live) r s e here there fits = live-reads live.remote r.held.waiting s (subst (LiveSends (length r.held.waiting)) e (live-says r live)) there fits
 reads-in Over r s e here there fits = absurd (cc)
 
-pub relay-reads : (r : Relay) (s : Saying) → says_of r ≡ Some s → IsSmall r → AreBytes (framed (payload_of r s)) → length (framed (payload_of r s)) ≤ 65536 → Reads r s (payload_of r s)
+pub relay-reads : (r : Relay) (s : Outgoing) → sends_of r ≡ Some s → IsSmall r → AreBytes (framed (payload_of r s)) → length (framed (payload_of r s)) ≤ 65536 → Reads r s (payload_of r s)
 relay-reads r s e small bytes fits = reads-in r.line r s e small.number small.line fits
 
 -- what reads has a byte
-has-byte : (p : List ℕ) (g : Gist) → read_gist p ≡ Ok g → 1 ≤ length p
+has-byte : (p : List ℕ) (g : Summary) → read_summary p ≡ Ok g → 1 ≤ length p
 has-byte [] g e = absurd (cc)
 has-byte (b ∷ p) g e = omega arith
 
-open-byte : (number : ℕ) (s : Saying) (p : List ℕ) → ReadsOpen number s p → 1 ≤ length p
+open-byte : (number : ℕ) (s : Outgoing) (p : List ℕ) → ReadsOpen number s p → 1 ≤ length p
 open-byte number Open p h = has-byte p (Opens (Direct h.0) number 2097152 32768) h.1
 open-byte number Confirmation p h = absurd h
 open-byte number OpenFailure p h = absurd h
@@ -264,7 +264,7 @@ open-byte number (Data n) p h = absurd h
 open-byte number Eof p h = absurd h
 open-byte number (Adjust n) p h = absurd h
 
-offer-byte : (remote number : ℕ) (s : Saying) (p : List ℕ) → ReadsOffer remote number s p → 1 ≤ length p
+offer-byte : (remote number : ℕ) (s : Outgoing) (p : List ℕ) → ReadsOffer remote number s p → 1 ≤ length p
 offer-byte remote number Open p h = absurd h
 offer-byte remote number Confirmation p h = has-byte p (Confirms remote number 2097152 32768) h
 offer-byte remote number OpenFailure p h = has-byte p (Within remote Fails) h
@@ -274,7 +274,7 @@ offer-byte remote number (Data n) p h = absurd h
 offer-byte remote number Eof p h = absurd h
 offer-byte remote number (Adjust n) p h = absurd h
 
-live-byte : (remote : ℕ) (s : Saying) (p : List ℕ) → ReadsLive remote s p → 1 ≤ length p
+live-byte : (remote : ℕ) (s : Outgoing) (p : List ℕ) → ReadsLive remote s p → 1 ≤ length p
 live-byte remote Open p h = absurd h
 live-byte remote Confirmation p h = absurd h
 live-byte remote OpenFailure p h = absurd h
@@ -284,7 +284,7 @@ live-byte remote (Data n) p h = has-byte p (Within remote (Carries n)) h
 live-byte remote Eof p h = has-byte p (Within remote Ends) h
 live-byte remote (Adjust n) p h = has-byte p (Within remote (Grants n)) h
 
-byte-in : (line : Line) (number : ℕ) (s : Saying) (p : List ℕ) → ReadsIn line number s p → 1 ≤ length p
+byte-in : (line : ChannelState) (number : ℕ) (s : Outgoing) (p : List ℕ) → ReadsIn line number s p → 1 ≤ length p
 byte-in (Dialing dialog) number s p h = absurd h
 byte-in (Asked host port version) number s p h = open-byte number s p h
 byte-in (Opened version) number s p h = absurd h
@@ -292,7 +292,7 @@ byte-in (Offered remote window maximum) number s p h = offer-byte remote number 
 byte-in (Live live) number s p h = live-byte live.remote s p h
 byte-in Over number s p h = absurd h
 
-pub relay-payload : (r : Relay) (s : Saying) → says_of r ≡ Some s → IsSmall r → AreBytes (framed (payload_of r s)) → length (framed (payload_of r s)) ≤ 65536 → 1 ≤ length (payload_of r s)
+pub relay-payload : (r : Relay) (s : Outgoing) → sends_of r ≡ Some s → IsSmall r → AreBytes (framed (payload_of r s)) → length (framed (payload_of r s)) ≤ 65536 → 1 ≤ length (payload_of r s)
 relay-payload r s e small bytes fits = byte-in r.line r.number s (payload_of r s) (relay-reads r s e small bytes fits)
 
 -- ---- requests about forwardings
@@ -304,7 +304,7 @@ IsAboutForwarding KeepAlive = ⊥
 IsAboutForwarding OtherName = ⊥
 
 abbrev pub IsRequestRead : List ℕ → Type 0
-IsRequestRead p = (what : Global) × IsAboutForwarding what × (read_gist p ≡ Ok (Requests what true))
+IsRequestRead p = (what : Global) × IsAboutForwarding what × (read_summary p ≡ Ok (Requests what true))
 
 requested-long : (name address : List ℕ) (port : ℕ) → length address ≤ length (framed (requested name address port))
 requested-long name address port =
@@ -356,7 +356,7 @@ request-reads f has bytes fits = request-in f.stage f.listen_host (request_port 
 
 -- ---- one frame more
 
-pub record SaysOne (before bytes p : List ℕ) : Type 0 where
+pub record SendsOne (before bytes p : List ℕ) : Type 0 where
   pub items : new_sayings HOUSE before (before ++ bytes) ≡ Says HOUSE (Payload p) None ∷ []
   pub mode : (parse InControl (before ++ bytes)).mode ≡ InProxy
   pub rest : (parse InControl (before ++ bytes)).rest ≡ []
@@ -367,15 +367,15 @@ one-frame p some fits =
     let whole : first_frame framing.Proxy (framed p) ≡ Frame p [] = subst (λ (l : List ℕ). first_frame framing.Proxy l ≡ Frame p []) (append-nil (framed p)) (first-frame framing.Proxy p [] (some, omega (arith, fits))) in
     parse-at InProxy (framed p) (Frame p []) whole
 
-pub one-more : (before p : List ℕ) → (parse InControl before).mode ≡ InProxy → (parse InControl before).rest ≡ [] → 1 ≤ length p → length (framed p) ≤ 65536 → SaysOne before (framed p) p
+pub one-more : (before p : List ℕ) → (parse InControl before).mode ≡ InProxy → (parse InControl before).rest ≡ [] → 1 ≤ length p → length (framed p) ≤ 65536 → SendsOne before (framed p) p
 one-more before p mode rest some fits =
     let one : Parsed = record { says = Payload p ∷ []; mode = InProxy; rest = [] } in
     let more : parse (parse InControl before).mode ((parse InControl before).rest ++ framed p) ≡ one = ap (λ (m : Mode). parse m ((parse InControl before).rest ++ framed p)) mode ∙ ap (λ (l : List ℕ). parse InProxy (l ++ framed p)) rest ∙ one-frame p some fits in
     let all : parse InControl (before ++ framed p) ≡ record { says = said before ++ (Payload p ∷ []); mode = InProxy; rest = [] } =
     parse-append InControl before (framed p) ∙ ap (λ (q : Parsed). record { says = said before ++ q.says; mode = q.mode; rest = q.rest }) more in
     record {
-      items = ap (λ (q : Parsed). map (said_item HOUSE) (drop (length (said before)) q.says)) all
-          ∙ ap (λ (says : List Spoken). map (said_item HOUSE) says) (drop_at (said before) (Payload p ∷ []) (length (said before)) refl);
+      items = ap (λ (q : Parsed). map (sent_item HOUSE) (drop (length (said before)) q.says)) all
+          ∙ ap (λ (says : List Spoken). map (sent_item HOUSE) says) (drop_at (said before) (Payload p ∷ []) (length (said before)) refl);
       mode = ap (λ (q : Parsed). q.mode) all;
       rest = ap (λ (q : Parsed). q.rest) all;
     }

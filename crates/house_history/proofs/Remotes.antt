@@ -14,14 +14,14 @@ use Rattle.ssh_grammar.specs.Frames.{Faulty, Frame, Front, More}
 use Rattle.ssh_grammar.specs.IsMessage.{Spells}
 use Rattle.ssh_grammar.specs.Messages as full
 use Rattle.ssh_grammar.specs.ReadMessage.{read_message}
-use Rattle.ssh_grammar.specs.Said.{BadFraming, Body, InControl, InProxy, Mode, Payload, Saying, Stopped, first_in, mode_after, parse, parse_by, parse_front, said, saying_in}
+use Rattle.ssh_grammar.specs.Said.{BadFraming, Body, InControl, InProxy, Mode, Payload, Outgoing, Stopped, first_in, mode_after, parse, parse_by, parse_front, said, sending_in}
 use Rattle.ssh_grammar.proofs.MessageReads.{reads_is_spelled}
 use Rattle.mux_history.specs.declared.limits.TheConstants.{HOUSE}
-use Rattle.mux_history.specs.Channels.{Channel, after_farewell, after_item, begun_by, channels_of, heard_by, held_of, is_held, is_number, opened_down, opened_up, own_of, with_down, with_up, with_ups}
+use Rattle.mux_history.specs.Channels.{Channel, after_farewell, after_item, begun_by, channels_of, received_by, held_of, is_held, is_number, opened_down, opened_up, own_of, with_down, with_up, with_ups}
 use Rattle.mux_history.specs.Choices.{FromLists, pick_of, replies_given, reply_at, with_reply}
 use Rattle.mux_history.specs.Controls.{body_asks, greeted}
-use Rattle.mux_history.specs.Gist.{Confirmation, Confirms, Gist, Open, Within, gist, read_gist, reading}
-use Rattle.mux_history.specs.Journal.{IsLawful, LawfulHouse, LawfulMark, bytes_in, bytes_of, heard_item, house_said, is_own_stream, items_in, log_of_journal, new_heard, new_sayings, said_item, server_end, unless_own}
+use Rattle.mux_history.specs.Summary.{Confirmation, Confirms, Summary, Open, Within, summary, read_summary, reading}
+use Rattle.mux_history.specs.Journal.{IsLawful, LawfulHouse, LawfulMark, bytes_in, bytes_of, received_item, house_sent, is_own_stream, items_in, log_of_journal, new_received, new_sayings, sent_item, server_end, unless_own}
 use Rattle.mux_history.specs.Kept.{AtEach}
 use Rattle.mux_history.specs.Log.{makes_next, more_all, more_of, treat}
 use Rattle.mux_history.specs.Policy.{Policy}
@@ -31,8 +31,8 @@ use Rattle.mux_history.specs.Settings.{by_lists}
 use Rattle.mux_history.proofs.LawfulItems.{treat-item}
 use Rattle.mux_history.proofs.Local.{channels-local, is_of}
 use Rattle.mux_history.proofs.Marks.{FrontBytes, in-bytes}
-use Rattle.mux_history.proofs.Readings.{gist-from}
-use Rattle.mux_history.proofs.SaidApart.{own-small}
+use Rattle.mux_history.proofs.Readings.{summary-from}
+use Rattle.mux_history.proofs.SentApart.{own-small}
 use Rattle.house_history.proofs.Lists.{Each, each-append, each-filter}
 
 -- the server's number and the opener's window are numbers of four bytes
@@ -41,45 +41,45 @@ IsSmallChannel x = ((s : ℕ) → x.remote ≡ Some s → s < 4294967296) × (x.
 
 -- ---- what is said in a lawful journal are bytes
 
-abbrev pub SaidBytes : Saying → Type 0
-SaidBytes (Payload p) = AreBytes p
-SaidBytes (Body p) = AreBytes p
-SaidBytes (BadFraming fault) = Unit {0}
+abbrev pub SentBytes : Outgoing → Type 0
+SentBytes (Payload p) = AreBytes p
+SentBytes (Body p) = AreBytes p
+SentBytes (BadFraming fault) = Unit {0}
 
 abbrev pub HasBytes : Item → Type 0
-HasBytes (Says k saying reply) = SaidBytes saying
+HasBytes (Says k outgoing reply) = SentBytes outgoing
 HasBytes (Heard p) = AreBytes p
 HasBytes item = Unit {0}
 
 abbrev pub RowBytes : Row → Type 0
 RowBytes row = HasBytes row.item
 
-saying-bytes : (mode : Mode) (content : List ℕ) → AreBytes content → SaidBytes (saying_in mode content)
-saying-bytes InControl content a = a
-saying-bytes InProxy content a = a
-saying-bytes Stopped content a = a
+outgoing-bytes : (mode : Mode) (content : List ℕ) → AreBytes content → SentBytes (sending_in mode content)
+outgoing-bytes InControl content a = a
+outgoing-bytes InProxy content a = a
+outgoing-bytes Stopped content a = a
 
-parse-bytes : (n : ℕ) (mode : Mode) (bytes : List ℕ) → AreBytes bytes → Each SaidBytes (parse_by n mode bytes).says
+parse-bytes : (n : ℕ) (mode : Mode) (bytes : List ℕ) → AreBytes bytes → Each SentBytes (parse_by n mode bytes).says
 parse-bytes zero mode bytes a = tt
 parse-bytes (suc n) mode bytes a = by_front (first_in mode bytes) (in-bytes mode bytes a) (λ mode rest b. parse-bytes n mode rest b)
   where
-    by_front : (f : Front) → FrontBytes f → ((mode : Mode) (rest : List ℕ) → AreBytes rest → Each SaidBytes (parse_by n mode rest).says) → Each SaidBytes (parse_front (parse_by n) mode bytes f).says
-    by_front (Frame content rest) b ih = (saying-bytes mode content b.0, ih (mode_after mode content) rest b.1)
+    by_front : (f : Front) → FrontBytes f → ((mode : Mode) (rest : List ℕ) → AreBytes rest → Each SentBytes (parse_by n mode rest).says) → Each SentBytes (parse_front (parse_by n) mode bytes f).says
+    by_front (Frame content rest) b ih = (outgoing-bytes mode content b.0, ih (mode_after mode content) rest b.1)
     by_front More b ih = tt
     by_front (Faulty fault) b ih = (tt, tt)
 
-said-drop : (n : ℕ) (ss : List Saying) → Each SaidBytes ss → Each SaidBytes (drop n ss)
+said-drop : (n : ℕ) (ss : List Outgoing) → Each SentBytes ss → Each SentBytes (drop n ss)
 said-drop zero ss a = a
 said-drop (suc n) [] a = tt
 said-drop (suc n) (s ∷ ss) a = said-drop n ss a.1
 
-heard-items : (ss : List Saying) → Each SaidBytes ss → Each HasBytes (map heard_item ss)
+heard-items : (ss : List Outgoing) → Each SentBytes ss → Each HasBytes (map received_item ss)
 heard-items [] a = tt
 heard-items (Body body ∷ ss) a = (a.0, heard-items ss a.1)
 heard-items (Payload p ∷ ss) a = (a.0, heard-items ss a.1)
 heard-items (BadFraming fault ∷ ss) a = (tt, heard-items ss a.1)
 
-said-items : (k : ℕ) (ss : List Saying) → Each SaidBytes ss → Each HasBytes (map (said_item k) ss)
+said-items : (k : ℕ) (ss : List Outgoing) → Each SentBytes ss → Each HasBytes (map (sent_item k) ss)
 said-items k [] a = tt
 said-items k (s ∷ ss) a = (a.0, said-items k ss a.1)
 
@@ -88,16 +88,16 @@ pub stream-bytes : (k : ℕ) (marks : List Mark) → IsLawful marks → AreBytes
 stream-bytes k [] lawful = tt
 stream-bytes k (mark ∷ before) lawful = AreBytes-append (bytes_of k before) (bytes_in k mark) (stream-bytes k before lawful.1) (by_mark mark lawful.0)
   where
-    by_house : (mark : HouseMark) → LawfulHouse before mark → AreBytes (house_said mark)
+    by_house : (mark : HouseMark) → LawfulHouse before mark → AreBytes (house_sent mark)
     by_house (HouseSaid bytes) a = a.3
     by_house mark a = tt
 
     by_mark : (mark : Mark) → LawfulMark before mark → AreBytes (bytes_in k mark)
-    by_mark (wire.House mark) a = elim (HOUSE == k) as (λ b. AreBytes (elim b as (λ _. List ℕ) [ true ↦ house_said mark | false ↦ [] ])) [ true ↦ by_house mark a | false ↦ tt ]
+    by_mark (wire.House mark) a = elim (HOUSE == k) as (λ b. AreBytes (elim b as (λ _. List ℕ) [ true ↦ house_sent mark | false ↦ [] ])) [ true ↦ by_house mark a | false ↦ tt ]
     by_mark (wire.Gets stream bytes) a = elim (stream == k) as (λ b. AreBytes (elim b as (λ _. List ℕ) [ true ↦ bytes | false ↦ [] ])) [ true ↦ a.3 | false ↦ tt ]
     by_mark mark a = tt
 
-new-heard : (before : List Mark) (bytes : List ℕ) → IsLawful before → AreBytes bytes → Each HasBytes (new_heard (bytes_of 0 before) (bytes_of 0 before ++ bytes))
+new-heard : (before : List Mark) (bytes : List ℕ) → IsLawful before → AreBytes bytes → Each HasBytes (new_received (bytes_of 0 before) (bytes_of 0 before ++ bytes))
 new-heard before bytes all a =
     let old = bytes_of 0 before in
     heard-items (drop (length (parse InProxy old).says) (parse InProxy (old ++ bytes)).says)
@@ -124,7 +124,7 @@ end-bytes (b ∷ rest) = tt
 items-bytes : (before : List Mark) (mark : Mark) → IsLawful before → LawfulMark before mark → Each HasBytes (items_in before mark)
 items-bytes before (wire.Accepts k) all lawful = (tt, tt)
 items-bytes before (wire.Gets stream bytes) all lawful =
-    elim (stream == 0) as (λ b. Each HasBytes (elim b as (λ _. List Item) [ true ↦ new_heard (bytes_of 0 before) (bytes_of 0 before ++ bytes) | false ↦ unless_own stream (new_sayings stream (bytes_of stream before) (bytes_of stream before ++ bytes)) ])) [
+    elim (stream == 0) as (λ b. Each HasBytes (elim b as (λ _. List Item) [ true ↦ new_received (bytes_of 0 before) (bytes_of 0 before ++ bytes) | false ↦ unless_own stream (new_sayings stream (bytes_of stream before) (bytes_of stream before ++ bytes)) ])) [
       | true ↦ new-heard before bytes all lawful.3
       | false ↦ unless-bytes stream (new_sayings stream (bytes_of stream before) (bytes_of stream before ++ bytes)) (new-said stream before bytes all lawful.3)
     ]
@@ -169,7 +169,7 @@ module _ (policy : Policy) (pid : ℕ) (picks : List ℕ) (given : List HouseRep
 
 -- ---- windows that are read
 
-abbrev pub window_of : Gist → ℕ
+abbrev pub window_of : Summary → ℕ
 window_of (Open what sender window maximum) = window
 window_of m = 0
 
@@ -180,7 +180,7 @@ message-spells p m bytes reads = by_case (read_message p) reads (reads_is_spelle
     by_case (Ok x) e holds = let same : x ≡ m = cc in subst (λ (m : full.Message). Spells m p) same holds
     by_case (Err x) e holds = cc
 
-spelled-window : (p : List ℕ) (m : full.Message) → Spells m p → window_of (gist m) < 4294967296
+spelled-window : (p : List ℕ) (m : full.Message) → Spells m p → window_of (summary m) < 4294967296
 spelled-window p (full.Plain (full.Open kind s w x rest what)) spells = spells.is_message.2
 spelled-window p (full.Plain (full.Transport n rest)) spells = omega arith
 spelled-window p (full.Plain (full.GlobalRequest name want rest what)) spells = omega arith
@@ -197,21 +197,21 @@ spelled-window p (full.To r (full.Request kind want rest)) spells = omega arith
 spelled-window p (full.To r full.Success) spells = omega arith
 spelled-window p (full.To r full.Failure) spells = omega arith
 
-pub window-small : (p : List ℕ) (m : Gist) → AreBytes p → read_gist p ≡ Ok m → window_of m < 4294967296
+pub window-small : (p : List ℕ) (m : Summary) → AreBytes p → read_summary p ≡ Ok m → window_of m < 4294967296
 window-small p m bytes reads =
-    let r = gist-from p m reads in
-    subst (λ (g : Gist). window_of g < 4294967296) r.is (spelled-window p r.message (message-spells p r.message bytes r.reads))
+    let r = summary-from p m reads in
+    subst (λ (g : Summary). window_of g < 4294967296) r.is (spelled-window p r.message (message-spells p r.message bytes r.reads))
 
 -- ---- what a row does to a channel
 
-small-read : (p : List ℕ) (f : Gist → Channel) (x : Channel) → ((m : Gist) → read_gist p ≡ Ok m → IsSmallChannel (f m)) → IsSmallChannel x → IsSmallChannel (reading p f x)
-small-read p f x each small = by_case (read_gist p) refl
+small-read : (p : List ℕ) (f : Summary → Channel) (x : Channel) → ((m : Summary) → read_summary p ≡ Ok m → IsSmallChannel (f m)) → IsSmallChannel x → IsSmallChannel (reading p f x)
+small-read p f x each small = by_case (read_summary p) refl
   where
-    by_case : (r : Result Gist Bad) → read_gist p ≡ r → IsSmallChannel (elim r as (λ _. Channel) [ Err e ↦ x | Ok m ↦ f m ])
+    by_case : (r : Result Summary Bad) → read_summary p ≡ r → IsSmallChannel (elim r as (λ _. Channel) [ Err e ↦ x | Ok m ↦ f m ])
     by_case (Err e) reads = small
     by_case (Ok m) reads = each m reads
 
-small-up : (own : Option ℕ) (m : Gist) (x : Channel) → IsSmallChannel x → IsSmallChannel (with_up own m x)
+small-up : (own : Option ℕ) (m : Summary) (x : Channel) → IsSmallChannel x → IsSmallChannel (with_up own m x)
 small-up own (Confirmation s n w max) x small = elim (is_number x.remote s && is_held x) as (λ b. IsSmallChannel (elim b as (λ _. Channel) [ true ↦ record x { own = own; number = Some n; acts = (Up, Confirms w max) ∷ x.acts } | false ↦ x ])) [ true ↦ small | false ↦ small ]
 small-up own (Within s act) x small = elim (is_number x.remote s && is_held x) as (λ b. IsSmallChannel (elim b as (λ _. Channel) [ true ↦ record x { acts = (Up, act) ∷ x.acts } | false ↦ x ])) [ true ↦ small | false ↦ small ]
 small-up own m x small = small
@@ -220,21 +220,21 @@ small-ups : (own : Option ℕ) (ps : List (List ℕ)) (x : Channel) → IsSmallC
 small-ups own [] x small = small
 small-ups own (p ∷ ps) x small = small-ups own ps (reading p (λ m. with_up own m x) x) (small-read p (λ m. with_up own m x) x (λ m e. small-up own m x small) small)
 
-said-small : (p : List ℕ) (n s w max t : ℕ) → AreBytes p → read_gist p ≡ Ok (Confirmation n s w max) → Some s ≡ Some t → t < 4294967296
+said-small : (p : List ℕ) (n s w max t : ℕ) → AreBytes p → read_summary p ≡ Ok (Confirmation n s w max) → Some s ≡ Some t → t < 4294967296
 said-small p n s w max t bytes reads e = own-small p (Confirmation n s w max) t bytes reads e
 
-small-down : (p : List ℕ) (m : Gist) (x : Channel) → AreBytes p → read_gist p ≡ Ok m → IsSmallChannel x → IsSmallChannel (with_down m x)
+small-down : (p : List ℕ) (m : Summary) (x : Channel) → AreBytes p → read_summary p ≡ Ok m → IsSmallChannel x → IsSmallChannel (with_down m x)
 small-down p (Confirmation n s w max) x bytes reads small = elim (is_number x.number n && is_held x) as (λ b. IsSmallChannel (elim b as (λ _. Channel) [ true ↦ record x { remote = Some s; acts = (Down, Confirms w max) ∷ x.acts } | false ↦ x ])) [ true ↦ ((λ t e. said-small p n s w max t bytes reads e), small.1) | false ↦ small ]
 small-down p (Within n act) x bytes reads small = elim (is_number x.number n && is_held x) as (λ b. IsSmallChannel (elim b as (λ _. Channel) [ true ↦ record x { acts = (Down, act) ∷ x.acts } | false ↦ x ])) [ true ↦ small | false ↦ small ]
 small-down p m x bytes reads small = small
 
-small-heard : (item : Item) (x : Channel) → HasBytes item → IsSmallChannel x → IsSmallChannel (heard_by item x)
+small-heard : (item : Item) (x : Channel) → HasBytes item → IsSmallChannel x → IsSmallChannel (received_by item x)
 small-heard (Heard p) x bytes small = small-read p (λ m. with_down m x) x (λ m e. small-down p m x bytes e small) small
 small-heard item x bytes small = small
 
 small-item : (row : Row) → RowBytes row → (x : Channel) → IsSmallChannel x → IsSmallChannel (after_item row x)
-small-item row bytes x small = elim (x.client == row.client) as (λ b. IsSmallChannel (elim b as (λ _. Channel) [ true ↦ with_ups (own_of row.item) row.up (heard_by row.item x) | false ↦ x ]))
-    [ true ↦ small-ups (own_of row.item) row.up (heard_by row.item x) (small-heard row.item x bytes small) | false ↦ small ]
+small-item row bytes x small = elim (x.client == row.client) as (λ b. IsSmallChannel (elim b as (λ _. Channel) [ true ↦ with_ups (own_of row.item) row.up (received_by row.item x) | false ↦ x ]))
+    [ true ↦ small-ups (own_of row.item) row.up (received_by row.item x) (small-heard row.item x bytes small) | false ↦ small ]
 
 small-farewell : (row : Row) (x : Channel) → IsSmallChannel x → IsSmallChannel (after_farewell row x)
 small-farewell row x small = elim (x.client == row.client) as (λ b. IsSmallChannel (elim b as (λ _. Channel) [ true ↦ with_ups None row.farewell x | false ↦ x ]))
@@ -242,22 +242,22 @@ small-farewell row x small = elim (x.client == row.client) as (λ b. IsSmallChan
 
 -- ---- the channels that a row begins
 
-begun-read : (p : List ℕ) (f : Gist → List Channel) → ((m : Gist) → read_gist p ≡ Ok m → Each IsSmallChannel (f m)) → Each IsSmallChannel (reading p f [])
-begun-read p f each = by_case (read_gist p) refl
+begun-read : (p : List ℕ) (f : Summary → List Channel) → ((m : Summary) → read_summary p ≡ Ok m → Each IsSmallChannel (f m)) → Each IsSmallChannel (reading p f [])
+begun-read p f each = by_case (read_summary p) refl
   where
-    by_case : (r : Result Gist Bad) → read_gist p ≡ r → Each IsSmallChannel (elim r as (λ _. List Channel) [ Err e ↦ [] | Ok m ↦ f m ])
+    by_case : (r : Result Summary Bad) → read_summary p ≡ r → Each IsSmallChannel (elim r as (λ _. List Channel) [ Err e ↦ [] | Ok m ↦ f m ])
     by_case (Err e) reads = tt
     by_case (Ok m) reads = each m reads
 
 none-said : (t : ℕ) → None ≡ Some t → t < 4294967296
 none-said t e = cc
 
-small-opened-up : (k : ℕ) (up : List (List ℕ)) (p : List ℕ) (m : Gist) → AreBytes p → read_gist p ≡ Ok m → Each IsSmallChannel (opened_up k up m)
+small-opened-up : (k : ℕ) (up : List (List ℕ)) (p : List ℕ) (m : Summary) → AreBytes p → read_summary p ≡ Ok m → Each IsSmallChannel (opened_up k up m)
 small-opened-up k [] p m bytes reads = tt
 small-opened-up k (q ∷ qs) p (Open what c w max) bytes reads = (((λ t e. none-said t e), window-small p (Open what c w max) bytes reads), tt)
 small-opened-up k (q ∷ qs) p m bytes reads = tt
 
-small-opened-down : (k : ℕ) (up : List (List ℕ)) (p : List ℕ) (m : Gist) → AreBytes p → read_gist p ≡ Ok m → Each IsSmallChannel (opened_down k up m)
+small-opened-down : (k : ℕ) (up : List (List ℕ)) (p : List ℕ) (m : Summary) → AreBytes p → read_summary p ≡ Ok m → Each IsSmallChannel (opened_down k up m)
 small-opened-down k [] p (Open what s w max) bytes reads = (((λ t e. own-small p (Open what s w max) t bytes reads e), window-small p (Open what s w max) bytes reads), tt)
 small-opened-down k up p m bytes reads = tt
 

@@ -7,20 +7,20 @@ use Rattle.std.proofs.lemmas.List.{length-map}
 use Rattle.mux_history.proofs.Finds.{filter-no, filter-yes}
 use Rattle.mux_outside.specs.HouseCalls.{HouseCall}
 use Rattle.mux_outside.specs.declared.start_ask.StartAsk.{StartAsk}
-use Rattle.house_forward.specs.Deeds.{Deed, Does, Leave}
-use Rattle.house_forward.specs.Deeds.{Begins, Asks, Answers, Greets, Requests, Replies, Listens as ListensAt, Unlistens}
-use Rattle.house_forward.specs.Desk.{Desk, request_said, reply_heard, standing_at}
+use Rattle.house_forward.specs.ForwarderEvents.{ForwarderEvent, Does, Leave}
+use Rattle.house_forward.specs.ForwarderEvents.{Begins, Asks, Answers, Greets, Requests, Replies, Listens as ListensAt, Unlistens}
+use Rattle.house_forward.specs.ForwardingState.{ForwardingState, request_sent, reply_received, standing_at}
 use Rattle.house_forward.specs.Asks.{turns_away}
-use Rattle.house_forward.specs.Forwardings.{Begins as BeginsAt, StartsIf, Standing, Opens, counts, how_many, is_new, has_request, requests_at, request_of, request_at, after_saying, changed, stage_after, closing_after, standing, closes_of, after_close, EndsLeave, ComesIf, ComesUnless, is_asked, asks_at, is_cancelled, cancels_at, replied_all, removed_at, first_of, has_listener}
-use Rattle.house_forward.specs.Lives.{Course, Reaches, first_course}
+use Rattle.house_forward.specs.Forwardings.{Begins as BeginsAt, StartsIf, Standing, Opens, counts, how_many, is_new, has_request, requests_at, request_of, request_at, after_sending, changed, stage_after, closing_after, standing, closes_of, after_close, EndsLeave, ComesIf, ComesUnless, is_asked, asks_at, is_cancelled, cancels_at, replied_all, removed_at, first_of, has_listener}
+use Rattle.house_forward.specs.RelayTraces.{Trace, Reaches, first_trace}
 use Rattle.house_forward.specs.Rules.{is_refused_alone, listens_here}
 use Rattle.house_forward.specs.declared.asks.Asked.{Asked as Comes}
 use Rattle.house_forward.specs.declared.asks.Asked.TheVariants.{Now, Later}
 use Rattle.house_forward.specs.declared.forwarding.Change.{Change}
 use Rattle.house_forward.specs.declared.forwarding.Change.TheVariants as change
 use Rattle.house_forward.specs.declared.forwarding.Forwarding.{Forwarding}
-use Rattle.house_forward.specs.declared.forwarding.Request.{Request}
-use Rattle.house_forward.specs.declared.forwarding.Request.TheVariants.{Listen, Cancel}
+use Rattle.house_forward.specs.declared.forwarding.ForwardingRequest.{ForwardingRequest}
+use Rattle.house_forward.specs.declared.forwarding.ForwardingRequest.TheVariants.{Listen, Cancel}
 use Rattle.house_forward.specs.declared.forwarding.Stage.{Stage}
 use Rattle.house_forward.specs.declared.forwarding.Stage.TheVariants.{ToListen, Ordered, Listening, ToRequest, Requested, Live, Cancelling}
 use Rattle.house_forward.specs.declared.rules.Ends.{Ends}
@@ -35,7 +35,7 @@ use Rattle.house_forward.proofs.Wanting.{Wants, wants, IsOf}
 
 -- ---- those of a list, each once, are no more than another list has
 
-abbrev Once : List Request → Type 0
+abbrev Once : List ForwardingRequest → Type 0
 Once [] = Unit {0}
 Once (r ∷ rs) = (In r rs → ⊥) × Once rs
 
@@ -61,29 +61,29 @@ between-length : {X : Type 0} (x : X) (a b : List X) → length (a ++ x ∷ b) �
 between-length x [] b = refl
 between-length x (z ∷ a) b = ap suc (between-length x a b)
 
-no-more : (rs ys : List Request) → Once rs → ((r : Request) → In r rs → In r ys) → length rs ≤ length ys
+no-more : (rs ys : List ForwardingRequest) → Once rs → ((r : ForwardingRequest) → In r rs → In r ys) → length rs ≤ length ys
 no-more [] ys once sub = omega arith
 no-more (r ∷ rs) ys once sub =
     let s = split-at r ys (sub r (inl refl)) in
     let rest = no-more rs (s.before ++ s.behind) once.1
-    (λ q h. in-between r q s.before s.behind (subst (In q) s.are (sub q (inr h))) (λ e. once.0 (subst (λ (x : Request). In x rs) (sym e) h))) in
+    (λ q h. in-between r q s.before s.behind (subst (In q) s.are (sub q (inr h))) (λ e. once.0 (subst (λ (x : ForwardingRequest). In x rs) (sym e) h))) in
     let many : length ys ≡ suc (length (s.before ++ s.behind)) = ap length s.are ∙ between-length r s.before s.behind in
     omega (arith, rest, many)
 
-once-push : (rs : List Request) (r : Request) → Once rs → (In r rs → ⊥) → Once (rs ++ r ∷ [])
+once-push : (rs : List ForwardingRequest) (r : ForwardingRequest) → Once rs → (In r rs → ⊥) → Once (rs ++ r ∷ [])
 once-push [] r once none = ((λ h. h), tt)
 once-push (q ∷ rs) r once none = (
   λ h. go rs h once.0 (λ e. none (inl e)),
   once-push rs r once.1 (λ h. none (inr h)),
 )
   where
-    go : (xs : List Request) → In q (xs ++ r ∷ []) → (In q xs → ⊥) → (q ≡ r → ⊥) → ⊥
+    go : (xs : List ForwardingRequest) → In q (xs ++ r ∷ []) → (In q xs → ⊥) → (q ≡ r → ⊥) → ⊥
     go [] (inl e) no1 differ = differ (sym e)
     go [] (inr h) no1 differ = h
     go (x ∷ xs) (inl e) no1 differ = no1 (inl e)
     go (x ∷ xs) (inr h) no1 differ = go xs h (λ k. no1 (inr k)) differ
 
-once-rest : (rs : List Request) → Once rs → Once (drop 1 rs)
+once-rest : (rs : List ForwardingRequest) → Once rs → Once (drop 1 rs)
 once-rest [] once = tt
 once-rest (r ∷ rs) once = once.1
 
@@ -212,8 +212,8 @@ few-closed : (comes : Comes) (fs : List Forwarding) → how_many (after_close co
 few-closed (Now o) fs = omega arith
 few-closed (Later serial) fs = few-changed change.Close serial fs (λ f h is e. closed-counts f.closing (listens_here f.kind) e)
 
-few-said : (r : Request) (fs : List Forwarding) → how_many (after_saying r fs) ≤ how_many fs
-few-said (Listen serial) fs = few-changed change.Request serial fs (λ f h is e. e)
+few-said : (r : ForwardingRequest) (fs : List Forwarding) → how_many (after_sending r fs) ≤ how_many fs
+few-said (Listen serial) fs = few-changed change.ForwardingRequest serial fs (λ f h is e. e)
 few-said (Cancel serial) fs = few-changed change.Cancel serial fs (λ f h is e. e)
 
 -- ---- an ask
@@ -238,52 +238,52 @@ asked-unless false gateway opening ask serial comes old new h few = asked-if (is
 
 -- ---- those with a request that is unanswered listen at the server
 
-asks-there : (s : Stage) (a : Forwarding) (deeds : List Deed) → asks_at s ≡ true → StageFits s a deeds → listens_here a.kind ≡ false
-asks-there (ToListen host) a deeds e h = cc
-asks-there Ordered a deeds e h = cc
-asks-there (Listening l) a deeds e h = cc
-asks-there ToRequest a deeds e h = cc
-asks-there Requested a deeds e h = h
-asks-there (Live port) a deeds e h = cc
-asks-there (Cancelling port) a deeds e h = cc
+asks-there : (s : Stage) (a : Forwarding) (forwarder_events : List ForwarderEvent) → asks_at s ≡ true → StageFits s a forwarder_events → listens_here a.kind ≡ false
+asks-there (ToListen host) a forwarder_events e h = cc
+asks-there Ordered a forwarder_events e h = cc
+asks-there (Listening l) a forwarder_events e h = cc
+asks-there ToRequest a forwarder_events e h = cc
+asks-there Requested a forwarder_events e h = h
+asks-there (Live port) a forwarder_events e h = cc
+asks-there (Cancelling port) a forwarder_events e h = cc
 
-cancels-there : (s : Stage) (a : Forwarding) (deeds : List Deed) → cancels_at s ≡ true → StageFits s a deeds → listens_here a.kind ≡ false
-cancels-there (ToListen host) a deeds e h = cc
-cancels-there Ordered a deeds e h = cc
-cancels-there (Listening l) a deeds e h = cc
-cancels-there ToRequest a deeds e h = cc
-cancels-there Requested a deeds e h = cc
-cancels-there (Live port) a deeds e h = cc
-cancels-there (Cancelling port) a deeds e h = h.0
+cancels-there : (s : Stage) (a : Forwarding) (forwarder_events : List ForwarderEvent) → cancels_at s ≡ true → StageFits s a forwarder_events → listens_here a.kind ≡ false
+cancels-there (ToListen host) a forwarder_events e h = cc
+cancels-there Ordered a forwarder_events e h = cc
+cancels-there (Listening l) a forwarder_events e h = cc
+cancels-there ToRequest a forwarder_events e h = cc
+cancels-there Requested a forwarder_events e h = cc
+cancels-there (Live port) a forwarder_events e h = cc
+cancels-there (Cancelling port) a forwarder_events e h = h.0
 
-asked-there : (deeds : List Deed) (d : Desk) (f : Forwarding) → Knows deeds d → In f d.all → asks_at f.stage ≡ true → listens_here f.kind ≡ false
-asked-there deeds d f k h e =
-    let s = in-all (Stands k.home d.serials deeds) f d.all k.all h in
-    ap listens_here (sym s.same.kind) ∙ asks-there f.stage (k.home f.serial) deeds e s.stage
+asked-there : (forwarder_events : List ForwarderEvent) (d : ForwardingState) (f : Forwarding) → Knows forwarder_events d → In f d.all → asks_at f.stage ≡ true → listens_here f.kind ≡ false
+asked-there forwarder_events d f k h e =
+    let s = in-all (Stands k.home d.serials forwarder_events) f d.all k.all h in
+    ap listens_here (sym s.same.kind) ∙ asks-there f.stage (k.home f.serial) forwarder_events e s.stage
 
-cancelled-there : (deeds : List Deed) (d : Desk) (f : Forwarding) → Knows deeds d → In f d.all → cancels_at f.stage ≡ true → listens_here f.kind ≡ false
-cancelled-there deeds d f k h e =
-    let s = in-all (Stands k.home d.serials deeds) f d.all k.all h in
-    ap listens_here (sym s.same.kind) ∙ cancels-there f.stage (k.home f.serial) deeds e s.stage
+cancelled-there : (forwarder_events : List ForwarderEvent) (d : ForwardingState) (f : Forwarding) → Knows forwarder_events d → In f d.all → cancels_at f.stage ≡ true → listens_here f.kind ≡ false
+cancelled-there forwarder_events d f k h e =
+    let s = in-all (Stands k.home d.serials forwarder_events) f d.all k.all h in
+    ap listens_here (sym s.same.kind) ∙ cancels-there f.stage (k.home f.serial) forwarder_events e s.stage
 
 -- ---- a reply
 
-replied-few : (success : Bool) (port : Option ℕ) (deeds : List Deed) (d : Desk) (rs : List Request) → d.requests ≡ rs → Knows deeds d → Tracks d → Wants d
+replied-few : (success : Bool) (port : Option ℕ) (forwarder_events : List ForwarderEvent) (d : ForwardingState) (rs : List ForwardingRequest) → d.requests ≡ rs → Knows forwarder_events d → Tracks d → Wants d
     → how_many (replied_all success port (first_of rs) d.all) ≤ how_many d.all
-replied-few success port deeds d [] e k t w = omega arith
-replied-few true port deeds d (Listen serial ∷ rs) e k t w = few-changed (change.Live port) serial d.all (λ f h is c. c)
-replied-few false port deeds d (Listen serial ∷ rs) e k t w = few-removed (position (is_asked serial) d.all) d.all
-replied-few true port deeds d (Cancel serial ∷ rs) e k t w = few-removed (position (is_cancelled serial) d.all) d.all
-replied-few false port deeds d (Cancel serial ∷ rs) e k t w =
+replied-few success port forwarder_events d [] e k t w = omega arith
+replied-few true port forwarder_events d (Listen serial ∷ rs) e k t w = few-changed (change.Live port) serial d.all (λ f h is c. c)
+replied-few false port forwarder_events d (Listen serial ∷ rs) e k t w = few-removed (position (is_asked serial) d.all) d.all
+replied-few true port forwarder_events d (Cancel serial ∷ rs) e k t w = few-removed (position (is_cancelled serial) d.all) d.all
+replied-few false port forwarder_events d (Cancel serial ∷ rs) e k t w =
     let its = w.said (Cancel serial) (subst (In (Cancel serial)) (sym e) (inl refl)) in
-    let there = cancelled-there deeds d its.0 k its.1 its.3 in
+    let there = cancelled-there forwarder_events d its.0 k its.1 its.3 in
     few-changed change.Stay serial d.all (λ f h is c.
     let one : its.0 ≡ f = one-serial d.all its.0 f 0 d.serials t.numbered its.1 h (its.2 ∙ sym is) in
     other-counts f.closing (listens_here f.kind) (subst (λ (x : Forwarding). listens_here x.kind ≡ false) one there))
 
 -- ---- a request is said
 
-none-yet : (d : Desk) (f : Forwarding) (s : Stage) → f.stage ≡ s → requests_at s f.closing ≡ true → In f d.all → Tracks d → Wants d
+none-yet : (d : ForwardingState) (f : Forwarding) (s : Stage) → f.stage ≡ s → requests_at s f.closing ≡ true → In f d.all → Tracks d → Wants d
     → In (request_at s f.serial) d.requests → ⊥
 none-yet d f (ToListen host) e is here t w h = absurd cc
 none-yet d f Ordered e is here t w h = absurd cc
@@ -309,66 +309,66 @@ made-few (Some l) i f old new is m =
 
 -- ---- by all that happened
 
-record Few (d : Desk) : Type 0 where
+record Few (d : ForwardingState) : Type 0 where
   once : Once d.requests
   few : how_many d.all ≤ 64
 
-same-few : (old new : Desk) → new.requests ≡ old.requests → how_many new.all ≤ 64 → Few old → Few new
+same-few : (old new : ForwardingState) → new.requests ≡ old.requests → how_many new.all ≤ 64 → Few old → Few new
 same-few old new e few h = record { once = subst Once (sym e) h.once; few = few }
 
-after : (deed : Deed) (deeds : List Deed) (old new : Desk) → Knows deeds old → Tracks old → Wants old → Does deed old new → Few old → Few new
-after (Begins starts) deeds old new k t w d h =
-    same-few old new (ap (λ (x : Desk). x.requests) d.others)
+after : (forwarder_event : ForwarderEvent) (forwarder_events : List ForwarderEvent) (old new : ForwardingState) → Knows forwarder_events old → Tracks old → Wants old → Does forwarder_event old new → Few old → Few new
+after (Begins starts) forwarder_events old new k t w d h =
+    same-few old new (ap (λ (x : ForwardingState). x.requests) d.others)
     (begins-few starts.gateway starts.asks (length starts.asks) (standing_at old) (standing_at new) (omega arith) d.begins h.few) h
-after (Asks client id opening ask answer) deeds old new k t w d h =
-    same-few old new (ap (λ (x : Desk). x.requests) d.others)
+after (Asks client id opening ask answer) forwarder_events old new k t w d h =
+    same-few old new (ap (λ (x : ForwardingState). x.requests) d.others)
     (asked-unless (turns_away client id old.waiting) old.gateway opening ask old.serials d.came_to old.all new.all d.comes h.few) h
-after (Answers client id answer) deeds old new k t w d h =
-    same-few old new (ap (λ (x : Desk). x.requests) d.others)
-    (subst (λ (fs : List Forwarding). how_many fs ≤ 64) (sym (ap (λ (x : Desk). x.all) d.others)) h.few) h
-after Greets deeds old new k t w d h =
-    same-few old new (ap (λ (x : Desk). x.requests) d.1)
-    (subst (λ (fs : List Forwarding). how_many fs ≤ 64) (sym (ap (λ (x : Desk). x.all) d.1)) h.few) h
-after (Requests f) deeds old new k t w d h =
+after (Answers client id answer) forwarder_events old new k t w d h =
+    same-few old new (ap (λ (x : ForwardingState). x.requests) d.others)
+    (subst (λ (fs : List Forwarding). how_many fs ≤ 64) (sym (ap (λ (x : ForwardingState). x.all) d.others)) h.few) h
+after Greets forwarder_events old new k t w d h =
+    same-few old new (ap (λ (x : ForwardingState). x.requests) d.1)
+    (subst (λ (fs : List Forwarding). how_many fs ≤ 64) (sym (ap (λ (x : ForwardingState). x.all) d.1)) h.few) h
+after (Requests f) forwarder_events old new k t w d h =
     let less = few-said (request_of f) old.all in
     let few = h.few in
     let is = (is-found (λ (x : Forwarding). Unit {0}) has_request old.all f d.1 (λ i x lt. tt)).1 in
-    let got : Few (request_said f old) = record {
+    let got : Few (request_sent f old) = record {
       once = once-push old.requests (request_of f) h.once (none-yet old f f.stage refl is (found-in has_request f old.all d.1) t w);
       few = omega (arith, less, few);
     } in
-    subst (λ (x : Desk). Few x) (sym d.2) got
-after (Replies success port) deeds old new k t w d h =
-    let less = replied-few success port deeds old old.requests refl k t w in
+    subst (λ (x : ForwardingState). Few x) (sym d.2) got
+after (Replies success port) forwarder_events old new k t w d h =
+    let less = replied-few success port forwarder_events old old.requests refl k t w in
     let few = h.few in
-    let got : Few (reply_heard success port old) = record {
+    let got : Few (reply_received success port old) = record {
       once = once-rest old.requests h.once;
       few = omega (arith, less, few);
     } in
-    subst (λ (x : Desk). Few x) (sym d) got
-after (ListensAt host port number) deeds old new k t w d h =
+    subst (λ (x : ForwardingState). Few x) (sym d) got
+after (ListensAt host port number) forwarder_events old new k t w d h =
     let l = listener-made host port number old new d in
     let less = made-few number l.place l.forwarding old.all new.all l.is l.made in
     let few = h.few in
     same-few old new l.requests (omega (arith, less, few)) h
-after (Unlistens l) deeds old new k t w d h =
+after (Unlistens l) forwarder_events old new k t w d h =
     let less = few-filter (λ (f : Forwarding). not (has_listener l f)) old.all in
     let few = h.few in
-    same-few old new (ap (λ (x : Desk). x.requests) d.others)
-    (subst (λ (fs : List Forwarding). how_many fs ≤ 64) (sym (ap (λ (x : Desk). x.all) d.others)) (omega (arith, less, few))) h
+    same-few old new (ap (λ (x : ForwardingState). x.requests) d.others)
+    (subst (λ (fs : List Forwarding). how_many fs ≤ 64) (sym (ap (λ (x : ForwardingState). x.all) d.others)) (omega (arith, less, few))) h
 
-few-left : (deeds : List Deed) (desk : Desk) → Leave deeds desk → Few desk
-few-left [] desk left = subst (λ (d : Desk). Few d) (sym left) (record { once = tt; few = omega arith })
-few-left (deed ∷ deeds) desk left =
-    after deed deeds left.0 desk (knows deeds left.0 left.1) (tracks deeds left.0 left.1) (wants deeds left.0 left.1) left.2 (few-left deeds left.0 left.1)
+few-left : (forwarder_events : List ForwarderEvent) (forwarding_state : ForwardingState) → Leave forwarder_events forwarding_state → Few forwarding_state
+few-left [] forwarding_state left = subst (λ (d : ForwardingState). Few d) (sym left) (record { once = tt; few = omega arith })
+few-left (forwarder_event ∷ forwarder_events) forwarding_state left =
+    after forwarder_event forwarder_events left.0 forwarding_state (knows forwarder_events left.0 left.1) (tracks forwarder_events left.0 left.1) (wants forwarder_events left.0 left.1) left.2 (few-left forwarder_events left.0 left.1)
 
 -- ---- each request is of one that counts
 
-abbrev own_if : Bool → ℕ → Request
+abbrev own_if : Bool → ℕ → ForwardingRequest
 own_if true n = Listen n
 own_if false n = Cancel n
 
-abbrev own_of : Forwarding → Request
+abbrev own_of : Forwarding → ForwardingRequest
 own_of f = own_if (asks_at f.stage) f.serial
 
 cancels-not : (s : Stage) → cancels_at s ≡ true → asks_at s ≡ false
@@ -380,27 +380,27 @@ cancels-not Requested e = cc
 cancels-not (Live port) e = cc
 cancels-not (Cancelling port) e = refl
 
-of-one : (deeds : List Deed) (d : Desk) (r : Request) → Knows deeds d → IsOf d.all r → In r (map own_of (filter counts d.all))
-of-one deeds d (Listen n) k h =
+of-one : (forwarder_events : List ForwarderEvent) (d : ForwardingState) (r : ForwardingRequest) → Knows forwarder_events d → IsOf d.all r → In r (map own_of (filter counts d.all))
+of-one forwarder_events d (Listen n) k h =
     let f = h.0 in
     let is : own_of f ≡ Listen n = ap (λ (b : Bool). own_if b f.serial) h.3 ∙ ap (λ (m : ℕ). Listen m) h.2 in
-    subst (λ (r : Request). In r (map own_of (filter counts d.all))) is
-    (in-map own_of f (filter counts d.all) (in-filter counts f d.all (other-counts f.closing (listens_here f.kind) (asked-there deeds d f k h.1 h.3)) h.1))
-of-one deeds d (Cancel n) k h =
+    subst (λ (r : ForwardingRequest). In r (map own_of (filter counts d.all))) is
+    (in-map own_of f (filter counts d.all) (in-filter counts f d.all (other-counts f.closing (listens_here f.kind) (asked-there forwarder_events d f k h.1 h.3)) h.1))
+of-one forwarder_events d (Cancel n) k h =
     let f = h.0 in
     let is : own_of f ≡ Cancel n = ap (λ (b : Bool). own_if b f.serial) (cancels-not f.stage h.3) ∙ ap (λ (m : ℕ). Cancel m) h.2 in
-    subst (λ (r : Request). In r (map own_of (filter counts d.all))) is
-    (in-map own_of f (filter counts d.all) (in-filter counts f d.all (other-counts f.closing (listens_here f.kind) (cancelled-there deeds d f k h.1 h.3)) h.1))
+    subst (λ (r : ForwardingRequest). In r (map own_of (filter counts d.all))) is
+    (in-map own_of f (filter counts d.all) (in-filter counts f d.all (other-counts f.closing (listens_here f.kind) (cancelled-there forwarder_events d f k h.1 h.3)) h.1))
 
-pub few-requests : (deeds : List Deed) (desk : Desk) → Leave deeds desk → length desk.requests ≤ 64
-few-requests deeds desk left =
-    let h = few-left deeds desk left in
-    let w = wants deeds desk left in
-    let k = knows deeds desk left in
+pub few-requests : (forwarder_events : List ForwarderEvent) (forwarding_state : ForwardingState) → Leave forwarder_events forwarding_state → length forwarding_state.requests ≤ 64
+few-requests forwarder_events forwarding_state left =
+    let h = few-left forwarder_events forwarding_state left in
+    let w = wants forwarder_events forwarding_state left in
+    let k = knows forwarder_events forwarding_state left in
     let few = h.few in
-    let less = no-more desk.requests (map own_of (filter counts desk.all)) h.once (λ r is. of-one deeds desk r k (w.said r is)) in
-    let many : length (map own_of (filter counts desk.all)) ≡ how_many desk.all = length-map (filter counts desk.all) own_of in
+    let less = no-more forwarding_state.requests (map own_of (filter counts forwarding_state.all)) h.once (λ r is. of-one forwarder_events forwarding_state r k (w.said r is)) in
+    let many : length (map own_of (filter counts forwarding_state.all)) ≡ how_many forwarding_state.all = length-map (filter counts forwarding_state.all) own_of in
     omega (arith, less, many, few)
 
-pub requests-few : (calls : List HouseCall) (course : Course) → Reaches first_course calls course → length course.desk.requests ≤ 64
-requests-few calls course reached = let all = each-happens calls course reached in few-requests all.0 course.desk all.2
+pub requests-few : (calls : List HouseCall) (trace : Trace) → Reaches first_trace calls trace → length trace.forwarding_state.requests ≤ 64
+requests-few calls trace reached = let all = each-happens calls trace reached in few-requests all.0 trace.forwarding_state all.2

@@ -8,14 +8,14 @@ use Rattle.mux_outside.specs.declared.house.HouseReply.{HouseReply}
 use Rattle.ssh_fields.specs.Fields.{AreBytes}
 use Rattle.ssh_grammar.specs.Frames.{frame_payload}
 use Rattle.ssh_grammar.specs.Messages.{Global}
-use Rattle.ssh_grammar.specs.Said.{BadFraming, Body, InProxy, Payload, Saying}
+use Rattle.ssh_grammar.specs.Said.{BadFraming, Body, InProxy, Payload, Outgoing}
 use Rattle.ssh_grammar.specs.SpellMessage.{request_failure}
 use Rattle.mux_history.specs.declared.limits.TheConstants.{MAX_QUEUE}
 use Rattle.mux_history.specs.declared.why.Why.{Why}
 use Rattle.mux_history.specs.declared.why.Why.TheVariants as why
-use Rattle.mux_history.specs.Gist.{reading}
-use Rattle.mux_history.specs.Journal.{heard_item, new_heard}
-use Rattle.mux_history.specs.Log.{all_told, bare, fate_with, new_answers, overflow, queued, row_of, with_farewell}
+use Rattle.mux_history.specs.Summary.{reading}
+use Rattle.mux_history.specs.Journal.{received_item, new_received}
+use Rattle.mux_history.specs.Log.{all_recorded, bare, fate_with, new_answers, overflow, queued, row_of, with_farewell}
 use Rattle.mux_history.specs.Pending.{joined, waiting_down}
 use Rattle.mux_history.specs.Requests.{answers, answers_to, is_reply, is_sent, replies, reply_in, sent_flags, unanswered_asks, wanted, wanted_by}
 use Rattle.mux_history.specs.Rows.{Fate, Gone, Goes, Heard, Item, Row, Says, is_ended, is_lost, loses, rows_of}
@@ -26,7 +26,7 @@ use Rattle.mux_isolation.proofs.Fulls.{all-fit}
 use Rattle.mux_bounds.specs.Awaited.{RepliesAwaited}
 use Rattle.mux_bounds.specs.Bounds.{weight}
 use Rattle.mux_bounds.proofs.Asked.{trues}
-use Rattle.mux_bounds.proofs.Lengths.{NoBodies, new-bodies, new-bytes, new_says, payloads_bytes}
+use Rattle.mux_bounds.proofs.Lengths.{NoBodies, new-bodies, new-bytes, new_sends, payloads_bytes}
 use Rattle.mux_bounds.proofs.Weights.{weight-cons, weight-one}
 use Rattle.house_history.proofs.Lists.{Each, each-append, each-behind}
 
@@ -57,42 +57,42 @@ pub plain-stays : (item : Item) (k : ℕ) (up down : List (List ℕ)) → is_gon
 plain-stays (Gone j) k up down e = cc
 plain-stays item k up down e = refl
 
-queued-plain : (item : Item) (k : ℕ) (sent told frames : List (List ℕ)) (own : List Row) → waiting_down own + length (joined frames) ≤ MAX_QUEUE
-    → queued frames (bare item k (record { sent = sent; told = told; ends = Goes })) own ≡ plain_row item k sent frames
-queued-plain item k sent told frames own le =
+queued-plain : (item : Item) (k : ℕ) (sent recorded frames : List (List ℕ)) (own : List Row) → waiting_down own + length (joined frames) ≤ MAX_QUEUE
+    → queued frames (bare item k (record { sent = sent; recorded = recorded; ends = Goes })) own ≡ plain_row item k sent frames
+queued-plain item k sent recorded frames own le =
     let none = none-over (waiting_down own) frames le in
     let all = all-fit (waiting_down own) frames none in
     ap (λ (down : List (List ℕ)). record { item = item; client = k; up = sent; farewell = []; down = down; fate = fate_with Goes (overflow (waiting_down own) frames) }) all
     ∙ ap (λ (o : Option Why). record { item = item; client = k; up = sent; farewell = []; down = frames; fate = fate_with Goes o }) none
 
-plain-goes : (item : Item) (k : ℕ) (sent told : List (List ℕ)) (own : List Row) → is_gone_item item ≡ false → is_lost own ≡ false
-    → waiting_down own + length (joined (told ++ new_answers (bare item k (record { sent = sent; told = told; ends = Goes })) own)) ≤ MAX_QUEUE
-    → row_of item k (record { sent = sent; told = told; ends = Goes }) own ≡ plain_row item k sent (told ++ new_answers (bare item k (record { sent = sent; told = told; ends = Goes })) own)
-plain-goes item k sent told own gone lost le =
-    let o : Outcome = record { sent = sent; told = told; ends = Goes } in
-    let frames = told ++ new_answers (bare item k o) own in
-    let tells : all_told (bare item k o) own ≡ frames = rw (lost, all_told) refl in
-    let q : queued (all_told (bare item k o) own) (bare item k o) own ≡ plain_row item k sent frames = ap (λ (fs : List (List ℕ)). queued fs (bare item k o) own) tells ∙ queued-plain item k sent told frames own le in
+plain-goes : (item : Item) (k : ℕ) (sent recorded : List (List ℕ)) (own : List Row) → is_gone_item item ≡ false → is_lost own ≡ false
+    → waiting_down own + length (joined (recorded ++ new_answers (bare item k (record { sent = sent; recorded = recorded; ends = Goes })) own)) ≤ MAX_QUEUE
+    → row_of item k (record { sent = sent; recorded = recorded; ends = Goes }) own ≡ plain_row item k sent (recorded ++ new_answers (bare item k (record { sent = sent; recorded = recorded; ends = Goes })) own)
+plain-goes item k sent recorded own gone lost le =
+    let o : Outcome = record { sent = sent; recorded = recorded; ends = Goes } in
+    let frames = recorded ++ new_answers (bare item k o) own in
+    let records : all_recorded (bare item k o) own ≡ frames = rw (lost, all_recorded) refl in
+    let q : queued (all_recorded (bare item k o) own) (bare item k o) own ≡ plain_row item k sent frames = ap (λ (fs : List (List ℕ)). queued fs (bare item k o) own) records ∙ queued-plain item k sent recorded frames own le in
     let kept : with_farewell (plain_row item k sent frames) own ≡ plain_row item k sent frames = rw (plain-stays item k sent frames gone, with_farewell) refl in
     ap (λ (r : Row). with_farewell r own) q ∙ kept
 
 pub plain-row : (item : Item) (k : ℕ) (o : Outcome) (own : List Row) → o.ends ≡ Goes → is_gone_item item ≡ false → is_lost own ≡ false
-    → waiting_down own + length (joined (o.told ++ new_answers (bare item k o) own)) ≤ MAX_QUEUE
-    → row_of item k o own ≡ record { item = item; client = k; up = o.sent; farewell = []; down = o.told ++ new_answers (bare item k o) own; fate = Goes }
+    → waiting_down own + length (joined (o.recorded ++ new_answers (bare item k o) own)) ≤ MAX_QUEUE
+    → row_of item k o own ≡ record { item = item; client = k; up = o.sent; farewell = []; down = o.recorded ++ new_answers (bare item k o) own; fate = Goes }
 plain-row item k o own ends gone lost le =
-    ap (λ (f : Fate). row_of item k (record { sent = o.sent; told = o.told; ends = f }) own) ends
-    ∙ plain-goes item k o.sent o.told own gone lost le
+    ap (λ (f : Fate). row_of item k (record { sent = o.sent; recorded = o.recorded; ends = f }) own) ends
+    ∙ plain-goes item k o.sent o.recorded own gone lost le
 
 -- it does not lose its client
 pub plain-kept : (item : Item) (k : ℕ) (up down : List (List ℕ)) (own : List Row) → is_gone_item item ≡ false → is_lost own ≡ false → is_lost (plain_row item k up down ∷ own) ≡ false
 plain-kept item k up down own gone lost = rw (plain-stays item k up down gone, is_lost) lost
 
 pub row-kept : (item : Item) (k : ℕ) (o : Outcome) (own : List Row) → o.ends ≡ Goes → is_gone_item item ≡ false → is_lost own ≡ false
-    → waiting_down own + length (joined (o.told ++ new_answers (bare item k o) own)) ≤ MAX_QUEUE
+    → waiting_down own + length (joined (o.recorded ++ new_answers (bare item k o) own)) ≤ MAX_QUEUE
     → is_lost (row_of item k o own ∷ own) ≡ false
 row-kept item k o own ends gone lost le =
     ap (λ (r : Row). is_lost (r ∷ own)) (plain-row item k o own ends gone lost le)
-    ∙ plain-kept item k o.sent (o.told ++ new_answers (bare item k o) own) own gone lost
+    ∙ plain-kept item k o.sent (o.recorded ++ new_answers (bare item k o) own) own gone lost
 
 -- ---- how many are unanswered
 
@@ -339,14 +339,14 @@ abbrev pub total : List Item → ℕ
 total [] = 0
 total (item ∷ items) = item_size item + total items
 
-heard-total : (ss : List Saying) → NoBodies ss → total (map heard_item ss) ≡ payloads_bytes ss
+heard-total : (ss : List Outgoing) → NoBodies ss → total (map received_item ss) ≡ payloads_bytes ss
 heard-total [] all = refl
 heard-total (Body body ∷ ss) all = absurd all.0
 heard-total (Payload p ∷ ss) all = ap (λ (n : ℕ). length p + 5 + n) (heard-total ss all.1)
 heard-total (BadFraming fault ∷ ss) all = let ih = heard-total ss all.1 in omega (arith, ih)
 
-pub heard-size : (before bytes : List ℕ) → AreBytes before → AreBytes bytes → length bytes ≤ 65536 → total (new_heard before (before ++ bytes)) ≤ 327683
+pub heard-size : (before bytes : List ℕ) → AreBytes before → AreBytes bytes → length bytes ≤ 65536 → total (new_received before (before ++ bytes)) ≤ 327683
 heard-size before bytes b b' le =
-    let e : total (new_heard before (before ++ bytes)) ≡ payloads_bytes (new_says InProxy before bytes) = heard-total (new_says InProxy before bytes) (new-bodies before bytes) in
+    let e : total (new_received before (before ++ bytes)) ≡ payloads_bytes (new_sends InProxy before bytes) = heard-total (new_sends InProxy before bytes) (new-bodies before bytes) in
     let n = new-bytes InProxy before bytes in
     omega (arith, e, n, le)

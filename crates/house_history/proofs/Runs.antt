@@ -10,15 +10,15 @@ use Rattle.mux_history.specs.Rows.{Row, is_lost, rows_of}
 use Rattle.mux_history.specs.Settings.{by_lists}
 use Rattle.mux_engine.specs.Called.{calls_in}
 use Rattle.house_forward.specs.State.{StandsIn}
-use Rattle.house_forward.specs.declared.holdings.Holdings.{Holdings}
+use Rattle.house_forward.specs.declared.forwarder_state.ForwarderState.{ForwarderState}
 use Rattle.house_history.specs.Runs.{LeadsOn, RunsKeep}
 use Rattle.house_history.proofs.Marks.{house-stays}
 
 pub run-stays : {T : Type 0} (May : HouseReply → Type 0) (state : T → HouseState) (house : T) → LeadsOn (state house).stands → RunsKeep May state house
 run-stays May state house leads present starts policy pid turns before start seen refused answer run ne small =
     let set : Setting = by_lists policy pid run.picks run.replies in
-    let course = leads (Begins starts ∷ calls_in set run.journal) (run.handed ne (Begins starts ∷ []) refl) small in
-    ap (λ (rows : List Row). is_lost (rows_of HOUSE rows)) (run.whole ne) ∙ house-stays policy pid run.picks run.replies run.journal course.0 record {
+    let trace = leads (Begins starts ∷ calls_in set run.journal) (run.handed ne (Begins starts ∷ []) refl) small in
+    ap (λ (rows : List Row). is_lost (rows_of HOUSE rows)) (run.whole ne) ∙ house-stays policy pid run.picks run.replies run.journal trace.0 record {
       lawful = run.of_wire.lawful;
       asked = run.of_wire.asked;
       waits = run.written.waits;
@@ -27,9 +27,9 @@ run-stays May state house leads present starts policy pid turns before start see
       others = run.own_streams.others;
       fresh = subst AreFresh (run.whole ne) run.fresh;
       starts = starts;
-      reached = course.1;
+      reached = trace.1;
     }
 
 -- a house stands for its calls since the last order, or since before it
-pub leads-on : (has : Holdings) → LeadsOn (StandsIn has)
-leads-on has calls stands small = let lived = stands.since.1 small in (lived.course, lived.reached)
+pub leads-on : (has : ForwarderState) → LeadsOn (StandsIn has)
+leads-on has calls stands small = let lived = stands.since.1 small in (lived.trace, lived.reached)

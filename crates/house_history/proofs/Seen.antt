@@ -2,20 +2,20 @@
 use Rattle.std.proofs.Common.{◌≡◌, ◌≤◌, ℕ, false, Some, None, List, [], ◌∷◌, ◌++◌}
 use Rattle.std.specs.Prelude.{length, Ok, Err}
 use Rattle.house_relay.specs.Acts.{Act, adjusted, delivered}
-use Rattle.house_relay.specs.declared.line.Line.{Line}
-use Rattle.house_relay.specs.declared.line.Line.TheVariants.{Asked, Dialing, Live, Offered, Opened, Over}
+use Rattle.house_relay.specs.declared.line.ChannelState.{ChannelState}
+use Rattle.house_relay.specs.declared.line.ChannelState.TheVariants.{Asked, Dialing, Live, Offered, Opened, Over}
 use Rattle.house_relay.specs.declared.line.Live.{Live as LiveState}
 use Rattle.house_relay.specs.declared.relay.Relay.{Relay}
-use Rattle.house_relay.specs.declared.relay.Saying.{Saying}
-use Rattle.house_relay.specs.declared.relay.Saying.TheVariants as saying
-use Rattle.house_relay.specs.Next.{says_of}
-use Rattle.house_forward.specs.Lives.{Life}
+use Rattle.house_relay.specs.declared.relay.Outgoing.{Outgoing}
+use Rattle.house_relay.specs.declared.relay.Outgoing.TheVariants as outgoing
+use Rattle.house_relay.specs.Next.{sends_of}
+use Rattle.house_forward.specs.RelayTraces.{Life}
 use Rattle.house_forward.specs.Said.{framed, payload_of}
 use Rattle.mux_history.specs.Channels.{Channel}
-use Rattle.mux_history.specs.Gist as gist
-use Rattle.mux_history.specs.Gist.{read_gist}
+use Rattle.mux_history.specs.Summary as summary
+use Rattle.mux_history.specs.Summary.{read_summary}
 use Rattle.house_history.proofs.Lists.{Each}
-use Rattle.house_history.proofs.Views.{Acct, IsLive, IsOffered, IsOpened, MaySay, NoChannel, View, says}
+use Rattle.house_history.proofs.Views.{Acct, IsLive, IsOffered, IsOpened, MaySend, NoChannel, View, says}
 use Rattle.house_history.proofs.Fitting.{Entry, Fit}
 use Rattle.house_history.proofs.Notes.{Later, Note, Nothing, fresh-acct, note-of, unless-over}
 
@@ -28,14 +28,14 @@ pub record LiveIs (live : LiveState) (acts : List Act) (a : Acct) : Type 0 where
   pub remote : live.remote ≡ a.remote
   pub room : live.room ≡ a.room
   pub maximum : live.maximum ≡ a.maximum
-  pub eof_said : live.eof_said ≡ a.eof_said
-  pub close_said : live.close_said ≡ a.close_said
-  pub close_heard : live.close_heard ≡ a.close_heard
-  pub failures : live.close_said ≡ false → live.failures ≡ a.failures
+  pub eof_sent : live.eof_sent ≡ a.eof_sent
+  pub close_sent : live.close_sent ≡ a.close_sent
+  pub close_received : live.close_received ≡ a.close_received
+  pub failures : live.close_sent ≡ false → live.failures ≡ a.failures
   pub given : adjusted acts ≡ a.given
   pub came : length (delivered acts) ≤ a.came
 
-abbrev pub ViewOf : Line → List Act → View → Type 0
+abbrev pub ViewOf : ChannelState → List Act → View → Type 0
 ViewOf (Dialing dialog) acts v = (v ≡ NoChannel) × Untouched acts
 ViewOf (Asked host port version) acts v = (v ≡ NoChannel) × Untouched acts
 ViewOf (Opened version) acts v = (v ≡ IsOpened) × Untouched acts
@@ -58,75 +58,75 @@ abbrev pub Unnumbered : Entry → Type 0
 Unnumbered e = e.0 ≡ None
 
 -- once the house has heard these notes, its relays fit the channels that the history has of it
-pub record Seen (hs : List Channel) (lives : List Life) (notes : List Note) : Type 0 where
+pub record Seen (hs : List Channel) (relay_traces : List Life) (notes : List Note) : Type 0 where
   pub entries : List Entry
   pub orphans : List Entry
-  pub views : AreViews lives entries
+  pub views : AreViews relay_traces entries
   pub unnumbered : Each Unnumbered orphans
   pub later : Later hs (entries ++ orphans) notes
 
 -- the note of a payload
 abbrev pub note-in : List ℕ → Note
-note-in p = elim (read_gist p) [ Ok g ↦ note-of g | Err bad ↦ Nothing ]
+note-in p = elim (read_summary p) [ Ok g ↦ note-of g | Err bad ↦ Nothing ]
 
 -- ---- what a relay says
 
-abbrev pub act-of : Saying → gist.Act
-act-of saying.Open = gist.Fails
-act-of saying.Confirmation = gist.Fails
-act-of saying.OpenFailure = gist.Fails
-act-of saying.Close = gist.Closes
-act-of saying.Failure = gist.Answers
-act-of (saying.Data n) = gist.Carries n
-act-of saying.Eof = gist.Ends
-act-of (saying.Adjust n) = gist.Grants n
+abbrev pub act-of : Outgoing → summary.Act
+act-of outgoing.Open = summary.Fails
+act-of outgoing.Confirmation = summary.Fails
+act-of outgoing.OpenFailure = summary.Fails
+act-of outgoing.Close = summary.Closes
+act-of outgoing.Failure = summary.Answers
+act-of (outgoing.Data n) = summary.Carries n
+act-of outgoing.Eof = summary.Ends
+act-of (outgoing.Adjust n) = summary.Grants n
 
 -- the view of a channel behind it
-abbrev pub said-view : gist.Act → Acct → View
-said-view gist.Closes a = unless-over a.close_heard (says gist.Closes a)
-said-view (gist.Carries n) a = IsLive (says (gist.Carries n) a)
-said-view (gist.Grants n) a = IsLive (says (gist.Grants n) a)
-said-view gist.Ends a = IsLive (says gist.Ends a)
-said-view gist.Answers a = IsLive (says gist.Answers a)
-said-view (gist.Asks wants) a = IsLive a
-said-view gist.Fails a = IsLive a
-said-view (gist.Confirms w m) a = IsLive a
+abbrev pub said-view : summary.Act → Acct → View
+said-view summary.Closes a = unless-over a.close_received (says summary.Closes a)
+said-view (summary.Carries n) a = IsLive (says (summary.Carries n) a)
+said-view (summary.Grants n) a = IsLive (says (summary.Grants n) a)
+said-view summary.Ends a = IsLive (says summary.Ends a)
+said-view summary.Answers a = IsLive (says summary.Answers a)
+said-view (summary.Asks wants) a = IsLive a
+said-view summary.Fails a = IsLive a
+said-view (summary.Confirms w m) a = IsLive a
 
-pub record SaysLive (live : LiveState) (s : Saying) (v v' : View) : Type 0 where
+pub record SendsLive (live : LiveState) (s : Outgoing) (v v' : View) : Type 0 where
   pub acct : Acct
   pub was : v ≡ IsLive acct
   pub remote : acct.remote ≡ live.remote
-  pub may : MaySay (act-of s) acct
+  pub may : MaySend (act-of s) acct
   pub now : v' ≡ said-view (act-of s) acct
 
-abbrev pub SaysOffer : ℕ → ℕ → ℕ → Saying → View → View → Type 0
-SaysOffer remote w m saying.Confirmation v v' = (v ≡ IsOffered remote w m) × (v' ≡ IsLive (fresh-acct remote w m))
-SaysOffer remote w m saying.OpenFailure v v' = (v ≡ IsOffered remote w m) × (v' ≡ NoChannel)
-SaysOffer remote w m s v v' = ⊥
+abbrev pub SendsOffer : ℕ → ℕ → ℕ → Outgoing → View → View → Type 0
+SendsOffer remote w m outgoing.Confirmation v v' = (v ≡ IsOffered remote w m) × (v' ≡ IsLive (fresh-acct remote w m))
+SendsOffer remote w m outgoing.OpenFailure v v' = (v ≡ IsOffered remote w m) × (v' ≡ NoChannel)
+SendsOffer remote w m s v v' = ⊥
 
-abbrev pub SaysOpen : Saying → View → View → Type 0
-SaysOpen saying.Open v v' = (v ≡ NoChannel) × (v' ≡ IsOpened)
-SaysOpen s v v' = ⊥
+abbrev pub SendsOpen : Outgoing → View → View → Type 0
+SendsOpen outgoing.Open v v' = (v ≡ NoChannel) × (v' ≡ IsOpened)
+SendsOpen s v v' = ⊥
 
 -- a view goes on by what is said
-abbrev pub SaidAs : Line → Saying → View → View → Type 0
-SaidAs (Asked host port version) s v v' = SaysOpen s v v'
-SaidAs (Offered remote w m) s v v' = SaysOffer remote w m s v v'
-SaidAs (Live live) s v v' = SaysLive live s v v'
-SaidAs (Dialing dialog) s v v' = ⊥
-SaidAs (Opened version) s v v' = ⊥
-SaidAs Over s v v' = ⊥
+abbrev pub SentAs : ChannelState → Outgoing → View → View → Type 0
+SentAs (Asked host port version) s v v' = SendsOpen s v v'
+SentAs (Offered remote w m) s v v' = SendsOffer remote w m s v v'
+SentAs (Live live) s v v' = SendsLive live s v v'
+SentAs (Dialing dialog) s v v' = ⊥
+SentAs (Opened version) s v v' = ⊥
+SentAs Over s v v' = ⊥
 
 -- a relay said this, where all that the house was told is heard
-pub record Spoken (hs : List Channel) (bytes : List ℕ) (lives : List Life) : Type 0 where
+pub record Spoken (hs : List Channel) (bytes : List ℕ) (relay_traces : List Life) : Type 0 where
   pub relay : Relay
-  pub said : Saying
-  pub next : says_of relay ≡ Some said
+  pub said : Outgoing
+  pub next : sends_of relay ≡ Some said
   pub spelled : bytes ≡ framed (payload_of relay said)
   pub front : List Entry
   pub behind : List Entry
   pub was : View
   pub now : View
-  pub does : SaidAs relay.line said was now
+  pub does : SentAs relay.line said was now
   pub fit : Fit hs (front ++ (Some relay.number, was) ∷ behind)
-  pub goes : (hs' : List Channel) (notes : List Note) → Later hs' (front ++ (Some relay.number, now) ∷ behind) notes → Seen hs' lives notes
+  pub goes : (hs' : List Channel) (notes : List Note) → Later hs' (front ++ (Some relay.number, now) ∷ behind) notes → Seen hs' relay_traces notes

@@ -2,32 +2,32 @@
 use Rattle.std.proofs.Common.{◌≡◌, ◌≤◌, ◌<◌, ◌+◌, ◌-◌, ◌^◌, ℕ, Bool, true, false, not, min, ◌&&◌, Option, Some, None, List, [], ◌∷◌, ◌++◌, refl, sym, ap, ◌∙◌, subst, arith, length, length-append, append_assoc, IsTrue}
 use Rattle.std.specs.Prelude.{nat_lt, is_some, if◌then◌else◌}
 use Rattle.std.proofs.lemmas.Bool.{ltb-true}
-use Rattle.house_relay.specs.Acts.{Act, adjusted, delivered, replies, said_eof, taken, to_take}
-use Rattle.house_relay.specs.Line.{counts, over_if}
-use Rattle.house_relay.specs.Next.{chunk, says_held, says_in, says_live, says_of}
-use Rattle.house_relay.specs.Relay.{IsLive as StandsLive, LineStands, Stands, is_finished, said_act}
-use Rattle.house_relay.specs.Steps.{is_closed, is_gone, said_of}
-use Rattle.house_relay.specs.declared.line.Line.{Line}
-use Rattle.house_relay.specs.declared.line.Line.TheVariants.{Asked, Dialing, Live, Offered, Opened, Over}
+use Rattle.house_relay.specs.Acts.{Act, adjusted, delivered, replies, sent_eof, taken, to_take}
+use Rattle.house_relay.specs.ChannelState.{counts, over_if}
+use Rattle.house_relay.specs.Next.{chunk, sends_held, sends_in, sends_live, sends_of}
+use Rattle.house_relay.specs.Relay.{IsLive as StandsLive, LineStands, Stands, is_finished, sent_act}
+use Rattle.house_relay.specs.Steps.{is_closed, is_gone, sent_of}
+use Rattle.house_relay.specs.declared.line.ChannelState.{ChannelState}
+use Rattle.house_relay.specs.declared.line.ChannelState.TheVariants.{Asked, Dialing, Live, Offered, Opened, Over}
 use Rattle.house_relay.specs.declared.line.Live.{Live as LiveState}
 use Rattle.house_relay.specs.declared.relay.Relay.{Relay}
-use Rattle.house_relay.specs.declared.relay.Saying.{Saying}
-use Rattle.house_relay.specs.declared.relay.Saying.TheVariants.{Adjust, Close, Confirmation, Data, Eof, Failure, Open, OpenFailure}
+use Rattle.house_relay.specs.declared.relay.Outgoing.{Outgoing}
+use Rattle.house_relay.specs.declared.relay.Outgoing.TheVariants.{Adjust, Close, Confirmation, Data, Eof, Failure, Open, OpenFailure}
 use Rattle.house_relay.proofs.Whole.{relays}
-use Rattle.house_forward.specs.Going.{act_of_saying}
-use Rattle.house_forward.specs.Links.{after_saying}
-use Rattle.house_forward.specs.Lives.{Course, Life, SaysBy, Speaks, kept_in}
+use Rattle.house_forward.specs.Going.{act_of_sending}
+use Rattle.house_forward.specs.Links.{after_sending}
+use Rattle.house_forward.specs.RelayTraces.{Trace, Life, SendsBy, Speaks, kept_in}
 use Rattle.house_forward.specs.Said.{framed, payload_if}
 use Rattle.house_forward.proofs.Sound.{Each as EachLife, Sound, each-back}
 use Rattle.mux_history.specs.Channels.{Channel}
-use Rattle.mux_history.specs.Gist as gist
+use Rattle.mux_history.specs.Summary as summary
 use Rattle.house_forward.proofs.Owning.{number-said}
 use Rattle.house_history.proofs.Lists.{Each, each-behind}
 use Rattle.house_history.proofs.Fitting.{Entry, Fit}
 use Rattle.house_history.proofs.Notes.{Later, Note, fresh-acct, later-without, unless-over}
-use Rattle.house_history.proofs.Seen.{AreViews, IsView, LiveIs, SaidAs, Seen, Spoken, Untouched, ViewOf, said-view}
+use Rattle.house_history.proofs.Seen.{AreViews, IsView, LiveIs, SentAs, Seen, Spoken, Untouched, ViewOf, said-view}
 use Rattle.house_history.proofs.Views.{Acct, IsLive, IsOffered, IsOpened, NoChannel, View, says}
-use Rattle.house_history.proofs.Readings.{OfferSays, offer-says}
+use Rattle.house_history.proofs.Readings.{OfferSends, offer-says}
 
 -- ---- the views of lives
 
@@ -81,7 +81,7 @@ and-right : (a b : Bool) → (a && b) ≡ true → b ≡ true
 and-right true b e = e
 and-right false b e = cc
 
-uncounted-none : (line : Line) (acts : List Act) (v : View) → counts line ≡ false → ViewOf line acts v → v ≡ NoChannel
+uncounted-none : (line : ChannelState) (acts : List Act) (v : View) → counts line ≡ false → ViewOf line acts v → v ≡ NoChannel
 uncounted-none (Dialing dialog) acts v e h = h.0
 uncounted-none (Asked host port version) acts v e h = cc
 uncounted-none (Opened version) acts v e h = cc
@@ -93,37 +93,37 @@ pub gone-none : (l : Life) (v : View) → is_gone l.relay ≡ true → ViewOf l.
 gone-none l v e h = uncounted-none l.relay.line l.acts v (not-true (counts l.relay.line) (and-right (is_closed l.relay.socket) (not (counts l.relay.line)) e)) h
 
 -- the entries of those that are left
-record Sweeps (lives : List Life) (es : List Entry) : Type 0 where
+record Sweeps (relay_traces : List Life) (es : List Entry) : Type 0 where
   kept : List Entry
-  views : AreViews (kept_in lives) kept
+  views : AreViews (kept_in relay_traces) kept
   later : (hs : List Channel) (notes : List Note) (fs os : List Entry) → Later hs (fs ++ (es ++ os)) notes → Later hs (fs ++ (kept ++ os)) notes
 
-sweeps : (lives : List Life) (es : List Entry) → AreViews lives es → Sweeps lives es
+sweeps : (relay_traces : List Life) (es : List Entry) → AreViews relay_traces es → Sweeps relay_traces es
 sweeps [] [] h = record { kept = []; views = tt; later = λ hs notes fs os l. l }
 sweeps [] (e ∷ es) h = absurd h
-sweeps (l ∷ lives) [] h = absurd h
-sweeps (l ∷ lives) (e ∷ es) h = by_gone (sweeps lives es h.1) (is_gone l.relay) refl
+sweeps (l ∷ relay_traces) [] h = absurd h
+sweeps (l ∷ relay_traces) (e ∷ es) h = by_gone (sweeps relay_traces es h.1) (is_gone l.relay) refl
   where
-    by_gone : Sweeps lives es → (b : Bool) → is_gone l.relay ≡ b → Sweeps (l ∷ lives) (e ∷ es)
+    by_gone : Sweeps relay_traces es → (b : Bool) → is_gone l.relay ≡ b → Sweeps (l ∷ relay_traces) (e ∷ es)
     by_gone s true is =
         let none : e.1 ≡ NoChannel = gone-none l e.1 is h.0.view in
         record {
           kept = es;
-          views = subst (λ (b : Bool). AreViews (if b then lives else l ∷ kept_in lives) es) (sym is) h.1;
+          views = subst (λ (b : Bool). AreViews (if b then relay_traces else l ∷ kept_in relay_traces) es) (sym is) h.1;
           later = λ hs notes fs os k. later-without hs e.0 notes fs (es ++ os) (subst (λ (v : View). Later hs (fs ++ (e.0, v) ∷ (es ++ os)) notes) none k);
         }
     by_gone s false is = record {
       kept = e ∷ s.kept;
-      views = subst (λ (b : Bool). AreViews (if b then lives else l ∷ kept_in lives) (e ∷ s.kept)) (sym is) (h.0, s.views);
+      views = subst (λ (b : Bool). AreViews (if b then relay_traces else l ∷ kept_in relay_traces) (e ∷ s.kept)) (sym is) (h.0, s.views);
       later = λ hs notes fs os k.
           subst (λ (vs : List Entry). Later hs vs notes) (append_assoc fs (e ∷ []) (s.kept ++ os))
           (s.later hs notes (fs ++ e ∷ []) os (subst (λ (vs : List Entry). Later hs vs notes) (sym (append_assoc fs (e ∷ []) (es ++ os))) k));
     }
 
 -- those of which nothing is left go
-pub seen-kept : (hs : List Channel) (lives : List Life) (notes : List Note) → Seen hs lives notes → Seen hs (kept_in lives) notes
-seen-kept hs lives notes s =
-    let w = sweeps lives s.entries s.views in
+pub seen-kept : (hs : List Channel) (relay_traces : List Life) (notes : List Note) → Seen hs relay_traces notes → Seen hs (kept_in relay_traces) notes
+seen-kept hs relay_traces notes s =
+    let w = sweeps relay_traces s.entries s.views in
     record {
       entries = w.kept;
       orphans = s.orphans;
@@ -134,34 +134,34 @@ seen-kept hs lives notes s =
 
 -- ---- what may be said in a channel that is confirmed
 
-abbrev LiveSays : Relay → LiveState → Option Saying → Type 0
-LiveSays r live None = Unit {0}
-LiveSays r live (Some Open) = ⊥
-LiveSays r live (Some Confirmation) = ⊥
-LiveSays r live (Some OpenFailure) = ⊥
-LiveSays r live (Some Close) = live.close_said ≡ false
-LiveSays r live (Some Failure) = (live.close_said ≡ false) × (0 < live.failures)
-LiveSays r live (Some (Data n)) = (live.close_said ≡ false) × (0 < length r.held.waiting) × (n ≤ live.room) × (n ≤ live.maximum)
-LiveSays r live (Some Eof) = (live.close_said ≡ false) × (live.eof_said ≡ false)
-LiveSays r live (Some (Adjust n)) = (live.close_said ≡ false) × (n ≤ live.owed)
+abbrev LiveSends : Relay → LiveState → Option Outgoing → Type 0
+LiveSends r live None = Unit {0}
+LiveSends r live (Some Open) = ⊥
+LiveSends r live (Some Confirmation) = ⊥
+LiveSends r live (Some OpenFailure) = ⊥
+LiveSends r live (Some Close) = live.close_sent ≡ false
+LiveSends r live (Some Failure) = (live.close_sent ≡ false) × (0 < live.failures)
+LiveSends r live (Some (Data n)) = (live.close_sent ≡ false) × (0 < length r.held.waiting) × (n ≤ live.room) × (n ≤ live.maximum)
+LiveSends r live (Some Eof) = (live.close_sent ≡ false) × (live.eof_sent ≡ false)
+LiveSends r live (Some (Adjust n)) = (live.close_sent ≡ false) × (n ≤ live.owed)
 
-either : (P : Option Saying → Type 0) (b : Bool) (x y : Option Saying) → (b ≡ true → P x) → (b ≡ false → P y) → P (if b then x else y)
+either : (P : Option Outgoing → Type 0) (b : Bool) (x y : Option Outgoing) → (b ≡ true → P x) → (b ≡ false → P y) → P (if b then x else y)
 either P true x y h k = h refl
 either P false x y h k = k refl
 
-held-says : (r : Relay) (live : LiveState) → live.close_said ≡ false → LiveSays r live (says_held r live)
+held-says : (r : Relay) (live : LiveState) → live.close_sent ≡ false → LiveSends r live (sends_held r live)
 held-says r live unclosed =
-    let P = LiveSays r live in
+    let P = LiveSends r live in
     either P (nat_lt 0 (length r.held.waiting))
     (if nat_lt 0 (chunk r live) then Some (Data (chunk r live)) else None)
-    (if r.ended && not live.eof_said then Some Eof else None)
+    (if r.ended && not live.eof_sent then Some Eof else None)
     (λ some. either P (nat_lt 0 (chunk r live)) (Some (Data (chunk r live))) None (λ e. (unclosed, ltb-true 0 (length r.held.waiting) some, omega arith, omega arith)) (λ e. tt))
-    (λ none. either P (r.ended && not live.eof_said) (Some Eof) None (λ e. (unclosed, not-true live.eof_said (and-right r.ended (not live.eof_said) e))) (λ e. tt))
+    (λ none. either P (r.ended && not live.eof_sent) (Some Eof) None (λ e. (unclosed, not-true live.eof_sent (and-right r.ended (not live.eof_sent) e))) (λ e. tt))
 
-live-says : (r : Relay) (live : LiveState) → LiveSays r live (says_live r live)
+live-says : (r : Relay) (live : LiveState) → LiveSends r live (sends_live r live)
 live-says r live =
-    let P = LiveSays r live in
-    either P live.close_said None _ (λ e. tt) (λ unclosed.
+    let P = LiveSends r live in
+    either P live.close_sent None _ (λ e. tt) (λ unclosed.
     either P (is_finished r.socket r.queue.waiting live) (Some Close) _ (λ e. unclosed) (λ e.
     either P (nat_lt 0 live.failures) (Some Failure) _ (λ e. (unclosed, ltb-true 0 live.failures e)) (λ e.
     either P (nat_lt 0 live.owed) (Some (Adjust (min live.owed (2 ^ 32 - 1)))) _ (λ e. (unclosed, omega arith)) (λ e.
@@ -169,14 +169,14 @@ live-says r live =
 
 -- ---- what that does
 
-abbrev with-line : Line → Relay → Relay
+abbrev with-line : ChannelState → Relay → Relay
 with-line line r = record r { line = line }
 
 -- the view goes on by what is said, and is that of the line behind it
-record Does (line : Line) (r : Relay) (s : Saying) (acts : List Act) (v : View) : Type 0 where
+record Does (line : ChannelState) (r : Relay) (s : Outgoing) (acts : List Act) (v : View) : Type 0 where
   now : View
-  does : SaidAs line s v now
-  next : ViewOf (said_of s (with-line line r)).line (said_act s (with-line line r) ∷ acts) now
+  does : SentAs line s v now
+  next : ViewOf (sent_of s (with-line line r)).line (sent_act s (with-line line r) ∷ acts) now
 
 -- EOF wasn't said where bytes are held
 eof-unsaid : (held : List ℕ) (said : Bool) → (IsTrue said → held ≡ []) → 0 < length held → said ≡ false
@@ -188,40 +188,40 @@ over-both : (b : Bool) (live : LiveState) (acts : List Act) (a : Acct) → LiveI
 over-both true live acts a h = refl
 over-both false live acts a h = (a, refl, h)
 
-live-close : (live : LiveState) (r : Relay) (acts : List Act) (a : Acct) → live.close_said ≡ false → LiveIs live acts a → Does (Live live) r Close acts (IsLive a)
+live-close : (live : LiveState) (r : Relay) (acts : List Act) (a : Acct) → live.close_sent ≡ false → LiveIs live acts a → Does (Live live) r Close acts (IsLive a)
 live-close live r acts a unclosed h = record {
-  now = said-view gist.Closes a;
-  does = record { acct = a; was = refl; remote = sym h.remote; may = sym h.close_said ∙ unclosed; now = refl };
-  next = subst (λ (b : Bool). ViewOf (over_if live.close_heard (record live { close_said = true; failures = 0; owed = 0 })) (said_act Close (with-line (Live live) r) ∷ acts) (unless-over b (says gist.Closes a))) h.close_heard
-      (over-both live.close_heard (record live { close_said = true; failures = 0; owed = 0 }) (said_act Close (with-line (Live live) r) ∷ acts) (says gist.Closes a) (record {
+  now = said-view summary.Closes a;
+  does = record { acct = a; was = refl; remote = sym h.remote; may = sym h.close_sent ∙ unclosed; now = refl };
+  next = subst (λ (b : Bool). ViewOf (over_if live.close_received (record live { close_sent = true; failures = 0; owed = 0 })) (sent_act Close (with-line (Live live) r) ∷ acts) (unless-over b (says summary.Closes a))) h.close_received
+      (over-both live.close_received (record live { close_sent = true; failures = 0; owed = 0 }) (sent_act Close (with-line (Live live) r) ∷ acts) (says summary.Closes a) (record {
         remote = h.remote;
         room = h.room;
         maximum = h.maximum;
-        eof_said = h.eof_said;
-        close_said = refl;
-        close_heard = h.close_heard;
+        eof_sent = h.eof_sent;
+        close_sent = refl;
+        close_received = h.close_received;
         failures = λ e. cc;
         given = h.given;
         came = h.came;
       }));
 }
 
-live-failure : (live : LiveState) (r : Relay) (acts : List Act) (a : Acct) → live.close_said ≡ false → 0 < live.failures → LiveIs live acts a → Does (Live live) r Failure acts (IsLive a)
+live-failure : (live : LiveState) (r : Relay) (acts : List Act) (a : Acct) → live.close_sent ≡ false → 0 < live.failures → LiveIs live acts a → Does (Live live) r Failure acts (IsLive a)
 live-failure live r acts a unclosed some h =
     let same : live.failures ≡ a.failures = h.failures unclosed in
     record {
-      now = said-view gist.Answers a;
-      does = record { acct = a; was = refl; remote = sym h.remote; may = (sym h.close_said ∙ unclosed, omega (arith, same, some)); now = refl };
+      now = said-view summary.Answers a;
+      does = record { acct = a; was = refl; remote = sym h.remote; may = (sym h.close_sent ∙ unclosed, omega (arith, same, some)); now = refl };
       next = (
-        says gist.Answers a,
+        says summary.Answers a,
         refl,
         record {
           remote = h.remote;
           room = h.room;
           maximum = h.maximum;
-          eof_said = h.eof_said;
-          close_said = h.close_said;
-          close_heard = h.close_heard;
+          eof_sent = h.eof_sent;
+          close_sent = h.close_sent;
+          close_received = h.close_received;
           failures = λ e. ap (λ (n : ℕ). n - 1) same;
           given = h.given;
           came = h.came;
@@ -229,20 +229,20 @@ live-failure live r acts a unclosed some h =
       );
     }
 
-live-data : (n : ℕ) (live : LiveState) (r : Relay) (acts : List Act) (a : Acct) → live.close_said ≡ false → live.eof_said ≡ false → n ≤ live.room → n ≤ live.maximum → LiveIs live acts a → Does (Live live) r (Data n) acts (IsLive a)
+live-data : (n : ℕ) (live : LiveState) (r : Relay) (acts : List Act) (a : Acct) → live.close_sent ≡ false → live.eof_sent ≡ false → n ≤ live.room → n ≤ live.maximum → LiveIs live acts a → Does (Live live) r (Data n) acts (IsLive a)
 live-data n live r acts a unclosed more room most h = record {
-  now = said-view (gist.Carries n) a;
-  does = record { acct = a; was = refl; remote = sym h.remote; may = (sym h.close_said ∙ unclosed, sym h.eof_said ∙ more, subst (λ (k : ℕ). n ≤ k) h.room room, subst (λ (k : ℕ). n ≤ k) h.maximum most); now = refl };
+  now = said-view (summary.Carries n) a;
+  does = record { acct = a; was = refl; remote = sym h.remote; may = (sym h.close_sent ∙ unclosed, sym h.eof_sent ∙ more, subst (λ (k : ℕ). n ≤ k) h.room room, subst (λ (k : ℕ). n ≤ k) h.maximum most); now = refl };
   next = (
-    says (gist.Carries n) a,
+    says (summary.Carries n) a,
     refl,
     record {
       remote = h.remote;
       room = ap (λ (k : ℕ). k - n) h.room;
       maximum = h.maximum;
-      eof_said = h.eof_said;
-      close_said = h.close_said;
-      close_heard = h.close_heard;
+      eof_sent = h.eof_sent;
+      close_sent = h.close_sent;
+      close_received = h.close_received;
       failures = h.failures;
       given = h.given;
       came = h.came;
@@ -250,20 +250,20 @@ live-data n live r acts a unclosed more room most h = record {
   );
 }
 
-live-eof : (live : LiveState) (r : Relay) (acts : List Act) (a : Acct) → live.close_said ≡ false → live.eof_said ≡ false → LiveIs live acts a → Does (Live live) r Eof acts (IsLive a)
+live-eof : (live : LiveState) (r : Relay) (acts : List Act) (a : Acct) → live.close_sent ≡ false → live.eof_sent ≡ false → LiveIs live acts a → Does (Live live) r Eof acts (IsLive a)
 live-eof live r acts a unclosed more h = record {
-  now = said-view gist.Ends a;
-  does = record { acct = a; was = refl; remote = sym h.remote; may = (sym h.close_said ∙ unclosed, sym h.eof_said ∙ more); now = refl };
+  now = said-view summary.Ends a;
+  does = record { acct = a; was = refl; remote = sym h.remote; may = (sym h.close_sent ∙ unclosed, sym h.eof_sent ∙ more); now = refl };
   next = (
-    says gist.Ends a,
+    says summary.Ends a,
     refl,
     record {
       remote = h.remote;
       room = h.room;
       maximum = h.maximum;
-      eof_said = refl;
-      close_said = h.close_said;
-      close_heard = h.close_heard;
+      eof_sent = refl;
+      close_sent = h.close_sent;
+      close_received = h.close_received;
       failures = h.failures;
       given = h.given;
       came = h.came;
@@ -272,25 +272,25 @@ live-eof live r acts a unclosed more h = record {
 }
 
 -- no more room is given back than data came
-live-adjust : (n : ℕ) (live : LiveState) (r : Relay) (dials : Bool) (acts : List Act) (a : Acct) → live.close_said ≡ false → n ≤ live.owed → StandsLive live dials acts → taken acts ≤ length (to_take dials acts) → LiveIs live acts a → Does (Live live) r (Adjust n) acts (IsLive a)
+live-adjust : (n : ℕ) (live : LiveState) (r : Relay) (dials : Bool) (acts : List Act) (a : Acct) → live.close_sent ≡ false → n ≤ live.owed → StandsLive live dials acts → taken acts ≤ length (to_take dials acts) → LiveIs live acts a → Does (Live live) r (Adjust n) acts (IsLive a)
 live-adjust n live r dials acts a unclosed owes stands fits h =
     let owed : adjusted acts + live.owed ≡ taken acts - length (replies dials acts) = stands.owed unclosed in
     let size : length (to_take dials acts) ≡ length (replies dials acts) + length (delivered acts) = length-append (replies dials acts) (delivered acts) in
     let given : adjusted acts ≡ a.given = h.given in
     let came : length (delivered acts) ≤ a.came = h.came in
     record {
-      now = said-view (gist.Grants n) a;
-      does = record { acct = a; was = refl; remote = sym h.remote; may = (sym h.close_said ∙ unclosed, omega (arith, owed, size, given, came, owes, fits)); now = refl };
+      now = said-view (summary.Grants n) a;
+      does = record { acct = a; was = refl; remote = sym h.remote; may = (sym h.close_sent ∙ unclosed, omega (arith, owed, size, given, came, owes, fits)); now = refl };
       next = (
-        says (gist.Grants n) a,
+        says (summary.Grants n) a,
         refl,
         record {
           remote = h.remote;
           room = h.room;
           maximum = h.maximum;
-          eof_said = h.eof_said;
-          close_said = h.close_said;
-          close_heard = h.close_heard;
+          eof_sent = h.eof_sent;
+          close_sent = h.close_sent;
+          close_received = h.close_received;
           failures = h.failures;
           given = ap (λ (k : ℕ). k + n) given;
           came = came;
@@ -298,19 +298,19 @@ live-adjust n live r dials acts a unclosed owes stands fits h =
       );
     }
 
-live-does : (s : Saying) (live : LiveState) (r : Relay) (dials : Bool) (acts : List Act) (a : Acct) → LiveSays r live (Some s) → StandsLive live dials acts → taken acts ≤ length (to_take dials acts) → (IsTrue (said_eof acts) → r.held.waiting ≡ []) → LiveIs live acts a → Does (Live live) r s acts (IsLive a)
+live-does : (s : Outgoing) (live : LiveState) (r : Relay) (dials : Bool) (acts : List Act) (a : Acct) → LiveSends r live (Some s) → StandsLive live dials acts → taken acts ≤ length (to_take dials acts) → (IsTrue (sent_eof acts) → r.held.waiting ≡ []) → LiveIs live acts a → Does (Live live) r s acts (IsLive a)
 live-does Open live r dials acts a l stands fits last h = absurd l
 live-does Confirmation live r dials acts a l stands fits last h = absurd l
 live-does OpenFailure live r dials acts a l stands fits last h = absurd l
 live-does Close live r dials acts a l stands fits last h = live-close live r acts a l h
 live-does Failure live r dials acts a l stands fits last h = live-failure live r acts a l.0 l.1 h
-live-does (Data n) live r dials acts a l stands fits last h = live-data n live r acts a l.0 (stands.eof_said ∙ eof-unsaid r.held.waiting (said_eof acts) last l.1) l.2 l.3 h
+live-does (Data n) live r dials acts a l stands fits last h = live-data n live r acts a l.0 (stands.eof_sent ∙ eof-unsaid r.held.waiting (sent_eof acts) last l.1) l.2 l.3 h
 live-does Eof live r dials acts a l stands fits last h = live-eof live r acts a l.0 l.1 h
 live-does (Adjust n) live r dials acts a l stands fits last h = live-adjust n live r dials acts a l.0 l.1 stands fits h
 
 -- ---- an offer of the server is answered
 
-offer-does : (s : Saying) (remote window maximum : ℕ) (r : Relay) (acts : List Act) → OfferSays (Some s) → Untouched acts → Does (Offered remote window maximum) r s acts (IsOffered remote window maximum)
+offer-does : (s : Outgoing) (remote window maximum : ℕ) (r : Relay) (acts : List Act) → OfferSends (Some s) → Untouched acts → Does (Offered remote window maximum) r s acts (IsOffered remote window maximum)
 offer-does Open remote window maximum r acts o h = absurd o
 offer-does Confirmation remote window maximum r acts o h =
     let none : length (delivered acts) ≡ 0 = ap length h.1 in
@@ -324,9 +324,9 @@ offer-does Confirmation remote window maximum r acts o h =
           remote = refl;
           room = refl;
           maximum = refl;
-          eof_said = refl;
-          close_said = refl;
-          close_heard = refl;
+          eof_sent = refl;
+          close_sent = refl;
+          close_received = refl;
           failures = λ e. refl;
           given = h.0;
           came = omega (arith, none);
@@ -342,53 +342,53 @@ offer-does (Adjust n) remote window maximum r acts o h = absurd o
 
 -- ---- a channel is opened
 
-unclosed-does : (s : Saying) (host : List ℕ) (port : ℕ) (version : Option ℕ) (r : Relay) (acts : List Act) → Some Open ≡ Some s → Untouched acts → Does (Asked host port version) r s acts NoChannel
+unclosed-does : (s : Outgoing) (host : List ℕ) (port : ℕ) (version : Option ℕ) (r : Relay) (acts : List Act) → Some Open ≡ Some s → Untouched acts → Does (Asked host port version) r s acts NoChannel
 unclosed-does s host port version r acts e h =
     let same : Open ≡ s = cc in
-    subst (λ (s : Saying). Does (Asked host port version) r s acts NoChannel) same (record { now = IsOpened; does = (refl, refl); next = (refl, h) })
+    subst (λ (s : Outgoing). Does (Asked host port version) r s acts NoChannel) same (record { now = IsOpened; does = (refl, refl); next = (refl, h) })
 
 -- ---- any
 
-does-in : (line : Line) (r : Relay) (dials : Bool) (acts : List Act) (s : Saying) (v : View) → says_in line r ≡ Some s → LineStands line dials acts → taken acts ≤ length (to_take dials acts) → (IsTrue (said_eof acts) → r.held.waiting ≡ []) → ViewOf line acts v → Does line r s acts v
+does-in : (line : ChannelState) (r : Relay) (dials : Bool) (acts : List Act) (s : Outgoing) (v : View) → sends_in line r ≡ Some s → LineStands line dials acts → taken acts ≤ length (to_take dials acts) → (IsTrue (sent_eof acts) → r.held.waiting ≡ []) → ViewOf line acts v → Does line r s acts v
 does-in (Dialing dialog) r dials acts s v e stands fits last h = absurd (cc)
 does-in (Asked host port version) r dials acts s v e stands fits last h =
     subst (λ (v : View). Does (Asked host port version) r s acts v) (sym h.0) (unclosed-does s host port version r acts e h.1)
 does-in (Opened version) r dials acts s v e stands fits last h = absurd (cc)
 does-in (Offered remote window maximum) r dials acts s v e stands fits last h =
     subst (λ (v : View). Does (Offered remote window maximum) r s acts v) (sym h.0)
-    (offer-does s remote window maximum r acts (subst OfferSays e (offer-says r.socket)) h.1)
+    (offer-does s remote window maximum r acts (subst OfferSends e (offer-says r.socket)) h.1)
 does-in (Live live) r dials acts s v e stands fits last h =
     subst (λ (v : View). Does (Live live) r s acts v) (sym h.1)
-    (live-does s live r dials acts h.0 (subst (LiveSays r live) e (live-says r live)) stands fits last h.2)
+    (live-does s live r dials acts h.0 (subst (LiveSends r live) e (live-says r live)) stands fits last h.2)
 does-in Over r dials acts s v e stands fits last h = absurd (cc)
 
-relay-does : (r : Relay) (dials : Bool) (acts : List Act) (s : Saying) (v : View) → says_of r ≡ Some s → Stands dials acts r → ViewOf r.line acts v → Does r.line r s acts v
+relay-does : (r : Relay) (dials : Bool) (acts : List Act) (s : Outgoing) (v : View) → sends_of r ≡ Some s → Stands dials acts r → ViewOf r.line acts v → Does r.line r s acts v
 relay-does r dials acts s v e stands h = does-in r.line r dials acts s v e stands.line (relays dials acts r stands).fits (λ said. (stands.last said).1) h
 
 -- ---- the first that has something to say says it
 
 record Word (r : Relay) : Type 0 where
-  word : Saying
-  is : says_of r ≡ Some word
+  word : Outgoing
+  is : sends_of r ≡ Some word
 
-word-of : (r : Relay) (o : Option Saying) → says_of r ≡ o → is_some o ≡ true → Word r
+word-of : (r : Relay) (o : Option Outgoing) → sends_of r ≡ o → is_some o ≡ true → Word r
 word-of r None e some = absurd (cc)
 word-of r (Some s) e some = record { word = s; is = e }
 
-next-view : (bytes : List ℕ) (a b : Life) (s : Saying) (v : View) → says_of a.relay ≡ Some s → Speaks bytes a b → (d : Does a.relay.line a.relay s a.acts v) → IsView b (Some a.relay.number, d.now)
+next-view : (bytes : List ℕ) (a b : Life) (s : Outgoing) (v : View) → sends_of a.relay ≡ Some s → Speaks bytes a b → (d : Does a.relay.line a.relay s a.acts v) → IsView b (Some a.relay.number, d.now)
 next-view bytes a b s v e goes d =
-    let relay : b.relay ≡ said_of s a.relay = goes.1.relay.0 ∙ ap (λ (o : Option Saying). after_saying o a.relay) e in
-    let acts : b.acts ≡ said_act s a.relay ∷ a.acts = goes.1.acts ∙ ap (λ (o : Option Saying). act_of_saying o a.relay ∷ a.acts) e in
+    let relay : b.relay ≡ sent_of s a.relay = goes.1.relay.0 ∙ ap (λ (o : Option Outgoing). after_sending o a.relay) e in
+    let acts : b.acts ≡ sent_act s a.relay ∷ a.acts = goes.1.acts ∙ ap (λ (o : Option Outgoing). act_of_sending o a.relay ∷ a.acts) e in
     record {
       number = ap (λ (n : ℕ). Some n) (sym (ap (λ (r : Relay). r.number) relay ∙ number-said s a.relay));
       view = subst (λ (r : Relay). ViewOf r.line b.acts d.now) (sym relay)
-          (subst (λ (l : List Act). ViewOf (said_of s a.relay).line l d.now) (sym acts) d.next);
+          (subst (λ (l : List Act). ViewOf (sent_of s a.relay).line l d.now) (sym acts) d.next);
     }
 
-pub spoken : (hs : List Channel) (bytes : List ℕ) (old new : Course) → EachLife Sound old.lives → SaysBy true None bytes old new → Seen hs old.lives [] → Spoken hs bytes new.lives
+pub spoken : (hs : List Channel) (bytes : List ℕ) (old new : Trace) → EachLife Sound old.relay_traces → SendsBy true None bytes old new → Seen hs old.relay_traces [] → Spoken hs bytes new.relay_traces
 spoken hs bytes old new sound says seen =
     let one = says.1 in
-    let word = word-of one.life.relay (says_of one.life.relay) refl one.is in
+    let word = word-of one.life.relay (sends_of one.life.relay) refl one.is in
     let parts = views-split one.before one.life one.behind seen.entries (subst (λ (l : List Life). AreViews l seen.entries) one.were seen.views) in
     let its : Sound one.life = (each-back Sound one.before (one.life ∷ one.behind) (subst (EachLife Sound) one.were sound)).0 in
     let does = relay-does one.life.relay one.life.dials one.life.acts word.word parts.view word.is its.stands parts.is in
@@ -397,7 +397,7 @@ spoken hs bytes old new sound says seen =
       relay = one.life.relay;
       said = word.word;
       next = word.is;
-      spelled = one.goes.0 ∙ ap (λ (o : Option Saying). framed (payload_if one.life.relay o)) word.is;
+      spelled = one.goes.0 ∙ ap (λ (o : Option Outgoing). framed (payload_if one.life.relay o)) word.is;
       front = parts.front;
       behind = parts.back ++ seen.orphans;
       was = parts.view;
@@ -406,7 +406,7 @@ spoken hs bytes old new sound says seen =
       fit = subst (λ (vs : List Entry). Fit hs vs) (order (Some one.life.relay.number, parts.view))
           (subst (λ (vs : List Entry). Fit hs (vs ++ seen.orphans)) parts.split seen.later);
       goes = λ hs' notes later.
-          subst (λ (l : List Life). Seen hs' l notes) (sym (ap (λ (c : Course). c.lives) says.2))
+          subst (λ (l : List Life). Seen hs' l notes) (sym (ap (λ (c : Trace). c.relay_traces) says.2))
           (seen-kept hs' says.0 notes (record {
             entries = parts.front ++ (Some one.life.relay.number, does.now) ∷ parts.back;
             orphans = seen.orphans;
@@ -419,7 +419,7 @@ spoken hs bytes old new sound says seen =
     }
 
 -- the relay that says it is one of those
-pub spoken-its : (P : Relay → Type 0) (hs : List Channel) (bytes : List ℕ) (old new : Course) (sound : EachLife Sound old.lives) (speaks : SaysBy true None bytes old new) (seen : Seen hs old.lives []) → Each (λ (l : Life). P l.relay) old.lives → P (spoken hs bytes old new sound speaks seen).relay
+pub spoken-its : (P : Relay → Type 0) (hs : List Channel) (bytes : List ℕ) (old new : Trace) (sound : EachLife Sound old.relay_traces) (speaks : SendsBy true None bytes old new) (seen : Seen hs old.relay_traces []) → Each (λ (l : Life). P l.relay) old.relay_traces → P (spoken hs bytes old new sound speaks seen).relay
 unfolding spoken
 spoken-its P hs bytes old new sound speaks seen all =
     let one = speaks.1 in

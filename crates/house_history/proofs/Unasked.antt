@@ -7,12 +7,12 @@ use Rattle.ssh_fields.specs.Fields.{take_u32}
 use Rattle.ssh_grammar.specs.Control.{Control, OpenForward, CloseForward}
 use Rattle.ssh_grammar.specs.ReadControl.{read_control}
 use Rattle.ssh_grammar.specs.ReadMessage.{read_message as reading}
-use Rattle.ssh_grammar.specs.Said.{Saying, Body, Payload, BadFraming, InProxy, parse, said}
+use Rattle.ssh_grammar.specs.Said.{Outgoing, Body, Payload, BadFraming, InProxy, parse, said}
 use Rattle.ssh_grammar.specs.declared.fault.BadControl.{BadControl}
 use Rattle.ssh_grammar.specs.declared.framing.Framing.TheVariants as framing
 use Rattle.proxy_frames.specs.Steps.{switched}
 use Rattle.mux_outside.specs.Greeting.{GreetsFirst}
-use Rattle.mux_outside.specs.HouseCalls.{HouseCall, Begins, Marks, Hears, Turns, Takes as TakesBytes}
+use Rattle.mux_outside.specs.HouseCalls.{HouseCall, Begins, Marks, Receives, Turns, Takes as TakesBytes}
 use Rattle.mux_outside.specs.Whose.{is_server}
 use Rattle.mux_outside.specs.declared.house.HouseReply.{HouseReply}
 use Rattle.mux_outside.specs.declared.house.HouseReply.TheVariants.{Done, Port, Refused, Later}
@@ -22,53 +22,53 @@ use Rattle.mux_outside.specs.declared.mark.Mark.{Mark}
 use Rattle.mux_outside.specs.declared.mark.Mark.TheVariants.{Waits, Accepts, Gets, Ends, Frees, Fails, Takes, Holds, WriteFails, Joins, House}
 use Rattle.mux_history.specs.declared.limits.TheConstants.{HOUSE}
 use Rattle.mux_history.specs.Choices.{pick_of, with_reply}
-use Rattle.mux_history.specs.Journal.{bytes_of, heard_item, items_in, log_of_journal, new_heard, new_sayings, said_item, server_end, unless_own}
+use Rattle.mux_history.specs.Journal.{bytes_of, received_item, items_in, log_of_journal, new_received, new_sayings, sent_item, server_end, unless_own}
 use Rattle.mux_history.specs.Log.{more_all, more_of}
 use Rattle.mux_history.specs.Policy.{Policy}
 use Rattle.mux_history.specs.Promises.{Throughout}
 use Rattle.mux_history.specs.Rows.{Item, Row, Says, Gone, ServerFailed}
 use Rattle.mux_history.proofs.LawfulItems.{treat-item}
 use Rattle.mux_bounds.proofs.Entries.{EachItem, by-more, each-unless, lists, next, setting, with-reply}
-use Rattle.mux_clients.specs.Asked.{ask_of, asked_by, asked_of, item_asks, reading_asks}
+use Rattle.mux_peers.specs.Asked.{ask_of, asked_by, asked_of, item_asks, reading_asks}
 use Rattle.mux_engine.specs.Answers.{is_deferred}
 use Rattle.mux_engine.specs.Called.{calls_at, calls_in}
 use Rattle.mux_engine.specs.Places.{IsOfOthers}
 use Rattle.mux_engine.proofs.Greeting.{AllSo, greets-before, journal-greets, so-drop, so-said}
-use Rattle.house_forward.specs.Desk.{Desk}
+use Rattle.house_forward.specs.ForwardingState.{ForwardingState}
 use Rattle.house_forward.specs.Forwardings.{has_request}
-use Rattle.house_forward.specs.Lives.{Course, HearsFrame, HearsFrames, Reaches, SaysBy, is_grant, with_heard}
-use Rattle.house_forward.specs.declared.holdings.Stage.{Stage}
-use Rattle.house_forward.specs.declared.holdings.Stage.TheVariants.{Control as InControlStage, Proxy as InProxyStage}
-use Rattle.house_history.proofs.Desks.{reading-heard}
+use Rattle.house_forward.specs.RelayTraces.{Trace, ReceivesFrame, ReceivesFrames, Reaches, SendsBy, is_grant, with_received}
+use Rattle.house_forward.specs.declared.forwarder_state.Stage.{Stage}
+use Rattle.house_forward.specs.declared.forwarder_state.Stage.TheVariants.{Control as InControlStage, Proxy as InProxyStage}
+use Rattle.house_history.proofs.ForwardingStates.{reading-heard}
 use Rattle.house_history.proofs.Takes.{calm-rest}
 
 -- ---- the calls of a course greet first
 
-if-desk : (b : Bool) (x y : Course) → x.desk ≡ y.desk → (if b then x else y).desk ≡ y.desk
-if-desk true x y e = e
-if-desk false x y e = refl
+if-forwarding_state : (b : Bool) (x y : Trace) → x.forwarding_state ≡ y.forwarding_state → (if b then x else y).forwarding_state ≡ y.forwarding_state
+if-forwarding_state true x y e = e
+if-forwarding_state false x y e = refl
 
-frame-greeted : (stage : Stage) (content : List ℕ) (old new : Course) → HearsFrame stage content old new → new.desk.greeted ≡ old.desk.greeted
+frame-greeted : (stage : Stage) (content : List ℕ) (old new : Trace) → ReceivesFrame stage content old new → new.forwarding_state.greeted ≡ old.forwarding_state.greeted
 frame-greeted InControlStage content old new h =
-    ap (λ (c : Course). c.desk.greeted) h ∙ ap (λ (d : Desk). d.greeted) (if-desk (is_grant (take_u32 content)) (record old { stage = InProxyStage; framer = switched framing.Proxy old.framer }) old refl)
+    ap (λ (c : Trace). c.forwarding_state.greeted) h ∙ ap (λ (d : ForwardingState). d.greeted) (if-forwarding_state (is_grant (take_u32 content)) (record old { stage = InProxyStage; framer = switched framing.Proxy old.framer }) old refl)
 frame-greeted InProxyStage content old new h = (reading-heard content (reading content) refl old new h).greeted
 
-frames-greeted : (contents : List (List ℕ)) (old new : Course) → HearsFrames contents old new → new.desk.greeted ≡ old.desk.greeted
-frames-greeted [] old new h = ap (λ (c : Course). c.desk.greeted) h.1
+frames-greeted : (contents : List (List ℕ)) (old new : Trace) → ReceivesFrames contents old new → new.forwarding_state.greeted ≡ old.forwarding_state.greeted
+frames-greeted [] old new h = ap (λ (c : Trace). c.forwarding_state.greeted) h.1
 frames-greeted (content ∷ more) old new h = frames-greeted more h.2.0 new h.2.2 ∙ frame-greeted old.stage content _ h.2.0 h.2.1
 
-pub course-greets : (calls : List HouseCall) (old new : Course) → old.desk.greeted ≡ false → Reaches old calls new → GreetsFirst calls
-course-greets [] old new e h = tt
-course-greets (Begins starts ∷ calls) old new e h = course-greets calls h.0 new ((calm-rest (Begins starts) old h.0 tt h.1).greeted ∙ e) h.2
-course-greets (Marks HouseIn ∷ calls) old new e h = course-greets calls h.0 new ((calm-rest (Marks HouseIn) old h.0 tt h.1).greeted ∙ e) h.2
-course-greets (Marks (HouseSaid bytes) ∷ calls) old new e h = (subst (λ (b : Bool). SaysBy b (find has_request old.desk.all) bytes old h.0) e h.1).0
-course-greets (Marks (HouseTook size) ∷ calls) old new e h = course-greets calls h.0 new ((calm-rest (Marks (HouseTook size)) old h.0 tt h.1).greeted ∙ e) h.2
-course-greets (Marks (HouseAsked client id opening ask reply) ∷ calls) old new e h = course-greets calls h.0 new ((calm-rest (Marks (HouseAsked client id opening ask reply)) old h.0 tt h.1).greeted ∙ e) h.2
-course-greets (Marks (HouseAnswer client id reply) ∷ calls) old new e h = course-greets calls h.0 new ((calm-rest (Marks (HouseAnswer client id reply)) old h.0 tt h.1).greeted ∙ e) h.2
-course-greets (Marks (HouseOrder order number) ∷ calls) old new e h = course-greets calls h.0 new ((calm-rest (Marks (HouseOrder order number)) old h.0 tt h.1).greeted ∙ e) h.2
-course-greets (Hears bytes ∷ calls) old new e h = course-greets calls h.0 new (frames-greeted h.1.0 (with_heard bytes old) h.0 h.1.1 ∙ e) h.2
-course-greets (Turns happening ∷ calls) old new e h = course-greets calls h.0 new ((calm-rest (Turns happening) old h.0 tt h.1).greeted ∙ e) h.2
-course-greets (TakesBytes t n ∷ calls) old new e h = course-greets calls h.0 new ((calm-rest (TakesBytes t n) old h.0 tt h.1).greeted ∙ e) h.2
+pub trace-greets : (calls : List HouseCall) (old new : Trace) → old.forwarding_state.greeted ≡ false → Reaches old calls new → GreetsFirst calls
+trace-greets [] old new e h = tt
+trace-greets (Begins starts ∷ calls) old new e h = trace-greets calls h.0 new ((calm-rest (Begins starts) old h.0 tt h.1).greeted ∙ e) h.2
+trace-greets (Marks HouseIn ∷ calls) old new e h = trace-greets calls h.0 new ((calm-rest (Marks HouseIn) old h.0 tt h.1).greeted ∙ e) h.2
+trace-greets (Marks (HouseSaid bytes) ∷ calls) old new e h = (subst (λ (b : Bool). SendsBy b (find has_request old.forwarding_state.all) bytes old h.0) e h.1).0
+trace-greets (Marks (HouseTook size) ∷ calls) old new e h = trace-greets calls h.0 new ((calm-rest (Marks (HouseTook size)) old h.0 tt h.1).greeted ∙ e) h.2
+trace-greets (Marks (HouseAsked client id opening ask reply) ∷ calls) old new e h = trace-greets calls h.0 new ((calm-rest (Marks (HouseAsked client id opening ask reply)) old h.0 tt h.1).greeted ∙ e) h.2
+trace-greets (Marks (HouseAnswer client id reply) ∷ calls) old new e h = trace-greets calls h.0 new ((calm-rest (Marks (HouseAnswer client id reply)) old h.0 tt h.1).greeted ∙ e) h.2
+trace-greets (Marks (HouseOrder order number) ∷ calls) old new e h = trace-greets calls h.0 new ((calm-rest (Marks (HouseOrder order number)) old h.0 tt h.1).greeted ∙ e) h.2
+trace-greets (Receives bytes ∷ calls) old new e h = trace-greets calls h.0 new (frames-greeted h.1.0 (with_received bytes old) h.0 h.1.1 ∙ e) h.2
+trace-greets (Turns happening ∷ calls) old new e h = trace-greets calls h.0 new ((calm-rest (Turns happening) old h.0 tt h.1).greeted ∙ e) h.2
+trace-greets (TakesBytes t n ∷ calls) old new e h = trace-greets calls h.0 new ((calm-rest (TakesBytes t n) old h.0 tt h.1).greeted ∙ e) h.2
 
 -- ---- what asks nothing
 
@@ -77,13 +77,13 @@ abbrev pub NoneOfHouse : List HouseMark → Type 0
 NoneOfHouse asks = (id : ℕ) → list_any (is_deferred HOUSE id) asks ≡ false
 
 -- it asks nothing, whoever says it
-abbrev Mild : Saying → Type 0
+abbrev Mild : Outgoing → Type 0
 Mild (Body body) = (k : ℕ) (reply : HouseReply) → reading_asks k reply (read_control body) ≡ []
-Mild saying = Unit {0}
+Mild outgoing = Unit {0}
 
 -- another client says it, or it asks nothing
 abbrev Spares : Item → Type 0
-Spares (Says k saying reply) = ((k == HOUSE) ≡ false) ⊎ Mild saying
+Spares (Says k outgoing reply) = ((k == HOUSE) ≡ false) ⊎ Mild outgoing
 Spares item = Unit {0}
 
 other-ask : (id k i : ℕ) (opening : Bool) (what : _) (reply : HouseReply) → (k == HOUSE) ≡ false → list_any (is_deferred HOUSE id) (ask_of k i opening what reply ∷ []) ≡ false
@@ -120,17 +120,17 @@ module _ (policy : Policy) (pid : ℕ) (picks : List ℕ) (given : List HouseRep
 
 -- ---- the items of a mark
 
-heard-spares : (ss : List Saying) → EachItem Spares (map heard_item ss)
+heard-spares : (ss : List Outgoing) → EachItem Spares (map received_item ss)
 heard-spares [] = tt
 heard-spares (Body body ∷ ss) = (tt, heard-spares ss)
 heard-spares (Payload p ∷ ss) = (tt, heard-spares ss)
 heard-spares (BadFraming fault ∷ ss) = (tt, heard-spares ss)
 
-said-spares : (k : ℕ) → (k == HOUSE) ≡ false → (ss : List Saying) → EachItem Spares (map (said_item k) ss)
+said-spares : (k : ℕ) → (k == HOUSE) ≡ false → (ss : List Outgoing) → EachItem Spares (map (sent_item k) ss)
 said-spares k ne [] = tt
 said-spares k ne (s ∷ ss) = (inl ne, said-spares k ne ss)
 
-house-spares : (ss : List Saying) → AllSo Mild ss → EachItem Spares (map (said_item HOUSE) ss)
+house-spares : (ss : List Outgoing) → AllSo Mild ss → EachItem Spares (map (sent_item HOUSE) ss)
 house-spares [] h = tt
 house-spares (s ∷ ss) h = (inr h.0, house-spares ss h.1)
 
@@ -143,7 +143,7 @@ by-server true xs ys x y = x
 by-server false xs ys x y = y
 
 mark-spares : (before : List Mark) (mark : Mark) → IsOfOthers before mark → AllSo Mild (said (bytes_of HOUSE (mark ∷ before))) → EachItem Spares (items_in before mark)
-mark-spares before (Gets k bytes) other mild = by-server (is_server k) (new_heard (bytes_of 0 before) (bytes_of 0 before ++ bytes)) (unless_own k (new_sayings k (bytes_of k before) (bytes_of k before ++ bytes)))
+mark-spares before (Gets k bytes) other mild = by-server (is_server k) (new_received (bytes_of 0 before) (bytes_of 0 before ++ bytes)) (unless_own k (new_sayings k (bytes_of k before) (bytes_of k before ++ bytes)))
     (heard-spares (drop (length (parse InProxy (bytes_of 0 before)).says) (parse InProxy (bytes_of 0 before ++ bytes)).says))
     (each-unless Spares k (new_sayings k (bytes_of k before) (bytes_of k before ++ bytes)) (λ e. said-spares k other (drop (length (said (bytes_of k before))) (said (bytes_of k before ++ bytes)))))
 mark-spares before (Ends k) other mild = by-server (is_server k) (server_end (parse InProxy (bytes_of 0 before)).rest ∷ []) (unless_own k (Gone k ∷ [])) (end-spares (parse InProxy (bytes_of 0 before)).rest) (each-unless Spares k (Gone k ∷ []) (λ e. (tt, tt)))

@@ -22,7 +22,7 @@ use Rattle.mux_engine.specs.Answers.{AnswersDeferred}
 use Rattle.mux_engine.specs.Called.{calls_in}
 use Rattle.mux_engine.specs.Places.{IsOfOthers}
 use Rattle.mux_engine.specs.Run.{IsRun}
-use Rattle.house_forward.specs.Lives.{Course, Reaches, first_course, taken_in}
+use Rattle.house_forward.specs.RelayTraces.{Trace, Reaches, first_trace, taken_in}
 use Rattle.ssh_mux.specs.Starts.{BeganWith, BegunRests}
 
 -- ---- journals
@@ -30,7 +30,7 @@ use Rattle.ssh_mux.specs.Starts.{BeganWith, BegunRests}
 -- a journal that a wire can give; what is promised of its waits, of what the house says and of what
 -- it answers; nothing happens to a stream with its number; each number was fresh; and the house began
 -- with some forwardings, behind which its calls that the journal has lead to this course
-pub record IsHoused (setting : Setting) (journal : List Mark) (course : Course) : Type 0 where
+pub record IsHoused (setting : Setting) (journal : List Mark) (trace : Trace) : Type 0 where
   pub lawful : IsLawful journal
   pub asked : Throughout ReadsWhenAsked journal
   pub waits : Throughout (WaitsAt setting) journal
@@ -39,12 +39,12 @@ pub record IsHoused (setting : Setting) (journal : List Mark) (course : Course) 
   pub others : Throughout IsOfOthers journal
   pub fresh : AreFresh (log_of_journal setting journal)
   pub starts : Starts
-  pub reached : Reaches first_course (Begins starts ∷ calls_in setting journal) course
+  pub reached : Reaches first_trace (Begins starts ∷ calls_in setting journal) trace
 
 -- then no row drops the house, whatever is permitted, numbers are picked, clients and the server say
 abbrev pub HouseStays : Type 0
-HouseStays = (policy : Policy) (pid : ℕ) (picks : List ℕ) (replies : List HouseReply) (journal : List Mark) (course : Course)
-    → IsHoused (by_lists policy pid picks replies) journal course
+HouseStays = (policy : Policy) (pid : ℕ) (picks : List ℕ) (replies : List HouseReply) (journal : List Mark) (trace : Trace)
+    → IsHoused (by_lists policy pid picks replies) journal trace
     → is_lost (rows_of HOUSE (log_of_journal (by_lists policy pid picks replies) journal)) ≡ false
 
 -- ---- runs of the program
@@ -53,7 +53,7 @@ HouseStays = (policy : Policy) (pid : ℕ) (picks : List ℕ) (replies : List Ho
 -- or more in all
 abbrev pub LeadsOn : (List HouseCall → Type 0) → Type 0
 LeadsOn stands = (calls : List HouseCall) → stands calls → taken_in calls < 2 ^ 64
-    → (course : Course) × Reaches first_course calls course
+    → (trace : Trace) × Reaches first_trace calls trace
 
 -- no row drops the house in a run that it began with some forwardings, unless memory was wanting or
 -- its own streams took so much
@@ -62,7 +62,7 @@ RunsKeep May state house = (present : Bool) (starts : Starts) (policy : Policy) 
     (before : Option (List HouseMark)) (start : Option (List Mark)) (seen : Seen)
     (refused : Option ℕ) (answer : Ended)
     → (run : IsRun May (BegunRests state present starts).rests (BeganWith starts)
-    (state house).stands present policy pid turns before (state house).told start seen refused
+    (state house).stands present policy pid turns before (state house).recorded start seen refused
     answer)
     → answer ≢ OutOfMemory
     → taken_in (calls_in (by_lists policy pid run.picks run.replies) run.journal) < 2 ^ 64

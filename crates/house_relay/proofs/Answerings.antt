@@ -7,9 +7,9 @@ use Rattle.proxy_frames.specs.Queued.{with_bytes}
 use Rattle.socks_dialog.specs.declared.outcome.Outcome.TheVariants.{Connects}
 use Rattle.house_relay.specs.Acts.{Act, Confirms, Refuses, Answer, Unanswered, Confirmed, Refused, read, delivered, taken, adjusted, before_in, last_reply, replies_in, replies_if, replies}
 use Rattle.house_relay.specs.Dialing.{grant_of, refusal_of}
-use Rattle.house_relay.specs.Line.{fresh_live}
+use Rattle.house_relay.specs.ChannelState.{fresh_live}
 use Rattle.house_relay.specs.Relay.{Stands, LineStands, IsOpened, WaitsFor}
-use Rattle.house_relay.specs.declared.line.Line.TheVariants.{Opened, Live, Over}
+use Rattle.house_relay.specs.declared.line.ChannelState.TheVariants.{Opened, Live, Over}
 use Rattle.house_relay.specs.declared.relay.Relay.{Relay}
 use Rattle.house_relay.proofs.Readings.{settled-waits, asked-waits}
 
@@ -117,10 +117,10 @@ confirms r version remote window maximum dials acts is s =
       last = s.last;
       few = s.few;
       line = record {
-        eof_said = sym n.no_eof;
-        eof_heard = sym n.none_heard;
-        close_said = sym n.no_close;
-        close_heard = sym n.none_closed;
+        eof_sent = sym n.no_eof;
+        eof_received = sym n.none_received;
+        close_sent = sym n.no_close;
+        close_received = sym n.none_closed;
         replies = λ f. a.size;
         owed = λ f. omega arith;
         most = omega arith;

@@ -4,22 +4,22 @@ use Rattle.proxy_frames.specs.State.{QueueState}
 use Rattle.socks_dialog.specs.State.{State}
 use Rattle.socks_dialog.specs.declared.outcome.Outcome.{Outcome}
 use Rattle.house_relay.specs.Acts.{outcome_in}
-use Rattle.house_relay.specs.Dialing.{CameTo, IsHeard, IsReading}
-use Rattle.house_relay.specs.Steps.{IsToDial, IsAskedFor, ComesOf, DialsIn, surplus_of}
+use Rattle.house_relay.specs.Dialing.{CameTo, IsReceived, IsReading}
+use Rattle.house_relay.specs.Steps.{IsToDial, IsAskedFor, ComesOf, DialsIn, no_channel_left_of}
 use Rattle.house_relay.specs.declared.dialing.Came.{Came}
 use Rattle.house_relay.specs.declared.dialing.Came.TheVariants.{Nothing, Connect, Fault}
 use Rattle.house_relay.specs.declared.dialing.Heard.{Heard}
-use Rattle.house_relay.specs.declared.line.Line.{Line}
-use Rattle.house_relay.specs.declared.line.Line.TheVariants.{Dialing, Asked, Over}
+use Rattle.house_relay.specs.declared.line.ChannelState.{ChannelState}
+use Rattle.house_relay.specs.declared.line.ChannelState.TheVariants.{Dialing, Asked, Over}
 use Rattle.house_relay.specs.declared.relay.Relay.{Relay}
 use Rattle.house_relay.specs.declared.relay.Socket.{Socket}
 
 -- what the channel's side and the socket are then
-abbrev pub SidesAfter : Came → Bool → State → Socket → Line → Socket → Type 0
+abbrev pub SidesAfter : Came → Bool → State → Socket → ChannelState → Socket → Type 0
 SidesAfter Nothing free new socket line socket' = (line ≡ Dialing new) × (socket' ≡ socket)
 SidesAfter (Connect host port version) free new socket line socket' =
     (line ≡ (if free then Asked host port (Some version) else Over))
-    × (socket' ≡ (if free then socket else surplus_of socket))
+    × (socket' ≡ (if free then socket else no_channel_left_of socket))
 SidesAfter Fault free new socket line socket' = (line ≡ Over) × (socket' ≡ socket)
 
 by-outcome : (came : Came) (free : Bool) (bytes : List ℕ) (dialog : State) (old new : Relay)
@@ -36,20 +36,20 @@ by-outcome Fault free bytes dialog old new came sides =
     subst (λ (o : Outcome). ComesOf o free old new) (sym came.1) (sides.0, sides.1)
 
 pub comes : (heard : Heard) (free : Bool) (piece : List ℕ) (dialog dialog' : State) (queue' : QueueState) (old new : Relay)
-    → old.line ≡ Dialing dialog → (IsReading dialog → IsHeard dialog dialog' piece heard old.queue queue')
+    → old.line ≡ Dialing dialog → (IsReading dialog → IsReceived dialog dialog' piece heard old.queue queue')
     → SidesAfter heard.came free dialog' old.socket new.line new.socket
     → DialsIn old.line free piece old new
-comes heard free piece dialog dialog' queue' old new is hears sides =
-    subst (λ (l : Line). DialsIn l free piece old new) (sym is)
-    (λ reading. by-outcome heard.came free (dialog.bytes ++ piece) dialog' old new (hears reading).came sides)
+comes heard free piece dialog dialog' queue' old new is receives sides =
+    subst (λ (l : ChannelState). DialsIn l free piece old new) (sym is)
+    (λ reading. by-outcome heard.came free (dialog.bytes ++ piece) dialog' old new (receives reading).came sides)
 
 -- what reads-dialog asks for
-abbrev pub LineAfter : Came → State → Line → Type 0
+abbrev pub LineAfter : Came → State → ChannelState → Type 0
 LineAfter Nothing new line = line ≡ Dialing new
 LineAfter (Connect host port version) new line = (line ≡ Asked host port (Some version)) ⊎ (line ≡ Over)
 LineAfter Fault new line = line ≡ Over
 
-pub line-of : (came : Came) (free : Bool) (new : State) (socket socket' : Socket) (line : Line)
+pub line-of : (came : Came) (free : Bool) (new : State) (socket socket' : Socket) (line : ChannelState)
     → SidesAfter came free new socket line socket' → LineAfter came new line
 line-of Nothing free new socket socket' line sides = sides.0
 line-of (Connect host port version) true new socket socket' line sides = inl sides.0

@@ -8,7 +8,7 @@ use Rattle.std.specs.Prelude.{slice_index}
 use Rattle.proxy_frames.specs.Queued.{with_bytes}
 use Rattle.proxy_frames.specs.State.{QueueState}
 use Rattle.socks_dialog.specs.Socks.{Dialog, socks}
-use Rattle.socks_dialog.specs.State.{State, dialog_bytes, pushed, step_in, step_to, step_of, stepped, gives_in, version_of, History, StandsFor, RestIs}
+use Rattle.socks_dialog.specs.State.{State, dialog_bytes, pushed, step_in, step_to, step_of, stepped, gives_in, version_of, History, Represents, RestIs}
 use Rattle.socks_dialog.specs.declared.outcome.Outcome.{Outcome}
 use Rattle.socks_dialog.specs.declared.outcome.Outcome.TheVariants.{Wants, Connects, Breaks}
 use Rattle.socks_dialog.specs.declared.step.Step.{Step}
@@ -17,7 +17,7 @@ use Rattle.socks_dialog.proofs.Dialogs.{ended, socks-parse}
 use Rattle.socks_dialog.proofs.Few.{socks-few}
 use Rattle.socks_dialog.proofs.Kept.{kept_alone, kept_wanting, kept_outcome, kept_whole}
 use Rattle.house_relay.specs.Acts.{Unanswered, outcome_in, before_in, behind_in, last_reply, replies_in}
-use Rattle.house_relay.specs.Dialing.{left_in, GivesAll, GaveSome, IsCame, IsReading, CameTo, IsHeard}
+use Rattle.house_relay.specs.Dialing.{left_in, GivesAll, GaveSome, IsCame, IsReading, CameTo, IsReceived}
 use Rattle.house_relay.specs.declared.dialing.Came.{Came}
 
 -- ---- replies
@@ -131,13 +131,13 @@ came_to (Breaks reply) version first came bytes new queue queue' e is speaks rea
   ap (λ (q : QueueState). q.waiting) is.1,
 )
 
-pub hears : (old mid new : State) (piece : List ℕ) (count : ℕ) (s : Step) (came : Came) (queue queue1 queue2 : QueueState)
+pub receives : (old mid new : State) (piece : List ℕ) (count : ℕ) (s : Step) (came : Came) (queue queue1 queue2 : QueueState)
     → mid ≡ pushed piece old → RestIs old piece count
     → (GaveSome mid → GivesAll mid new s queue queue1)
     → IsCame s (version_of new) came queue1 queue2 → IsReading old
-    → IsHeard old new piece (record { count = count; came = came }) queue queue2
+    → IsReceived old new piece (record { count = count; came = came }) queue queue2
 unfolding before_in outcome_in behind_in replies_in
-hears old mid new piece count s came queue queue1 queue2 is rest gives comes reads =
+receives old mid new piece count s came queue queue1 queue2 is rest gives comes reads =
     let all = old.bytes ++ piece in
     let kept : mid.bytes ≡ dialog_bytes all = ap (λ (d : State). d.bytes) is in
     let had : mid.given ≡ length (socks old.bytes).replies = ap (λ (d : State). d.given) is ∙ reads.given in
@@ -164,7 +164,7 @@ hears old mid new piece count s came queue queue1 queue2 is rest gives comes rea
     (λ w. (new_kept ∙ kept_wanting all w, given.given ∙ ap length every)) in
     let last = last_reply (socks all).outcome (slice_index all 0) Unanswered in
     let history : History = record { bytes = old.bytes; given = (socks old.bytes).replies } in
-    let stands : StandsFor history old = record {
+    let stands : Represents history old = record {
       bytes = sym (kept_wanting old.bytes reads.wants);
       given = sym (ap (λ n. take n (socks old.bytes).replies) reads.given ∙ take-length (socks old.bytes).replies);
       some = omega (arith, reads.given);

@@ -11,14 +11,14 @@ use Rattle.socks_dialog.specs.State.{State, IsConnect}
 use Rattle.socks_dialog.specs.declared.outcome.Outcome.{Outcome}
 use Rattle.socks_dialog.specs.declared.outcome.Outcome.TheVariants.{Wants, Connects, Breaks}
 use Rattle.socks_dialog.proofs.Dialogs.{socks-parse}
-use Rattle.house_relay.specs.Acts.{Act, Reads, Answer, Unanswered, answer, read, sent, delivered, taken, adjusted, has_ended, said_eof, outcome_in, before_in, behind_in, last_reply, replies_in, replies_if, replies, behind_if}
-use Rattle.house_relay.specs.Dialing.{CameTo, IsHeard, IsReading}
+use Rattle.house_relay.specs.Acts.{Act, Reads, Answer, Unanswered, answer, read, sent, delivered, taken, adjusted, has_ended, sent_eof, outcome_in, before_in, behind_in, last_reply, replies_in, replies_if, replies, behind_if}
+use Rattle.house_relay.specs.Dialing.{CameTo, IsReceived, IsReading}
 use Rattle.house_relay.specs.Relay.{Stands, LineStands, IsDialing, IsSettled, HasAsked, WaitsFor, NothingYet, MayRead, holding}
 use Rattle.house_relay.specs.declared.dialing.Came.{Came}
 use Rattle.house_relay.specs.declared.dialing.Came.TheVariants.{Nothing, Connect, Fault}
 use Rattle.house_relay.specs.declared.dialing.Heard.{Heard}
-use Rattle.house_relay.specs.declared.line.Line.{Line}
-use Rattle.house_relay.specs.declared.line.Line.TheVariants.{Dialing, Asked, Opened, Offered, Live, Over}
+use Rattle.house_relay.specs.declared.line.ChannelState.{ChannelState}
+use Rattle.house_relay.specs.declared.line.ChannelState.TheVariants.{Dialing, Asked, Opened, Offered, Live, Over}
 use Rattle.house_relay.specs.declared.relay.Relay.{Relay}
 use Rattle.house_relay.specs.declared.relay.Socket.{Socket}
 use Rattle.house_relay.proofs.Comings.{LineAfter}
@@ -58,7 +58,7 @@ asked-more : (dials : Bool) (bytes piece : List ℕ) → (dials ≡ true → out
 asked-more false bytes piece same s = tt
 asked-more true bytes piece same s = subst IsConnect (sym (same refl)) s
 
-settled-in : (line : Line) (dials : Bool) (acts : List Act) → ((dialog : State) → line ≡ Dialing dialog → ⊥)
+settled-in : (line : ChannelState) (dials : Bool) (acts : List Act) → ((dialog : State) → line ≡ Dialing dialog → ⊥)
     → LineStands line dials acts → IsSettled dials (read acts)
 settled-in (Dialing dialog) dials acts other s = absurd (other dialog refl)
 settled-in (Asked host port version) dials acts other s = settled-waits version host port dials acts s.waits
@@ -125,11 +125,11 @@ nothing-more dials acts piece most s = record {
   no_room = s.no_room;
   no_eof = s.no_eof;
   no_close = s.no_close;
-  none_heard = s.none_heard;
+  none_received = s.none_received;
   none_closed = s.none_closed;
 }
 
-line-more : (line : Line) (dials : Bool) (acts : List Act) (piece : List ℕ) → SameDialog dials (read acts) piece
+line-more : (line : ChannelState) (dials : Bool) (acts : List Act) (piece : List ℕ) → SameDialog dials (read acts) piece
     → IsSettled dials (read acts) → ((dialog : State) → line ≡ Dialing dialog → ⊥)
     → LineStands line dials acts → LineStands line dials (Reads piece ∷ acts)
 line-more (Dialing dialog) dials acts piece same settled other s = absurd (other dialog refl)
@@ -151,10 +151,10 @@ line-more (Live live) dials acts piece same settled other s =
     let sizes : length (replies dials (Reads piece ∷ acts)) ≡ length (replies dials acts) =
     ap length (same.replies (answer acts)) in
     record {
-      eof_said = s.eof_said;
-      eof_heard = s.eof_heard;
-      close_said = s.close_said;
-      close_heard = s.close_heard;
+      eof_sent = s.eof_sent;
+      eof_received = s.eof_received;
+      close_sent = s.close_sent;
+      close_received = s.close_received;
       replies = λ f. s.replies f ∙ ap (λ n. n - taken acts) (sym sizes);
       owed = λ f. s.owed f ∙ ap (λ n. taken acts - n) (sym sizes);
       most = subst (λ n. adjusted acts ≤ taken acts - n) (sym sizes) s.most;
@@ -171,7 +171,7 @@ line-more Over dials acts piece same settled other s =
 
 -- what hasn't ended has said no end
 unsaid : (r : Relay) (dials : Bool) (acts : List Act) → r.ended ≡ false → Stands dials acts r
-    → IsTrue (said_eof acts) → ⊥
+    → IsTrue (sent_eof acts) → ⊥
 unsaid r dials acts going s said = clash (has_ended acts) (sym s.ends ∙ going) (s.last said).0
   where
     clash : (b : Bool) → b ≡ false → IsTrue b → ⊥
@@ -207,7 +207,7 @@ over-now acts nothing ne = record {
   settled = ne;
 }
 
-line-after : (came : Came) (new : State) (line : Line) (acts : List Act) → CameTo came (read acts) new
+line-after : (came : Came) (new : State) (line : ChannelState) (acts : List Act) → CameTo came (read acts) new
     → NothingYet true acts → LineAfter came new line → LineStands line true acts
 line-after Nothing new line acts came nothing is = subst (λ l. LineStands l true acts) (sym is) (record {
   socks = refl;
@@ -224,9 +224,9 @@ line-after (Connect host port version) new line acts came nothing (inr is) =
 line-after Fault new line acts came nothing is =
     subst (λ l. LineStands l true acts) (sym is) (over-now acts nothing (no_breaks (outcome_in (read acts)) came.0 came.1))
 
--- what IsHeard says, where the dialog's bytes are all that were read
+-- what IsReceived says, where the dialog's bytes are all that were read
 same-bytes : (old new : State) (piece : List ℕ) (heard : Heard) (q q' : QueueState) (bytes : List ℕ)
-    → old.bytes ≡ bytes → IsHeard old new piece heard q q'
+    → old.bytes ≡ bytes → IsReceived old new piece heard q q'
     → CameTo heard.came (bytes ++ piece) new × (behind_in (bytes ++ piece) ≡ drop heard.count piece)
     × ((more : List ℕ) × (q'.waiting ≡ q.waiting ++ more)
     × (replies_in (bytes ++ piece) Unanswered ≡ replies_in bytes Unanswered ++ more))
@@ -241,13 +241,13 @@ unfolding outcome_in behind_in
 none-behind bytes e = (socks-parse.front bytes).wanting e
 
 -- a dialog's bytes
-pub reads-dialog : (r : Relay) (old new : State) (piece : List ℕ) (heard : Heard) (q' : QueueState) (line' : Line)
+pub reads-dialog : (r : Relay) (old new : State) (piece : List ℕ) (heard : Heard) (q' : QueueState) (line' : ChannelState)
     (socket' : Socket) (dials : Bool) (acts : List Act)
-    → r.line ≡ Dialing old → (IsReading old → IsHeard old new piece heard r.queue q')
+    → r.line ≡ Dialing old → (IsReading old → IsReceived old new piece heard r.queue q')
     → LineAfter heard.came new line' → MayRead piece r → Stands dials acts r
     → Stands dials (Reads piece ∷ acts)
     (holding (drop heard.count piece) (record r { line = line'; socket = socket'; queue = q' }))
-reads-dialog r old new piece heard q' line' socket' dials acts is hears after may s =
+reads-dialog r old new piece heard q' line' socket' dials acts is receives after may s =
     by_dials dials (subst (λ l. LineStands l dials acts) is s.line) s
   where
     by_dials : (b : Bool) → IsDialing old b acts → Stands b acts r
@@ -260,7 +260,7 @@ reads-dialog r old new piece heard q' line' socket' dials acts is hears after ma
           given = d.given ∙ ap (λ b. length (before_in b)) (sym d.bytes);
           wants = ap outcome_in d.bytes ∙ d.wants;
         } in
-        let all = same-bytes old new piece heard r.queue q' (read acts) d.bytes (hears reading) in
+        let all = same-bytes old new piece heard r.queue q' (read acts) d.bytes (receives reading) in
         let more = (all.2).0 in
         let queued : q'.waiting ≡ r.queue.waiting ++ more = (all.2).1 in
         let replied : replies_in (read acts ++ piece) Unanswered ≡ replies_in (read acts) Unanswered ++ more = (all.2).2 in

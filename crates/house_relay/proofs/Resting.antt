@@ -4,15 +4,15 @@ use Rattle.std.specs.Prelude.{◌&&◌, ◌||◌, ◌==◌, not, min, nat_lt, if
 use Rattle.std.proofs.lemmas.Bool.{lt-ltb, ltb-false, eqb-false, or_from}
 use Rattle.mux_outside.specs.declared.order.Order.TheVariants as order
 use Rattle.mux_outside.specs.declared.own_streams.OwnStream.{OwnStream}
-use Rattle.house_relay.specs.Line.{takes, has_no_more, hears_end}
-use Rattle.house_relay.specs.Next.{chunk, says_held, says_live, says_offered, says_in, says_of, orders_open, orders_in, orders_of}
+use Rattle.house_relay.specs.ChannelState.{takes, has_no_more, receives_end}
+use Rattle.house_relay.specs.Next.{chunk, sends_held, sends_live, sends_offered, sends_in, sends_of, orders_open, orders_in, orders_of}
 use Rattle.house_relay.specs.Relay.{SilentIn, IsResting, is_broken, is_finished, is_stuck, stream_of}
-use Rattle.house_relay.specs.declared.line.Line.{Line}
-use Rattle.house_relay.specs.declared.line.Line.TheVariants.{Dialing, Asked, Opened, Offered, Live, Over}
+use Rattle.house_relay.specs.declared.line.ChannelState.{ChannelState}
+use Rattle.house_relay.specs.declared.line.ChannelState.TheVariants.{Dialing, Asked, Opened, Offered, Live, Over}
 use Rattle.house_relay.specs.declared.line.Live.{Live as LiveState}
 use Rattle.house_relay.specs.declared.relay.Relay.{Relay}
-use Rattle.house_relay.specs.declared.relay.Saying.{Saying}
-use Rattle.house_relay.specs.declared.relay.Saying.TheVariants as saying
+use Rattle.house_relay.specs.declared.relay.Outgoing.{Outgoing}
+use Rattle.house_relay.specs.declared.relay.Outgoing.TheVariants as outgoing
 use Rattle.house_relay.specs.declared.relay.Socket.{Socket}
 use Rattle.house_relay.specs.declared.relay.Socket.TheVariants as socket
 
@@ -27,12 +27,12 @@ behind false o f e = e
 
 -- ---- says
 
-offered : (s : Socket) → says_offered s ≡ None → is_broken s ≡ false
+offered : (s : Socket) → sends_offered s ≡ None → is_broken s ≡ false
 offered (socket.Open t) e = cc
 offered socket.Unmade e = refl
 offered (socket.Connecting t) e = refl
 offered (socket.Failed t) e = cc
-offered (socket.Surplus t) e = cc
+offered (socket.NoChannelLeft t) e = cc
 offered socket.Closed e = cc
 
 none-taken : {X : Type 0} (some takes : Bool) (x : X) (o : Option X) → some ≡ true
@@ -49,27 +49,27 @@ ends-said false true false x o s e is = cc
 ends-said false false said x o s e is = cc
 
 -- where bytes are held and none is said, the channel takes none
-takes-none : (r : Relay) (live : LiveState) → says_held r live ≡ None → 0 < length r.held.waiting → takes live ≡ 0
+takes-none : (r : Relay) (live : LiveState) → sends_held r live ≡ None → 0 < length r.held.waiting → takes live ≡ 0
 takes-none r live e some =
     let is = lt-ltb 0 (length r.held.waiting) some in
-    let none = ltb-false 0 (chunk r live) (none-taken (nat_lt 0 (length r.held.waiting)) (nat_lt 0 (chunk r live)) (saying.Data (chunk r live)) _ is e) in
+    let none = ltb-false 0 (chunk r live) (none-taken (nat_lt 0 (length r.held.waiting)) (nat_lt 0 (chunk r live)) (outgoing.Data (chunk r live)) _ is e) in
     omega (arith, none, some)
 
-end-said : (r : Relay) (live : LiveState) → says_held r live ≡ None → r.ended ≡ true → r.held.waiting ≡ [] → live.eof_said ≡ true
+end-said : (r : Relay) (live : LiveState) → sends_held r live ≡ None → r.ended ≡ true → r.held.waiting ≡ [] → live.eof_sent ≡ true
 end-said r live e ended none =
     let is : nat_lt 0 (length r.held.waiting) ≡ false = ap (λ (h : List ℕ). nat_lt 0 (length h)) none in
-    ends-said (nat_lt 0 (length r.held.waiting)) r.ended live.eof_said saying.Eof _ is e ended
+    ends-said (nat_lt 0 (length r.held.waiting)) r.ended live.eof_sent outgoing.Eof _ is e ended
 
-live-silent : (r : Relay) (live : LiveState) → says_live r live ≡ None → SilentIn (Live live) r
+live-silent : (r : Relay) (live : LiveState) → sends_live r live ≡ None → SilentIn (Live live) r
 live-silent r live e = λ unsaid.
-    let close = passed (is_finished r.socket r.queue.waiting live) saying.Close _ (behind live.close_said _ unsaid e) in
-    let failure = passed (nat_lt 0 live.failures) saying.Failure _ close.1 in
+    let close = passed (is_finished r.socket r.queue.waiting live) outgoing.Close _ (behind live.close_sent _ unsaid e) in
+    let failure = passed (nat_lt 0 live.failures) outgoing.Failure _ close.1 in
     let adjust = passed (nat_lt 0 live.owed) _ _ failure.1 in
     let answered = ltb-false 0 live.failures failure.0 in
     let given = ltb-false 0 live.owed adjust.0 in
     (close.0, omega (arith, answered), omega (arith, given), takes-none r live adjust.1, end-said r live adjust.1)
 
-silent-in : (line : Line) (r : Relay) → says_in line r ≡ None → SilentIn line r
+silent-in : (line : ChannelState) (r : Relay) → sends_in line r ≡ None → SilentIn line r
 silent-in (Dialing dialog) r e = tt
 silent-in (Asked host port version) r e = cc
 silent-in (Opened version) r e = tt
@@ -78,7 +78,7 @@ silent-in (Live live) r e = live-silent r live e
 silent-in Over r e = tt
 
 -- it has nothing to say
-pub silent : (r : Relay) → says_of r ≡ None → SilentIn r.line r
+pub silent : (r : Relay) → sends_of r ≡ None → SilentIn r.line r
 silent r e = silent-in r.line r e
 
 -- ---- orders
@@ -90,7 +90,7 @@ whole (socket.Open t) r stream has e = (refl, e)
 whole socket.Unmade r stream has e = cc
 whole (socket.Connecting t) r stream has e = (refl, e)
 whole (socket.Failed t) r stream has e = cc
-whole (socket.Surplus t) r stream has e = cc
+whole (socket.NoChannelLeft t) r stream has e = cc
 whole socket.Closed r stream has e = cc
 
 is-so : (b said : Bool) → (b && not said) ≡ false → b ≡ true → said ≡ true
@@ -113,12 +113,12 @@ pub rests : (r : Relay) (stream : OwnStream) → stream_of r.socket ≡ Some str
 rests r stream has e =
     let open_yet = whole r.socket r stream has e in
     let close = passed (has_no_more r.ended r.line && (length r.queue.waiting == 0)) _ _ open_yet.1 in
-    let finish = passed (hears_end r.line && ((length r.queue.waiting == 0) && not stream.finished)) _ _ close.1 in
+    let finish = passed (receives_end r.line && ((length r.queue.waiting == 0) && not stream.finished)) _ _ close.1 in
     let pause = passed (is_stuck r.line r.held.waiting && not stream.paused) _ _ finish.1 in
     let resume = passed ((length r.held.waiting == 0) && stream.paused) _ _ pause.1 in
     record {
       stays = or_from _ _ open_yet.0 close.0;
-      finished = λ heard none. is-finished (hears_end r.line) (length r.queue.waiting == 0) stream.finished finish.0 heard
+      finished = λ heard none. is-finished (receives_end r.line) (length r.queue.waiting == 0) stream.finished finish.0 heard
           (ap (λ (q : List ℕ). length q == 0) none);
       paused = is-so (is_stuck r.line r.held.waiting) stream.paused pause.0;
       holds = λ is.

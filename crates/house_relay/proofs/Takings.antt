@@ -3,28 +3,28 @@ use Rattle.std.proofs.Common.{◌≡◌, ◌∙◌, refl, sym, ap, arith, ℕ, �
 use Rattle.std.proofs.lemmas.Grind.{common_steps}
 use Rattle.std.proofs.lemmas.List.{append_assoc, take-append-drop}
 use Rattle.house_relay.specs.Acts.{Act, Takes, taken, delivered, adjusted, replies, to_take, taken_data}
-use Rattle.house_relay.specs.Line.{takes_in, takes_more}
+use Rattle.house_relay.specs.ChannelState.{takes_in, takes_more}
 use Rattle.house_relay.specs.Steps.{taken_of}
 use Rattle.socks_dialog.specs.declared.outcome.Outcome.{Outcome}
 use Rattle.socks_dialog.specs.declared.outcome.Outcome.TheVariants.{Connects}
 use Rattle.house_relay.specs.Relay.{Stands, LineStands, IsLive, NothingYet, WaitsFor}
 use Rattle.house_relay.specs.declared.line.Live.{Live as LiveState}
-use Rattle.house_relay.specs.declared.line.Line.{Line}
-use Rattle.house_relay.specs.declared.line.Line.TheVariants.{Dialing, Asked, Opened, Offered, Live, Over}
+use Rattle.house_relay.specs.declared.line.ChannelState.{ChannelState}
+use Rattle.house_relay.specs.declared.line.ChannelState.TheVariants.{Dialing, Asked, Opened, Offered, Live, Over}
 use Rattle.house_relay.specs.declared.relay.Relay.{Relay}
 
 -- one that is confirmed owes as much more room as is taken behind the replies, until CLOSE is said
 pub live-takes : (live : LiveState) (n : ℕ) (dials : Bool) (acts : List Act) → IsLive live dials acts
     → IsLive (takes_more n live) dials (Takes n ∷ acts)
-live-takes live n dials acts s = by_case live.close_said refl
+live-takes live n dials acts s = by_case live.close_sent refl
   where
-    by_case : (b : Bool) → live.close_said ≡ b
+    by_case : (b : Bool) → live.close_sent ≡ b
         → IsLive (if b then live else record live { owed = live.owed + (n - live.replies); replies = live.replies - n }) dials (Takes n ∷ acts)
     by_case true e = record {
-      eof_said = s.eof_said;
-      eof_heard = s.eof_heard;
-      close_said = s.close_said;
-      close_heard = s.close_heard;
+      eof_sent = s.eof_sent;
+      eof_received = s.eof_received;
+      close_sent = s.close_sent;
+      close_received = s.close_received;
       replies = λ f. let z : true ≡ false = sym e ∙ f in cc;
       owed = λ f. let z : true ≡ false = sym e ∙ f in cc;
       most = let m : adjusted acts ≤ taken_data dials acts = s.most in omega arith;
@@ -32,10 +32,10 @@ live-takes live n dials acts s = by_case live.close_said refl
       asked = s.asked;
     }
     by_case false e = record {
-      eof_said = s.eof_said;
-      eof_heard = s.eof_heard;
-      close_said = s.close_said;
-      close_heard = s.close_heard;
+      eof_sent = s.eof_sent;
+      eof_received = s.eof_received;
+      close_sent = s.close_sent;
+      close_received = s.close_received;
       replies = λ f. let r : live.replies ≡ length (replies dials acts) - taken acts = s.replies e in omega arith;
       owed = λ f.
           let r : live.replies ≡ length (replies dials acts) - taken acts = s.replies e in
@@ -61,7 +61,7 @@ nothing-takes n dials acts before queue s whole had few =
       no_room = s.no_room;
       no_eof = s.no_eof;
       no_close = s.no_close;
-      none_heard = s.none_heard;
+      none_received = s.none_received;
       none_closed = s.none_closed;
     }
 
@@ -70,7 +70,7 @@ waits-takes : (n : ℕ) (dials : Bool) (acts : List Act) (version : Option ℕ) 
 waits-takes n dials acts None outcome s = s
 waits-takes n dials acts (Some version) outcome s = s
 
-pub line-takes : (line : Line) (n : ℕ) (dials : Bool) (acts : List Act) (before queue : List ℕ)
+pub line-takes : (line : ChannelState) (n : ℕ) (dials : Bool) (acts : List Act) (before queue : List ℕ)
     → before ++ queue ≡ to_take dials acts → length before ≡ taken acts → n ≤ length queue
     → LineStands line dials acts → LineStands (takes_in n line) dials (Takes n ∷ acts)
 line-takes (Dialing dialog) n dials acts before queue whole had few s = record {

@@ -2,16 +2,16 @@
 use Rattle.std.proofs.Common.{◌≡◌, ◌∙◌, sym, ap, subst, arith, ℕ, ◌+◌, ◌≤◌, ◌<◌, Bool, true, false, List, ◌++◌, length, drop, Option, Some, None, [], IsTrue, ◌∷◌, refl}
 use Rattle.std.specs.Prelude.{◌||◌, ◌==◌}
 use Rattle.mux_outside.specs.declared.own_streams.OwnStream.{OwnStream}
-use Rattle.house_relay.specs.Line.{takes}
+use Rattle.house_relay.specs.ChannelState.{takes}
 use Rattle.std.proofs.lemmas.List.{length-append, take-append-drop}
 use Rattle.std.proofs.Math.Seq.{drop-append_seam}
 use Rattle.house_relay.specs.Acts.{Act, Relays, read, sent, taken, adjusted, held, waiting, to_take, taken_data, outcome_in}
 use Rattle.house_relay.specs.Relay.{Stands, Keeps, OwesRight, AsksRight, SilentIn, IsResting, stuck_in, is_stuck, LineStands, NothingYet, WaitsFor}
 use Rattle.mux_outside.specs.declared.piece.TheConstants.{LONGEST_PIECE}
 use Rattle.socks_dialog.specs.declared.outcome.Outcome.TheVariants.{Connects}
-use Rattle.house_relay.specs.declared.line.Line.{Line}
+use Rattle.house_relay.specs.declared.line.ChannelState.{ChannelState}
 use Rattle.house_relay.proofs.Readings.{asked-waits}
-use Rattle.house_relay.specs.declared.line.Line.TheVariants.{Dialing, Asked, Opened, Offered, Live, Over}
+use Rattle.house_relay.specs.declared.line.ChannelState.TheVariants.{Dialing, Asked, Opened, Offered, Live, Over}
 use Rattle.house_relay.specs.declared.relay.Relay.{Relay}
 
 pub holds : (dials : Bool) (acts : List Act) (r : Relay) → Stands dials acts r → r.held.waiting ≡ held dials acts
@@ -35,7 +35,7 @@ few dials acts r s =
 none-yet : (dials : Bool) (acts : List Act) → NothingYet dials acts → adjusted acts ≤ taken_data dials acts
 none-yet dials acts s = let a : adjusted acts ≡ 0 = s.no_room in omega arith
 
-most : (line : Line) (dials : Bool) (acts : List Act) → LineStands line dials acts → adjusted acts ≤ taken_data dials acts
+most : (line : ChannelState) (dials : Bool) (acts : List Act) → LineStands line dials acts → adjusted acts ≤ taken_data dials acts
 most (Dialing dialog) dials acts s = none-yet dials acts s.nothing
 most (Asked host port version) dials acts s = none-yet dials acts s.nothing
 most (Opened version) dials acts s = none-yet dials acts s.nothing
@@ -43,13 +43,13 @@ most (Offered remote window maximum) dials acts s = none-yet dials acts s.nothin
 most (Live live) dials acts s = s.most
 most Over dials acts s = s.most
 
-owes : (line : Line) (dials : Bool) (acts : List Act) → LineStands line dials acts → OwesRight line dials acts
+owes : (line : ChannelState) (dials : Bool) (acts : List Act) → LineStands line dials acts → OwesRight line dials acts
 owes (Dialing dialog) dials acts s = tt
 owes (Asked host port version) dials acts s = tt
 owes (Opened version) dials acts s = tt
 owes (Offered remote window maximum) dials acts s = tt
 owes (Live live) dials acts s = λ unsaid none.
-    let o : adjusted acts + live.owed ≡ taken_data dials acts = s.owed (s.close_said ∙ unsaid) in
+    let o : adjusted acts + live.owed ≡ taken_data dials acts = s.owed (s.close_sent ∙ unsaid) in
     omega arith
 owes Over dials acts s = tt
 
@@ -61,7 +61,7 @@ asks-end : (version : Option ℕ) (host : List ℕ) (port : ℕ) (dials : Bool) 
 asks-end None host port dials acts s e = true_or (outcome_in (read acts) ≡ Connects host port) dials s e
 asks-end (Some version) host port dials acts s e = s.2
 
-asks : (line : Line) (dials : Bool) (acts : List Act) → LineStands line dials acts → AsksRight line dials acts
+asks : (line : ChannelState) (dials : Bool) (acts : List Act) → LineStands line dials acts → AsksRight line dials acts
 asks (Dialing dialog) dials acts s = s.wants
 asks (Asked host port version) dials acts s = asks-end version host port dials acts s.waits
 asks (Opened version) dials acts s = asked-waits version s.host s.port dials acts s.waits
@@ -90,14 +90,14 @@ keeps dials acts r s = record {
 -- ---- at rest
 
 -- what is held is stuck
-stuck : (line : Line) (r : Relay) → SilentIn line r → 0 < length r.held.waiting → IsTrue (stuck_in line)
+stuck : (line : ChannelState) (r : Relay) → SilentIn line r → 0 < length r.held.waiting → IsTrue (stuck_in line)
 stuck (Dialing dialog) r silent some = refl
 stuck (Asked host port version) r silent some = absurd silent
 stuck (Opened version) r silent some = refl
 stuck (Offered remote window maximum) r silent some = refl
-stuck (Live live) r silent some = by_close live.close_said refl
+stuck (Live live) r silent some = by_close live.close_sent refl
   where
-    by_close : (b : Bool) → live.close_said ≡ b → IsTrue (b || (takes live == 0))
+    by_close : (b : Bool) → live.close_sent ≡ b → IsTrue (b || (takes live == 0))
     by_close true e = refl
     by_close false e = subst (λ n. IsTrue (n == 0)) (sym (((silent e).3) some)) refl
 stuck Over r silent some = refl

@@ -19,12 +19,12 @@ pub data Act : Type 0 where
   Confirms : Act
   Refuses : (reason : ℕ) → Act
   Delivers : (bytes : List ℕ) → Act
-  HearsEof : Act
-  HearsClose : Act
-  SaysData : (bytes : List ℕ) → Act
-  SaysAdjust : (n : ℕ) → Act
-  SaysEof : Act
-  SaysClose : Act
+  ReceivesEof : Act
+  ReceivesClose : Act
+  SendsData : (bytes : List ℕ) → Act
+  SendsAdjust : (n : ℕ) → Act
+  SendsEof : Act
+  SendsClose : Act
   Other : Act
 
 -- all bytes read from the socket
@@ -36,7 +36,7 @@ read (_ ∷ acts) = read acts
 -- all data said in the channel
 abbrev pub sent : List Act → List ℕ
 sent [] = []
-sent (SaysData bytes ∷ acts) = sent acts ++ bytes
+sent (SendsData bytes ∷ acts) = sent acts ++ bytes
 sent (_ ∷ acts) = sent acts
 
 -- all data delivered in the channel
@@ -54,7 +54,7 @@ taken (_ ∷ acts) = taken acts
 -- for how many bytes room was given back
 abbrev pub adjusted : List Act → ℕ
 adjusted [] = 0
-adjusted (SaysAdjust n ∷ acts) = adjusted acts + n
+adjusted (SendsAdjust n ∷ acts) = adjusted acts + n
 adjusted (_ ∷ acts) = adjusted acts
 
 -- whether the socket gave its end
@@ -64,28 +64,28 @@ has_ended (Ends ∷ acts) = true
 has_ended (_ ∷ acts) = has_ended acts
 
 -- whether EOF was heard
-abbrev pub heard_eof : List Act → Bool
-heard_eof [] = false
-heard_eof (HearsEof ∷ acts) = true
-heard_eof (_ ∷ acts) = heard_eof acts
+abbrev pub received_eof : List Act → Bool
+received_eof [] = false
+received_eof (ReceivesEof ∷ acts) = true
+received_eof (_ ∷ acts) = received_eof acts
 
 -- whether CLOSE was heard
-abbrev pub heard_close : List Act → Bool
-heard_close [] = false
-heard_close (HearsClose ∷ acts) = true
-heard_close (_ ∷ acts) = heard_close acts
+abbrev pub received_close : List Act → Bool
+received_close [] = false
+received_close (ReceivesClose ∷ acts) = true
+received_close (_ ∷ acts) = received_close acts
 
 -- whether EOF was said
-abbrev pub said_eof : List Act → Bool
-said_eof [] = false
-said_eof (SaysEof ∷ acts) = true
-said_eof (_ ∷ acts) = said_eof acts
+abbrev pub sent_eof : List Act → Bool
+sent_eof [] = false
+sent_eof (SendsEof ∷ acts) = true
+sent_eof (_ ∷ acts) = sent_eof acts
 
 -- whether CLOSE was said
-abbrev pub said_close : List Act → Bool
-said_close [] = false
-said_close (SaysClose ∷ acts) = true
-said_close (_ ∷ acts) = said_close acts
+abbrev pub sent_close : List Act → Bool
+sent_close [] = false
+sent_close (SendsClose ∷ acts) = true
+sent_close (_ ∷ acts) = sent_close acts
 
 -- ---- the dialog in front
 
@@ -174,5 +174,5 @@ pub record Relays (dials : Bool) (acts : List Act) : Type 0 where
   pub in_order : taken_bytes dials acts ++ waiting dials acts ≡ to_take dials acts
   pub fits : taken acts ≤ length (to_take dials acts)
   pub granted : adjusted acts ≤ taken_data dials acts
-  pub last : IsTrue (said_eof acts) → IsTrue (has_ended acts) × (held dials acts ≡ [])
+  pub last : IsTrue (sent_eof acts) → IsTrue (has_ended acts) × (held dials acts ≡ [])
   pub few : length (held dials acts) ≤ LONGEST_PIECE

@@ -52,7 +52,7 @@ CameTo Fault bytes new = (reply : List ℕ) × (outcome_in bytes ≡ Breaks repl
 
 -- more bytes were heard: what it comes to is that, all bytes but so many of them are behind it, and as
 -- many bytes wait in the queue as there are more of its replies
-pub record IsHeard (old new : State) (bytes : List ℕ) (heard : Heard) (queue queue' : QueueState) : Type 0 where
+pub record IsReceived (old new : State) (bytes : List ℕ) (heard : Heard) (queue queue' : QueueState) : Type 0 where
   pub came : CameTo heard.came (old.bytes ++ bytes) new
   pub behind : behind_in (old.bytes ++ bytes) ≡ drop heard.count bytes
   pub more : List ℕ

@@ -1,6 +1,6 @@
 pub mod Acts
 pub mod Dialing
-pub mod Line
+pub mod ChannelState
 pub mod Next
 pub mod Relay
 pub mod Steps

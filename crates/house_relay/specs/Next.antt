@@ -3,15 +3,15 @@ use Rattle.std.specs.Prelude.{◌-◌, ◌^◌, ◌&&◌, ◌==◌, ℕ, not, mi
 use Rattle.mux_outside.specs.declared.order.Order.{Order}
 use Rattle.mux_outside.specs.declared.order.Order.TheVariants as order
 use Rattle.mux_outside.specs.declared.own_streams.OwnStream.{OwnStream}
-use Rattle.house_relay.specs.Line.{takes, has_no_more, hears_end}
+use Rattle.house_relay.specs.ChannelState.{takes, has_no_more, receives_end}
 use Rattle.house_relay.specs.Relay.{is_finished, is_stuck}
 use Rattle.house_relay.specs.declared.TheConstants.{MAXIMUM}
 use Rattle.house_relay.specs.declared.line.Live.{Live as LiveState}
-use Rattle.house_relay.specs.declared.line.Line.{Line}
-use Rattle.house_relay.specs.declared.line.Line.TheVariants.{Dialing, Asked, Opened, Offered, Live, Over}
+use Rattle.house_relay.specs.declared.line.ChannelState.{ChannelState}
+use Rattle.house_relay.specs.declared.line.ChannelState.TheVariants.{Dialing, Asked, Opened, Offered, Live, Over}
 use Rattle.house_relay.specs.declared.relay.Relay.{Relay}
-use Rattle.house_relay.specs.declared.relay.Saying.{Saying}
-use Rattle.house_relay.specs.declared.relay.Saying.TheVariants as saying
+use Rattle.house_relay.specs.declared.relay.Outgoing.{Outgoing}
+use Rattle.house_relay.specs.declared.relay.Outgoing.TheVariants as outgoing
 use Rattle.house_relay.specs.declared.relay.Socket.{Socket}
 use Rattle.house_relay.specs.declared.relay.Socket.TheVariants as socket
 
@@ -22,43 +22,43 @@ abbrev pub chunk : Relay → LiveState → ℕ
 chunk r live = min (min (takes live) MAXIMUM) (length r.held.waiting)
 
 -- the held bytes first, and behind them the end
-abbrev pub says_held : Relay → LiveState → Option Saying
-says_held r live = if nat_lt 0 (length r.held.waiting)
-    then (if nat_lt 0 (chunk r live) then Some (saying.Data (chunk r live)) else None)
-    else (if r.ended && not live.eof_said then Some saying.Eof else None)
+abbrev pub sends_held : Relay → LiveState → Option Outgoing
+sends_held r live = if nat_lt 0 (length r.held.waiting)
+    then (if nat_lt 0 (chunk r live) then Some (outgoing.Data (chunk r live)) else None)
+    else (if r.ended && not live.eof_sent then Some outgoing.Eof else None)
 
-abbrev pub says_live : Relay → LiveState → Option Saying
-says_live r live = if live.close_said then None
-    else (if is_finished r.socket r.queue.waiting live then Some saying.Close
-    else (if nat_lt 0 live.failures then Some saying.Failure
-    else (if nat_lt 0 live.owed then Some (saying.Adjust (min live.owed (2 ^ 32 - 1)))
-    else says_held r live)))
+abbrev pub sends_live : Relay → LiveState → Option Outgoing
+sends_live r live = if live.close_sent then None
+    else (if is_finished r.socket r.queue.waiting live then Some outgoing.Close
+    else (if nat_lt 0 live.failures then Some outgoing.Failure
+    else (if nat_lt 0 live.owed then Some (outgoing.Adjust (min live.owed (2 ^ 32 - 1)))
+    else sends_held r live)))
 
-abbrev pub says_offered : Socket → Option Saying
-says_offered (socket.Open t) = Some saying.Confirmation
-says_offered socket.Unmade = None
-says_offered (socket.Connecting t) = None
-says_offered (socket.Failed t) = Some saying.OpenFailure
-says_offered (socket.Surplus t) = Some saying.OpenFailure
-says_offered socket.Closed = Some saying.OpenFailure
+abbrev pub sends_offered : Socket → Option Outgoing
+sends_offered (socket.Open t) = Some outgoing.Confirmation
+sends_offered socket.Unmade = None
+sends_offered (socket.Connecting t) = None
+sends_offered (socket.Failed t) = Some outgoing.OpenFailure
+sends_offered (socket.NoChannelLeft t) = Some outgoing.OpenFailure
+sends_offered socket.Closed = Some outgoing.OpenFailure
 
-abbrev pub says_in : Line → Relay → Option Saying
-says_in (Dialing dialog) r = None
-says_in (Asked host port version) r = Some saying.Open
-says_in (Opened version) r = None
-says_in (Offered remote window maximum) r = says_offered r.socket
-says_in (Live live) r = says_live r live
-says_in Over r = None
+abbrev pub sends_in : ChannelState → Relay → Option Outgoing
+sends_in (Dialing dialog) r = None
+sends_in (Asked host port version) r = Some outgoing.Open
+sends_in (Opened version) r = None
+sends_in (Offered remote window maximum) r = sends_offered r.socket
+sends_in (Live live) r = sends_live r live
+sends_in Over r = None
 
-abbrev pub says_of : Relay → Option Saying
-says_of r = says_in r.line r
+abbrev pub sends_of : Relay → Option Outgoing
+sends_of r = sends_in r.line r
 
 -- ---- orders
 
 abbrev pub orders_open : Relay → OwnStream → Option Order
 orders_open r stream =
     if has_no_more r.ended r.line && (length r.queue.waiting == 0) then Some (order.Close stream.number)
-    else (if hears_end r.line && ((length r.queue.waiting == 0) && not stream.finished)
+    else (if receives_end r.line && ((length r.queue.waiting == 0) && not stream.finished)
     then Some (order.Finish stream.number)
     else (if is_stuck r.line r.held.waiting && not stream.paused then Some (order.Pause stream.number)
     else (if (length r.held.waiting == 0) && stream.paused then Some (order.Resume stream.number)
@@ -69,7 +69,7 @@ orders_in (socket.Open t) r stream = orders_open r stream
 orders_in socket.Unmade r stream = None
 orders_in (socket.Connecting t) r stream = orders_open r stream
 orders_in (socket.Failed t) r stream = Some (order.Close stream.number)
-orders_in (socket.Surplus t) r stream = Some (order.Close stream.number)
+orders_in (socket.NoChannelLeft t) r stream = Some (order.Close stream.number)
 orders_in socket.Closed r stream = None
 
 abbrev pub orders_of : Relay → OwnStream → Option Order

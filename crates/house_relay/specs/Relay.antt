@@ -1,7 +1,7 @@
 -- How a relay stands, for what happened in it.
 use Rattle.std.specs.Prelude.{◌≡◌, ◌≢◌, ◌+◌, ◌-◌, ◌≤◌, ◌<◌, ◌&&◌, ◌||◌, ◌==◌, ℕ, Bool, true, false, not, is_some, List, [], ◌∷◌, ◌++◌, length, take, slice_index, IsTrue, Option, Some, None}
-use Rattle.house_relay.specs.Acts.{Act, SaysData, SaysAdjust, SaysEof, SaysClose, Other}
-use Rattle.house_relay.specs.Acts.{read, sent, delivered, taken, adjusted, has_ended, heard_eof, heard_close, said_eof, said_close}
+use Rattle.house_relay.specs.Acts.{Act, SendsData, SendsAdjust, SendsEof, SendsClose, Other}
+use Rattle.house_relay.specs.Acts.{read, sent, delivered, taken, adjusted, has_ended, received_eof, received_close, sent_eof, sent_close}
 use Rattle.house_relay.specs.Acts.{Unanswered, answer, outcome_in, before_in, replies, behind, held, to_take, waiting, taken_data}
 use Rattle.mux_outside.specs.declared.order.Order.{Order}
 use Rattle.mux_outside.specs.declared.order.Order.TheVariants.{Listen, Connect, Unlisten, Pause, Resume, Finish}
@@ -12,20 +12,20 @@ use Rattle.proxy_frames.specs.Queued.{with_bytes}
 use Rattle.socks_dialog.specs.State.{State, IsConnect}
 use Rattle.socks_dialog.specs.declared.outcome.Outcome.{Outcome}
 use Rattle.socks_dialog.specs.declared.outcome.Outcome.TheVariants.{Wants, Connects}
-use Rattle.house_relay.specs.Line.{takes, has_no_more, hears_end}
+use Rattle.house_relay.specs.ChannelState.{takes, has_no_more, receives_end}
 use Rattle.house_relay.specs.declared.line.Live.{Live as LiveState}
-use Rattle.house_relay.specs.declared.line.Line.{Line}
-use Rattle.house_relay.specs.declared.line.Line.TheVariants.{Dialing, Asked, Opened, Offered, Live, Over}
+use Rattle.house_relay.specs.declared.line.ChannelState.{ChannelState}
+use Rattle.house_relay.specs.declared.line.ChannelState.TheVariants.{Dialing, Asked, Opened, Offered, Live, Over}
 use Rattle.house_relay.specs.declared.relay.Relay.{Relay}
-use Rattle.house_relay.specs.declared.relay.Saying.{Saying}
-use Rattle.house_relay.specs.declared.relay.Saying.TheVariants.{Open, Confirmation, OpenFailure, Close, Failure, Data, Eof, Adjust}
+use Rattle.house_relay.specs.declared.relay.Outgoing.{Outgoing}
+use Rattle.house_relay.specs.declared.relay.Outgoing.TheVariants.{Open, Confirmation, OpenFailure, Close, Failure, Data, Eof, Adjust}
 use Rattle.house_relay.specs.declared.relay.Socket.{Socket}
 use Rattle.house_relay.specs.declared.relay.Socket.TheVariants as socket
 
 -- ---- sides
 
 -- a fact of a channel that is confirmed and hasn't ended
-abbrev pub InLive : Line → (LiveState → Type 0) → Type 0
+abbrev pub InLive : ChannelState → (LiveState → Type 0) → Type 0
 InLive (Dialing dialog) P = ⊥
 InLive (Asked host port version) P = ⊥
 InLive (Opened version) P = ⊥
@@ -33,7 +33,7 @@ InLive (Offered remote window maximum) P = ⊥
 InLive (Live live) P = P live
 InLive Over P = ⊥
 
-abbrev pub IsAsked : Line → Type 0
+abbrev pub IsAsked : ChannelState → Type 0
 IsAsked (Dialing dialog) = ⊥
 IsAsked (Asked host port version) = Unit {0}
 IsAsked (Opened version) = ⊥
@@ -41,7 +41,7 @@ IsAsked (Offered remote window maximum) = ⊥
 IsAsked (Live live) = ⊥
 IsAsked Over = ⊥
 
-abbrev pub IsOffered : Line → Type 0
+abbrev pub IsOffered : ChannelState → Type 0
 IsOffered (Dialing dialog) = ⊥
 IsOffered (Asked host port version) = ⊥
 IsOffered (Opened version) = ⊥
@@ -55,7 +55,7 @@ IsConnected (socket.Open t) = Unit {0}
 IsConnected socket.Unmade = ⊥
 IsConnected (socket.Connecting t) = ⊥
 IsConnected (socket.Failed t) = ⊥
-IsConnected (socket.Surplus t) = ⊥
+IsConnected (socket.NoChannelLeft t) = ⊥
 IsConnected socket.Closed = ⊥
 
 -- its socket failed, or there is none any more
@@ -64,52 +64,52 @@ is_broken (socket.Open t) = false
 is_broken socket.Unmade = false
 is_broken (socket.Connecting t) = false
 is_broken (socket.Failed t) = true
-is_broken (socket.Surplus t) = true
+is_broken (socket.NoChannelLeft t) = true
 is_broken socket.Closed = true
 
 -- whether a channel is to be closed: its socket is broken, or CLOSE was heard, or EOF went both ways
 -- and nothing waits for the socket
 abbrev pub is_finished : Socket → List ℕ → LiveState → Bool
 is_finished s queue live = is_broken s
-    || (live.close_heard || (live.eof_said && (live.eof_heard && (length queue == 0))))
+    || (live.close_received || (live.eof_sent && (live.eof_received && (length queue == 0))))
 
 -- ---- what may be said
 
-abbrev pub IsSaying : Saying → Relay → Type 0
-IsSaying Open r = IsAsked r.line
-IsSaying Confirmation r = IsOffered r.line × IsConnected r.socket
-IsSaying OpenFailure r = IsOffered r.line
-IsSaying Close r = InLive r.line (λ live. (live.close_said ≡ false)
+abbrev pub IsSending : Outgoing → Relay → Type 0
+IsSending Open r = IsAsked r.line
+IsSending Confirmation r = IsOffered r.line × IsConnected r.socket
+IsSending OpenFailure r = IsOffered r.line
+IsSending Close r = InLive r.line (λ live. (live.close_sent ≡ false)
     × IsTrue (is_finished r.socket r.queue.waiting live))
-IsSaying Failure r = InLive r.line (λ live. (live.close_said ≡ false) × (0 < live.failures))
-IsSaying (Data n) r = InLive r.line (λ live. (live.close_said ≡ false) × (0 < n)
+IsSending Failure r = InLive r.line (λ live. (live.close_sent ≡ false) × (0 < live.failures))
+IsSending (Data n) r = InLive r.line (λ live. (live.close_sent ≡ false) × (0 < n)
     × (n ≤ length r.held.waiting) × (n ≤ takes live))
-IsSaying Eof r = InLive r.line (λ live. (live.close_said ≡ false) × (live.eof_said ≡ false)
+IsSending Eof r = InLive r.line (λ live. (live.close_sent ≡ false) × (live.eof_sent ≡ false)
     × IsTrue r.ended × (r.held.waiting ≡ []))
-IsSaying (Adjust n) r = InLive r.line (λ live. (live.close_said ≡ false) × (0 < n) × (n ≤ live.owed))
+IsSending (Adjust n) r = InLive r.line (λ live. (live.close_sent ≡ false) × (0 < n) × (n ≤ live.owed))
 
 -- what happens as that is said
-abbrev pub said_act : Saying → Relay → Act
-said_act Open r = Other
-said_act Confirmation r = Other
-said_act OpenFailure r = Other
-said_act Close r = SaysClose
-said_act Failure r = Other
-said_act (Data n) r = SaysData (take n r.held.waiting)
-said_act Eof r = SaysEof
-said_act (Adjust n) r = SaysAdjust n
+abbrev pub sent_act : Outgoing → Relay → Act
+sent_act Open r = Other
+sent_act Confirmation r = Other
+sent_act OpenFailure r = Other
+sent_act Close r = SendsClose
+sent_act Failure r = Other
+sent_act (Data n) r = SendsData (take n r.held.waiting)
+sent_act Eof r = SendsEof
+sent_act (Adjust n) r = SendsAdjust n
 
 -- what is heard in a channel that is confirmed; in another nothing is
-abbrev pub heard_in : Line → Act → Act
-heard_in (Dialing dialog) act = Other
-heard_in (Asked host port version) act = Other
-heard_in (Opened version) act = Other
-heard_in (Offered remote window maximum) act = Other
-heard_in (Live live) act = act
-heard_in Over act = Other
+abbrev pub received_in : ChannelState → Act → Act
+received_in (Dialing dialog) act = Other
+received_in (Asked host port version) act = Other
+received_in (Opened version) act = Other
+received_in (Offered remote window maximum) act = Other
+received_in (Live live) act = act
+received_in Over act = Other
 
 -- an answer to the OPEN is heard while it is said and unanswered
-abbrev pub answered_in : Line → Act → Act
+abbrev pub answered_in : ChannelState → Act → Act
 answered_in (Dialing dialog) act = Other
 answered_in (Asked host port version) act = Other
 answered_in (Opened version) act = act
@@ -125,10 +125,10 @@ pub record NothingYet (dials : Bool) (acts : List Act) : Type 0 where
   pub no_data : delivered acts ≡ []
   pub no_take : taken acts ≤ length (replies dials acts)
   pub no_room : adjusted acts ≡ 0
-  pub no_eof : said_eof acts ≡ false
-  pub no_close : said_close acts ≡ false
-  pub none_heard : heard_eof acts ≡ false
-  pub none_closed : heard_close acts ≡ false
+  pub no_eof : sent_eof acts ≡ false
+  pub no_close : sent_close acts ≡ false
+  pub none_received : received_eof acts ≡ false
+  pub none_closed : received_close acts ≡ false
 
 -- a dialog that is read has all bytes that were read, has given all its replies, and wants more bytes
 pub record IsDialing (dialog : State) (dials : Bool) (acts : List Act) : Type 0 where
@@ -174,12 +174,12 @@ HasAsked true bytes = IsConnect (outcome_in bytes)
 -- what a channel that is confirmed keeps: what was said and heard, and, until CLOSE is said, how many
 -- bytes of replies wait, and how much room is to be given back
 pub record IsLive (live : LiveState) (dials : Bool) (acts : List Act) : Type 0 where
-  pub eof_said : live.eof_said ≡ said_eof acts
-  pub eof_heard : live.eof_heard ≡ heard_eof acts
-  pub close_said : live.close_said ≡ said_close acts
-  pub close_heard : live.close_heard ≡ heard_close acts
-  pub replies : live.close_said ≡ false → live.replies ≡ length (replies dials acts) - taken acts
-  pub owed : live.close_said ≡ false → adjusted acts + live.owed ≡ taken_data dials acts
+  pub eof_sent : live.eof_sent ≡ sent_eof acts
+  pub eof_received : live.eof_received ≡ received_eof acts
+  pub close_sent : live.close_sent ≡ sent_close acts
+  pub close_received : live.close_received ≡ received_close acts
+  pub replies : live.close_sent ≡ false → live.replies ≡ length (replies dials acts) - taken acts
+  pub owed : live.close_sent ≡ false → adjusted acts + live.owed ≡ taken_data dials acts
   pub most : adjusted acts ≤ taken_data dials acts
   pub settled : IsSettled dials (read acts)
   pub asked : HasAsked dials (read acts)
@@ -189,7 +189,7 @@ pub record IsOver (dials : Bool) (acts : List Act) : Type 0 where
   pub most : adjusted acts ≤ taken_data dials acts
   pub settled : IsSettled dials (read acts)
 
-abbrev pub LineStands : Line → Bool → List Act → Type 0
+abbrev pub LineStands : ChannelState → Bool → List Act → Type 0
 LineStands (Dialing dialog) dials acts = IsDialing dialog dials acts
 LineStands (Asked host port version) dials acts = IsToAsk host port version dials acts
 LineStands (Opened version) dials acts = IsOpened version dials acts
@@ -203,7 +203,7 @@ pub record Stands (dials : Bool) (acts : List Act) (r : Relay) : Type 0 where
   pub delivers : (before : List ℕ) × (before ++ r.queue.waiting ≡ to_take dials acts)
       × (length before ≡ taken acts)
   pub ends : r.ended ≡ has_ended acts
-  pub last : IsTrue (said_eof acts) → IsTrue (has_ended acts) × (r.held.waiting ≡ [])
+  pub last : IsTrue (sent_eof acts) → IsTrue (has_ended acts) × (r.held.waiting ≡ [])
   pub few : length r.held.waiting ≤ LONGEST_PIECE
   pub line : LineStands r.line dials acts
 
@@ -224,15 +224,15 @@ holding bytes r = record r { held = with_bytes bytes r.held }
 -- ---- at rest
 
 -- nothing is to be said
-abbrev pub SilentIn : Line → Relay → Type 0
+abbrev pub SilentIn : ChannelState → Relay → Type 0
 SilentIn (Dialing dialog) r = Unit {0}
 SilentIn (Asked host port version) r = ⊥
 SilentIn (Opened version) r = Unit {0}
 SilentIn (Offered remote window maximum) r = is_broken r.socket ≡ false
-SilentIn (Live live) r = live.close_said ≡ false
+SilentIn (Live live) r = live.close_sent ≡ false
     → (is_finished r.socket r.queue.waiting live ≡ false) × (live.failures ≡ 0)
     × (live.owed ≡ 0) × (0 < length r.held.waiting → takes live ≡ 0)
-    × (IsTrue r.ended → r.held.waiting ≡ [] → IsTrue live.eof_said)
+    × (IsTrue r.ended → r.held.waiting ≡ [] → IsTrue live.eof_sent)
 SilentIn Over r = Unit {0}
 
 -- its stream, if it has one
@@ -241,31 +241,31 @@ stream_of (socket.Open t) = Some t
 stream_of socket.Unmade = None
 stream_of (socket.Connecting t) = Some t
 stream_of (socket.Failed t) = Some t
-stream_of (socket.Surplus t) = Some t
+stream_of (socket.NoChannelLeft t) = Some t
 stream_of socket.Closed = None
 
 -- whether data that comes in the channel is for the socket
-abbrev pub delivers_in : Line → Socket → Bool
+abbrev pub delivers_in : ChannelState → Socket → Bool
 delivers_in (Dialing dialog) s = false
 delivers_in (Asked host port version) s = false
 delivers_in (Opened version) s = false
 delivers_in (Offered remote window maximum) s = false
-delivers_in (Live live) s = not live.eof_heard && is_some (stream_of s)
+delivers_in (Live live) s = not live.eof_received && is_some (stream_of s)
 delivers_in Over s = false
 
 abbrev pub delivers : Relay → Bool
 delivers r = delivers_in r.line r.socket
 
 -- whether bytes are held that the channel doesn't take now
-abbrev pub stuck_in : Line → Bool
+abbrev pub stuck_in : ChannelState → Bool
 stuck_in (Dialing dialog) = true
 stuck_in (Asked host port version) = true
 stuck_in (Opened version) = true
 stuck_in (Offered remote window maximum) = true
-stuck_in (Live live) = live.close_said || (takes live == 0)
+stuck_in (Live live) = live.close_sent || (takes live == 0)
 stuck_in Over = true
 
-abbrev pub is_stuck : Line → List ℕ → Bool
+abbrev pub is_stuck : ChannelState → List ℕ → Bool
 is_stuck line [] = false
 is_stuck line (x ∷ xs) = stuck_in line
 
@@ -284,7 +284,7 @@ OrdersRight (Pause t) r stream = (t ≡ stream.number) × (stream.paused ≡ fal
 OrdersRight (Resume t) r stream = (t ≡ stream.number) × (stream.paused ≡ true)
     × (r.held.waiting ≡ [])
 OrdersRight (Finish t) r stream = (t ≡ stream.number) × (stream.finished ≡ false)
-    × IsTrue (hears_end r.line) × (r.queue.waiting ≡ [])
+    × IsTrue (receives_end r.line) × (r.queue.waiting ≡ [])
 OrdersRight (close.Close t) r stream = (t ≡ stream.number) × IsTrue (is_done r)
 
 -- nothing is to be ordered of its stream: it isn't to be closed; where EOF was heard and nothing waits
@@ -292,25 +292,25 @@ OrdersRight (close.Close t) r stream = (t ≡ stream.number) × IsTrue (is_done 
 -- only where bytes are held
 pub record IsResting (r : Relay) (stream : OwnStream) : Type 0 where
   pub stays : is_done r ≡ false
-  pub finished : IsTrue (hears_end r.line) → r.queue.waiting ≡ [] → IsTrue stream.finished
+  pub finished : IsTrue (receives_end r.line) → r.queue.waiting ≡ [] → IsTrue stream.finished
   pub paused : IsTrue (is_stuck r.line r.held.waiting) → IsTrue stream.paused
   pub holds : IsTrue stream.paused → 0 < length r.held.waiting
 
 -- what a relay keeps is what is left: of the bytes for the channel those not sent, and of the bytes for
 -- the socket those not taken; and, until CLOSE is said, what it owes is the room that wasn't given
 -- back
-abbrev pub OwesRight : Line → Bool → List Act → Type 0
+abbrev pub OwesRight : ChannelState → Bool → List Act → Type 0
 OwesRight (Dialing dialog) dials acts = Unit {0}
 OwesRight (Asked host port version) dials acts = Unit {0}
 OwesRight (Opened version) dials acts = Unit {0}
 OwesRight (Offered remote window maximum) dials acts = Unit {0}
 OwesRight (Live live) dials acts =
-    said_close acts ≡ false → live.owed ≡ 0 → adjusted acts ≡ taken_data dials acts
+    sent_close acts ≡ false → live.owed ≡ 0 → adjusted acts ≡ taken_data dials acts
 OwesRight Over dials acts = Unit {0}
 
 -- a channel is that of a dialog that asked for its end, if there is a dialog; one that wants more bytes
 -- is read, and behind one that broke it is over
-abbrev pub AsksRight : Line → Bool → List Act → Type 0
+abbrev pub AsksRight : ChannelState → Bool → List Act → Type 0
 AsksRight (Dialing dialog) dials acts = outcome_in (read acts) ≡ Wants
 AsksRight (Asked host port version) dials acts =
     dials ≡ true → outcome_in (read acts) ≡ Connects host port

@@ -6,17 +6,17 @@ use Rattle.socks_dialog.specs.declared.outcome.Outcome.TheVariants.{Wants, Conne
 use Rattle.socks_dialog.specs.State.{new_dialog}
 use Rattle.house_relay.specs.Acts.{outcome_in}
 use Rattle.house_relay.specs.Dialing.{IsReading, grant_of, refusal_of}
-use Rattle.house_relay.specs.Line.{counts, in_live, fresh_live, closes, answers, sends, ends, grants, hears_room, hears_eof, hears_close, hears_request, takes_in}
-use Rattle.house_relay.specs.declared.line.Line.{Line}
-use Rattle.house_relay.specs.declared.line.Line.TheVariants.{Dialing, Asked, Opened, Offered, Live, Over}
+use Rattle.house_relay.specs.ChannelState.{counts, in_live, fresh_live, closes, answers, sends, ends, grants, receives_room, receives_eof, receives_close, receives_request, takes_in}
+use Rattle.house_relay.specs.declared.line.ChannelState.{ChannelState}
+use Rattle.house_relay.specs.declared.line.ChannelState.TheVariants.{Dialing, Asked, Opened, Offered, Live, Over}
 use Rattle.house_relay.specs.declared.relay.Relay.{Relay}
-use Rattle.house_relay.specs.declared.relay.Saying.{Saying}
-use Rattle.house_relay.specs.declared.relay.Saying.TheVariants.{Open, Confirmation, OpenFailure, Close, Failure, Data, Eof, Adjust}
+use Rattle.house_relay.specs.declared.relay.Outgoing.{Outgoing}
+use Rattle.house_relay.specs.declared.relay.Outgoing.TheVariants.{Open, Confirmation, OpenFailure, Close, Failure, Data, Eof, Adjust}
 use Rattle.house_relay.specs.declared.relay.Socket.{Socket}
 use Rattle.house_relay.specs.declared.relay.Socket.TheVariants as socket
 
 -- a relay in which nothing happened yet
-abbrev pub fresh_relay : ℕ → Line → Socket → Relay
+abbrev pub fresh_relay : ℕ → ChannelState → Socket → Relay
 fresh_relay number line socket = record {
   number = number;
   line = line;
@@ -27,7 +27,7 @@ fresh_relay number line socket = record {
 }
 
 -- a channel whose end a dialog is to say, of which nothing was read yet
-abbrev pub fresh_dialing : Line
+abbrev pub fresh_dialing : ChannelState
 fresh_dialing = Dialing new_dialog
 
 -- whether nothing is left of it
@@ -36,7 +36,7 @@ is_closed (socket.Connecting stream) = false
 is_closed (socket.Open stream) = false
 is_closed socket.Unmade = false
 is_closed (socket.Failed stream) = false
-is_closed (socket.Surplus stream) = false
+is_closed (socket.NoChannelLeft stream) = false
 is_closed socket.Closed = true
 
 abbrev pub is_gone : Relay → Bool
@@ -45,55 +45,55 @@ is_gone r = is_closed r.socket && not (counts r.line)
 -- ---- the channel
 
 -- the OPEN was said
-abbrev pub said_open : Line → Line
-said_open (Dialing dialog) = Dialing dialog
-said_open (Asked host port version) = Opened version
-said_open (Opened version) = Opened version
-said_open (Offered remote window maximum) = Offered remote window maximum
-said_open (Live live) = Live live
-said_open Over = Over
+abbrev pub sent_open : ChannelState → ChannelState
+sent_open (Dialing dialog) = Dialing dialog
+sent_open (Asked host port version) = Opened version
+sent_open (Opened version) = Opened version
+sent_open (Offered remote window maximum) = Offered remote window maximum
+sent_open (Live live) = Live live
+sent_open Over = Over
 
 -- the server's OPEN was confirmed
-abbrev pub said_confirmation : Line → Line
-said_confirmation (Dialing dialog) = Dialing dialog
-said_confirmation (Asked host port version) = Asked host port version
-said_confirmation (Opened version) = Opened version
-said_confirmation (Offered remote window maximum) = Live (fresh_live remote window maximum 0)
-said_confirmation (Live live) = Live live
-said_confirmation Over = Over
+abbrev pub sent_confirmation : ChannelState → ChannelState
+sent_confirmation (Dialing dialog) = Dialing dialog
+sent_confirmation (Asked host port version) = Asked host port version
+sent_confirmation (Opened version) = Opened version
+sent_confirmation (Offered remote window maximum) = Live (fresh_live remote window maximum 0)
+sent_confirmation (Live live) = Live live
+sent_confirmation Over = Over
 
-abbrev pub on_line : (Line → Line) → Relay → Relay
+abbrev pub on_line : (ChannelState → ChannelState) → Relay → Relay
 on_line step r = record r { line = step r.line }
 
 -- this was said
-abbrev pub said_of : Saying → Relay → Relay
-said_of Open r = on_line said_open r
-said_of Confirmation r = on_line said_confirmation r
-said_of OpenFailure r = record r { line = Over }
-said_of Close r = on_line (in_live closes) r
-said_of Failure r = on_line (in_live (λ live. Live (answers live))) r
-said_of (Data n) r = record r {
+abbrev pub sent_of : Outgoing → Relay → Relay
+sent_of Open r = on_line sent_open r
+sent_of Confirmation r = on_line sent_confirmation r
+sent_of OpenFailure r = record r { line = Over }
+sent_of Close r = on_line (in_live closes) r
+sent_of Failure r = on_line (in_live (λ live. Live (answers live))) r
+sent_of (Data n) r = record r {
   line = in_live (λ live. Live (sends n live)) r.line;
   held = without_first n r.held;
 }
-said_of Eof r = on_line (in_live (λ live. Live (ends live))) r
-said_of (Adjust n) r = on_line (in_live (λ live. Live (grants n live))) r
+sent_of Eof r = on_line (in_live (λ live. Live (ends live))) r
+sent_of (Adjust n) r = on_line (in_live (λ live. Live (grants n live))) r
 
 -- room, EOF, CLOSE or a request was heard
-abbrev pub room_heard : ℕ → Line → Line
-room_heard n = in_live (λ live. Live (hears_room n live))
+abbrev pub room_received : ℕ → ChannelState → ChannelState
+room_received n = in_live (λ live. Live (receives_room n live))
 
-abbrev pub eof_heard : Line → Line
-eof_heard = in_live (λ live. Live (hears_eof live))
+abbrev pub eof_received : ChannelState → ChannelState
+eof_received = in_live (λ live. Live (receives_eof live))
 
-abbrev pub close_heard : Line → Line
-close_heard = in_live hears_close
+abbrev pub close_received : ChannelState → ChannelState
+close_received = in_live receives_close
 
-abbrev pub request_heard : Bool → Line → Line
-request_heard want = in_live (λ live. Live (hears_request want live))
+abbrev pub request_received : Bool → ChannelState → ChannelState
+request_received want = in_live (λ live. Live (receives_request want live))
 
 -- the OPEN was confirmed, and a dialog that waits for that is granted what it asked for
-abbrev pub confirmed_in : Line → ℕ → ℕ → ℕ → Relay → Relay
+abbrev pub confirmed_in : ChannelState → ℕ → ℕ → ℕ → Relay → Relay
 confirmed_in (Dialing dialog) remote window maximum r = r
 confirmed_in (Asked host port version) remote window maximum r = r
 confirmed_in (Opened version) remote window maximum r = record r {
@@ -105,7 +105,7 @@ confirmed_in (Live live) remote window maximum r = r
 confirmed_in Over remote window maximum r = r
 
 -- it was refused for this reason
-abbrev pub refused_in : Line → ℕ → Relay → Relay
+abbrev pub refused_in : ChannelState → ℕ → Relay → Relay
 refused_in (Dialing dialog) reason r = r
 refused_in (Asked host port version) reason r = r
 refused_in (Opened version) reason r =
@@ -115,9 +115,9 @@ refused_in (Live live) reason r = r
 refused_in Over reason r = r
 
 -- data was heard, which is for the socket or not
-abbrev pub data_heard : Bool → List ℕ → Relay → Relay
-data_heard true bytes r = record r { queue = with_bytes bytes r.queue }
-data_heard false bytes r = r
+abbrev pub data_received : Bool → List ℕ → Relay → Relay
+data_received true bytes r = record r { queue = with_bytes bytes r.queue }
+data_received false bytes r = r
 
 -- ---- the socket
 
@@ -139,7 +139,7 @@ connected (socket.Connecting stream) = socket.Open stream
 connected (socket.Open stream) = socket.Open stream
 connected socket.Unmade = socket.Unmade
 connected (socket.Failed stream) = socket.Failed stream
-connected (socket.Surplus stream) = socket.Surplus stream
+connected (socket.NoChannelLeft stream) = socket.NoChannelLeft stream
 connected socket.Closed = socket.Closed
 
 -- it failed
@@ -148,21 +148,21 @@ failing (socket.Connecting stream) = socket.Failed stream
 failing (socket.Open stream) = socket.Failed stream
 failing socket.Unmade = socket.Unmade
 failing (socket.Failed stream) = socket.Failed stream
-failing (socket.Surplus stream) = socket.Failed stream
+failing (socket.NoChannelLeft stream) = socket.Failed stream
 failing socket.Closed = socket.Closed
 
 -- there is no channel for it
-abbrev pub surplus_of : Socket → Socket
-surplus_of (socket.Connecting stream) = socket.Surplus stream
-surplus_of (socket.Open stream) = socket.Surplus stream
-surplus_of socket.Unmade = socket.Unmade
-surplus_of (socket.Failed stream) = socket.Surplus stream
-surplus_of (socket.Surplus stream) = socket.Surplus stream
-surplus_of socket.Closed = socket.Closed
+abbrev pub no_channel_left_of : Socket → Socket
+no_channel_left_of (socket.Connecting stream) = socket.NoChannelLeft stream
+no_channel_left_of (socket.Open stream) = socket.NoChannelLeft stream
+no_channel_left_of socket.Unmade = socket.Unmade
+no_channel_left_of (socket.Failed stream) = socket.NoChannelLeft stream
+no_channel_left_of (socket.NoChannelLeft stream) = socket.NoChannelLeft stream
+no_channel_left_of socket.Closed = socket.Closed
 
 -- ---- a dialog
 
-abbrev pub IsToDial : Line → Type 0
+abbrev pub IsToDial : ChannelState → Type 0
 IsToDial (Dialing dialog) = Unit {0}
 IsToDial (Asked host port version) = ⊥
 IsToDial (Opened version) = ⊥
@@ -171,7 +171,7 @@ IsToDial (Live live) = ⊥
 IsToDial Over = ⊥
 
 -- an OPEN to this end is to be said
-abbrev pub IsAskedFor : List ℕ → ℕ → Line → Type 0
+abbrev pub IsAskedFor : List ℕ → ℕ → ChannelState → Type 0
 IsAskedFor host port (Dialing dialog) = ⊥
 IsAskedFor host port (Asked host' port' version) = (host' ≡ host) × (port' ≡ port)
 IsAskedFor host port (Opened version) = ⊥
@@ -186,7 +186,7 @@ ComesOf Wants free old new = IsToDial new.line × (new.socket ≡ old.socket)
 ComesOf (Connects host port) true old new =
     IsAskedFor host port new.line × (new.socket ≡ old.socket)
 ComesOf (Connects host port) false old new =
-    (new.line ≡ Over) × (new.socket ≡ surplus_of old.socket)
+    (new.line ≡ Over) × (new.socket ≡ no_channel_left_of old.socket)
 ComesOf (Breaks reply) free old new = (new.line ≡ Over) × (new.socket ≡ old.socket)
 
 -- nothing but what is held changed
@@ -194,7 +194,7 @@ abbrev pub SameChannel : Relay → Relay → Type 0
 SameChannel old new = (new.line ≡ old.line) × (new.socket ≡ old.socket) × (new.queue ≡ old.queue)
 
 -- bytes go into the dialog that is read, and where none is they change nothing of the channel
-abbrev pub DialsIn : Line → Bool → List ℕ → Relay → Relay → Type 0
+abbrev pub DialsIn : ChannelState → Bool → List ℕ → Relay → Relay → Type 0
 DialsIn (Dialing dialog) free bytes old new =
     IsReading dialog → ComesOf (outcome_in (dialog.bytes ++ bytes)) free old new
 DialsIn (Asked host port version) free bytes old new = SameChannel old new

@@ -1,7 +1,7 @@
 //! The dialog of SOCKS in front of a relay.
 ghost use Rattle.std.specs.Prelude.{◌≡◌, ◌≤◌, length, IfOk, OnOk};
 ghost use Rattle.socks_dialog.specs.State.{HasConnect, GivesConnect, version_of};
-ghost use Rattle.house_relay.specs.Dialing.{GivesAll, GaveSome, IsCame, IsReading, IsHeard, grant_of, refusal_of};
+ghost use Rattle.house_relay.specs.Dialing.{GivesAll, GaveSome, IsCame, IsReading, IsReceived, grant_of, refusal_of};
 ghost use Rattle.proxy_frames.specs.Queued.{with_bytes};
 
 use proxy_frames::Queue;
@@ -62,10 +62,10 @@ fn came_by(step: Step, dialog: &Dialog, queue: &mut Queue) -> Result<Came, OutOf
 }
 
 /// More bytes of the client of a dialog, whose replies go into the queue.
-pub fn hear(dialog: &mut Dialog, bytes: &[u8], queue: &mut Queue) -> Result<Heard, OutOfMemory>
+pub fn receive(dialog: &mut Dialog, bytes: &[u8], queue: &mut Queue) -> Result<Heard, OutOfMemory>
     ensures within { IfOk result (λ heard. heard.count ≤ length bytes.now) }
     ensures heard { IfOk result (λ heard. IsReading dialog.old
-        → IsHeard dialog.old dialog.new bytes.now heard queue.old queue.new) }
+        → IsReceived dialog.old dialog.new bytes.now heard queue.old queue.new) }
 {
     let count = dialog.push(bytes);
     let step = next(dialog, queue)?;

@@ -2,7 +2,7 @@
 
 ghost use Rattle.std.specs.Prelude.{◌≡◌, [], false, Bool, List, Some, None};
 ghost use Rattle.house_relay.specs.Acts.{Act, Relays};
-ghost use Rattle.house_relay.specs.Next.{says_of, orders_of};
+ghost use Rattle.house_relay.specs.Next.{sends_of, orders_of};
 ghost use Rattle.house_relay.specs.Relay.{Stands, Keeps, SilentIn, IsResting, stream_of};
 ghost use Rattle.mux_outside.specs.declared.own_streams.OwnStream.{OwnStream as TheStream};
 ghost use Rattle.house_relay.specs.declared.relay.Relay.{Relay as TheRelay};
@@ -20,7 +20,7 @@ pub fn relays_relay()
 
 /// A relay that has nothing to say, and nothing to order of its stream, is at rest.
 pub fn relays_that_want_nothing_rest()
-    ensures silent { (r : TheRelay) → says_of r ≡ None → SilentIn r.line r }
+    ensures silent { (r : TheRelay) → sends_of r ≡ None → SilentIn r.line r }
     ensures rests { (r : TheRelay) (stream : TheStream) → stream_of r.socket ≡ Some stream.number
         → orders_of r stream ≡ None → IsResting r stream }
 {}

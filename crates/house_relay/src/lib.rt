@@ -20,8 +20,8 @@ pub mod laws;
 mod line;
 mod relay;
 
-pub use line::{Line, Live};
-pub use relay::{Relay, Saying, Socket};
+pub use line::{ChannelState, Live};
+pub use relay::{Outgoing, Relay, Socket};
 
 /// The window of each channel: what may be under way before the socket has taken it.
 pub const WINDOW: u32 = 2_097_152;

@@ -1,6 +1,6 @@
 //! The channel's side of a relay.
 ghost use Rattle.std.specs.Prelude.{◌≡◌, ◌≤◌, ◌<◌, ◌+◌, ◌-◌, ◌^◌};
-ghost use Rattle.house_relay.specs.Line.{counts, has_no_more, hears_end, fresh_live, takes, closes, answers, sends, ends, grants, hears_room, hears_eof, hears_close, hears_request, takes_more, takes_in, owed_in};
+ghost use Rattle.house_relay.specs.ChannelState.{counts, has_no_more, receives_end, fresh_live, takes, closes, answers, sends, ends, grants, receives_room, receives_eof, receives_close, receives_request, takes_more, takes_in, owed_in};
 ghost use Rattle.house_relay.specs.Relay.{stuck_in};
 
 use socks_dialog::Dialog;
@@ -15,10 +15,10 @@ pub struct Live {
     pub room: u32,
     /// The longest data that it takes in one message.
     pub maximum: u32,
-    pub eof_said: bool,
-    pub eof_heard: bool,
-    pub close_said: bool,
-    pub close_heard: bool,
+    pub eof_sent: bool,
+    pub eof_received: bool,
+    pub close_sent: bool,
+    pub close_received: bool,
     /// Channel requests of the server that want a reply and have none.
     pub failures: u32,
     /// Bytes that the socket took and that weren't given back to the window.
@@ -29,7 +29,7 @@ pub struct Live {
 
 /// How a channel stands.
 #[derive(Drop)]
-pub enum Line {
+pub enum ChannelState {
     /// A dialog is read, which says to which end the OPEN is.
     Dialing(Dialog),
     /// The OPEN to this end is to be said.
@@ -56,14 +56,17 @@ pub enum Line {
     Over,
 }
 
-impl Line {
+impl ChannelState {
     /// Whether it counts as a channel.
     pub fn counts(&self) -> bool
         ensures { result ≡ counts self.now }
     {
         match self {
-            Line::Dialing(_) | Line::Over => false,
-            Line::Asked { .. } | Line::Opened { .. } | Line::Offered { .. } | Line::Live(_) => true,
+            ChannelState::Dialing(_) | ChannelState::Over => false,
+            ChannelState::Asked { .. }
+            | ChannelState::Opened { .. }
+            | ChannelState::Offered { .. }
+            | ChannelState::Live(_) => true,
         }
     }
 
@@ -72,24 +75,26 @@ impl Line {
         ensures { result ≡ has_no_more ended self.now }
     {
         match self {
-            Line::Dialing(_) => ended,
-            Line::Over => true,
-            Line::Asked { .. } | Line::Opened { .. } | Line::Offered { .. } | Line::Live(_) =>
-                false,
+            ChannelState::Dialing(_) => ended,
+            ChannelState::Over => true,
+            ChannelState::Asked { .. }
+            | ChannelState::Opened { .. }
+            | ChannelState::Offered { .. }
+            | ChannelState::Live(_) => false,
         }
     }
 
     /// Whether the server's EOF came.
     pub fn is_ended(&self) -> bool
-        ensures { result ≡ hears_end self.now }
+        ensures { result ≡ receives_end self.now }
     {
         match self {
-            Line::Live(live) => live.eof_heard,
-            Line::Dialing(_)
-            | Line::Asked { .. }
-            | Line::Opened { .. }
-            | Line::Offered { .. }
-            | Line::Over => false,
+            ChannelState::Live(live) => live.eof_received,
+            ChannelState::Dialing(_)
+            | ChannelState::Asked { .. }
+            | ChannelState::Opened { .. }
+            | ChannelState::Offered { .. }
+            | ChannelState::Over => false,
         }
     }
 
@@ -98,7 +103,7 @@ impl Line {
         ensures taken { owed_in self.old + n < 2 ^ 64 → self.new ≡ takes_in n self.old }
         ensures stuck { stuck_in self.new ≡ stuck_in self.old }
     {
-        if let Line::Live(live) = self {
+        if let ChannelState::Live(live) = self {
             *live = live.takes_more(n);
         }
     }
@@ -113,10 +118,10 @@ impl Live {
             remote,
             room: window,
             maximum,
-            eof_said: false,
-            eof_heard: false,
-            close_said: false,
-            close_heard: false,
+            eof_sent: false,
+            eof_received: false,
+            close_sent: false,
+            close_received: false,
             failures: 0,
             owed: 0,
             replies,
@@ -133,14 +138,14 @@ impl Live {
     // ---- what is said
 
     /// CLOSE is said.
-    pub fn closes(self) -> Line
+    pub fn closes(self) -> ChannelState
         ensures { result ≡ closes self }
     {
-        if self.close_heard {
-            Line::Over
+        if self.close_received {
+            ChannelState::Over
         } else {
-            Line::Live(Live {
-                close_said: true,
+            ChannelState::Live(Live {
+                close_sent: true,
                 failures: 0,
                 owed: 0,
                 ..self
@@ -174,7 +179,7 @@ impl Live {
         ensures { result ≡ ends self }
     {
         Live {
-            eof_said: true,
+            eof_sent: true,
             ..self
         }
     }
@@ -193,8 +198,8 @@ impl Live {
     // ---- what is heard
 
     /// Room for so many bytes more, of which there is never too much.
-    pub fn hears_room(self, n: u32) -> Live
-        ensures { result ≡ hears_room n self }
+    pub fn receives_room(self, n: u32) -> Live
+        ensures { result ≡ receives_room n self }
     {
         match self.room.checked_add(n) {
             Some(room) => Live { room, ..self },
@@ -203,34 +208,34 @@ impl Live {
     }
 
     /// EOF is heard.
-    pub fn hears_eof(self) -> Live
-        ensures { result ≡ hears_eof self }
+    pub fn receives_eof(self) -> Live
+        ensures { result ≡ receives_eof self }
     {
         Live {
-            eof_heard: true,
+            eof_received: true,
             ..self
         }
     }
 
     /// CLOSE is heard.
-    pub fn hears_close(self) -> Line
-        ensures { result ≡ hears_close self }
+    pub fn receives_close(self) -> ChannelState
+        ensures { result ≡ receives_close self }
     {
-        if self.close_said {
-            Line::Over
+        if self.close_sent {
+            ChannelState::Over
         } else {
-            Line::Live(Live {
-                close_heard: true,
+            ChannelState::Live(Live {
+                close_received: true,
                 ..self
             })
         }
     }
 
     /// A request is heard, and whether it wants a reply.
-    pub fn hears_request(self, want: bool) -> Live
-        ensures { result ≡ hears_request want self }
+    pub fn receives_request(self, want: bool) -> Live
+        ensures { result ≡ receives_request want self }
     {
-        if want && !self.close_said {
+        if want && !self.close_sent {
             Live {
                 failures: self.failures.saturating_add(1),
                 ..self
@@ -246,7 +251,7 @@ impl Live {
         ensures others { result
             ≡ record self { owed = result.owed; replies = result.replies } }
     {
-        if self.close_said {
+        if self.close_sent {
             self
         } else {
             let data = n.saturating_sub(self.replies);

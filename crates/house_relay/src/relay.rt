@@ -1,16 +1,16 @@
 //! One relay: a channel and a socket.
 ghost use Rattle.std.specs.Prelude.{◌≡◌, ◌+◌, ◌≤◌, ◌<◌, ◌^◌, ◌++◌, ℕ, List, [], true, false, if◌then◌else◌, length, take, drop, min, IfSome, OnOk, IfOk, None, Some, IsTrue};
-ghost use Rattle.house_relay.specs.Acts.{Act, Reads, Ends, Takes, Fails, Confirms, Refuses, Delivers, HearsEof, HearsClose, SaysData, SaysAdjust, SaysEof, SaysClose, Other};
-ghost use Rattle.house_relay.specs.Next.{says_of, says_offered, says_live, orders_of};
-ghost use Rattle.house_relay.specs.Relay.{Stands, GoesOn, IsSaying, said_act, SilentIn, is_broken, is_finished, stream_of, delivers, IsOffered, OrdersRight, IsResting, is_stuck, stuck_in, heard_in, answered_in, MayRead, holding};
-ghost use Rattle.house_relay.specs.Line.{owed_in};
-ghost use Rattle.house_relay.specs.Steps.{said_of, made_as, connected, failing, taken_of, confirmed_in, refused_in, on_line, room_heard, eof_heard, close_heard, request_heard, data_heard, surplus_of, Dials, fresh_relay, is_gone};
+ghost use Rattle.house_relay.specs.Acts.{Act, Reads, Ends, Takes, Fails, Confirms, Refuses, Delivers, ReceivesEof, ReceivesClose, SendsData, SendsAdjust, SendsEof, SendsClose, Other};
+ghost use Rattle.house_relay.specs.Next.{sends_of, sends_offered, sends_live, orders_of};
+ghost use Rattle.house_relay.specs.Relay.{Stands, GoesOn, IsSending, sent_act, SilentIn, is_broken, is_finished, stream_of, delivers, IsOffered, OrdersRight, IsResting, is_stuck, stuck_in, received_in, answered_in, MayRead, holding};
+ghost use Rattle.house_relay.specs.ChannelState.{owed_in};
+ghost use Rattle.house_relay.specs.Steps.{sent_of, made_as, connected, failing, taken_of, confirmed_in, refused_in, on_line, room_received, eof_received, close_received, request_received, data_received, no_channel_left_of, Dials, fresh_relay, is_gone};
 ghost use Rattle.proxy_frames.specs.Queued.{without_first};
 ghost use Rattle.socks_dialog.specs.State.{new_dialog};
 
 use crate::MAXIMUM;
-use crate::dialing::{Came, Heard, grant, hear, refuse};
-use crate::line::{Line, Live};
+use crate::dialing::{Came, Heard, grant, receive, refuse};
+use crate::line::{ChannelState, Live};
 use mux_outside::{Order, OwnStream};
 use proxy_frames::Queue;
 use socks_dialog::Dialog;
@@ -29,14 +29,14 @@ pub enum Socket {
     /// It failed, and is to be closed.
     Failed(u64),
     /// There was no channel left for it, and it is to be closed.
-    Surplus(u64),
+    NoChannelLeft(u64),
     /// It is closed, or never was.
     Closed,
 }
 
 /// What a relay says next.
 #[derive(Clone, Copy, PartialEq, Eq)]
-pub enum Saying {
+pub enum Outgoing {
     Open,
     Confirmation,
     OpenFailure,
@@ -54,7 +54,7 @@ pub enum Saying {
 pub struct Relay {
     /// The house's own number of the channel.
     pub number: u32,
-    pub line: Line,
+    pub line: ChannelState,
     pub socket: Socket,
     /// Whether the socket has given its end.
     pub ended: bool,
@@ -66,7 +66,7 @@ pub struct Relay {
 
 impl Relay {
     /// A relay in which nothing happened yet.
-    fn begun(alloc: Global, number: u32, line: Line, socket: Socket) -> Relay
+    fn begun(alloc: Global, number: u32, line: ChannelState, socket: Socket) -> Relay
         ensures { result ≡ fresh_relay number line socket }
     {
         Relay {
@@ -83,12 +83,12 @@ impl Relay {
     pub fn joined(alloc: Global, number: u32, stream: u64, host: Text, port: u32) -> Relay
         ensures stands { Stands false [] result }
         ensures exact { result
-            ≡ fresh_relay number (Line.Asked host port None) (Socket.Open stream) }
+            ≡ fresh_relay number (ChannelState.Asked host port None) (Socket.Open stream) }
     {
         Relay::begun(
             alloc,
             number,
-            Line::Asked {
+            ChannelState::Asked {
                 host,
                 port,
                 version: None,
@@ -101,34 +101,39 @@ impl Relay {
     pub fn dynamic(alloc: Global, number: u32, stream: u64) -> Relay
         ensures stands { Stands true [] result }
         ensures exact { result
-            ≡ fresh_relay number (Line.Dialing new_dialog) (Socket.Open stream) }
+            ≡ fresh_relay number (ChannelState.Dialing new_dialog) (Socket.Open stream) }
     {
         Relay::begun(
             alloc,
             number,
-            Line::Dialing(Dialog::new()),
+            ChannelState::Dialing(Dialog::new()),
             Socket::Open(stream),
         )
     }
 
     /// A socket that was joined, and for which there is no channel.
-    pub fn surplus(alloc: Global, number: u32, stream: u64) -> Relay
+    pub fn no_channel_left(alloc: Global, number: u32, stream: u64) -> Relay
         ensures stands { Stands false [] result }
-        ensures exact { result ≡ fresh_relay number Line.Over (Socket.Surplus stream) }
+        ensures exact { result ≡ fresh_relay number ChannelState.Over (Socket.NoChannelLeft stream) }
     {
-        Relay::begun(alloc, number, Line::Over, Socket::Surplus(stream))
+        Relay::begun(
+            alloc,
+            number,
+            ChannelState::Over,
+            Socket::NoChannelLeft(stream),
+        )
     }
 
     /// An OPEN of the server, for which a socket is to be connected.
     pub fn offered(alloc: Global, number: u32, remote: u32, window: u32, maximum: u32) -> Relay
         ensures stands { Stands false [] result }
         ensures exact { result
-            ≡ fresh_relay number (Line.Offered remote window maximum) Socket.Unmade }
+            ≡ fresh_relay number (ChannelState.Offered remote window maximum) Socket.Unmade }
     {
         Relay::begun(
             alloc,
             number,
-            Line::Offered {
+            ChannelState::Offered {
                 remote,
                 window,
                 maximum,
@@ -145,7 +150,7 @@ impl Relay {
             Socket::Connecting(stream)
             | Socket::Open(stream)
             | Socket::Failed(stream)
-            | Socket::Surplus(stream) => Some(stream),
+            | Socket::NoChannelLeft(stream) => Some(stream),
             Socket::Unmade | Socket::Closed => None,
         }
     }
@@ -160,7 +165,7 @@ impl Relay {
             | Socket::Connecting(_)
             | Socket::Open(_)
             | Socket::Failed(_)
-            | Socket::Surplus(_) => false,
+            | Socket::NoChannelLeft(_) => false,
         }
     }
 
@@ -169,7 +174,7 @@ impl Relay {
         ensures { result ≡ is_broken self.now.socket }
     {
         match self.socket {
-            Socket::Failed(_) | Socket::Surplus(_) | Socket::Closed => true,
+            Socket::Failed(_) | Socket::NoChannelLeft(_) | Socket::Closed => true,
             Socket::Unmade | Socket::Connecting(_) | Socket::Open(_) => false,
         }
     }
@@ -177,65 +182,67 @@ impl Relay {
     // ---- what it says
 
     /// What it says next.
-    pub fn says(&self) -> Option<Saying>
-        ensures may { IfSome result (λ saying. IsSaying saying self.now) }
+    pub fn says(&self) -> Option<Outgoing>
+        ensures may { IfSome result (λ outgoing. IsSending outgoing self.now) }
         ensures silent { result ≡ None → SilentIn self.now.line self.now }
-        ensures exact { result ≡ says_of self.now }
+        ensures exact { result ≡ sends_of self.now }
     {
         match &self.line {
-            Line::Asked { .. } => Some(Saying::Open),
-            Line::Dialing(_) => None,
-            Line::Opened { .. } => None,
-            Line::Over => None,
-            Line::Offered { .. } => self.says_offered(),
-            Line::Live(live) => self.says_live(*live),
+            ChannelState::Asked { .. } => Some(Outgoing::Open),
+            ChannelState::Dialing(_) => None,
+            ChannelState::Opened { .. } => None,
+            ChannelState::Over => None,
+            ChannelState::Offered { .. } => self.sends_offered(),
+            ChannelState::Live(live) => self.sends_live(*live),
         }
     }
 
     /// What it says to an OPEN of the server.
-    fn says_offered(&self) -> Option<Saying>
+    fn sends_offered(&self) -> Option<Outgoing>
         requires { IsOffered self.now.line }
-        ensures may { IfSome result (λ saying. IsSaying saying self.now) }
+        ensures may { IfSome result (λ outgoing. IsSending outgoing self.now) }
         ensures silent { result ≡ None → is_broken self.now.socket ≡ false }
-        ensures exact { result ≡ says_offered self.now.socket }
+        ensures exact { result ≡ sends_offered self.now.socket }
     {
         match self.socket {
-            Socket::Open(_) => Some(Saying::Confirmation),
-            Socket::Failed(_) | Socket::Surplus(_) | Socket::Closed => Some(Saying::OpenFailure),
+            Socket::Open(_) => Some(Outgoing::Confirmation),
+            Socket::Failed(_) | Socket::NoChannelLeft(_) | Socket::Closed => Some(
+                Outgoing::OpenFailure,
+            ),
             Socket::Unmade | Socket::Connecting(_) => None,
         }
     }
 
     /// What it says in a channel that is confirmed.
-    fn says_live(&self, live: Live) -> Option<Saying>
-        requires { self.now.line ≡ Line.Live live }
-        ensures may { IfSome result (λ saying. IsSaying saying self.now) }
-        ensures silent { result ≡ None → SilentIn (Line.Live live) self.now }
-        ensures exact { result ≡ says_live self.now live }
+    fn sends_live(&self, live: Live) -> Option<Outgoing>
+        requires { self.now.line ≡ ChannelState.Live live }
+        ensures may { IfSome result (λ outgoing. IsSending outgoing self.now) }
+        ensures silent { result ≡ None → SilentIn (ChannelState.Live live) self.now }
+        ensures exact { result ≡ sends_live self.now live }
     {
-        if live.close_said {
+        if live.close_sent {
             return None;
         }
         if self.is_finished(live) {
-            return Some(Saying::Close);
+            return Some(Outgoing::Close);
         }
         if live.failures > 0 {
-            return Some(Saying::Failure);
+            return Some(Outgoing::Failure);
         }
         if live.owed > 0 {
-            return Some(Saying::Adjust(u32::try_from(live.owed).unwrap_or(u32::MAX)));
+            return Some(Outgoing::Adjust(u32::try_from(live.owed).unwrap_or(u32::MAX)));
         }
         let held = self.held.len();
         if held > 0 {
             let takes = at_most(live.takes().min(MAXIMUM), held);
             return if takes > 0 {
-                Some(Saying::Data(takes))
+                Some(Outgoing::Data(takes))
             } else {
                 None
             };
         }
-        if self.ended && !live.eof_said {
-            return Some(Saying::Eof);
+        if self.ended && !live.eof_sent {
+            return Some(Outgoing::Eof);
         }
         None
     }
@@ -245,95 +252,95 @@ impl Relay {
         ensures { result ≡ is_finished self.now.socket self.now.queue.waiting live }
     {
         self.is_broken()
-            || live.close_heard
-            || (live.eof_said && live.eof_heard && self.queue.is_empty())
+            || live.close_received
+            || (live.eof_sent && live.eof_received && self.queue.is_empty())
     }
 
     /// It said this.
-    pub fn said(&mut self, saying: Saying)
-        requires { IsSaying saying self.old }
-        ensures stands { GoesOn self.old self.new (said_act saying self.old) }
-        ensures exact { self.new ≡ said_of saying self.old }
+    pub fn said(&mut self, outgoing: Outgoing)
+        requires { IsSending outgoing self.old }
+        ensures stands { GoesOn self.old self.new (sent_act outgoing self.old) }
+        ensures exact { self.new ≡ sent_of outgoing self.old }
     {
-        match saying {
-            Saying::Open => self.said_open(),
-            Saying::Confirmation => self.said_confirmation(),
-            Saying::OpenFailure => self.line = Line::Over,
-            Saying::Close => self.said_close(),
-            Saying::Failure => self.said_failure(),
-            Saying::Data(count) => self.said_data(count),
-            Saying::Eof => self.said_eof(),
-            Saying::Adjust(n) => self.said_adjust(n),
+        match outgoing {
+            Outgoing::Open => self.sent_open(),
+            Outgoing::Confirmation => self.sent_confirmation(),
+            Outgoing::OpenFailure => self.line = ChannelState::Over,
+            Outgoing::Close => self.sent_close(),
+            Outgoing::Failure => self.sent_failure(),
+            Outgoing::Data(count) => self.sent_data(count),
+            Outgoing::Eof => self.sent_eof(),
+            Outgoing::Adjust(n) => self.sent_adjust(n),
         }
     }
 
-    fn said_open(&mut self)
-        ensures stands { IsSaying Saying.Open self.old → GoesOn self.old self.new Other }
-        ensures exact { self.new ≡ said_of Saying.Open self.old }
+    fn sent_open(&mut self)
+        ensures stands { IsSending Outgoing.Open self.old → GoesOn self.old self.new Other }
+        ensures exact { self.new ≡ sent_of Outgoing.Open self.old }
     {
-        if let Line::Asked { version, .. } = self.line {
-            self.line = Line::Opened { version };
+        if let ChannelState::Asked { version, .. } = self.line {
+            self.line = ChannelState::Opened { version };
         }
     }
 
-    fn said_confirmation(&mut self)
-        ensures stands { IsSaying Saying.Confirmation self.old → GoesOn self.old self.new Other }
-        ensures exact { self.new ≡ said_of Saying.Confirmation self.old }
+    fn sent_confirmation(&mut self)
+        ensures stands { IsSending Outgoing.Confirmation self.old → GoesOn self.old self.new Other }
+        ensures exact { self.new ≡ sent_of Outgoing.Confirmation self.old }
     {
-        if let Line::Offered {
+        if let ChannelState::Offered {
             remote,
             window,
             maximum,
         } = self.line
         {
-            self.line = Line::Live(Live::new(remote, window, maximum, 0));
+            self.line = ChannelState::Live(Live::new(remote, window, maximum, 0));
         }
     }
 
-    fn said_close(&mut self)
-        ensures stands { IsSaying Saying.Close self.old → GoesOn self.old self.new SaysClose }
-        ensures exact { self.new ≡ said_of Saying.Close self.old }
+    fn sent_close(&mut self)
+        ensures stands { IsSending Outgoing.Close self.old → GoesOn self.old self.new SendsClose }
+        ensures exact { self.new ≡ sent_of Outgoing.Close self.old }
     {
-        if let Line::Live(live) = self.line {
+        if let ChannelState::Live(live) = self.line {
             self.line = live.closes();
         }
     }
 
-    fn said_failure(&mut self)
-        ensures stands { IsSaying Saying.Failure self.old → GoesOn self.old self.new Other }
-        ensures exact { self.new ≡ said_of Saying.Failure self.old }
+    fn sent_failure(&mut self)
+        ensures stands { IsSending Outgoing.Failure self.old → GoesOn self.old self.new Other }
+        ensures exact { self.new ≡ sent_of Outgoing.Failure self.old }
     {
-        if let Line::Live(live) = &mut self.line {
+        if let ChannelState::Live(live) = &mut self.line {
             *live = live.answers();
         }
     }
 
-    fn said_data(&mut self, count: u32)
-        requires { IsSaying (Saying.Data count) self.old }
-        ensures stands { GoesOn self.old self.new (SaysData (take count self.old.held.waiting)) }
-        ensures exact { self.new ≡ said_of (Saying.Data count) self.old }
+    fn sent_data(&mut self, count: u32)
+        requires { IsSending (Outgoing.Data count) self.old }
+        ensures stands { GoesOn self.old self.new (SendsData (take count self.old.held.waiting)) }
+        ensures exact { self.new ≡ sent_of (Outgoing.Data count) self.old }
     {
-        if let Line::Live(live) = &mut self.line {
+        if let ChannelState::Live(live) = &mut self.line {
             self.held.took(count as usize);
             *live = live.sends(count);
         }
     }
 
-    fn said_eof(&mut self)
-        ensures stands { IsSaying Saying.Eof self.old → GoesOn self.old self.new SaysEof }
-        ensures exact { self.new ≡ said_of Saying.Eof self.old }
+    fn sent_eof(&mut self)
+        ensures stands { IsSending Outgoing.Eof self.old → GoesOn self.old self.new SendsEof }
+        ensures exact { self.new ≡ sent_of Outgoing.Eof self.old }
     {
-        if let Line::Live(live) = &mut self.line {
+        if let ChannelState::Live(live) = &mut self.line {
             *live = live.ends();
         }
     }
 
-    fn said_adjust(&mut self, n: u32)
-        requires { IsSaying (Saying.Adjust n) self.old }
-        ensures stands { GoesOn self.old self.new (SaysAdjust n) }
-        ensures exact { self.new ≡ said_of (Saying.Adjust n) self.old }
+    fn sent_adjust(&mut self, n: u32)
+        requires { IsSending (Outgoing.Adjust n) self.old }
+        ensures stands { GoesOn self.old self.new (SendsAdjust n) }
+        ensures exact { self.new ≡ sent_of (Outgoing.Adjust n) self.old }
     {
-        if let Line::Live(live) = &mut self.line {
+        if let ChannelState::Live(live) = &mut self.line {
             *live = live.grants(n);
         }
     }
@@ -349,7 +356,7 @@ impl Relay {
     {
         let t = stream.number;
         match self.socket {
-            Socket::Failed(_) | Socket::Surplus(_) => return Some(Order::Close(t)),
+            Socket::Failed(_) | Socket::NoChannelLeft(_) => return Some(Order::Close(t)),
             Socket::Open(_) | Socket::Connecting(_) => {}
             Socket::Unmade | Socket::Closed => return None,
         }
@@ -376,12 +383,12 @@ impl Relay {
             return false;
         }
         match &self.line {
-            Line::Live(live) => live.close_said || live.takes() == 0,
-            Line::Dialing(_)
-            | Line::Asked { .. }
-            | Line::Opened { .. }
-            | Line::Offered { .. }
-            | Line::Over => true,
+            ChannelState::Live(live) => live.close_sent || live.takes() == 0,
+            ChannelState::Dialing(_)
+            | ChannelState::Asked { .. }
+            | ChannelState::Opened { .. }
+            | ChannelState::Offered { .. }
+            | ChannelState::Over => true,
         }
     }
 
@@ -436,10 +443,10 @@ impl Relay {
           queue = self.new.queue;
         } }
     {
-        let Line::Dialing(dialog) = &mut self.line else {
+        let ChannelState::Dialing(dialog) = &mut self.line else {
             return Ok(0);
         };
-        let Heard { count, came } = hear(dialog, bytes, &mut self.queue)?;
+        let Heard { count, came } = receive(dialog, bytes, &mut self.queue)?;
         match came {
             Came::Nothing => {}
             Came::Connect {
@@ -450,7 +457,7 @@ impl Relay {
                 let host = Text::copy(alloc, host.as_bytes())?;
                 self.asks(host, u32::from(port), version, free);
             }
-            Came::Fault => self.line = Line::Over,
+            Came::Fault => self.line = ChannelState::Over,
         }
         Ok(count)
     }
@@ -458,23 +465,23 @@ impl Relay {
     /// Its dialog asks for a channel to this end, and one is free or not.
     fn asks(&mut self, host: Text, port: u32, version: u8, free: bool)
         ensures line { self.new.line
-            ≡ (if free then Line.Asked host port (Some version) else Line.Over) }
+            ≡ (if free then ChannelState.Asked host port (Some version) else ChannelState.Over) }
         ensures socket { self.new.socket
-            ≡ (if free then self.old.socket else surplus_of self.old.socket) }
+            ≡ (if free then self.old.socket else no_channel_left_of self.old.socket) }
         ensures others { self.new
             ≡ record self.old { line = self.new.line; socket = self.new.socket } }
     {
         if free {
-            self.line = Line::Asked {
+            self.line = ChannelState::Asked {
                 host,
                 port,
                 version: Some(version),
             };
             return;
         }
-        self.line = Line::Over;
+        self.line = ChannelState::Over;
         if let Some(stream) = self.stream() {
-            self.socket = Socket::Surplus(stream);
+            self.socket = Socket::NoChannelLeft(stream);
         }
     }
 
@@ -532,12 +539,12 @@ impl Relay {
             (self.new ≡ confirmed_in self.old.line remote window maximum self.old) }
         ensures held { self.new.held ≡ self.old.held }
     {
-        let Line::Opened { version } = self.line else {
+        let ChannelState::Opened { version } = self.line else {
             return Ok(());
         };
         grant(version, &mut self.queue)?;
         let replies = self.queue.len();
-        self.line = Line::Live(Live::new(remote, window, maximum, replies));
+        self.line = ChannelState::Live(Live::new(remote, window, maximum, replies));
         Ok(())
     }
 
@@ -548,21 +555,21 @@ impl Relay {
         ensures exact { OnOk result (self.new ≡ refused_in self.old.line reason self.old) }
         ensures held { self.new.held ≡ self.old.held }
     {
-        let Line::Opened { version } = self.line else {
+        let ChannelState::Opened { version } = self.line else {
             return Ok(());
         };
         refuse(version, reason, &mut self.queue)?;
-        self.line = Line::Over;
+        self.line = ChannelState::Over;
         Ok(())
     }
 
     /// Room for more bytes in the channel.
-    pub fn hears_room(&mut self, n: u32)
+    pub fn receives_room(&mut self, n: u32)
         ensures stands { GoesOn self.old self.new Other }
-        ensures exact { self.new ≡ on_line (room_heard n) self.old }
+        ensures exact { self.new ≡ on_line (room_received n) self.old }
     {
-        if let Line::Live(live) = &mut self.line {
-            *live = live.hears_room(n);
+        if let ChannelState::Live(live) = &mut self.line {
+            *live = live.receives_room(n);
         }
     }
 
@@ -572,21 +579,21 @@ impl Relay {
         ensures { result ≡ delivers self.now }
     {
         match &self.line {
-            Line::Live(live) => !live.eof_heard && self.stream().is_some(),
-            Line::Dialing(_)
-            | Line::Asked { .. }
-            | Line::Opened { .. }
-            | Line::Offered { .. }
-            | Line::Over => false,
+            ChannelState::Live(live) => !live.eof_received && self.stream().is_some(),
+            ChannelState::Dialing(_)
+            | ChannelState::Asked { .. }
+            | ChannelState::Opened { .. }
+            | ChannelState::Offered { .. }
+            | ChannelState::Over => false,
         }
     }
 
     /// Data in the channel; whether it is delivered to the socket.
-    pub fn hears_data(&mut self, bytes: &[u8]) -> Result<bool, OutOfMemory>
+    pub fn receives_data(&mut self, bytes: &[u8]) -> Result<bool, OutOfMemory>
         ensures stands { IfOk result (λ is. GoesOn self.old self.new
             (if is then Delivers bytes.now else Other)) }
         ensures exact { IfOk result (λ is. is ≡ delivers self.old) }
-        ensures queue { IfOk result (λ is. self.new ≡ data_heard is bytes.now self.old) }
+        ensures queue { IfOk result (λ is. self.new ≡ data_received is bytes.now self.old) }
         ensures held { self.new.held ≡ self.old.held }
     {
         if self.delivers() {
@@ -597,42 +604,42 @@ impl Relay {
     }
 
     /// The server ends its data.
-    pub fn hears_eof(&mut self)
-        ensures stands { GoesOn self.old self.new (heard_in self.old.line HearsEof) }
-        ensures exact { self.new ≡ on_line eof_heard self.old }
+    pub fn receives_eof(&mut self)
+        ensures stands { GoesOn self.old self.new (received_in self.old.line ReceivesEof) }
+        ensures exact { self.new ≡ on_line eof_received self.old }
     {
         match &mut self.line {
-            Line::Live(live) => *live = live.hears_eof(),
-            Line::Dialing(_) => {}
-            Line::Asked { .. } => {}
-            Line::Opened { .. } => {}
-            Line::Offered { .. } => {}
-            Line::Over => {}
+            ChannelState::Live(live) => *live = live.receives_eof(),
+            ChannelState::Dialing(_) => {}
+            ChannelState::Asked { .. } => {}
+            ChannelState::Opened { .. } => {}
+            ChannelState::Offered { .. } => {}
+            ChannelState::Over => {}
         }
     }
 
     /// The server closes the channel.
-    pub fn hears_close(&mut self)
-        ensures stands { GoesOn self.old self.new (heard_in self.old.line HearsClose) }
-        ensures exact { self.new ≡ on_line close_heard self.old }
+    pub fn receives_close(&mut self)
+        ensures stands { GoesOn self.old self.new (received_in self.old.line ReceivesClose) }
+        ensures exact { self.new ≡ on_line close_received self.old }
     {
         match self.line {
-            Line::Live(live) => self.line = live.hears_close(),
-            Line::Dialing(_) => {}
-            Line::Asked { .. } => {}
-            Line::Opened { .. } => {}
-            Line::Offered { .. } => {}
-            Line::Over => {}
+            ChannelState::Live(live) => self.line = live.receives_close(),
+            ChannelState::Dialing(_) => {}
+            ChannelState::Asked { .. } => {}
+            ChannelState::Opened { .. } => {}
+            ChannelState::Offered { .. } => {}
+            ChannelState::Over => {}
         }
     }
 
     /// A channel request of the server.
-    pub fn hears_request(&mut self, want: bool)
+    pub fn receives_request(&mut self, want: bool)
         ensures stands { GoesOn self.old self.new Other }
-        ensures exact { self.new ≡ on_line (request_heard want) self.old }
+        ensures exact { self.new ≡ on_line (request_received want) self.old }
     {
-        if let Line::Live(live) = &mut self.line {
-            *live = live.hears_request(want);
+        if let ChannelState::Live(live) = &mut self.line {
+            *live = live.receives_request(want);
         }
     }
 }

@@ -2,15 +2,15 @@
 use Rattle.std.proofs.Common.{◌≡◌, ℕ, ◌+◌, ◌≤◌, List, [], ◌∷◌, ◌++◌, length, length-append, true, false, Bool, refl, ◌∙◌, ap, arith, sym, Option, Some, None, subst, Ok, Err}
 use Rattle.std.specs.Prelude.{◌==◌, ◌-◌, Result, nat_le}
 use Rattle.std.proofs.lemmas.Bool.Decides.{nat_tests}
-use Rattle.mux_history.specs.Controls.{greeted, house_says, said_body}
-use Rattle.mux_history.specs.Gist.{Gist, Requests, read_gist}
-use Rattle.mux_history.specs.Heard.{Breaks, Dest, Disconnects, ToClient, ToMaster, dest, heard_for}
+use Rattle.mux_history.specs.Controls.{greeted, house_sends, sent_body}
+use Rattle.mux_history.specs.Summary.{Summary, Requests, read_summary}
+use Rattle.mux_history.specs.Heard.{Breaks, Dest, Disconnects, ToClient, ToMaster, dest, received_for}
 use Rattle.mux_history.specs.Kept.{AtEach, ForEach}
-use Rattle.mux_history.specs.Log.{admits, heard_row, row_of, treat}
+use Rattle.mux_history.specs.Log.{admits, received_row, row_of, treat}
 use Rattle.mux_history.specs.Policy.{Policy}
 use Rattle.mux_history.specs.Requests.{answers, answers_to, asks, asks_of, is_sent, replies, reply_in, sent_flags, unanswered_asks, wanted, wanted_by, wanted_in}
 use Rattle.mux_history.specs.Rows.{Admit, Fate, Gone, Heard, HouseSays, Item, Row, Says, rows_of}
-use Rattle.mux_history.specs.Said.{Outcome, drops, said_gist, said_payload, said_request, silent}
+use Rattle.mux_history.specs.Said.{Outcome, drops, sent_summary, sent_payload, sent_request, silent}
 use Rattle.mux_bounds.specs.Few.{RequestsBounded}
 use Rattle.mux_outside.specs.declared.house.HouseReply.{HouseReply}
 use Rattle.ssh_grammar.specs.Messages.{Global}
@@ -96,48 +96,48 @@ asks-few k false None = omega arith
 abbrev pub flag : List (List ℕ) → Bool
 flag up = elim up [ [] ↦ false | p ∷ ps ↦ true ]
 
-said-fits : (policy : Policy) (before : List Row) (k pick : ℕ) (p : List ℕ) (reply : Option HouseReply) (fw down : List (List ℕ)) (fate : Fate) → Fits before (as_row (Says k (Payload p) reply) k (said_payload policy k (rows_of k before) pick p).sent fw down fate)
-said-fits policy before k pick p reply fw down fate le = by_case (read_gist p)
+said-fits : (policy : Policy) (before : List Row) (k pick : ℕ) (p : List ℕ) (reply : Option HouseReply) (fw down : List (List ℕ)) (fate : Fate) → Fits before (as_row (Says k (Payload p) reply) k (sent_payload policy k (rows_of k before) pick p).sent fw down fate)
+said-fits policy before k pick p reply fw down fate le = by_case (read_summary p)
   where
     by_none : (sent : Bool) → length (asks (rows_of k before)) + length (asks_of k sent None) ≤ length (replies (rows_of k before)) + 1024
     by_none true = omega (arith, le)
     by_none false = omega (arith, le)
 
-    by_full : (what : Global) (b : Bool) → nat_le 1024 (unanswered_asks (rows_of k before)) ≡ b → length (asks (rows_of k before)) + length (asks_of k (flag (elim b as (λ _. Outcome) [ true ↦ drops (why.TooManyAsks 1024) | false ↦ said_request policy k (rows_of k before) p what true ]).sent) (Some what)) ≤ length (replies (rows_of k before)) + 1024
+    by_full : (what : Global) (b : Bool) → nat_le 1024 (unanswered_asks (rows_of k before)) ≡ b → length (asks (rows_of k before)) + length (asks_of k (flag (elim b as (λ _. Outcome) [ true ↦ drops (why.TooManyAsks 1024) | false ↦ sent_request policy k (rows_of k before) p what true ]).sent) (Some what)) ≤ length (replies (rows_of k before)) + 1024
     by_full what true e = omega (arith, le)
     by_full what false e =
         let room = has-room (rows_of k before) e in
-        let one = asks-few k (flag (said_request policy k (rows_of k before) p what true).sent) (Some what) in
+        let one = asks-few k (flag (sent_request policy k (rows_of k before) p what true).sent) (Some what) in
         omega arith
 
-    by_gist : (m : Gist) → length (asks (rows_of k before)) + length (asks_of k (flag (said_gist policy k (rows_of k before) pick p m).sent) (wanted_in m)) ≤ length (replies (rows_of k before)) + 1024
-    by_gist (Requests what true) = by_full what (nat_le 1024 (unanswered_asks (rows_of k before))) refl
-    by_gist m = by_none (flag (said_gist policy k (rows_of k before) pick p m).sent)
+    by_summary : (m : Summary) → length (asks (rows_of k before)) + length (asks_of k (flag (sent_summary policy k (rows_of k before) pick p m).sent) (wanted_in m)) ≤ length (replies (rows_of k before)) + 1024
+    by_summary (Requests what true) = by_full what (nat_le 1024 (unanswered_asks (rows_of k before))) refl
+    by_summary m = by_none (flag (sent_summary policy k (rows_of k before) pick p m).sent)
 
-    by_case : (r : Result Gist Bad) → length (asks (rows_of k before)) + length (asks_of k (flag (elim r as (λ _. Outcome) [ Err bad ↦ drops (why.BadMessage bad) | Ok m ↦ said_gist policy k (rows_of k before) pick p m ]).sent) (elim r as (λ _. Option Global) [ Err e ↦ None | Ok m ↦ wanted_in m ])) ≤ length (replies (rows_of k before)) + 1024
+    by_case : (r : Result Summary Bad) → length (asks (rows_of k before)) + length (asks_of k (flag (elim r as (λ _. Outcome) [ Err bad ↦ drops (why.BadMessage bad) | Ok m ↦ sent_summary policy k (rows_of k before) pick p m ]).sent) (elim r as (λ _. Option Global) [ Err e ↦ None | Ok m ↦ wanted_in m ])) ≤ length (replies (rows_of k before)) + 1024
     by_case (Err e) = by_none false
-    by_case (Ok m) = by_gist m
+    by_case (Ok m) = by_summary m
 
 -- ---- any row
 
 fits-row : (before : List Row) (item : Item) (k : ℕ) (o : Outcome) → ((fw down : List (List ℕ)) (fate : Fate) → Fits before (as_row item k o.sent fw down fate)) → Fits before (row_of item k o (rows_of k before))
 fits-row before item k o each = row-parts (Fits before) item k o (rows_of k before) (λ fw parting down fate. each fw down fate)
 
-fits-dest : (before : List Row) (p : List ℕ) (d : Dest) → Fits before (heard_row before p d)
-fits-dest before p ToMaster = fits-none before (heard_row before p ToMaster) refl
-fits-dest before p (ToClient k) = fits-row before (Heard p) k (heard_for (rows_of k before) p) (λ fw down fate. fits-none before (as_row (Heard p) k (heard_for (rows_of k before) p).sent fw down fate) refl)
-fits-dest before p Disconnects = fits-none before (heard_row before p Disconnects) refl
-fits-dest before p (Breaks cause) = fits-none before (heard_row before p (Breaks cause)) refl
+fits-dest : (before : List Row) (p : List ℕ) (d : Dest) → Fits before (received_row before p d)
+fits-dest before p ToMaster = fits-none before (received_row before p ToMaster) refl
+fits-dest before p (ToClient k) = fits-row before (Heard p) k (received_for (rows_of k before) p) (λ fw down fate. fits-none before (as_row (Heard p) k (received_for (rows_of k before) p).sent fw down fate) refl)
+fits-dest before p Disconnects = fits-none before (received_row before p Disconnects) refl
+fits-dest before p (Breaks cause) = fits-none before (received_row before p (Breaks cause)) refl
 
 fits-plain : (before : List Row) (item : Item) (k : ℕ) (o : Outcome) → ((fw down : List (List ℕ)) (fate : Fate) → wanted_by (as_row item k o.sent fw down fate) ≡ None) → Fits before (row_of item k o (rows_of k before))
 fits-plain before item k o none = fits-row before item k o (λ fw down fate. fits-none before (as_row item k o.sent fw down fate) (none fw down fate))
 
 fits-treat : (policy : Policy) (pid pick : ℕ) (before : List Row) (item : Item) → Fits before (treat policy pid pick before item)
 fits-treat policy pid pick before (Admit k) = fits-plain before (Admit k) k (admits before) (λ fw down fate. refl)
-fits-treat policy pid pick before (Says k (Payload p) reply) = fits-row before (Says k (Payload p) reply) k (said_payload policy k (rows_of k before) pick p) (λ fw down fate. said-fits policy before k pick p reply fw down fate)
-fits-treat policy pid pick before (Says k (Body body) reply) = fits-plain before (Says k (Body body) reply) k (said_body pid k reply (greeted (rows_of k before)) body) (λ fw down fate. refl)
+fits-treat policy pid pick before (Says k (Payload p) reply) = fits-row before (Says k (Payload p) reply) k (sent_payload policy k (rows_of k before) pick p) (λ fw down fate. said-fits policy before k pick p reply fw down fate)
+fits-treat policy pid pick before (Says k (Body body) reply) = fits-plain before (Says k (Body body) reply) k (sent_body pid k reply (greeted (rows_of k before)) body) (λ fw down fate. refl)
 fits-treat policy pid pick before (Says k (BadFraming fault) reply) = fits-plain before (Says k (BadFraming fault) reply) k (drops (why.BadFrame fault)) (λ fw down fate. refl)
-fits-treat policy pid pick before (HouseSays k id given) = fits-plain before (HouseSays k id given) k (house_says (rows_of k before) id given) (λ fw down fate. refl)
+fits-treat policy pid pick before (HouseSays k id given) = fits-plain before (HouseSays k id given) k (house_sends (rows_of k before) id given) (λ fw down fate. refl)
 fits-treat policy pid pick before (Gone k) = fits-plain before (Gone k) k silent (λ fw down fate. refl)
 fits-treat policy pid pick before (Heard p) = fits-dest before p (dest before p)
 fits-treat policy pid pick before item = fits-none before (treat policy pid pick before item) refl

@@ -4,7 +4,7 @@ use Rattle.std.specs.Prelude.{◌==◌, Result, filter, find}
 use Rattle.std.proofs.lemmas.List.{length-map}
 use Rattle.mux_history.specs.Channels.{Channel, after_farewell, after_item, begun_by, held_of, is_held, opened_down}
 use Rattle.mux_history.specs.Forwardings.{Forwarding, current, forwardings_of, live_at}
-use Rattle.mux_history.specs.Gist.{Confirmation, Gist, Open, Refuses, Requests, Succeeds, Transport, Within, read_gist, reading}
+use Rattle.mux_history.specs.Summary.{Confirmation, Summary, Open, Refuses, Requests, Succeeds, Transport, Within, read_summary, reading}
 use Rattle.mux_history.specs.Heard.{ToClient, dest_open}
 use Rattle.mux_history.specs.Kept.{ForEach}
 use Rattle.mux_history.specs.Keys.{has_key}
@@ -40,7 +40,7 @@ held-count row own =
 
 -- ---- what the server opens
 
-pub opened-down-not : (k : ℕ) (up : List (List ℕ)) (m : Gist) → ((what : Opens) (s w max : ℕ) → m ≡ Open what s w max → ⊥) → opened_down k up m ≡ []
+pub opened-down-not : (k : ℕ) (up : List (List ℕ)) (m : Summary) → ((what : Opens) (s w max : ℕ) → m ≡ Open what s w max → ⊥) → opened_down k up m ≡ []
 opened-down-not k up (Open what s w max) not = absurd (not what s w max refl)
 opened-down-not k [] (Transport number) not = refl
 opened-down-not k [] (Requests what want) not = refl
@@ -51,16 +51,16 @@ opened-down-not k [] (Within n act) not = refl
 opened-down-not k (q ∷ qs) m not = refl
 
 -- what the server says begins nothing, where it opens nothing
-pub heard-begins-none : (k : ℕ) (p : List ℕ) (up : List (List ℕ)) → ((what : Opens) (s w max : ℕ) → read_gist p ≡ Ok (Open what s w max) → ⊥) → begun_by k up (Heard p) ≡ []
+pub heard-begins-none : (k : ℕ) (p : List ℕ) (up : List (List ℕ)) → ((what : Opens) (s w max : ℕ) → read_summary p ≡ Ok (Open what s w max) → ⊥) → begun_by k up (Heard p) ≡ []
 heard-begins-none k p up never = by_zero (k == 0)
   where
-    by_case : (r : Result Gist Bad) → read_gist p ≡ r → (elim r as (λ _. List Channel) [ Err e ↦ [] | Ok m ↦ opened_down k up m ]) ≡ []
+    by_case : (r : Result Summary Bad) → read_summary p ≡ r → (elim r as (λ _. List Channel) [ Err e ↦ [] | Ok m ↦ opened_down k up m ]) ≡ []
     by_case (Err e) reads = refl
-    by_case (Ok m) reads = opened-down-not k up m (λ what s w max same. never what s w max (reads ∙ ap (λ (g : Gist). let r : Result Gist Bad = Ok g in r) same))
+    by_case (Ok m) reads = opened-down-not k up m (λ what s w max same. never what s w max (reads ∙ ap (λ (g : Summary). let r : Result Summary Bad = Ok g in r) same))
 
     by_zero : (b : Bool) → (elim b as (λ _. List Channel) [ true ↦ [] | false ↦ reading p (opened_down k up) [] ]) ≡ []
     by_zero true = refl
-    by_zero false = by_case (read_gist p) refl
+    by_zero false = by_case (read_summary p) refl
 
 -- a lost client has no live forwarding left
 pub lost-offers : (policy : Policy) (pid : ℕ) (before : List Row) (k s : ℕ) (what : Opens) → ForEach (RowKnown policy pid) before → is_lost (rows_of k before) ≡ true → dest_open before s what ≡ ToClient k → ⊥

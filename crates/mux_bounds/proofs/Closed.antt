@@ -5,10 +5,10 @@ use Rattle.std.proofs.lemmas.Bool.Decides.{nat_tests}
 use Rattle.mux_history.specs.Channels.{Channel, channels_of, held_of, is_held, is_number}
 use Rattle.mux_history.specs.Farewell.{has_open_matters}
 use Rattle.mux_history.specs.Forwardings.{Forwarding, forwarded, forwardings_of, is_request, of_client, replied}
-use Rattle.mux_history.specs.Gist.{Gist, Refuses, Succeeds, read_gist}
+use Rattle.mux_history.specs.Summary.{Summary, Refuses, Succeeds, read_summary}
 use Rattle.mux_history.specs.Kept.{AtEach, ForEach}
 use Rattle.mux_history.specs.Keys.{bound}
-use Rattle.mux_history.specs.Log.{makes_row, said_by_client, treat}
+use Rattle.mux_history.specs.Log.{makes_row, sent_by_client, treat}
 use Rattle.mux_history.specs.Policy.{Policy}
 use Rattle.mux_history.specs.Requests.{asks, replies}
 use Rattle.mux_history.specs.Right.{IsAdmitted}
@@ -50,7 +50,7 @@ ends-all c k e (f ∷ fs) mine = (ap (λ b. (elim b as (λ _. Forwarding) [ true
     both : (a b k : ℕ) → (a == k) ≡ true → (b == k) ≡ true → (a == b) ≡ true
     both a b k e f = grind (arith, nat_tests)
 
-pub replied-done : (n : ℕ) (m : Gist) (f : Forwarding) → f.over ≡ true → (replied n m f).over ≡ true
+pub replied-done : (n : ℕ) (m : Summary) (f : Forwarding) → f.over ≡ true → (replied n m f).over ≡ true
 replied-done n (Succeeds rest) f done = by_case (is_request f n) (is_number f.cancel n)
   where
     by_case : (a b : Bool) → (elim a as (λ _. Forwarding) [ true ↦ record f { live = Some (bound f.key rest) } | false ↦ elim b as (λ _. Forwarding) [ true ↦ record f { over = true } | false ↦ f ] ]).over ≡ true
@@ -65,7 +65,7 @@ replied-done n Refuses f done = by_case (is_request f n) (is_number f.cancel n)
     by_case false false = done
 replied-done n m f done = done
 
-stay-done : (c n : ℕ) (m : Gist) (fs : List Forwarding) → EachF is_done fs → EachF is_done (map (of_client c (replied n m)) fs)
+stay-done : (c n : ℕ) (m : Summary) (fs : List Forwarding) → EachF is_done fs → EachF is_done (map (of_client c (replied n m)) fs)
 stay-done c n m [] done = tt
 stay-done c n m (f ∷ fs) done = (elim (f.client == c) as (λ b. (elim b as (λ _. Forwarding) [ true ↦ replied n m f | false ↦ f ]).over ≡ true) [ true ↦ replied-done n m f done.0 | false ↦ done.0 ], stay-done c n m fs done.1)
 
@@ -85,13 +85,13 @@ forwarded-done policy pid pick before k item row own client is mine makes lost f
     silent_lost : (j : ℕ) → j ≡ k → not (is_out (rows_of j before)) ≡ true → ⊥
     silent_lost j same going = let out : is_out (rows_of j before) ≡ true = ap (λ i. is_out (rows_of i before)) same ∙ lost-out (rows_of k before) lost in let bad : false ≡ true = sym (ap not out) ∙ going in absurd (let h = bad in cc)
 
-    by_reading : (r : Result Gist Bad) (g : Gist → List Forwarding) → ((m : Gist) → EachF is_done (g m)) → EachF is_done (elim r as (λ _. List Forwarding) [ Err e ↦ fs | Ok m ↦ g m ])
+    by_reading : (r : Result Summary Bad) (g : Summary → List Forwarding) → ((m : Summary) → EachF is_done (g m)) → EachF is_done (elim r as (λ _. List Forwarding) [ Err e ↦ fs | Ok m ↦ g m ])
     by_reading (Err e) g each = done
     by_reading (Ok m) g each = each m
 
     by_item : (i : Item) → (treat policy pid pick before i).client ≡ k → makes_row before i ≡ true → EachF is_done (forwarded (record row { item = i }) own fs)
-    by_item (Says j saying reply) mine makes = absurd (silent_lost j (sym (client-of (Says j saying reply) j (said_by_client policy pid j (rows_of j before) pick saying reply) (rows_of j before)) ∙ mine) makes)
-    by_item (Heard p) mine makes = by_reading (read_gist p) (λ m. map (of_client row.client (replied (length (replies own)) m)) fs) (λ m. stay-done row.client (length (replies own)) m fs done)
+    by_item (Says j outgoing reply) mine makes = absurd (silent_lost j (sym (client-of (Says j outgoing reply) j (sent_by_client policy pid j (rows_of j before) pick outgoing reply) (rows_of j before)) ∙ mine) makes)
+    by_item (Heard p) mine makes = by_reading (read_summary p) (λ m. map (of_client row.client (replied (length (replies own)) m)) fs) (λ m. stay-done row.client (length (replies own)) m fs done)
     by_item i mine makes = done
 
 pub lost-done : (policy : Policy) (pid k : ℕ) (rows : List Row) → ForEach (RowKnown policy pid) rows → is_lost (rows_of k rows) ≡ true → EachF is_done (forwardings_of (rows_of k rows))

@@ -2,13 +2,13 @@
 use Rattle.std.proofs.Common.{◌≡◌, ℕ, ◌≤◌, List, [], ◌∷◌, length, length-append, true, false, Bool, refl, ◌∙◌, ap, arith, sym, None, subst}
 use Rattle.std.specs.Prelude.{◌==◌, ◌&&◌, ◌||◌, not, nat_lt}
 use Rattle.std.proofs.lemmas.Bool.Decides.{nat_tests}
-use Rattle.mux_history.specs.Controls.{house_says}
+use Rattle.mux_history.specs.Controls.{house_sends}
 use Rattle.mux_history.specs.Channels.{Channel, begun_by, held_of, is_held}
 use Rattle.mux_history.specs.Farewell.{has_open_matters}
-use Rattle.mux_history.specs.Gist.{Open}
-use Rattle.mux_history.specs.Heard.{Breaks, Dest, Disconnects, ToClient, ToMaster, dest, heard_for}
+use Rattle.mux_history.specs.Summary.{Open}
+use Rattle.mux_history.specs.Heard.{Breaks, Dest, Disconnects, ToClient, ToMaster, dest, received_for}
 use Rattle.mux_history.specs.Kept.{ForEach}
-use Rattle.mux_history.specs.Log.{admits, heard_row, makes_row, said_by_client, treat}
+use Rattle.mux_history.specs.Log.{admits, received_row, makes_row, sent_by_client, treat}
 use Rattle.mux_history.specs.Policy.{Policy}
 use Rattle.mux_history.specs.Requests.{asks, asks_of, is_sent, replies, reply_in, wanted_by}
 use Rattle.mux_history.specs.Rows.{Admit, Fate, Gone, Heard, HouseSays, Item, Row, Says, any_of, is_admit, is_lost, is_out, loses, rows_of}
@@ -29,13 +29,13 @@ use Rattle.mux_history.proofs.Bools.{or-yes}
 abbrev Begins : List Row → Row → Type 0
 Begins before row = is_lost (rows_of row.client before) ≡ true → (begun_by row.client row.up row.item ≡ []) × (wanted_by row ≡ None)
 
-heard-begins : (policy : Policy) (pid : ℕ) (before : List Row) (k : ℕ) (p : List ℕ) (fw down : List (List ℕ)) (fate : Fate) → ForEach (RowKnown policy pid) before → dest before p ≡ ToClient k → Begins before (as_row (Heard p) k (heard_for (rows_of k before) p).sent fw down fate)
+heard-begins : (policy : Policy) (pid : ℕ) (before : List Row) (k : ℕ) (p : List ℕ) (fw down : List (List ℕ)) (fate : Fate) → ForEach (RowKnown policy pid) before → dest before p ≡ ToClient k → Begins before (as_row (Heard p) k (received_for (rows_of k before) p).sent fw down fate)
 heard-begins policy pid before k p fw down fate each to lost =
-    (heard-begins-none k p (heard_for (rows_of k before) p).sent (λ what s w max reads. lost-offers policy pid before k s what each lost (sym (dest-ok before p (Open what s w max) reads) ∙ to)), refl)
+    (heard-begins-none k p (received_for (rows_of k before) p).sent (λ what s w max reads. lost-offers policy pid before k s what each lost (sym (dest-ok before p (Open what s w max) reads) ∙ to)), refl)
 
-dest-begins : (policy : Policy) (pid : ℕ) (before : List Row) (p : List ℕ) → ForEach (RowKnown policy pid) before → (d : Dest) → dest before p ≡ d → Begins before (heard_row before p d)
+dest-begins : (policy : Policy) (pid : ℕ) (before : List Row) (p : List ℕ) → ForEach (RowKnown policy pid) before → (d : Dest) → dest before p ≡ d → Begins before (received_row before p d)
 dest-begins policy pid before p each ToMaster e = λ lost. (refl, refl)
-dest-begins policy pid before p each (ToClient k) e = row-parts (Begins before) (Heard p) k (heard_for (rows_of k before) p) (rows_of k before) (λ fw parting down fate. heard-begins policy pid before k p fw down fate each e)
+dest-begins policy pid before p each (ToClient k) e = row-parts (Begins before) (Heard p) k (received_for (rows_of k before) p) (rows_of k before) (λ fw parting down fate. heard-begins policy pid before k p fw down fate each e)
 dest-begins policy pid before p each Disconnects e = λ lost. (refl, refl)
 dest-begins policy pid before p each (Breaks cause) e = λ lost. (refl, refl)
 
@@ -43,9 +43,9 @@ not-out : (own : List Row) → not (is_out own) ≡ true → is_lost own ≡ tru
 not-out own going lost = let bad : false ≡ true = sym (ap not (lost-out own lost)) ∙ going in absurd (let h = bad in cc)
 
 live-begins : (policy : Policy) (pid pick : ℕ) (before : List Row) (item : Item) → ForEach (RowKnown policy pid) before → makes_row before item ≡ true → Begins before (treat policy pid pick before item)
-live-begins policy pid pick before (Says k saying reply) each makes = row-parts (Begins before) (Says k saying reply) k (said_by_client policy pid k (rows_of k before) pick saying reply) (rows_of k before) (λ fw parting down fate lost. absurd (not-out (rows_of k before) makes lost))
+live-begins policy pid pick before (Says k outgoing reply) each makes = row-parts (Begins before) (Says k outgoing reply) k (sent_by_client policy pid k (rows_of k before) pick outgoing reply) (rows_of k before) (λ fw parting down fate lost. absurd (not-out (rows_of k before) makes lost))
 live-begins policy pid pick before (Admit k) each makes = row-parts (Begins before) (Admit k) k (admits before) (rows_of k before) (λ fw parting down fate lost. (refl, refl))
-live-begins policy pid pick before (HouseSays k id given) each makes = row-parts (Begins before) (HouseSays k id given) k (house_says (rows_of k before) id given) (rows_of k before) (λ fw parting down fate lost. absurd (not-out (rows_of k before) makes lost))
+live-begins policy pid pick before (HouseSays k id given) each makes = row-parts (Begins before) (HouseSays k id given) k (house_sends (rows_of k before) id given) (rows_of k before) (λ fw parting down fate lost. absurd (not-out (rows_of k before) makes lost))
 live-begins policy pid pick before (Gone k) each makes = row-parts (Begins before) (Gone k) k silent (rows_of k before) (λ fw parting down fate lost. (refl, refl))
 live-begins policy pid pick before (Heard p) each makes = dest-begins policy pid before p each (dest before p) refl
 live-begins policy pid pick before item each makes = λ lost. (refl, refl)

@@ -5,15 +5,15 @@ use Rattle.std.proofs.lemmas.Bool.Decides.{nat_tests}
 use Rattle.mux_outside.specs.declared.house.HouseReply.{HouseReply}
 use Rattle.mux_outside.specs.declared.mark.Mark.{Mark}
 use Rattle.mux_outside.specs.declared.mark.Mark.TheVariants as wire
-use Rattle.ssh_grammar.specs.Said.{BadFraming, Body, InProxy, Payload, Saying, parse}
+use Rattle.ssh_grammar.specs.Said.{BadFraming, Body, InProxy, Payload, Outgoing, parse}
 use Rattle.mux_outside.specs.declared.house_mark.HouseMark.{HouseMark}
 use Rattle.mux_outside.specs.declared.house_mark.HouseMark.TheVariants.{HouseAnswer, HouseAsked, HouseIn, HouseOrder, HouseSaid, HouseTook}
 use Rattle.mux_history.specs.declared.limits.TheConstants.{HOUSE}
 use Rattle.mux_history.specs.Choices.{Choices, FromLists, pick_of, replies_given, reply_at, with_reply}
-use Rattle.mux_history.specs.Controls.{body_asks, greeted, house_says}
-use Rattle.mux_history.specs.Journal.{IsLawful, LawfulMark, bytes_of, heard_item, is_accepted, is_known, is_own_stream, items_in, log_of_journal, new_heard, new_sayings, said_item, server_end, unless_own}
+use Rattle.mux_history.specs.Controls.{body_asks, greeted, house_sends}
+use Rattle.mux_history.specs.Journal.{IsLawful, LawfulMark, bytes_of, received_item, is_accepted, is_known, is_own_stream, items_in, log_of_journal, new_received, new_sayings, sent_item, server_end, unless_own}
 use Rattle.mux_history.specs.Kept.{ForEach}
-use Rattle.mux_history.specs.Log.{Setting, admits, is_took, makes_next, makes_row, more_all, more_of, said_by_client, treat}
+use Rattle.mux_history.specs.Log.{Setting, admits, is_took, makes_next, makes_row, more_all, more_of, sent_by_client, treat}
 use Rattle.mux_history.specs.Policy.{Policy}
 use Rattle.mux_history.specs.Rows.{Admit, Fate, Gone, HouseSays, Item, Refused, Row, Says, ServerFailed, Took, any_of, is_admit, is_end, is_ended, is_out, is_refusal, loses, rows_of}
 use Rattle.mux_history.specs.Said.{silent}
@@ -23,7 +23,7 @@ use Rattle.mux_history.proofs.Finds.{filter-no, filter-yes}
 use Rattle.mux_history.proofs.LawfulItems.{client-of, reply-next, treat-item}
 use Rattle.mux_history.proofs.Nexts.{next-live}
 use Rattle.mux_history.proofs.RightLogs.{RowKnown}
-use Rattle.mux_history.proofs.SaidApart.{admits_client}
+use Rattle.mux_history.proofs.SentApart.{admits_client}
 use Rattle.mux_bounds.proofs.Knowns.{LetFirst, is_own}
 use Rattle.mux_bounds.proofs.Matters.{still-in}
 
@@ -75,7 +75,7 @@ abbrev pub Entered : ℕ → List Row → Type 0
 Entered k rows = (is_ended rows ≡ true) ⊎ Has k rows
 
 abbrev pub OwnKnown : List Row → Item → Type 0
-OwnKnown rows (Says k saying given) = Entered k rows
+OwnKnown rows (Says k outgoing given) = Entered k rows
 OwnKnown rows (HouseSays k id given) = Entered k rows
 OwnKnown rows (Gone k) = Entered k rows
 OwnKnown rows item = Unit {0}
@@ -85,7 +85,7 @@ entered-next k row rows (inl ended) = inl (or-yes (is_end row.fate) (is_ended ro
 entered-next k row rows (inr has) = inr (or-yes (admits_client k row.item) (any_of (λ r. admits_client k r.item) rows) has)
 
 own-next : (row : Row) (rows : List Row) (item : Item) → OwnKnown rows item → OwnKnown (row ∷ rows) item
-own-next row rows (Says k saying given) known = entered-next k row rows known
+own-next row rows (Says k outgoing given) known = entered-next k row rows known
 own-next row rows (HouseSays k id given) known = entered-next k row rows known
 own-next row rows (Gone k) known = entered-next k row rows known
 own-next row rows item known = tt
@@ -108,8 +108,8 @@ going-in policy pid k rows item each other row entered makes = by_ended (is_ende
     by_ended false e (inr has) = admitted-of policy pid k rows each has (not-true (is_out (rows_of k rows)) (sym row ∙ (sym (next-live rows item e) ∙ makes)))
 
 first-treat : (policy : Policy) (pid pick : ℕ) (rows : List Row) (item : Item) → ForEach (RowKnown policy pid) rows → OwnKnown rows item → makes_next rows item ≡ true → LetFirst rows (treat policy pid pick rows item)
-first-treat policy pid pick rows (Says k saying given) each known makes = λ own. ap (λ c. any_of is_admit (rows_of c rows)) (client-of (Says k saying given) k (said_by_client policy pid k (rows_of k rows) pick saying given) (rows_of k rows)) ∙ going-in policy pid k rows (Says k saying given) each refl refl known makes
-first-treat policy pid pick rows (HouseSays k id given) each known makes = λ own. ap (λ c. any_of is_admit (rows_of c rows)) (client-of (HouseSays k id given) k (house_says (rows_of k rows) id given) (rows_of k rows)) ∙ going-in policy pid k rows (HouseSays k id given) each refl refl known makes
+first-treat policy pid pick rows (Says k outgoing given) each known makes = λ own. ap (λ c. any_of is_admit (rows_of c rows)) (client-of (Says k outgoing given) k (sent_by_client policy pid k (rows_of k rows) pick outgoing given) (rows_of k rows)) ∙ going-in policy pid k rows (Says k outgoing given) each refl refl known makes
+first-treat policy pid pick rows (HouseSays k id given) each known makes = λ own. ap (λ c. any_of is_admit (rows_of c rows)) (client-of (HouseSays k id given) k (house_sends (rows_of k rows) id given) (rows_of k rows)) ∙ going-in policy pid k rows (HouseSays k id given) each refl refl known makes
 first-treat policy pid pick rows (Gone k) each known makes = λ own. ap (λ c. any_of is_admit (rows_of c rows)) (client-of (Gone k) k silent (rows_of k rows)) ∙ going-in policy pid k rows (Gone k) each refl refl known makes
 first-treat policy pid pick rows item each known makes = λ own. absurd (let bad : false ≡ true = sym (ap is_own (treat-item policy pid pick rows item)) ∙ own in let h = bad in cc)
 
@@ -218,13 +218,13 @@ module _ (policy : Policy) (pid : ℕ) (picks : List ℕ) (given : List HouseRep
 
   -- ---- the items of a mark
 
-  heard-own : (rows : List Row) (ss : List Saying) → EachItem (OwnKnown rows) (map heard_item ss)
+  heard-own : (rows : List Row) (ss : List Outgoing) → EachItem (OwnKnown rows) (map received_item ss)
   heard-own rows [] = tt
   heard-own rows (Body body ∷ ss) = (tt, heard-own rows ss)
   heard-own rows (Payload p ∷ ss) = (tt, heard-own rows ss)
   heard-own rows (BadFraming fault ∷ ss) = (tt, heard-own rows ss)
 
-  said-own : (rows : List Row) (k : ℕ) (ss : List Saying) → Entered k rows → EachItem (OwnKnown rows) (map (said_item k) ss)
+  said-own : (rows : List Row) (k : ℕ) (ss : List Outgoing) → Entered k rows → EachItem (OwnKnown rows) (map (sent_item k) ss)
   said-own rows k [] known = tt
   said-own rows k (s ∷ ss) known = (known, said-own rows k ss known)
 
@@ -243,7 +243,7 @@ module _ (policy : Policy) (pid : ℕ) (picks : List ℕ) (given : List HouseRep
   mark-own before (wire.Accepts k) known = (tt, tt)
   mark-own before (wire.Gets stream bytes) known = by_stream (stream == 0) refl
     where
-      by_stream : (b : Bool) → (stream == 0) ≡ b → EachItem (OwnKnown (log_of_journal setting before)) (elim b as (λ _. List Item) [ true ↦ new_heard (bytes_of 0 before) (bytes_of 0 before ++ bytes) | false ↦ unless_own stream (new_sayings stream (bytes_of stream before) (bytes_of stream before ++ bytes)) ])
+      by_stream : (b : Bool) → (stream == 0) ≡ b → EachItem (OwnKnown (log_of_journal setting before)) (elim b as (λ _. List Item) [ true ↦ new_received (bytes_of 0 before) (bytes_of 0 before ++ bytes) | false ↦ unless_own stream (new_sayings stream (bytes_of stream before) (bytes_of stream before ++ bytes)) ])
       by_stream true e = heard-own (log_of_journal setting before) _
       by_stream false e = each-unless (OwnKnown (log_of_journal setting before)) stream _ (λ client. said-own (log_of_journal setting before) stream _ (known-entered before stream known.0 e client))
   mark-own before (wire.Ends stream) known = gone-own before stream (server_end (parse InProxy (bytes_of 0 before)).rest) (end-own (log_of_journal setting before) (parse InProxy (bytes_of 0 before)).rest) known

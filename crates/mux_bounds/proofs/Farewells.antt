@@ -1,13 +1,13 @@
 -- A row that loses its client says a farewell of at most 28,928 bytes; another says none.
 use Rattle.std.proofs.Common.{◌≡◌, ℕ, ◌+◌, ◌≤◌, List, [], ◌∷◌, length, true, false, Bool, refl, ap, arith, subst}
 use Rattle.std.specs.Prelude.{filter, flat_map}
-use Rattle.mux_history.specs.Controls.{house_says}
+use Rattle.mux_history.specs.Controls.{house_sends}
 use Rattle.mux_history.specs.Channels.{begun_by, held_of}
 use Rattle.mux_history.specs.Farewell.{farewell, leave_channel, leave_forwarding}
 use Rattle.mux_history.specs.Forwardings.{forwarded, forwardings_of}
-use Rattle.mux_history.specs.Heard.{Breaks, Dest, Disconnects, ToClient, ToMaster, dest, heard_for}
+use Rattle.mux_history.specs.Heard.{Breaks, Dest, Disconnects, ToClient, ToMaster, dest, received_for}
 use Rattle.mux_history.specs.Kept.{ForEach}
-use Rattle.mux_history.specs.Log.{admits, all_told, bare, heard_row, queued, row_of, said_by_client, treat}
+use Rattle.mux_history.specs.Log.{admits, all_recorded, bare, received_row, queued, row_of, sent_by_client, treat}
 use Rattle.mux_history.specs.Policy.{Policy}
 use Rattle.mux_history.specs.Rows.{Admit, Gone, Heard, HouseSays, Item, Row, Says, loses, rows_of}
 use Rattle.mux_history.specs.Said.{Outcome, silent}
@@ -49,28 +49,28 @@ leaves-none : (before : List Row) (row : Row) → row.farewell ≡ [] → Leaves
 leaves-none before row none bounds = let e = ap weight none in omega arith
 
 leaves-row : (before : List Row) (item : Item) (k : ℕ) (o : Outcome) → Leaves before (row_of item k o (rows_of k before))
-leaves-row before item k o = by_case (loses told) refl
+leaves-row before item k o = by_case (loses recorded) refl
   where
-    told : Row
-    told = queued (all_told (bare item k o) (rows_of k before)) (bare item k o) (rows_of k before)
+    recorded : Row
+    recorded = queued (all_recorded (bare item k o) (rows_of k before)) (bare item k o) (rows_of k before)
 
-    by_case : (b : Bool) → loses told ≡ b → Leaves before (elim b as (λ _. Row) [ true ↦ record told { farewell = farewell told (rows_of k before) } | false ↦ told ])
+    by_case : (b : Bool) → loses recorded ≡ b → Leaves before (elim b as (λ _. Row) [ true ↦ record recorded { farewell = farewell recorded (rows_of k before) } | false ↦ recorded ])
     by_case true e bounds =
-        let w = farewell-weight told (rows_of k before) (record { channels = bounds.channels; forwardings = bounds.forwardings; short = bounds.short }) in
+        let w = farewell-weight recorded (rows_of k before) (record { channels = bounds.channels; forwardings = bounds.forwardings; short = bounds.short }) in
         let l = ap if_lost e in
         omega (arith, w, l)
     by_case false e bounds = omega arith
 
-leaves-dest : (before : List Row) (p : List ℕ) (d : Dest) → Leaves before (heard_row before p d)
-leaves-dest before p ToMaster = leaves-none before (heard_row before p ToMaster) refl
-leaves-dest before p (ToClient k) = leaves-row before (Heard p) k (heard_for (rows_of k before) p)
-leaves-dest before p Disconnects = leaves-none before (heard_row before p Disconnects) refl
-leaves-dest before p (Breaks cause) = leaves-none before (heard_row before p (Breaks cause)) refl
+leaves-dest : (before : List Row) (p : List ℕ) (d : Dest) → Leaves before (received_row before p d)
+leaves-dest before p ToMaster = leaves-none before (received_row before p ToMaster) refl
+leaves-dest before p (ToClient k) = leaves-row before (Heard p) k (received_for (rows_of k before) p)
+leaves-dest before p Disconnects = leaves-none before (received_row before p Disconnects) refl
+leaves-dest before p (Breaks cause) = leaves-none before (received_row before p (Breaks cause)) refl
 
 leaves-treat : (policy : Policy) (pid pick : ℕ) (before : List Row) (item : Item) → Leaves before (treat policy pid pick before item)
 leaves-treat policy pid pick before (Admit k) = leaves-row before (Admit k) k (admits before)
-leaves-treat policy pid pick before (Says k saying given) = leaves-row before (Says k saying given) k (said_by_client policy pid k (rows_of k before) pick saying given)
-leaves-treat policy pid pick before (HouseSays k id given) = leaves-row before (HouseSays k id given) k (house_says (rows_of k before) id given)
+leaves-treat policy pid pick before (Says k outgoing given) = leaves-row before (Says k outgoing given) k (sent_by_client policy pid k (rows_of k before) pick outgoing given)
+leaves-treat policy pid pick before (HouseSays k id given) = leaves-row before (HouseSays k id given) k (house_sends (rows_of k before) id given)
 leaves-treat policy pid pick before (Gone k) = leaves-row before (Gone k) k silent
 leaves-treat policy pid pick before (Heard p) = leaves-dest before p (dest before p)
 leaves-treat policy pid pick before item = leaves-none before (treat policy pid pick before item) refl

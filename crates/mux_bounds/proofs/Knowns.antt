@@ -5,13 +5,13 @@ use Rattle.std.proofs.lemmas.Bool.Decides.{nat_tests}
 use Rattle.ssh_grammar.specs.Messages.{Opens}
 use Rattle.ssh_grammar.specs.declared.fault.Bad.{Bad}
 use Rattle.mux_history.specs.Channels.{Channel, after_farewell, after_item, begun_by, channels_of, is_held, is_number}
-use Rattle.mux_history.specs.Controls.{greeted, house_says, is_says}
+use Rattle.mux_history.specs.Controls.{greeted, house_sends, is_sends}
 use Rattle.mux_history.specs.Forwardings.{Forwarding, dropped, forwarded, forwardings_of, live_at, of_client, replied}
-use Rattle.mux_history.specs.Gist.{Confirmation, Gist, Open, Refuses, Requests, Succeeds, Transport, Within, read_gist}
-use Rattle.mux_history.specs.Heard.{Breaks, Dest, Disconnects, ToClient, ToMaster, dest, dest_gist, dest_open, heard_for}
+use Rattle.mux_history.specs.Summary.{Confirmation, Summary, Open, Refuses, Requests, Succeeds, Transport, Within, read_summary}
+use Rattle.mux_history.specs.Heard.{Breaks, Dest, Disconnects, ToClient, ToMaster, dest, dest_summary, dest_open, received_for}
 use Rattle.mux_history.specs.Kept.{ForEach}
 use Rattle.mux_history.specs.Keys.{has_key}
-use Rattle.mux_history.specs.Log.{admits, heard_row, said_by_client, treat}
+use Rattle.mux_history.specs.Log.{admits, received_row, sent_by_client, treat}
 use Rattle.mux_history.specs.Policy.{Policy}
 use Rattle.mux_history.specs.Requests.{Ask, asks, asks_of, is_sent, replies, wanted_by}
 use Rattle.mux_history.specs.Rows.{Admit, Fate, Gone, Heard, HouseSays, Item, Row, Says, any_of, is_admit, loses, rows_of}
@@ -30,29 +30,29 @@ use Rattle.mux_bounds.proofs.Owed.{asks-none}
 
 -- ---- one that never said anything has nothing
 
-not-wanted : (row : Row) → is_says row.item ≡ false → wanted_by row ≡ None
+not-wanted : (row : Row) → is_sends row.item ≡ false → wanted_by row ≡ None
 not-wanted row still = by_item row.item still
   where
-    by_item : (i : Item) → is_says i ≡ false → wanted_by (record row { item = i }) ≡ None
-    by_item (Says k saying given) e = cc
+    by_item : (i : Item) → is_sends i ≡ false → wanted_by (record row { item = i }) ≡ None
+    by_item (Says k outgoing given) e = cc
     by_item i e = refl
 
 quiet-asks : (own : List Row) → greeted own ≡ false → asks own ≡ []
 quiet-asks [] quiet = refl
 quiet-asks (row ∷ own) quiet =
-    ap (λ xs. xs ++ asks_of row.client (is_sent row) (wanted_by row)) (quiet-asks own (or-right (is_says row.item) (greeted own) quiet))
-    ∙ (ap (asks_of row.client (is_sent row)) (not-wanted row (or-left (is_says row.item) (greeted own) quiet)) ∙ asks-none row.client (is_sent row))
+    ap (λ xs. xs ++ asks_of row.client (is_sent row) (wanted_by row)) (quiet-asks own (or-right (is_sends row.item) (greeted own) quiet))
+    ∙ (ap (asks_of row.client (is_sent row)) (not-wanted row (or-left (is_sends row.item) (greeted own) quiet)) ∙ asks-none row.client (is_sent row))
 
-not-forwarded : (row : Row) (own : List Row) → is_says row.item ≡ false → forwarded row own [] ≡ []
+not-forwarded : (row : Row) (own : List Row) → is_sends row.item ≡ false → forwarded row own [] ≡ []
 not-forwarded row own still = by_item row.item still
   where
-    by_reading : (r : Result Gist Bad) → (elim r as (λ _. List Forwarding) [ Err e ↦ [] | Ok m ↦ map (of_client row.client (replied (length (replies own)) m)) [] ]) ≡ []
+    by_reading : (r : Result Summary Bad) → (elim r as (λ _. List Forwarding) [ Err e ↦ [] | Ok m ↦ map (of_client row.client (replied (length (replies own)) m)) [] ]) ≡ []
     by_reading (Err e) = refl
     by_reading (Ok m) = refl
 
-    by_item : (i : Item) → is_says i ≡ false → forwarded (record row { item = i }) own [] ≡ []
-    by_item (Says k saying given) e = cc
-    by_item (Heard p) e = by_reading (read_gist p)
+    by_item : (i : Item) → is_sends i ≡ false → forwarded (record row { item = i }) own [] ≡ []
+    by_item (Says k outgoing given) e = cc
+    by_item (Heard p) e = by_reading (read_summary p)
     by_item i e = refl
 
 none-dropped : (row : Row) → dropped row [] ≡ []
@@ -65,8 +65,8 @@ none-dropped row = by_case (loses row)
 quiet-forwardings : (own : List Row) → greeted own ≡ false → forwardings_of own ≡ []
 quiet-forwardings [] quiet = refl
 quiet-forwardings (row ∷ own) quiet =
-    ap (λ fs. dropped row (forwarded row (rows_of row.client own) fs)) (quiet-forwardings own (or-right (is_says row.item) (greeted own) quiet))
-    ∙ (ap (dropped row) (not-forwarded row (rows_of row.client own) (or-left (is_says row.item) (greeted own) quiet)) ∙ none-dropped row)
+    ap (λ fs. dropped row (forwarded row (rows_of row.client own) fs)) (quiet-forwardings own (or-right (is_sends row.item) (greeted own) quiet))
+    ∙ (ap (dropped row) (not-forwarded row (rows_of row.client own) (or-left (is_sends row.item) (greeted own) quiet)) ∙ none-dropped row)
 
 quiet-offers : (before : List Row) (k s : ℕ) (what : Opens) → greeted (rows_of k before) ≡ false → dest_open before s what ≡ ToClient k → ⊥
 quiet-offers before k s what quiet to =
@@ -78,22 +78,22 @@ quiet-offers before k s what quiet to =
 -- ---- it begins no channel
 
 abbrev Quiet : List Row → Row → Type 0
-Quiet before row = is_says row.item ≡ false → greeted (rows_of row.client before) ≡ false → begun_by row.client row.up row.item ≡ []
+Quiet before row = is_sends row.item ≡ false → greeted (rows_of row.client before) ≡ false → begun_by row.client row.up row.item ≡ []
 
-heard-quiet : (before : List Row) (k : ℕ) (p : List ℕ) (fw down : List (List ℕ)) (fate : Fate) → dest before p ≡ ToClient k → Quiet before (as_row (Heard p) k (heard_for (rows_of k before) p).sent fw down fate)
+heard-quiet : (before : List Row) (k : ℕ) (p : List ℕ) (fw down : List (List ℕ)) (fate : Fate) → dest before p ≡ ToClient k → Quiet before (as_row (Heard p) k (received_for (rows_of k before) p).sent fw down fate)
 heard-quiet before k p fw down fate to still quiet =
-    heard-begins-none k p (heard_for (rows_of k before) p).sent (λ what s w max reads. quiet-offers before k s what quiet (sym (dest-ok before p (Open what s w max) reads) ∙ to))
+    heard-begins-none k p (received_for (rows_of k before) p).sent (λ what s w max reads. quiet-offers before k s what quiet (sym (dest-ok before p (Open what s w max) reads) ∙ to))
 
-dest-quiet : (before : List Row) (p : List ℕ) (d : Dest) → dest before p ≡ d → Quiet before (heard_row before p d)
+dest-quiet : (before : List Row) (p : List ℕ) (d : Dest) → dest before p ≡ d → Quiet before (received_row before p d)
 dest-quiet before p ToMaster e = λ still quiet. refl
-dest-quiet before p (ToClient k) e = row-parts (Quiet before) (Heard p) k (heard_for (rows_of k before) p) (rows_of k before) (λ fw parting down fate. heard-quiet before k p fw down fate e)
+dest-quiet before p (ToClient k) e = row-parts (Quiet before) (Heard p) k (received_for (rows_of k before) p) (rows_of k before) (λ fw parting down fate. heard-quiet before k p fw down fate e)
 dest-quiet before p Disconnects e = λ still quiet. refl
 dest-quiet before p (Breaks cause) e = λ still quiet. refl
 
 treat-quiet : (policy : Policy) (pid pick : ℕ) (before : List Row) (item : Item) → Quiet before (treat policy pid pick before item)
-treat-quiet policy pid pick before (Says k saying given) = row-parts (Quiet before) (Says k saying given) k (said_by_client policy pid k (rows_of k before) pick saying given) (rows_of k before) (λ fw parting down fate still quiet. cc)
+treat-quiet policy pid pick before (Says k outgoing given) = row-parts (Quiet before) (Says k outgoing given) k (sent_by_client policy pid k (rows_of k before) pick outgoing given) (rows_of k before) (λ fw parting down fate still quiet. cc)
 treat-quiet policy pid pick before (Admit k) = row-parts (Quiet before) (Admit k) k (admits before) (rows_of k before) (λ fw parting down fate still quiet. refl)
-treat-quiet policy pid pick before (HouseSays k id given) = row-parts (Quiet before) (HouseSays k id given) k (house_says (rows_of k before) id given) (rows_of k before) (λ fw parting down fate still quiet. refl)
+treat-quiet policy pid pick before (HouseSays k id given) = row-parts (Quiet before) (HouseSays k id given) k (house_sends (rows_of k before) id given) (rows_of k before) (λ fw parting down fate still quiet. refl)
 treat-quiet policy pid pick before (Gone k) = row-parts (Quiet before) (Gone k) k silent (rows_of k before) (λ fw parting down fate still quiet. refl)
 treat-quiet policy pid pick before (Heard p) = dest-quiet before p (dest before p) refl
 treat-quiet policy pid pick before item = λ still quiet. refl
@@ -104,9 +104,9 @@ quiet-channels policy pid k (row ∷ before) each quiet = by_case (λ h. quiet-c
   where
     by_case : (greeted (rows_of k before) ≡ false → channels_of (rows_of k before) ≡ []) → (b : Bool) → (row.client == k) ≡ b → greeted (rows_of k (row ∷ before)) ≡ false → channels_of (rows_of k (row ∷ before)) ≡ []
     by_case ih true e quiet =
-        let now : (is_says row.item || greeted (rows_of k before)) ≡ false = sym (ap greeted (filter-yes (λ (r : Row). r.client == k) row before e)) ∙ quiet in
-        let still = or-left (is_says row.item) (greeted (rows_of k before)) now in
-        let was = or-right (is_says row.item) (greeted (rows_of k before)) now in
+        let now : (is_sends row.item || greeted (rows_of k before)) ≡ false = sym (ap greeted (filter-yes (λ (r : Row). r.client == k) row before e)) ∙ quiet in
+        let still = or-left (is_sends row.item) (greeted (rows_of k before)) now in
+        let was = or-right (is_sends row.item) (greeted (rows_of k before)) now in
         let same : k ≡ row.client = sym (same_client row.client k e) in
         let none : begun_by row.client row.up row.item ≡ [] = subst (Quiet before) each.0.is (treat-quiet policy pid each.0.pick before each.0.item) still (ap (λ j. greeted (rows_of j before)) (sym same) ∙ was) in
         ap channels_of (filter-yes (λ (r : Row). r.client == k) row before e)
@@ -138,7 +138,7 @@ never-reached policy pid before n k each quiet there =
 pub to-greeted : (policy : Policy) (pid : ℕ) (before : List Row) (p : List ℕ) (k : ℕ) → ForEach (RowKnown policy pid) before → dest before p ≡ ToClient k → greeted (rows_of k before) ≡ true
 to-greeted policy pid before p k each to = by_case (greeted (rows_of k before)) refl
   where
-    by_message : greeted (rows_of k before) ≡ false → (m : Gist) → read_gist p ≡ Ok m → dest_gist before m ≡ ToClient k → ⊥
+    by_message : greeted (rows_of k before) ≡ false → (m : Summary) → read_summary p ≡ Ok m → dest_summary before m ≡ ToClient k → ⊥
     by_message quiet (Succeeds rest) reads e = never-asked before k quiet (succeeds-asked before rest k e)
     by_message quiet Refuses reads e = never-asked before k quiet (refuses-asked before k e)
     by_message quiet (Open what s w max) reads e = quiet-offers before k s what quiet e
@@ -151,19 +151,19 @@ to-greeted policy pid before p k each to = by_case (greeted (rows_of k before)) 
         by_number false e = cc
     by_message quiet (Requests what wants) reads e = cc
 
-    by_read : greeted (rows_of k before) ≡ false → (r : Result Gist Bad) → read_gist p ≡ r → ⊥
+    by_read : greeted (rows_of k before) ≡ false → (r : Result Summary Bad) → read_summary p ≡ r → ⊥
     by_read quiet (Err bad) reads = let x : Breaks _ ≡ ToClient k = sym (dest-err before p bad reads) ∙ to in cc
     by_read quiet (Ok m) reads = by_message quiet m reads (sym (dest-ok before p m reads) ∙ to)
 
     by_case : (b : Bool) → greeted (rows_of k before) ≡ b → greeted (rows_of k before) ≡ true
     by_case true e = e
-    by_case false e = absurd (by_read e (read_gist p) refl)
+    by_case false e = absurd (by_read e (read_summary p) refl)
 
 -- ---- which was let in
 
 -- an item of a client alone
 abbrev pub is_own : Item → Bool
-is_own (Says k saying given) = true
+is_own (Says k outgoing given) = true
 is_own (HouseSays k id given) = true
 is_own (Gone k) = true
 is_own item = false
@@ -172,8 +172,8 @@ is_own item = false
 abbrev pub LetFirst : List Row → Row → Type 0
 LetFirst before row = is_own row.item ≡ true → any_of is_admit (rows_of row.client before) ≡ true
 
-says-own : (item : Item) → is_says item ≡ true → is_own item ≡ true
-says-own (Says k saying given) e = refl
+says-own : (item : Item) → is_sends item ≡ true → is_own item ≡ true
+says-own (Says k outgoing given) e = refl
 says-own item e = cc
 
 pub greeted-in : (rows : List Row) (k : ℕ) → ForEach LetFirst rows → greeted (rows_of k rows) ≡ true → any_of is_admit (rows_of k rows) ≡ true
@@ -181,12 +181,12 @@ greeted-in [] k each said = cc
 greeted-in (row ∷ before) k each said = by_case (λ h. greeted-in before k each.1 h) (row.client == k) refl said
   where
     by_case : (greeted (rows_of k before) ≡ true → any_of is_admit (rows_of k before) ≡ true) → (b : Bool) → (row.client == k) ≡ b → greeted (rows_of k (row ∷ before)) ≡ true → any_of is_admit (rows_of k (row ∷ before)) ≡ true
-    by_case ih true e said = by_says (is_says row.item) refl (sym (ap greeted (filter-yes (λ (r : Row). r.client == k) row before e)) ∙ said)
+    by_case ih true e said = by_sends (is_sends row.item) refl (sym (ap greeted (filter-yes (λ (r : Row). r.client == k) row before e)) ∙ said)
       where
         same_client : (a k : ℕ) → (a == k) ≡ true → a ≡ k
         same_client a k e = grind (arith, nat_tests)
 
-        by_says : (s : Bool) → is_says row.item ≡ s → (s || greeted (rows_of k before)) ≡ true → any_of is_admit (rows_of k (row ∷ before)) ≡ true
-        by_says true is some = still-in row before k (ap (λ j. any_of is_admit (rows_of j before)) (sym (same_client row.client k e)) ∙ each.0 (says-own row.item is))
-        by_says false is some = still-in row before k (ih some)
+        by_sends : (s : Bool) → is_sends row.item ≡ s → (s || greeted (rows_of k before)) ≡ true → any_of is_admit (rows_of k (row ∷ before)) ≡ true
+        by_sends true is some = still-in row before k (ap (λ j. any_of is_admit (rows_of j before)) (sym (same_client row.client k e)) ∙ each.0 (says-own row.item is))
+        by_sends false is some = still-in row before k (ih some)
     by_case ih false e said = still-in row before k (ih (sym (ap greeted (filter-no (λ (r : Row). r.client == k) row before e)) ∙ said))

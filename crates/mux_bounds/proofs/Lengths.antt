@@ -4,7 +4,7 @@ use Rattle.std.specs.Prelude.{nat_le, nat_lt, nat_eq}
 use Rattle.std.proofs.lemmas.Bool.Decides.{nat_tests}
 use Rattle.std.proofs.Math.Seq.{drop-append_seam}
 use Rattle.ssh_grammar.specs.Frames.{Faulty, Frame, Front, More, cut_content, cut_length, cut_padding, cut_rest, first_frame, shortest}
-use Rattle.ssh_grammar.specs.Said.{Body, InControl, InProxy, Mode, Parsed, Payload, Saying, Stopped, first_in, mode_after, parse, parse_by, parse_front, saying_in}
+use Rattle.ssh_grammar.specs.Said.{Body, InControl, InProxy, Mode, Parsed, Payload, Outgoing, Stopped, first_in, mode_after, parse, parse_by, parse_front, sending_in}
 use Rattle.ssh_grammar.specs.declared.fault.BadFrame.TheVariants as bad_frame
 use Rattle.ssh_grammar.specs.declared.framing.Framing.{Framing}
 use Rattle.ssh_grammar.specs.declared.framing.Framing.TheVariants as framing
@@ -59,25 +59,25 @@ first-within (w ∷ x ∷ y ∷ z ∷ rest) = length-within (of_four w x y z) re
 -- ---- what is said in payloads
 
 -- the payloads as frames
-abbrev pub payload_bytes : Saying → ℕ
+abbrev pub payload_bytes : Outgoing → ℕ
 payload_bytes (Payload p) = length p + 5
-payload_bytes saying = 0
+payload_bytes outgoing = 0
 
-abbrev pub payloads_bytes : List Saying → ℕ
+abbrev pub payloads_bytes : List Outgoing → ℕ
 payloads_bytes [] = 0
 payloads_bytes (s ∷ ss) = payload_bytes s + payloads_bytes ss
 
-saying-within : (mode : Mode) (bytes content rest : List ℕ) → first_in mode bytes ≡ Frame content rest → payload_bytes (saying_in mode content) + length rest ≤ length bytes
-saying-within InControl bytes content rest e = let s = subst (IsShorter (length bytes - 4)) e (in-shorter InControl bytes) in omega (arith, s)
-saying-within InProxy bytes content rest e = let s = subst (Within 5 (length bytes)) e (first-within bytes) in omega (arith, s)
-saying-within Stopped bytes content rest e = cc
+outgoing-within : (mode : Mode) (bytes content rest : List ℕ) → first_in mode bytes ≡ Frame content rest → payload_bytes (sending_in mode content) + length rest ≤ length bytes
+outgoing-within InControl bytes content rest e = let s = subst (IsShorter (length bytes - 4)) e (in-shorter InControl bytes) in omega (arith, s)
+outgoing-within InProxy bytes content rest e = let s = subst (Within 5 (length bytes)) e (first-within bytes) in omega (arith, s)
+outgoing-within Stopped bytes content rest e = cc
 
 parse-within : (n : ℕ) (mode : Mode) (bytes : List ℕ) → payloads_bytes (parse_by n mode bytes).says ≤ length bytes
 parse-within zero mode bytes = omega arith
 parse-within (suc n) mode bytes = by_front (first_in mode bytes) refl (λ mode rest. parse-within n mode rest)
   where
     by_front : (f : Front) → first_in mode bytes ≡ f → ((mode : Mode) (rest : List ℕ) → payloads_bytes (parse_by n mode rest).says ≤ length rest) → payloads_bytes (parse_front (parse_by n) mode bytes f).says ≤ length bytes
-    by_front (Frame content rest) e ih = let a = saying-within mode bytes content rest e in let b = ih (mode_after mode content) rest in omega (arith, a, b)
+    by_front (Frame content rest) e ih = let a = outgoing-within mode bytes content rest e in let b = ih (mode_after mode content) rest in omega (arith, a, b)
     by_front More e ih = omega arith
     by_front (Faulty fault) e ih = omega arith
 
@@ -157,15 +157,15 @@ rest-few mode bytes on = by_mode (parse mode bytes).mode (parse mode bytes).rest
 -- ---- what is new
 
 -- what new bytes say, after all bytes before them
-abbrev pub new_says : Mode → List ℕ → List ℕ → List Saying
-new_says mode before bytes = drop (length (parse mode before).says) (parse mode (before ++ bytes)).says
+abbrev pub new_sends : Mode → List ℕ → List ℕ → List Outgoing
+new_sends mode before bytes = drop (length (parse mode before).says) (parse mode (before ++ bytes)).says
 
-pub new-is : (mode : Mode) (before bytes : List ℕ) → new_says mode before bytes ≡ (parse (parse mode before).mode ((parse mode before).rest ++ bytes)).says
+pub new-is : (mode : Mode) (before bytes : List ℕ) → new_sends mode before bytes ≡ (parse (parse mode before).mode ((parse mode before).rest ++ bytes)).says
 new-is mode before bytes =
     ap (λ (p : Parsed). drop (length (parse mode before).says) p.says) (parse-append mode before bytes)
     ∙ drop-append_seam (parse mode before).says (parse (parse mode before).mode ((parse mode before).rest ++ bytes)).says
 
-pub new-bytes : (mode : Mode) (before bytes : List ℕ) → payloads_bytes (new_says mode before bytes) ≤ 262147 + length bytes
+pub new-bytes : (mode : Mode) (before bytes : List ℕ) → payloads_bytes (new_sends mode before bytes) ≤ 262147 + length bytes
 new-bytes mode before bytes = subst (λ ss. payloads_bytes ss ≤ 262147 + length bytes) (sym (new-is mode before bytes)) (by_mode (parse mode before).mode (parse mode before).rest (parse-rest (length before) mode before (omega arith)))
   where
     by_mode : (m : Mode) (rest : List ℕ) → RestFew m rest → payloads_bytes (parse m (rest ++ bytes)).says ≤ 262147 + length bytes
@@ -175,11 +175,11 @@ new-bytes mode before bytes = subst (λ ss. payloads_bytes ss ≤ 262147 + lengt
 
 -- ---- the server says payloads alone
 
-abbrev pub NoBody : Saying → Type 0
+abbrev pub NoBody : Outgoing → Type 0
 NoBody (Body body) = ⊥
-NoBody saying = Unit {0}
+NoBody outgoing = Unit {0}
 
-abbrev pub NoBodies : List Saying → Type 0
+abbrev pub NoBodies : List Outgoing → Type 0
 NoBodies [] = Unit {0}
 NoBodies (s ∷ ss) = NoBody s × NoBodies ss
 
@@ -191,7 +191,7 @@ parse-bodies : (n : ℕ) (mode : Mode) (bytes : List ℕ) → Proxied mode → N
 parse-bodies zero mode bytes proxied = tt
 parse-bodies (suc n) mode bytes proxied = by_front (first_in mode bytes) (λ mode rest p. parse-bodies n mode rest p)
   where
-    no-body : (mode : Mode) (content : List ℕ) → Proxied mode → NoBody (saying_in mode content)
+    no-body : (mode : Mode) (content : List ℕ) → Proxied mode → NoBody (sending_in mode content)
     no-body InControl content p = absurd p
     no-body InProxy content p = tt
     no-body Stopped content p = tt
@@ -206,10 +206,10 @@ parse-bodies (suc n) mode bytes proxied = by_front (first_in mode bytes) (λ mod
     by_front More ih = tt
     by_front (Faulty fault) ih = (tt, tt)
 
-bodies-drop : (n : ℕ) (ss : List Saying) → NoBodies ss → NoBodies (drop n ss)
+bodies-drop : (n : ℕ) (ss : List Outgoing) → NoBodies ss → NoBodies (drop n ss)
 bodies-drop zero ss all = all
 bodies-drop (suc n) [] all = tt
 bodies-drop (suc n) (s ∷ ss) all = bodies-drop n ss all.1
 
-pub new-bodies : (before bytes : List ℕ) → NoBodies (new_says InProxy before bytes)
+pub new-bodies : (before bytes : List ℕ) → NoBodies (new_sends InProxy before bytes)
 new-bodies before bytes = bodies-drop (length (parse InProxy before).says) (parse InProxy (before ++ bytes)).says (parse-bodies (length (before ++ bytes)) InProxy (before ++ bytes) tt)

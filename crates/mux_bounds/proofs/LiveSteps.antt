@@ -4,12 +4,12 @@ use Rattle.std.specs.Prelude.{◌==◌, ◌⊎◌, ◌||◌, ◌&&◌, not, Resu
 use Rattle.std.proofs.lemmas.Bool.Decides.{nat_tests}
 use Rattle.std.proofs.lemmas.List.{append-nil}
 use Rattle.ssh_grammar.specs.declared.fault.Bad.{Bad}
-use Rattle.mux_history.specs.Controls.{house_says}
+use Rattle.mux_history.specs.Controls.{house_sends}
 use Rattle.mux_history.specs.Farewell.{late}
-use Rattle.mux_history.specs.Gist.{Gist, Open, Requests, read_gist}
-use Rattle.mux_history.specs.Heard.{Breaks, Dest, Disconnects, ToClient, ToMaster, dest, for_client, for_lost, for_master, heard_for, heard_gist, heard_master}
+use Rattle.mux_history.specs.Summary.{Summary, Open, Requests, read_summary}
+use Rattle.mux_history.specs.Heard.{Breaks, Dest, Disconnects, ToClient, ToMaster, dest, for_client, for_lost, for_master, received_for, received_summary, received_master}
 use Rattle.mux_history.specs.Kept.{ForEach}
-use Rattle.mux_history.specs.Log.{bare, entered, goes, heard_row, makes_row, new_answers, queued, row_of, said_by_client, treat, with_farewell}
+use Rattle.mux_history.specs.Log.{bare, entered, goes, received_row, makes_row, new_answers, queued, row_of, sent_by_client, treat, with_farewell}
 use Rattle.mux_history.specs.Policy.{Policy}
 use Rattle.mux_history.specs.Rows.{Admit, Goes, Gone, Heard, HouseSays, Item, Row, Says, Took, any_of, is_admit, is_lost, is_out, loses, rows_of}
 use Rattle.mux_history.specs.Said.{Outcome, silent}
@@ -79,31 +79,31 @@ not-out own going = by_case (is_lost own) refl
     by_case false e = e
 
 abbrev unheard : List (List ℕ) → Outcome
-unheard up = record { sent = up; told = []; ends = Goes }
+unheard up = record { sent = up; recorded = []; ends = Goes }
 
-lost-silent : (own : List Row) (p : List ℕ) → is_lost own ≡ true → (up : List (List ℕ)) × (heard_for own p ≡ unheard up)
-lost-silent own p lost = by_case (read_gist p)
+lost-silent : (own : List Row) (p : List ℕ) → is_lost own ≡ true → (up : List (List ℕ)) × (received_for own p ≡ unheard up)
+lost-silent own p lost = by_case (read_summary p)
   where
-    by_case : (r : Result Gist Bad) → (up : List (List ℕ)) × ((elim r as (λ _. Outcome) [ Err bad ↦ silent | Ok m ↦ heard_gist own p m ]) ≡ unheard up)
+    by_case : (r : Result Summary Bad) → (up : List (List ℕ)) × ((elim r as (λ _. Outcome) [ Err bad ↦ silent | Ok m ↦ received_summary own p m ]) ≡ unheard up)
     by_case (Err bad) = ([], refl)
     by_case (Ok m) = (late m own, ap (λ b. elim b as (λ _. Outcome) [ true ↦ for_lost own m | false ↦ for_client own p m ]) lost)
 
 lost-row : (p : List ℕ) (k : ℕ) (up : List (List ℕ)) (own : List Row) → is_lost own ≡ true → loses (row_of (Heard p) k (unheard up) own) ≡ false
 lost-row p k up own lost = ap (λ b. loses (with_farewell (queued (elim (goes Goes && not b) as (λ _. List (List ℕ)) [ true ↦ [] ++ new_answers (bare (Heard p) k (unheard up)) own | false ↦ [] ]) (bare (Heard p) k (unheard up)) own) own)) lost
 
-heard-keeps : (before : List Row) (p : List ℕ) (k : ℕ) → is_lost (rows_of k before) ≡ true → loses (row_of (Heard p) k (heard_for (rows_of k before) p) (rows_of k before)) ≡ false
+heard-keeps : (before : List Row) (p : List ℕ) (k : ℕ) → is_lost (rows_of k before) ≡ true → loses (row_of (Heard p) k (received_for (rows_of k before) p) (rows_of k before)) ≡ false
 heard-keeps before p k lost = let s = lost-silent (rows_of k before) p lost in ap (λ o. loses (row_of (Heard p) k o (rows_of k before))) s.1 ∙ lost-row p k s.0 (rows_of k before) lost
 
-master-keeps : (p : List ℕ) → loses (bare (Heard p) 0 (heard_master p)) ≡ false
-master-keeps p = by_case (read_gist p)
+master-keeps : (p : List ℕ) → loses (bare (Heard p) 0 (received_master p)) ≡ false
+master-keeps p = by_case (read_summary p)
   where
-    by_message : (m : Gist) → loses (bare (Heard p) 0 (for_master m)) ≡ false
+    by_message : (m : Summary) → loses (bare (Heard p) 0 (for_master m)) ≡ false
     by_message (Requests what true) = refl
     by_message (Requests what false) = refl
     by_message (Open what s w max) = refl
     by_message m = refl
 
-    by_case : (r : Result Gist Bad) → loses (bare (Heard p) 0 (elim r as (λ _. Outcome) [ Err bad ↦ silent | Ok m ↦ for_master m ])) ≡ false
+    by_case : (r : Result Summary Bad) → loses (bare (Heard p) 0 (elim r as (λ _. Outcome) [ Err bad ↦ silent | Ok m ↦ for_master m ])) ≡ false
     by_case (Err bad) = refl
     by_case (Ok m) = by_message m
 
@@ -117,20 +117,20 @@ LosesOnce before row = loses row ≡ true → admits_one row.item ≡ false → 
 keeps-none : (before : List Row) (row : Row) → loses row ≡ false → LosesOnce before row
 keeps-none before row keeps lost plain = let bad : false ≡ true = sym keeps ∙ lost in absurd (let h = bad in cc)
 
-heard-once : (before : List Row) (p : List ℕ) (d : Dest) → dest before p ≡ d → LosesOnce before (heard_row before p d)
-heard-once before p ToMaster e = keeps-none before (heard_row before p ToMaster) (master-keeps p)
+heard-once : (before : List Row) (p : List ℕ) (d : Dest) → dest before p ≡ d → LosesOnce before (received_row before p d)
+heard-once before p ToMaster e = keeps-none before (received_row before p ToMaster) (master-keeps p)
 heard-once before p (ToClient k) e = by_lost (is_lost (rows_of k before)) refl
   where
-    by_lost : (b : Bool) → is_lost (rows_of k before) ≡ b → LosesOnce before (row_of (Heard p) k (heard_for (rows_of k before) p) (rows_of k before))
-    by_lost true lost = keeps-none before (row_of (Heard p) k (heard_for (rows_of k before) p) (rows_of k before)) (heard-keeps before p k lost)
-    by_lost false lost = row-parts (LosesOnce before) (Heard p) k (heard_for (rows_of k before) p) (rows_of k before) (λ fw parting down fate l plain. (lost, inr (p, e)))
-heard-once before p Disconnects e = keeps-none before (heard_row before p Disconnects) refl
-heard-once before p (Breaks cause) e = keeps-none before (heard_row before p (Breaks cause)) refl
+    by_lost : (b : Bool) → is_lost (rows_of k before) ≡ b → LosesOnce before (row_of (Heard p) k (received_for (rows_of k before) p) (rows_of k before))
+    by_lost true lost = keeps-none before (row_of (Heard p) k (received_for (rows_of k before) p) (rows_of k before)) (heard-keeps before p k lost)
+    by_lost false lost = row-parts (LosesOnce before) (Heard p) k (received_for (rows_of k before) p) (rows_of k before) (λ fw parting down fate l plain. (lost, inr (p, e)))
+heard-once before p Disconnects e = keeps-none before (received_row before p Disconnects) refl
+heard-once before p (Breaks cause) e = keeps-none before (received_row before p (Breaks cause)) refl
 
 treat-once : (policy : Policy) (pid pick : ℕ) (before : List Row) (item : Item) → makes_row before item ≡ true → LosesOnce before (treat policy pid pick before item)
 treat-once policy pid pick before (Admit k) makes = λ lost plain. absurd (let bad : true ≡ false = sym (ap admits_one (treat-item policy pid pick before (Admit k))) ∙ plain in let h = bad in cc)
-treat-once policy pid pick before (Says k saying given) makes = row-parts (LosesOnce before) (Says k saying given) k (said_by_client policy pid k (rows_of k before) pick saying given) (rows_of k before) (λ fw parting down fate l plain. (not-out (rows_of k before) makes, inl refl))
-treat-once policy pid pick before (HouseSays k id given) makes = row-parts (LosesOnce before) (HouseSays k id given) k (house_says (rows_of k before) id given) (rows_of k before) (λ fw parting down fate l plain. (not-out (rows_of k before) makes, inl refl))
+treat-once policy pid pick before (Says k outgoing given) makes = row-parts (LosesOnce before) (Says k outgoing given) k (sent_by_client policy pid k (rows_of k before) pick outgoing given) (rows_of k before) (λ fw parting down fate l plain. (not-out (rows_of k before) makes, inl refl))
+treat-once policy pid pick before (HouseSays k id given) makes = row-parts (LosesOnce before) (HouseSays k id given) k (house_sends (rows_of k before) id given) (rows_of k before) (λ fw parting down fate l plain. (not-out (rows_of k before) makes, inl refl))
 treat-once policy pid pick before (Gone k) makes = row-parts (LosesOnce before) (Gone k) k silent (rows_of k before) (λ fw parting down fate l plain. (not-out (rows_of k before) makes, inl refl))
 treat-once policy pid pick before (Heard p) makes = heard-once before p (dest before p) refl
 treat-once policy pid pick before item makes = keeps-none before (treat policy pid pick before item) refl
@@ -212,8 +212,8 @@ live-step policy pid before row known each first little = by_loss (loses row) re
         by_item false i =
             let v = w in
             let once = row-once policy pid before row known l i in
-            let lives : was ≡ true = ap not once.0 in
-            let s = shift is_live row before true false lives gone (entered before) in
+            let relay_traces : was ≡ true = ap not once.0 in
+            let s = shift is_live row before true false relay_traces gone (entered before) in
             let c = stays false e in
             let n : count row.client (entered before) ≡ 1 = entered-once policy pid before each row.client ∙ ap one_if (in-once once.1) in
             omega (arith, little, v, s, c, n)

@@ -8,7 +8,7 @@ use Rattle.mux_history.specs.Kept.{AtEach, ForEach}
 use Rattle.mux_history.specs.Log.{entered, matters_of, open_matters, row_of, treat}
 use Rattle.mux_history.specs.Policy.{Policy}
 use Rattle.mux_history.specs.Rows.{Admit, Fate, Item, Refused, Row, any_of, is_admit, rows_of}
-use Rattle.mux_history.specs.Said.{Outcome, tells}
+use Rattle.mux_history.specs.Said.{Outcome, records}
 use Rattle.mux_bounds.specs.Few.{MattersBounded}
 use Rattle.ssh_grammar.specs.Control.{Greets}
 use Rattle.ssh_grammar.specs.Frames.{frame_answer}
@@ -101,7 +101,7 @@ treat-room policy pid pick before (Admit k) admitted = by_case (nat_lt (open_mat
     by_case : (b : Bool) → nat_lt (open_matters before) 64 ≡ b → open_matters before + 1 ≤ 64
     by_case true e = is-less (open_matters before) 64 e
     by_case false e =
-        let refused : false ≡ true = sym (ap (λ b. is_admit (row_of (Admit k) k (elim b as (λ _. Outcome) [ true ↦ tells (frame_answer (Greets VERSION)) | false ↦ record { sent = []; told = []; ends = Refused } ]) (rows_of k before))) e) ∙ admitted in
+        let refused : false ≡ true = sym (ap (λ b. is_admit (row_of (Admit k) k (elim b as (λ _. Outcome) [ true ↦ records (frame_answer (Greets VERSION)) | false ↦ record { sent = []; recorded = []; ends = Refused } ]) (rows_of k before))) e) ∙ admitted in
         absurd (let h = refused in cc)
 treat-room policy pid pick before item admitted = absurd (not-admit (treat policy pid pick before item) item (treat-item policy pid pick before item) (λ k e. cc) admitted)
 

@@ -7,9 +7,9 @@ use Rattle.ssh_grammar.specs.ReadMessage.{Form, OfChannel, OfNone, Reading, form
 use Rattle.ssh_grammar.specs.Tables.{by_number}
 use Rattle.ssh_grammar.specs.declared.fault.Bad.TheVariants as bad
 use Rattle.ssh_grammar.proofs.Tables.{by_number-holds}
-use Rattle.mux_history.specs.Gist.{Gist, gist, gist_to, gist_of_plain, read_gist}
-use Rattle.mux_history.specs.Gist as short
-use Rattle.mux_history.proofs.Readings.{Always, bool-always, end-always, gist-always, str-always, then-always, u32-always, with-always}
+use Rattle.mux_history.specs.Summary.{Summary, summary, summary_to, summary_of_plain, read_summary}
+use Rattle.mux_history.specs.Summary as short
+use Rattle.mux_history.proofs.Readings.{Always, bool-always, end-always, summary-always, str-always, then-always, u32-always, with-always}
 
 -- ---- fields have bytes
 
@@ -33,11 +33,11 @@ str-deep {A} P (a ∷ b ∷ c ∷ d ∷ more) at f each = by_case (nat_le (of_fo
 
 -- ---- an open
 
-abbrev Long : ℕ → Gist → Type 0
+abbrev Long : ℕ → Summary → Type 0
 Long n (short.Open what s w max) = 8 ≤ n + 1
 Long n g = Unit {0}
 
-to-long : (n recipient : ℕ) (m : ChannelMessage) → Long n (gist_to recipient m)
+to-long : (n recipient : ℕ) (m : ChannelMessage) → Long n (summary_to recipient m)
 to-long n recipient (Confirmation sender window maximum rest) = tt
 to-long n recipient (OpenFailure reason text language) = tt
 to-long n recipient (Adjust add) = tt
@@ -50,25 +50,25 @@ to-long n recipient Success = tt
 to-long n recipient Failure = tt
 
 abbrev LongForm : ℕ → List ℕ → Form → Type 0
-LongForm n rest form = Always (λ m. Long (length rest) (gist m)) (read_as n form rest)
+LongForm n rest form = Always (λ m. Long (length rest) (summary m)) (read_as n form rest)
 
 channel-long : (n : ℕ) (rest : List ℕ) (read : List ℕ → Reading ChannelMessage) → LongForm n rest (OfChannel read)
-channel-long n rest read = u32-always (λ m. Long (length rest) (gist m)) rest 1 _ (λ recipient more at. with-always (λ m. Long (length rest) (gist m)) (read more) (To recipient) (λ m. to-long (length rest) recipient m))
+channel-long n rest read = u32-always (λ m. Long (length rest) (summary m)) rest 1 _ (λ recipient more at. with-always (λ m. Long (length rest) (summary m)) (read more) (To recipient) (λ m. to-long (length rest) recipient m))
 
-request-long : (n : ℕ) (rest : List ℕ) → Always (λ m. Long (length rest) (gist_of_plain m)) (on_str rest 1 (λ name more at. on_bool more at (λ want more at. with_reading (read_global name more at) (GlobalRequest name want more))))
-request-long n rest = str-always (λ m. Long (length rest) (gist_of_plain m)) rest 1 _ (λ name more at. bool-always (λ m. Long (length rest) (gist_of_plain m)) more at _ (λ want more at. with-always (λ m. Long (length rest) (gist_of_plain m)) (read_global name more at) (GlobalRequest name want more) (λ what. tt)))
+request-long : (n : ℕ) (rest : List ℕ) → Always (λ m. Long (length rest) (summary_of_plain m)) (on_str rest 1 (λ name more at. on_bool more at (λ want more at. with_reading (read_global name more at) (GlobalRequest name want more))))
+request-long n rest = str-always (λ m. Long (length rest) (summary_of_plain m)) rest 1 _ (λ name more at. bool-always (λ m. Long (length rest) (summary_of_plain m)) more at _ (λ want more at. with-always (λ m. Long (length rest) (summary_of_plain m)) (read_global name more at) (GlobalRequest name want more) (λ what. tt)))
 
-open-long : (rest : List ℕ) → Always (λ m. Long (length rest) (gist_of_plain m)) (on_str rest 1 (λ kind more at. on_u32 more at (λ sender more at. on_u32 more at (λ window more at. on_u32 more at (λ maximum more at. with_reading (read_opens kind more at) (Open kind sender window maximum more))))))
+open-long : (rest : List ℕ) → Always (λ m. Long (length rest) (summary_of_plain m)) (on_str rest 1 (λ kind more at. on_u32 more at (λ sender more at. on_u32 more at (λ window more at. on_u32 more at (λ maximum more at. with_reading (read_opens kind more at) (Open kind sender window maximum more))))))
 open-long rest =
-    str-deep (λ m. Long (length rest) (gist_of_plain m)) rest 1 _ (λ kind a at le. u32-deep (λ m. Long (length rest) (gist_of_plain m)) a at _ (λ sender b at le'.
-    u32-always (λ m. Long (length rest) (gist_of_plain m)) b at _ (λ window c at. u32-always (λ m. Long (length rest) (gist_of_plain m)) c at _ (λ maximum d at.
-    with-always (λ m. Long (length rest) (gist_of_plain m)) (read_opens kind d at) (Open kind sender window maximum d) (λ what. omega (arith, le, le'))))))
+    str-deep (λ m. Long (length rest) (summary_of_plain m)) rest 1 _ (λ kind a at le. u32-deep (λ m. Long (length rest) (summary_of_plain m)) a at _ (λ sender b at le'.
+    u32-always (λ m. Long (length rest) (summary_of_plain m)) b at _ (λ window c at. u32-always (λ m. Long (length rest) (summary_of_plain m)) c at _ (λ maximum d at.
+    with-always (λ m. Long (length rest) (summary_of_plain m)) (read_opens kind d at) (Open kind sender window maximum d) (λ what. omega (arith, le, le'))))))
 
 all-long : (n : ℕ) (rest : List ℕ) → LongForm n rest (by_number (forms n) n OfNone)
 all-long n rest = by_number-holds (LongForm n rest) (forms n) n OfNone
-    ((λ e. tt), ((λ e. tt), ((λ e. tt), ((λ e. tt), ((λ e. then-always (λ m. Long (length rest) (gist m)) _ Plain (request-long n rest)), ((λ e. tt), ((λ e. then-always (λ m. Long (length rest) (gist m)) _ Plain (end-always (λ m. Long (length rest) (gist_of_plain m)) rest 1 RequestFailure tt)), ((λ e. then-always (λ m. Long (length rest) (gist m)) _ Plain (open-long rest)), ((λ e. channel-long n rest _), ((λ e. channel-long n rest _), ((λ e. channel-long n rest _), ((λ e. channel-long n rest _), ((λ e. channel-long n rest _), ((λ e. channel-long n rest _), ((λ e. channel-long n rest _), ((λ e. channel-long n rest _), ((λ e. channel-long n rest _), ((λ e. channel-long n rest _), tt))))))))))))))))))
+    ((λ e. tt), ((λ e. tt), ((λ e. tt), ((λ e. tt), ((λ e. then-always (λ m. Long (length rest) (summary m)) _ Plain (request-long n rest)), ((λ e. tt), ((λ e. then-always (λ m. Long (length rest) (summary m)) _ Plain (end-always (λ m. Long (length rest) (summary_of_plain m)) rest 1 RequestFailure tt)), ((λ e. then-always (λ m. Long (length rest) (summary m)) _ Plain (open-long rest)), ((λ e. channel-long n rest _), ((λ e. channel-long n rest _), ((λ e. channel-long n rest _), ((λ e. channel-long n rest _), ((λ e. channel-long n rest _), ((λ e. channel-long n rest _), ((λ e. channel-long n rest _), ((λ e. channel-long n rest _), ((λ e. channel-long n rest _), ((λ e. channel-long n rest _), tt))))))))))))))))))
     tt
 
-pub opens-long : (p : List ℕ) (what : Opens) (s w max : ℕ) → read_gist p ≡ Ok (short.Open what s w max) → 8 ≤ length p
+pub opens-long : (p : List ℕ) (what : Opens) (s w max : ℕ) → read_summary p ≡ Ok (short.Open what s w max) → 8 ≤ length p
 opens-long [] what s w max reads = cc
-opens-long (n ∷ rest) what s w max reads = let l = gist-always (Long (length rest)) (n ∷ rest) (short.Open what s w max) (all-long n rest) reads in omega (arith, l)
+opens-long (n ∷ rest) what s w max reads = let l = summary-always (Long (length rest)) (n ∷ rest) (short.Open what s w max) (all-long n rest) reads in omega (arith, l)

@@ -8,12 +8,12 @@ use Rattle.ssh_grammar.specs.Messages.{Cancel, Forward, Global, KeepAlive, Key, 
 use Rattle.ssh_grammar.specs.Said.{BadFraming, Body, Payload}
 use Rattle.ssh_grammar.specs.declared.fault.Bad.{Bad}
 use Rattle.mux_history.specs.Forwardings.{Forwarding, change_first, current, forwarded, forwardings_of, is_free_at, of_client, replied, requested, stopped}
-use Rattle.mux_history.specs.Gist.{Gist, Refuses, Requests, Succeeds, read_gist}
+use Rattle.mux_history.specs.Summary.{Summary, Refuses, Requests, Succeeds, read_summary}
 use Rattle.mux_history.specs.Keys.{is_askable}
 use Rattle.mux_history.specs.Policy.{Policy, permits}
 use Rattle.mux_history.specs.Requests.{Ask, asks, asks_of, is_reply, is_sent, replies, reply_in, wanted_by, wanted_in}
 use Rattle.mux_history.specs.Rows.{Heard, Item, Row, Says, any_of}
-use Rattle.mux_history.specs.Said.{said_request, sends_if}
+use Rattle.mux_history.specs.Said.{sent_request, sends_if}
 use Rattle.mux_history.proofs.Finds.{filter-no, filter-yes}
 use Rattle.mux_history.proofs.Sends.{and-left}
 use Rattle.mux_bounds.proofs.Counts.{is_on}
@@ -29,12 +29,12 @@ sends-yes : (b : Bool) (p : List ℕ) → flag (sends_if b p).sent ≡ true → 
 sends-yes true p e = refl
 sends-yes false p e = cc
 
-pub forward-wants : (policy : Policy) (k : ℕ) (own : List Row) (p : List ℕ) (key : Key) (wants : Bool) → flag (said_request policy k own p (Forward key) wants).sent ≡ true → wants ≡ true
+pub forward-wants : (policy : Policy) (k : ℕ) (own : List Row) (p : List ℕ) (key : Key) (wants : Bool) → flag (sent_request policy k own p (Forward key) wants).sent ≡ true → wants ≡ true
 forward-wants policy k own p key wants sent =
     and-left wants (is_askable key && (permits policy.listens key && nat_lt (length (current own)) 64))
     (sends-yes (wants && (is_askable key && (permits policy.listens key && nat_lt (length (current own)) 64))) p sent)
 
-pub cancel-free : (policy : Policy) (k : ℕ) (own : List Row) (p : List ℕ) (key : Key) (wants : Bool) → flag (said_request policy k own p (Cancel key) wants).sent ≡ true → any_of (is_free_at k key) (forwardings_of own) ≡ true
+pub cancel-free : (policy : Policy) (k : ℕ) (own : List Row) (p : List ℕ) (key : Key) (wants : Bool) → flag (sent_request policy k own p (Cancel key) wants).sent ≡ true → any_of (is_free_at k key) (forwardings_of own) ≡ true
 cancel-free policy k own p key wants sent = part (forwardings_of own) (sends-yes (any_of (is_free_at k key) (current own)) p sent)
   where
     part : (fs : List Forwarding) → any_of (is_free_at k key) (filter is_on fs) ≡ true → any_of (is_free_at k key) fs ≡ true
@@ -106,7 +106,7 @@ asked-held place last k us fs OtherName true here wanted free held = held-more p
 asked-held place last k us fs OtherName false here wanted free held = held-still place us [] fs refl held
 
 -- a reply
-reply-held : (place k : ℕ) (us : List Ask) (m : Gist) (fs : List Forwarding) → Held place us fs → Held (place + 1) (drop 1 us) (map (of_client k (replied place m)) fs)
+reply-held : (place k : ℕ) (us : List Ask) (m : Summary) (fs : List Forwarding) → Held place us fs → Held (place + 1) (drop 1 us) (map (of_client k (replied place m)) fs)
 reply-held place k us m fs held = record {
   cover = by_asks us held.cover;
   sound = sound-map (of_client k (replied place m)) (λ f. client-sound k (replied place m) f (replied-sound place m f)) fs held.sound;
@@ -123,7 +123,7 @@ reply-held place k us m fs held = record {
     by_asks (x ∷ xs) cover = cover-from (place + 1) xs fs (map (of_client k (replied place m)) fs) step cover.1
 
 -- a message that is none
-other-held : (place k : ℕ) (us new : List Ask) (m : Gist) (fs : List Forwarding) → new ≡ [] → ((f : Forwarding) → replied place m f ≡ f) → Held place us fs → Held (place + 0) (us ++ new) (map (of_client k (replied place m)) fs)
+other-held : (place k : ℕ) (us new : List Ask) (m : Summary) (fs : List Forwarding) → new ≡ [] → ((f : Forwarding) → replied place m f ≡ f) → Held place us fs → Held (place + 0) (us ++ new) (map (of_client k (replied place m)) fs)
 other-held place k us new m fs none same held = held-still place us new (map (of_client k (replied place m)) fs) none (record {
   cover = cover-from place us fs (map (of_client k (replied place m)) fs) (λ j le. covered-map j (of_client k (replied place m)) fs held.sound (λ f sound waits. client-waits k j (replied place m) f (λ w. ap (covers j) (same f) ∙ w) waits)) held.cover;
   sound = sound-map (of_client k (replied place m)) (λ f. client-sound k (replied place m) f (replied-sound place m f)) fs held.sound;
@@ -134,40 +134,40 @@ Next row own us fs = Held (length (replies own) + length (reply_in row.item)) (d
 
 -- what is known of the request of a row
 pub record Asks (row : Row) (fs : List Forwarding) : Type 0 where
-  pub wants : (j : ℕ) (p : List ℕ) (given : Option HouseReply) (key : Key) (want : Bool) → row.item ≡ Says j (Payload p) given → read_gist p ≡ Ok (Requests (Forward key) want) → is_sent row ≡ true → want ≡ true
-  pub free : (j : ℕ) (p : List ℕ) (given : Option HouseReply) (key : Key) (want : Bool) → row.item ≡ Says j (Payload p) given → read_gist p ≡ Ok (Requests (Cancel key) want) → is_sent row ≡ true → any_of (is_free_at row.client key) fs ≡ true
+  pub wants : (j : ℕ) (p : List ℕ) (given : Option HouseReply) (key : Key) (want : Bool) → row.item ≡ Says j (Payload p) given → read_summary p ≡ Ok (Requests (Forward key) want) → is_sent row ≡ true → want ≡ true
+  pub free : (j : ℕ) (p : List ℕ) (given : Option HouseReply) (key : Key) (want : Bool) → row.item ≡ Says j (Payload p) given → read_summary p ≡ Ok (Requests (Cancel key) want) → is_sent row ≡ true → any_of (is_free_at row.client key) fs ≡ true
 
 pub next-held : (row : Row) (own : List Row) (us : List Ask) (fs : List Forwarding) → length (replies own) + length us ≡ length (asks own) → Asks row fs → Held (length (replies own)) us fs → Next row own us fs
 next-held row own us fs here known held = by_item row.item refl
   where
-    by_gist : (j : ℕ) (p : List ℕ) (given : Option HouseReply) → row.item ≡ Says j (Payload p) given → is_sent row ≡ true → (m : Gist) → read_gist p ≡ Ok m → Held (length (replies own) + 0) (us ++ asks_of row.client true (wanted_in m)) (requested row.client (length (asks own)) m fs)
-    by_gist j p given item sent (Requests what wants) reads = asked-held (length (replies own)) (length (asks own)) row.client us fs what wants here
+    by_summary : (j : ℕ) (p : List ℕ) (given : Option HouseReply) → row.item ≡ Says j (Payload p) given → is_sent row ≡ true → (m : Summary) → read_summary p ≡ Ok m → Held (length (replies own) + 0) (us ++ asks_of row.client true (wanted_in m)) (requested row.client (length (asks own)) m fs)
+    by_summary j p given item sent (Requests what wants) reads = asked-held (length (replies own)) (length (asks own)) row.client us fs what wants here
         (λ key e. known.wants j p given key wants item (reads ∙ ap (λ g. Ok (Requests g wants)) e) sent)
         (λ key e. known.free j p given key wants item (reads ∙ ap (λ g. Ok (Requests g wants)) e) sent)
         held
-    by_gist j p given item sent m reads = held-still (length (replies own)) us [] fs refl held
+    by_summary j p given item sent m reads = held-still (length (replies own)) us [] fs refl held
 
-    by_sent : (j : ℕ) (p : List ℕ) (given : Option HouseReply) → row.item ≡ Says j (Payload p) given → (b : Bool) → is_sent row ≡ b → (r : Result Gist Bad) → read_gist p ≡ r
+    by_sent : (j : ℕ) (p : List ℕ) (given : Option HouseReply) → row.item ≡ Says j (Payload p) given → (b : Bool) → is_sent row ≡ b → (r : Result Summary Bad) → read_summary p ≡ r
         → Held (length (replies own) + 0) (us ++ asks_of row.client b (elim r as (λ _. Option Global) [ Err e ↦ None | Ok m ↦ wanted_in m ])) (elim b as (λ _. List Forwarding) [ true ↦ elim r as (λ _. List Forwarding) [ Err e ↦ fs | Ok m ↦ requested row.client (length (asks own)) m fs ] | false ↦ fs ])
     by_sent j p given item false sent r reads = held-still (length (replies own)) us _ fs refl held
     by_sent j p given item true sent (Err e) reads = held-still (length (replies own)) us [] fs refl held
-    by_sent j p given item true sent (Ok m) reads = by_gist j p given item sent m reads
+    by_sent j p given item true sent (Ok m) reads = by_summary j p given item sent m reads
 
     none : asks_of row.client (is_sent row) None ≡ []
     none = asks-none row.client (is_sent row)
 
-    by_reply : (p : List ℕ) (m : Gist) → Held (length (replies own) + length (elim (is_reply m) as (λ _. List (List ℕ)) [ true ↦ p ∷ [] | false ↦ [] ])) (drop (length (elim (is_reply m) as (λ _. List (List ℕ)) [ true ↦ p ∷ [] | false ↦ [] ])) (us ++ asks_of row.client (is_sent row) None)) (map (of_client row.client (replied (length (replies own)) m)) fs)
+    by_reply : (p : List ℕ) (m : Summary) → Held (length (replies own) + length (elim (is_reply m) as (λ _. List (List ℕ)) [ true ↦ p ∷ [] | false ↦ [] ])) (drop (length (elim (is_reply m) as (λ _. List (List ℕ)) [ true ↦ p ∷ [] | false ↦ [] ])) (us ++ asks_of row.client (is_sent row) None)) (map (of_client row.client (replied (length (replies own)) m)) fs)
     by_reply p (Succeeds rest) = subst (λ (xs : List Ask). Held (length (replies own) + 1) (drop 1 xs) (map (of_client row.client (replied (length (replies own)) (Succeeds rest))) fs)) (sym (ap (λ xs. us ++ xs) none ∙ append-nil us)) (reply-held (length (replies own)) row.client us (Succeeds rest) fs held)
     by_reply p Refuses = subst (λ (xs : List Ask). Held (length (replies own) + 1) (drop 1 xs) (map (of_client row.client (replied (length (replies own)) Refuses)) fs)) (sym (ap (λ xs. us ++ xs) none ∙ append-nil us)) (reply-held (length (replies own)) row.client us Refuses fs held)
     by_reply p m = other-held (length (replies own)) row.client us (asks_of row.client (is_sent row) None) m fs none (λ f. refl) held
 
-    by_heard : (p : List ℕ) (r : Result Gist Bad) → Held (length (replies own) + length (elim (elim r as (λ _. Bool) [ Err e ↦ false | Ok m ↦ is_reply m ]) as (λ _. List (List ℕ)) [ true ↦ p ∷ [] | false ↦ [] ])) (drop (length (elim (elim r as (λ _. Bool) [ Err e ↦ false | Ok m ↦ is_reply m ]) as (λ _. List (List ℕ)) [ true ↦ p ∷ [] | false ↦ [] ])) (us ++ asks_of row.client (is_sent row) None)) (elim r as (λ _. List Forwarding) [ Err e ↦ fs | Ok m ↦ map (of_client row.client (replied (length (replies own)) m)) fs ])
-    by_heard p (Err e) = held-still (length (replies own)) us (asks_of row.client (is_sent row) None) fs none held
-    by_heard p (Ok m) = by_reply p m
+    by_received : (p : List ℕ) (r : Result Summary Bad) → Held (length (replies own) + length (elim (elim r as (λ _. Bool) [ Err e ↦ false | Ok m ↦ is_reply m ]) as (λ _. List (List ℕ)) [ true ↦ p ∷ [] | false ↦ [] ])) (drop (length (elim (elim r as (λ _. Bool) [ Err e ↦ false | Ok m ↦ is_reply m ]) as (λ _. List (List ℕ)) [ true ↦ p ∷ [] | false ↦ [] ])) (us ++ asks_of row.client (is_sent row) None)) (elim r as (λ _. List Forwarding) [ Err e ↦ fs | Ok m ↦ map (of_client row.client (replied (length (replies own)) m)) fs ])
+    by_received p (Err e) = held-still (length (replies own)) us (asks_of row.client (is_sent row) None) fs none held
+    by_received p (Ok m) = by_reply p m
 
     by_item : (i : Item) → row.item ≡ i → Next (record row { item = i }) own us fs
-    by_item (Says j (Payload p) given) item = by_sent j p given item (is_sent row) refl (read_gist p) refl
+    by_item (Says j (Payload p) given) item = by_sent j p given item (is_sent row) refl (read_summary p) refl
     by_item (Says j (Body body) given) item = held-still (length (replies own)) us (asks_of row.client (is_sent row) None) fs none held
     by_item (Says j (BadFraming fault) given) item = held-still (length (replies own)) us (asks_of row.client (is_sent row) None) fs none held
-    by_item (Heard p) item = by_heard p (read_gist p)
+    by_item (Heard p) item = by_received p (read_summary p)
     by_item i item = held-still (length (replies own)) us (asks_of row.client (is_sent row) None) fs none held

@@ -22,7 +22,7 @@ use Rattle.mux_bounds.proofs.Closing.{known-begins}
 use Rattle.mux_bounds.proofs.Covers.{add_if, forwards-few, forwards_in, is_forward}
 use Rattle.mux_bounds.proofs.Farewells.{Bounds, row-bounds}
 use Rattle.mux_bounds.proofs.Owed.{Asks, Held, asks-none, cancel-free, forward-wants, next-held}
-use Rattle.mux_bounds.proofs.SentRequests.{SaidRequest, row-said}
+use Rattle.mux_bounds.proofs.SentRequests.{SentRequest, row-said}
 
 -- ---- replies and requests of a client
 
@@ -60,7 +60,7 @@ record State (own : List Row) : Type 0 where
   few : OwedFew own
   held : is_lost own ≡ false → Held (length (replies own)) (unreplied own) (forwardings_of own)
 
-asks-of-row : (policy : Policy) (before : List Row) (row : Row) → SaidRequest policy before row → Asks row (forwardings_of (rows_of row.client before))
+asks-of-row : (policy : Policy) (before : List Row) (row : Row) → SentRequest policy before row → Asks row (forwardings_of (rows_of row.client before))
 asks-of-row policy before row said = record {
   wants = λ j p given key want item reads sent. forward-wants policy j (rows_of j before) p key want (said j p given (Forward key) want item reads sent).1;
   free = λ j p given key want item reads sent.

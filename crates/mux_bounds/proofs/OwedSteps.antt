@@ -9,15 +9,15 @@ use Rattle.ssh_grammar.specs.declared.fault.Bad.{Bad}
 use Rattle.ssh_grammar.specs.declared.numbers.TheConstants.{ADMINISTRATIVELY_PROHIBITED, RESOURCE_SHORTAGE}
 use Rattle.mux_history.specs.Channels.{held_of}
 use Rattle.mux_history.specs.Farewell.{late, late_refusal, late_success, with_ask}
-use Rattle.mux_history.specs.Gist.{Confirmation, Gist, Open, Refuses, Requests, Succeeds, Within, read_gist}
-use Rattle.mux_history.specs.Heard.{Breaks, Dest, Disconnects, ToClient, ToMaster, dest, dest_gist, for_client, for_lost, for_master, heard_for, heard_gist, heard_master}
+use Rattle.mux_history.specs.Summary.{Confirmation, Summary, Open, Refuses, Requests, Succeeds, Within, read_summary}
+use Rattle.mux_history.specs.Heard.{Breaks, Dest, Disconnects, ToClient, ToMaster, dest, dest_summary, for_client, for_lost, for_master, received_for, received_summary, received_master}
 use Rattle.mux_history.specs.Kept.{ForEach}
 use Rattle.mux_history.specs.Keys.{bound}
-use Rattle.mux_history.specs.Log.{heard_row, treat}
+use Rattle.mux_history.specs.Log.{received_row, treat}
 use Rattle.mux_history.specs.Policy.{Policy}
 use Rattle.mux_history.specs.Requests.{Ask, asker, asks, asks_of, is_reply, is_sent, replies, reply_in, wanted_by}
 use Rattle.mux_history.specs.Rows.{Heard, Item, Row, Took, is_lost, rows_of}
-use Rattle.mux_history.specs.Said.{Outcome, sends, silent, tells}
+use Rattle.mux_history.specs.Said.{Outcome, sends, silent, records}
 use Rattle.mux_history.specs.Steps.{unreplied}
 use Rattle.mux_bounds.specs.Bounds.{weight}
 use Rattle.mux_history.proofs.Askers.{Orderly, asker-local}
@@ -47,23 +47,23 @@ Pays before p up = weight up + 308 * forwards_in (drop (length (reply_in (Heard 
 pays-for : (before : List Row) (p : List ℕ) (up : List (List ℕ)) → weight up ≤ 3 * (length p + 5) → Pays before p up
 pays-for before p up le = let d = drop-forwards (length (reply_in (Heard p))) (unreplied before) in omega (arith, le, d)
 
-master-pays : (before : List Row) (p : List ℕ) → Pays before p (heard_master p).sent
-master-pays before p = pays-for before p (heard_master p).sent (by_case (read_gist p) refl)
+master-pays : (before : List Row) (p : List ℕ) → Pays before p (received_master p).sent
+master-pays before p = pays-for before p (received_master p).sent (by_case (read_summary p) refl)
   where
-    by_message : (m : Gist) → read_gist p ≡ Ok m → weight (for_master m).sent ≤ 3 * (length p + 5)
+    by_message : (m : Summary) → read_summary p ≡ Ok m → weight (for_master m).sent ≤ 3 * (length p + 5)
     by_message (Requests what true) reads = omega arith
     by_message (Requests what false) reads = omega arith
     by_message (Open what s w max) reads = let a = failure-weight s ADMINISTRATIVELY_PROHIBITED not_permitted in let l = opens-long p what s w max reads in omega (arith, a, l)
     by_message m reads = omega arith
 
-    by_case : (r : Result Gist Bad) → read_gist p ≡ r → weight (elim r as (λ _. Outcome) [ Err bad ↦ silent | Ok m ↦ for_master m ]).sent ≤ 3 * (length p + 5)
+    by_case : (r : Result Summary Bad) → read_summary p ≡ r → weight (elim r as (λ _. Outcome) [ Err bad ↦ silent | Ok m ↦ for_master m ]).sent ≤ 3 * (length p + 5)
     by_case (Err bad) reads = omega arith
     by_case (Ok m) reads = by_message m reads
 
-client-pays : (own : List Row) (p : List ℕ) (m : Gist) → read_gist p ≡ Ok m → weight (for_client own p m).sent ≤ 3 * (length p + 5)
+client-pays : (own : List Row) (p : List ℕ) (m : Summary) → read_summary p ≡ Ok m → weight (for_client own p m).sent ≤ 3 * (length p + 5)
 client-pays own p (Open what s w max) reads = by_case (nat_lt (length (held_of own)) 256)
   where
-    by_case : (b : Bool) → weight (elim b as (λ _. Outcome) [ true ↦ tells (frame_payload p) | false ↦ sends (open_failure s RESOURCE_SHORTAGE too_many_channels) ]).sent ≤ 3 * (length p + 5)
+    by_case : (b : Bool) → weight (elim b as (λ _. Outcome) [ true ↦ records (frame_payload p) | false ↦ sends (open_failure s RESOURCE_SHORTAGE too_many_channels) ]).sent ≤ 3 * (length p + 5)
     by_case true = omega arith
     by_case false = let a = failure-weight s RESOURCE_SHORTAGE too_many_channels in let l = opens-long p what s w max reads in omega (arith, a, l)
 client-pays own p (Confirmation n s w max) reads = omega arith
@@ -93,7 +93,7 @@ first-of [] n a got = cc
 first-of (x ∷ xs) zero a got = (xs, let same : x ≡ a = cc in ap (λ y. y ∷ xs) same)
 first-of (x ∷ xs) (suc n) a got = first-of xs n a got
 
-reply-pays : (before : List Row) (k : ℕ) (p : List ℕ) (m : Gist) (f : Global → List (List ℕ)) → read_gist p ≡ Ok m → is_reply m ≡ true → ((what : Global) → AskShort what → weight (f what) ≤ if_forward (is_forward what)) → Orderly before → Asked before k → EachAsk IsBrief (asks (rows_of k before)) → Pays before p (with_ask (asker (rows_of k before)) f)
+reply-pays : (before : List Row) (k : ℕ) (p : List ℕ) (m : Summary) (f : Global → List (List ℕ)) → read_summary p ≡ Ok m → is_reply m ≡ true → ((what : Global) → AskShort what → weight (f what) ≤ if_forward (is_forward what)) → Orderly before → Asked before k → EachAsk IsBrief (asks (rows_of k before)) → Pays before p (with_ask (asker (rows_of k before)) f)
 reply-pays before k p m f reads replied each orderly asked brief = by_forward (is_forward asked.ask.what) refl
   where
     mine : asker (rows_of k before) ≡ Some asked.ask
@@ -129,20 +129,20 @@ reply-pays before k p m f reads replied each orderly asked brief = by_forward (i
         let a = ap (λ b. add_if b (forwards_in first.0)) e in
         omega (arith, w, i, u, l, t, a)
 
-lost-pays : (before : List Row) (k : ℕ) (p : List ℕ) (m : Gist) → read_gist p ≡ Ok m → dest_gist before m ≡ ToClient k → Orderly before → EachAsk IsBrief (asks (rows_of k before)) → Pays before p (late m (rows_of k before))
+lost-pays : (before : List Row) (k : ℕ) (p : List ℕ) (m : Summary) → read_summary p ≡ Ok m → dest_summary before m ≡ ToClient k → Orderly before → EachAsk IsBrief (asks (rows_of k before)) → Pays before p (late m (rows_of k before))
 lost-pays before k p (Confirmation n s w max) reads to orderly brief = pays-for before p (late (Confirmation n s w max) (rows_of k before)) (let a = close-weight s in omega arith)
 lost-pays before k p (Succeeds rest) reads to orderly brief = reply-pays before k p (Succeeds rest) (late_success rest) reads refl (success-pays rest) orderly (succeeds-asked before rest k to) brief
 lost-pays before k p Refuses reads to orderly brief = reply-pays before k p Refuses late_refusal reads refl refusal-pays orderly (refuses-asked before k to) brief
 lost-pays before k p m reads to orderly brief = pays-for before p [] (omega arith)
 
-heard-pays : (before : List Row) (k : ℕ) (p : List ℕ) → dest before p ≡ ToClient k → Orderly before → EachAsk IsBrief (asks (rows_of k before)) → Pays before p (heard_for (rows_of k before) p).sent
-heard-pays before k p to orderly brief = by_case (read_gist p) refl
+heard-pays : (before : List Row) (k : ℕ) (p : List ℕ) → dest before p ≡ ToClient k → Orderly before → EachAsk IsBrief (asks (rows_of k before)) → Pays before p (received_for (rows_of k before) p).sent
+heard-pays before k p to orderly brief = by_case (read_summary p) refl
   where
-    by_lost : (m : Gist) → read_gist p ≡ Ok m → (b : Bool) → Pays before p (elim b as (λ _. Outcome) [ true ↦ for_lost (rows_of k before) m | false ↦ for_client (rows_of k before) p m ]).sent
+    by_lost : (m : Summary) → read_summary p ≡ Ok m → (b : Bool) → Pays before p (elim b as (λ _. Outcome) [ true ↦ for_lost (rows_of k before) m | false ↦ for_client (rows_of k before) p m ]).sent
     by_lost m reads true = lost-pays before k p m reads (sym (dest-ok before p m reads) ∙ to) orderly brief
     by_lost m reads false = pays-for before p (for_client (rows_of k before) p m).sent (client-pays (rows_of k before) p m reads)
 
-    by_case : (r : Result Gist Bad) → read_gist p ≡ r → Pays before p (elim r as (λ _. Outcome) [ Err bad ↦ silent | Ok m ↦ heard_gist (rows_of k before) p m ]).sent
+    by_case : (r : Result Summary Bad) → read_summary p ≡ r → Pays before p (elim r as (λ _. Outcome) [ Err bad ↦ silent | Ok m ↦ received_summary (rows_of k before) p m ]).sent
     by_case (Err bad) reads = pays-for before p [] (omega arith)
     by_case (Ok m) reads = by_lost m reads (is_lost (rows_of k before))
 
@@ -151,9 +151,9 @@ heard-pays before k p to orderly brief = by_case (read_gist p) refl
 abbrev RowPays : List Row → List ℕ → Row → Type 0
 RowPays before p row = Pays before p row.up
 
-dest-pays : (before : List Row) (p : List ℕ) (d : Dest) → dest before p ≡ d → Orderly before → ((k : ℕ) → EachAsk IsBrief (asks (rows_of k before))) → RowPays before p (heard_row before p d)
+dest-pays : (before : List Row) (p : List ℕ) (d : Dest) → dest before p ≡ d → Orderly before → ((k : ℕ) → EachAsk IsBrief (asks (rows_of k before))) → RowPays before p (received_row before p d)
 dest-pays before p ToMaster e orderly brief = master-pays before p
-dest-pays before p (ToClient k) e orderly brief = row-parts (RowPays before p) (Heard p) k (heard_for (rows_of k before) p) (rows_of k before) (λ fw parting down fate. heard-pays before k p e orderly (brief k))
+dest-pays before p (ToClient k) e orderly brief = row-parts (RowPays before p) (Heard p) k (received_for (rows_of k before) p) (rows_of k before) (λ fw parting down fate. heard-pays before k p e orderly (brief k))
 dest-pays before p Disconnects e orderly brief = pays-for before p [] (omega arith)
 dest-pays before p (Breaks cause) e orderly brief = pays-for before p [] (omega arith)
 

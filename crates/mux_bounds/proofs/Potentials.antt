@@ -3,9 +3,9 @@
 use Rattle.std.proofs.Common.{◌≡◌, ℕ, ◌+◌, ◌*◌, ◌≤◌, List, [], ◌∷◌, ◌++◌, map, length, drop, false, refl, ◌∙◌, ap, arith, sym, subst, Option, None}
 use Rattle.std.proofs.lemmas.List.{append-nil}
 use Rattle.mux_outside.specs.declared.house.HouseReply.{HouseReply}
-use Rattle.ssh_grammar.specs.Said.{BadFraming, Body, Payload, Saying}
+use Rattle.ssh_grammar.specs.Said.{BadFraming, Body, Payload, Outgoing}
 use Rattle.mux_history.specs.Choices.{pick_of, with_reply}
-use Rattle.mux_history.specs.Journal.{heard_item, said_item}
+use Rattle.mux_history.specs.Journal.{received_item, sent_item}
 use Rattle.mux_history.specs.Kept.{ForEach}
 use Rattle.mux_history.specs.Log.{more_all, more_of}
 use Rattle.mux_history.specs.Pending.{pending_up}
@@ -48,7 +48,7 @@ owed_cost item = 0
 
 abbrev pub IsMute : Item → Type 0
 IsMute (Admit k) = ⊥
-IsMute (Says k saying given) = ⊥
+IsMute (Says k outgoing given) = ⊥
 IsMute item = Unit {0}
 
 pub record Facts (policy : Policy) (pid : ℕ) (rows : List Row) : Type 0 where
@@ -88,7 +88,7 @@ owed-row policy pid before row facts mute = by_item row.item refl mute
 
     by_item : (i : Item) → row.item ≡ i → IsMute i → with_owed (row ∷ before) ≤ with_owed before + owed_cost i
     by_item (Admit k) e m = absurd m
-    by_item (Says k saying given) e m = absurd m
+    by_item (Says k outgoing given) e m = absurd m
     by_item (Heard p) e m =
         let g = grows-by row before in
         let w = weight-append row.up row.farewell in
@@ -148,19 +148,19 @@ module _ (policy : Policy) (pid : ℕ) (picks : List ℕ) (given : List HouseRep
 
 -- ---- what the items of a piece cost
 
-pub said-cost : (k : ℕ) (ss : List Saying) → total live_cost (map (said_item k) ss) ≡ payloads_bytes ss
+pub said-cost : (k : ℕ) (ss : List Outgoing) → total live_cost (map (sent_item k) ss) ≡ payloads_bytes ss
 said-cost k [] = refl
 said-cost k (Payload p ∷ ss) = let e = said-cost k ss in omega arith
 said-cost k (Body body ∷ ss) = let e = said-cost k ss in omega arith
 said-cost k (BadFraming fault ∷ ss) = let e = said-cost k ss in omega arith
 
-pub heard-cost : (ss : List Saying) → NoBodies ss → total owed_cost (map heard_item ss) ≡ 3 * payloads_bytes ss
+pub heard-cost : (ss : List Outgoing) → NoBodies ss → total owed_cost (map received_item ss) ≡ 3 * payloads_bytes ss
 heard-cost [] none = refl
 heard-cost (Payload p ∷ ss) none = let e = heard-cost ss none.1 in omega arith
 heard-cost (Body body ∷ ss) none = absurd none.0
 heard-cost (BadFraming fault ∷ ss) none = let e = heard-cost ss none.1 in omega arith
 
-pub heard-mute : (ss : List Saying) → EachItem IsMute (map heard_item ss)
+pub heard-mute : (ss : List Outgoing) → EachItem IsMute (map received_item ss)
 heard-mute [] = tt
 heard-mute (Payload p ∷ ss) = (tt, heard-mute ss)
 heard-mute (Body body ∷ ss) = (tt, heard-mute ss)

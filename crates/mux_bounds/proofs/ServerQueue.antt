@@ -11,7 +11,7 @@ use Rattle.mux_outside.specs.declared.house_mark.HouseMark.TheVariants.{HouseAns
 use Rattle.mux_outside.specs.declared.start_ask.StartAsk.{StartAsk}
 use Rattle.mux_history.specs.declared.limits.TheConstants.{HOUSE}
 use Rattle.mux_history.specs.Kept.{AtEach}
-use Rattle.mux_history.specs.Journal.{items, IsLawful, LawfulMark, bytes_of, is_own_stream, items_in, log_of_journal, new_heard, new_sayings, server_end, unless_own}
+use Rattle.mux_history.specs.Journal.{items, IsLawful, LawfulMark, bytes_of, is_own_stream, items_in, log_of_journal, new_received, new_sayings, server_end, unless_own}
 use Rattle.mux_history.specs.Log.{log_of, more_all, more_of}
 use Rattle.mux_history.specs.Pending.{pending_up}
 use Rattle.mux_history.specs.Policy.{Policy}
@@ -25,7 +25,7 @@ use Rattle.mux_history.proofs.Journals.{journal-items, log-more, logs-right}
 use Rattle.mux_history.proofs.RightLogs.{LogKnown, right-known}
 use Rattle.mux_bounds.proofs.AddsNothing.{unless-free, gone-free, gone-mute, mute-take, over-all, server-free, server-mute, total-take, waits}
 use Rattle.mux_bounds.proofs.Entries.{EachItem, by-more, each-unless, cut-first, log-first, setting, tails}
-use Rattle.mux_bounds.proofs.Lengths.{new-bodies, new-bytes, new_says, payloads_bytes}
+use Rattle.mux_bounds.proofs.Lengths.{new-bodies, new-bytes, new_sends, payloads_bytes}
 use Rattle.mux_bounds.proofs.Potentials.{Facts, IsMute, heard-cost, heard-mute, live-grows, live_cost, owed-grows, owed_cost, said-cost, total, with_live, with_owed}
 use Rattle.mux_bounds.proofs.Totals.{live, live-few, owed, owed-all-few}
 
@@ -86,7 +86,7 @@ module _ (policy : Policy) (pid : ℕ) (picks : List ℕ) (given : List HouseRep
   abbrev Still : List Mark → Mark → ℕ → Type 0
   Still before mark n = with_owed (cut before mark n) ≤ with_owed (log before)
 
-  record Hears (before : List Mark) (mark : Mark) (n : ℕ) : Type 0 where
+  record Receives (before : List Mark) (mark : Mark) (n : ℕ) : Type 0 where
     reads : (reads mark || speaks mark) ≡ true
     grows : with_owed (cut before mark n) ≤ with_owed (log before) + 983049
 
@@ -95,7 +95,7 @@ module _ (policy : Policy) (pid : ℕ) (picks : List ℕ) (given : List HouseRep
     grows : with_live (cut before mark n) ≤ with_live (log before) + 327683
 
   abbrev Moves : List Mark → Mark → ℕ → Type 0
-  Moves before mark n = Still before mark n ⊎ (Hears before mark n ⊎ Says before mark n)
+  Moves before mark n = Still before mark n ⊎ (Receives before mark n ⊎ Says before mark n)
 
   still-mark : (before : List Mark) (mark : Mark) (n : ℕ) → Facts policy pid (cut before mark n) → EachItem IsMute (items_in before mark) → total owed_cost (items_in before mark) ≡ 0 → Still before mark n
   still-mark before mark n facts mute none =
@@ -113,7 +113,7 @@ module _ (policy : Policy) (pid : ℕ) (picks : List ℕ) (given : List HouseRep
     grows =
         let g = live-grows policy pid picks given (log before) (take n (items_in before (wire.House (HouseSaid bytes)))) facts in
         let t = total-take live_cost n (items_in before (wire.House (HouseSaid bytes))) in
-        let c = said-cost HOUSE (new_says InControl (bytes_of HOUSE before) bytes) in
+        let c = said-cost HOUSE (new_sends InControl (bytes_of HOUSE before) bytes) in
         let m = new-bytes InControl (bytes_of HOUSE before) bytes in
         omega (arith, g, t, c, m, short);
   }))
@@ -121,17 +121,17 @@ module _ (policy : Policy) (pid : ℕ) (picks : List ℕ) (given : List HouseRep
   gets-mark : (before : List Mark) (stream : ℕ) (bytes : List ℕ) (n : ℕ) → length bytes ≤ 65536 → Facts policy pid (cut before (wire.Gets stream bytes) n) → Moves before (wire.Gets stream bytes) n
   gets-mark before stream bytes n short facts = by_stream (stream == 0) refl
     where
-      items-are : (b : Bool) → (stream == 0) ≡ b → items_in before (wire.Gets stream bytes) ≡ (elim b as (λ _. List Item) [ true ↦ new_heard (bytes_of 0 before) (bytes_of 0 before ++ bytes) | false ↦ unless_own stream (new_sayings stream (bytes_of stream before) (bytes_of stream before ++ bytes)) ])
-      items-are b e = ap (λ c. elim c as (λ _. List Item) [ true ↦ new_heard (bytes_of 0 before) (bytes_of 0 before ++ bytes) | false ↦ unless_own stream (new_sayings stream (bytes_of stream before) (bytes_of stream before ++ bytes)) ]) e
+      items-are : (b : Bool) → (stream == 0) ≡ b → items_in before (wire.Gets stream bytes) ≡ (elim b as (λ _. List Item) [ true ↦ new_received (bytes_of 0 before) (bytes_of 0 before ++ bytes) | false ↦ unless_own stream (new_sayings stream (bytes_of stream before) (bytes_of stream before ++ bytes)) ])
+      items-are b e = ap (λ c. elim c as (λ _. List Item) [ true ↦ new_received (bytes_of 0 before) (bytes_of 0 before ++ bytes) | false ↦ unless_own stream (new_sayings stream (bytes_of stream before) (bytes_of stream before ++ bytes)) ]) e
 
       by_stream : (b : Bool) → (stream == 0) ≡ b → Moves before (wire.Gets stream bytes) n
       by_stream true e = inr (inl (record {
         reads = refl;
         grows =
-            let mute : EachItem IsMute (items_in before (wire.Gets stream bytes)) = subst (EachItem IsMute) (sym (items-are true e)) (heard-mute (new_says InProxy (bytes_of 0 before) bytes)) in
+            let mute : EachItem IsMute (items_in before (wire.Gets stream bytes)) = subst (EachItem IsMute) (sym (items-are true e)) (heard-mute (new_sends InProxy (bytes_of 0 before) bytes)) in
             let g = owed-grows policy pid picks given (log before) (take n (items_in before (wire.Gets stream bytes))) (mute-take n (items_in before (wire.Gets stream bytes)) mute) facts in
             let t = total-take owed_cost n (items_in before (wire.Gets stream bytes)) in
-            let c : total owed_cost (items_in before (wire.Gets stream bytes)) ≡ 3 * payloads_bytes (new_says InProxy (bytes_of 0 before) bytes) = ap (total owed_cost) (items-are true e) ∙ heard-cost (new_says InProxy (bytes_of 0 before) bytes) (new-bodies (bytes_of 0 before) bytes) in
+            let c : total owed_cost (items_in before (wire.Gets stream bytes)) ≡ 3 * payloads_bytes (new_sends InProxy (bytes_of 0 before) bytes) = ap (total owed_cost) (items-are true e) ∙ heard-cost (new_sends InProxy (bytes_of 0 before) bytes) (new-bodies (bytes_of 0 before) bytes) in
             let m = new-bytes InProxy (bytes_of 0 before) bytes in
             omega (arith, g, t, c, m, short);
       }))
@@ -140,7 +140,7 @@ module _ (policy : Policy) (pid : ℕ) (picks : List ℕ) (given : List HouseRep
         grows =
             let g = live-grows policy pid picks given (log before) (take n (items_in before (wire.Gets stream bytes))) facts in
             let t = total-take live_cost n (items_in before (wire.Gets stream bytes)) in
-            let c : total live_cost (items_in before (wire.Gets stream bytes)) ≤ payloads_bytes (new_says InControl (bytes_of stream before) bytes) = subst (λ (xs : List Item). total live_cost xs ≤ payloads_bytes (new_says InControl (bytes_of stream before) bytes)) (sym (items-are false e)) (let u = unless-cost stream (new_sayings stream (bytes_of stream before) (bytes_of stream before ++ bytes)) in let w = said-cost stream (new_says InControl (bytes_of stream before) bytes) in omega (arith, u, w)) in
+            let c : total live_cost (items_in before (wire.Gets stream bytes)) ≤ payloads_bytes (new_sends InControl (bytes_of stream before) bytes) = subst (λ (xs : List Item). total live_cost xs ≤ payloads_bytes (new_sends InControl (bytes_of stream before) bytes)) (sym (items-are false e)) (let u = unless-cost stream (new_sayings stream (bytes_of stream before) (bytes_of stream before ++ bytes)) in let w = said-cost stream (new_sends InControl (bytes_of stream before) bytes) in omega (arith, u, w)) in
             let m = new-bytes InControl (bytes_of stream before) bytes in
             omega (arith, g, t, c, m, short);
       }))
@@ -180,7 +180,7 @@ module _ (policy : Policy) (pid : ℕ) (picks : List ℕ) (given : List HouseRep
         where
           by_move : Moves before mark n → owed (log before) ≤ 4096 → waits (cut before mark n) ≤ waits (log before) + 4096009
           by_move (inl still) late = let f = few in omega (arith, still, late, f)
-          by_move (inr (inl hears)) late = let f = few in let g = hears.grows in omega (arith, g, late, f)
+          by_move (inr (inl receives)) late = let f = few in let g = receives.grows in omega (arith, g, late, f)
           by_move (inr (inr says)) late = let f = few in let g = says.grows in omega (arith, g, late, f)
 
   -- ---- all marks
@@ -214,10 +214,10 @@ module _ (policy : Policy) (pid : ℕ) (picks : List ℕ) (given : List HouseRep
         where
           by_move : Moves before mark n → owed (log before) ≤ 4096 → Bound (cut before mark n)
           by_move (inl still) late = let h = bound.going e in record { waits = omega (arith, still, h); going = λ going. omega (arith, still, h) }
-          by_move (inr (inl hears)) late =
+          by_move (inr (inl receives)) late =
               let f = few in
-              let g = hears.grows in
-              let r = room hears.reads in
+              let g = receives.grows in
+              let r = room receives.reads in
               record { waits = omega (arith, g, late, f, r); going = λ going. omega (arith, g, late, f, r) }
           by_move (inr (inr says)) late =
               let f = few in

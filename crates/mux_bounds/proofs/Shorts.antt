@@ -8,13 +8,13 @@ use Rattle.ssh_grammar.specs.Said.{BadFraming, Body, Payload}
 use Rattle.ssh_grammar.specs.declared.fault.Bad.{Bad}
 use Rattle.mux_history.specs.Channels.{is_number}
 use Rattle.mux_history.specs.Forwardings.{Forwarding, change_first, current, dropped, forwarded, forwardings_of, is_free_at, is_request, of_client, replied, requested, stopped}
-use Rattle.mux_history.specs.Gist.{Gist, Refuses, Requests, Succeeds, read_gist, reading}
+use Rattle.mux_history.specs.Summary.{Summary, Refuses, Requests, Succeeds, read_summary, reading}
 use Rattle.mux_history.specs.Kept.{ForEach}
 use Rattle.mux_history.specs.Keys.{bound, has_key, is_askable}
 use Rattle.mux_history.specs.Policy.{Policy, permits}
 use Rattle.mux_history.specs.Requests.{Ask, asks, asks_of, is_sent, replies, wanted_by, wanted_in}
 use Rattle.mux_history.specs.Rows.{Heard, Item, Row, Says, any_of, loses, rows_of}
-use Rattle.mux_history.specs.Said.{said_request, sends_if}
+use Rattle.mux_history.specs.Said.{sent_request, sends_if}
 use Rattle.mux_history.proofs.Finds.{filter-no, filter-yes}
 use Rattle.mux_history.proofs.ForwardsLocal.{for_of, forwardings-local}
 use Rattle.mux_history.proofs.RightLogs.{RowKnown}
@@ -53,7 +53,7 @@ each-first test g stays (f ∷ fs) all = by_case (test f) (each-first test g sta
     by_case true ih = (stays f all.0, all.1)
     by_case false ih = (all.0, ih)
 
-replied-stays : (n : ℕ) (m : Gist) → Stays (replied n m)
+replied-stays : (n : ℕ) (m : Summary) → Stays (replied n m)
 replied-stays n (Succeeds rest) f short = by_case (is_request f n) (is_number f.cancel n)
   where
     by_case : (a b : Bool) → IsShort (elim a as (λ _. Forwarding) [ true ↦ record f { live = Some (bound f.key rest) } | false ↦ elim b as (λ _. Forwarding) [ true ↦ record f { over = true } | false ↦ f ] ])
@@ -105,7 +105,7 @@ free-short k key (f ∷ fs) all some = by_case (λ h. free-short k key fs all.1 
         live-brief f.live key (and-right (is_none f.cancel) (has_key f.live key) on) all.0.1
     by_case ih false e some = ih some
 
-request-short : (policy : Policy) (k : ℕ) (own : List Row) (p : List ℕ) (what : Global) (wants : Bool) → EachOf IsShort (current own) → flag (said_request policy k own p what wants).sent ≡ true → AskShort what
+request-short : (policy : Policy) (k : ℕ) (own : List Row) (p : List ℕ) (what : Global) (wants : Bool) → EachOf IsShort (current own) → flag (sent_request policy k own p what wants).sent ≡ true → AskShort what
 request-short policy k own p (Forward key) wants all sent = by_case (wants && (is_askable key && (permits policy.listens key && nat_lt (length (current own)) 64))) refl sent
   where
     by_case : (b : Bool) → (wants && (is_askable key && (permits policy.listens key && nat_lt (length (current own)) 64))) ≡ b → flag (sends_if b p).sent ≡ true → IsBriefKey key
@@ -122,9 +122,9 @@ request-short policy k own p OtherName wants all sent = tt
 -- ---- all forwardings
 
 abbrev Asked : Row → Type 0
-Asked row = (k : ℕ) (p : List ℕ) (given : Option HouseReply) (what : Global) (wants : Bool) → row.item ≡ Says k (Payload p) given → read_gist p ≡ Ok (Requests what wants) → is_sent row ≡ true → AskShort what
+Asked row = (k : ℕ) (p : List ℕ) (given : Option HouseReply) (what : Global) (wants : Bool) → row.item ≡ Says k (Payload p) given → read_summary p ≡ Ok (Requests what wants) → is_sent row ≡ true → AskShort what
 
-requested-short : (k n : ℕ) (m : Gist) (fs : List Forwarding) → ((what : Global) (wants : Bool) → m ≡ Requests what wants → AskShort what) → EachOf IsShort fs → EachOf IsShort (requested k n m fs)
+requested-short : (k n : ℕ) (m : Summary) (fs : List Forwarding) → ((what : Global) (wants : Bool) → m ≡ Requests what wants → AskShort what) → EachOf IsShort fs → EachOf IsShort (requested k n m fs)
 requested-short k n (Requests (Forward key) wants) fs new all = each-append fs _ all ((new (Forward key) wants refl, tt), tt)
 requested-short k n (Requests (Cancel key) wants) fs new all = each-first (is_free_at k key) (stopped wants n) (stopped-stays wants n) fs all
 requested-short k n (Requests KeepAlive wants) fs new all = all
@@ -134,17 +134,17 @@ requested-short k n m fs new all = all
 pub forwarded-short : (row : Row) (own : List Row) (fs : List Forwarding) → Asked row → EachOf IsShort fs → EachOf IsShort (forwarded row own fs)
 forwarded-short row own fs new all = by_item row.item refl
   where
-    by_reading : (p : List ℕ) (r : Result Gist Bad) → read_gist p ≡ r → (g : Gist → List Forwarding) → ((m : Gist) → read_gist p ≡ Ok m → EachOf IsShort (g m)) → EachOf IsShort (elim r as (λ _. List Forwarding) [ Err e ↦ fs | Ok m ↦ g m ])
+    by_reading : (p : List ℕ) (r : Result Summary Bad) → read_summary p ≡ r → (g : Summary → List Forwarding) → ((m : Summary) → read_summary p ≡ Ok m → EachOf IsShort (g m)) → EachOf IsShort (elim r as (λ _. List Forwarding) [ Err e ↦ fs | Ok m ↦ g m ])
     by_reading p (Err bad) reads g each = all
     by_reading p (Ok m) reads g each = each m reads
 
     by_sent : (j : ℕ) (p : List ℕ) (given : Option HouseReply) → row.item ≡ Says j (Payload p) given → (b : Bool) → is_sent row ≡ b → EachOf IsShort (elim b as (λ _. List Forwarding) [ true ↦ reading p (λ m. requested row.client (length (asks own)) m fs) fs | false ↦ fs ])
-    by_sent j p given item true sent = by_reading p (read_gist p) refl (λ m. requested row.client (length (asks own)) m fs) (λ m reads. requested-short row.client (length (asks own)) m fs (λ what wants e. new j p given what wants item (reads ∙ ap Ok e) sent) all)
+    by_sent j p given item true sent = by_reading p (read_summary p) refl (λ m. requested row.client (length (asks own)) m fs) (λ m reads. requested-short row.client (length (asks own)) m fs (λ what wants e. new j p given what wants item (reads ∙ ap Ok e) sent) all)
     by_sent j p given item false sent = all
 
     by_item : (i : Item) → row.item ≡ i → EachOf IsShort (forwarded (record row { item = i }) own fs)
     by_item (Says j (Payload p) given) item = by_sent j p given item (is_sent row) refl
-    by_item (Heard p) item = by_reading p (read_gist p) refl (λ m. map (of_client row.client (replied (length (replies own)) m)) fs) (λ m reads. each-map (of_client row.client (replied (length (replies own)) m)) (client-stays row.client (replied (length (replies own)) m) (replied-stays (length (replies own)) m)) fs all)
+    by_item (Heard p) item = by_reading p (read_summary p) refl (λ m. map (of_client row.client (replied (length (replies own)) m)) fs) (λ m reads. each-map (of_client row.client (replied (length (replies own)) m)) (client-stays row.client (replied (length (replies own)) m) (replied-stays (length (replies own)) m)) fs all)
     by_item i item = all
 
 dropped-short : (row : Row) (fs : List Forwarding) → EachOf IsShort fs → EachOf IsShort (dropped row fs)
@@ -186,7 +186,7 @@ each-asks P (x ∷ xs) ys a b = (a.0, each-asks P xs ys a.1 b)
 abbrev pub IsBrief : Ask → Type 0
 IsBrief a = AskShort a.what
 
-wants-true : (m : Gist) (what : Global) → wanted_in m ≡ Some what → m ≡ Requests what true
+wants-true : (m : Summary) (what : Global) → wanted_in m ≡ Some what → m ≡ Requests what true
 wants-true (Requests other true) what e = let same : other ≡ what = cc in ap (λ g. Requests g true) same
 wants-true (Requests other false) what e = cc
 wants-true m what e = cc
@@ -197,17 +197,17 @@ pub record Wanted (row : Row) (what : Global) : Type 0 where
   pub payload : List ℕ
   pub given : Option HouseReply
   pub item : row.item ≡ Says k (Payload payload) given
-  pub reads : read_gist payload ≡ Ok (Requests what true)
+  pub reads : read_summary payload ≡ Ok (Requests what true)
 
 pub wanted-is : (row : Row) (what : Global) → wanted_by row ≡ Some what → Wanted row what
 wanted-is row what e = by_item row.item refl e
   where
-    by_reading : (j : ℕ) (p : List ℕ) (given : Option HouseReply) → row.item ≡ Says j (Payload p) given → (r : Result Gist Bad) → read_gist p ≡ r → (elim r as (λ _. Option Global) [ Err e ↦ None | Ok m ↦ wanted_in m ]) ≡ Some what → Wanted row what
+    by_reading : (j : ℕ) (p : List ℕ) (given : Option HouseReply) → row.item ≡ Says j (Payload p) given → (r : Result Summary Bad) → read_summary p ≡ r → (elim r as (λ _. Option Global) [ Err e ↦ None | Ok m ↦ wanted_in m ]) ≡ Some what → Wanted row what
     by_reading j p given item (Err bad) reads e = cc
     by_reading j p given item (Ok m) reads e = record { k = j; payload = p; given = given; item = item; reads = reads ∙ ap Ok (wants-true m what e) }
 
     by_item : (i : Item) → row.item ≡ i → wanted_by (record row { item = i }) ≡ Some what → Wanted row what
-    by_item (Says j (Payload p) given) item e = by_reading j p given item (read_gist p) refl e
+    by_item (Says j (Payload p) given) item e = by_reading j p given item (read_summary p) refl e
     by_item (Says j (Body body) given) item e = cc
     by_item (Says j (BadFraming fault) given) item e = cc
     by_item i item e = cc

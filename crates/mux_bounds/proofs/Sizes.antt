@@ -7,7 +7,7 @@ use Rattle.mux_outside.specs.declared.house.HouseReply.{HouseReply}
 use Rattle.mux_outside.specs.declared.mark.Mark.{Mark}
 use Rattle.mux_outside.specs.declared.mark.Mark.TheVariants as wire
 use Rattle.ssh_grammar.specs.Frames.{Faulty, Frame, Front, More, cut_content, cut_length, cut_padding, first_frame}
-use Rattle.ssh_grammar.specs.Said.{BadFraming, Body, InControl, InProxy, Mode, Payload, Saying, Stopped, first_in, mode_after, parse, parse_by, parse_front, said, saying_in}
+use Rattle.ssh_grammar.specs.Said.{BadFraming, Body, InControl, InProxy, Mode, Payload, Outgoing, Stopped, first_in, mode_after, parse, parse_by, parse_front, said, sending_in}
 use Rattle.ssh_grammar.specs.declared.fault.BadFrame.TheVariants as bad_frame
 use Rattle.ssh_grammar.specs.declared.framing.Framing.TheVariants as framing
 use Rattle.ssh_fields.specs.Fields.{of_four}
@@ -15,7 +15,7 @@ use Rattle.mux_outside.specs.declared.house_mark.HouseMark.TheVariants.{HouseAns
 use Rattle.mux_history.specs.declared.limits.TheConstants.{HOUSE}
 use Rattle.mux_history.specs.Choices.{FromLists, pick_of, replies_given, reply_at, with_reply}
 use Rattle.mux_history.specs.Controls.{body_asks, greeted}
-use Rattle.mux_history.specs.Journal.{bytes_of, heard_item, is_own_stream, items, items_in, new_heard, new_sayings, said_item, server_end, unless_own}
+use Rattle.mux_history.specs.Journal.{bytes_of, received_item, is_own_stream, items, items_in, new_received, new_sayings, sent_item, server_end, unless_own}
 use Rattle.mux_history.specs.Kept.{ForEach}
 use Rattle.mux_history.specs.Log.{log_of, makes_next, more_of, treat}
 use Rattle.mux_history.specs.Policy.{Policy}
@@ -70,15 +70,15 @@ first-small (w ∷ x ∷ y ∷ z ∷ rest) = length-small (of_four w x y z) rest
 
 -- ---- what is said
 
-abbrev pub SmallSaying : Saying → Type 0
-SmallSaying (Payload p) = IsSmall p
-SmallSaying saying = Unit {0}
+abbrev pub SmallSending : Outgoing → Type 0
+SmallSending (Payload p) = IsSmall p
+SmallSending outgoing = Unit {0}
 
-abbrev EachSmall : List Saying → Type 0
+abbrev EachSmall : List Outgoing → Type 0
 EachSmall [] = Unit {0}
-EachSmall (s ∷ ss) = SmallSaying s × EachSmall ss
+EachSmall (s ∷ ss) = SmallSending s × EachSmall ss
 
-in-small : (mode : Mode) (bytes : List ℕ) (content rest : List ℕ) → first_in mode bytes ≡ Frame content rest → SmallSaying (saying_in mode content)
+in-small : (mode : Mode) (bytes : List ℕ) (content rest : List ℕ) → first_in mode bytes ≡ Frame content rest → SmallSending (sending_in mode content)
 in-small InControl bytes content rest e = tt
 in-small InProxy bytes content rest e = subst SmallFront e (first-small bytes)
 in-small Stopped bytes content rest e = cc
@@ -92,7 +92,7 @@ parse-small (suc n) mode bytes = by_front (first_in mode bytes) refl (λ mode re
     by_front More e ih = tt
     by_front (Faulty fault) e ih = (tt, tt)
 
-small-drop : (n : ℕ) (xs : List Saying) → EachSmall xs → EachSmall (drop n xs)
+small-drop : (n : ℕ) (xs : List Outgoing) → EachSmall xs → EachSmall (drop n xs)
 small-drop zero xs a = a
 small-drop (suc n) [] a = tt
 small-drop (suc n) (x ∷ xs) a = small-drop n xs a.1
@@ -100,7 +100,7 @@ small-drop (suc n) (x ∷ xs) a = small-drop n xs a.1
 -- ---- items
 
 abbrev pub SmallItem : Item → Type 0
-SmallItem (Says k saying given) = SmallSaying saying
+SmallItem (Says k outgoing given) = SmallSending outgoing
 SmallItem item = Unit {0}
 
 abbrev SmallItems : List Item → Type 0
@@ -115,11 +115,11 @@ items-reverse : (xs : List Item) → SmallItems xs → SmallItems (reverse xs)
 items-reverse [] a = tt
 items-reverse (x ∷ xs) a = subst SmallItems (sym (reverse-append (x ∷ []) xs)) (items-append (reverse xs) (x ∷ []) (items-reverse xs a.1) (a.0, tt))
 
-says-items : (k : ℕ) (ss : List Saying) → EachSmall ss → SmallItems (map (said_item k) ss)
+says-items : (k : ℕ) (ss : List Outgoing) → EachSmall ss → SmallItems (map (sent_item k) ss)
 says-items k [] a = tt
 says-items k (s ∷ ss) a = (a.0, says-items k ss a.1)
 
-heard-items : (ss : List Saying) → SmallItems (map heard_item ss)
+heard-items : (ss : List Outgoing) → SmallItems (map received_item ss)
 heard-items [] = tt
 heard-items (Body body ∷ ss) = (tt, heard-items ss)
 heard-items (Payload p ∷ ss) = (tt, heard-items ss)
@@ -139,7 +139,7 @@ mark-items : (before : List Mark) (mark : Mark) → SmallItems (items_in before 
 mark-items before (wire.Accepts k) = (tt, tt)
 mark-items before (wire.Gets stream bytes) = by_stream (stream == 0)
   where
-    by_stream : (b : Bool) → SmallItems (elim b as (λ _. List Item) [ true ↦ new_heard (bytes_of 0 before) (bytes_of 0 before ++ bytes) | false ↦ unless_own stream (new_sayings stream (bytes_of stream before) (bytes_of stream before ++ bytes)) ])
+    by_stream : (b : Bool) → SmallItems (elim b as (λ _. List Item) [ true ↦ new_received (bytes_of 0 before) (bytes_of 0 before ++ bytes) | false ↦ unless_own stream (new_sayings stream (bytes_of stream before) (bytes_of stream before ++ bytes)) ])
     by_stream true = heard-items _
     by_stream false = unless-items stream _ (says-items stream (drop (length (said (bytes_of stream before))) (said (bytes_of stream before ++ bytes))) (small-drop (length (said (bytes_of stream before))) (said (bytes_of stream before ++ bytes)) (parse-small (length (bytes_of stream before ++ bytes)) InControl (bytes_of stream before ++ bytes))))
 mark-items before (wire.Ends stream) = gone-items stream (server_end (parse InProxy (bytes_of 0 before)).rest) (end-item (parse InProxy (bytes_of 0 before)).rest)

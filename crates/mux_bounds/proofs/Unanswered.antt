@@ -2,16 +2,16 @@
 use Rattle.std.proofs.Common.{◌≡◌, ℕ, ◌+◌, ◌≤◌, List, [], ◌∷◌, length, length-append, true, false, Bool, refl, ◌∙◌, ap, arith, sym, Option, Some, None, subst, Ok, Err}
 use Rattle.std.specs.Prelude.{◌==◌, ◌-◌, ◌||◌, Result, nat_le}
 use Rattle.std.proofs.lemmas.Bool.Decides.{nat_tests}
-use Rattle.mux_history.specs.Controls.{greeted, house_says, said_body}
+use Rattle.mux_history.specs.Controls.{greeted, house_sends, sent_body}
 use Rattle.mux_history.specs.Farewell.{farewell}
-use Rattle.mux_history.specs.Gist.{Gist, Requests, read_gist}
-use Rattle.mux_history.specs.Heard.{Breaks, Dest, Disconnects, ToClient, ToMaster, dest, heard_for}
+use Rattle.mux_history.specs.Summary.{Summary, Requests, read_summary}
+use Rattle.mux_history.specs.Heard.{Breaks, Dest, Disconnects, ToClient, ToMaster, dest, received_for}
 use Rattle.mux_history.specs.Kept.{AtEach, ForEach}
-use Rattle.mux_history.specs.Log.{admits, all_told, bare, fate_with, heard_row, queued, row_of, treat}
+use Rattle.mux_history.specs.Log.{admits, all_recorded, bare, fate_with, received_row, queued, row_of, treat}
 use Rattle.mux_history.specs.Policy.{Policy}
 use Rattle.mux_history.specs.Requests.{answers, is_sent, sent_flags, unanswered_asks, wanted, wanted_by, wanted_in}
 use Rattle.mux_history.specs.Rows.{Admit, Gone, Heard, HouseSays, Item, Row, Says, is_lost, loses, rows_of}
-use Rattle.mux_history.specs.Said.{Outcome, drops, said_gist, said_payload, said_request, silent}
+use Rattle.mux_history.specs.Said.{Outcome, drops, sent_summary, sent_payload, sent_request, silent}
 use Rattle.mux_bounds.specs.Few.{UnansweredBounded}
 use Rattle.mux_outside.specs.declared.house.HouseReply.{HouseReply}
 use Rattle.ssh_grammar.specs.Messages.{Global}
@@ -50,26 +50,26 @@ module _ (own : List Row) (k : ℕ) (p : List ℕ) (reply : Option HouseReply) (
   below : (n : ℕ) → nat_le 1024 n ≡ false → n + 1 ≤ 1024
   below n e = grind (arith, nat_tests)
 
-  fitting-gist : (policy : Policy) (pick : ℕ) (m : Gist) → Fitting (said_gist policy k own pick p m) (wanted_in m)
-  fitting-gist policy pick (Requests what true) = by_full (nat_le 1024 (unanswered_asks own)) refl
+  fitting-summary : (policy : Policy) (pick : ℕ) (m : Summary) → Fitting (sent_summary policy k own pick p m) (wanted_in m)
+  fitting-summary policy pick (Requests what true) = by_full (nat_le 1024 (unanswered_asks own)) refl
     where
-      by_full : (b : Bool) → nat_le 1024 (unanswered_asks own) ≡ b → Fitting (elim b as (λ _. Outcome) [ true ↦ drops (why.TooManyAsks 1024) | false ↦ said_request policy k own p what true ]) (Some what)
+      by_full : (b : Bool) → nat_le 1024 (unanswered_asks own) ≡ b → Fitting (elim b as (λ _. Outcome) [ true ↦ drops (why.TooManyAsks 1024) | false ↦ sent_request policy k own p what true ]) (Some what)
       by_full true e = fitting-drop (why.TooManyAsks 1024) (Some what)
       by_full false e = λ kept le. below (unanswered_asks own) e
-  fitting-gist policy pick m = fitting-none (said_gist policy k own pick p m)
+  fitting-summary policy pick m = fitting-none (sent_summary policy k own pick p m)
 
-  fitting-said : (policy : Policy) (pick : ℕ) (r : Result Gist Bad) → Fitting (elim r as (λ _. Outcome) [ Err bad ↦ drops (why.BadMessage bad) | Ok m ↦ said_gist policy k own pick p m ]) (elim r as (λ _. Option Global) [ Err e ↦ None | Ok m ↦ wanted_in m ])
+  fitting-said : (policy : Policy) (pick : ℕ) (r : Result Summary Bad) → Fitting (elim r as (λ _. Outcome) [ Err bad ↦ drops (why.BadMessage bad) | Ok m ↦ sent_summary policy k own pick p m ]) (elim r as (λ _. Option Global) [ Err e ↦ None | Ok m ↦ wanted_in m ])
   fitting-said policy pick (Err bad) = fitting-none (drops (why.BadMessage bad))
-  fitting-said policy pick (Ok m) = fitting-gist policy pick m
+  fitting-said policy pick (Ok m) = fitting-summary policy pick m
 
 -- ---- any row
 
 -- a row of what an item does, whatever of it fits, drops its client where the item does
 by-row : (P : Row → Type 0) (item : Item) (k : ℕ) (o : Outcome) (own : List Row) → ((fw down : List (List ℕ)) (full : Option Why) → P (as_row item k o.sent fw down (fate_with o.ends full))) → P (row_of item k o own)
-by-row P item k o own each = by_case (loses (queued (all_told (bare item k o) own) (bare item k o) own))
+by-row P item k o own each = by_case (loses (queued (all_recorded (bare item k o) own) (bare item k o) own))
   where
-    by_case : (b : Bool) → P (elim b as (λ _. Row) [ true ↦ record (queued (all_told (bare item k o) own) (bare item k o) own) { farewell = farewell (queued (all_told (bare item k o) own) (bare item k o) own) own } | false ↦ queued (all_told (bare item k o) own) (bare item k o) own ])
-    by_case true = each (farewell (queued (all_told (bare item k o) own) (bare item k o) own) own) _ _
+    by_case : (b : Bool) → P (elim b as (λ _. Row) [ true ↦ record (queued (all_recorded (bare item k o) own) (bare item k o) own) { farewell = farewell (queued (all_recorded (bare item k o) own) (bare item k o) own) own } | false ↦ queued (all_recorded (bare item k o) own) (bare item k o) own ])
+    by_case true = each (farewell (queued (all_recorded (bare item k o) own) (bare item k o) own) own) _ _
     by_case false = each [] _ _
 
 fits-none : (before : List Row) (row : Row) → wanted_by row ≡ None → Fits before row
@@ -77,18 +77,18 @@ fits-none before row none kept le =
     let l = ap length (ap (sent_flags (is_sent row)) none) in
     omega (arith, le)
 
-fits-dest : (before : List Row) (p : List ℕ) (d : Dest) → Fits before (heard_row before p d)
-fits-dest before p ToMaster = fits-none before (heard_row before p ToMaster) refl
-fits-dest before p (ToClient k) = by-row (Fits before) (Heard p) k (heard_for (rows_of k before) p) (rows_of k before) (λ fw down full. fits-none before (as_row (Heard p) k (heard_for (rows_of k before) p).sent fw down (fate_with (heard_for (rows_of k before) p).ends full)) refl)
-fits-dest before p Disconnects = fits-none before (heard_row before p Disconnects) refl
-fits-dest before p (Breaks cause) = fits-none before (heard_row before p (Breaks cause)) refl
+fits-dest : (before : List Row) (p : List ℕ) (d : Dest) → Fits before (received_row before p d)
+fits-dest before p ToMaster = fits-none before (received_row before p ToMaster) refl
+fits-dest before p (ToClient k) = by-row (Fits before) (Heard p) k (received_for (rows_of k before) p) (rows_of k before) (λ fw down full. fits-none before (as_row (Heard p) k (received_for (rows_of k before) p).sent fw down (fate_with (received_for (rows_of k before) p).ends full)) refl)
+fits-dest before p Disconnects = fits-none before (received_row before p Disconnects) refl
+fits-dest before p (Breaks cause) = fits-none before (received_row before p (Breaks cause)) refl
 
 fits-treat : (policy : Policy) (pid pick : ℕ) (before : List Row) (item : Item) → Fits before (treat policy pid pick before item)
-fits-treat policy pid pick before (Says k (Payload p) reply) = by-row (Fits before) (Says k (Payload p) reply) k (said_payload policy k (rows_of k before) pick p) (rows_of k before) (λ fw down full. fitting-said (rows_of k before) k p reply fw down full policy pick (read_gist p))
-fits-treat policy pid pick before (Says k (Body body) reply) = by-row (Fits before) (Says k (Body body) reply) k (said_body pid k reply (greeted (rows_of k before)) body) (rows_of k before) (λ fw down full. fits-none before (as_row (Says k (Body body) reply) k (said_body pid k reply (greeted (rows_of k before)) body).sent fw down (fate_with (said_body pid k reply (greeted (rows_of k before)) body).ends full)) refl)
+fits-treat policy pid pick before (Says k (Payload p) reply) = by-row (Fits before) (Says k (Payload p) reply) k (sent_payload policy k (rows_of k before) pick p) (rows_of k before) (λ fw down full. fitting-said (rows_of k before) k p reply fw down full policy pick (read_summary p))
+fits-treat policy pid pick before (Says k (Body body) reply) = by-row (Fits before) (Says k (Body body) reply) k (sent_body pid k reply (greeted (rows_of k before)) body) (rows_of k before) (λ fw down full. fits-none before (as_row (Says k (Body body) reply) k (sent_body pid k reply (greeted (rows_of k before)) body).sent fw down (fate_with (sent_body pid k reply (greeted (rows_of k before)) body).ends full)) refl)
 fits-treat policy pid pick before (Says k (BadFraming fault) reply) = by-row (Fits before) (Says k (BadFraming fault) reply) k (drops (why.BadFrame fault)) (rows_of k before) (λ fw down full. fits-none before (as_row (Says k (BadFraming fault) reply) k [] fw down (fate_with (drops (why.BadFrame fault)).ends full)) refl)
 fits-treat policy pid pick before (Admit k) = by-row (Fits before) (Admit k) k (admits before) (rows_of k before) (λ fw down full. fits-none before (as_row (Admit k) k (admits before).sent fw down (fate_with (admits before).ends full)) refl)
-fits-treat policy pid pick before (HouseSays k id given) = by-row (Fits before) (HouseSays k id given) k (house_says (rows_of k before) id given) (rows_of k before) (λ fw down full. fits-none before (as_row (HouseSays k id given) k (house_says (rows_of k before) id given).sent fw down (fate_with (house_says (rows_of k before) id given).ends full)) refl)
+fits-treat policy pid pick before (HouseSays k id given) = by-row (Fits before) (HouseSays k id given) k (house_sends (rows_of k before) id given) (rows_of k before) (λ fw down full. fits-none before (as_row (HouseSays k id given) k (house_sends (rows_of k before) id given).sent fw down (fate_with (house_sends (rows_of k before) id given).ends full)) refl)
 fits-treat policy pid pick before (Gone k) = by-row (Fits before) (Gone k) k silent (rows_of k before) (λ fw down full. fits-none before (as_row (Gone k) k silent.sent fw down (fate_with silent.ends full)) refl)
 fits-treat policy pid pick before (Heard p) = fits-dest before p (dest before p)
 fits-treat policy pid pick before item = fits-none before (treat policy pid pick before item) refl

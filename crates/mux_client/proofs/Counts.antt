@@ -6,12 +6,12 @@ use Rattle.mux_outside.specs.Counts.{counted}
 use Rattle.mux_outside.specs.CallCounts.{CallCounts, calls_after_wait, counted_if, is_server_end, is_server_piece, is_starved, late_after}
 use Rattle.mux_outside.specs.declared.turn.Turn.{Turn}
 use Rattle.mux_outside.specs.declared.turn.Turn.TheVariants as turn
-use Rattle.mux_client.specs.declared.stage.Stage.{Stage}
-use Rattle.mux_client.specs.declared.stage.Stage.TheVariants as stage
+use Rattle.mux_client.specs.declared.stage.TalkStage.{TalkStage}
+use Rattle.mux_client.specs.declared.stage.TalkStage.TheVariants as stage
 use Rattle.mux_client.specs.declared.talked.Talked.{Talked}
 use Rattle.mux_client.specs.declared.talked.Talked.TheVariants as talked
 use Rattle.mux_client.specs.Client.{ClientState}
-use Rattle.mux_client.specs.Counted.{AnsweredBy, CameTo, Counts, HasHeard, Waited, Well, WentUp}
+use Rattle.mux_client.specs.Counted.{AnsweredBy, CameTo, Counts, HasReceived, Waited, Well, WentUp}
 use Rattle.mux_client.specs.Talking.{BreaksOff, IsAnswerAt, IsDecided, IsOfSink, IsOfWire, talked_of}
 
 waited-none : (n : ℕ) → Waited 0 n n
@@ -105,7 +105,7 @@ sink-answered (talked.BadMaster at) a b h up = absurd h
 sink-answered talked.Spent a b h up = absurd h
 
 -- a piece came and was read, or the end came: the call goes on or the talk is over by that
-pub came-read : {A : Type 0} (r : Result A Talked) (before now : Stage) (a b : CallCounts) → IfErr r IsOfSink → WentUp a.server_pieces b.server_pieces → CameTo r before now a b
+pub came-read : {A : Type 0} (r : Result A Talked) (before now : TalkStage) (a b : CallCounts) → IfErr r IsOfSink → WentUp a.server_pieces b.server_pieces → CameTo r before now a b
 came-read (Ok x) before now a b h up = inr up
 came-read (Err answer) before now a b h up = sink-answered answer a b h up
 
@@ -114,7 +114,7 @@ came-off s (Ok x) a b h up = inl refl
 came-off s (Err answer) a b h up = subst (λ (x : Talked). AnsweredBy x a b) (sym h.2) (inr up)
 
 -- an answer by the stage of the talk
-at-answered : (answer : Talked) (at : Stage) (queue : List ℕ) (a b : CallCounts) → IsAnswerAt answer at queue → HasHeard stage.Greets at a b → AnsweredBy answer a b
+at-answered : (answer : Talked) (at : TalkStage) (queue : List ℕ) (a b : CallCounts) → IsAnswerAt answer at queue → HasReceived stage.Greets at a b → AnsweredBy answer a b
 at-answered talked.Done at queue a b h (inl e) = absurd (let z : stage.Granted ≡ stage.Greets = sym h.0 ∙ e in cc)
 at-answered talked.Done at queue a b h (inr up) = up
 at-answered (talked.Refused id) at queue a b h (inl e) = absurd (let z : stage.Refused id ≡ stage.Greets = sym h ∙ e in cc)
@@ -126,7 +126,7 @@ at-answered talked.ServerFailed at queue a b h heard = absurd h
 at-answered talked.Spent at queue a b h heard = absurd h
 at-answered talked.OutOfMemory at queue a b h heard = absurd h
 
-pub decided-answered : (s : ClientState) (r : Result (Unit {0}) Talked) (a b : CallCounts) → IsDecided s r → HasHeard stage.Greets s.stage a b → AnsweredBy (talked_of r) a b
+pub decided-answered : (s : ClientState) (r : Result (Unit {0}) Talked) (a b : CallCounts) → IsDecided s r → HasReceived stage.Greets s.stage a b → AnsweredBy (talked_of r) a b
 decided-answered s (Ok x) a b h heard = tt
 decided-answered s (Err answer) a b h heard = at-answered answer s.stage s.queue a b h heard
 
@@ -141,11 +141,11 @@ answered-later n talked.ServerFailed a b c w h = tt
 answered-later n talked.Spent a b c w h = tt
 answered-later n talked.OutOfMemory a b c w h = tt
 
-pub heard-offered : (n : ℕ) (first before now : Stage) (a b c : CallCounts) → now ≡ before → HasHeard first before a b → Well n b c → HasHeard first now a c
+pub heard-offered : (n : ℕ) (first before now : TalkStage) (a b c : CallCounts) → now ≡ before → HasReceived first before a b → Well n b c → HasReceived first now a c
 heard-offered n first before now a b c same (inl e) w = inl (same ∙ e)
 heard-offered n first before now a b c same (inr up) w = inr (up-stays a.server_pieces b.server_pieces c.server_pieces up w.server_pieces)
 
-pub heard-then : (m n : ℕ) (first before now : Stage) (a b c : CallCounts) → Well m a b → HasHeard first before a b → Well n b c → HasHeard before now b c → HasHeard first now a c
+pub heard-then : (m n : ℕ) (first before now : TalkStage) (a b c : CallCounts) → Well m a b → HasReceived first before a b → Well n b c → HasReceived before now b c → HasReceived first now a c
 heard-then m n first before now a b c v (inl e) w (inl f) = inl (f ∙ e)
 heard-then m n first before now a b c v (inr up) w (inl f) = inr (up-stays a.server_pieces b.server_pieces c.server_pieces up w.server_pieces)
 heard-then m n first before now a b c v heard w (inr up) = inr (up-later a.server_pieces b.server_pieces c.server_pieces v.server_pieces up)

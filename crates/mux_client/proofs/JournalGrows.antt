@@ -57,14 +57,14 @@ journal-more asks marks m j right opens front = record {
 
 -- ---- what is told
 
-pub told-one : (start told : Option (List Mark)) (marks : List Mark) (m : Mark) → told ≡ option_map (λ l. l ++ marks) start → option_map (λ l. l ++ m ∷ []) told ≡ option_map (λ l. l ++ (marks ++ m ∷ [])) start
-told-one None told marks m e = ap (option_map (λ (l : List Mark). l ++ m ∷ [])) e
-told-one (Some s) told marks m e = ap (option_map (λ (l : List Mark). l ++ m ∷ [])) e ∙ ap (λ (l : List Mark). Some l) (append_assoc s marks (m ∷ []))
+pub recorded-one : (start recorded : Option (List Mark)) (marks : List Mark) (m : Mark) → recorded ≡ option_map (λ l. l ++ marks) start → option_map (λ l. l ++ m ∷ []) recorded ≡ option_map (λ l. l ++ (marks ++ m ∷ [])) start
+recorded-one None recorded marks m e = ap (option_map (λ (l : List Mark). l ++ m ∷ [])) e
+recorded-one (Some s) recorded marks m e = ap (option_map (λ (l : List Mark). l ++ m ∷ [])) e ∙ ap (λ (l : List Mark). Some l) (append_assoc s marks (m ∷ []))
 
-pub told-none : (told : Option (List Mark)) → option_map (λ m. m ++ []) told ≡ told
-told-none None = refl
-told-none (Some m) = ap (λ (l : List Mark). Some l) (append-nil m)
+pub recorded-none : (recorded : Option (List Mark)) → option_map (λ m. m ++ []) recorded ≡ recorded
+recorded-none None = refl
+recorded-none (Some m) = ap (λ (l : List Mark). Some l) (append-nil m)
 
-pub told-two : (a b : Mark) (told : Option (List Mark)) → option_map (λ m. m ++ (a ∷ b ∷ [])) told ≡ option_map (λ m. m ++ b ∷ []) (option_map (λ m. m ++ a ∷ []) told)
-told-two a b None = refl
-told-two a b (Some m) = ap (λ (l : List Mark). Some l) (sym (append_assoc m (a ∷ []) (b ∷ [])))
+pub recorded-two : (a b : Mark) (recorded : Option (List Mark)) → option_map (λ m. m ++ (a ∷ b ∷ [])) recorded ≡ option_map (λ m. m ++ b ∷ []) (option_map (λ m. m ++ a ∷ []) recorded)
+recorded-two a b None = refl
+recorded-two a b (Some m) = ap (λ (l : List Mark). Some l) (sym (append_assoc m (a ∷ []) (b ∷ [])))

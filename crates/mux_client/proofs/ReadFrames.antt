@@ -6,12 +6,12 @@ use Rattle.ssh_grammar.specs.declared.framing.Framing.TheVariants.{Control}
 use Rattle.ssh_grammar.specs.Frames.{Front, Frame, More, Faulty, first_frame, with_frame, cut}
 use Rattle.ssh_grammar.proofs.Cuts.{IsShorter, first-shorter, cut-at, first-extends, Extends}
 use Rattle.mux_client.specs.declared.asks.Asks.{Asks}
-use Rattle.mux_client.specs.declared.stage.Stage.{Stage}
-use Rattle.mux_client.specs.declared.stage.Stage.TheVariants.{Greets, Asks as Asked, Granted, Refused, Broken}
-use Rattle.mux_client.specs.declared.verdict.Line.{Line}
-use Rattle.mux_client.specs.declared.verdict.Line.TheVariants.{Nothing}
+use Rattle.mux_client.specs.declared.stage.TalkStage.{TalkStage}
+use Rattle.mux_client.specs.declared.stage.TalkStage.TheVariants.{Greets, Asks as Asked, Granted, Refused, Broken}
+use Rattle.mux_client.specs.declared.verdict.OutLine.{OutLine}
+use Rattle.mux_client.specs.declared.verdict.OutLine.TheVariants.{Nothing}
 use Rattle.mux_client.specs.Requests.{Request, requests_of, request_at, request_frame, frame_due}
-use Rattle.mux_client.specs.Replies.{Verdict, Grants, Refuses, Breaks, verdict, is_hello}
+use Rattle.mux_client.specs.Replies.{ReplyVerdict, Grants, Refuses, Breaks, verdict, is_hello}
 use Rattle.mux_client.specs.Verdicts.{text_of_line}
 use Rattle.mux_client.specs.Talk.{BrokenAt, Talk, stops, sending, showing, behind, broken_by, tail_outcome, on_reply, on_hello, talk_on}
 use Rattle.mux_client.proofs.Talks.{cut-fault}
@@ -116,7 +116,7 @@ pub replied-none : (asks : Asks) (id at : ℕ) (broken : Bool) (request : Reques
 replied-none asks id at broken request e = ap (λ rs. replied rs id at [] broken) (drop-some (requests_of asks) id request e)
 
 -- a talk breaks at the place of a fault
-broken-here : (asks : Asks) (stage : Stage) (at : ℕ) → place_of stage ≡ Some at → HasRequest asks stage → later_at stage (requests_of asks) [] true ≡ stops (Some (BrokenAt at))
+broken-here : (asks : Asks) (stage : TalkStage) (at : ℕ) → place_of stage ≡ Some at → HasRequest asks stage → later_at stage (requests_of asks) [] true ≡ stops (Some (BrokenAt at))
 broken-here asks Greets at p h = ap (λ n. stops (Some (BrokenAt n))) (let z : Some 0 ≡ Some at = p in cc)
 broken-here asks (Asked id n) at p h =
     ap (λ rs. replied rs id n [] true) (drop-some (requests_of asks) id h.0 h.1) ∙ ap (λ m. stops (Some (BrokenAt m))) (let z : Some n ≡ Some at = p in cc)
@@ -124,14 +124,14 @@ broken-here asks Granted at p h = absurd (let z : None ≡ Some at = p in cc)
 broken-here asks (Refused id) at p h = absurd (let z : None ≡ Some at = p in cc)
 broken-here asks (Broken n) at p h = absurd (let z : None ≡ Some at = p in cc)
 
-settled-more : (stage : Stage) (at : ℕ) (rest : List ℕ) → place_of stage ≡ Some at → first_frame Control rest ≡ More → IsSettledAt stage rest
+settled-more : (stage : TalkStage) (at : ℕ) (rest : List ℕ) → place_of stage ≡ Some at → first_frame Control rest ≡ More → IsSettledAt stage rest
 settled-more Greets at rest p e = e
 settled-more (Asked id n) at rest p e = e
 settled-more Granted at rest p e = tt
 settled-more (Refused id) at rest p e = tt
 settled-more (Broken n) at rest p e = tt
 
-no-line : {P : Type 0} → IsSome {T = Line} None → P
+no-line : {P : Type 0} → IsSome {T = OutLine} None → P
 no-line h = absurd (let z : false ≡ true = h in cc)
 
 -- no frame was cut
@@ -165,14 +165,14 @@ none-cut asks old new at false place e frame empty = not-cut asks old new at pla
 -- ---- a frame was cut
 
 -- and the talk is over with it
-pub record Stops (asks : Asks) (old : ClientState) (body : List ℕ) (stage : Stage) : Type 0 where
+pub record Stops (asks : Asks) (old : ClientState) (body : List ℕ) (stage : TalkStage) : Type 0 where
   pub over : (bodies : List (List ℕ)) (broken : Bool) → HasRequest asks old.stage → later_at old.stage (requests_of asks) (body ∷ bodies) broken ≡ later_at stage (requests_of asks) [] broken
   pub stays : (bodies : List (List ℕ)) (broken : Bool) → later_at stage (requests_of asks) bodies broken ≡ later_at stage (requests_of asks) [] broken
   pub request : HasRequest asks stage
   pub settled : (rest : List ℕ) → IsSettledAt stage rest
   pub ends : place_of stage ≡ None
 
-pub cut-stops : (asks : Asks) (old new : ClientState) (body : List ℕ) (stage : Stage) → IsCut old new body → Stops asks old body stage → ReadsNextTo asks old (record new { stage = stage }) None
+pub cut-stops : (asks : Asks) (old new : ClientState) (body : List ℕ) (stage : TalkStage) → IsCut old new body → Stops asks old body stage → ReadsNextTo asks old (record new { stage = stage }) None
 cut-stops asks old new body stage k s = record {
   stands = λ bytes taken shown h. stands-on asks bytes taken shown [] [] old (record new { stage = stage }) (k.queue ∙ sym (append-nil old.queue))
       (λ more ended. let c = cut Control (new.framer.rest ++ more) in
@@ -194,16 +194,16 @@ bad-hello asks old body greets other = record {
 }
 
 -- what follows a reply
-reply-is : (asks : Asks) (id at : ℕ) (body : List ℕ) (bodies : List (List ℕ)) (broken : Bool) (request : Request) (v : Verdict) → request_at asks id ≡ Some request → v ≡ verdict request id body
+reply-is : (asks : Asks) (id at : ℕ) (body : List ℕ) (bodies : List (List ℕ)) (broken : Bool) (request : Request) (v : ReplyVerdict) → request_at asks id ≡ Some request → v ≡ verdict request id body
     → replied (drop id (requests_of asks)) id at (body ∷ bodies) broken ≡ on_reply v id at (talk_on (drop (id + 1) (requests_of asks)) (id + 1) (behind at body) bodies broken)
 reply-is asks id at body bodies broken request v due means =
     ap (λ rs. replied rs id at (body ∷ bodies) broken) (drop-some (requests_of asks) id request due)
     ∙ ap (λ w. on_reply w id at (talk_on (drop (id + 1) (requests_of asks)) (id + 1) (behind at body) bodies broken)) (sym means)
 
-abbrev MeansTo : Asks → ℕ → List ℕ → Verdict → Type 0
+abbrev MeansTo : Asks → ℕ → List ℕ → ReplyVerdict → Type 0
 MeansTo asks id body v = (request : Request) → request_at asks id ≡ Some request → v ≡ verdict request id body
 
-reply-at : (asks : Asks) (stage : Stage) (id at : ℕ) (body : List ℕ) (bodies : List (List ℕ)) (broken : Bool) (v : Verdict) → stage ≡ Asked id at → HasRequest asks stage → MeansTo asks id body v
+reply-at : (asks : Asks) (stage : TalkStage) (id at : ℕ) (body : List ℕ) (bodies : List (List ℕ)) (broken : Bool) (v : ReplyVerdict) → stage ≡ Asked id at → HasRequest asks stage → MeansTo asks id body v
     → later_at stage (requests_of asks) (body ∷ bodies) broken ≡ on_reply v id at (talk_on (drop (id + 1) (requests_of asks)) (id + 1) (behind at body) bodies broken)
 reply-at asks stage id at body bodies broken v is h means =
     let r : HasRequest asks (Asked id at) = subst (HasRequest asks) is h in
@@ -235,7 +235,7 @@ pub record Goes (asks : Asks) (old : ClientState) (body : List ℕ) (id at : ℕ
       → later_at old.stage (requests_of asks) (body ∷ bodies) broken ≡ showing line (talk_on (drop id (requests_of asks)) id at bodies broken)
   pub awaits : place_of old.stage ≢ None
 
-pub cut-goes : (asks : Asks) (old cutoff new : ClientState) (body : List ℕ) (id at : ℕ) (line : Line) → IsCut old cutoff body → Goes asks old body id at (text_of_line line)
+pub cut-goes : (asks : Asks) (old cutoff new : ClientState) (body : List ℕ) (id at : ℕ) (line : OutLine) → IsCut old cutoff body → Goes asks old body id at (text_of_line line)
     → new ≡ asked (request_at asks id) id at cutoff → ReadsNextTo asks old new (Some line)
 cut-goes asks old cutoff new body id at line k g e = subst (λ s. ReadsNextTo asks old s (Some line)) (sym e) (record {
   stands = λ bytes taken shown h. stands-on asks bytes taken shown (frame_due id (request_at asks id)) (text_of_line line) old (asked (request_at asks id) id at cutoff)
@@ -258,7 +258,7 @@ hello-goes asks old body at greets hello place = record {
   awaits = λ z. let w : Some 0 ≡ None = sym (ap place_of greets) ∙ z in cc;
 }
 
-pub reply-goes : (asks : Asks) (old : ClientState) (body : List ℕ) (id next at behind_it : ℕ) (line : Line) → old.stage ≡ Asked id at → MeansTo asks id body (Grants (text_of_line line))
+pub reply-goes : (asks : Asks) (old : ClientState) (body : List ℕ) (id next at behind_it : ℕ) (line : OutLine) → old.stage ≡ Asked id at → MeansTo asks id body (Grants (text_of_line line))
     → next ≡ id + 1 → behind_it ≡ behind at body → Goes asks old body next behind_it (text_of_line line)
 reply-goes asks old body id next at behind_it line is means one place = record {
   on = λ bodies broken h. reply-at asks old.stage id at body bodies broken (Grants (text_of_line line)) is h means

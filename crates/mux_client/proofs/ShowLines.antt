@@ -10,7 +10,7 @@ use Rattle.mux_client.specs.Client.{ClientState}
 use Rattle.mux_client.specs.Talking.{Talking, IsTalk, IsCutLine, ShowsOn, ShowsLast}
 use Rattle.mux_client.proofs.TalkSteps.{talk-faulted, talk-starved}
 
-put-none : (told : Option (List ℕ)) → told ≡ option_map (λ b. b ++ []) told
+put-none : (recorded : Option (List ℕ)) → recorded ≡ option_map (λ b. b ++ []) recorded
 put-none None = refl
 put-none (Some b) = ap (λ (l : List ℕ). Some l) (sym (append-nil b))
 
@@ -28,11 +28,11 @@ append-empty-right (a ∷ x) y e = absurd (let z : a ∷ (x ++ y) ≡ [] = e in 
 
 -- ---- nothing was shown
 
-pub shows-none : {V : Type 0} (told : Option (List ℕ)) (out : V) (Holds : List ℕ → Type 0) → Holds [] → ShowsOn told told out out Holds
-shows-none told out Holds h = record { more = []; put = put-none told; quiet = λ z. refl; holds = h }
+pub shows-none : {V : Type 0} (recorded : Option (List ℕ)) (out : V) (Holds : List ℕ → Type 0) → Holds [] → ShowsOn recorded recorded out out Holds
+shows-none recorded out Holds h = record { more = []; put = put-none recorded; quiet = λ z. refl; holds = h }
 
-pub last-none : {V : Type 0} (told : Option (List ℕ)) (out : V) (Holds : List ℕ → List ℕ → Type 0) → Holds [] [] → ShowsLast told told out out Holds
-last-none told out Holds h = record { more = []; due = []; put = put-none told; quiet = λ z. refl; holds = h }
+pub last-none : {V : Type 0} (recorded : Option (List ℕ)) (out : V) (Holds : List ℕ → List ℕ → Type 0) → Holds [] [] → ShowsLast recorded recorded out out Holds
+last-none recorded out Holds h = record { more = []; due = []; put = put-none recorded; quiet = λ z. refl; holds = h }
 
 -- ---- something was, and then more
 
@@ -81,14 +81,14 @@ last-here f t = record { more = f.more; due = f.more; put = f.put; quiet = f.qui
 some-more : (shown due : List ℕ) → due ≢ [] → shown ++ due ≢ []
 some-more shown due some e = some (append-empty-right shown due e)
 
-cut-line : {asks : Asks} {start told : Option (List Mark)} {held : List ℕ} {s : ClientState} (shown : List ℕ) (answer : Talked) (line more due : List ℕ) → Talking asks start told held (shown ++ line) s → IsCutLine answer line more due
-    → IsTalk asks answer start told (shown ++ more) (shown ++ due)
-cut-line {asks} {start} {told} {held} {s} shown talked.WriteFault line more due v k =
-    subst (λ d. IsTalk asks talked.WriteFault start told (shown ++ more) (shown ++ d)) (sym k.0)
+cut-line : {asks : Asks} {start recorded : Option (List Mark)} {held : List ℕ} {s : ClientState} (shown : List ℕ) (answer : Talked) (line more due : List ℕ) → Talking asks start recorded held (shown ++ line) s → IsCutLine answer line more due
+    → IsTalk asks answer start recorded (shown ++ more) (shown ++ due)
+cut-line {asks} {start} {recorded} {held} {s} shown talked.WriteFault line more due v k =
+    subst (λ d. IsTalk asks talked.WriteFault start recorded (shown ++ more) (shown ++ d)) (sym k.0)
     (talk-faulted v (shown ++ more) k.2.rest (ap (λ l. shown ++ l) k.2.whole ∙ sym (append_assoc shown more k.2.rest)) (some-more shown line (subst (λ d. d ≢ []) k.0 k.1)))
-cut-line {asks} {start} {told} {held} {s} shown talked.OutOfMemory line more due v k =
-    subst (λ d. IsTalk asks talked.OutOfMemory start told (shown ++ more) (shown ++ d)) (sym k.0)
-    (subst (λ m. IsTalk asks talked.OutOfMemory start told (shown ++ m) (shown ++ line)) (sym k.1)
+cut-line {asks} {start} {recorded} {held} {s} shown talked.OutOfMemory line more due v k =
+    subst (λ d. IsTalk asks talked.OutOfMemory start recorded (shown ++ more) (shown ++ d)) (sym k.0)
+    (subst (λ m. IsTalk asks talked.OutOfMemory start recorded (shown ++ m) (shown ++ line)) (sym k.1)
     (talk-starved v (shown ++ []) line (ap (λ x. x ++ line) (sym (append-nil shown)))))
 cut-line shown talked.Done line more due v k = absurd k
 cut-line shown (talked.Refused id) line more due v k = absurd k
@@ -96,15 +96,15 @@ cut-line shown (talked.BadMaster at) line more due v k = absurd k
 cut-line shown talked.ServerFailed line more due v k = absurd k
 cut-line shown talked.Spent line more due v k = absurd k
 
-pub cut-off : {V : Type 0} {a b : Option (List ℕ)} {x y : V} {asks : Asks} {start told : Option (List Mark)} {held : List ℕ} {s : ClientState} (shown : List ℕ) (answer : Talked) (line : List ℕ) → Talking asks start told held (shown ++ line) s
-    → ShowsLast a b x y (IsCutLine answer line) → ShowsLast a b x y (λ more due. IsTalk asks answer start told (shown ++ more) (shown ++ due))
+pub cut-off : {V : Type 0} {a b : Option (List ℕ)} {x y : V} {asks : Asks} {start recorded : Option (List Mark)} {held : List ℕ} {s : ClientState} (shown : List ℕ) (answer : Talked) (line : List ℕ) → Talking asks start recorded held (shown ++ line) s
+    → ShowsLast a b x y (IsCutLine answer line) → ShowsLast a b x y (λ more due. IsTalk asks answer start recorded (shown ++ more) (shown ++ due))
 cut-off shown answer line v k = record { more = k.more; due = k.due; put = k.put; quiet = k.quiet; holds = cut-line shown answer line k.more k.due v k.holds }
 
-pub shown-line : {V : Type 0} {a b : Option (List ℕ)} {x y : V} {asks : Asks} {start told : Option (List Mark)} {held : List ℕ} {s : ClientState} (shown line : List ℕ) → Talking asks start told held (shown ++ line) s
-    → ShowsOn a b x y (λ more. more ≡ line) → ShowsOn a b x y (λ more. Talking asks start told held (shown ++ more) s)
-shown-line {asks = asks} {start} {told} {held} {s} shown line v k = record { more = k.more; put = k.put; quiet = k.quiet; holds = subst (λ m. Talking asks start told held (shown ++ m) s) (sym k.holds) v }
+pub shown-line : {V : Type 0} {a b : Option (List ℕ)} {x y : V} {asks : Asks} {start recorded : Option (List Mark)} {held : List ℕ} {s : ClientState} (shown line : List ℕ) → Talking asks start recorded held (shown ++ line) s
+    → ShowsOn a b x y (λ more. more ≡ line) → ShowsOn a b x y (λ more. Talking asks start recorded held (shown ++ more) s)
+shown-line {asks = asks} {start} {recorded} {held} {s} shown line v k = record { more = k.more; put = k.put; quiet = k.quiet; holds = subst (λ m. Talking asks start recorded held (shown ++ m) s) (sym k.holds) v }
 
 -- ---- a line that there was no memory for
 
-pub no-text : {V : Type 0} (told : Option (List ℕ)) (out : V) (line : List ℕ) → ShowsLast told told out out (IsCutLine talked.OutOfMemory line)
-no-text told out line = record { more = []; due = line; put = put-none told; quiet = λ z. refl; holds = (refl, refl) }
+pub no-text : {V : Type 0} (recorded : Option (List ℕ)) (out : V) (line : List ℕ) → ShowsLast recorded recorded out out (IsCutLine talked.OutOfMemory line)
+no-text recorded out line = record { more = []; due = line; put = put-none recorded; quiet = λ z. refl; holds = (refl, refl) }

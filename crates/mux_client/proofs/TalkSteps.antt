@@ -11,18 +11,18 @@ use Rattle.mux_outside.specs.declared.mark.Mark.{Mark}
 use Rattle.mux_outside.specs.declared.mark.Mark.TheVariants.{Waits, Accepts, Gets, Ends, Frees, Fails, Takes, Holds, WriteFails, Joins, House}
 use Rattle.mux_outside.specs.declared.turn.Want.TheVariants.{Read}
 use Rattle.mux_client.specs.declared.asks.Asks.{Asks}
-use Rattle.mux_client.specs.declared.stage.Stage.{Stage}
-use Rattle.mux_client.specs.declared.stage.Stage.TheVariants.{Greets, Asks as Asked, Granted, Refused, Broken}
+use Rattle.mux_client.specs.declared.stage.TalkStage.{TalkStage}
+use Rattle.mux_client.specs.declared.stage.TalkStage.TheVariants.{Greets, Asks as Asked, Granted, Refused, Broken}
 use Rattle.mux_client.specs.declared.talked.Talked.{Talked}
 use Rattle.mux_client.specs.declared.talked.Talked.TheVariants as talked
-use Rattle.mux_client.specs.declared.verdict.Line.{Line}
+use Rattle.mux_client.specs.declared.verdict.OutLine.{OutLine}
 use Rattle.mux_client.specs.Verdicts.{text_of_some}
 use Rattle.mux_client.specs.Requests.{requests_of}
 use Rattle.mux_client.specs.Talk.{Outcome, BrokenAt, Talk, talk, stops, sending, showing, tail_outcome}
 use Rattle.mux_client.specs.Journal.{given_at, bytes_given, ends_at, has_ended, held_by, is_held, held_streams, talk_of, TookFront, TookAll, WaitsRight, WaitOpen, Answers, Shows}
 use Rattle.mux_client.specs.Client.{ClientState, heard, without_sent, place_of, later_by, later, HasRequest, Stands, IsSettled, IsSettledAt, outcome_of, ReadsNextTo}
 use Rattle.mux_client.specs.Talking.{IsGoing, IsAnswerAt, IsOffered, IsJournal, Talking, IsTalk, TalksOn}
-use Rattle.mux_client.proofs.JournalGrows.{given-more, taken-more, ended-more, held-more, journal-more, told-one}
+use Rattle.mux_client.proofs.JournalGrows.{given-more, taken-more, ended-more, held-more, journal-more, recorded-one}
 use Rattle.mux_client.proofs.ReadFrames.{replied-none}
 
 -- want of memory that a `?` hands on
@@ -45,7 +45,7 @@ nothing-cut : (rest : List ℕ) → first_frame Control rest ≡ More → cut Co
 nothing-cut rest e = ap (cut Control) (append-nil rest) ∙ cut-at Control rest More e
 
 -- nothing is to come once all frames were read
-later-settled : (asks : Asks) (stage : Stage) (rest : List ℕ) (ended : Bool) → IsSettledAt stage rest → HasRequest asks stage → (ended ≡ true → place_of stage ≡ None)
+later-settled : (asks : Asks) (stage : TalkStage) (rest : List ℕ) (ended : Bool) → IsSettledAt stage rest → HasRequest asks stage → (ended ≡ true → place_of stage ≡ None)
     → later_by stage (requests_of asks) (cut Control (rest ++ [])) ended ≡ stops (outcome_of stage)
 later-settled asks stage rest ended settled request over = by_stage stage settled request over
   where
@@ -53,7 +53,7 @@ later-settled asks stage rest ended settled request over = by_stage stage settle
     by_end true at over = absurd (let z : Some at ≡ None = over refl in cc)
     by_end false at over = refl
 
-    by_stage : (stage : Stage) → IsSettledAt stage rest → HasRequest asks stage → (ended ≡ true → place_of stage ≡ None) → later_by stage (requests_of asks) (cut Control (rest ++ [])) ended ≡ stops (outcome_of stage)
+    by_stage : (stage : TalkStage) → IsSettledAt stage rest → HasRequest asks stage → (ended ≡ true → place_of stage ≡ None) → later_by stage (requests_of asks) (cut Control (rest ++ [])) ended ≡ stops (outcome_of stage)
     by_stage Greets e h over = ap (λ c. later_by Greets (requests_of asks) c ended) (nothing-cut rest e) ∙ ap stops (by_end ended 0 over)
     by_stage (Asked id at) e h over = ap (λ c. later_by (Asked id at) (requests_of asks) c ended) (nothing-cut rest e) ∙ replied-none asks id at ended h.0 h.1 ∙ ap stops (by_end ended at over)
     by_stage Granted e h over = refl
@@ -75,8 +75,8 @@ settled-talk {asks} {bytes} {taken} {shown} {s} h ended settled over =
 
 -- ---- the calls of a client
 
-pub stands-hears : {asks : Asks} {bytes taken shown : List ℕ} {s : ClientState} (piece : List ℕ) → Stands asks bytes taken shown s → Stands asks (bytes ++ piece) taken shown (heard piece s)
-stands-hears {asks} {bytes} {taken} {shown} {s} piece h = record {
+pub stands-receives : {asks : Asks} {bytes taken shown : List ℕ} {s : ClientState} (piece : List ℕ) → Stands asks bytes taken shown s → Stands asks (bytes ++ piece) taken shown (heard piece s)
+stands-receives {asks} {bytes} {taken} {shown} {s} piece h = record {
   goes = λ more ended. ap (λ b. talk asks b ended) (append_assoc bytes piece more) ∙ h.goes (piece ++ more) ended
       ∙ ap (λ r. sending (taken ++ s.queue) (showing shown (later_by s.stage (requests_of asks) (cut Control r) ended))) (sym (append_assoc s.framer.rest piece more));
   request = h.request;
@@ -114,12 +114,12 @@ journal-next : {asks : Asks} {marks : List Mark} {shown : List ℕ} {s : ClientS
 journal-next {asks} {marks} {shown} {s} {m} j n = journal-more asks marks m j n.right n.opens (front-of (stands-there n))
 
 -- the talk goes on with it
-pub talking-next : {asks : Asks} {start told : Option (List Mark)} {held shown : List ℕ} {s : ClientState} (v : Talking asks start told held shown s) (held' shown' : List ℕ) (s' : ClientState) (m : Mark)
+pub talking-next : {asks : Asks} {start recorded : Option (List Mark)} {held shown : List ℕ} {s : ClientState} (v : Talking asks start recorded held shown s) (held' shown' : List ℕ) (s' : ClientState) (m : Mark)
     → NextMark asks v.marks shown' s' m → ((has_ended v.marks || ends_at m) ≡ true → place_of s'.stage ≡ None) → held' ≡ held_streams (held_by (is_held v.marks) m)
-    → Talking asks start (option_map (λ l. l ++ m ∷ []) told) held' shown' s'
-talking-next {asks} {start} {told} v held' shown' s' m n ended held = record {
+    → Talking asks start (option_map (λ l. l ++ m ∷ []) recorded) held' shown' s'
+talking-next {asks} {start} {recorded} v held' shown' s' m n ended held = record {
   marks = v.marks ++ m ∷ [];
-  tells = told-one start told v.marks m v.tells;
+  records = recorded-one start recorded v.marks m v.records;
   journal = journal-next v.journal n;
   stands = stands-there n;
   ended = λ e. ended (sym (ended-more v.marks m) ∙ e);
@@ -164,25 +164,25 @@ or-none false f e = absurd (let z : false ≡ true = e in cc)
 
 -- ---- a write
 
-pub talk-takes : {asks : Asks} {start told : Option (List Mark)} {held shown : List ℕ} {s : ClientState} (n : ℕ) → Talking asks start told held shown s
-    → Talking asks start (option_map (λ l. l ++ Takes 0 (take n s.queue) ∷ []) told) held shown (without_sent n s)
+pub talk-takes : {asks : Asks} {start recorded : Option (List Mark)} {held shown : List ℕ} {s : ClientState} (n : ℕ) → Talking asks start recorded held shown s
+    → Talking asks start (option_map (λ l. l ++ Takes 0 (take n s.queue) ∷ []) recorded) held shown (without_sent n s)
 talk-takes {asks = asks} {held = held} {shown = shown} {s = s} n v = talking-next v held shown (without_sent n s) (Takes 0 (take n s.queue))
     (next-other (Takes 0 (take n s.queue)) tt (subst (λ b. Stands asks b (bytes_taken 0 v.marks ++ take n s.queue) shown (without_sent n s)) (sym (append-nil (bytes_given v.marks))) (stands-took n v.stands)))
     (or-none (has_ended v.marks) v.ended) v.held_is
 
-pub talk-holds : {asks : Asks} {start told : Option (List Mark)} {held shown : List ℕ} {s : ClientState} → Talking asks start told held shown s
-    → Talking asks start (option_map (λ l. l ++ Holds 0 ∷ []) told) (0 ∷ []) shown s
+pub talk-holds : {asks : Asks} {start recorded : Option (List Mark)} {held shown : List ℕ} {s : ClientState} → Talking asks start recorded held shown s
+    → Talking asks start (option_map (λ l. l ++ Holds 0 ∷ []) recorded) (0 ∷ []) shown s
 talk-holds {shown = shown} {s = s} v = talking-next v (0 ∷ []) shown s (Holds 0) (next-other (Holds 0) tt (same-stands v.stands)) (or-none (has_ended v.marks) v.ended) refl
 
 -- ---- it is over
 
 -- for want of memory, whatever was shown of what was due
-pub talk-starved : {asks : Asks} {start told : Option (List Mark)} {held shown : List ℕ} {s : ClientState} → Talking asks start told held shown s → (more rest : List ℕ) → shown ≡ more ++ rest
-    → IsTalk asks talked.OutOfMemory start told more shown
+pub talk-starved : {asks : Asks} {start recorded : Option (List Mark)} {held shown : List ℕ} {s : ClientState} → Talking asks start recorded held shown s → (more rest : List ℕ) → shown ≡ more ++ rest
+    → IsTalk asks talked.OutOfMemory start recorded more shown
 talk-starved {asks} {shown = shown} {s = s} v more rest e = let l = later s asks [] (has_ended v.marks) in
     let out : (talk_of asks v.marks).out ≡ shown ++ l.out = ap (λ (t : Talk). t.out) (talk-now v.stands (has_ended v.marks)) in record {
       marks = v.marks;
-      tells = v.tells;
+      records = v.records;
       journal = v.journal;
       answers = tt;
       shows = record { rest = rest ++ l.out; whole = out ∙ ap (λ b. b ++ l.out) e ∙ append_assoc more rest l.out };
@@ -192,12 +192,12 @@ talk-starved {asks} {shown = shown} {s = s} v more rest e = let l = later s asks
     }
 
 -- for a fault of the sink
-pub talk-faulted : {asks : Asks} {start told : Option (List Mark)} {held shown : List ℕ} {s : ClientState} → Talking asks start told held shown s → (more rest : List ℕ) → shown ≡ more ++ rest → shown ≢ []
-    → IsTalk asks talked.WriteFault start told more shown
+pub talk-faulted : {asks : Asks} {start recorded : Option (List Mark)} {held shown : List ℕ} {s : ClientState} → Talking asks start recorded held shown s → (more rest : List ℕ) → shown ≡ more ++ rest → shown ≢ []
+    → IsTalk asks talked.WriteFault start recorded more shown
 talk-faulted {asks} {shown = shown} {s = s} v more rest e some = let l = later s asks [] (has_ended v.marks) in
     let out : (talk_of asks v.marks).out ≡ shown ++ l.out = ap (λ (t : Talk). t.out) (talk-now v.stands (has_ended v.marks)) in record {
       marks = v.marks;
-      tells = v.tells;
+      records = v.records;
       journal = v.journal;
       answers = tt;
       shows = record { rest = rest ++ l.out; whole = out ∙ ap (λ b. b ++ l.out) e ∙ append_assoc more rest l.out };
@@ -207,11 +207,11 @@ talk-faulted {asks} {shown = shown} {s = s} v more rest e some = let l = later s
     }
 
 -- for a fault of the stream
-pub talk-failed : {asks : Asks} {start told : Option (List Mark)} {held shown : List ℕ} {s : ClientState} → Talking asks start told held shown s → IsSettled s → IsTalk asks talked.ServerFailed start told shown shown
+pub talk-failed : {asks : Asks} {start recorded : Option (List Mark)} {held shown : List ℕ} {s : ClientState} → Talking asks start recorded held shown s → IsSettled s → IsTalk asks talked.ServerFailed start recorded shown shown
 talk-failed {asks} {shown = shown} {s = s} v settled =
     let out : (talk_of asks v.marks).out ≡ shown = ap (λ (t : Talk). t.out) (settled-talk v.stands (has_ended v.marks) settled v.ended) in record {
       marks = v.marks;
-      tells = v.tells;
+      records = v.records;
       journal = v.journal;
       answers = tt;
       shows = sym out;
@@ -221,7 +221,7 @@ talk-failed {asks} {shown = shown} {s = s} v settled =
     }
 
 -- by what the master said
-answers-at : (asks : Asks) (marks : List Mark) (answer : Talked) (queue shown : List ℕ) (stage : Stage) → talk_of asks marks ≡ talk_at (bytes_taken 0 marks ++ queue) shown (outcome_of stage) → IsAnswerAt answer stage queue
+answers-at : (asks : Asks) (marks : List Mark) (answer : Talked) (queue shown : List ℕ) (stage : TalkStage) → talk_of asks marks ≡ talk_at (bytes_taken 0 marks ++ queue) shown (outcome_of stage) → IsAnswerAt answer stage queue
     → Answers answer asks marks × (Shows answer shown (talk_of asks marks).out) × (answer ≢ talked.WriteFault) × (answer ≢ talked.Spent)
 answers-at asks marks talked.Done queue shown stage t a =
     ((ap (λ (k : Talk). k.outcome) t ∙ ap outcome_of a.0, sym (ap (λ (k : Talk). k.sent) t ∙ ap (λ q. bytes_taken 0 marks ++ q) a.1 ∙ append-nil (bytes_taken 0 marks))), sym (ap (λ (k : Talk). k.out) t), (λ z. cc), (λ z. cc))
@@ -232,13 +232,13 @@ answers-at asks marks talked.ServerFailed queue shown stage t a = absurd a
 answers-at asks marks talked.Spent queue shown stage t a = absurd a
 answers-at asks marks talked.OutOfMemory queue shown stage t a = absurd a
 
-pub talk-decided : {asks : Asks} {start told : Option (List Mark)} {held shown : List ℕ} {s : ClientState} → Talking asks start told held shown s → IsSettled s → (answer : Talked) → IsAnswerAt answer s.stage s.queue
-    → IsTalk asks answer start told shown shown
+pub talk-decided : {asks : Asks} {start recorded : Option (List Mark)} {held shown : List ℕ} {s : ClientState} → Talking asks start recorded held shown s → IsSettled s → (answer : Talked) → IsAnswerAt answer s.stage s.queue
+    → IsTalk asks answer start recorded shown shown
 talk-decided {asks} {shown = shown} {s = s} v settled answer a =
     let t : talk_of asks v.marks ≡ talk_at (bytes_taken 0 v.marks ++ s.queue) shown (outcome_of s.stage) = settled-talk v.stands (has_ended v.marks) settled v.ended in
     let k = answers-at asks v.marks answer s.queue shown s.stage t a in record {
       marks = v.marks;
-      tells = v.tells;
+      records = v.records;
       journal = v.journal;
       answers = k.0;
       shows = k.1;
@@ -248,7 +248,7 @@ talk-decided {asks} {shown = shown} {s = s} v settled answer a =
     }
 
 -- with all turns given
-open-at : (asks : Asks) (marks : List Mark) (queue shown : List ℕ) (stage : Stage) → talk_of asks marks ≡ talk_at (bytes_taken 0 marks ++ queue) shown (outcome_of stage) → IsGoing stage queue → Answers talked.Spent asks marks
+open-at : (asks : Asks) (marks : List Mark) (queue shown : List ℕ) (stage : TalkStage) → talk_of asks marks ≡ talk_at (bytes_taken 0 marks ++ queue) shown (outcome_of stage) → IsGoing stage queue → Answers talked.Spent asks marks
 open-at asks marks queue shown Greets t g = inl (ap (λ (k : Talk). k.outcome) t)
 open-at asks marks queue shown (Asked id at) t g = inl (ap (λ (k : Talk). k.outcome) t)
 open-at asks marks queue shown Granted t g =
@@ -256,7 +256,7 @@ open-at asks marks queue shown Granted t g =
 open-at asks marks queue shown (Refused id) t g = absurd g
 open-at asks marks queue shown (Broken at) t g = absurd g
 
-pub talk-open : {asks : Asks} {start told : Option (List Mark)} {held shown : List ℕ} {s : ClientState} (v : Talking asks start told held shown s) → IsSettled s → IsGoing s.stage s.queue → Answers talked.Spent asks v.marks
+pub talk-open : {asks : Asks} {start recorded : Option (List Mark)} {held shown : List ℕ} {s : ClientState} (v : Talking asks start recorded held shown s) → IsSettled s → IsGoing s.stage s.queue → Answers talked.Spent asks v.marks
 talk-open {asks} {shown = shown} {s = s} v settled going = open-at asks v.marks s.queue shown s.stage (settled-talk v.stands (has_ended v.marks) settled v.ended) going
 
 held-true : (b : Bool) → held_streams b ≡ 0 ∷ [] → b ≡ true
@@ -264,17 +264,17 @@ held-true true e = refl
 held-true false e = absurd (let z : [] ≡ 0 ∷ [] = e in cc)
 
 -- what was offered was taken, or stream 0 is blocked
-talk-offered : {asks : Asks} {start told : Option (List Mark)} {held shown : List ℕ} {s : ClientState} (v : Talking asks start told held shown s) → IsSettled s → IsOffered held s → TookAll asks v.marks ⊎ (is_held v.marks ≡ true)
+talk-offered : {asks : Asks} {start recorded : Option (List Mark)} {held shown : List ℕ} {s : ClientState} (v : Talking asks start recorded held shown s) → IsSettled s → IsOffered held s → TookAll asks v.marks ⊎ (is_held v.marks ≡ true)
 talk-offered v settled (inl none) =
     inl (sym (ap (λ (k : Talk). k.sent) (settled-talk v.stands (has_ended v.marks) settled v.ended) ∙ ap (λ q. bytes_taken 0 v.marks ++ q) none ∙ append-nil (bytes_taken 0 v.marks)))
 talk-offered v settled (inr blocked) = inr (held-true (is_held v.marks) (sym v.held_is ∙ blocked))
 
-pub talk-spent : {asks : Asks} {start told : Option (List Mark)} {held shown : List ℕ} {s : ClientState} (v : Talking asks start told held shown s) → IsSettled s → IsGoing s.stage s.queue → (v.marks ≢ [] → IsOffered held s)
-    → IsTalk asks talked.Spent start told shown shown
+pub talk-spent : {asks : Asks} {start recorded : Option (List Mark)} {held shown : List ℕ} {s : ClientState} (v : Talking asks start recorded held shown s) → IsSettled s → IsGoing s.stage s.queue → (v.marks ≢ [] → IsOffered held s)
+    → IsTalk asks talked.Spent start recorded shown shown
 talk-spent {asks} {shown = shown} {s = s} v settled going offered =
     let t : talk_of asks v.marks ≡ talk_at (bytes_taken 0 v.marks ++ s.queue) shown (outcome_of s.stage) = settled-talk v.stands (has_ended v.marks) settled v.ended in record {
       marks = v.marks;
-      tells = v.tells;
+      records = v.records;
       journal = v.journal;
       answers = talk-open v settled going;
       shows = sym (ap (λ (x : Talk). x.out) t);
@@ -283,16 +283,16 @@ talk-spent {asks} {shown = shown} {s = s} v settled going offered =
       offered = λ z some. talk-offered v settled (offered some);
     }
 
-pub talk-write-fails : {asks : Asks} {start told : Option (List Mark)} {held shown : List ℕ} {s : ClientState} → Talking asks start told held shown s → IsSettled s
-    → IsTalk asks talked.ServerFailed start (option_map (λ l. l ++ WriteFails 0 ∷ []) told) shown shown
+pub talk-write-fails : {asks : Asks} {start recorded : Option (List Mark)} {held shown : List ℕ} {s : ClientState} → Talking asks start recorded held shown s → IsSettled s
+    → IsTalk asks talked.ServerFailed start (option_map (λ l. l ++ WriteFails 0 ∷ []) recorded) shown shown
 talk-write-fails {held = held} {shown = shown} {s = s} v settled =
     talk-failed (talking-next v held shown s (WriteFails 0) (next-other (WriteFails 0) tt (same-stands v.stands)) (or-none (has_ended v.marks) v.ended) v.held_is) settled
 
 -- ---- a turn
 
 -- what it waits for
-pub talk-waits : {asks : Asks} {start told : Option (List Mark)} {held shown : List ℕ} {s : ClientState} → Talking asks start told held shown s → IsSettled s → IsOffered held s → IsGoing s.stage s.queue
-    → (streams : List ℕ) (listens : Bool) → Talking asks start (option_map (λ l. l ++ Waits held Read streams listens ∷ []) told) held shown s
+pub talk-waits : {asks : Asks} {start recorded : Option (List Mark)} {held shown : List ℕ} {s : ClientState} → Talking asks start recorded held shown s → IsSettled s → IsOffered held s → IsGoing s.stage s.queue
+    → (streams : List ℕ) (listens : Bool) → Talking asks start (option_map (λ l. l ++ Waits held Read streams listens ∷ []) recorded) held shown s
 talk-waits {asks} {held = held} {shown = shown} {s = s} v settled offered going streams listens =
     talking-next v held shown s (Waits held Read streams listens) (record {
       right = talk-offered v settled offered;
@@ -300,35 +300,35 @@ talk-waits {asks} {held = held} {shown = shown} {s = s} v settled offered going 
       stands = same-stands v.stands;
     }) (or-none (has_ended v.marks) v.ended) v.held_is
 
-pub talk-gets : {asks : Asks} {start told : Option (List Mark)} {held shown : List ℕ} {s : ClientState} → Talking asks start told held shown s → (bytes : List ℕ)
-    → Talking asks start (option_map (λ l. l ++ Gets 0 bytes ∷ []) told) held shown (heard bytes s)
+pub talk-gets : {asks : Asks} {start recorded : Option (List Mark)} {held shown : List ℕ} {s : ClientState} → Talking asks start recorded held shown s → (bytes : List ℕ)
+    → Talking asks start (option_map (λ l. l ++ Gets 0 bytes ∷ []) recorded) held shown (heard bytes s)
 talk-gets {asks = asks} {held = held} {shown = shown} {s = s} v bytes = talking-next v held shown (heard bytes s) (Gets 0 bytes)
-    (next-other (Gets 0 bytes) tt (subst (λ t. Stands asks (bytes_given v.marks ++ bytes) t shown (heard bytes s)) (sym (append-nil (bytes_taken 0 v.marks))) (stands-hears bytes v.stands)))
+    (next-other (Gets 0 bytes) tt (subst (λ t. Stands asks (bytes_given v.marks ++ bytes) t shown (heard bytes s)) (sym (append-nil (bytes_taken 0 v.marks))) (stands-receives bytes v.stands)))
     (or-none (has_ended v.marks) v.ended) v.held_is
 
-pub talk-frees : {asks : Asks} {start told : Option (List Mark)} {held shown : List ℕ} {s : ClientState} → Talking asks start told held shown s
-    → Talking asks start (option_map (λ l. l ++ Frees 0 ∷ []) told) [] shown s
+pub talk-frees : {asks : Asks} {start recorded : Option (List Mark)} {held shown : List ℕ} {s : ClientState} → Talking asks start recorded held shown s
+    → Talking asks start (option_map (λ l. l ++ Frees 0 ∷ []) recorded) [] shown s
 talk-frees {shown = shown} {s = s} v = talking-next v [] shown s (Frees 0) (next-other (Frees 0) tt (same-stands v.stands)) (or-none (has_ended v.marks) v.ended) refl
 
-pub talk-fails : {asks : Asks} {start told : Option (List Mark)} {held shown : List ℕ} {s : ClientState} → Talking asks start told held shown s → IsSettled s
-    → IsTalk asks talked.ServerFailed start (option_map (λ l. l ++ Fails 0 ∷ []) told) shown shown
+pub talk-fails : {asks : Asks} {start recorded : Option (List Mark)} {held shown : List ℕ} {s : ClientState} → Talking asks start recorded held shown s → IsSettled s
+    → IsTalk asks talked.ServerFailed start (option_map (λ l. l ++ Fails 0 ∷ []) recorded) shown shown
 talk-fails {held = held} {shown = shown} {s = s} v settled =
     talk-failed (talking-next v held shown s (Fails 0) (next-other (Fails 0) tt (same-stands v.stands)) (or-none (has_ended v.marks) v.ended) v.held_is) settled
 
 -- the master's bytes end, and the last reply came before
-pub talk-ends : {asks : Asks} {start told : Option (List Mark)} {held shown : List ℕ} {s : ClientState} → Talking asks start told held shown s → place_of s.stage ≡ None
-    → Talking asks start (option_map (λ l. l ++ Ends 0 ∷ []) told) held shown s
+pub talk-ends : {asks : Asks} {start recorded : Option (List Mark)} {held shown : List ℕ} {s : ClientState} → Talking asks start recorded held shown s → place_of s.stage ≡ None
+    → Talking asks start (option_map (λ l. l ++ Ends 0 ∷ []) recorded) held shown s
 talk-ends {held = held} {shown = shown} {s = s} v none = talking-next v held shown s (Ends 0) (next-other (Ends 0) tt (same-stands v.stands)) (λ e. none) v.held_is
 
 or-true : (b : Bool) → (b || true) ≡ true
 or-true true = refl
 or-true false = refl
 
-later-broken : (asks : Asks) (stage : Stage) (rest : List ℕ) (at : ℕ) → IsSettledAt stage rest → HasRequest asks stage → place_of stage ≡ Some at
+later-broken : (asks : Asks) (stage : TalkStage) (rest : List ℕ) (at : ℕ) → IsSettledAt stage rest → HasRequest asks stage → place_of stage ≡ Some at
     → later_by stage (requests_of asks) (cut Control (rest ++ [])) true ≡ stops (Some (BrokenAt at))
 later-broken asks stage rest at settled request place = by_stage stage settled request place
   where
-    by_stage : (stage : Stage) → IsSettledAt stage rest → HasRequest asks stage → place_of stage ≡ Some at → later_by stage (requests_of asks) (cut Control (rest ++ [])) true ≡ stops (Some (BrokenAt at))
+    by_stage : (stage : TalkStage) → IsSettledAt stage rest → HasRequest asks stage → place_of stage ≡ Some at → later_by stage (requests_of asks) (cut Control (rest ++ [])) true ≡ stops (Some (BrokenAt at))
     by_stage Greets e h p = ap (λ c. later_by Greets (requests_of asks) c true) (nothing-cut rest e) ∙ ap (λ n. stops (Some (BrokenAt n))) (let z : Some 0 ≡ Some at = p in cc)
     by_stage (Asked id n) e h p = ap (λ c. later_by (Asked id n) (requests_of asks) c true) (nothing-cut rest e) ∙ replied-none asks id n true h.0 h.1 ∙ ap (λ m. stops (Some (BrokenAt m))) (let z : Some n ≡ Some at = p in cc)
     by_stage Granted e h p = absurd (let z : None ≡ Some at = p in cc)
@@ -336,9 +336,9 @@ later-broken asks stage rest at settled request place = by_stage stage settled r
     by_stage (Broken n) e h p = absurd (let z : None ≡ Some at = p in cc)
 
 -- they end before it
-pub talk-breaks-off : {asks : Asks} {start told : Option (List Mark)} {held shown : List ℕ} {s : ClientState} → Talking asks start told held shown s → IsSettled s → (at : ℕ) → place_of s.stage ≡ Some at
-    → IsTalk asks (talked.BadMaster at) start (option_map (λ l. l ++ Ends 0 ∷ []) told) shown shown
-talk-breaks-off {asks} {start} {told} {shown = shown} {s = s} v settled at place =
+pub talk-breaks-off : {asks : Asks} {start recorded : Option (List Mark)} {held shown : List ℕ} {s : ClientState} → Talking asks start recorded held shown s → IsSettled s → (at : ℕ) → place_of s.stage ≡ Some at
+    → IsTalk asks (talked.BadMaster at) start (option_map (λ l. l ++ Ends 0 ∷ []) recorded) shown shown
+talk-breaks-off {asks} {start} {recorded} {shown = shown} {s = s} v settled at place =
     let m : Mark = Ends 0 in
     let n : NextMark asks v.marks shown s m = next-other m tt (same-stands v.stands) in
     let stands = stands-there n in
@@ -348,7 +348,7 @@ talk-breaks-off {asks} {start} {told} {shown = shown} {s = s} v settled at place
     ∙ ap (λ k. sending (bytes_taken 0 (v.marks ++ m ∷ []) ++ s.queue) (showing shown k)) (later-broken asks s.stage s.framer.rest at settled v.stands.request place)
     ∙ stopped (bytes_taken 0 (v.marks ++ m ∷ []) ++ s.queue) shown (Some (BrokenAt at)) in record {
       marks = v.marks ++ m ∷ [];
-      tells = told-one start told v.marks m v.tells;
+      records = recorded-one start recorded v.marks m v.records;
       journal = journal-next v.journal n;
       answers = ap (λ (x : Talk). x.outcome) t;
       shows = sym (ap (λ (x : Talk). x.out) t);
@@ -359,11 +359,11 @@ talk-breaks-off {asks} {start} {told} {shown = shown} {s = s} v settled at place
 
 -- ---- a frame is read
 
-pub talk-reads : {asks : Asks} {start told : Option (List Mark)} {held shown : List ℕ} {s s' : ClientState} {line : Option Line} → Talking asks start told held shown s → ReadsNextTo asks s s' line
-    → Talking asks start told held (shown ++ text_of_some line) s'
+pub talk-reads : {asks : Asks} {start recorded : Option (List Mark)} {held shown : List ℕ} {s s' : ClientState} {line : Option OutLine} → Talking asks start recorded held shown s → ReadsNextTo asks s s' line
+    → Talking asks start recorded held (shown ++ text_of_some line) s'
 talk-reads v r = record {
   marks = v.marks;
-  tells = v.tells;
+  records = v.records;
   journal = v.journal;
   stands = r.stands _ _ _ v.stands;
   ended = λ e. r.over (v.ended e);

@@ -11,7 +11,7 @@ use Rattle.ssh_grammar.proofs.Cuts.{cut-at, first-extends, cut-append, Extends}
 use Rattle.ssh_grammar.proofs.Frames.{cut-is}
 use Rattle.mux_client.specs.declared.asks.Asks.{Asks}
 use Rattle.mux_client.specs.Requests.{Request, requests_of, request_frame, hello_frame}
-use Rattle.mux_client.specs.Replies.{Verdict, Grants, Refuses, Breaks, verdict, is_hello}
+use Rattle.mux_client.specs.Replies.{ReplyVerdict, Grants, Refuses, Breaks, verdict, is_hello}
 use Rattle.mux_client.specs.Talk.{Outcome, Finished, RefusedAt, BrokenAt, Talk, stops, sending, showing, behind, broken_by, tail_outcome, on_reply, talk_on, on_hello, greeted, talk_by, talk}
 use Rattle.mux_client.specs.Laws.{Adds}
 
@@ -29,7 +29,7 @@ adds-sending bytes a b h = record {
 adds-stop : (t : Talk) → Adds (stops None) t
 adds-stop t = record { sent = t.sent; sent_is = refl; out = t.out; out_is = refl }
 
-adds-reply : (v : Verdict) (id at : ℕ) (a b : Talk) → Adds a b → Adds (on_reply v id at a) (on_reply v id at b)
+adds-reply : (v : ReplyVerdict) (id at : ℕ) (a b : Talk) → Adds a b → Adds (on_reply v id at a) (on_reply v id at b)
 adds-reply (Grants line) id at a b h = record {
   sent = h.sent;
   sent_is = h.sent_is;
@@ -58,7 +58,7 @@ grows-on (request ∷ requests) id at (f ∷ fs) gs x =
     (talk_on requests (id + 1) (behind at f) (fs ++ gs) x)
     (grows-on requests (id + 1) (behind at f) fs gs x))
 
-stays-reply : (v : Verdict) (id at : ℕ) (a b : Talk) → (on_reply v id at a).outcome ≢ None
+stays-reply : (v : ReplyVerdict) (id at : ℕ) (a b : Talk) → (on_reply v id at a).outcome ≢ None
     → (a.outcome ≢ None → b ≡ a) → on_reply v id at b ≡ on_reply v id at a
 stays-reply (Grants line) id at a b ne h = ap (showing line) (h ne)
 stays-reply Refuses id at a b ne h = refl
@@ -78,7 +78,7 @@ stays-on (request ∷ requests) id at (f ∷ fs) gs x ne =
 some_outcome : (o : Outcome) → Some o ≢ None
 some_outcome o e = cc
 
-ends-reply : (v : Verdict) (id at : ℕ) (a : Talk) → a.outcome ≢ None → (on_reply v id at a).outcome ≢ None
+ends-reply : (v : ReplyVerdict) (id at : ℕ) (a : Talk) → a.outcome ≢ None → (on_reply v id at a).outcome ≢ None
 ends-reply (Grants line) id at a h = h
 ends-reply Refuses id at a h = some_outcome (RefusedAt id)
 ends-reply Breaks id at a h = some_outcome (BrokenAt at)

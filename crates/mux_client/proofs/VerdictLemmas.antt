@@ -9,7 +9,7 @@ use Rattle.mux_outside.specs.declared.start_ask.StartAsk.{StartAsk}
 use Rattle.mux_client.specs.declared.asks.Asks.{Asks}
 use Rattle.mux_client.specs.declared.asks.Asks.TheVariants.{Check, Exit, Stop, Forwards}
 use Rattle.mux_client.specs.declared.answer.Answer.{Answer as Read}
-use Rattle.mux_client.specs.declared.verdict.Verdict.{Verdict as TheVerdict}
+use Rattle.mux_client.specs.declared.verdict.ReplyVerdict.{ReplyVerdict as TheVerdict}
 use Rattle.mux_client.specs.Requests.{Request, Checks, Exits, Stops, Opens, Closes, forward_of, forward_request, request_at}
 use Rattle.mux_client.specs.Replies.{verdict, verdict_on}
 use Rattle.mux_client.specs.Answers.{GivesAnswer, shown_of}

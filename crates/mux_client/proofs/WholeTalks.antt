@@ -10,8 +10,8 @@ use Rattle.mux_client.specs.declared.talked.Talked.{Talked}
 use Rattle.mux_client.specs.declared.talked.Talked.TheVariants as talked
 use Rattle.mux_client.specs.Client.{ClientState, new_client, Stands, IsSettled}
 use Rattle.mux_client.specs.Talking.{AcceptsNone, HasTalked, IsDecided, IsOffered, SameWire, Talking, IsTalk, WholeTalk, talked_of}
-use Rattle.mux_client.specs.Journal.{TalksTold, ShowsTold}
-use Rattle.mux_client.proofs.JournalGrows.{told-none}
+use Rattle.mux_client.specs.Journal.{TalksRecorded, ShowsRecorded}
+use Rattle.mux_client.proofs.JournalGrows.{recorded-none}
 use Rattle.mux_client.proofs.TalkSteps.{talk-decided, talk-spent, talk-starved}
 
 -- an answer that a `?` hands on
@@ -35,7 +35,7 @@ stands-new asks = record { goes = λ more ended. refl; request = tt }
 pub talk-starts : (asks : Asks) (start : Option (List Mark)) → Talking asks start start [] [] new_client
 talk-starts asks start = record {
   marks = [];
-  tells = sym (told-none start);
+  records = sym (recorded-none start);
   journal = record { throughout = tt; opens = tt };
   stands = stands-new asks;
   ended = λ e. absurd (let z : false ≡ true = e in cc);
@@ -51,40 +51,40 @@ unfolding talk-starts
 starts-spent asks start = talk-spent (talk-starts asks start) refl tt (λ some. absurd (some refl))
 
 -- what was decided, and what wasn't with all turns given
-pub decided-talk : {asks : Asks} {start told : Option (List Mark)} {held shown : List ℕ} {s : ClientState} → Talking asks start told held shown s → IsSettled s → IsOffered held s → (r : Result (Unit {0}) Talked) → IsDecided s r
-    → IsTalk asks (talked_of r) start told shown shown
+pub decided-talk : {asks : Asks} {start recorded : Option (List Mark)} {held shown : List ℕ} {s : ClientState} → Talking asks start recorded held shown s → IsSettled s → IsOffered held s → (r : Result (Unit {0}) Talked) → IsDecided s r
+    → IsTalk asks (talked_of r) start recorded shown shown
 decided-talk v settled offered (Ok x) d = talk-spent v settled d (λ some. offered)
 decided-talk v settled offered (Err answer) d = talk-decided v settled answer d
 
 -- ---- where the wire tells, and the sink
 
-pub talks-told : (asks : Asks) (answer : Talked) (start told : Option (List Mark)) (shown due : List ℕ) → IsTalk asks answer start told shown due → TalksTold asks answer start told
-talks-told asks answer None None shown due t = tt
-talks-told asks answer None (Some new) shown due t = absurd (let z : Some new ≡ None = t.tells in cc)
-talks-told asks answer (Some old) None shown due t = absurd (let z : None ≡ Some (old ++ t.marks) = t.tells in cc)
-talks-told asks answer (Some old) (Some new) shown due t = record {
+pub talks-recorded : (asks : Asks) (answer : Talked) (start recorded : Option (List Mark)) (shown due : List ℕ) → IsTalk asks answer start recorded shown due → TalksRecorded asks answer start recorded
+talks-recorded asks answer None None shown due t = tt
+talks-recorded asks answer None (Some new) shown due t = absurd (let z : Some new ≡ None = t.records in cc)
+talks-recorded asks answer (Some old) None shown due t = absurd (let z : None ≡ Some (old ++ t.marks) = t.records in cc)
+talks-recorded asks answer (Some old) (Some new) shown due t = record {
   marks = t.marks;
-  added = let z : Some new ≡ Some (old ++ t.marks) = t.tells in cc;
+  added = let z : Some new ≡ Some (old ++ t.marks) = t.records in cc;
   throughout = t.journal.throughout;
   answers = t.answers;
 }
 
-shows-told : (asks : Asks) (answer : Talked) (start told : Option (List Mark)) (before now : Option (List ℕ)) (shown due : List ℕ) → IsTalk asks answer start told shown due → now ≡ option_map (λ b. b ++ shown) before → ShowsTold asks answer start told before now
-shows-told asks answer (Some old) (Some new) (Some before) (Some now) shown due t e = record {
+shows-recorded : (asks : Asks) (answer : Talked) (start recorded : Option (List Mark)) (before now : Option (List ℕ)) (shown due : List ℕ) → IsTalk asks answer start recorded shown due → now ≡ option_map (λ b. b ++ shown) before → ShowsRecorded asks answer start recorded before now
+shows-recorded asks answer (Some old) (Some new) (Some before) (Some now) shown due t e = record {
   marks = t.marks;
   shown = shown;
-  added = let z : Some new ≡ Some (old ++ t.marks) = t.tells in cc;
+  added = let z : Some new ≡ Some (old ++ t.marks) = t.records in cc;
   put = let z : Some now ≡ Some (before ++ shown) = e in cc;
   shows = t.shows;
 }
-shows-told asks answer None told before now shown due t e = tt
-shows-told asks answer (Some old) None before now shown due t e = tt
-shows-told asks answer (Some old) (Some new) None now shown due t e = tt
-shows-told asks answer (Some old) (Some new) (Some before) None shown due t e = tt
+shows-recorded asks answer None recorded before now shown due t e = tt
+shows-recorded asks answer (Some old) None before now shown due t e = tt
+shows-recorded asks answer (Some old) (Some new) None now shown due t e = tt
+shows-recorded asks answer (Some old) (Some new) (Some before) None shown due t e = tt
 
-pub has-talked : {V : Type 0} (asks : Asks) (answer : Talked) (start told : Option (List Mark)) (before now : Option (List ℕ)) (old new : V) → WholeTalk asks answer start told before now old new → HasTalked asks answer start told before now old new
-has-talked asks answer start told before now old new w = record {
+pub has-talked : {V : Type 0} (asks : Asks) (answer : Talked) (start recorded : Option (List Mark)) (before now : Option (List ℕ)) (old new : V) → WholeTalk asks answer start recorded before now old new → HasTalked asks answer start recorded before now old new
+has-talked asks answer start recorded before now old new w = record {
   whole = w;
-  talks = talks-told asks answer start told w.more w.due w.holds;
-  shows = shows-told asks answer start told before now w.more w.due w.holds w.put;
+  talks = talks-recorded asks answer start recorded w.more w.due w.holds;
+  shows = shows-recorded asks answer start recorded before now w.more w.due w.holds w.put;
 }

@@ -7,9 +7,9 @@ use Rattle.ssh_grammar.specs.Frames.{Front, Frame, More, Faulty, first_frame, Cu
 use Rattle.proxy_frames.specs.State.{FramerState}
 use Rattle.proxy_frames.specs.Steps.{new_framer, pushed, after_front}
 use Rattle.mux_client.specs.declared.asks.Asks.{Asks}
-use Rattle.mux_client.specs.declared.stage.Stage.{Stage}
-use Rattle.mux_client.specs.declared.stage.Stage.TheVariants.{Greets, Asks as Asked, Granted, Refused, Broken}
-use Rattle.mux_client.specs.declared.verdict.Line.{Line}
+use Rattle.mux_client.specs.declared.stage.TalkStage.{TalkStage}
+use Rattle.mux_client.specs.declared.stage.TalkStage.TheVariants.{Greets, Asks as Asked, Granted, Refused, Broken}
+use Rattle.mux_client.specs.declared.verdict.OutLine.{OutLine}
 use Rattle.mux_client.specs.Requests.{Request, requests_of, request_at, frame_due, hello_frame}
 use Rattle.mux_client.specs.Replies.{verdict}
 use Rattle.mux_client.specs.Verdicts.{text_of_some}
@@ -19,12 +19,12 @@ use Rattle.mux_client.specs.Talk.{Outcome, Finished, RefusedAt, BrokenAt, Talk, 
 pub record ClientState : Type 0 where
   pub framer : FramerState
   pub queue : List ℕ
-  pub stage : Stage
+  pub stage : TalkStage
 
 -- ---- each client
 
 -- while a reply is awaited its place is not far behind: a frame has 262,148 bytes at most
-abbrev pub IsPlaced : Stage → Type 0
+abbrev pub IsPlaced : TalkStage → Type 0
 IsPlaced (Asked id at) = at ≤ (id + 1) * 262148
 IsPlaced Greets = ⊤
 IsPlaced Granted = ⊤
@@ -32,7 +32,7 @@ IsPlaced (Refused id) = ⊤
 IsPlaced (Broken at) = ⊤
 
 -- and no fault was told
-abbrev pub IsFaultless : Stage → Option BadFrame → Type 0
+abbrev pub IsFaultless : TalkStage → Option BadFrame → Type 0
 IsFaultless Greets fault = fault ≡ None
 IsFaultless (Asked id at) fault = fault ≡ None
 IsFaultless Granted fault = ⊤
@@ -40,7 +40,7 @@ IsFaultless (Refused id) fault = ⊤
 IsFaultless (Broken at) fault = ⊤
 
 -- the place of the reply that is awaited, or of the hello, if one is
-abbrev pub place_of : Stage → Option ℕ
+abbrev pub place_of : TalkStage → Option ℕ
 place_of Greets = Some 0
 place_of (Asked id at) = Some at
 place_of Granted = None
@@ -62,7 +62,7 @@ abbrev pub without_sent : ℕ → ClientState → ClientState
 without_sent n s = record s { queue = drop n s.queue }
 
 -- the stage behind a front: a fault breaks the talk at this place
-abbrev pub stage_behind : Front → ℕ → Stage → Stage
+abbrev pub stage_behind : Front → ℕ → TalkStage → TalkStage
 stage_behind (Frame content rest) at stage = stage
 stage_behind More at stage = stage
 stage_behind (Faulty fault) at stage = Broken at
@@ -75,7 +75,7 @@ after_cut front at s = record s {
 }
 
 -- the stage where this request is due, if there is one, whose reply stands at this place
-abbrev pub stage_due : Option Request → ℕ → ℕ → Stage
+abbrev pub stage_due : Option Request → ℕ → ℕ → TalkStage
 stage_due (Some request) id at = Asked id at
 stage_due None id at = Granted
 
@@ -97,14 +97,14 @@ replied (request ∷ requests) id at (body ∷ bodies) broken =
     (talk_on requests (id + 1) (behind at body) bodies broken)
 
 -- what is still to come at a stage, by the frames that aren't read yet
-abbrev pub later_at : Stage → List Request → List (List ℕ) → Bool → Talk
+abbrev pub later_at : TalkStage → List Request → List (List ℕ) → Bool → Talk
 later_at Greets requests bodies broken = greeted requests bodies broken
 later_at (Asked id at) requests bodies broken = replied (drop id requests) id at bodies broken
 later_at Granted requests bodies broken = stops (Some Finished)
 later_at (Refused id) requests bodies broken = stops (Some (RefusedAt id))
 later_at (Broken at) requests bodies broken = stops (Some (BrokenAt at))
 
-abbrev pub later_by : Stage → List Request → Cut → Bool → Talk
+abbrev pub later_by : TalkStage → List Request → Cut → Bool → Talk
 later_by stage requests c ended = later_at stage requests c.frames (broken_by c.fault ended)
 
 -- the same with more bytes of the master
@@ -113,7 +113,7 @@ later s asks more ended =
     later_by s.stage (requests_of asks) (cut Control (s.framer.rest ++ more)) ended
 
 -- there is a request whose reply is awaited, if one is
-abbrev pub HasRequest : Asks → Stage → Type 0
+abbrev pub HasRequest : Asks → TalkStage → Type 0
 HasRequest asks (Asked id at) = (request : Request) × (request_at asks id ≡ Some request)
 HasRequest asks Greets = ⊤
 HasRequest asks Granted = ⊤
@@ -129,7 +129,7 @@ pub record Stands (asks : Asks) (bytes taken shown : List ℕ) (s : ClientState)
   pub request : HasRequest asks s.stage
 
 -- no frame can be read now
-abbrev pub IsSettledAt : Stage → List ℕ → Type 0
+abbrev pub IsSettledAt : TalkStage → List ℕ → Type 0
 IsSettledAt Greets rest = first_frame Control rest ≡ More
 IsSettledAt (Asked id at) rest = first_frame Control rest ≡ More
 IsSettledAt Granted rest = ⊤
@@ -140,7 +140,7 @@ abbrev pub IsSettled : ClientState → Type 0
 IsSettled s = IsSettledAt s.stage s.framer.rest
 
 -- how the talk is over at a stage, if it is
-abbrev pub outcome_of : Stage → Option Outcome
+abbrev pub outcome_of : TalkStage → Option Outcome
 outcome_of Greets = None
 outcome_of (Asked id at) = None
 outcome_of Granted = Some Finished
@@ -151,13 +151,13 @@ outcome_of (Broken at) = Some (BrokenAt at)
 
 -- whatever came before: the line is shown, and where there is none no frame can be read now; with
 -- each frame less is left to be read, and no reply is awaited where none was
-pub record ReadsNextTo (asks : Asks) (old new : ClientState) (line : Option Line) : Type 0 where
+pub record ReadsNextTo (asks : Asks) (old new : ClientState) (line : Option OutLine) : Type 0 where
   pub stands : (bytes taken shown : List ℕ) → Stands asks bytes taken shown old
       → Stands asks bytes taken (shown ++ text_of_some line) new
   pub settled : line ≡ None → IsSettled new
   pub less : IsSome line → length new.framer.rest < length old.framer.rest
   pub over : place_of old.stage ≡ None → place_of new.stage ≡ None
 
-abbrev pub ReadsNext : Asks → ClientState → ClientState → Result (Option Line) OutOfMemory → Type 0
+abbrev pub ReadsNext : Asks → ClientState → ClientState → Result (Option OutLine) OutOfMemory → Type 0
 ReadsNext asks old new (Ok line) = ReadsNextTo asks old new line
 ReadsNext asks old new (Err e) = ⊤

@@ -3,7 +3,7 @@ use Rattle.std.specs.Prelude.{◌≡◌, ◌≢◌, ◌≤◌, ◌<◌, ◌+◌,
 use Rattle.mux_outside.specs.Counts.{Rose, counted}
 use Rattle.mux_outside.specs.CallCounts.{CallCounts}
 use Rattle.mux_outside.specs.Faults.{Faults, ServerFault}
-use Rattle.mux_client.specs.declared.stage.Stage.{Stage}
+use Rattle.mux_client.specs.declared.stage.TalkStage.{TalkStage}
 use Rattle.mux_client.specs.declared.talked.Talked.{Talked}
 use Rattle.mux_client.specs.declared.talked.Talked.TheVariants.{Done, Refused, BadMaster, WriteFault, ServerFailed, Spent, OutOfMemory}
 
@@ -72,13 +72,13 @@ AnsweredBy (BadMaster at) old new =
 AnsweredBy answer old new = Unit {0}
 
 -- the talk stands as it stood, or a piece of the master came
-abbrev pub HasHeard : Stage → Stage → CallCounts → CallCounts → Type 0
-HasHeard before now old new = (now ≡ before) ⊎ WentUp old.server_pieces new.server_pieces
+abbrev pub HasReceived : TalkStage → TalkStage → CallCounts → CallCounts → Type 0
+HasReceived before now old new = (now ≡ before) ⊎ WentUp old.server_pieces new.server_pieces
 
 -- a call goes on, and the talk stands as it stood, or a piece of the master came; or it is over by
 -- what came
-abbrev pub CameTo : {A : Type 0} → Result A Talked → Stage → Stage → CallCounts → CallCounts → Type 0
-CameTo (Ok x) before now old new = HasHeard before now old new
+abbrev pub CameTo : {A : Type 0} → Result A Talked → TalkStage → TalkStage → CallCounts → CallCounts → Type 0
+CameTo (Ok x) before now old new = HasReceived before now old new
 CameTo (Err answer) before now old new = AnsweredBy answer old new
 
 -- ---- faults

@@ -124,10 +124,10 @@ pub record Talks (asks : Asks) (answer : Talked) (old new : List Mark) : Type 0 
   pub throughout : Throughout asks [] marks
   pub answers : Answers answer asks marks
 
-abbrev pub TalksTold : Asks → Talked → Option (List Mark) → Option (List Mark) → Type 0
-TalksTold asks answer (Some old) (Some new) = Talks asks answer old new
-TalksTold asks answer None None = Unit {0}
-TalksTold asks answer _ _ = ⊥
+abbrev pub TalksRecorded : Asks → Talked → Option (List Mark) → Option (List Mark) → Type 0
+TalksRecorded asks answer (Some old) (Some new) = Talks asks answer old new
+TalksRecorded asks answer None None = Unit {0}
+TalksRecorded asks answer _ _ = ⊥
 
 -- the same of the sink, where both tell
 pub record ShowsTalk (asks : Asks) (answer : Talked) (old new : List Mark) (before now : List ℕ)
@@ -138,8 +138,8 @@ pub record ShowsTalk (asks : Asks) (answer : Talked) (old new : List Mark) (befo
   pub put : now ≡ before ++ shown
   pub shows : Shows answer shown (talk_of asks marks).out
 
-abbrev pub ShowsTold : Asks → Talked → Option (List Mark) → Option (List Mark)
+abbrev pub ShowsRecorded : Asks → Talked → Option (List Mark) → Option (List Mark)
     → Option (List ℕ) → Option (List ℕ) → Type 0
-ShowsTold asks answer (Some old) (Some new) (Some before) (Some now) =
+ShowsRecorded asks answer (Some old) (Some new) (Some before) (Some now) =
     ShowsTalk asks answer old new before now
-ShowsTold asks answer _ _ _ _ = Unit {0}
+ShowsRecorded asks answer _ _ _ _ = Unit {0}

@@ -35,17 +35,17 @@ is_hello body = elim (read_control body) [ Ok c ↦ is_hello_control c | Err e �
 
 -- the request is done, with these bytes to be shown; it is refused; or the master said something
 -- else
-pub data Verdict : Type 0 where
-  Grants : (line : List ℕ) → Verdict
-  Refuses : Verdict
-  Breaks : Verdict
+pub data ReplyVerdict : Type 0 where
+  Grants : (line : List ℕ) → ReplyVerdict
+  Refuses : ReplyVerdict
+  Breaks : ReplyVerdict
 
 -- where the id is that of the request
-abbrev pub for_id : ℕ → ℕ → Verdict → Verdict
+abbrev pub for_id : ℕ → ℕ → ReplyVerdict → ReplyVerdict
 for_id id n verdict = elim (nat_eq n id) [ true ↦ verdict | false ↦ Breaks ]
 
 -- what a success means: each request has its own ones
-abbrev pub grants : Request → Answer → Verdict
+abbrev pub grants : Request → Answer → ReplyVerdict
 grants Checks (Alive n pid) = Grants (running_line pid)
 grants Exits (Okay n) = Grants exit_line
 grants Stops (Okay n) = Grants stop_line
@@ -64,16 +64,16 @@ id_of (RemotePort n port) = Some n
 id_of _ = None
 
 -- a refusal can come to each request
-abbrev pub meaning : Request → Answer → Verdict
+abbrev pub meaning : Request → Answer → ReplyVerdict
 meaning request (PermissionDenied n reason) = Refuses
 meaning request (Failed n reason) = Refuses
 meaning request answer = grants request answer
 
 -- what an answer means to the request with this id
-abbrev pub verdict_on : Request → ℕ → Option Answer → Verdict
+abbrev pub verdict_on : Request → ℕ → Option Answer → ReplyVerdict
 verdict_on request id None = Breaks
 verdict_on request id (Some answer) =
     elim (id_of answer) [ None ↦ Breaks | Some n ↦ for_id id n (meaning request answer) ]
 
-abbrev pub verdict : Request → ℕ → List ℕ → Verdict
+abbrev pub verdict : Request → ℕ → List ℕ → ReplyVerdict
 verdict request id body = verdict_on request id (read_answer body)

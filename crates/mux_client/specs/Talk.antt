@@ -6,7 +6,7 @@ use Rattle.ssh_grammar.specs.declared.framing.Framing.TheVariants as framing
 use Rattle.ssh_grammar.specs.Frames.{Cut, cut}
 use Rattle.mux_client.specs.declared.asks.Asks.{Asks}
 use Rattle.mux_client.specs.Requests.{Request, requests_of, request_frame, hello_frame}
-use Rattle.mux_client.specs.Replies.{Verdict, Grants, Refuses, Breaks, verdict, is_hello}
+use Rattle.mux_client.specs.Replies.{ReplyVerdict, Grants, Refuses, Breaks, verdict, is_hello}
 
 -- each request had its reply; the request with this id was refused; or the master broke the
 -- protocol at this place of its bytes
@@ -52,7 +52,7 @@ tail_outcome true at = Some (BrokenAt at)
 tail_outcome false at = None
 
 -- what follows a reply: the other requests where it grants, and the end where it doesn't
-abbrev pub on_reply : Verdict → ℕ → ℕ → Talk → Talk
+abbrev pub on_reply : ReplyVerdict → ℕ → ℕ → Talk → Talk
 on_reply (Grants line) id at later = showing line later
 on_reply Refuses id at later = stops (Some (RefusedAt id))
 on_reply Breaks id at later = stops (Some (BrokenAt at))

@@ -6,11 +6,11 @@ use Rattle.mux_outside.specs.Seen.{Seen}
 use Rattle.mux_outside.specs.WireState.{WireState}
 use Rattle.mux_outside.specs.declared.mark.Mark.{Mark}
 use Rattle.mux_client.specs.declared.asks.Asks.{Asks}
-use Rattle.mux_client.specs.declared.stage.Stage.{Stage}
-use Rattle.mux_client.specs.declared.stage.Stage.TheVariants as stage
+use Rattle.mux_client.specs.declared.stage.TalkStage.{TalkStage}
+use Rattle.mux_client.specs.declared.stage.TalkStage.TheVariants as stage
 use Rattle.mux_client.specs.declared.talked.Talked.{Talked}
 use Rattle.mux_client.specs.declared.talked.Talked.TheVariants.{Done, Refused, BadMaster, WriteFault, ServerFailed, Spent, OutOfMemory}
-use Rattle.mux_client.specs.Journal.{bytes_given, has_ended, is_held, held_streams, talk_of, TookAll, Throughout, WaitOpen, AtEach, Answers, Shows, ShowsFront, ShowsTold, TalksTold}
+use Rattle.mux_client.specs.Journal.{bytes_given, has_ended, is_held, held_streams, talk_of, TookAll, Throughout, WaitOpen, AtEach, Answers, Shows, ShowsFront, ShowsRecorded, TalksRecorded}
 use Rattle.mux_client.specs.Client.{ClientState, IsSettled, Stands, place_of}
 
 -- ---- the wire
@@ -54,7 +54,7 @@ pub record IsBetween (s : ClientState) (held : List ℕ) (seen : Seen) : Type 0 
   pub is_held : IsHeld held
 
 -- the talk isn't over: a reply is awaited, or not all was taken
-abbrev pub IsGoing : Stage → List ℕ → Type 0
+abbrev pub IsGoing : TalkStage → List ℕ → Type 0
 IsGoing stage.Greets queue = ⊤
 IsGoing (stage.Asks id at) queue = ⊤
 IsGoing stage.Granted queue = queue ≢ []
@@ -62,7 +62,7 @@ IsGoing (stage.Refused id) queue = ⊥
 IsGoing (stage.Broken at) queue = ⊥
 
 -- it is over with this answer
-abbrev pub IsAnswerAt : Talked → Stage → List ℕ → Type 0
+abbrev pub IsAnswerAt : Talked → TalkStage → List ℕ → Type 0
 IsAnswerAt Done at queue = (at ≡ stage.Granted) × (queue ≡ [])
 IsAnswerAt (Refused id) at queue = at ≡ stage.Refused id
 IsAnswerAt (BadMaster n) at queue = at ≡ stage.Broken n
@@ -111,8 +111,8 @@ IsOfSink Spent = ⊥
 -- ---- the marks
 
 -- the wire told these marks more
-abbrev pub Tells : Option (List Mark) → Option (List Mark) → List Mark → Type 0
-Tells start told marks = told ≡ option_map (λ m. m ++ marks) start
+abbrev pub Records : Option (List Mark) → Option (List Mark) → List Mark → Type 0
+Records start recorded marks = recorded ≡ option_map (λ m. m ++ marks) start
 
 -- the marks so far are those of a talk
 pub record IsJournal (asks : Asks) (marks : List Mark) : Type 0 where
@@ -120,10 +120,10 @@ pub record IsJournal (asks : Asks) (marks : List Mark) : Type 0 where
   pub opens : AtEach (WaitOpen asks) [] marks
 
 -- the client stands for what the wire told since the start, and for what was shown
-pub record Talking (asks : Asks) (start told : Option (List Mark)) (held shown : List ℕ)
+pub record Talking (asks : Asks) (start recorded : Option (List Mark)) (held shown : List ℕ)
     (s : ClientState) : Type 0 where
   pub marks : List Mark
-  pub tells : Tells start told marks
+  pub records : Records start recorded marks
   pub journal : IsJournal asks marks
   pub stands : Stands asks (bytes_given marks) (bytes_taken 0 marks) shown s
   pub ended : has_ended marks ≡ true → place_of s.stage ≡ None
@@ -132,10 +132,10 @@ pub record Talking (asks : Asks) (start told : Option (List Mark)) (held shown :
 -- a talk that is over: these bytes were shown, and these were to be shown until then; a fault of the
 -- sink comes at a line; and with its turns spent the master took all that is sent by then, or takes
 -- no more for now
-pub record IsTalk (asks : Asks) (answer : Talked) (start told : Option (List Mark))
+pub record IsTalk (asks : Asks) (answer : Talked) (start recorded : Option (List Mark))
     (shown due : List ℕ) : Type 0 where
   pub marks : List Mark
-  pub tells : Tells start told marks
+  pub records : Records start recorded marks
   pub journal : IsJournal asks marks
   pub answers : Answers answer asks marks
   pub shows : Shows answer shown (talk_of asks marks).out
@@ -182,8 +182,8 @@ IsCutLine Spent line more due = ⊥
 -- a whole talk
 abbrev pub WholeTalk : {V : Type 0} → Asks → Talked → Option (List Mark) → Option (List Mark)
     → Option (List ℕ) → Option (List ℕ) → V → V → Type 0
-WholeTalk asks answer start told before now old new =
-    ShowsLast before now old new (λ shown due. IsTalk asks answer start told shown due)
+WholeTalk asks answer start recorded before now old new =
+    ShowsLast before now old new (λ shown due. IsTalk asks answer start recorded shown due)
 
 -- how a talk ended whose turns were spent, if it wasn't over before
 abbrev pub talked_of : Result (Unit {0}) Talked → Talked
@@ -191,8 +191,8 @@ talked_of (Ok x) = Spent
 talked_of (Err answer) = answer
 
 -- the same, and what follows from it where the wire tells, and the sink
-pub record HasTalked {V : Type 0} (asks : Asks) (answer : Talked) (start told : Option (List Mark))
+pub record HasTalked {V : Type 0} (asks : Asks) (answer : Talked) (start recorded : Option (List Mark))
     (before now : Option (List ℕ)) (old new : V) : Type 0 where
-  pub whole : WholeTalk asks answer start told before now old new
-  pub talks : TalksTold asks answer start told
-  pub shows : ShowsTold asks answer start told before now
+  pub whole : WholeTalk asks answer start recorded before now old new
+  pub talks : TalksRecorded asks answer start recorded
+  pub shows : ShowsRecorded asks answer start recorded before now

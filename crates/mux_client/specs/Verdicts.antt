@@ -4,14 +4,14 @@ use Rattle.mux_client.specs.declared.asks.Asks.{Asks}
 use Rattle.mux_client.specs.declared.asks.Asks.TheVariants.{Check, Exit, Stop, Forwards}
 use Rattle.mux_client.specs.declared.answer.Answer.{Answer}
 use Rattle.mux_client.specs.declared.answer.Answer.TheVariants as read
-use Rattle.mux_client.specs.declared.verdict.Line.{Line}
-use Rattle.mux_client.specs.declared.verdict.Line.TheVariants.{Running, ExitSent, StopSent, Port, Nothing}
-use Rattle.mux_client.specs.declared.verdict.Verdict.{Verdict as TheVerdict}
-use Rattle.mux_client.specs.declared.verdict.Verdict.TheVariants as said
-use Rattle.mux_client.specs.Replies.{Verdict, Grants, Refuses, Breaks, running_line, exit_line, stop_line, port_line, for_id}
+use Rattle.mux_client.specs.declared.verdict.OutLine.{OutLine}
+use Rattle.mux_client.specs.declared.verdict.OutLine.TheVariants.{Running, ExitSent, StopSent, Port, Nothing}
+use Rattle.mux_client.specs.declared.verdict.ReplyVerdict.{ReplyVerdict as TheVerdict}
+use Rattle.mux_client.specs.declared.verdict.ReplyVerdict.TheVariants as said
+use Rattle.mux_client.specs.Replies.{ReplyVerdict, Grants, Refuses, Breaks, running_line, exit_line, stop_line, port_line, for_id}
 
 -- a line, as it is shown
-abbrev pub text_of_line : Line → List ℕ
+abbrev pub text_of_line : OutLine → List ℕ
 text_of_line (Running pid) = running_line pid
 text_of_line ExitSent = exit_line
 text_of_line StopSent = stop_line
@@ -19,41 +19,41 @@ text_of_line (Port port) = port_line port
 text_of_line Nothing = []
 
 -- the same, if there is one
-abbrev pub text_of_some : Option Line → List ℕ
+abbrev pub text_of_some : Option OutLine → List ℕ
 text_of_some (Some line) = text_of_line line
 text_of_some None = []
 
 -- what the code means by a verdict
-abbrev pub meant_by : TheVerdict → Verdict
+abbrev pub meant_by : TheVerdict → ReplyVerdict
 meant_by (said.Grants line) = Grants (text_of_line line)
 meant_by said.Refuses = Refuses
 meant_by said.Breaks = Breaks
 
 -- ---- by what is asked and the answer's type
 
-abbrev pub on_okay : Asks → Verdict
+abbrev pub on_okay : Asks → ReplyVerdict
 on_okay Check = Breaks
 on_okay Exit = Grants exit_line
 on_okay Stop = Grants stop_line
 on_okay (Forwards opening what) = Grants []
 
-abbrev pub on_alive : Asks → ℕ → Verdict
+abbrev pub on_alive : Asks → ℕ → ReplyVerdict
 on_alive Check pid = Grants (running_line pid)
 on_alive Exit pid = Breaks
 on_alive Stop pid = Breaks
 on_alive (Forwards opening what) pid = Breaks
 
-abbrev pub on_bound : Bool → ℕ → Verdict
+abbrev pub on_bound : Bool → ℕ → ReplyVerdict
 on_bound true port = Grants (port_line port)
 on_bound false port = Breaks
 
-abbrev pub on_port : Asks → ℕ → Verdict
+abbrev pub on_port : Asks → ℕ → ReplyVerdict
 on_port Check port = Breaks
 on_port Exit port = Breaks
 on_port Stop port = Breaks
 on_port (Forwards opening what) port = on_bound opening port
 
-abbrev pub verdict_by : Asks → ℕ → Answer → Verdict
+abbrev pub verdict_by : Asks → ℕ → Answer → ReplyVerdict
 verdict_by asks id (read.Okay of) = for_id id of (on_okay asks)
 verdict_by asks id (read.Refusal of) = for_id id of Refuses
 verdict_by asks id (read.Alive of pid) = for_id id of (on_alive asks pid)

@@ -2,15 +2,15 @@ ghost use Rattle.std.specs.Prelude.{◌≡◌, ◌≤◌, ◌<◌, [], ◌++◌,
 ghost use Rattle.ssh_grammar.specs.declared.framing.Framing.TheVariants.{Control};
 ghost use Rattle.ssh_grammar.specs.Frames.{first_frame};
 ghost use Rattle.mux_client.specs.declared.asks.Asks.{Asks as TheAsks};
-ghost use Rattle.mux_client.specs.declared.stage.Stage.TheVariants.{Greets, Asks as Asked};
+ghost use Rattle.mux_client.specs.declared.stage.TalkStage.TheVariants.{Greets, Asks as Asked};
 ghost use Rattle.mux_client.specs.Requests.{MayAsk, request_at};
 ghost use Rattle.mux_client.specs.Client.{new_client, heard, without_sent, place_of, after_cut, asked, Stands, IsSettled, ReadsNext};
 
 use crate::answer::is_hello_of_4;
 use crate::asks::Asks;
 use crate::request::{put_hello, put_request};
-use crate::stage::Stage;
-use crate::verdict::{Line, Verdict, verdict_of};
+use crate::stage::TalkStage;
+use crate::verdict::{OutLine, ReplyVerdict, verdict_of};
 use proxy_frames::{Framer, Framing, Next, Queue};
 use ssh_fields::OutOfMemory;
 use std::alloc::Global;
@@ -23,7 +23,7 @@ pub struct Client {
     framer: Framer,
     /// What the master didn't take yet.
     queue: Queue,
-    stage: Stage,
+    stage: TalkStage,
 }
 
 impl Model for Client {
@@ -54,12 +54,12 @@ impl Client {
             alloc,
             framer: Framer::new(alloc, Framing::Control),
             queue,
-            stage: Stage::Greets,
+            stage: TalkStage::Greets,
         })
     }
 
     /// How far the talk is.
-    pub fn stage(&self) -> Stage
+    pub fn stage(&self) -> TalkStage
         ensures { result ≡ self.now.stage }
     {
         self.stage
@@ -84,7 +84,7 @@ impl Client {
     }
 
     /// More bytes of the master.
-    pub fn hears(&mut self, piece: &[u8]) -> Result<(), OutOfMemory>
+    pub fn receives(&mut self, piece: &[u8]) -> Result<(), OutOfMemory>
         ensures exact { OnOk result (self.new ≡ heard piece.now self.old) }
         ensures unchanged { OnErr result (self.new ≡ self.old) }
         ensures stands { (asks : TheAsks) (bytes taken shown : List ℕ)
@@ -106,7 +106,7 @@ impl Client {
             Next::Frame => true,
             Next::More => false,
             Next::Bad(_) => {
-                self.stage = Stage::Broken { at };
+                self.stage = TalkStage::Broken { at };
                 false
             }
         }
@@ -122,15 +122,15 @@ impl Client {
         let mut frame = Vec::new(self.alloc);
         if put_request(&mut frame, asks, id)? {
             self.queue.push_bytes(frame.as_slice())?;
-            self.stage = Stage::Asks { id, at };
+            self.stage = TalkStage::Asks { id, at };
         } else {
-            self.stage = Stage::Granted;
+            self.stage = TalkStage::Granted;
         }
         Ok(())
     }
 
     // Reads the master's hello, if it is there.
-    fn greet(&mut self, asks: &Asks) -> Result<Option<Line>, OutOfMemory>
+    fn greet(&mut self, asks: &Asks) -> Result<Option<OutLine>, OutOfMemory>
         requires may { MayAsk asks.now }
         requires stage { self.old.stage ≡ Greets }
         ensures reads { ReadsNext asks.now self.old self.new result }
@@ -141,15 +141,15 @@ impl Client {
         let body = self.framer.content();
         let at = 4 + body.len();
         if !is_hello_of_4(body) {
-            self.stage = Stage::Broken { at: 0 };
+            self.stage = TalkStage::Broken { at: 0 };
             return Ok(None);
         }
         self.ask(asks, 0, at)?;
-        Ok(Some(Line::Nothing))
+        Ok(Some(OutLine::Nothing))
     }
 
     // Reads the reply to the request with this id, if it is there, at this place.
-    fn reply(&mut self, asks: &Asks, id: u32, at: usize) -> Result<Option<Line>, OutOfMemory>
+    fn reply(&mut self, asks: &Asks, id: u32, at: usize) -> Result<Option<OutLine>, OutOfMemory>
         requires may { MayAsk asks.now }
         requires stage { self.old.stage ≡ Asked id at }
         ensures reads { ReadsNext asks.now self.old self.new result }
@@ -160,19 +160,19 @@ impl Client {
         let body = self.framer.content();
         let behind = at + (4 + body.len());
         match verdict_of(asks, id, body) {
-            Verdict::Grants(line) => {
+            ReplyVerdict::Grants(line) => {
                 let Some(next) = id.checked_add(1) else {
                     return Err(OutOfMemory);
                 };
                 self.ask(asks, next, behind)?;
                 Ok(Some(line))
             }
-            Verdict::Refuses => {
-                self.stage = Stage::Refused { id };
+            ReplyVerdict::Refuses => {
+                self.stage = TalkStage::Refused { id };
                 Ok(None)
             }
-            Verdict::Breaks => {
-                self.stage = Stage::Broken { at };
+            ReplyVerdict::Breaks => {
+                self.stage = TalkStage::Broken { at };
                 Ok(None)
             }
         }
@@ -180,13 +180,13 @@ impl Client {
 
     /// Reads the next frame: the line that it shows, and nothing where no frame is read any more,
     /// or none is there yet.
-    pub fn next(&mut self, asks: &Asks) -> Result<Option<Line>, OutOfMemory>
+    pub fn next(&mut self, asks: &Asks) -> Result<Option<OutLine>, OutOfMemory>
         requires { MayAsk asks.now }
         ensures { ReadsNext asks.now self.old self.new result }
     {
         match self.stage {
-            Stage::Greets => self.greet(asks),
-            Stage::Asks { id, at } => self.reply(asks, id, at),
+            TalkStage::Greets => self.greet(asks),
+            TalkStage::Asks { id, at } => self.reply(asks, id, at),
             _ => Ok(None),
         }
     }

@@ -1,6 +1,6 @@
 /// How far a talk is.
 #[derive(Clone, Copy, PartialEq, Eq)]
-pub enum Stage {
+pub enum TalkStage {
     /// The master's hello is awaited.
     Greets,
     /// The reply to the request with this id is awaited, at this place of the master's bytes.

@@ -11,9 +11,9 @@ ghost use Rattle.mux_client.specs.declared.talked.Talked.TheVariants.{Spent as S
 
 use crate::asks::Asks;
 use crate::client::Client;
-use crate::stage::Stage;
+use crate::stage::TalkStage;
 use crate::talked::Talked;
-use crate::verdict::{Line, text_of};
+use crate::verdict::{OutLine, text_of};
 use mux_outside::{FileError, Piece, Sink, Streams, Turn, Want, Wire, Wrote};
 use std::alloc::Global;
 
@@ -29,10 +29,10 @@ fn offer_once<W: Wire>(
     requires between { IsBetween client.old held.old (W.state wire.old).seen }
     requires free { held.old ≡ [] }
     ensures talking { (asks : TheAsks) (start : Option (List TheMark)) (shown : List ℕ)
-        → Talking asks start (W.state wire.old).seen.told held.old shown client.old
+        → Talking asks start (W.state wire.old).seen.recorded held.old shown client.old
         → TalksOn result
-        (λ more. Talking asks start (W.state wire.new).seen.told held.new shown client.new)
-        (λ answer. IsTalk asks answer start (W.state wire.new).seen.told shown shown) }
+        (λ more. Talking asks start (W.state wire.new).seen.recorded held.new shown client.new)
+        (λ answer. IsTalk asks answer start (W.state wire.new).seen.recorded shown shown) }
     ensures between { OnOk result (IsBetween client.new held.new (W.state wire.new).seen) }
     ensures offered { IfOk result (λ more. TookOrOffered more held.new client.old client.new) }
     ensures own { IfErr result IsOfWire }
@@ -65,10 +65,10 @@ fn offer<W: Wire>(client: &mut Client, wire: &mut W, held: &mut Streams) -> Resu
     requires alone { IsAlone (W.state wire.old).seen }
     requires between { IsBetween client.old held.old (W.state wire.old).seen }
     ensures talking { (asks : TheAsks) (start : Option (List TheMark)) (shown : List ℕ)
-        → Talking asks start (W.state wire.old).seen.told held.old shown client.old
+        → Talking asks start (W.state wire.old).seen.recorded held.old shown client.old
         → TalksOn result
-        (λ done. Talking asks start (W.state wire.new).seen.told held.new shown client.new)
-        (λ answer. IsTalk asks answer start (W.state wire.new).seen.told shown shown) }
+        (λ done. Talking asks start (W.state wire.new).seen.recorded held.new shown client.new)
+        (λ answer. IsTalk asks answer start (W.state wire.new).seen.recorded shown shown) }
     ensures between { OnOk result (IsBetween client.new held.new (W.state wire.new).seen) }
     ensures offered { OnOk result (IsOffered held.new client.new) }
     ensures own { IfErr result IsOfWire }
@@ -90,9 +90,9 @@ fn decided(client: &Client) -> Result<(), Talked>
     ensures { IsDecided client.now result }
 {
     match client.stage() {
-        Stage::Granted if client.front().is_empty() => Err(Talked::Done),
-        Stage::Refused { id } => Err(Talked::Refused { id }),
-        Stage::Broken { at } => Err(Talked::BadMaster { at }),
+        TalkStage::Granted if client.front().is_empty() => Err(Talked::Done),
+        TalkStage::Refused { id } => Err(Talked::Refused { id }),
+        TalkStage::Broken { at } => Err(Talked::BadMaster { at }),
         _ => Ok(()),
     }
 }
@@ -103,23 +103,23 @@ fn broken_off(client: &Client) -> Result<(), Talked>
     ensures { BreaksOff client.now result }
 {
     match client.stage() {
-        Stage::Greets => Err(Talked::BadMaster { at: 0 }),
-        Stage::Asks { at, .. } => Err(Talked::BadMaster { at }),
+        TalkStage::Greets => Err(Talked::BadMaster { at: 0 }),
+        TalkStage::Asks { at, .. } => Err(Talked::BadMaster { at }),
         _ => Ok(()),
     }
 }
 
 // Shows a line, if it has some bytes.
-fn show<S: Sink>(alloc: Global, line: Line, out: &mut S) -> Result<(), Talked>
+fn show<S: Sink>(alloc: Global, line: OutLine, out: &mut S) -> Result<(), Talked>
     ensures shows { TalksOn result
-        (λ done. ShowsOn (S.told out.old) (S.told out.new) out.old out.new
+        (λ done. ShowsOn (S.recorded out.old) (S.recorded out.new) out.old out.new
         (λ more. more ≡ text_of_line line))
-        (λ answer. ShowsLast (S.told out.old) (S.told out.new) out.old out.new
+        (λ answer. ShowsLast (S.recorded out.old) (S.recorded out.new) out.old out.new
         (IsCutLine answer (text_of_line line))) }
     ensures own { IfErr result IsOfSink }
     ensures cause { StepSinkFaults result (S.faults out.old) (S.faults out.new) }
 {
-    if line == Line::Nothing {
+    if line == OutLine::Nothing {
         return Ok(());
     }
     let text = text_of(alloc, line)?;
@@ -138,13 +138,13 @@ fn read_once<S: Sink>(
     out: &mut S,
 ) -> Result<bool, Talked>
     requires { MayAsk asks.now }
-    ensures talking { (start told : Option (List TheMark)) (held shown : List ℕ)
-        → Talking asks.now start told held shown client.old
+    ensures talking { (start recorded : Option (List TheMark)) (held shown : List ℕ)
+        → Talking asks.now start recorded held shown client.old
         → TalksOn result
-        (λ some. ShowsOn (S.told out.old) (S.told out.new) out.old out.new
-        (λ more. Talking asks.now start told held (shown ++ more) client.new))
-        (λ answer. ShowsLast (S.told out.old) (S.told out.new) out.old out.new
-        (λ more due. IsTalk asks.now answer start told (shown ++ more) (shown ++ due))) }
+        (λ some. ShowsOn (S.recorded out.old) (S.recorded out.new) out.old out.new
+        (λ more. Talking asks.now start recorded held (shown ++ more) client.new))
+        (λ answer. ShowsLast (S.recorded out.old) (S.recorded out.new) out.old out.new
+        (λ more due. IsTalk asks.now answer start recorded (shown ++ more) (shown ++ due))) }
     ensures settled { IfOk result (λ some. some ≡ false → IsSettled client.new) }
     ensures less { IfOk result (λ some. some ≡ true
         → length client.new.framer.rest < length client.old.framer.rest) }
@@ -163,13 +163,13 @@ fn read_once<S: Sink>(
 // Reads all frames that are there, and shows what they show.
 fn read<S: Sink>(alloc: Global, client: &mut Client, asks: &Asks, out: &mut S) -> Result<(), Talked>
     requires { MayAsk asks.now }
-    ensures talking { (start told : Option (List TheMark)) (held shown : List ℕ)
-        → Talking asks.now start told held shown client.old
+    ensures talking { (start recorded : Option (List TheMark)) (held shown : List ℕ)
+        → Talking asks.now start recorded held shown client.old
         → TalksOn result
-        (λ done. ShowsOn (S.told out.old) (S.told out.new) out.old out.new
-        (λ more. Talking asks.now start told held (shown ++ more) client.new))
-        (λ answer. ShowsLast (S.told out.old) (S.told out.new) out.old out.new
-        (λ more due. IsTalk asks.now answer start told (shown ++ more) (shown ++ due))) }
+        (λ done. ShowsOn (S.recorded out.old) (S.recorded out.new) out.old out.new
+        (λ more. Talking asks.now start recorded held (shown ++ more) client.new))
+        (λ answer. ShowsLast (S.recorded out.old) (S.recorded out.new) out.old out.new
+        (λ more due. IsTalk asks.now answer start recorded (shown ++ more) (shown ++ due))) }
     ensures settled { OnOk result (IsSettled client.new) }
     ensures own { IfErr result IsOfSink }
     ensures cause { StepSinkFaults result (S.faults out.old) (S.faults out.new) }
@@ -194,12 +194,12 @@ fn turn<W: Wire, S: Sink>(
     requires offered { IsOffered held.old client.old }
     requires going { IsGoing client.old.stage client.old.queue }
     ensures talking { (start : Option (List TheMark)) (shown : List ℕ)
-        → Talking asks.now start (W.state wire.old).seen.told held.old shown client.old
+        → Talking asks.now start (W.state wire.old).seen.recorded held.old shown client.old
         → TalksOn result
-        (λ done. ShowsOn (S.told out.old) (S.told out.new) out.old out.new (λ more.
-        Talking asks.now start (W.state wire.new).seen.told held.new (shown ++ more) client.new))
-        (λ answer. ShowsLast (S.told out.old) (S.told out.new) out.old out.new (λ more due.
-        IsTalk asks.now answer start (W.state wire.new).seen.told (shown ++ more)
+        (λ done. ShowsOn (S.recorded out.old) (S.recorded out.new) out.old out.new (λ more.
+        Talking asks.now start (W.state wire.new).seen.recorded held.new (shown ++ more) client.new))
+        (λ answer. ShowsLast (S.recorded out.old) (S.recorded out.new) out.old out.new (λ more due.
+        IsTalk asks.now answer start (W.state wire.new).seen.recorded (shown ++ more)
         (shown ++ due))) }
     ensures between { OnOk result (IsBetween client.new held.new (W.state wire.new).seen) }
     ensures unspent { IfErr result (λ answer. answer ≢ SpentTurns) }
@@ -212,7 +212,7 @@ fn turn<W: Wire, S: Sink>(
 {
     match wire.wait(held, Want::Read, piece) {
         Turn::Got(_) => {
-            client.hears(piece.as_bytes())?;
+            client.receives(piece.as_bytes())?;
             read(alloc, client, asks, out)
         }
         Turn::End(_) => broken_off(client),
@@ -236,8 +236,8 @@ fn converse<W: Wire, S: Sink>(
 ) -> Result<(), Talked>
     requires may { MayAsk asks.now }
     requires joined { IsJoined (W.state wire.old).seen }
-    ensures talks { WholeTalk asks.now (talked_of result) (W.state wire.old).seen.told
-        (W.state wire.new).seen.told (S.told out.old) (S.told out.new) out.old out.new }
+    ensures talks { WholeTalk asks.now (talked_of result) (W.state wire.old).seen.recorded
+        (W.state wire.new).seen.recorded (S.recorded out.old) (S.recorded out.new) out.old out.new }
     ensures calls { Stops turns (talked_of result) (W.state wire.old).calls
         (W.state wire.new).calls }
     ensures answered { AnsweredBy (talked_of result) (W.state wire.old).calls
@@ -270,8 +270,8 @@ pub fn talk<W: Wire, S: Sink>(
 ) -> Talked
     requires asks { MayAsk asks.now }
     requires joined { IsJoined (W.state wire.old).seen }
-    ensures talked { HasTalked asks.now result (W.state wire.old).seen.told
-        (W.state wire.new).seen.told (S.told out.old) (S.told out.new) out.old out.new }
+    ensures talked { HasTalked asks.now result (W.state wire.old).seen.recorded
+        (W.state wire.new).seen.recorded (S.recorded out.old) (S.recorded out.new) out.old out.new }
     ensures calls { Stops turns result (W.state wire.old).calls (W.state wire.new).calls }
     ensures answered { AnsweredBy result (W.state wire.old).calls (W.state wire.new).calls }
     ensures cause { WireFaults result (W.faults wire.old) (W.faults wire.new) }

@@ -11,7 +11,7 @@ use std::alloc::Global;
 
 /// What is shown where a request was granted.
 #[derive(Clone, Copy, PartialEq, Eq)]
-pub enum Line {
+pub enum OutLine {
     /// The master runs with this process id.
     Running { pid: u32 },
     /// The master ends.
@@ -25,97 +25,101 @@ pub enum Line {
 
 /// What a reply means.
 #[derive(Clone, Copy, PartialEq, Eq)]
-pub enum Verdict {
+pub enum ReplyVerdict {
     /// The request is done.
-    Grants(Line),
+    Grants(OutLine),
     Refuses,
     /// No reply to the request: the master broke the protocol.
     Breaks,
 }
 
 // What a success without a value means.
-fn okay(asks: &Asks) -> Verdict
+fn okay(asks: &Asks) -> ReplyVerdict
     ensures { meant_by result ≡ on_okay asks.now }
 {
     match asks {
-        Asks::Check => Verdict::Breaks,
-        Asks::Exit => Verdict::Grants(Line::ExitSent),
-        Asks::Stop => Verdict::Grants(Line::StopSent),
-        Asks::Forwards { .. } => Verdict::Grants(Line::Nothing),
+        Asks::Check => ReplyVerdict::Breaks,
+        Asks::Exit => ReplyVerdict::Grants(OutLine::ExitSent),
+        Asks::Stop => ReplyVerdict::Grants(OutLine::StopSent),
+        Asks::Forwards { .. } => ReplyVerdict::Grants(OutLine::Nothing),
     }
 }
 
 // What it means that the master runs with this process id.
-fn alive(asks: &Asks, pid: u32) -> Verdict
+fn alive(asks: &Asks, pid: u32) -> ReplyVerdict
     ensures { meant_by result ≡ on_alive asks.now pid }
 {
     match asks {
-        Asks::Check => Verdict::Grants(Line::Running { pid }),
-        _ => Verdict::Breaks,
+        Asks::Check => ReplyVerdict::Grants(OutLine::Running { pid }),
+        _ => ReplyVerdict::Breaks,
     }
 }
 
 // What it means that the server chose this port.
-fn bound(asks: &Asks, port: u32) -> Verdict
+fn bound(asks: &Asks, port: u32) -> ReplyVerdict
     ensures { meant_by result ≡ on_port asks.now port }
 {
     match asks {
-        Asks::Forwards { opening: true, .. } => Verdict::Grants(Line::Port { port }),
-        _ => Verdict::Breaks,
+        Asks::Forwards { opening: true, .. } => ReplyVerdict::Grants(OutLine::Port { port }),
+        _ => ReplyVerdict::Breaks,
     }
 }
 
 // A reply answers the request alone whose id it has.
-fn to_request(id: u32, of: u32, verdict: Verdict) -> Verdict
+fn to_request(id: u32, of: u32, verdict: ReplyVerdict) -> ReplyVerdict
     ensures { meant_by result ≡ for_id id of (meant_by verdict) }
 {
-    if of == id { verdict } else { Verdict::Breaks }
+    if of == id {
+        verdict
+    } else {
+        ReplyVerdict::Breaks
+    }
 }
 
 // What an answer means to the request with this id.
-fn meaning(asks: &Asks, id: u32, answer: Answer) -> Verdict
+fn meaning(asks: &Asks, id: u32, answer: Answer) -> ReplyVerdict
     ensures { meant_by result ≡ verdict_by asks.now id answer }
 {
     match answer {
         Answer::Okay { id: of } => to_request(id, of, okay(asks)),
-        Answer::Refusal { id: of } => to_request(id, of, Verdict::Refuses),
+        Answer::Refusal { id: of } => to_request(id, of, ReplyVerdict::Refuses),
         Answer::Alive { id: of, pid } => to_request(id, of, alive(asks, pid)),
         Answer::RemotePort { id: of, port } => to_request(id, of, bound(asks, port)),
-        Answer::Other => Verdict::Breaks,
+        Answer::Other => ReplyVerdict::Breaks,
     }
 }
 
 /// What a body means to the request with this id.
-pub fn verdict_of(asks: &Asks, id: u32, body: &[u8]) -> Verdict
+pub fn verdict_of(asks: &Asks, id: u32, body: &[u8]) -> ReplyVerdict
     ensures { (request : Request) → request_at asks.now id ≡ Some request
         → meant_by result ≡ verdict_by_body request id body.now }
 {
     match read_answer(body) {
         Some(answer) => meaning(asks, id, answer),
-        None => Verdict::Breaks,
+        None => ReplyVerdict::Breaks,
     }
 }
 
 /// A line, as it is shown.
-pub fn text_of(alloc: Global, line: Line) -> Result<Text, OutOfMemory>
+pub fn text_of(alloc: Global, line: OutLine) -> Result<Text, OutOfMemory>
     ensures { IfOk result (λ text. text ≡ text_of_line line) }
 {
     let mut text = Text::new(alloc);
     match line {
-        Line::Running { pid } => {
+        OutLine::Running { pid } => {
             let digits = pid.to_string(alloc)?;
             text.add(b"Master running (pid=")?;
             text.add(digits.as_bytes())?;
             text.add(b")\n")?;
         }
-        Line::ExitSent => text.add(b"Exit request sent.\n")?,
-        Line::StopSent => text.add(b"Stop listening request sent.\n")?,
-        Line::Port { port } => {
+        OutLine::ExitSent => text.add(b"Exit request sent.\n")?,
+        OutLine::StopSent => text.add(b"Stop listening request sent.\n")?,
+        OutLine::Port { port } => {
             let digits = port.to_string(alloc)?;
             text.add(digits.as_bytes())?;
             text.add(b"\n")?;
         }
-        Line::Nothing => {}
+        OutLine::Nothing => {}
     }
     Ok(text)
 }

@@ -3,7 +3,7 @@ use Rattle.std.proofs.Common.{◌≡◌, ◌<◌, ℕ, List, [], ◌∷◌, map,
 use Rattle.std.specs.Prelude.{filter, not, ◌==◌, ◌&&◌, ◌||◌}
 use Rattle.std.specs.List.{AllByRecursion}
 use Rattle.ssh_grammar.specs.declared.side.Side.{Side}
-use Rattle.mux_history.specs.Gist.{Act}
+use Rattle.mux_history.specs.Summary.{Act}
 use Rattle.mux_history.specs.Channels.{Channel, any_act, is_fails, is_held}
 use Rattle.mux_history.specs.Laws.{with_act}
 use Rattle.mux_history.specs.Said.{is_failing}

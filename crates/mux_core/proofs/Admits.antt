@@ -12,7 +12,7 @@ use Rattle.mux_history.specs.Farewell.{has_open_matters}
 use Rattle.mux_history.specs.Forwardings.{current}
 use Rattle.mux_history.specs.Log.{bare, entered, matters_of, open_matters}
 use Rattle.mux_history.specs.Requests.{Ask, asks, replies, wanted}
-use Rattle.mux_history.specs.Said.{Outcome, tells}
+use Rattle.mux_history.specs.Said.{Outcome, records}
 use Rattle.ssh_grammar.specs.declared.numbers.TheConstants.{VERSION}
 use Rattle.ssh_grammar.specs.Control.{Greets}
 use Rattle.ssh_grammar.specs.Frames.{frame_answer}
@@ -93,7 +93,7 @@ not-in k rows new = by_case (any_of (λ i. i == k) (entered rows)) refl
 -- ---- the row
 
 -- one that is refused changes nothing
-pub refused-quiet : (k : ℕ) → IsQuiet (bare (Admit k) k (record { sent = []; told = []; ends = Refused }))
+pub refused-quiet : (k : ℕ) → IsQuiet (bare (Admit k) k (record { sent = []; recorded = []; ends = Refused }))
 refused-quiet k = record { asks = refl; flags = refl; replies = refl; forwards = λ own fs. refl; keeps = refl; admits = refl }
 
 admit-held : (k : ℕ) (o : Outcome) (rows : List Row) → o.sent ≡ [] → held_of (bare (Admit k) k o ∷ rows) ≡ held_of rows
@@ -107,35 +107,35 @@ admit-held k o rows none =
         ∙ (elim (x.client == k) as (λ b. (elim b as (λ _. Channel) [ true ↦ x | false ↦ x ]) ≡ x) [ true ↦ refl | false ↦ refl ])
 
 -- the matters of a refused client are closed, as they were
-refused-matters : (k : ℕ) (rows : List Row) → rows_of k rows ≡ [] → (j : ℕ) → has_matters (bare (Admit k) k (record { sent = []; told = []; ends = Refused }) ∷ rows) j ≡ has_matters rows j
+refused-matters : (k : ℕ) (rows : List Row) → rows_of k rows ≡ [] → (j : ℕ) → has_matters (bare (Admit k) k (record { sent = []; recorded = []; ends = Refused }) ∷ rows) j ≡ has_matters rows j
 refused-matters k rows new j = by_case (k == j) refl
   where
     row : Row
-    row = bare (Admit k) k (record { sent = []; told = []; ends = Refused })
+    row = bare (Admit k) k (record { sent = []; recorded = []; ends = Refused })
 
-    by_case : (b : Bool) → (k == j) ≡ b → has_matters (bare (Admit k) k (record { sent = []; told = []; ends = Refused }) ∷ rows) j ≡ has_matters rows j
-    by_case false e = ap has_open_matters (idle_row j (bare (Admit k) k (record { sent = []; told = []; ends = Refused })) rows e)
+    by_case : (b : Bool) → (k == j) ≡ b → has_matters (bare (Admit k) k (record { sent = []; recorded = []; ends = Refused }) ∷ rows) j ≡ has_matters rows j
+    by_case false e = ap has_open_matters (idle_row j (bare (Admit k) k (record { sent = []; recorded = []; ends = Refused })) rows e)
     by_case true e =
         let none : rows_of j rows ≡ [] = subst (λ i. rows_of i rows ≡ []) (same-number k j e) new in
-        ap has_open_matters (own_row j (bare (Admit k) k (record { sent = []; told = []; ends = Refused })) rows e ∙ ap (λ own. bare (Admit k) k (record { sent = []; told = []; ends = Refused }) ∷ own) none) ∙ sym (ap has_open_matters none)
+        ap has_open_matters (own_row j (bare (Admit k) k (record { sent = []; recorded = []; ends = Refused })) rows e ∙ ap (λ own. bare (Admit k) k (record { sent = []; recorded = []; ends = Refused }) ∷ own) none) ∙ sym (ap has_open_matters none)
 
-pub refused-stands : (s : CoreState) (k : ℕ) (rows : List Row) → Stands s rows → rows_of k rows ≡ [] → Stands s (bare (Admit k) k (record { sent = []; told = []; ends = Refused }) ∷ rows)
+pub refused-stands : (s : CoreState) (k : ℕ) (rows : List Row) → Stands s rows → rows_of k rows ≡ [] → Stands s (bare (Admit k) k (record { sent = []; recorded = []; ends = Refused }) ∷ rows)
 refused-stands s k rows st new =
-    let row : Row = bare (Admit k) k (record { sent = []; told = []; ends = Refused }) in
-    let after = sym (look-same (bare (Admit k) k (record { sent = []; told = []; ends = Refused })) rows (refused-quiet k)) in
-    let matters : has_matters rows ≡ has_matters (bare (Admit k) k (record { sent = []; told = []; ends = Refused }) ∷ rows) = λ i j. sym (refused-matters k rows new j) i in
+    let row : Row = bare (Admit k) k (record { sent = []; recorded = []; ends = Refused }) in
+    let after = sym (look-same (bare (Admit k) k (record { sent = []; recorded = []; ends = Refused })) rows (refused-quiet k)) in
+    let matters : has_matters rows ≡ has_matters (bare (Admit k) k (record { sent = []; recorded = []; ends = Refused }) ∷ rows) = λ i j. sym (refused-matters k rows new j) i in
     record {
-      channels = subst (TableFits s.channels) (sym (admit-held k (record { sent = []; told = []; ends = Refused }) rows refl)) st.channels;
+      channels = subst (TableFits s.channels) (sym (admit-held k (record { sent = []; recorded = []; ends = Refused }) rows refl)) st.channels;
       asks = subst (AsksFit s.asks) after st.asks;
       forwards = subst (λ (l : Look). AreFit s.forwards l.current l.own l.lost) after st.forwards;
-      clients = subst (λ m. ClientsFit s.clients m (look (bare (Admit k) k (record { sent = []; told = []; ends = Refused }) ∷ rows))) matters (subst (ClientsFit s.clients (has_matters rows)) after st.clients);
+      clients = subst (λ m. ClientsFit s.clients m (look (bare (Admit k) k (record { sent = []; recorded = []; ends = Refused }) ∷ rows))) matters (subst (ClientsFit s.clients (has_matters rows)) after st.clients);
       known = st.known;
     }
 
 -- ---- one that is let in
 
 abbrev pub admit_row : ℕ → List ℕ → Row
-admit_row k frame = bare (Admit k) k (tells frame)
+admit_row k frame = bare (Admit k) k (records frame)
 
 abbrev pub new_client : ℕ → MemberState
 new_client k = record { number = k; lost = false; waiting = [] }
@@ -239,7 +239,7 @@ admitted-stands s k frame rows st nonzero new room =
     let same : (j : ℕ) → (j == k) ≡ false → has_matters (admit_row k frame ∷ rows) j ≡ has_matters rows j = λ j other. ap has_open_matters (idle_row j (admit_row k frame) rows (turned j k other)) in
     let here : has_matters (admit_row k frame ∷ rows) k ≡ true = ap has_open_matters (own_row k (admit_row k frame) rows (self k) ∙ ap (λ own. admit_row k frame ∷ own) new) in
     record {
-      channels = subst (TableFits s.channels) (sym (admit-held k (tells frame) rows refl)) st.channels;
+      channels = subst (TableFits s.channels) (sym (admit-held k (records frame) rows refl)) st.channels;
       asks = record {
         waiting = st.asks.waiting ∙ sym (ap unreplied_in (nothing-asked k frame rows));
         awaited = subst (λ (x : Places). x.replied ≤ length x.asked) (sym (nothing-asked k frame rows)) st.asks.awaited;
@@ -275,7 +275,7 @@ on-admit s new k true exact after = λ rows st fresh.
     let few : length s.clients < MAX_CLIENTS = below (length s.clients) exact in
     record {
       exact = sym room;
-      stands = subst (λ o. Stands new (bare (Admit k) k o ∷ rows)) (sym (ap (λ (b : Bool). elim b as (λ _. Outcome) [ true ↦ tells (frame_answer (Greets VERSION)) | false ↦ record { sent = []; told = []; ends = Refused } ]) room))
+      stands = subst (λ o. Stands new (bare (Admit k) k o ∷ rows)) (sym (ap (λ (b : Bool). elim b as (λ _. Outcome) [ true ↦ records (frame_answer (Greets VERSION)) | false ↦ record { sent = []; recorded = []; ends = Refused } ]) room))
           (subst (λ u. Stands u (admit_row k (frame_answer (Greets VERSION)) ∷ rows)) (sym after) (admitted-stands s k (frame_answer (Greets VERSION)) rows st fresh.nonzero fresh.fresh few));
     }
   where
@@ -285,6 +285,6 @@ on-admit s new k false exact after = λ rows st fresh.
     let full : nat_lt (open_matters rows) MAX_CLIENTS ≡ false = ap (λ n. nat_lt n MAX_CLIENTS) (matters-are s rows st) ∙ sym exact in
     record {
       exact = sym full;
-      stands = subst (λ o. Stands new (bare (Admit k) k o ∷ rows)) (sym (ap (λ (b : Bool). elim b as (λ _. Outcome) [ true ↦ tells (frame_answer (Greets VERSION)) | false ↦ record { sent = []; told = []; ends = Refused } ]) full))
-          (subst (λ u. Stands u (bare (Admit k) k (record { sent = []; told = []; ends = Refused }) ∷ rows)) (sym after) (refused-stands s k rows st fresh.fresh));
+      stands = subst (λ o. Stands new (bare (Admit k) k o ∷ rows)) (sym (ap (λ (b : Bool). elim b as (λ _. Outcome) [ true ↦ records (frame_answer (Greets VERSION)) | false ↦ record { sent = []; recorded = []; ends = Refused } ]) full))
+          (subst (λ u. Stands u (bare (Admit k) k (record { sent = []; recorded = []; ends = Refused }) ∷ rows)) (sym after) (refused-stands s k rows st fresh.fresh));
     }

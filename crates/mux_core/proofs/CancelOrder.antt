@@ -30,8 +30,8 @@ Earlier k place g = g.client ≡ k → (q : ℕ) → g.cancel ≡ Some q → q <
 pub kept-at : (k : ℕ) (key : Key) (r : ℕ) (f : Forward) (fs : List Forward) (b : Bool) → is_free_at k key f ≡ b → change_first (is_free_at k key) (ranked_at r) (f ∷ fs) ≡ elim b as (λ _. List Forward) [ true ↦ ranked_at r f ∷ fs | false ↦ f ∷ change_first (is_free_at k key) (ranked_at r) fs ]
 kept-at k key r f fs b h = ap (λ (c : Bool). elim c as (λ _. List Forward) [ true ↦ ranked_at r f ∷ fs | false ↦ f ∷ change_first (is_free_at k key) (ranked_at r) fs ]) h
 
-pub told-at : (k : ℕ) (key : Key) (place : ℕ) (g : Forwarding) (gs : List Forwarding) (b : Bool) → history.is_free_at k key g ≡ b → history.change_first (history.is_free_at k key) (placed_at place) (g ∷ gs) ≡ elim b as (λ _. List Forwarding) [ true ↦ placed_at place g ∷ gs | false ↦ g ∷ history.change_first (history.is_free_at k key) (placed_at place) gs ]
-told-at k key place g gs b h = ap (λ (c : Bool). elim c as (λ _. List Forwarding) [ true ↦ placed_at place g ∷ gs | false ↦ g ∷ history.change_first (history.is_free_at k key) (placed_at place) gs ]) h
+pub recorded-at : (k : ℕ) (key : Key) (place : ℕ) (g : Forwarding) (gs : List Forwarding) (b : Bool) → history.is_free_at k key g ≡ b → history.change_first (history.is_free_at k key) (placed_at place) (g ∷ gs) ≡ elim b as (λ _. List Forwarding) [ true ↦ placed_at place g ∷ gs | false ↦ g ∷ history.change_first (history.is_free_at k key) (placed_at place) gs ]
+recorded-at k key place g gs b h = ap (λ (c : Bool). elim c as (λ _. List Forwarding) [ true ↦ placed_at place g ∷ gs | false ↦ g ∷ history.change_first (history.is_free_at k key) (placed_at place) gs ]) h
 
 pub listed-changed : (k : ℕ) (key : Key) (r place : ℕ) (fs : List Forward) (gs : List Forwarding) → AreListed fs gs → AreListed (change_first (is_free_at k key) (ranked_at r) fs) (history.change_first (history.is_free_at k key) (placed_at place) gs)
 listed-changed k key r place [] [] all = tt
@@ -43,9 +43,9 @@ listed-changed k key r place (f ∷ fs) (g ∷ gs) all = by_case (listed-changed
     same = free-same k key f g all.0
 
     by_case : AreListed (change_first (is_free_at k key) (ranked_at r) fs) (history.change_first (history.is_free_at k key) (placed_at place) gs) → (b : Bool) → is_free_at k key f ≡ b → AreListed (change_first (is_free_at k key) (ranked_at r) (f ∷ fs)) (history.change_first (history.is_free_at k key) (placed_at place) (g ∷ gs))
-    by_case ih true h = subst (λ xs. AreListed xs (history.change_first (history.is_free_at k key) (placed_at place) (g ∷ gs))) (sym (kept-at k key r f fs true h)) (subst (AreListed (ranked_at r f ∷ fs)) (sym (told-at k key place g gs true (sym same ∙ h)))
+    by_case ih true h = subst (λ xs. AreListed xs (history.change_first (history.is_free_at k key) (placed_at place) (g ∷ gs))) (sym (kept-at k key r f fs true h)) (subst (AreListed (ranked_at r f ∷ fs)) (sym (recorded-at k key place g gs true (sym same ∙ h)))
         (record { client = all.0.client; key = all.0.key; live = all.0.live; cancel = refl; on = all.0.on }, all.1))
-    by_case ih false h = subst (λ xs. AreListed xs (history.change_first (history.is_free_at k key) (placed_at place) (g ∷ gs))) (sym (kept-at k key r f fs false h)) (subst (AreListed (f ∷ change_first (is_free_at k key) (ranked_at r) fs)) (sym (told-at k key place g gs false (sym same ∙ h)))
+    by_case ih false h = subst (λ xs. AreListed xs (history.change_first (history.is_free_at k key) (placed_at place) (g ∷ gs))) (sym (kept-at k key r f fs false h)) (subst (AreListed (f ∷ change_first (is_free_at k key) (ranked_at r) fs)) (sym (recorded-at k key place g gs false (sym same ∙ h)))
         (all.0, ih))
 
 -- ---- the order
@@ -97,9 +97,9 @@ order-with k key r place f g fits before earlier (f' ∷ fs) (g' ∷ gs) listed 
     same = free-same k key f' g' listed.0
 
     by_case : InOrderWith f g (change_first (is_free_at k key) (ranked_at r) fs) (history.change_first (history.is_free_at k key) (placed_at place) gs) → (b : Bool) → is_free_at k key f' ≡ b → InOrderWith f g (change_first (is_free_at k key) (ranked_at r) (f' ∷ fs)) (history.change_first (history.is_free_at k key) (placed_at place) (g' ∷ gs))
-    by_case ih true h = subst (λ xs. InOrderWith f g xs (history.change_first (history.is_free_at k key) (placed_at place) (g' ∷ gs))) (sym (kept-at k key r f' fs true h)) (subst (InOrderWith f g (ranked_at r f' ∷ fs)) (sym (told-at k key place g' gs true (sym same ∙ h)))
+    by_case ih true h = subst (λ xs. InOrderWith f g xs (history.change_first (history.is_free_at k key) (placed_at place) (g' ∷ gs))) (sym (kept-at k key r f' fs true h)) (subst (InOrderWith f g (ranked_at r f' ∷ fs)) (sym (recorded-at k key place g' gs true (sym same ∙ h)))
         (order-sooner k r place f g f' g' (free-is k key g' (sym same ∙ h)).client fits before earlier, all.1))
-    by_case ih false h = subst (λ xs. InOrderWith f g xs (history.change_first (history.is_free_at k key) (placed_at place) (g' ∷ gs))) (sym (kept-at k key r f' fs false h)) (subst (InOrderWith f g (f' ∷ change_first (is_free_at k key) (ranked_at r) fs)) (sym (told-at k key place g' gs false (sym same ∙ h)))
+    by_case ih false h = subst (λ xs. InOrderWith f g xs (history.change_first (history.is_free_at k key) (placed_at place) (g' ∷ gs))) (sym (kept-at k key r f' fs false h)) (subst (InOrderWith f g (f' ∷ change_first (is_free_at k key) (ranked_at r) fs)) (sym (recorded-at k key place g' gs false (sym same ∙ h)))
         (all.0, ih))
 
 pub order-changed : (k : ℕ) (key : Key) (r place : ℕ) (fs : List Forward) (gs : List Forwarding) → AreListed fs gs → AllByRecursion (Before k r) fs → AllByRecursion (Earlier k place) gs → AreInOrder fs gs → AreInOrder (change_first (is_free_at k key) (ranked_at r) fs) (history.change_first (history.is_free_at k key) (placed_at place) gs)
@@ -112,7 +112,7 @@ order-changed k key r place (f ∷ fs) (g ∷ gs) listed bs es all = by_case (or
     same = free-same k key f g listed.0
 
     by_case : AreInOrder (change_first (is_free_at k key) (ranked_at r) fs) (history.change_first (history.is_free_at k key) (placed_at place) gs) → (b : Bool) → is_free_at k key f ≡ b → AreInOrder (change_first (is_free_at k key) (ranked_at r) (f ∷ fs)) (history.change_first (history.is_free_at k key) (placed_at place) (g ∷ gs))
-    by_case ih true h = subst (λ xs. AreInOrder xs (history.change_first (history.is_free_at k key) (placed_at place) (g ∷ gs))) (sym (kept-at k key r f fs true h)) (subst (AreInOrder (ranked_at r f ∷ fs)) (sym (told-at k key place g gs true (sym same ∙ h)))
+    by_case ih true h = subst (λ xs. AreInOrder xs (history.change_first (history.is_free_at k key) (placed_at place) (g ∷ gs))) (sym (kept-at k key r f fs true h)) (subst (AreInOrder (ranked_at r f ∷ fs)) (sym (recorded-at k key place g gs true (sym same ∙ h)))
         (order-later-all k r place f g (free-is k key g (sym same ∙ h)).client fs gs listed.1 bs.1 es.1, all.1))
-    by_case ih false h = subst (λ xs. AreInOrder xs (history.change_first (history.is_free_at k key) (placed_at place) (g ∷ gs))) (sym (kept-at k key r f fs false h)) (subst (AreInOrder (f ∷ change_first (is_free_at k key) (ranked_at r) fs)) (sym (told-at k key place g gs false (sym same ∙ h)))
+    by_case ih false h = subst (λ xs. AreInOrder xs (history.change_first (history.is_free_at k key) (placed_at place) (g ∷ gs))) (sym (kept-at k key r f fs false h)) (subst (AreInOrder (f ∷ change_first (is_free_at k key) (ranked_at r) fs)) (sym (recorded-at k key place g gs false (sym same ∙ h)))
         (order-with k key r place f g listed.0.client bs.0 es.0 fs gs listed.1 all.0, ih))

@@ -2,18 +2,18 @@
 use Rattle.std.proofs.Common.{◌≡◌, ℕ, List, [], ◌∷◌, true, false, Bool, refl, ◌∙◌, ap, sym, Option, None, Result, Ok, Err, inl, inr}
 use Rattle.std.specs.Prelude.{◌&&◌, is_some}
 use Rattle.ssh_grammar.specs.declared.fault.Bad.{Bad}
-use Rattle.mux_history.specs.Gist.{Gist, read_gist, reading, sender_of}
+use Rattle.mux_history.specs.Summary.{Summary, read_summary, reading, sender_of}
 use Rattle.mux_history.specs.Rows.{rows_of}
-use Rattle.mux_history.specs.Choices.{said_number}
+use Rattle.mux_history.specs.Choices.{sent_number}
 use Rattle.mux_history.specs.Right.{carried_number}
 use Rattle.mux_history.specs.declared.why.Why.TheVariants as why
-use Rattle.mux_history.specs.Said.{Outcome, drops, said_gist, said_payload}
+use Rattle.mux_history.specs.Said.{Outcome, drops, sent_summary, sent_payload}
 use Rattle.mux_history.proofs.Readings.{reading-ok}
 use Rattle.mux_history.proofs.Renumbered.{number-sent, sender-in, spelled}
 use Rattle.mux_history.proofs.Sends.{Sent, sent-by}
-use Rattle.mux_core.specs.Calls.{said_row}
+use Rattle.mux_core.specs.Calls.{row_sent}
 use Rattle.mux_core.specs.Laws.{CarriesPick}
-use Rattle.mux_core.proofs.SaysWithin.{said-ok}
+use Rattle.mux_core.proofs.SendsWithin.{said-ok}
 
 -- a row takes a number where these go up, and this number is said
 abbrev takes : List (List ℕ) → Option ℕ → Bool
@@ -24,12 +24,12 @@ not-taken [] = refl
 not-taken (p ∷ ps) = refl
 
 pub carries-pick : CarriesPick
-carries-pick s k p pick rows bytes small taken = by_read (read_gist p) refl
+carries-pick s k p pick rows bytes small taken = by_read (read_summary p) refl
   where
     ups : List (List ℕ)
-    ups = (said_payload s.policy k (rows_of k rows) pick p).sent
+    ups = (sent_payload s.policy k (rows_of k rows) pick p).sent
 
-    by_sent : (m : Gist) → read_gist p ≡ Ok m → Sent (rows_of k rows) pick p m (said_gist s.policy k (rows_of k rows) pick p m).sent → carried_number (said_row s k p pick rows).up ≡ pick
+    by_sent : (m : Summary) → read_summary p ≡ Ok m → Sent (rows_of k rows) pick p m (sent_summary s.policy k (rows_of k rows) pick p m).sent → carried_number (row_sent s k p pick rows).up ≡ pick
     by_sent m e (inl none) =
         let empty : ups ≡ [] = ap (λ o. o.sent) (said-ok s.policy k pick (rows_of k rows) p m e) ∙ none in
         let no : false ≡ true = sym (ap (λ us. takes us (reading p sender_of None)) empty) ∙ taken in
@@ -40,11 +40,11 @@ carries-pick s k p pick rows bytes small taken = by_read (read_gist p) refl
         absurd (cc)
     by_sent m e (inr (inr fresh)) =
         ap carried_number (ap (λ o. o.sent) (said-ok s.policy k pick (rows_of k rows) p m e) ∙ fresh.up)
-        ∙ (ap said_number (number-sent p m (sender-in p m fresh.c bytes e fresh.owned) pick) ∙ spelled pick small)
+        ∙ (ap sent_number (number-sent p m (sender-in p m fresh.c bytes e fresh.owned) pick) ∙ spelled pick small)
 
-    by_read : (r : Result Gist Bad) → read_gist p ≡ r → carried_number (said_row s k p pick rows).up ≡ pick
+    by_read : (r : Result Summary Bad) → read_summary p ≡ r → carried_number (row_sent s k p pick rows).up ≡ pick
     by_read (Err bad) e =
-        let empty : ups ≡ [] = ap (λ (x : Result Gist Bad). (elim x as (λ _. Outcome) [ Err bad ↦ drops (why.BadMessage bad) | Ok m ↦ said_gist s.policy k (rows_of k rows) pick p m ]).sent) e in
+        let empty : ups ≡ [] = ap (λ (x : Result Summary Bad). (elim x as (λ _. Outcome) [ Err bad ↦ drops (why.BadMessage bad) | Ok m ↦ sent_summary s.policy k (rows_of k rows) pick p m ]).sent) e in
         let no : false ≡ true = sym (ap (λ us. takes us (reading p sender_of None)) empty) ∙ taken in
         absurd (cc)
     by_read (Ok m) e = by_sent m e (sent-by s.policy k (rows_of k rows) pick p m)

@@ -6,9 +6,9 @@ use Rattle.std.proofs.lemmas.List.{append-nil}
 use Rattle.ssh_grammar.specs.declared.side.Side.{Side}
 use Rattle.ssh_grammar.specs.declared.side.Side.TheVariants.{Down, Up}
 use Rattle.ssh_grammar.specs.SpellMessage.{close}
-use Rattle.mux_history.specs.Gist.{Closes, Confirmation, Confirms, Within, read_gist, reading}
+use Rattle.mux_history.specs.Summary.{Closes, Confirmation, Confirms, Within, read_summary, reading}
 use Rattle.mux_history.specs.Rows.{Fate, Goes, Heard, Row, is_admit, loses}
-use Rattle.mux_history.specs.Channels.{Channel, after_item, any_by, held_of, heard_by, is_closes, is_held, is_number, is_up, opened_down, with_down, with_up, with_ups}
+use Rattle.mux_history.specs.Channels.{Channel, after_item, any_by, held_of, received_by, is_closes, is_held, is_number, is_up, opened_down, with_down, with_up, with_ups}
 use Rattle.mux_history.specs.Forwardings.{Forwarding, of_client, replied}
 use Rattle.mux_history.specs.Laws.{with_act}
 use Rattle.mux_history.specs.Ledger.{other_side}
@@ -37,20 +37,20 @@ use Rattle.mux_core.proofs.Acts.{held-after}
 use Rattle.mux_core.proofs.Altered.{altered-table, apart-remote}
 use Rattle.mux_core.proofs.Apart.{all-map, alone, found-of, none-pass, passes}
 use Rattle.mux_core.proofs.Bare.{held-bare}
-use Rattle.mux_core.proofs.ChannelHeard.{is_theirs, shown-number, sole, theirs-found}
+use Rattle.mux_core.proofs.ChannelReceived.{is_theirs, shown-number, sole, theirs-found}
 use Rattle.mux_core.proofs.Leaves.{reads-close}
 use Rattle.mux_core.proofs.Quiet.{IsQuiet}
 
 -- ---- the row
 
-pub quiet-confirmed : (k n s w m : ℕ) (p : List ℕ) (o : Outcome) → read_gist p ≡ Ok (Confirmation n s w m) → o.ends ≡ Goes → IsQuiet (bare (Heard p) k o)
+pub quiet-confirmed : (k n s w m : ℕ) (p : List ℕ) (o : Outcome) → read_summary p ≡ Ok (Confirmation n s w m) → o.ends ≡ Goes → IsQuiet (bare (Heard p) k o)
 quiet-confirmed k n s w m p o e ends = record {
   asks = none (is_sent (bare (Heard p) k o));
   flags = refl;
   replies = ap (λ (b : Bool). elim b as (λ _. List (List ℕ)) [ true ↦ p ∷ [] | false ↦ [] ]) (reading-ok p (Confirmation n s w m) is_reply false e);
   forwards = λ own fs. reading-ok p (Confirmation n s w m) (λ g. map (of_client k (replied (length (replies own)) g)) fs) fs e ∙ stay (length (replies own)) fs;
-  keeps = ap (λ (f : Fate). loses (record { item = Heard p; client = k; up = o.sent; farewell = []; down = o.told; fate = f })) ends;
-  admits = ap (λ (f : Fate). is_admit (record { item = Heard p; client = k; up = o.sent; farewell = []; down = o.told; fate = f })) ends;
+  keeps = ap (λ (f : Fate). loses (record { item = Heard p; client = k; up = o.sent; farewell = []; down = o.recorded; fate = f })) ends;
+  admits = ap (λ (f : Fate). is_admit (record { item = Heard p; client = k; up = o.sent; farewell = []; down = o.recorded; fate = f })) ends;
 }
   where
     none : (b : Bool) → asks_of k b None ≡ []
@@ -77,7 +77,7 @@ confirm after k n s w m x = elim (x.client == k) [
   | false ↦ x
 ]
 
-no-begun : (k n s w m : ℕ) (p : List ℕ) (ups : List (List ℕ)) → read_gist p ≡ Ok (Confirmation n s w m) → (elim (k == 0) as (λ _. List Channel) [ true ↦ [] | false ↦ reading p (opened_down k ups) [] ]) ≡ []
+no-begun : (k n s w m : ℕ) (p : List ℕ) (ups : List (List ℕ)) → read_summary p ≡ Ok (Confirmation n s w m) → (elim (k == 0) as (λ _. List Channel) [ true ↦ [] | false ↦ reading p (opened_down k ups) [] ]) ≡ []
 no-begun k n s w m p ups e = elim (k == 0) as (λ b. (elim b as (λ _. List Channel) [ true ↦ [] | false ↦ reading p (opened_down k ups) [] ]) ≡ []) [
   | true ↦ refl
   | false ↦ reading-ok p (Confirmation n s w m) (opened_down k ups) [] e ∙ by_ups ups
@@ -87,24 +87,24 @@ no-begun k n s w m p ups e = elim (k == 0) as (λ b. (elim b as (λ _. List Chan
     by_ups [] = refl
     by_ups (u ∷ us) = refl
 
-pub confirmed-channels : (k n s w m : ℕ) (p : List ℕ) (o : Outcome) (rows : List Row) → read_gist p ≡ Ok (Confirmation n s w m) → o.sent ≡ [] → held_of (bare (Heard p) k o ∷ rows) ≡ filter is_held (map (confirm plain k n s w m) (held_of rows))
+pub confirmed-channels : (k n s w m : ℕ) (p : List ℕ) (o : Outcome) (rows : List Row) → read_summary p ≡ Ok (Confirmation n s w m) → o.sent ≡ [] → held_of (bare (Heard p) k o ∷ rows) ≡ filter is_held (map (confirm plain k n s w m) (held_of rows))
 confirmed-channels k n s w m p o rows e none =
     held-bare (Heard p) k o rows
     ∙ ap (filter is_held) (ap (λ ys. map (after_item (bare (Heard p) k o)) (held_of rows) ++ ys) (no-begun k n s w m p o.sent e) ∙ (append-nil (map (after_item (bare (Heard p) k o)) (held_of rows)) ∙ ap (λ (g : Channel → Channel). map g (held_of rows)) (λ i x. one x i)))
   where
     one : (x : Channel) → after_item (bare (Heard p) k o) x ≡ confirm plain k n s w m x
     one x =
-        ap (λ ups. elim (x.client == k) as (λ _. Channel) [ true ↦ with_ups None ups (heard_by (Heard p) x) | false ↦ x ]) none
+        ap (λ ups. elim (x.client == k) as (λ _. Channel) [ true ↦ with_ups None ups (received_by (Heard p) x) | false ↦ x ]) none
         ∙ ap (λ y. elim (x.client == k) as (λ _. Channel) [ true ↦ y | false ↦ x ]) (reading-ok p (Confirmation n s w m) (λ g. with_down g x) x e)
 
-pub closed-channels : (k n s w m : ℕ) (p : List ℕ) (o : Outcome) (rows : List Row) → read_gist p ≡ Ok (Confirmation n s w m) → s < 4294967296 → o.sent ≡ close s ∷ [] → held_of (bare (Heard p) k o ∷ rows) ≡ filter is_held (map (confirm (closes s) k n s w m) (held_of rows))
+pub closed-channels : (k n s w m : ℕ) (p : List ℕ) (o : Outcome) (rows : List Row) → read_summary p ≡ Ok (Confirmation n s w m) → s < 4294967296 → o.sent ≡ close s ∷ [] → held_of (bare (Heard p) k o ∷ rows) ≡ filter is_held (map (confirm (closes s) k n s w m) (held_of rows))
 closed-channels k n s w m p o rows e small sent =
     held-bare (Heard p) k o rows
     ∙ ap (filter is_held) (ap (λ ys. map (after_item (bare (Heard p) k o)) (held_of rows) ++ ys) (no-begun k n s w m p o.sent e) ∙ (append-nil (map (after_item (bare (Heard p) k o)) (held_of rows)) ∙ ap (λ (g : Channel → Channel). map g (held_of rows)) (λ i x. one x i)))
   where
     one : (x : Channel) → after_item (bare (Heard p) k o) x ≡ confirm (closes s) k n s w m x
     one x =
-        ap (λ ups. elim (x.client == k) as (λ _. Channel) [ true ↦ with_ups None ups (heard_by (Heard p) x) | false ↦ x ]) sent
+        ap (λ ups. elim (x.client == k) as (λ _. Channel) [ true ↦ with_ups None ups (received_by (Heard p) x) | false ↦ x ]) sent
         ∙ (ap (λ y. elim (x.client == k) as (λ _. Channel) [ true ↦ with_ups None (close s ∷ []) y | false ↦ x ]) (reading-ok p (Confirmation n s w m) (λ g. with_down g x) x e)
         ∙ ap (λ y. elim (x.client == k) as (λ _. Channel) [ true ↦ y | false ↦ x ]) (reading-ok (close s) (Within s Closes) (λ g. with_up None g (with_down (Confirmation n s w m) x)) (with_down (Confirmation n s w m) x) (reads-close s small)))
 

@@ -4,7 +4,7 @@ use Rattle.std.specs.Prelude.{filter, not, ◌==◌}
 use Rattle.std.specs.List.{AllByRecursion}
 use Rattle.ssh_grammar.specs.declared.side.Side.{Side}
 use Rattle.mux_history.specs.declared.limits.TheConstants.{NUMBERS_END}
-use Rattle.mux_history.specs.Gist.{Fails}
+use Rattle.mux_history.specs.Summary.{Fails}
 use Rattle.mux_history.specs.Channels.{Channel, is_held}
 use Rattle.channel_table.specs.Entries.{Entry}
 use Rattle.channel_table.specs.Entries.{freed}

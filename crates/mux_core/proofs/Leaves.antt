@@ -10,13 +10,13 @@ use Rattle.ssh_grammar.specs.Messages.{Key}
 use Rattle.ssh_grammar.specs.Messages as full
 use Rattle.ssh_grammar.specs.SpellMessage.{cancel_forward, client_is_gone, close, open_failure}
 use Rattle.ssh_grammar.proofs.MessageSpelled.{spelled_reads}
-use Rattle.mux_history.specs.Gist.{Act, Closes, Fails, Gist, Within, read_gist, reading}
+use Rattle.mux_history.specs.Summary.{Act, Closes, Fails, Summary, Within, read_summary, reading}
 use Rattle.mux_history.specs.Channels.{Channel, any_by, is_closes, is_confirmed, is_held, is_number, is_up, with_up, with_ups}
 use Rattle.mux_history.specs.Farewell.{cancel_live, leave_channel, leave_forwarding, to_number}
 use Rattle.mux_history.specs.Forwardings.{Forwarding}
 use Rattle.mux_history.specs.Laws.{with_act}
 use Rattle.mux_history.proofs.Bools.{self}
-use Rattle.mux_history.proofs.Readings.{cancel-always, gist-always, gist-ok, reading-ok}
+use Rattle.mux_history.proofs.Readings.{cancel-always, summary-always, summary-ok, reading-ok}
 use Rattle.client_teardown.specs.Laws.{left}
 
 -- ---- a list of payloads
@@ -27,22 +27,22 @@ ups-append (p ∷ ps) qs x = ups-append ps qs (reading p (λ m. with_up None m x
 
 -- ---- what the master's payloads read as
 
-pub reads-close : (s : ℕ) → s < 4294967296 → read_gist (close s) ≡ Ok (Within s Closes)
-reads-close s small = gist-ok (close s) (full.To s full.Close) (spelled_reads (full.To s full.Close) (close s) (record { is_message = (small, tt); flag = 0; boolean = refl; spelled = refl }))
+pub reads-close : (s : ℕ) → s < 4294967296 → read_summary (close s) ≡ Ok (Within s Closes)
+reads-close s small = summary-ok (close s) (full.To s full.Close) (spelled_reads (full.To s full.Close) (close s) (record { is_message = (small, tt); flag = 0; boolean = refl; spelled = refl }))
 
-pub reads-failure : (s : ℕ) → s < 4294967296 → read_gist (open_failure s CONNECT_FAILED client_is_gone) ≡ Ok (Within s Fails)
-reads-failure s small = gist-ok (open_failure s CONNECT_FAILED client_is_gone) (full.To s (full.OpenFailure CONNECT_FAILED client_is_gone [])) (spelled_reads (full.To s (full.OpenFailure CONNECT_FAILED client_is_gone [])) (open_failure s CONNECT_FAILED client_is_gone) (record { is_message = (small, (omega arith, omega arith, omega arith)); flag = 0; boolean = refl; spelled = refl }))
+pub reads-failure : (s : ℕ) → s < 4294967296 → read_summary (open_failure s CONNECT_FAILED client_is_gone) ≡ Ok (Within s Fails)
+reads-failure s small = summary-ok (open_failure s CONNECT_FAILED client_is_gone) (full.To s (full.OpenFailure CONNECT_FAILED client_is_gone [])) (spelled_reads (full.To s (full.OpenFailure CONNECT_FAILED client_is_gone [])) (open_failure s CONNECT_FAILED client_is_gone) (record { is_message = (small, (omega arith, omega arith, omega arith)); flag = 0; boolean = refl; spelled = refl }))
 
 -- a cancel changes no channel
 pub cancel-none : (key : Key) (x : Channel) → with_ups None (cancel_forward key ∷ []) x ≡ x
-cancel-none key x = by_read (read_gist (cancel_forward key)) refl
+cancel-none key x = by_read (read_summary (cancel_forward key)) refl
   where
-    P : Gist → Type 0
+    P : Summary → Type 0
     P m = with_up None m x ≡ x
 
-    by_read : (r : Result Gist Bad) → read_gist (cancel_forward key) ≡ r → (elim r as (λ _. Channel) [ Err e ↦ x | Ok m ↦ with_up None m x ]) ≡ x
+    by_read : (r : Result Summary Bad) → read_summary (cancel_forward key) ≡ r → (elim r as (λ _. Channel) [ Err e ↦ x | Ok m ↦ with_up None m x ]) ≡ x
     by_read (Err e) h = refl
-    by_read (Ok m) h = gist-always (λ g. with_up None g x ≡ x) (cancel_forward key) m (cancel-always (λ g. with_up None g x ≡ x) key (λ q. refl)) h
+    by_read (Ok m) h = summary-always (λ g. with_up None g x ≡ x) (cancel_forward key) m (cancel-always (λ g. with_up None g x ≡ x) key (λ q. refl)) h
 
 pub cancels-none : (gs : List Forwarding) (x : Channel) → with_ups None (flat_map leave_forwarding gs) x ≡ x
 cancels-none [] x = refl
@@ -76,7 +76,7 @@ named x s h = ap (λ o. is_number o s) h ∙ self s
 pub leave-own : (x : Channel) → HasSmall x → is_held x ≡ true → (is_confirmed x ≡ true → is_none x.remote ≡ false) → (is_up x.by ≡ false → is_none x.remote ≡ false) → with_ups None (leave_channel x) x ≡ left x
 leave-own x small held both open_ = by_confirmed (is_confirmed x) refl (any_by Up is_closes x.acts) (is_up x.by) refl x.remote refl
   where
-    one : (s : ℕ) (a : Act) (p : List ℕ) → x.remote ≡ Some s → read_gist p ≡ Ok (Within s a) → with_ups None (p ∷ []) x ≡ with_act Up a x
+    one : (s : ℕ) (a : Act) (p : List ℕ) → x.remote ≡ Some s → read_summary p ≡ Ok (Within s a) → with_ups None (p ∷ []) x ≡ with_act Up a x
     one s a p h e = reading-ok p (Within s a) (λ m. with_up None m x) x e ∙ act-up s a x (ap (λ b. b && is_held x) (named x s h) ∙ held)
 
     by_confirmed : (b : Bool) → is_confirmed x ≡ b → (c d : Bool) → is_up x.by ≡ d → (o : Option ℕ) → x.remote ≡ o
@@ -92,7 +92,7 @@ leave-own x small held both open_ = by_confirmed (is_confirmed x) refl (any_by U
 pub leave-other : (y x : Channel) → HasSmall y → Differ y x → with_ups None (leave_channel y) x ≡ x
 leave-other y x small differ = by_confirmed (is_confirmed y) (any_by Up is_closes y.acts) (is_up y.by) y.remote refl
   where
-    one : (s : ℕ) (a : Act) (p : List ℕ) → y.remote ≡ Some s → read_gist p ≡ Ok (Within s a) → with_ups None (p ∷ []) x ≡ x
+    one : (s : ℕ) (a : Act) (p : List ℕ) → y.remote ≡ Some s → read_summary p ≡ Ok (Within s a) → with_ups None (p ∷ []) x ≡ x
     one s a p h e = reading-ok p (Within s a) (λ m. with_up None m x) x e ∙ no-act s a x (differ s (named y s h))
 
     by_confirmed : (b c d : Bool) (o : Option ℕ) → y.remote ≡ o → with_ups None (elim b as (λ _. List (List ℕ)) [ true ↦ elim c as (λ _. List (List ℕ)) [ true ↦ [] | false ↦ to_number o close ] | false ↦ elim d as (λ _. List (List ℕ)) [ true ↦ [] | false ↦ to_number o (λ s. open_failure s CONNECT_FAILED client_is_gone) ] ]) x ≡ x

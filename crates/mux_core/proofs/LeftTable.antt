@@ -7,7 +7,7 @@ use Rattle.ssh_grammar.specs.declared.side.Side.TheVariants.{Up, Down}
 use Rattle.mux_history.specs.declared.limits.TheConstants.{NUMBERS_END}
 use Rattle.mux_history.specs.Channels.{Channel, is_number, is_up}
 use Rattle.window_ledger.specs.Stands.{confirmed}
-use Rattle.window_ledger.specs.Leaving.{is_over, said_close}
+use Rattle.window_ledger.specs.Leaving.{is_over, sent_close}
 use Rattle.window_ledger.specs.Leaving as account
 use Rattle.window_ledger.proofs.Leaves.{left-answered}
 use Rattle.channel_table.specs.declared.channel.Channel as table

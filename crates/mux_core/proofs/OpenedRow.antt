@@ -5,7 +5,7 @@ use Rattle.std.specs.List.{AllByRecursion}
 use Rattle.std.proofs.lemmas.List.{append-nil}
 use Rattle.ssh_grammar.specs.Messages.{Key, Opens, Session, Direct, Forwarded, OtherType}
 use Rattle.mux_history.specs.declared.broke.Break.TheVariants as broke
-use Rattle.mux_history.specs.Gist.{Fails, Open, Within, read_gist, reading}
+use Rattle.mux_history.specs.Summary.{Fails, Open, Within, read_summary, reading}
 use Rattle.mux_history.specs.Rows.{Fate, Goes, Heard, Row, any_of, is_admit, is_lost, loses, rows_of}
 use Rattle.mux_history.specs.Channels.{Channel, after_item, held_of, is_held, is_number, live_in, opened_down, with_down, with_up, with_ups}
 use Rattle.mux_history.specs.Keys.{has_key, is_key}
@@ -56,14 +56,14 @@ unchanged-stands s row rows st q held =
 
 -- ---- the row
 
-pub quiet-opened : (k s w m : ℕ) (what : Opens) (p : List ℕ) (o : Outcome) → read_gist p ≡ Ok (Open what s w m) → o.ends ≡ Goes → IsQuiet (bare (Heard p) k o)
+pub quiet-opened : (k s w m : ℕ) (what : Opens) (p : List ℕ) (o : Outcome) → read_summary p ≡ Ok (Open what s w m) → o.ends ≡ Goes → IsQuiet (bare (Heard p) k o)
 quiet-opened k s w m what p o e ends = record {
   asks = none (is_sent (bare (Heard p) k o));
   flags = refl;
   replies = ap (λ (b : Bool). elim b as (λ _. List (List ℕ)) [ true ↦ p ∷ [] | false ↦ [] ]) (reading-ok p (Open what s w m) is_reply false e);
   forwards = λ own fs. reading-ok p (Open what s w m) (λ g. map (of_client k (replied (length (replies own)) g)) fs) fs e ∙ stay (length (replies own)) fs;
-  keeps = ap (λ (f : Fate). loses (record { item = Heard p; client = k; up = o.sent; farewell = []; down = o.told; fate = f })) ends;
-  admits = ap (λ (f : Fate). is_admit (record { item = Heard p; client = k; up = o.sent; farewell = []; down = o.told; fate = f })) ends;
+  keeps = ap (λ (f : Fate). loses (record { item = Heard p; client = k; up = o.sent; farewell = []; down = o.recorded; fate = f })) ends;
+  admits = ap (λ (f : Fate). is_admit (record { item = Heard p; client = k; up = o.sent; farewell = []; down = o.recorded; fate = f })) ends;
 }
   where
     none : (b : Bool) → asks_of k b None ≡ []
@@ -86,7 +86,7 @@ map-same-on P f same [] all = refl
 map-same-on P f same (x ∷ xs) all = ap (λ y. y ∷ map f xs) (same x all.0) ∙ ap (λ ys. x ∷ ys) (map-same-on P f same xs all.1)
 
 -- a row of which the master's failure goes up changes no channel
-pub failed-held : (s : CoreState) (k r w m : ℕ) (what : Opens) (p q : List ℕ) (rows : List Row) → Stands s rows → find (has_remote r) s.channels ≡ None → read_gist p ≡ Ok (Open what r w m) → read_gist q ≡ Ok (Within r Fails) → held_of (bare (Heard p) k (sends q) ∷ rows) ≡ held_of rows
+pub failed-held : (s : CoreState) (k r w m : ℕ) (what : Opens) (p q : List ℕ) (rows : List Row) → Stands s rows → find (has_remote r) s.channels ≡ None → read_summary p ≡ Ok (Open what r w m) → read_summary q ≡ Ok (Within r Fails) → held_of (bare (Heard p) k (sends q) ∷ rows) ≡ held_of rows
 failed-held s k r w m what p q rows st none e f =
     held-bare (Heard p) k (sends q) rows
     ∙ (ap (filter is_held) (ap (λ ys. map (after_item (bare (Heard p) k (sends q))) (held_of rows) ++ ys) begun ∙ (append-nil (map (after_item (bare (Heard p) k (sends q))) (held_of rows)) ∙ map-same-on (λ x. is_number x.remote r ≡ false) (after_item (bare (Heard p) k (sends q))) same (held_of rows) (not-theirs s.channels (held_of rows) r st.channels.fit (none-pass (has_remote r) s.channels none))))
@@ -130,7 +130,7 @@ abbrev pub to : Option ℕ → Dest
 to None = ToMaster
 to (Some k) = ToClient k
 
-pub dest-opened : (s : CoreState) (r w m : ℕ) (what : Opens) (p : List ℕ) (rows : List Row) → Stands s rows → read_gist p ≡ Ok (Open what r w m) → live_in rows r ≡ None → dest rows p ≡ to (owner_for what s.forwards)
+pub dest-opened : (s : CoreState) (r w m : ℕ) (what : Opens) (p : List ℕ) (rows : List Row) → Stands s rows → read_summary p ≡ Ok (Open what r w m) → live_in rows r ≡ None → dest rows p ≡ to (owner_for what s.forwards)
 dest-opened s r w m what p rows st e none = dest-ok rows p (Open what r w m) e ∙ by_what what
   where
     by_found : (key : Key) (o : Option Forwarding) → live_at rows key ≡ o → (elim o as (λ _. Dest) [ Some f ↦ ToClient f.client | None ↦ ToMaster ]) ≡ to (option_map (λ (g : Forwarding). g.client) o)
@@ -148,7 +148,7 @@ dest-opened s r w m what p rows st e none = dest-ok rows p (Open what r w m) e �
     by_what (Direct q) = ap (λ (u : Option Channel). elim u as (λ _. Dest) [ Some x ↦ Breaks (broke.NumberInUse r) | None ↦ ToMaster ]) none
     by_what OtherType = ap (λ (u : Option Channel). elim u as (λ _. Dest) [ Some x ↦ Breaks (broke.NumberInUse r) | None ↦ ToMaster ]) none
 
-pub dest-used : (r w m : ℕ) (what : Opens) (p : List ℕ) (rows : List Row) (x : Channel) → read_gist p ≡ Ok (Open what r w m) → live_in rows r ≡ Some x → dest rows p ≡ Breaks (broke.NumberInUse r)
+pub dest-used : (r w m : ℕ) (what : Opens) (p : List ℕ) (rows : List Row) (x : Channel) → read_summary p ≡ Ok (Open what r w m) → live_in rows r ≡ Some x → dest rows p ≡ Breaks (broke.NumberInUse r)
 dest-used r w m what p rows x e some = dest-ok rows p (Open what r w m) e ∙ by_what what
   where
     by_what : (what' : Opens) → (elim what' as (λ _. Dest) [

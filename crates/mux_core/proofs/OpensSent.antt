@@ -15,10 +15,10 @@ use Rattle.ssh_grammar.specs.Said.{Payload}
 use Rattle.proxy_frames.specs.State.{QueueState}
 use Rattle.proxy_frames.specs.Queued.{with_bytes}
 use Rattle.mux_history.specs.declared.limits.TheConstants.{MAX_CHANNELS, NUMBERS_END}
-use Rattle.mux_history.specs.Gist.{Open, read_gist, reading, sender_of}
+use Rattle.mux_history.specs.Summary.{Open, read_summary, reading, sender_of}
 use Rattle.mux_history.specs.Rows.{Row, Says, rows_of}
 use Rattle.mux_history.specs.Channels.{Channel, after_item, held_of, holder, is_held, is_number, opened_up, with_up}
-use Rattle.mux_history.specs.Said.{Outcome, fails_open, said_payload, sends, sends_as}
+use Rattle.mux_history.specs.Said.{Outcome, fails_open, sent_payload, sends, sends_as}
 use Rattle.mux_history.proofs.Bools.{same-number}
 use Rattle.mux_history.proofs.Finds.{filter-no, filter-yes}
 use Rattle.mux_history.proofs.Readings.{reading-ok}
@@ -33,13 +33,13 @@ use Rattle.mux_core.specs.declared.verdict.Verdict.TheVariants as verdict
 use Rattle.mux_core.specs.State.{MemberState, CoreState, is_served}
 use Rattle.mux_core.specs.Stands.{HasSmall, Stands, TableFits, has_numbers, is_known, is_whole, look}
 use Rattle.mux_core.specs.Opening.{open_verdict}
-use Rattle.mux_core.specs.Calls.{SaysIn, SaysRow}
+use Rattle.mux_core.specs.Calls.{SendsIn, SendsRow}
 use Rattle.mux_core.proofs.Apart.{none-pass}
 use Rattle.mux_core.proofs.Bare.{held-bare}
 use Rattle.channel_table.proofs.Fits.{FoundFit, found-fit, more-fit}
 use Rattle.mux_core.proofs.Found.{find-none}
 use Rattle.mux_core.proofs.OpensJudged.{all-unit, asks-nothing, may-go, own-count}
-use Rattle.mux_core.proofs.Says.{held-held, map-same, quiet-says, said_as, tells-own}
+use Rattle.mux_core.proofs.Says.{held-held, map-same, quiet-says, sent_as, records-own}
 use Rattle.mux_core.proofs.Served.{IsServed, quiet-stands, served}
 
 -- ---- one more entry
@@ -122,7 +122,7 @@ served-known k (c ∷ cs) h = by_case (served-known k cs) (c.number == k) refl c
     by_case ih false n d e = ap (λ b. b || is_known cs k) n ∙ ih (sym (ap (λ b. (b && not c.lost) || is_served cs k) n) ∙ h)
 
 -- the table has the new channel
-opened-table : (s : CoreState) (k n c w m : ℕ) (what : Opens) (p : List ℕ) (l : Ledger) (rows : List Row) → Stands s rows → AreBytes p → n < 4294967296 → read_gist p ≡ Ok (Open what c w m) → IsFree s.channels n → find (has_own k c) s.channels ≡ None → count_of s.channels k < MAX_CHANNELS → confirmed l ≡ false → ((x : Channel) → IsBegun Up w m x → ledger.Stands l x) → TableFits (s.channels ++ own_entry n k c l ∷ []) (held_of (said_as k p (sends (with_sender p n)) ∷ rows))
+opened-table : (s : CoreState) (k n c w m : ℕ) (what : Opens) (p : List ℕ) (l : Ledger) (rows : List Row) → Stands s rows → AreBytes p → n < 4294967296 → read_summary p ≡ Ok (Open what c w m) → IsFree s.channels n → find (has_own k c) s.channels ≡ None → count_of s.channels k < MAX_CHANNELS → confirmed l ≡ false → ((x : Channel) → IsBegun Up w m x → ledger.Stands l x) → TableFits (s.channels ++ own_entry n k c l ∷ []) (held_of (sent_as k p (sends (with_sender p n)) ∷ rows))
 opened-table s k n c w m what p l rows st bytes small e free unused room waits begins = record {
   fit = subst (ChannelsFit (s.channels ++ own_entry n k c l ∷ [])) (sym held) (more-fit (own_entry n k c l) channel fits s.channels (held_of rows) st.channels.fit);
   apart = apart-append (own_entry n k c l) s.channels st.channels.apart (two-new s.channels n k c l free unused);
@@ -141,7 +141,7 @@ opened-table s k n c w m what p l rows st bytes small e free unused room waits b
     number : reading (with_sender p n) sender_of None ≡ Some n
     number = number-sent p (Open what c w m) sender n ∙ ap Some (spelled n small)
 
-    reads : read_gist (with_sender p n) ≡ Ok (Open what (word n) w m)
+    reads : read_summary (with_sender p n) ≡ Ok (Open what (word n) w m)
     reads = reads-sent p (Open what c w m) sender n
 
     channel : Channel
@@ -150,29 +150,29 @@ opened-table s k n c w m what p l rows st bytes small e free unused room waits b
     fits : Fits (own_entry n k c l) (record { client = k; by = Up; own = Some c; number = reading (with_sender p n) sender_of None; remote = None; window = w; maximum = m; acts = [] })
     fits = record { client = refl; by = refl; own = refl; number = sym number; remote = refl; ledger = begins _ (record { opener = refl; first = refl; longest = refl; fresh = refl }); held = refl }
 
-    stays : (x : Channel) → after_item (said_as k p (sends (with_sender p n))) x ≡ x
+    stays : (x : Channel) → after_item (sent_as k p (sends (with_sender p n))) x ≡ x
     stays x =
         ap (λ (y : Channel). elim (x.client == k) as (λ _. Channel) [ true ↦ y | false ↦ x ]) (reading-ok (with_sender p n) (Open what (word n) w m) (λ g. with_up (reading p sender_of None) g x) x reads)
         ∙ (elim (x.client == k) as (λ b. (elim b as (λ _. Channel) [ true ↦ x | false ↦ x ]) ≡ x) [ true ↦ refl | false ↦ refl ])
 
-    held : held_of (said_as k p (sends (with_sender p n)) ∷ rows) ≡ held_of rows ++ record { client = k; by = Up; own = Some c; number = reading (with_sender p n) sender_of None; remote = None; window = w; maximum = m; acts = [] } ∷ []
+    held : held_of (sent_as k p (sends (with_sender p n)) ∷ rows) ≡ held_of rows ++ record { client = k; by = Up; own = Some c; number = reading (with_sender p n) sender_of None; remote = None; window = w; maximum = m; acts = [] } ∷ []
     held =
         held-bare (Says k (Payload p) None) k (sends (with_sender p n)) rows
-        ∙ (ap (filter is_held) (ap (λ ys. ys ++ reading p (opened_up k (with_sender p n ∷ [])) []) (map-same (after_item (said_as k p (sends (with_sender p n)))) stays (held_of rows)) ∙ ap (λ ys. held_of rows ++ ys) (reading-ok p (Open what c w m) (opened_up k (with_sender p n ∷ [])) [] e))
+        ∙ (ap (filter is_held) (ap (λ ys. ys ++ reading p (opened_up k (with_sender p n ∷ [])) []) (map-same (after_item (sent_as k p (sends (with_sender p n)))) stays (held_of rows)) ∙ ap (λ ys. held_of rows ++ ys) (reading-ok p (Open what c w m) (opened_up k (with_sender p n ∷ [])) [] e))
         ∙ (filter-append is_held (held_of rows) (record { client = k; by = Up; own = Some c; number = reading (with_sender p n) sender_of None; remote = None; window = w; maximum = m; acts = [] } ∷ [])
         ∙ ap (λ ys. ys ++ record { client = k; by = Up; own = Some c; number = reading (with_sender p n) sender_of None; remote = None; window = w; maximum = m; acts = [] } ∷ []) (held-held rows)))
 
-pub goes-up : (s : CoreState) (k n c w m : ℕ) (what : Opens) (p : List ℕ) (l : Ledger) (up : QueueState) (new : CoreState) (rows : List Row) → Stands s rows → is_served s.clients k ≡ true → AreBytes p → read_gist p ≡ Ok (Open what c w m) → open_verdict s k c what ≡ None → IsFree s.channels n → find (has_own k c) s.channels ≡ None → nat_lt (count_of s.channels k) MAX_CHANNELS ≡ true → confirmed l ≡ false → ((x : Channel) → IsBegun Up w m x → ledger.Stands l x) → new ≡ record s { channels = s.channels ++ own_entry n k c l ∷ [] } → SaysIn s new k p n up (with_bytes (frame_payload (with_sender p n)) up) verdict.Sent rows
+pub goes-up : (s : CoreState) (k n c w m : ℕ) (what : Opens) (p : List ℕ) (l : Ledger) (up : QueueState) (new : CoreState) (rows : List Row) → Stands s rows → is_served s.clients k ≡ true → AreBytes p → read_summary p ≡ Ok (Open what c w m) → open_verdict s k c what ≡ None → IsFree s.channels n → find (has_own k c) s.channels ≡ None → nat_lt (count_of s.channels k) MAX_CHANNELS ≡ true → confirmed l ≡ false → ((x : Channel) → IsBegun Up w m x → ledger.Stands l x) → new ≡ record s { channels = s.channels ++ own_entry n k c l ∷ [] } → SendsIn s new k p n up (with_bytes (frame_payload (with_sender p n)) up) verdict.Sent rows
 goes-up s k n c w m what p l up new rows st serves bytes e judges free unused room waits begins after =
     let small : n < 4294967296 = let b = free.below in omega arith in
     let few : count_of s.channels k < MAX_CHANNELS = grind (arith, nat_tests) in
     let q = quiet-says k p (Open what c w m) (sends (with_sender p n)) e (asks-nothing what c w m) refl in
     let is : IsServed k (look rows) = served (look rows) k s.clients st.clients.each serves in
-    let does : said_payload s.policy k (rows_of k rows) n p ≡ sends (with_sender p n) = may-go s k n c w m what p rows st e judges ∙ ap (λ (b : Bool). elim b as (λ _. Outcome) [ true ↦ sends_as n p | false ↦ fails_open c RESOURCE_SHORTAGE too_many_channels ]) (ap (λ i. nat_lt i MAX_CHANNELS) (own-count s k rows st) ∙ room) in
-    let stands : Stands new (said_as k p (sends (with_sender p n)) ∷ rows) = subst (λ u. Stands u (said_as k p (sends (with_sender p n)) ∷ rows)) (sym after) (quiet-stands s (s.channels ++ own_entry n k c l ∷ []) (said_as k p (sends (with_sender p n))) rows st q is (opened-table s k n c w m what p l rows st bytes small e free unused few waits begins) (all-append (λ f. is_known s.clients f.channel.client ≡ true) (own_entry n k c l) (served-known k s.clients serves) s.channels st.known.channels)) in
-    subst (λ o. SaysRow s new (said_as k p o) n up (with_bytes (frame_payload (with_sender p n)) up) verdict.Sent rows) (sym does) (record {
+    let does : sent_payload s.policy k (rows_of k rows) n p ≡ sends (with_sender p n) = may-go s k n c w m what p rows st e judges ∙ ap (λ (b : Bool). elim b as (λ _. Outcome) [ true ↦ sends_as n p | false ↦ fails_open c RESOURCE_SHORTAGE too_many_channels ]) (ap (λ i. nat_lt i MAX_CHANNELS) (own-count s k rows st) ∙ room) in
+    let stands : Stands new (sent_as k p (sends (with_sender p n)) ∷ rows) = subst (λ u. Stands u (sent_as k p (sends (with_sender p n)) ∷ rows)) (sym after) (quiet-stands s (s.channels ++ own_entry n k c l ∷ []) (sent_as k p (sends (with_sender p n))) rows st q is (opened-table s k n c w m what p l rows st bytes small e free unused few waits begins) (all-append (λ f. is_known s.clients f.channel.client ≡ true) (own_entry n k c l) (served-known k s.clients serves) s.channels st.known.channels)) in
+    subst (λ o. SendsRow s new (sent_as k p o) n up (with_bytes (frame_payload (with_sender p n)) up) verdict.Sent rows) (sym does) (record {
       sent = ap (λ (bs : List ℕ). let q : QueueState = record up { waiting = up.waiting ++ bs } in q) (sym (append-nil (frame_payload (with_sender p n))));
-      shows = (refl, refl, tells-own (said_as k p (sends (with_sender p n))) q (rows_of k rows));
+      shows = (refl, refl, records-own (sent_as k p (sends (with_sender p n))) q (rows_of k rows));
       fresh = λ h. record { below = free.below; unheld = free-held s n rows st free };
       stands = stands;
     })

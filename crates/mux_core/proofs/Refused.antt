@@ -11,12 +11,12 @@ use Rattle.proxy_frames.specs.State.{QueueState}
 use Rattle.global_replies.specs.Replies.{is_none_left, or_behind}
 use Rattle.mux_history.specs.declared.limits.TheConstants.{MAX_CLIENTS}
 use Rattle.mux_history.specs.Farewell.{has_open_matters}
-use Rattle.mux_history.specs.Gist.{Requests, read_gist}
+use Rattle.mux_history.specs.Summary.{Requests, read_summary}
 use Rattle.mux_history.specs.Rows.{Row, any_of, is_admit, is_lost, rows_of}
 use Rattle.mux_history.specs.Log.{entered}
 use Rattle.mux_history.specs.Requests.{answers, answers_to, asks, asks_of, replies, sent_flags, wanted, wanted_by, wanted_in}
-use Rattle.mux_history.specs.Said.{said_request, silent}
-use Rattle.mux_history.specs.Treat.{all_told, new_answers}
+use Rattle.mux_history.specs.Said.{sent_request, silent}
+use Rattle.mux_history.specs.Treat.{all_recorded, new_answers}
 use Rattle.mux_history.proofs.Bools.{same-number}
 use Rattle.mux_history.proofs.OwnRows.{idle_row, own_row}
 use Rattle.mux_history.proofs.Readings.{reading-ok}
@@ -27,18 +27,18 @@ use Rattle.mux_history.specs.Requests.{Ask}
 use Rattle.mux_core.specs.declared.verdict.Verdict.{Verdict}
 use Rattle.mux_core.specs.State.{MemberState, CoreState, is_served}
 use Rattle.mux_core.specs.Stands.{AreOnce, AsksFit, ClientFits, Stands, TableFits, has_matters, is_known, look}
-use Rattle.mux_core.specs.Calls.{SaysIn, SaysRow, Shows}
-use Rattle.mux_core.specs.Requesting.{SaysRoomy, after_refusal, refusal, refusal_now, waiting_of}
+use Rattle.mux_core.specs.Calls.{SendsIn, SendsRow, Shows}
+use Rattle.mux_core.specs.Requesting.{SendsRoomy, after_refusal, refusal, refusal_now, waiting_of}
 use Rattle.mux_core.proofs.Answering.{Waits, if_none, refused-answers, refused-waits}
 use Rattle.mux_core.proofs.Waiting.{changes, changes-at, waits-are, with-map}
 use Rattle.mux_core.proofs.Quiet.{own-same}
-use Rattle.mux_core.proofs.Says.{said_as, same-queue, takes-unsent, unsent-held}
+use Rattle.mux_core.proofs.Says.{sent_as, same-queue, takes-unsent, unsent-held}
 use Rattle.mux_core.proofs.Served.{IsServed, open-by, served}
 use Rattle.mux_core.proofs.Requested.{all-known, all-served}
-use Rattle.mux_core.proofs.SaysRequests.{by-full, refused-silent}
+use Rattle.mux_core.proofs.SendsRequests.{by-full, refused-silent}
 
 abbrev refused_row : ℕ → List ℕ → Row
-refused_row k p = said_as k p silent
+refused_row k p = sent_as k p silent
 
 -- ---- clients of which one has its answers changed
 
@@ -74,21 +74,21 @@ length-same k h (c ∷ cs) = ap suc (length-same k h cs)
 
 -- ---- what the row leaves
 
-flag : (k : ℕ) (p : List ℕ) (what : Global) → read_gist p ≡ Ok (Requests what true) → sent_flags false (wanted_by (refused_row k p)) ≡ false ∷ []
+flag : (k : ℕ) (p : List ℕ) (what : Global) → read_summary p ≡ Ok (Requests what true) → sent_flags false (wanted_by (refused_row k p)) ≡ false ∷ []
 flag k p what e = ap (sent_flags false) (reading-ok p (Requests what true) wanted_in None e)
 
-places-same : (k : ℕ) (p : List ℕ) (what : Global) (own : List Row) → read_gist p ≡ Ok (Requests what true) → places_of (refused_row k p ∷ own) ≡ places_of own
+places-same : (k : ℕ) (p : List ℕ) (what : Global) (own : List Row) → read_summary p ≡ Ok (Requests what true) → places_of (refused_row k p ∷ own) ≡ places_of own
 places-same k p what own e =
     ap (λ (us : List Ask). let x : Places = record { asked = asks own ++ us; replied = length (replies own ++ []) } in x) (ap (asks_of k false) (reading-ok p (Requests what true) wanted_in None e))
     ∙ (ap (λ (us : List Ask). let x : Places = record { asked = us; replied = length (replies own ++ []) } in x) (append-nil (asks own))
     ∙ ap (λ (rs : List (List ℕ)). let x : Places = record { asked = asks own; replied = length rs } in x) (append-nil (replies own)))
 
-waits-then : (k : ℕ) (p : List ℕ) (what : Global) (own : List Row) (w : List Bool) → read_gist p ≡ Ok (Requests what true) → Waits (wanted own) (replies own) w → Waits (wanted (refused_row k p ∷ own)) (replies (refused_row k p ∷ own)) (or_behind w)
+waits-then : (k : ℕ) (p : List ℕ) (what : Global) (own : List Row) (w : List Bool) → read_summary p ≡ Ok (Requests what true) → Waits (wanted own) (replies own) w → Waits (wanted (refused_row k p ∷ own)) (replies (refused_row k p ∷ own)) (or_behind w)
 waits-then k p what own w e h =
     ap (λ fs. left_of (wanted own ++ fs) (replies own ++ [])) (flag k p what e)
     ∙ (ap (left_of (wanted own ++ false ∷ [])) (append-nil (replies own)) ∙ refused-waits (wanted own) (replies own) w h)
 
-client-then : (k : ℕ) (p : List ℕ) (what : Global) (rows : List Row) (c : MemberState) → read_gist p ≡ Ok (Requests what true) → ClientFits (look rows) c → ClientFits (look (refused_row k p ∷ rows)) (changes k or_behind c)
+client-then : (k : ℕ) (p : List ℕ) (what : Global) (rows : List Row) (c : MemberState) → read_summary p ≡ Ok (Requests what true) → ClientFits (look rows) c → ClientFits (look (refused_row k p ∷ rows)) (changes k or_behind c)
 client-then k p what rows c e fits = by_number (c.number == k) refl (k == c.number) refl
   where
     after-own : (j : ℕ) → (k == j) ≡ true → rows_of j (refused_row k p ∷ rows) ≡ refused_row k p ∷ rows_of j rows
@@ -113,7 +113,7 @@ client-then k p what rows c e fits = by_number (c.number == k) refl (k == c.numb
     by_number true h false g = absurd (clash c.number k h g)
     by_number false h true g = absurd (clash k c.number g h)
 
-clients-then : (k : ℕ) (p : List ℕ) (what : Global) (rows : List Row) (cs : List MemberState) → read_gist p ≡ Ok (Requests what true) → AllByRecursion (ClientFits (look rows)) cs → AllByRecursion (ClientFits (look (refused_row k p ∷ rows))) (map (changes k or_behind) cs)
+clients-then : (k : ℕ) (p : List ℕ) (what : Global) (rows : List Row) (cs : List MemberState) → read_summary p ≡ Ok (Requests what true) → AllByRecursion (ClientFits (look rows)) cs → AllByRecursion (ClientFits (look (refused_row k p ∷ rows))) (map (changes k or_behind) cs)
 clients-then k p what rows [] e all = tt
 clients-then k p what rows (c ∷ cs) e all = (client-then k p what rows c e all.0, clients-then k p what rows cs e all.1)
 
@@ -128,7 +128,7 @@ matters-then k p rows s j = by_case (k == j) refl
         let here : is_lost (rows_of j rows) ≡ false = subst (λ i. (look rows).lost i ≡ false) same s.here in
         ap has_open_matters (own_row j (refused_row k p) rows e) ∙ (open-by (refused_row k p ∷ rows_of j rows) admitted here ∙ sym (open-by (rows_of j rows) admitted here))
 
-refused-stands : (s : CoreState) (k : ℕ) (p : List ℕ) (what : Global) (rows : List Row) → Stands s rows → is_served s.clients k ≡ true → read_gist p ≡ Ok (Requests what true) → Stands (record s { clients = map (changes k or_behind) s.clients }) (refused_row k p ∷ rows)
+refused-stands : (s : CoreState) (k : ℕ) (p : List ℕ) (what : Global) (rows : List Row) → Stands s rows → is_served s.clients k ≡ true → read_summary p ≡ Ok (Requests what true) → Stands (record s { clients = map (changes k or_behind) s.clients }) (refused_row k p ∷ rows)
 refused-stands s k p what rows st serves e =
     let is : IsServed k (look rows) = served (look rows) k s.clients st.clients.each serves in
     let all : places_of (refused_row k p ∷ rows) ≡ places_of rows = places-same k p what rows e in
@@ -154,25 +154,25 @@ refused-stands s k p what rows st serves e =
 
 -- ---- what it tells
 
-told-if : (k : ℕ) (p : List ℕ) (what : Global) (own : List Row) (w : List Bool) → read_gist p ≡ Ok (Requests what true) → is_lost own ≡ false → Waits (wanted own) (replies own) w → all_told (refused_row k p) own ≡ map frame_payload (if_none w)
-told-if k p what own w e here waits =
+recorded-if : (k : ℕ) (p : List ℕ) (what : Global) (own : List Row) (w : List Bool) → read_summary p ≡ Ok (Requests what true) → is_lost own ≡ false → Waits (wanted own) (replies own) w → all_recorded (refused_row k p) own ≡ map frame_payload (if_none w)
+recorded-if k p what own w e here waits =
     ap (λ (b : Bool). elim (not b) as (λ _. List (List ℕ)) [ true ↦ new_answers (refused_row k p) own | false ↦ [] ]) here
     ∙ (ap (λ (rs : List (List ℕ)). map frame_payload (drop (length (answers own)) rs)) after ∙ ap (map frame_payload) (drop-append_seam (answers own) (if_none w)))
   where
     after : answers (refused_row k p ∷ own) ≡ answers own ++ if_none w
     after = ap (λ fs. answers_to (wanted own ++ fs) (replies own ++ [])) (flag k p what e) ∙ (ap (answers_to (wanted own ++ false ∷ [])) (append-nil (replies own)) ∙ refused-answers (wanted own) (replies own) w waits)
 
-shows-refusal : (k : ℕ) (p : List ℕ) (what : Global) (own : List Row) (w : List Bool) → read_gist p ≡ Ok (Requests what true) → all_told (refused_row k p) own ≡ map frame_payload (if_none w) → Shows (refused_row k p) own (refusal_now (is_none_left w))
-shows-refusal k p what own [] e told = (refl, refl, told)
-shows-refusal k p what own (b ∷ bs) e told = (refl, refl, told, ap is_some (reading-ok p (Requests what true) wanted_in None e))
+shows-refusal : (k : ℕ) (p : List ℕ) (what : Global) (own : List Row) (w : List Bool) → read_summary p ≡ Ok (Requests what true) → all_recorded (refused_row k p) own ≡ map frame_payload (if_none w) → Shows (refused_row k p) own (refusal_now (is_none_left w))
+shows-refusal k p what own [] e recorded = (refl, refl, recorded)
+shows-refusal k p what own (b ∷ bs) e recorded = (refl, refl, recorded, ap is_some (reading-ok p (Requests what true) wanted_in None e))
 
-by-left : (s new : CoreState) (k : ℕ) (p : List ℕ) (up : QueueState) (rows : List Row) (b : Bool) → Shows (refused_row k p) (rows_of k rows) (refusal_now b) → Stands new (refused_row k p ∷ rows) → SaysRow s new (refused_row k p) 0 up up (refusal_now b) rows
+by-left : (s new : CoreState) (k : ℕ) (p : List ℕ) (up : QueueState) (rows : List Row) (b : Bool) → Shows (refused_row k p) (rows_of k rows) (refusal_now b) → Stands new (refused_row k p ∷ rows) → SendsRow s new (refused_row k p) 0 up up (refusal_now b) rows
 by-left s new k p up rows true shows st = record { sent = same-queue up; shows = shows; fresh = λ h. absurd (let d = sym h ∙ takes-unsent k p silent refl in cc); stands = st }
 by-left s new k p up rows false shows st = record { sent = same-queue up; shows = shows; fresh = λ h. absurd (let d = sym h ∙ takes-unsent k p silent refl in cc); stands = st }
 
-pub refused : (s new : CoreState) (k : ℕ) (p : List ℕ) (what : Global) (want : Bool) (v : Verdict) (up : QueueState) → v ≡ refusal want (waiting_of k s.clients) → new ≡ record s { clients = after_refusal want k s.clients } → ((rows : List Row) → Stands s rows → said_request s.policy k (rows_of k rows) p what want ≡ silent) → SaysRoomy s new k p what want up up v
+pub refused : (s new : CoreState) (k : ℕ) (p : List ℕ) (what : Global) (want : Bool) (v : Verdict) (up : QueueState) → v ≡ refusal want (waiting_of k s.clients) → new ≡ record s { clients = after_refusal want k s.clients } → ((rows : List Row) → Stands s rows → sent_request s.policy k (rows_of k rows) p what want ≡ silent) → SendsRoomy s new k p what want up up v
 refused s new k p what false v up is after does = λ room rows st serves e. refused-silent s new k p what v up rows st serves e (does rows st) is after
 refused s new k p what true v up is after does = λ room rows st serves e.
-    subst (λ x. SaysIn s new k p 0 up up x rows) (sym is) (subst (λ x. SaysIn s x k p 0 up up (refusal_now (is_none_left (waiting_of k s.clients))) rows) (sym (after ∙ ap (λ (cs : List MemberState). record s { clients = cs }) (with-map k or_behind s.clients st.clients.once)))
-    (subst (λ o. SaysRow s (record s { clients = map (changes k or_behind) s.clients }) (said_as k p o) 0 up up (refusal_now (is_none_left (waiting_of k s.clients))) rows) (sym (by-full s k p what true false rows st serves e room ∙ does rows st))
-    (by-left s (record s { clients = map (changes k or_behind) s.clients }) k p up rows (is_none_left (waiting_of k s.clients)) (shows-refusal k p what (rows_of k rows) (waiting_of k s.clients) e (told-if k p what (rows_of k rows) (waiting_of k s.clients) e (served (look rows) k s.clients st.clients.each serves).here (waits-are rows k s.clients st.clients.each st.clients.once serves))) (refused-stands s k p what rows st serves e))))
+    subst (λ x. SendsIn s new k p 0 up up x rows) (sym is) (subst (λ x. SendsIn s x k p 0 up up (refusal_now (is_none_left (waiting_of k s.clients))) rows) (sym (after ∙ ap (λ (cs : List MemberState). record s { clients = cs }) (with-map k or_behind s.clients st.clients.once)))
+    (subst (λ o. SendsRow s (record s { clients = map (changes k or_behind) s.clients }) (sent_as k p o) 0 up up (refusal_now (is_none_left (waiting_of k s.clients))) rows) (sym (by-full s k p what true false rows st serves e room ∙ does rows st))
+    (by-left s (record s { clients = map (changes k or_behind) s.clients }) k p up rows (is_none_left (waiting_of k s.clients)) (shows-refusal k p what (rows_of k rows) (waiting_of k s.clients) e (recorded-if k p what (rows_of k rows) (waiting_of k s.clients) e (served (look rows) k s.clients st.clients.each serves).here (waits-are rows k s.clients st.clients.each st.clients.once serves))) (refused-stands s k p what rows st serves e))))

@@ -3,7 +3,7 @@ use Rattle.std.proofs.Common.{◌≡◌, ◌<◌, ◌+◌, ℕ, List, [], ◌∷
 use Rattle.std.specs.Prelude.{filter, ◌==◌, slice_get}
 use Rattle.std.proofs.lemmas.List.{append-nil}
 use Rattle.ssh_grammar.specs.Messages as full
-use Rattle.mux_history.specs.Gist.{Gist, Refuses, Succeeds, read_gist, reading}
+use Rattle.mux_history.specs.Summary.{Summary, Refuses, Succeeds, read_summary, reading}
 use Rattle.mux_history.specs.Rows.{Goes, Heard, Row, rows_of}
 use Rattle.mux_history.specs.Channels.{Channel, after_item, begun_by, held_of, is_held, opened_down, with_down, with_ups}
 use Rattle.mux_history.specs.Forwardings.{current, forwardings_of, of_client, replied}
@@ -26,14 +26,14 @@ use Rattle.mux_core.proofs.Says.{held-held, map-same}
 -- ---- its row, with what it sends
 
 abbrev pub reply_row : ℕ → List ℕ → List (List ℕ) → Row
-reply_row k p sent = bare (Heard p) k (record { sent = sent; told = []; ends = Goes })
+reply_row k p sent = bare (Heard p) k (record { sent = sent; recorded = []; ends = Goes })
 
 -- what a reply is
-pub record IsReply (p : List ℕ) (m : Gist) : Type 0 where
-  pub reads : read_gist p ≡ Ok m
+pub record IsReply (p : List ℕ) (m : Summary) : Type 0 where
+  pub reads : read_summary p ≡ Ok m
   pub reply : is_reply m ≡ true
 
-pub came : (p : List ℕ) (m : Gist) → IsReply p m → reply_in (Heard p) ≡ p ∷ []
+pub came : (p : List ℕ) (m : Summary) → IsReply p m → reply_in (Heard p) ≡ p ∷ []
 came p m is = ap (λ (b : Bool). elim b as (λ _. List (List ℕ)) [ true ↦ p ∷ [] | false ↦ [] ]) (reading-ok p m is_reply false is.reads ∙ is.reply)
 
 no-ask : (k : ℕ) (b : Bool) → asks_of k b None ≡ []
@@ -44,41 +44,41 @@ length-more : {X : Type 0} (xs : List X) (x : X) → length (xs ++ x ∷ []) ≡
 length-more [] x = omega arith
 length-more (y ∷ ys) x = let i = length-more ys x in omega arith
 
-places-next : (k : ℕ) (p : List ℕ) (m : Gist) (sent : List (List ℕ)) (own : List Row) → IsReply p m → places_of (reply_row k p sent ∷ own) ≡ replied_more (places_of own)
+places-next : (k : ℕ) (p : List ℕ) (m : Summary) (sent : List (List ℕ)) (own : List Row) → IsReply p m → places_of (reply_row k p sent ∷ own) ≡ replied_more (places_of own)
 places-next k p m sent own is =
     ap (λ (us : List Ask). let x : Places = record { asked = asks own ++ us; replied = length (replies own ++ reply_in (Heard p)) } in x) (no-ask k (is_sent (reply_row k p sent)))
     ∙ (ap (λ (us : List Ask). let x : Places = record { asked = us; replied = length (replies own ++ reply_in (Heard p)) } in x) (append-nil (asks own))
     ∙ ap (λ (n : ℕ). let x : Places = record { asked = asks own; replied = n } in x) (ap (λ (rs : List (List ℕ)). length (replies own ++ rs)) (came p m is) ∙ length-more (replies own) p))
 
-pub all-next : (k : ℕ) (p : List ℕ) (m : Gist) (sent : List (List ℕ)) (rows : List Row) → IsReply p m → (look (reply_row k p sent ∷ rows)).all ≡ replied_more (look rows).all
+pub all-next : (k : ℕ) (p : List ℕ) (m : Summary) (sent : List (List ℕ)) (rows : List Row) → IsReply p m → (look (reply_row k p sent ∷ rows)).all ≡ replied_more (look rows).all
 all-next k p m sent rows is = places-next k p m sent rows is
 
-pub own-next : (k : ℕ) (p : List ℕ) (m : Gist) (sent : List (List ℕ)) (rows : List Row) → IsReply p m → Replies k (look rows).own (look (reply_row k p sent ∷ rows)).own
+pub own-next : (k : ℕ) (p : List ℕ) (m : Summary) (sent : List (List ℕ)) (rows : List Row) → IsReply p m → Replies k (look rows).own (look (reply_row k p sent ∷ rows)).own
 own-next k p m sent rows is = record {
   mine = λ j h. ap places_of (own_row j (reply_row k p sent) rows h) ∙ places-next k p m sent (rows_of j rows) is;
   others = λ j h. ap places_of (idle_row j (reply_row k p sent) rows h);
 }
 
-pub current-next : (k : ℕ) (p : List ℕ) (m : Gist) (sent : List (List ℕ)) (rows : List Row) → IsReply p m → current (reply_row k p sent ∷ rows) ≡ filter is_on (map (after k ((look rows).own k).replied m) (current rows))
+pub current-next : (k : ℕ) (p : List ℕ) (m : Summary) (sent : List (List ℕ)) (rows : List Row) → IsReply p m → current (reply_row k p sent ∷ rows) ≡ filter is_on (map (after k ((look rows).own k).replied m) (current rows))
 current-next k p m sent rows is =
     on-forwarded (reply_row k p sent) (length (asks (rows_of k rows))) (length (replies (rows_of k rows))) (forwardings_of rows)
     ∙ ap (filter is_on) (reading-ok p m (λ g. map (of_client k (replied (length (replies (rows_of k rows))) g)) (current rows)) (current rows) is.reads)
 
 -- no channel is changed by a reply, nor by what it sends
-pub same-held : (k : ℕ) (p : List ℕ) (m : Gist) (sent : List (List ℕ)) (rows : List Row) → IsReply p m → ((x : Channel) → with_ups None sent x ≡ x) → held_of (reply_row k p sent ∷ rows) ≡ held_of rows
+pub same-held : (k : ℕ) (p : List ℕ) (m : Summary) (sent : List (List ℕ)) (rows : List Row) → IsReply p m → ((x : Channel) → with_ups None sent x ≡ x) → held_of (reply_row k p sent ∷ rows) ≡ held_of rows
 same-held k p m sent rows is ups =
-    held-bare (Heard p) k (record { sent = sent; told = []; ends = Goes }) rows
+    held-bare (Heard p) k (record { sent = sent; recorded = []; ends = Goes }) rows
     ∙ (ap (λ ys. filter is_held (map (after_item (reply_row k p sent)) (held_of rows) ++ ys)) begun
     ∙ (ap (filter is_held) (append-nil (map (after_item (reply_row k p sent)) (held_of rows)) ∙ map-same (after_item (reply_row k p sent)) same (held_of rows)) ∙ held-held rows))
   where
-    none : (us : List (List ℕ)) (g : Gist) → is_reply g ≡ true → opened_down k us g ≡ []
+    none : (us : List (List ℕ)) (g : Summary) → is_reply g ≡ true → opened_down k us g ≡ []
     none [] (Succeeds rest) h = refl
     none (u ∷ us) (Succeeds rest) h = refl
     none [] Refuses h = refl
     none (u ∷ us) Refuses h = refl
     none us g h = absurd (cc)
 
-    no-down : (g : Gist) (x : Channel) → is_reply g ≡ true → with_down g x ≡ x
+    no-down : (g : Summary) (x : Channel) → is_reply g ≡ true → with_down g x ≡ x
     no-down (Succeeds rest) x h = refl
     no-down Refuses x h = refl
     no-down g x h = absurd (cc)

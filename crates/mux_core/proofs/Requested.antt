@@ -7,7 +7,7 @@ use Rattle.std.proofs.Common.{inl, inr}
 use Rattle.std.proofs.lemmas.Bool.Decides.{nat_tests}
 use Rattle.ssh_grammar.specs.Messages.{Global, KeepAlive, OtherName, Forward, Cancel}
 use Rattle.ssh_grammar.specs.Said.{Payload}
-use Rattle.mux_history.specs.Gist.{Requests, read_gist, reading}
+use Rattle.mux_history.specs.Summary.{Requests, read_summary, reading}
 use Rattle.mux_history.specs.Rows.{Row, Says, any_of, is_admit, is_lost, rows_of}
 use Rattle.mux_history.specs.Forwardings.{Forwarding, current, forwardings_of, requested}
 use Rattle.mux_history.specs.Requests.{Ask, asks, asks_of, replies, sent_flags, wanted, wanted_in}
@@ -19,7 +19,7 @@ use Rattle.mux_isolation.specs.View.{left_of}
 use Rattle.forward_rules.specs.State as kept
 use Rattle.forward_rules.specs.Stands.{AreFit, EachHas, HasAt, IsAwaited, Places, places_of}
 use Rattle.mux_history.specs.declared.limits.TheConstants.{MAX_CLIENTS}
-use Rattle.mux_history.specs.Gist.{sender_of}
+use Rattle.mux_history.specs.Summary.{sender_of}
 use Rattle.mux_history.specs.Channels.{Channel, after_item, held_of, is_held, opened_up, with_up}
 use Rattle.mux_history.specs.Farewell.{has_open_matters}
 use Rattle.mux_history.specs.Log.{entered}
@@ -31,32 +31,32 @@ use Rattle.mux_core.proofs.OpensSent.{served-known}
 use Rattle.mux_core.proofs.Quiet.{own-same}
 use Rattle.mux_core.proofs.Served.{IsServed, open-by, served}
 use Rattle.mux_core.proofs.Answering.{Waits, asked_more, asks-sent, sent-waits}
-use Rattle.mux_core.proofs.Says.{held-held, map-same, said_as}
+use Rattle.mux_core.proofs.Says.{held-held, map-same, sent_as}
 
 -- ---- in the rows
 
 -- the row of one
 abbrev pub request_row : ℕ → List ℕ → Row
-request_row k p = said_as k p (sends p)
+request_row k p = sent_as k p (sends p)
 
 abbrev pub ask_of : ℕ → Global → Ask
 ask_of k what = record { client = k; what = what }
 
-places-more : (k : ℕ) (p : List ℕ) (what : Global) (own : List Row) → read_gist p ≡ Ok (Requests what true) → places_of (request_row k p ∷ own) ≡ asked_more (places_of own) (ask_of k what)
+places-more : (k : ℕ) (p : List ℕ) (what : Global) (own : List Row) → read_summary p ≡ Ok (Requests what true) → places_of (request_row k p ∷ own) ≡ asked_more (places_of own) (ask_of k what)
 places-more k p what own e =
     ap (λ (us : List Ask). let x : Places = record { asked = asks own ++ us; replied = length (replies own ++ []) } in x) (ap (asks_of k true) (reading-ok p (Requests what true) wanted_in None e))
     ∙ ap (λ (rs : List (List ℕ)). let x : Places = record { asked = asks own ++ ask_of k what ∷ []; replied = length rs } in x) (append-nil (replies own))
 
-pub all-more : (k : ℕ) (p : List ℕ) (what : Global) (rows : List Row) → read_gist p ≡ Ok (Requests what true) → (look (request_row k p ∷ rows)).all ≡ asked_more (look rows).all (ask_of k what)
+pub all-more : (k : ℕ) (p : List ℕ) (what : Global) (rows : List Row) → read_summary p ≡ Ok (Requests what true) → (look (request_row k p ∷ rows)).all ≡ asked_more (look rows).all (ask_of k what)
 all-more k p what rows e = places-more k p what rows e
 
-pub own-more : (k : ℕ) (p : List ℕ) (what : Global) (rows : List Row) → read_gist p ≡ Ok (Requests what true) → (j : ℕ) → (k == j) ≡ true → (look (request_row k p ∷ rows)).own j ≡ asked_more ((look rows).own j) (ask_of k what)
+pub own-more : (k : ℕ) (p : List ℕ) (what : Global) (rows : List Row) → read_summary p ≡ Ok (Requests what true) → (j : ℕ) → (k == j) ≡ true → (look (request_row k p ∷ rows)).own j ≡ asked_more ((look rows).own j) (ask_of k what)
 own-more k p what rows e j mine = ap places_of (own_row j (request_row k p) rows mine) ∙ places-more k p what (rows_of j rows) e
 
 pub others-stay : (k : ℕ) (p : List ℕ) (rows : List Row) (j : ℕ) → (k == j) ≡ false → (look (request_row k p ∷ rows)).own j ≡ (look rows).own j
 others-stay k p rows j other = ap places_of (idle_row j (request_row k p) rows other)
 
-waits-more : (k : ℕ) (p : List ℕ) (what : Global) (own : List Row) (w : List Bool) → read_gist p ≡ Ok (Requests what true) → Waits (wanted own) (replies own) w → Waits (wanted (request_row k p ∷ own)) (replies (request_row k p ∷ own)) (w ++ true ∷ [])
+waits-more : (k : ℕ) (p : List ℕ) (what : Global) (own : List Row) (w : List Bool) → read_summary p ≡ Ok (Requests what true) → Waits (wanted own) (replies own) w → Waits (wanted (request_row k p ∷ own)) (replies (request_row k p ∷ own)) (w ++ true ∷ [])
 waits-more k p what own w e h =
     ap (λ fs. left_of (wanted own ++ fs) (replies own ++ [])) (ap (sent_flags true) (reading-ok p (Requests what true) wanted_in None e))
     ∙ (ap (left_of (wanted own ++ true ∷ [])) (append-nil (replies own)) ∙ sent-waits (wanted own) (replies own) w h)
@@ -70,7 +70,7 @@ awaits k c = elim (c.number == k) [ true ↦ record c { waiting = c.waiting ++ t
 number-same : (k : ℕ) (c : MemberState) → (awaits k c).number ≡ c.number
 number-same k c = elim (c.number == k) as (λ b. (elim b as (λ _. MemberState) [ true ↦ record c { waiting = c.waiting ++ true ∷ [] } | false ↦ c ]).number ≡ c.number) [ true ↦ refl | false ↦ refl ]
 
-pub client-more : (k : ℕ) (p : List ℕ) (what : Global) (rows : List Row) (c : MemberState) → read_gist p ≡ Ok (Requests what true) → ClientFits (look rows) c → ClientFits (look (request_row k p ∷ rows)) (awaits k c)
+pub client-more : (k : ℕ) (p : List ℕ) (what : Global) (rows : List Row) (c : MemberState) → read_summary p ≡ Ok (Requests what true) → ClientFits (look rows) c → ClientFits (look (request_row k p ∷ rows)) (awaits k c)
 client-more k p what rows c e fits = by_number (c.number == k) refl (k == c.number) refl
   where
     after-own : (j : ℕ) → (k == j) ≡ true → rows_of j (request_row k p ∷ rows) ≡ request_row k p ∷ rows_of j rows
@@ -162,15 +162,15 @@ request-lost : (k : ℕ) (p : List ℕ) (own : List Row) → is_lost (request_ro
 request-lost k p own = refl
 
 -- a request that changes no forwarding
-same-forwardings : (k : ℕ) (p : List ℕ) (what : Global) (rows : List Row) → read_gist p ≡ Ok (Requests what true) → ((place : ℕ) (fs : List Forwarding) → requested k place (Requests what true) fs ≡ fs) → current (request_row k p ∷ rows) ≡ current rows
+same-forwardings : (k : ℕ) (p : List ℕ) (what : Global) (rows : List Row) → read_summary p ≡ Ok (Requests what true) → ((place : ℕ) (fs : List Forwarding) → requested k place (Requests what true) fs ≡ fs) → current (request_row k p ∷ rows) ≡ current rows
 same-forwardings k p what rows e none = ap (filter (λ (f : Forwarding). not f.over)) (reading-ok p (Requests what true) (λ m. requested k (length (asks (rows_of k rows))) m (forwardings_of rows)) (forwardings_of rows) e ∙ none (length (asks (rows_of k rows))) (forwardings_of rows))
 
-no-change : (k : ℕ) (p : List ℕ) (what : Global) (want : Bool) (x : Channel) → read_gist p ≡ Ok (Requests what want) → after_item (request_row k p) x ≡ x
+no-change : (k : ℕ) (p : List ℕ) (what : Global) (want : Bool) (x : Channel) → read_summary p ≡ Ok (Requests what want) → after_item (request_row k p) x ≡ x
 no-change k p what want x e =
     ap (λ (y : Channel). elim (x.client == k) as (λ _. Channel) [ true ↦ y | false ↦ x ]) (reading-ok p (Requests what want) (λ m. with_up (reading p sender_of None) m x) x e)
     ∙ (elim (x.client == k) as (λ b. (elim b as (λ _. Channel) [ true ↦ x | false ↦ x ]) ≡ x) [ true ↦ refl | false ↦ refl ])
 
-pub same-channels : (k : ℕ) (p : List ℕ) (what : Global) (want : Bool) (rows : List Row) → read_gist p ≡ Ok (Requests what want) → held_of (request_row k p ∷ rows) ≡ held_of rows
+pub same-channels : (k : ℕ) (p : List ℕ) (what : Global) (want : Bool) (rows : List Row) → read_summary p ≡ Ok (Requests what want) → held_of (request_row k p ∷ rows) ≡ held_of rows
 same-channels k p what want rows e =
     held-bare (Says k (Payload p) None) k (sends p) rows
     ∙ (ap (filter is_held) (ap (λ ys. map (after_item (request_row k p)) (held_of rows) ++ ys) (reading-ok p (Requests what want) (opened_up k (p ∷ [])) [] e) ∙ (append-nil (map (after_item (request_row k p)) (held_of rows)) ∙ map-same (after_item (request_row k p)) (λ x. no-change k p what want x e) (held_of rows)))
@@ -203,7 +203,7 @@ length-same : (k : ℕ) (cs : List MemberState) → length (map (awaits k) cs) �
 length-same k [] = refl
 length-same k (c ∷ cs) = ap suc (length-same k cs)
 
-clients-more : (k : ℕ) (p : List ℕ) (what : Global) (rows : List Row) (cs : List MemberState) → read_gist p ≡ Ok (Requests what true) → AllByRecursion (ClientFits (look rows)) cs → AllByRecursion (ClientFits (look (request_row k p ∷ rows))) (map (awaits k) cs)
+clients-more : (k : ℕ) (p : List ℕ) (what : Global) (rows : List Row) (cs : List MemberState) → read_summary p ≡ Ok (Requests what true) → AllByRecursion (ClientFits (look rows)) cs → AllByRecursion (ClientFits (look (request_row k p ∷ rows))) (map (awaits k) cs)
 clients-more k p what rows [] e all = tt
 clients-more k p what rows (c ∷ cs) e all = (client-more k p what rows c e all.0, clients-more k p what rows cs e all.1)
 
@@ -232,7 +232,7 @@ all-last P x one [] all = (one, tt)
 all-last P x one (y ∷ ys) all = (all.0, all-last P x one ys all.1)
 
 -- whatever forwardings are kept then
-pub wanted-stands : (s : CoreState) (k : ℕ) (p : List ℕ) (what : Global) (rows : List Row) (fs : List kept.Forward) → Stands s rows → is_served s.clients k ≡ true → read_gist p ≡ Ok (Requests what true) → AreFit fs (current (request_row k p ∷ rows)) (look (request_row k p ∷ rows)).own (look rows).lost → AllByRecursion (λ f. is_served s.clients f.client ≡ true) fs → Stands (record s { asks = s.asks ++ ask_of k what ∷ []; clients = map (awaits k) s.clients; forwards = fs }) (request_row k p ∷ rows)
+pub wanted-stands : (s : CoreState) (k : ℕ) (p : List ℕ) (what : Global) (rows : List Row) (fs : List kept.Forward) → Stands s rows → is_served s.clients k ≡ true → read_summary p ≡ Ok (Requests what true) → AreFit fs (current (request_row k p ∷ rows)) (look (request_row k p ∷ rows)).own (look rows).lost → AllByRecursion (λ f. is_served s.clients f.client ≡ true) fs → Stands (record s { asks = s.asks ++ ask_of k what ∷ []; clients = map (awaits k) s.clients; forwards = fs }) (request_row k p ∷ rows)
 wanted-stands s k p what rows fs st serves e fit theirs =
     let is : IsServed k (look rows) = served (look rows) k s.clients st.clients.each serves in
     let lost : (look (request_row k p ∷ rows)).lost ≡ (look rows).lost = λ i j. own-same is_lost (request_row k p) rows (request-lost k p) j i in
@@ -254,7 +254,7 @@ wanted-stands s k p what rows fs st serves e fit theirs =
       };
     }
 
-pub request-stands : (s : CoreState) (k : ℕ) (p : List ℕ) (what : Global) (rows : List Row) → Stands s rows → is_served s.clients k ≡ true → read_gist p ≡ Ok (Requests what true) → is_plain what ≡ true → ((place : ℕ) (fs : List Forwarding) → requested k place (Requests what true) fs ≡ fs) → Stands (record s { asks = s.asks ++ ask_of k what ∷ []; clients = map (awaits k) s.clients }) (request_row k p ∷ rows)
+pub request-stands : (s : CoreState) (k : ℕ) (p : List ℕ) (what : Global) (rows : List Row) → Stands s rows → is_served s.clients k ≡ true → read_summary p ≡ Ok (Requests what true) → is_plain what ≡ true → ((place : ℕ) (fs : List Forwarding) → requested k place (Requests what true) fs ≡ fs) → Stands (record s { asks = s.asks ++ ask_of k what ∷ []; clients = map (awaits k) s.clients }) (request_row k p ∷ rows)
 request-stands s k p what rows st serves e plain none =
     wanted-stands s k p what rows s.forwards st serves e
     (subst (λ gs. AreFit s.forwards gs (look (request_row k p ∷ rows)).own (look rows).lost) (sym (same-forwardings k p what rows e none)) (forwards-more s.forwards (current rows) (look rows).own (look (request_row k p ∷ rows)).own (look rows).lost (ask_of k what) plain st.forwards (own-more k p what rows e) (others-stay k p rows)))

@@ -5,7 +5,7 @@ use Rattle.std.specs.List.{AllByRecursion}
 use Rattle.std.proofs.lemmas.List.Elements.{filter-append}
 use Rattle.ssh_grammar.specs.Messages.{Global, Key, KeepAlive, Forward, Cancel}
 use Rattle.mux_history.specs.declared.limits.TheConstants.{MAX_FORWARDINGS}
-use Rattle.mux_history.specs.Gist.{Requests, read_gist}
+use Rattle.mux_history.specs.Summary.{Requests, read_summary}
 use Rattle.mux_history.specs.Rows.{Row, rows_of}
 use Rattle.mux_history.specs.Forwardings.{Forwarding, current, forwardings_of, requested, stopped}
 use Rattle.mux_history.specs.Forwardings as history
@@ -25,7 +25,7 @@ use Rattle.mux_core.proofs.Removed.{on-all, on-listed, stopped-fit}
 use Rattle.mux_core.proofs.Requested.{all-last, ask_of, awaits, matters-more, others-stay, own-more, request_row, same-channels, wanted-stands}
 
 -- what is current after a request, by what was before
-current-after : (k : ℕ) (p : List ℕ) (what : Global) (want : Bool) (rows : List Row) → read_gist p ≡ Ok (Requests what want) → current (request_row k p ∷ rows) ≡ filter is_on (requested k (length (asks (rows_of k rows))) (Requests what want) (current rows))
+current-after : (k : ℕ) (p : List ℕ) (what : Global) (want : Bool) (rows : List Row) → read_summary p ≡ Ok (Requests what want) → current (request_row k p ∷ rows) ≡ filter is_on (requested k (length (asks (rows_of k rows))) (Requests what want) (current rows))
 current-after k p what want rows e =
     on-forwarded (request_row k p) (length (asks (rows_of k rows))) (length (replies (rows_of k rows))) (forwardings_of rows)
     ∙ ap (filter is_on) (reading-ok p (Requests what want) (λ m. requested k (length (asks (rows_of k rows))) m (current rows)) (current rows) e)
@@ -35,7 +35,7 @@ current-after k p what want rows e =
 served-last : (s : CoreState) (k : ℕ) (key : Key) → is_served s.clients k ≡ true → AllByRecursion (λ (f : kept.Forward). is_served s.clients f.client ≡ true) s.forwards → AllByRecursion (λ (f : kept.Forward). is_served s.clients f.client ≡ true) (s.forwards ++ asked k key ∷ [])
 served-last s k key serves all = all-last (λ (f : kept.Forward). is_served s.clients f.client ≡ true) (asked k key) serves s.forwards all
 
-pub forward-stands : (s : CoreState) (k : ℕ) (p : List ℕ) (key : Key) (rows : List Row) → Stands s rows → is_served s.clients k ≡ true → read_gist p ≡ Ok (Requests (Forward key) true) → count_of s.forwards k < MAX_FORWARDINGS → Stands (record s { asks = s.asks ++ ask_of k (Forward key) ∷ []; clients = map (awaits k) s.clients; forwards = s.forwards ++ asked k key ∷ [] }) (request_row k p ∷ rows)
+pub forward-stands : (s : CoreState) (k : ℕ) (p : List ℕ) (key : Key) (rows : List Row) → Stands s rows → is_served s.clients k ≡ true → read_summary p ≡ Ok (Requests (Forward key) true) → count_of s.forwards k < MAX_FORWARDINGS → Stands (record s { asks = s.asks ++ ask_of k (Forward key) ∷ []; clients = map (awaits k) s.clients; forwards = s.forwards ++ asked k key ∷ [] }) (request_row k p ∷ rows)
 forward-stands s k p key rows st serves e room =
     wanted-stands s k p (Forward key) rows (s.forwards ++ asked k key ∷ []) st serves e
     (subst (λ gs. AreFit (s.forwards ++ asked k key ∷ []) gs (look (request_row k p ∷ rows)).own (look rows).lost)
@@ -63,7 +63,7 @@ served-changed s test r (f ∷ fs) all = by_case (served-changed s test r fs all
     by_case ih true = (all.0, all.1)
     by_case ih false = (all.0, ih)
 
-pub cancel-stands : (s : CoreState) (k : ℕ) (p : List ℕ) (key : Key) (rows : List Row) → Stands s rows → is_served s.clients k ≡ true → read_gist p ≡ Ok (Requests (Cancel key) true) → some_free k key s.forwards ≡ true → Stands (record s { asks = s.asks ++ ask_of k (Cancel key) ∷ []; clients = map (awaits k) s.clients; forwards = cancelled k key true s.forwards }) (request_row k p ∷ rows)
+pub cancel-stands : (s : CoreState) (k : ℕ) (p : List ℕ) (key : Key) (rows : List Row) → Stands s rows → is_served s.clients k ≡ true → read_summary p ≡ Ok (Requests (Cancel key) true) → some_free k key s.forwards ≡ true → Stands (record s { asks = s.asks ++ ask_of k (Cancel key) ∷ []; clients = map (awaits k) s.clients; forwards = cancelled k key true s.forwards }) (request_row k p ∷ rows)
 cancel-stands s k p key rows st serves e free =
     wanted-stands s k p (Cancel key) rows (cancelled k key true s.forwards) st serves e
     (subst (λ gs. AreFit (cancelled k key true s.forwards) gs (look (request_row k p ∷ rows)).own (look rows).lost)
@@ -74,7 +74,7 @@ cancel-stands s k p key rows st serves e free =
 
 -- ---- requests that want no reply
 
-steady-row : (k : ℕ) (p : List ℕ) (what : Global) → read_gist p ≡ Ok (Requests what false) → IsSteady (request_row k p)
+steady-row : (k : ℕ) (p : List ℕ) (what : Global) → read_summary p ≡ Ok (Requests what false) → IsSteady (request_row k p)
 steady-row k p what e = record {
   asks = ap (asks_of k true) (reading-ok p (Requests what false) wanted_in None e);
   flags = ap (sent_flags true) (reading-ok p (Requests what false) wanted_in None e);
@@ -84,7 +84,7 @@ steady-row k p what e = record {
 }
 
 -- whatever forwardings are kept then
-unwanted-stands : (s : CoreState) (k : ℕ) (p : List ℕ) (what : Global) (rows : List Row) (fs : List kept.Forward) → Stands s rows → is_served s.clients k ≡ true → read_gist p ≡ Ok (Requests what false) → AreFit fs (current (request_row k p ∷ rows)) (look rows).own (look rows).lost → AllByRecursion (λ f. is_served s.clients f.client ≡ true) fs → Stands (record s { forwards = fs }) (request_row k p ∷ rows)
+unwanted-stands : (s : CoreState) (k : ℕ) (p : List ℕ) (what : Global) (rows : List Row) (fs : List kept.Forward) → Stands s rows → is_served s.clients k ≡ true → read_summary p ≡ Ok (Requests what false) → AreFit fs (current (request_row k p ∷ rows)) (look rows).own (look rows).lost → AllByRecursion (λ f. is_served s.clients f.client ≡ true) fs → Stands (record s { forwards = fs }) (request_row k p ∷ rows)
 unwanted-stands s k p what rows fs st serves e fit theirs =
     let after = sym (look-steady (request_row k p) rows (steady-row k p what e)) in
     let is : IsServed k (look rows) = served (look rows) k s.clients st.clients.each serves in
@@ -101,7 +101,7 @@ unwanted-stands s k p what rows fs st serves e fit theirs =
     each [] all = tt
     each (c ∷ cs) all = (record { nonzero = all.0.nonzero; admitted = all.0.admitted; lost = all.0.lost; answers = all.0.answers }, each cs all.1)
 
-pub stop-stands : (s : CoreState) (k : ℕ) (p : List ℕ) (key : Key) (rows : List Row) → Stands s rows → is_served s.clients k ≡ true → read_gist p ≡ Ok (Requests (Cancel key) false) → Stands (record s { forwards = cancelled k key false s.forwards }) (request_row k p ∷ rows)
+pub stop-stands : (s : CoreState) (k : ℕ) (p : List ℕ) (key : Key) (rows : List Row) → Stands s rows → is_served s.clients k ≡ true → read_summary p ≡ Ok (Requests (Cancel key) false) → Stands (record s { forwards = cancelled k key false s.forwards }) (request_row k p ∷ rows)
 stop-stands s k p key rows st serves e =
     unwanted-stands s k p (Cancel key) rows (cancelled k key false s.forwards) st serves e
     (subst (λ gs. AreFit (cancelled k key false s.forwards) gs (look rows).own (look rows).lost) (sym (current-after k p (Cancel key) false rows e)) (stopped-fit k key (length (asks (rows_of k rows))) s.forwards (current rows) (look rows).own (look rows).lost st.forwards))
@@ -115,7 +115,7 @@ stop-stands s k p key rows st serves e =
         by_case ih true = all.1
         by_case ih false = (all.0, ih)
 
-pub alive-stands : (s : CoreState) (k : ℕ) (p : List ℕ) (rows : List Row) → Stands s rows → is_served s.clients k ≡ true → read_gist p ≡ Ok (Requests KeepAlive false) → Stands s (request_row k p ∷ rows)
+pub alive-stands : (s : CoreState) (k : ℕ) (p : List ℕ) (rows : List Row) → Stands s rows → is_served s.clients k ≡ true → read_summary p ≡ Ok (Requests KeepAlive false) → Stands s (request_row k p ∷ rows)
 alive-stands s k p rows st serves e =
     unwanted-stands s k p KeepAlive rows s.forwards st serves e
     (subst (λ gs. AreFit s.forwards gs (look rows).own (look rows).lost) (sym (current-after k p KeepAlive false rows e ∙ on-all (current rows) (on-listed s.forwards (current rows) st.forwards.listed))) st.forwards)

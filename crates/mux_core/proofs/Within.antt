@@ -4,7 +4,7 @@ use Rattle.std.specs.Prelude.{filter, find, ◌==◌, ◌&&◌}
 use Rattle.std.proofs.lemmas.List.{append-nil}
 use Rattle.ssh_grammar.specs.declared.side.Side.TheVariants.{Up}
 use Rattle.ssh_grammar.specs.Said.{Payload}
-use Rattle.mux_history.specs.Gist.{Act, Within, read_gist}
+use Rattle.mux_history.specs.Summary.{Act, Within, read_summary}
 use Rattle.mux_history.specs.Rows.{Row, Says}
 use Rattle.mux_history.specs.Channels.{Channel, after_item, held_of, is_held, is_number, opened_up}
 use Rattle.mux_history.specs.Forwardings.{requested}
@@ -32,7 +32,7 @@ use Rattle.mux_core.proofs.Served.{IsServed, quiet-stands}
 abbrev pub sent_row : ℕ → List ℕ → Row
 sent_row k p = bare (Says k (Payload p) None) k (sends p)
 
-pub quiet : (k r : ℕ) (a : Act) (p : List ℕ) → read_gist p ≡ Ok (Within r a) → IsQuiet (sent_row k p)
+pub quiet : (k r : ℕ) (a : Act) (p : List ℕ) → read_summary p ≡ Ok (Within r a) → IsQuiet (sent_row k p)
 quiet k r a p e = record {
   asks = ap (asks_of k true) (reading-ok p (Within r a) wanted_in None e);
   flags = ap (sent_flags true) (reading-ok p (Within r a) wanted_in None e);
@@ -84,7 +84,7 @@ theirs-found s k r n l rows st c =
     right false d h = cc
 
 -- the core after it stands for the log with its row
-pub within-stands : (s : CoreState) (k r n : ℕ) (a : Act) (p : List ℕ) (old new : Ledger) (over : Bool) (rows : List Row) → Stands s rows → IsServed k (look rows) → read_gist p ≡ Ok (Within r a) → (c : ConfirmedEntry s.channels k r n old) → ActsOn Up a c.entry.ledger new over → Stands (record s { channels = acted c.entry.number new over s.channels }) (sent_row k p ∷ rows)
+pub within-stands : (s : CoreState) (k r n : ℕ) (a : Act) (p : List ℕ) (old new : Ledger) (over : Bool) (rows : List Row) → Stands s rows → IsServed k (look rows) → read_summary p ≡ Ok (Within r a) → (c : ConfirmedEntry s.channels k r n old) → ActsOn Up a c.entry.ledger new over → Stands (record s { channels = acted c.entry.number new over s.channels }) (sent_row k p ∷ rows)
 within-stands s k r n a p old new over rows st serves e c acts =
     quiet-stands s (acted c.entry.number new over s.channels) (sent_row k p) rows st (quiet k r a p e) serves
     (subst (TableFits (acted c.entry.number new over s.channels)) (sym held) (acts-on Up a (is_theirs k r) (up_act k r a) c.entry new over s.channels (held_of rows) (does k r a) acts (alone (is_theirs k r) (sole k r) c.entry s.channels st.channels.apart (theirs-found s k r n old rows st c)) st.channels))

@@ -9,15 +9,15 @@ use Rattle.ssh_grammar.specs.Said.{Payload}
 use Rattle.proxy_frames.specs.State.{QueueState}
 use Rattle.mux_history.specs.declared.limits.TheConstants.{MAX_CLIENTS, NUMBERS_END}
 use Rattle.mux_history.specs.declared.why.Why.{Why}
-use Rattle.mux_history.specs.Gist.{Gist, Open, read_gist}
+use Rattle.mux_history.specs.Summary.{Summary, Open, read_summary}
 use Rattle.mux_history.specs.Rows.{Row, rows_of, is_lost, loses, Item, Admit, Says, Gone, Heard, Goes, Drop}
 use Rattle.mux_history.specs.Channels.{holder}
 use Rattle.mux_history.specs.Requests.{is_sent, wanted_by}
 use Rattle.mux_history.specs.Choices.{takes_number}
 use Rattle.mux_history.specs.Farewell.{farewell}
-use Rattle.mux_history.specs.Said.{said_payload}
-use Rattle.mux_history.specs.Heard.{Dest, ToMaster, ToClient, Disconnects, Breaks, dest, heard_for, heard_master}
-use Rattle.mux_history.specs.Log.{all_told, admits, bare, open_matters, with_farewell}
+use Rattle.mux_history.specs.Said.{sent_payload}
+use Rattle.mux_history.specs.Heard.{Dest, ToMaster, ToClient, Disconnects, Breaks, dest, received_for, received_master}
+use Rattle.mux_history.specs.Log.{all_recorded, admits, bare, open_matters, with_farewell}
 use Rattle.client_teardown.specs.Leaving.{with_payloads}
 use Rattle.mux_core.specs.declared.verdict.Verdict.{Verdict}
 use Rattle.mux_core.specs.declared.verdict.Verdict.TheVariants as verdict
@@ -46,9 +46,9 @@ AdmitsOn old new k let_in = (rows : List Row) → Stands old rows → IsNew k ro
 -- ---- said
 
 -- the row of what a client says, as far as the item goes
-abbrev pub said_row : CoreState → ℕ → List ℕ → ℕ → List Row → Row
-said_row s k p pick rows =
-    bare (Says k (Payload p) None) k (said_payload s.policy k (rows_of k rows) pick p)
+abbrev pub row_sent : CoreState → ℕ → List ℕ → ℕ → List Row → Row
+row_sent s k p pick rows =
+    bare (Says k (Payload p) None) k (sent_payload s.policy k (rows_of k rows) pick p)
 
 -- the number is below the bound, and no channel holds it
 pub record IsFresh (rows : List Row) (n : ℕ) : Type 0 where
@@ -57,12 +57,12 @@ pub record IsFresh (rows : List Row) (n : ℕ) : Type 0 where
 
 -- the verdict is what the row shows, exactly
 abbrev pub Shows : Row → List Row → Verdict → Type 0
-Shows row own verdict.Sent = (row.fate ≡ Goes) × (is_sent row ≡ true) × (all_told row own ≡ [])
+Shows row own verdict.Sent = (row.fate ≡ Goes) × (is_sent row ≡ true) × (all_recorded row own ≡ [])
 Shows row own (verdict.Answer payload) = (row.fate ≡ Goes) × (row.up ≡ [])
-    × (all_told row own ≡ frame_payload payload ∷ [])
-Shows row own verdict.Held = (row.fate ≡ Goes) × (row.up ≡ []) × (all_told row own ≡ [])
+    × (all_recorded row own ≡ frame_payload payload ∷ [])
+Shows row own verdict.Held = (row.fate ≡ Goes) × (row.up ≡ []) × (all_recorded row own ≡ [])
     × (is_some (wanted_by row) ≡ true)
-Shows row own verdict.Silent = (row.fate ≡ Goes) × (row.up ≡ []) × (all_told row own ≡ [])
+Shows row own verdict.Silent = (row.fate ≡ Goes) × (row.up ≡ []) × (all_recorded row own ≡ [])
     × (is_some (wanted_by row) ≡ false)
 Shows row own (verdict.Drop why) = (row.fate ≡ Drop why) × (row.up ≡ [])
 
@@ -72,7 +72,7 @@ StandsAfter old new row rows (verdict.Drop why) = new ≡ old
 StandsAfter old new row rows v = Stands new (row ∷ rows)
 
 -- a row that the log has: what it sends and shows, its number, and the core after it
-pub record SaysRow (old new : CoreState) (row : Row) (pick : ℕ) (up up' : QueueState) (v : Verdict)
+pub record SendsRow (old new : CoreState) (row : Row) (pick : ℕ) (up up' : QueueState) (v : Verdict)
     (rows : List Row) : Type 0 where
   pub sent : up' ≡ with_payloads row.up up
   pub shows : Shows row (rows_of row.client rows) v
@@ -80,37 +80,37 @@ pub record SaysRow (old new : CoreState) (row : Row) (pick : ℕ) (up up' : Queu
   pub stands : StandsAfter old new row rows v
 
 -- of one log
-abbrev pub SaysIn : CoreState → CoreState → ℕ → List ℕ → ℕ → QueueState → QueueState → Verdict
+abbrev pub SendsIn : CoreState → CoreState → ℕ → List ℕ → ℕ → QueueState → QueueState → Verdict
     → List Row → Type 0
-SaysIn old new k p pick up up' v rows =
-    SaysRow old new (said_row old k p pick rows) pick up up' v rows
+SendsIn old new k p pick up up' v rows =
+    SendsRow old new (row_sent old k p pick rows) pick up up' v rows
 
 -- of all logs, where this message is said by a client that is served
-abbrev pub SaysAs : CoreState → CoreState → ℕ → List ℕ → Gist → ℕ → QueueState → QueueState
+abbrev pub SendsAs : CoreState → CoreState → ℕ → List ℕ → Summary → ℕ → QueueState → QueueState
     → Verdict → Type 0
-SaysAs old new k p m pick up up' v =
-    (rows : List Row) → Stands old rows → is_served old.clients k ≡ true → read_gist p ≡ Ok m
-    → SaysIn old new k p pick up up' v rows
+SendsAs old new k p m pick up up' v =
+    (rows : List Row) → Stands old rows → is_served old.clients k ≡ true → read_summary p ≡ Ok m
+    → SendsIn old new k p pick up up' v rows
 
 -- with some number
-pub record SaysSome (old new : CoreState) (k : ℕ) (p : List ℕ) (m : Gist) (up up' : QueueState)
+pub record SendsSome (old new : CoreState) (k : ℕ) (p : List ℕ) (m : Summary) (up up' : QueueState)
     (v : Verdict) : Type 0 where
   pub pick : ℕ
-  pub goes : SaysAs old new k p m pick up up' v
+  pub goes : SendsAs old new k p m pick up up' v
 
 -- the same with some number, of each open that may be sent
 pub record StartsOn (old new : CoreState) (k : ℕ) (p : List ℕ) (c w m : ℕ) (up up' : QueueState)
     (v : Verdict) : Type 0 where
   pub pick : ℕ
   pub goes : (what : Opens) → open_verdict old k c what ≡ None
-      → SaysAs old new k p (Open what c w m) pick up up' v
+      → SendsAs old new k p (Open what c w m) pick up up' v
 
 -- with one number for all logs, of a client that is served
-pub record SaysOn (old new : CoreState) (k : ℕ) (p : List ℕ) (up up' : QueueState) (v : Verdict) :
+pub record SendsOn (old new : CoreState) (k : ℕ) (p : List ℕ) (up up' : QueueState) (v : Verdict) :
     Type 0 where
   pub pick : ℕ
   pub goes : (rows : List Row) → Stands old rows → is_served old.clients k ≡ true
-      → SaysIn old new k p pick up up' v rows
+      → SendsIn old new k p pick up up' v rows
 
 -- an answer fits into a frame
 abbrev pub AnswerFits : Verdict → Type 0
@@ -120,10 +120,10 @@ AnswerFits v = Unit {0}
 -- ---- heard
 
 -- what a client is told by an answer
-abbrev pub told_by : declared.Delivery → List ℕ → List (List ℕ)
-told_by (heard.Client k refusals) p =
+abbrev pub recorded_by : declared.Delivery → List ℕ → List (List ℕ)
+recorded_by (heard.Client k refusals) p =
     frame_payload p ∷ replicate refusals (frame_payload request_failure)
-told_by h p = []
+recorded_by h p = []
 
 -- a client that is lost is named so; of one that isn't, an open that is answered for it is the
 -- master's
@@ -134,34 +134,34 @@ GoesTo k lost (heard.Lost j) = (lost ≡ true) × (j ≡ k)
 GoesTo k lost h = ⊥
 
 -- the row of what the server says to a client, as far as the item goes
-abbrev pub heard_row_of : ℕ → List ℕ → List Row → Row
-heard_row_of k p rows = bare (Heard p) k (heard_for (rows_of k rows) p)
+abbrev pub received_row_of : ℕ → List ℕ → List Row → Row
+received_row_of k p rows = bare (Heard p) k (received_for (rows_of k rows) p)
 
-pub record HearsClient (new : CoreState) (k : ℕ) (p p' : List ℕ) (up up' : QueueState)
+pub record ReceivesClient (new : CoreState) (k : ℕ) (p p' : List ℕ) (up up' : QueueState)
     (h : declared.Delivery) (rows : List Row) : Type 0 where
-  pub sent : up'.waiting ≡ (with_payloads (heard_row_of k p rows).up up).waiting
+  pub sent : up'.waiting ≡ (with_payloads (received_row_of k p rows).up up).waiting
   pub to : GoesTo k (is_lost (rows_of k rows)) h
-  pub told : all_told (heard_row_of k p rows) (rows_of k rows) ≡ told_by h p'
-  pub stands : Stands new (heard_row_of k p rows ∷ rows)
+  pub recorded : all_recorded (received_row_of k p rows) (rows_of k rows) ≡ recorded_by h p'
+  pub stands : Stands new (received_row_of k p rows ∷ rows)
 
-pub record HearsMaster (new : CoreState) (p : List ℕ) (up up' : QueueState) (h : declared.Delivery)
+pub record ReceivesMaster (new : CoreState) (p : List ℕ) (up up' : QueueState) (h : declared.Delivery)
     (rows : List Row) : Type 0 where
-  pub sent : up'.waiting ≡ (with_payloads (heard_master p).sent up).waiting
+  pub sent : up'.waiting ≡ (with_payloads (received_master p).sent up).waiting
   pub to : h ≡ heard.Master
-  pub stands : Stands new (bare (Heard p) 0 (heard_master p) ∷ rows)
+  pub stands : Stands new (bare (Heard p) 0 (received_master p) ∷ rows)
 
 -- nothing is sent where the run ends
-pub record HearsEnd (expected : declared.Delivery) (up up' : QueueState) (h : declared.Delivery) :
+pub record ReceivesEnd (expected : declared.Delivery) (up up' : QueueState) (h : declared.Delivery) :
     Type 0 where
   pub sent : up' ≡ up
   pub to : h ≡ expected
 
-abbrev pub HearsAs : CoreState → List ℕ → List ℕ → QueueState → QueueState → declared.Delivery
+abbrev pub ReceivesAs : CoreState → List ℕ → List ℕ → QueueState → QueueState → declared.Delivery
     → List Row → Dest → Type 0
-HearsAs new p p' up up' h rows ToMaster = HearsMaster new p up up' h rows
-HearsAs new p p' up up' h rows (ToClient k) = HearsClient new k p p' up up' h rows
-HearsAs new p p' up up' h rows Disconnects = HearsEnd heard.Disconnect up up' h
-HearsAs new p p' up up' h rows (Breaks why) = HearsEnd (heard.Broke why) up up' h
+ReceivesAs new p p' up up' h rows ToMaster = ReceivesMaster new p up up' h rows
+ReceivesAs new p p' up up' h rows (ToClient k) = ReceivesClient new k p p' up up' h rows
+ReceivesAs new p p' up up' h rows Disconnects = ReceivesEnd heard.Disconnect up up' h
+ReceivesAs new p p' up up' h rows (Breaks why) = ReceivesEnd (heard.Broke why) up up' h
 
 -- a client that is told something was let in
 abbrev pub IsLetIn : CoreState → declared.Delivery → Type 0
@@ -169,15 +169,15 @@ IsLetIn s (heard.Client k refusals) = is_known s.clients k ≡ true
 IsLetIn s (heard.Lost k) = is_known s.clients k ≡ true
 IsLetIn s h = Unit {0}
 
-pub record HearsIn (old new : CoreState) (p p' : List ℕ) (up up' : QueueState) (h : declared.Delivery)
+pub record ReceivesIn (old new : CoreState) (p p' : List ℕ) (up up' : QueueState) (h : declared.Delivery)
     (rows : List Row) : Type 0 where
-  pub row : HearsAs new p p' up up' h rows (dest rows p)
+  pub row : ReceivesAs new p p' up up' h rows (dest rows p)
   pub let_in : IsLetIn old h
 
-abbrev pub HearsOn : CoreState → CoreState → List ℕ → List ℕ → QueueState → QueueState
+abbrev pub ReceivesOn : CoreState → CoreState → List ℕ → List ℕ → QueueState → QueueState
     → declared.Delivery → Type 0
-HearsOn old new p p' up up' h = (rows : List Row) → Stands old rows
-    → HearsIn old new p p' up up' h rows
+ReceivesOn old new p p' up up' h = (rows : List Row) → Stands old rows
+    → ReceivesIn old new p p' up up' h rows
 
 -- ---- gone
 
@@ -185,7 +185,7 @@ HearsOn old new p p' up up' h = (rows : List Row) → Stands old rows
 -- says
 abbrev pub IsUnsent : Item → ℕ → Type 0
 IsUnsent (Gone j) k = j ≡ k
-IsUnsent (Says j saying given) k = j ≡ k
+IsUnsent (Says j outgoing given) k = j ≡ k
 IsUnsent item k = ⊥
 
 -- the farewell of a row
@@ -202,19 +202,19 @@ LeavesUnsent old new k up up' =
     → Leaves new row up up' rows
 
 -- of a row that the core stands for, and that drops its client after all
-abbrev pub LeavesTold : CoreState → CoreState → ℕ → QueueState → QueueState → Type 0
-LeavesTold old new k up up' =
+abbrev pub LeavesRecorded : CoreState → CoreState → ℕ → QueueState → QueueState → Type 0
+LeavesRecorded old new k up up' =
     (rows : List Row) (row : Row) (down : List (List ℕ)) (why : Why) → Stands old (row ∷ rows)
     → is_served old.clients k ≡ true → row.client ≡ k → row.fate ≡ Goes → loses row ≡ false
     → row.farewell ≡ [] → Leaves new (record row { down = down; fate = Drop why }) up up' rows
 
 -- of all logs, where the server says this message and nothing goes up
-abbrev pub HearsGist : CoreState → CoreState → List ℕ → List ℕ → Gist → declared.Delivery → Type 0
-HearsGist old new p p' m h = (rows : List Row) (up : QueueState) → Stands old rows
-    → read_gist p ≡ Ok m → HearsAs new p p' up up h rows (dest rows p)
+abbrev pub ReceivesSummary : CoreState → CoreState → List ℕ → List ℕ → Summary → declared.Delivery → Type 0
+ReceivesSummary old new p p' m h = (rows : List Row) (up : QueueState) → Stands old rows
+    → read_summary p ≡ Ok m → ReceivesAs new p p' up up h rows (dest rows p)
 
 -- the same where something goes up
-abbrev pub HearsWith : CoreState → CoreState → List ℕ → List ℕ → Gist → QueueState → QueueState
+abbrev pub ReceivesWith : CoreState → CoreState → List ℕ → List ℕ → Summary → QueueState → QueueState
     → declared.Delivery → Type 0
-HearsWith old new p p' m up up' h = (rows : List Row) → Stands old rows → read_gist p ≡ Ok m
-    → HearsAs new p p' up up' h rows (dest rows p)
+ReceivesWith old new p p' m up up' h = (rows : List Row) → Stands old rows → read_summary p ≡ Ok m
+    → ReceivesAs new p p' up up' h rows (dest rows p)

@@ -7,7 +7,7 @@ use Rattle.mux_history.specs.Choices.{takes_number}
 use Rattle.mux_history.specs.Right.{carried_number}
 use Rattle.mux_core.specs.State.{CoreState}
 use Rattle.mux_core.specs.Stands.{Stands}
-use Rattle.mux_core.specs.Calls.{said_row}
+use Rattle.mux_core.specs.Calls.{row_sent}
 
 -- a row of what neither a client in proxy mode nor the server says, which loses nobody and lets
 -- nobody in
@@ -31,5 +31,5 @@ DownIsFree =
 abbrev pub CarriesPick : Type 0
 CarriesPick =
     (s : CoreState) (k : ℕ) (p : List ℕ) (pick : ℕ) (rows : List Row) → AreBytes p → pick < 2 ^ 32
-    → takes_number (said_row s k p pick rows) ≡ true
-    → carried_number (said_row s k p pick rows).up ≡ pick
+    → takes_number (row_sent s k p pick rows) ≡ true
+    → carried_number (row_sent s k p pick rows).up ≡ pick

@@ -1,6 +1,6 @@
 pub mod State
 pub mod Members
-pub mod Gists
+pub mod Summaries
 pub mod Stands
 pub mod Lookups
 pub mod Opening

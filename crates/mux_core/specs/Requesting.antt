@@ -5,13 +5,13 @@ use Rattle.ssh_grammar.specs.SpellMessage.{request_failure}
 use Rattle.proxy_frames.specs.State.{QueueState}
 use Rattle.global_replies.specs.Replies.{is_none_left, or_behind}
 use Rattle.mux_history.specs.declared.limits.TheConstants.{MAX_GLOBAL_REQUESTS}
-use Rattle.mux_history.specs.Gist.{Requests}
+use Rattle.mux_history.specs.Summary.{Requests}
 use Rattle.mux_history.specs.Keys.{is_askable}
 use Rattle.mux_history.specs.Policy.{Policy, permits}
 use Rattle.mux_core.specs.declared.verdict.Verdict.{Verdict}
 use Rattle.mux_core.specs.declared.verdict.Verdict.TheVariants as verdict
 use Rattle.mux_core.specs.State.{MemberState, CoreState}
-use Rattle.mux_core.specs.Calls.{SaysAs}
+use Rattle.mux_core.specs.Calls.{SendsAs}
 
 -- the place of a client, or the end
 abbrev pub place_of : ℕ → List MemberState → ℕ
@@ -58,8 +58,8 @@ abbrev pub may_ask : Policy → Key → Bool → Bool
 may_ask policy key want = want && (is_askable key && permits policy.listens key)
 
 -- of a request that isn't one too many
-abbrev pub SaysRoomy : CoreState → CoreState → ℕ → List ℕ → Global → Bool → QueueState → QueueState
+abbrev pub SendsRoomy : CoreState → CoreState → ℕ → List ℕ → Global → Bool → QueueState → QueueState
     → Verdict → Type 0
-SaysRoomy old new k p what want up up' v =
+SendsRoomy old new k p what want up up' v =
     is_full want (waiting_of k old.clients) ≡ false
-    → SaysAs old new k p (Requests what want) 0 up up' v
+    → SendsAs old new k p (Requests what want) 0 up up' v

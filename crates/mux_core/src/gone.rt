@@ -1,5 +1,5 @@
 ghost use Rattle.std.specs.Prelude.{◌≡◌, ◌≤◌, ◌+◌};
-ghost use Rattle.mux_core.specs.Calls.{LeavesTold, LeavesUnsent};
+ghost use Rattle.mux_core.specs.Calls.{LeavesRecorded, LeavesUnsent};
 
 use crate::state::Core;
 use client_teardown::FAREWELL_ROOM;
@@ -11,7 +11,7 @@ impl Core {
     pub fn gone(&mut self, client: u64, up: &mut Queue)
         requires { FAREWELL_ROOM ≤ up.old.spare }
         ensures unsent { LeavesUnsent self.old self.new client up.old up.new }
-        ensures told { LeavesTold self.old self.new client up.old up.new }
+        ensures recorded { LeavesRecorded self.old self.new client up.old up.new }
         ensures policy { self.new.policy ≡ self.old.policy }
         ensures spare { up.old.spare ≤ up.new.spare + FAREWELL_ROOM }
     {

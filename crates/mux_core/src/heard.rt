@@ -3,12 +3,12 @@ ghost use Rattle.ssh_fields.specs.Fields.{u32_at};
 ghost use Rattle.ssh_grammar.specs.declared.framing.Framing.TheVariants.{Proxy};
 ghost use Rattle.ssh_grammar.specs.IsFrame.{IsContent};
 ghost use Rattle.proxy_frames.specs.declared.queue.TheConstants.{LONGEST_PAYLOAD};
-ghost use Rattle.mux_history.specs.Gist.{Refuses, Requests, Succeeds};
+ghost use Rattle.mux_history.specs.Summary.{Refuses, Requests, Succeeds};
 ghost use Rattle.mux_history.specs.Farewell.{late_refusal, late_success};
 ghost use Rattle.global_replies.specs.Asks.{IsShort};
 ghost use Rattle.global_replies.specs.Replies.{after_reply, refusals_behind};
 ghost use Rattle.client_teardown.specs.Leaving.{with_payloads};
-ghost use Rattle.mux_core.specs.Calls.{HearsOn, HearsWith};
+ghost use Rattle.mux_core.specs.Calls.{ReceivesOn, ReceivesWith};
 ghost use Rattle.conn_messages.specs.Message.{request_of};
 ghost use Rattle.client_teardown.specs.Steps.{listed};
 ghost use Rattle.mux_core.specs.Replying.{after_failure, after_success, misses_port};
@@ -16,7 +16,7 @@ ghost use Rattle.mux_core.specs.Requesting.{waiting_of, with_waiting};
 ghost use Rattle.mux_core.specs.Settling.{settled};
 ghost use Rattle.mux_core.specs.declared.heard.Delivery.TheVariants.{Client, Lost};
 
-use crate::reading::{Gist, read_gist};
+use crate::reading::{Summary, read_summary};
 use crate::state::Core;
 use client_teardown::cancel;
 use conn_messages::{Key, Request, request_failure};
@@ -51,7 +51,7 @@ fn misses_port(request: Request<'_>, rest: &[u8]) -> bool
 }
 
 // The port that a success tells, where it does (RFC 4254, section 7.1).
-fn told_port(rest: &[u8]) -> u32
+fn recorded_port(rest: &[u8]) -> u32
     ensures { result ≡ u32_at 0 rest.now }
 {
     Cursor::new(rest).take_u32().unwrap_or(0)
@@ -65,7 +65,7 @@ fn late_success(request: Request<'_>, rest: &[u8]) -> Option<Small>
     ensures fits { IfSome result (IsContent Proxy) }
 {
     match request {
-        Request::Forward(key) => Some(cancel(key.with_port(told_port(rest)))),
+        Request::Forward(key) => Some(cancel(key.with_port(recorded_port(rest)))),
         Request::Cancel(_) | Request::KeepAlive | Request::Other => None,
     }
 }
@@ -88,44 +88,46 @@ impl Core {
     pub fn heard(&mut self, payload: &mut [u8], up: &mut Queue) -> Result<Delivery, OutOfMemory>
         requires { length payload.old ≤ LONGEST_PAYLOAD }
         ensures stands { IfOk result (λ h.
-            HearsOn self.old self.new payload.old payload.new up.old up.new h) }
+            ReceivesOn self.old self.new payload.old payload.new up.old up.new h) }
         ensures length { length payload.new ≡ length payload.old }
         ensures spare { up.old.spare ≤ up.new.spare }
         ensures policy { self.new.policy ≡ self.old.policy }
         ensures err { OnErr result (up.new ≡ up.old) }
     {
-        match read_gist(payload) {
+        match read_summary(payload) {
             Err(bad) => Ok(Delivery::Broke(Break::Message(bad))),
-            Ok(Gist::Transport { number: DISCONNECT }) => Ok(Delivery::Disconnect),
-            Ok(Gist::Transport { .. }) => Ok(Delivery::Master),
-            Ok(Gist::Requests { what, want }) => self.hear_request(payload, what, want, up),
-            Ok(Gist::Succeeds { rest }) => self.hear_success(payload, rest, up),
-            Ok(Gist::Refuses) => self.hear_refusal(payload, up),
+            Ok(Summary::Transport { number: DISCONNECT }) => Ok(Delivery::Disconnect),
+            Ok(Summary::Transport { .. }) => Ok(Delivery::Master),
+            Ok(Summary::Requests { what, want }) => self.receive_request(payload, what, want, up),
+            Ok(Summary::Succeeds { rest }) => self.receive_success(payload, rest, up),
+            Ok(Summary::Refuses) => self.receive_refusal(payload, up),
             Ok(
-                Gist::Open {
+                Summary::Open {
                     what,
                     sender,
                     window,
                     maximum,
                 },
-            ) => self.hear_open(payload, &what, sender, window, maximum, up),
+            ) => self.receive_open(payload, &what, sender, window, maximum, up),
             Ok(
-                Gist::Confirmation {
+                Summary::Confirmation {
                     recipient,
                     sender,
                     window,
                     maximum,
                 },
-            ) => self.hear_confirmation(payload, recipient, sender, window, maximum, up),
-            Ok(Gist::Fails { recipient }) => Ok(self.hear_failure(payload, recipient)),
-            Ok(Gist::Within { recipient, act }) => Ok(self.hear_within(payload, recipient, act)),
+            ) => self.receive_confirmation(payload, recipient, sender, window, maximum, up),
+            Ok(Summary::Fails { recipient }) => Ok(self.receive_failure(payload, recipient)),
+            Ok(Summary::Within { recipient, act }) => Ok(self.receive_within(
+                payload, recipient, act,
+            )),
         }
     }
 
     // ---- global requests and their replies
 
     // The server asks of all: the master refuses.
-    fn hear_request(
+    fn receive_request(
         &self,
         payload: &[u8],
         what: Request<'_>,
@@ -133,7 +135,7 @@ impl Core {
         up: &mut Queue,
     ) -> Result<Delivery, OutOfMemory>
         ensures stands { IfOk result (λ h.
-            HearsWith self.now self.now payload.now payload.now
+            ReceivesWith self.now self.now payload.now payload.now
             (Requests (request_of what.entry) want) up.old up.new h) }
         ensures spare { up.new.spare ≡ up.old.spare }
         ensures err { OnErr result (up.new ≡ up.old) }
@@ -148,14 +150,14 @@ impl Core {
 
     // A success: to the client whose request waits longest, and where that is lost what it asked
     // for is cancelled.
-    fn hear_success(
+    fn receive_success(
         &mut self,
         payload: &[u8],
         rest: &[u8],
         up: &mut Queue,
     ) -> Result<Delivery, OutOfMemory>
         ensures stands { IfOk result (λ h.
-            HearsWith self.old self.new payload.now payload.now (Succeeds rest.now)
+            ReceivesWith self.old self.new payload.now payload.now (Succeeds rest.now)
             up.old up.new h) }
         ensures spare { up.new.spare ≡ up.old.spare }
         ensures policy { self.new.policy ≡ self.old.policy }
@@ -169,7 +171,7 @@ impl Core {
             return Ok(Delivery::Broke(Break::BadReply { length: rest.len() }));
         }
         if self.is_lost(client) {
-            return self.hear_late(client, late_success(request, rest), up);
+            return self.receive_late(client, late_success(request, rest), up);
         }
         self.succeed(client, request, rest);
         Ok(self.pass_on(client))
@@ -177,9 +179,9 @@ impl Core {
 
     // A failure: to the client whose request waits longest, and where that is lost its cancel is
     // said again.
-    fn hear_refusal(&mut self, payload: &[u8], up: &mut Queue) -> Result<Delivery, OutOfMemory>
+    fn receive_refusal(&mut self, payload: &[u8], up: &mut Queue) -> Result<Delivery, OutOfMemory>
         ensures stands { IfOk result (λ h.
-            HearsWith self.old self.new payload.now payload.now Refuses up.old up.new h) }
+            ReceivesWith self.old self.new payload.now payload.now Refuses up.old up.new h) }
         ensures spare { up.new.spare ≡ up.old.spare }
         ensures policy { self.new.policy ≡ self.old.policy }
         ensures err { OnErr result (up.new ≡ up.old) }
@@ -189,14 +191,14 @@ impl Core {
         };
         let request = ask.as_request();
         if self.is_lost(client) {
-            return self.hear_late(client, late_refusal(request), up);
+            return self.receive_late(client, late_refusal(request), up);
         }
         self.fail(client, request);
         Ok(self.pass_on(client))
     }
 
     // A reply for a client that is lost, and what the master sends after it.
-    fn hear_late(
+    fn receive_late(
         &mut self,
         client: u64,
         cancel: Option<Small>,
@@ -234,7 +236,7 @@ impl Core {
         } }
     {
         match request {
-            Request::Forward(key) => self.answer_forward(client, key, Some(told_port(rest))),
+            Request::Forward(key) => self.answer_forward(client, key, Some(recorded_port(rest))),
             Request::Cancel(key) => self.answer_cancel(client, key, true),
             Request::KeepAlive | Request::Other => {}
         }

@@ -9,12 +9,12 @@
 
 mod gone;
 mod heard;
-mod heard_channels;
 pub mod laws;
 mod members;
 mod reading;
+mod received_channels;
 mod said;
-mod said_requests;
+mod sent_requests;
 mod state;
 mod verdict;
 

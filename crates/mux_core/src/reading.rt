@@ -1,16 +1,16 @@
 ghost use Rattle.std.specs.Prelude.{◌≡◌, Ok, Err, MatchResult};
 ghost use Rattle.ssh_grammar.specs.IsMessage.{IsMessage};
 ghost use Rattle.conn_messages.specs.Message.{message_of};
-ghost use Rattle.mux_history.specs.Gist.{Within, gist, read_gist};
+ghost use Rattle.mux_history.specs.Summary.{Within, summary, read_summary};
 ghost use Rattle.window_ledger.specs.Act.{act_of};
-ghost use Rattle.mux_core.specs.Gists.{gist_of};
+ghost use Rattle.mux_core.specs.Summaries.{summary_of};
 
 use conn_messages::{Bad, Message, Opening, Request, read_message};
 use window_ledger::Act;
 
 /// What a message does, without the texts and data that only pass.
 #[derive(Clone, Copy)]
-pub enum Gist<'a> {
+pub enum Summary<'a> {
     Transport {
         number: u8,
     },
@@ -45,28 +45,28 @@ pub enum Gist<'a> {
 }
 
 // An act in a channel that both sides have confirmed.
-fn act_in<'a>(recipient: u32, act: Act) -> Gist<'a>
-    ensures { gist_of result ≡ Within recipient (act_of act) }
+fn act_in<'a>(recipient: u32, act: Act) -> Summary<'a>
+    ensures { summary_of result ≡ Within recipient (act_of act) }
 {
-    Gist::Within { recipient, act }
+    Summary::Within { recipient, act }
 }
 
-fn gist_of<'a>(message: Message<'a>) -> Gist<'a>
+fn summary_of<'a>(message: Message<'a>) -> Summary<'a>
     requires { IsMessage (message_of message) }
-    ensures { gist_of result ≡ gist (message_of message.entry) }
+    ensures { summary_of result ≡ summary (message_of message.entry) }
 {
     match message {
-        Message::Transport { number, .. } => Gist::Transport { number },
-        Message::GlobalRequest { what, want, .. } => Gist::Requests { what, want },
-        Message::RequestSuccess { rest } => Gist::Succeeds { rest },
-        Message::RequestFailure => Gist::Refuses,
+        Message::Transport { number, .. } => Summary::Transport { number },
+        Message::GlobalRequest { what, want, .. } => Summary::Requests { what, want },
+        Message::RequestSuccess { rest } => Summary::Succeeds { rest },
+        Message::RequestFailure => Summary::Refuses,
         Message::Open {
             sender,
             window,
             maximum,
             what,
             ..
-        } => Gist::Open {
+        } => Summary::Open {
             what,
             sender,
             window,
@@ -78,13 +78,13 @@ fn gist_of<'a>(message: Message<'a>) -> Gist<'a>
             window,
             maximum,
             ..
-        } => Gist::Confirmation {
+        } => Summary::Confirmation {
             recipient,
             sender,
             window,
             maximum,
         },
-        Message::OpenFailure { recipient, .. } => Gist::Fails { recipient },
+        Message::OpenFailure { recipient, .. } => Summary::Fails { recipient },
         Message::Adjust { recipient, add } => act_in(recipient, Act::Grant(add)),
         Message::Data { recipient, bytes }
         | Message::Extended {
@@ -106,12 +106,12 @@ fn gist_of<'a>(message: Message<'a>) -> Gist<'a>
 }
 
 /// The gist of what a payload says, or why it doesn't read.
-pub fn read_gist(payload: &[u8]) -> Result<Gist<'_>, Bad>
-    ensures { MatchResult result (λ m. read_gist payload.now ≡ Ok (gist_of m)) (λ e.
-        read_gist payload.now ≡ Err e) }
+pub fn read_summary(payload: &[u8]) -> Result<Summary<'_>, Bad>
+    ensures { MatchResult result (λ m. read_summary payload.now ≡ Ok (summary_of m)) (λ e.
+        read_summary payload.now ≡ Err e) }
 {
     match read_message(payload) {
-        Ok(message) => Ok(gist_of(message)),
+        Ok(message) => Ok(summary_of(message)),
         Err(bad) => Err(bad),
     }
 }

@@ -4,13 +4,13 @@ ghost use Rattle.ssh_grammar.specs.declared.framing.Framing.TheVariants.{Proxy};
 ghost use Rattle.ssh_grammar.specs.IsFrame.{IsContent};
 ghost use Rattle.proxy_frames.specs.declared.queue.TheConstants.{LONGEST_PAYLOAD};
 ghost use Rattle.conn_messages.specs.declared.write.TheConstants.{LONGEST_TEXT};
-ghost use Rattle.mux_history.specs.Gist.{Confirmation, Fails, Within};
+ghost use Rattle.mux_history.specs.Summary.{Confirmation, Fails, Within};
 ghost use Rattle.window_ledger.specs.Act.{act_of};
-ghost use Rattle.mux_core.specs.Calls.{AnswerFits, SaysAs, SaysOn, SaysSome, StartsOn};
+ghost use Rattle.mux_core.specs.Calls.{AnswerFits, SendsAs, SendsOn, SendsSome, StartsOn};
 ghost use Rattle.conn_messages.specs.Message.{opening_of};
 ghost use Rattle.mux_core.specs.Opening.{fails_with, open_verdict};
 
-use crate::reading::{Gist, read_gist};
+use crate::reading::{Summary, read_summary};
 use crate::state::{Core, are_bytes, confirmed_ledger, put_sender};
 use crate::verdict::Verdict;
 use channel_table::Refused;
@@ -41,52 +41,52 @@ impl Core {
     ) -> Result<Verdict, OutOfMemory>
         requires { length payload.old ≤ LONGEST_PAYLOAD }
         ensures stands { IfOk result (λ v.
-            SaysOn self.old self.new client payload.old up.old up.new v) }
+            SendsOn self.old self.new client payload.old up.old up.new v) }
         ensures fits { IfOk result AnswerFits }
         ensures spare { up.old.spare ≤ up.new.spare }
         ensures policy { self.new.policy ≡ self.old.policy }
         ensures err { OnErr result (up.new ≡ up.old) }
     {
         are_bytes(payload);
-        let (sender, window, maximum) = match read_gist(payload) {
+        let (sender, window, maximum) = match read_summary(payload) {
             Err(bad) => return Ok(Verdict::Drop(Why::BadMessage(bad))),
-            Ok(Gist::Transport { number: DISCONNECT }) => {
+            Ok(Summary::Transport { number: DISCONNECT }) => {
                 return Ok(Verdict::Drop(Why::Disconnected));
             }
-            Ok(Gist::Transport { .. }) => return Ok(Verdict::Silent),
-            Ok(Gist::Succeeds { .. }) => {
+            Ok(Summary::Transport { .. }) => return Ok(Verdict::Silent),
+            Ok(Summary::Succeeds { .. }) => {
                 return Ok(Verdict::Drop(Why::Unasked {
                     number: REQUEST_SUCCESS,
                 }));
             }
-            Ok(Gist::Refuses) => {
+            Ok(Summary::Refuses) => {
                 return Ok(Verdict::Drop(Why::Unasked {
                     number: REQUEST_FAILURE,
                 }));
             }
-            Ok(Gist::Requests { what, want }) => {
-                return self.say_request(client, payload, what, want, up);
+            Ok(Summary::Requests { what, want }) => {
+                return self.send_request(client, payload, what, want, up);
             }
-            Ok(Gist::Fails { recipient }) => {
-                return self.say_failure(client, payload, recipient, up);
+            Ok(Summary::Fails { recipient }) => {
+                return self.send_failure(client, payload, recipient, up);
             }
-            Ok(Gist::Within { recipient, act }) => {
-                return self.say_within(client, payload, recipient, act, up);
+            Ok(Summary::Within { recipient, act }) => {
+                return self.send_within(client, payload, recipient, act, up);
             }
             Ok(
-                Gist::Confirmation {
+                Summary::Confirmation {
                     recipient,
                     sender,
                     window,
                     maximum,
                 },
             ) => {
-                return self.say_confirmation(
+                return self.send_confirmation(
                     client, payload, recipient, sender, window, maximum, up,
                 );
             }
             Ok(
-                Gist::Open {
+                Summary::Open {
                     what,
                     sender,
                     window,
@@ -163,7 +163,7 @@ impl Core {
     }
 
     // A client confirms a server's open.
-    fn say_confirmation(
+    fn send_confirmation(
         &mut self,
         client: u64,
         payload: &mut [u8],
@@ -176,7 +176,7 @@ impl Core {
         requires content { IsContent Proxy payload.old }
         requires bytes { AreBytes payload.old }
         ensures stands { IfOk result (λ v.
-            SaysSome self.old self.new client payload.old
+            SendsSome self.old self.new client payload.old
             (Confirmation remote sender window maximum) up.old up.new v) }
         ensures fits { IfOk result AnswerFits }
         ensures spare { up.new.spare ≡ up.old.spare }
@@ -196,7 +196,7 @@ impl Core {
     }
 
     // A client refuses a server's open.
-    fn say_failure(
+    fn send_failure(
         &mut self,
         client: u64,
         payload: &[u8],
@@ -205,7 +205,7 @@ impl Core {
     ) -> Result<Verdict, OutOfMemory>
         requires { IsContent Proxy payload.now }
         ensures stands { IfOk result (λ v.
-            SaysAs self.old self.new client payload.now (Within remote Fails) 0 up.old up.new v) }
+            SendsAs self.old self.new client payload.now (Within remote Fails) 0 up.old up.new v) }
         ensures fits { IfOk result AnswerFits }
         ensures spare { up.new.spare ≡ up.old.spare }
         ensures policy { self.new.policy ≡ self.old.policy }
@@ -220,7 +220,7 @@ impl Core {
     }
 
     // What a client says in a channel that both sides have confirmed.
-    fn say_within(
+    fn send_within(
         &mut self,
         client: u64,
         payload: &[u8],
@@ -230,7 +230,7 @@ impl Core {
     ) -> Result<Verdict, OutOfMemory>
         requires { IsContent Proxy payload.now }
         ensures stands { IfOk result (λ v.
-            SaysAs self.old self.new client payload.now (Within remote (act_of act)) 0
+            SendsAs self.old self.new client payload.now (Within remote (act_of act)) 0
             up.old up.new v) }
         ensures fits { IfOk result AnswerFits }
         ensures spare { up.new.spare ≡ up.old.spare }

@@ -2,6 +2,6 @@ pub mod WordLemmas
 pub mod GeneratorLemmas
 pub mod InboxLemmas
 pub mod StepLemmas
-pub mod CourseLemmas
+pub mod TraceLemmas
 pub mod PlanLemmas
 pub mod FrameLemmas

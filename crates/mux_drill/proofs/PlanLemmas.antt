@@ -8,7 +8,7 @@ use Rattle.conf_rules.specs.Reading.{drill_of, drill_number, no_more, seed_limit
 use Rattle.conf_rules.specs.Results.{◌>>=◌}
 use Rattle.conf_rules.specs.Texts.{Bytes, split_at_each}
 use Rattle.conf_rules.specs.declared.command.Command.{Command}
-use Rattle.conf_rules.specs.declared.command.Command.TheVariants.{List as Listing, Master, Control, Drill}
+use Rattle.conf_rules.specs.declared.command.Command.TheVariants.{List as Listing, Master, MasterCommand, Drill}
 use Rattle.conf_rules.specs.CommandLine.{refused}
 use Rattle.conf_rules.specs.declared.usage.Usage.TheVariants.{BadDrill}
 use Rattle.conf_rules.specs.declared.usage.UsageError.{UsageError}
@@ -38,15 +38,15 @@ within low high (d ∷ ds) n e =
     by_case false m b least c most e = cc
 
 -- what a number is told as
-abbrev told : ℕ → Option ℕ → Result ℕ UsageError
-told word None = refused word BadDrill
-told word (Some n) = Ok n
+abbrev recorded : ℕ → Option ℕ → Result ℕ UsageError
+recorded word None = refused word BadDrill
+recorded word (Some n) = Ok n
 
 -- the same of a number of the drill
 number_in : (word low high : ℕ) (text : Bytes) (n : ℕ) → drill_number word low high text ≡ Ok n → (low ≤ n) × (n ≤ high)
 number_in word low high text n e = by_case (number_within low high text) refl e
   where
-    by_case : (o : Option ℕ) → number_within low high text ≡ o → told word o ≡ Ok n → (low ≤ n) × (n ≤ high)
+    by_case : (o : Option ℕ) → number_within low high text ≡ o → recorded word o ≡ Ok n → (low ≤ n) × (n ≤ high)
     by_case None is none = cc
     by_case (Some k) is some = let found : number_within low high text ≡ Some n = cc in within low high text n found
 
@@ -77,7 +77,7 @@ read_sound : (words : List Bytes) (r : Result Command UsageError) → drill_of w
 read_sound words (Ok (Drill s c m)) e = in_range words s c m e
 read_sound words (Ok (Listing asked)) e = tt
 read_sound words (Ok (Master asked transport opens listens)) e = tt
-read_sound words (Ok (Control asked control)) e = tt
+read_sound words (Ok (MasterCommand asked control)) e = tt
 read_sound words (Err error) e = tt
 
 -- what a text says

@@ -14,21 +14,21 @@ use Rattle.mux_outside.specs.declared.turn.Want.TheVariants.{Read}
 use Rattle.mux_drill.specs.Frames.{confirmation_frame, adjust_frame, data_frame, close_frame, greeting, opener_in}
 use Rattle.mux_drill.specs.Inboxes.{stands_first}
 use Rattle.mux_drill.specs.Play.{may_happen, is_met}
-use Rattle.mux_drill.specs.declared.step.Step.{Step}
+use Rattle.mux_drill.specs.declared.step.DrillStep.{DrillStep}
 use Rattle.mux_drill.specs.Steps.{step_at, message_at}
 use Rattle.mux_drill.specs.declared.plan.Plan.{Plan}
-use Rattle.mux_drill.specs.declared.stage.Stage.{Stage}
-use Rattle.mux_drill.specs.declared.stage.Stage.TheVariants.{Unopened, Accepting, Entering, Confirming, Sending, Echoing, Adjusting, Closing, ClosingBack, Leaving, Ending}
+use Rattle.mux_drill.specs.declared.stage.DrillStage.{DrillStage}
+use Rattle.mux_drill.specs.declared.stage.DrillStage.TheVariants.{Unopened, Accepting, Entering, Confirming, Sending, Echoing, Adjusting, Closing, ClosingBack, Leaving, Ending}
 
 -- a turn that gives bytes has some
-abbrev pub SaysSome : Turn → List ℕ → Type 0
-SaysSome (Got t) bytes = 0 < length bytes
-SaysSome (Accepted c) bytes = Unit {0}
-SaysSome (End t) bytes = Unit {0}
-SaysSome (Writable t) bytes = Unit {0}
-SaysSome (Failed t) bytes = Unit {0}
-SaysSome (Joined l t) bytes = Unit {0}
-SaysSome NoMemory bytes = Unit {0}
+abbrev pub SendsSome : Turn → List ℕ → Type 0
+SendsSome (Got t) bytes = 0 < length bytes
+SendsSome (Accepted c) bytes = Unit {0}
+SendsSome (End t) bytes = Unit {0}
+SendsSome (Writable t) bytes = Unit {0}
+SendsSome (Failed t) bytes = Unit {0}
+SendsSome (Joined l t) bytes = Unit {0}
+SendsSome NoMemory bytes = Unit {0}
 
 -- a list that isn't empty
 abbrev IsNonEmpty : List ℕ → Type 0
@@ -41,27 +41,27 @@ some_of [] h = absurd h
 some_of (x ∷ xs) h = omega arith
 
 -- each step that speaks says something
-pub says_some : (picks waiting : List ℕ) (plan : Plan) (stage : Stage)
-    → SaysSome (step_at picks waiting plan stage).turn (step_at picks waiting plan stage).says
+pub sends_some : (picks waiting : List ℕ) (plan : Plan) (stage : DrillStage)
+    → SendsSome (step_at picks waiting plan stage).turn (step_at picks waiting plan stage).says
 unfolding greeting confirmation_frame adjust_frame data_frame close_frame
-says_some picks waiting plan Unopened = tt
-says_some picks waiting plan (Accepting c) = tt
-says_some picks waiting plan (Entering c) = some_of greeting tt
-says_some picks waiting plan (Confirming c) = some_of (confirmation_frame (opener_in waiting) (c - 1)) tt
-says_some picks waiting plan (Sending i) =
+sends_some picks waiting plan Unopened = tt
+sends_some picks waiting plan (Accepting c) = tt
+sends_some picks waiting plan (Entering c) = some_of greeting tt
+sends_some picks waiting plan (Confirming c) = some_of (confirmation_frame (opener_in waiting) (c - 1)) tt
+sends_some picks waiting plan (Sending i) =
     let m = message_at plan i in
     some_of (data_frame (m.client - 1) m.len m.byte) tt
-says_some picks waiting plan (Echoing i) =
+sends_some picks waiting plan (Echoing i) =
     let m = message_at plan i in
     let number = slice_index picks m.client in
     some_of (adjust_frame number m.len ++ data_frame number m.len m.byte) tt
-says_some picks waiting plan (Adjusting i) =
+sends_some picks waiting plan (Adjusting i) =
     let m = message_at plan i in
     some_of (adjust_frame (m.client - 1) m.len) tt
-says_some picks waiting plan (Closing c) = some_of (close_frame (c - 1)) tt
-says_some picks waiting plan (ClosingBack c) = some_of (close_frame (slice_index picks c)) tt
-says_some picks waiting plan (Leaving c) = tt
-says_some picks waiting plan Ending = tt
+sends_some picks waiting plan (Closing c) = some_of (close_frame (c - 1)) tt
+sends_some picks waiting plan (ClosingBack c) = some_of (close_frame (slice_index picks c)) tt
+sends_some picks waiting plan (Leaving c) = tt
+sends_some picks waiting plan Ending = tt
 
 -- both parts of what passes
 pub both : (a b : Bool) → (a && b) ≡ true → IsTrue a × IsTrue b
@@ -95,7 +95,7 @@ speaks_some (x ∷ xs) e = omega arith
 
 -- a turn that may happen fits
 pub turn_fits : (turn : Turn) (seen : Seen) (unread : List (List ℕ)) (says : List ℕ)
-    → may_happen turn seen unread ≡ true → SaysSome turn says
+    → may_happen turn seen unread ≡ true → SendsSome turn says
     → TurnFits turn Read seen (take 37 says)
 turn_fits (Accepted c) seen unread says may some =
     let parts = both seen.listens _ may in
@@ -111,14 +111,14 @@ turn_fits (Joined l t) seen unread says may some = cc
 turn_fits NoMemory seen unread says may some = tt
 
 -- a step that is met fits
-pub begin_fits : (step : Step) (seen : Seen) (unread : List (List ℕ)) (picks waiting : List ℕ) (plan : Plan) (stage : Stage)
+pub begin_fits : (step : DrillStep) (seen : Seen) (unread : List (List ℕ)) (picks waiting : List ℕ) (plan : Plan) (stage : DrillStage)
     (piece : List ℕ) → step ≡ step_at picks waiting plan stage → is_met step seen unread ≡ true → piece ≡ take 37 step.says
     → TurnFits step.turn Read seen piece
 begin_fits step seen unread picks waiting plan stage piece is met gives =
     let up = both (stands_first 0 step.up unread) (stands_first step.client step.down unread && may_happen step.turn seen unread) met in
     let down = both (stands_first step.client step.down unread) (may_happen step.turn seen unread) up.1 in
-    let P : Step → Type 0 = λ s. SaysSome s.turn s.says in
-    rw gives (turn_fits step.turn seen unread step.says down.1 (subst P (sym is) (says_some picks waiting plan stage)))
+    let P : DrillStep → Type 0 = λ s. SendsSome s.turn s.says in
+    rw gives (turn_fits step.turn seen unread step.says down.1 (subst P (sym is) (sends_some picks waiting plan stage)))
 
 -- a turn that may happen is none of the master's own, where there is nothing of its own
 pub turn_owns : (turn : Turn) (seen : Seen) (unread : List (List ℕ))
@@ -132,7 +132,7 @@ turn_owns (Joined l t) seen unread may none = cc
 turn_owns NoMemory seen unread may none = tt
 
 -- nor is that of a step that is met
-pub begin_owns : (step : Step) (seen : Seen) (unread : List (List ℕ))
+pub begin_owns : (step : DrillStep) (seen : Seen) (unread : List (List ℕ))
     → is_met step seen unread ≡ true → seen.own ≡ [] → OwnFits step.turn seen
 begin_owns step seen unread met none =
     let up = both (stands_first 0 step.up unread) (stands_first step.client step.down unread && may_happen step.turn seen unread) met in

@@ -11,20 +11,20 @@ use Rattle.mux_outside.specs.declared.turn.Want.{Want}
 use Rattle.mux_outside.specs.declared.turn.Want.TheVariants.{Read, WriteOnly}
 use Rattle.mux_outside.specs.declared.turn.Wrote.{Wrote}
 use Rattle.mux_outside.specs.declared.turn.Wrote.TheVariants.{Took}
-use Rattle.mux_drill.specs.Course.{full_tally, tally_at}
+use Rattle.mux_drill.specs.Trace.{full_tally, tally_at}
 use Rattle.mux_drill.specs.Inboxes.{with_more}
 use Rattle.mux_drill.specs.Play.{next_turn, next_piece, next_play, IsNothing, Starts}
 use Rattle.mux_drill.specs.declared.plan.Plan.{Plan}
-use Rattle.mux_drill.specs.declared.stage.Stage.TheVariants.{Ending}
+use Rattle.mux_drill.specs.declared.stage.DrillStage.TheVariants.{Ending}
 use Rattle.mux_drill.specs.declared.drill_wire.DrillWire.{DrillWire}
 
 -- what was counted
 abbrev pub tally_of : DrillWire → Tally
-tally_of w = tally_at w.play.course
+tally_of w = tally_at w.play.trace
 
 -- all clients have ended
 abbrev pub IsOver : DrillWire → Type 0
-IsOver w = w.play.course.stage ≡ Ending
+IsOver w = w.play.trace.stage ≡ Ending
 
 -- a wire that isn't open
 pub record IsNew (w : DrillWire) : Type 0 where
@@ -48,7 +48,7 @@ pub record ReadsNone (plan : Option Plan) (old new : DrillWire) : Type 0 where
 
 -- a call of open succeeds exactly where its transport reads as a plan, but for want of memory
 abbrev pub Opens : Result (Unit {0}) FileError → Option Plan → DrillWire → DrillWire → Type 0
-Opens (Ok x) plan old new = Begins plan new new.play.course.plan
+Opens (Ok x) plan old new = Begins plan new new.play.trace.plan
 Opens (Err FailedFile) plan old new = ReadsNone plan old new
 Opens (Err OutOfMemory) plan old new = SamePlay old new
 
@@ -68,7 +68,7 @@ pub record Plays (want : Want) (turn : Turn) (bytes : List ℕ) (old new : Drill
 -- where the server's stream ends the drill is over and all of the plan is counted, and where it is
 -- over nothing more is
 pub record CountsToTheEnd (turn : Turn) (old new : DrillWire) : Type 0 where
-  pub drilled : turn ≡ End 0 → tally_of new ≡ full_tally old.play.course.plan
+  pub drilled : turn ≡ End 0 → tally_of new ≡ full_tally old.play.trace.plan
   pub ends : turn ≡ End 0 → IsOver new
   pub over : IsOver old → tally_of new ≡ tally_of old
 

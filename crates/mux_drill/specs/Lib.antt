@@ -2,8 +2,8 @@ pub mod Plan
 pub mod Generator
 pub mod Frames
 pub mod Inboxes
-pub mod Saying
-pub mod Course
+pub mod Outgoing
+pub mod Trace
 pub mod Steps
 pub mod Play
 pub mod DrillWire

@@ -6,14 +6,14 @@ use Rattle.mux_outside.specs.Streams.{among}
 use Rattle.mux_outside.specs.declared.own_streams.TheConstants.{LAST_CLIENT}
 use Rattle.mux_outside.specs.declared.turn.Turn.{Turn}
 use Rattle.mux_outside.specs.declared.turn.Turn.TheVariants.{Accepted, Got, End, Writable, Failed, Joined, NoMemory}
-use Rattle.mux_drill.specs.Course.{spot_after}
+use Rattle.mux_drill.specs.Trace.{spot_after}
 use Rattle.mux_drill.specs.Frames.{opener_in}
 use Rattle.mux_drill.specs.Inboxes.{unread_at, without_first, stands_first, all_read}
-use Rattle.mux_drill.specs.Saying.{Said, gone_on}
+use Rattle.mux_drill.specs.Outgoing.{Said, gone_on}
 use Rattle.mux_drill.specs.Steps.{step_at}
-use Rattle.mux_drill.specs.declared.stage.Stage.{Stage}
-use Rattle.mux_drill.specs.declared.stage.Stage.TheVariants.{Accepting, Confirming, Unopened}
-use Rattle.mux_drill.specs.declared.step.Step.{Step}
+use Rattle.mux_drill.specs.declared.stage.DrillStage.{DrillStage}
+use Rattle.mux_drill.specs.declared.stage.DrillStage.TheVariants.{Accepting, Confirming, Unopened}
+use Rattle.mux_drill.specs.declared.step.DrillStep.{DrillStep}
 use Rattle.mux_drill.specs.declared.plan.Plan.{Plan}
 use Rattle.mux_drill.specs.declared.play.Play.{Play}
 use Rattle.mux_drill.specs.declared.play.Change.{Change}
@@ -39,14 +39,14 @@ may_happen (Joined l t) seen unread = false
 may_happen NoMemory seen unread = false
 
 -- whether all that a step needs was written, and its turn may happen
-abbrev pub is_met : Step → Seen → List (List ℕ) → Bool
+abbrev pub is_met : DrillStep → Seen → List (List ℕ) → Bool
 is_met step seen unread =
     stands_first 0 step.up unread
     && (stands_first step.client step.down unread && may_happen step.turn seen unread)
 
 -- the step that comes next
-abbrev pub next_step : Play → Step
-next_step play = step_at play.picks (unread_at 0 play.unread) play.course.plan play.course.stage
+abbrev pub next_step : Play → DrillStep
+next_step play = step_at play.picks (unread_at 0 play.unread) play.trace.plan play.trace.stage
 
 -- the next turn
 abbrev pub next_turn : Play → Seen → Turn
@@ -73,18 +73,18 @@ speaker_of (Joined l t) = t
 speaker_of NoMemory = 0
 
 -- the numbers that the master picked: the server reads one with each open
-abbrev pub picks_after : Stage → ℕ → List ℕ → List ℕ
+abbrev pub picks_after : DrillStage → ℕ → List ℕ → List ℕ
 picks_after (Confirming c) number picks = slice_set picks c number
 picks_after _ number picks = picks
 
 -- after a step was begun: its bytes were read, and a piece of what it says was given
-abbrev pub begun : Step → Play → Play
+abbrev pub begun : DrillStep → Play → Play
 begun step play = record play {
-  course = spot_after play.course;
+  trace = spot_after play.trace;
   said = gone_on (record { stream = speaker_of step.turn; rest = step.says });
   unread = without_first step.client (length step.down)
       (without_first 0 (length step.up) play.unread);
-  picks = picks_after play.course.stage (opener_in (unread_at 0 play.unread)) play.picks;
+  picks = picks_after play.trace.stage (opener_in (unread_at 0 play.unread)) play.picks;
 }
 
 -- after a change
@@ -119,14 +119,14 @@ next_play play seen = changed (next_change play seen) play
 
 -- a play at the start of a plan: nothing is said, written or picked
 pub record Starts (plan : Plan) (play : Play) : Type 0 where
-  pub course_is : play.course ≡ record { plan = plan; stage = Accepting 1 }
-  pub said_is : play.said ≡ record { stream = 0; rest = [] }
+  pub trace_is : play.trace ≡ record { plan = plan; stage = Accepting 1 }
+  pub sent_is : play.said ≡ record { stream = 0; rest = [] }
   pub unread_is : play.unread ≡ replicate (plan.clients + 1) []
   pub picks_are : play.picks ≡ replicate 65 0
 
 -- no play: nothing is opened, said, written or picked
 pub record IsNothing (play : Play) : Type 0 where
-  pub stage_is : play.course.stage ≡ Unopened
-  pub said_is : play.said ≡ record { stream = 0; rest = [] }
+  pub stage_is : play.trace.stage ≡ Unopened
+  pub sent_is : play.said ≡ record { stream = 0; rest = [] }
   pub unread_is : play.unread ≡ []
   pub picks_are : play.picks ≡ replicate 65 0

@@ -6,14 +6,14 @@ use Rattle.mux_drill.specs.Frames.{open_frame, confirmation_frame, adjust_frame,
 use Rattle.mux_drill.specs.Generator.{drawn, message_of}
 use Rattle.mux_drill.specs.declared.generator.Message.{Message}
 use Rattle.mux_drill.specs.declared.plan.Plan.{Plan}
-use Rattle.mux_drill.specs.declared.stage.Stage.{Stage}
-use Rattle.mux_drill.specs.declared.stage.Stage.TheVariants.{Unopened, Accepting, Entering, Confirming, Sending, Echoing, Adjusting, Closing, ClosingBack, Leaving, Ending}
-use Rattle.mux_drill.specs.declared.step.Step.{Step}
+use Rattle.mux_drill.specs.declared.stage.DrillStage.{DrillStage}
+use Rattle.mux_drill.specs.declared.stage.DrillStage.TheVariants.{Unopened, Accepting, Entering, Confirming, Sending, Echoing, Adjusting, Closing, ClosingBack, Leaving, Ending}
+use Rattle.mux_drill.specs.declared.step.DrillStep.{DrillStep}
 
 -- ---- what is needed and given
 
 -- a turn, before which nothing is needed and which says nothing
-abbrev pub bare : Turn → Step
+abbrev pub bare : Turn → DrillStep
 bare turn = record { up = []; client = 0; down = []; turn = turn; says = [] }
 
 -- message i
@@ -38,7 +38,7 @@ abbrev pub welcome_before : ℕ → List ℕ
 welcome_before client = if client == 1 then [] else welcome (client - 2)
 
 -- the server confirms the open with this number
-abbrev pub confirming : ℕ → ℕ → Step
+abbrev pub confirming : ℕ → ℕ → DrillStep
 confirming client number = record {
   up = open_frame number;
   client = client - 1;
@@ -48,7 +48,7 @@ confirming client number = record {
 }
 
 -- message i is sent
-abbrev pub sending : ℕ → ℕ → Message → Message → Step
+abbrev pub sending : ℕ → ℕ → Message → Message → DrillStep
 sending clients i before m = record {
   up = settled_up before i;
   client = clients;
@@ -58,7 +58,7 @@ sending clients i before m = record {
 }
 
 -- the server answers it
-abbrev pub echoing : ℕ → Message → Step
+abbrev pub echoing : ℕ → Message → DrillStep
 echoing number m = record {
   up = data_frame (m.client - 1) m.len m.byte;
   client = 0;
@@ -68,7 +68,7 @@ echoing number m = record {
 }
 
 -- its client answers that
-abbrev pub adjusting : Message → Step
+abbrev pub adjusting : Message → DrillStep
 adjusting m = record {
   up = [];
   client = m.client;
@@ -78,7 +78,7 @@ adjusting m = record {
 }
 
 -- a client sends CLOSE, the first behind so many messages
-abbrev pub closing : ℕ → ℕ → Message → ℕ → Step
+abbrev pub closing : ℕ → ℕ → Message → ℕ → DrillStep
 closing clients messages before client = record {
   up = if client == 1 then settled_up before messages else [];
   client = clients;
@@ -91,7 +91,7 @@ closing clients messages before client = record {
 
 -- the step of a stage, by the numbers that the master picked for the clients and the bytes that
 -- wait for the server
-abbrev pub step_at : List ℕ → List ℕ → Plan → Stage → Step
+abbrev pub step_at : List ℕ → List ℕ → Plan → DrillStage → DrillStep
 step_at picks waiting plan Unopened = bare (Failed 0)
 step_at picks waiting plan (Accepting c) = bare (Accepted c)
 step_at picks waiting plan (Entering c) = record (bare (Got c)) { says = greeting }

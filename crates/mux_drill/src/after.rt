@@ -1,85 +1,89 @@
 //! What a step leaves.
 ghost use Rattle.std.specs.Prelude.{◌≡◌, ◌≤◌};
-ghost use Rattle.mux_drill.specs.Course.{stage_after as after, place_of, last_of, from_message as message_or_close, drawn_after, counting};
+ghost use Rattle.mux_drill.specs.Trace.{stage_after as after, place_of, last_of, from_message as message_or_close, drawn_after, counting};
 ghost use Rattle.mux_drill.specs.Generator.{length_of};
 
 use crate::draw::{draw, len_of};
 use crate::plan::Plan;
-use crate::stage::Stage;
+use crate::stage::DrillStage;
 use mux_outside::{Tally, counted};
 
 // Message i, if there is one, else the first CLOSE.
-fn from_message(plan: Plan, i: u64) -> Stage
+fn from_message(plan: Plan, i: u64) -> DrillStage
     ensures { result ≡ message_or_close plan i }
 {
     if i < plan.messages {
-        Stage::Sending(i)
+        DrillStage::Sending(i)
     } else {
-        Stage::Closing(1)
+        DrillStage::Closing(1)
     }
 }
 
 /// The step after one.
-pub fn stage_after(plan: Plan, stage: Stage) -> Stage
+pub fn stage_after(plan: Plan, stage: DrillStage) -> DrillStage
     requires { place_of stage ≤ last_of plan stage }
     ensures { result ≡ after plan stage }
 {
     match stage {
-        Stage::Unopened => Stage::Unopened,
-        Stage::Accepting(client) => Stage::Entering(client),
-        Stage::Entering(client) if client < plan.clients => Stage::Accepting(client + 1),
-        Stage::Entering(_) => Stage::Confirming(1),
-        Stage::Confirming(client) if client < plan.clients => Stage::Confirming(client + 1),
-        Stage::Confirming(_) => from_message(plan, 0),
-        Stage::Sending(i) => Stage::Echoing(i),
-        Stage::Echoing(i) => Stage::Adjusting(i),
-        Stage::Adjusting(i) => from_message(plan, i + 1),
-        Stage::Closing(client) if client < plan.clients => Stage::Closing(client + 1),
-        Stage::Closing(_) => Stage::ClosingBack(1),
-        Stage::ClosingBack(client) if client < plan.clients => Stage::ClosingBack(client + 1),
-        Stage::ClosingBack(_) => Stage::Leaving(1),
-        Stage::Leaving(client) if client < plan.clients => Stage::Leaving(client + 1),
-        Stage::Leaving(_) => Stage::Ending,
-        Stage::Ending => Stage::Ending,
+        DrillStage::Unopened => DrillStage::Unopened,
+        DrillStage::Accepting(client) => DrillStage::Entering(client),
+        DrillStage::Entering(client) if client < plan.clients => DrillStage::Accepting(client + 1),
+        DrillStage::Entering(_) => DrillStage::Confirming(1),
+        DrillStage::Confirming(client) if client < plan.clients => DrillStage::Confirming(
+            client + 1,
+        ),
+        DrillStage::Confirming(_) => from_message(plan, 0),
+        DrillStage::Sending(i) => DrillStage::Echoing(i),
+        DrillStage::Echoing(i) => DrillStage::Adjusting(i),
+        DrillStage::Adjusting(i) => from_message(plan, i + 1),
+        DrillStage::Closing(client) if client < plan.clients => DrillStage::Closing(client + 1),
+        DrillStage::Closing(_) => DrillStage::ClosingBack(1),
+        DrillStage::ClosingBack(client) if client < plan.clients => DrillStage::ClosingBack(
+            client + 1,
+        ),
+        DrillStage::ClosingBack(_) => DrillStage::Leaving(1),
+        DrillStage::Leaving(client) if client < plan.clients => DrillStage::Leaving(client + 1),
+        DrillStage::Leaving(_) => DrillStage::Ending,
+        DrillStage::Ending => DrillStage::Ending,
     }
 }
 
 /// The number drawn last after a step: a message that is sent draws one.
-pub fn x_after(stage: Stage, x: u64) -> u64
+pub fn x_after(stage: DrillStage, x: u64) -> u64
     ensures { result ≡ drawn_after stage x }
 {
     match stage {
-        Stage::Sending(_) => draw(x),
+        DrillStage::Sending(_) => draw(x),
         _ => x,
     }
 }
 
 /// What was counted after a step.
-pub fn tally_after(plan: Plan, stage: Stage, x: u64, tally: Tally) -> Tally
+pub fn tally_after(plan: Plan, stage: DrillStage, x: u64, tally: Tally) -> Tally
     ensures { result ≡ counting plan stage (length_of x) tally }
 {
     match stage {
-        Stage::Accepting(_) => Tally {
+        DrillStage::Accepting(_) => Tally {
             clients: counted(tally.clients),
             ..tally
         },
-        Stage::Sending(i) if 0 < i => Tally {
+        DrillStage::Sending(i) if 0 < i => Tally {
             messages: counted(tally.messages),
             ..tally
         },
-        Stage::Echoing(_) => Tally {
+        DrillStage::Echoing(_) => Tally {
             data_up: tally.data_up.saturating_add(len_of(x)),
             ..tally
         },
-        Stage::Adjusting(_) => Tally {
+        DrillStage::Adjusting(_) => Tally {
             data_down: tally.data_down.saturating_add(len_of(x)),
             ..tally
         },
-        Stage::Closing(client) if client == 1 && 0 < plan.messages => Tally {
+        DrillStage::Closing(client) if client == 1 && 0 < plan.messages => Tally {
             messages: counted(tally.messages),
             ..tally
         },
-        Stage::Leaving(_) => Tally {
+        DrillStage::Leaving(_) => Tally {
             closed: counted(tally.closed),
             ..tally
         },

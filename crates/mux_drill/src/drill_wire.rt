@@ -8,7 +8,7 @@ ghost use Rattle.mux_outside.specs.declared.turn.Wrote.TheVariants.{NoMemory as 
 ghost use Rattle.mux_drill.specs.Plan.{plan_of};
 ghost use Rattle.mux_drill.specs.Play.{GivesNext, piece_of};
 ghost use Rattle.mux_drill.specs.declared.play.Change.TheVariants.{Nothing};
-ghost use Rattle.mux_drill.specs.declared.stage.Stage.TheVariants.{Ending};
+ghost use Rattle.mux_drill.specs.declared.stage.DrillStage.TheVariants.{Ending};
 
 use crate::plan::Plan;
 use crate::play::{Change, Given, Play};
@@ -188,7 +188,7 @@ impl Wire for DrillWire {
     fn tally(&self) -> Tally
         ensures { result ≡ tally_of self.now }
     {
-        self.play.course.tally()
+        self.play.trace.tally()
     }
 }
 
@@ -202,7 +202,7 @@ impl DrillWire {
         ensures gives { want ≡ Read → result.turn ≢ NoMemory
             → GivesNext self.now.play self.now.log.state.seen result }
         ensures starved { result.turn ≡ NoMemory → result.change ≡ Nothing }
-        ensures ends { result.turn ≡ End 0 → self.now.play.course.stage ≡ Ending }
+        ensures ends { result.turn ≡ End 0 → self.now.play.trace.stage ≡ Ending }
         ensures frees { want ≡ WriteOnly → result.change ≡ Nothing }
     {
         match want {

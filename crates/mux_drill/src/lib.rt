@@ -16,18 +16,18 @@
 #![tactic(auto)]
 
 mod after;
-mod course;
 mod draw;
 mod drill_wire;
 mod frames;
 mod generator;
 mod inboxes;
 mod next_step;
+mod outgoing;
 mod picks;
 mod plan;
 mod play;
-mod saying;
 mod stage;
 mod step;
+mod trace;
 
 pub use drill_wire::DrillWire;

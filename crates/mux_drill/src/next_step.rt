@@ -1,6 +1,6 @@
 //! The step of a stage.
 ghost use Rattle.std.specs.Prelude.{◌≡◌, ◌≤◌, IfOk};
-ghost use Rattle.mux_drill.specs.Course.{place_of, last_of, draws_at};
+ghost use Rattle.mux_drill.specs.Trace.{place_of, last_of, draws_at};
 ghost use Rattle.mux_drill.specs.Generator.{drawn};
 ghost use Rattle.mux_drill.specs.Plan.{IsPlan};
 ghost use Rattle.mux_drill.specs.Steps.{step_at};
@@ -10,8 +10,8 @@ use crate::frames::opener_in;
 use crate::generator::Message;
 use crate::picks::Picks;
 use crate::plan::Plan;
-use crate::stage::Stage;
-use crate::step::Step;
+use crate::stage::DrillStage;
+use crate::step::DrillStep;
 use mux_outside::Turn;
 use ssh_fields::OutOfMemory;
 use std::alloc::Global;
@@ -21,11 +21,11 @@ use std::alloc::Global;
 pub fn step_of(
     alloc: Global,
     plan: Plan,
-    stage: Stage,
+    stage: DrillStage,
     x: u64,
     picks: &Picks,
     waiting: &[u8],
-) -> Result<Step, OutOfMemory>
+) -> Result<DrillStep, OutOfMemory>
     requires sound { IsPlan plan }
     requires first { 1 ≤ place_of stage }
     requires last { place_of stage ≤ last_of plan stage }
@@ -34,25 +34,25 @@ pub fn step_of(
 {
     let clients = plan.clients;
     match stage {
-        Stage::Unopened => Ok(Step::bare(alloc, Turn::Failed(0))),
-        Stage::Accepting(client) => Ok(Step::bare(alloc, Turn::Accepted(client))),
-        Stage::Entering(client) => Step::entering(alloc, client),
-        Stage::Confirming(client) => Step::confirming(alloc, client, opener_in(waiting)),
-        Stage::Sending(i) => {
+        DrillStage::Unopened => Ok(DrillStep::bare(alloc, Turn::Failed(0))),
+        DrillStage::Accepting(client) => Ok(DrillStep::bare(alloc, Turn::Accepted(client))),
+        DrillStage::Entering(client) => DrillStep::entering(alloc, client),
+        DrillStage::Confirming(client) => DrillStep::confirming(alloc, client, opener_in(waiting)),
+        DrillStage::Sending(i) => {
             let before = Message::before(clients, x, i);
-            Step::sending(alloc, clients, i, before, Message::of(clients, draw(x), i))
+            DrillStep::sending(alloc, clients, i, before, Message::of(clients, draw(x), i))
         }
-        Stage::Echoing(i) => {
+        DrillStage::Echoing(i) => {
             let message = Message::of(clients, x, i);
-            Step::echoing(alloc, picks.at(message.client), message)
+            DrillStep::echoing(alloc, picks.at(message.client), message)
         }
-        Stage::Adjusting(i) => Step::adjusting(alloc, Message::of(clients, x, i)),
-        Stage::Closing(client) => {
+        DrillStage::Adjusting(i) => DrillStep::adjusting(alloc, Message::of(clients, x, i)),
+        DrillStage::Closing(client) => {
             let before = Message::before(clients, x, plan.messages);
-            Step::closing(alloc, clients, plan.messages, before, client)
+            DrillStep::closing(alloc, clients, plan.messages, before, client)
         }
-        Stage::ClosingBack(client) => Step::closing_back(alloc, picks.at(client), client),
-        Stage::Leaving(client) => Step::leaving(alloc, client),
-        Stage::Ending => Ok(Step::bare(alloc, Turn::End(0))),
+        DrillStage::ClosingBack(client) => DrillStep::closing_back(alloc, picks.at(client), client),
+        DrillStage::Leaving(client) => DrillStep::leaving(alloc, client),
+        DrillStage::Ending => Ok(DrillStep::bare(alloc, Turn::End(0))),
     }
 }

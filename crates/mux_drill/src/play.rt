@@ -4,19 +4,19 @@ ghost use Rattle.mux_outside.specs.Streams.{among};
 ghost use Rattle.mux_outside.specs.Wire.{OwnFits, TurnFits};
 ghost use Rattle.mux_outside.specs.declared.turn.Want.TheVariants.{Read};
 ghost use Rattle.mux_outside.specs.declared.turn.Turn.TheVariants.{End, NoMemory};
-ghost use Rattle.mux_drill.specs.declared.stage.Stage.TheVariants.{Ending};
+ghost use Rattle.mux_drill.specs.declared.stage.DrillStage.TheVariants.{Ending};
 ghost use Rattle.mux_drill.specs.Plan.{IsPlan};
 ghost use Rattle.mux_drill.specs.Play.{speaks, may_happen, is_met, next_step, next_turn, next_piece, next_change, piece_of, changed, begun, speaker_of, picks_after, IsNothing, Starts, GivesNext};
 ghost use Rattle.mux_drill.specs.declared.play.Change.TheVariants.{Nothing};
 
-use crate::course::Course;
 use crate::frames::opener_in;
 use crate::inboxes::Inboxes;
+use crate::outgoing::{Outgoing, first_piece};
 use crate::picks::Picks;
 use crate::plan::Plan;
-use crate::saying::{Saying, first_piece};
-use crate::stage::Stage;
-use crate::step::Step;
+use crate::stage::DrillStage;
+use crate::step::DrillStep;
+use crate::trace::Trace;
 use mux_outside::{LAST_CLIENT, Turn, WireLog};
 use ssh_fields::OutOfMemory;
 use std::alloc::Global;
@@ -26,8 +26,8 @@ use std::alloc::Global;
 #[derive(Drop)]
 pub struct Play {
     pub alloc: Global,
-    pub course: Course,
-    pub said: Saying,
+    pub trace: Trace,
+    pub said: Outgoing,
     pub unread: Inboxes,
     pub picks: Picks,
 }
@@ -40,7 +40,7 @@ pub enum Change {
     /// A stream gave a piece more.
     GoesOn,
     /// A step was begun.
-    Takes(Step),
+    Takes(DrillStep),
 }
 
 /// A turn, and what it leaves.
@@ -82,7 +82,7 @@ fn speaker_of(turn: Turn) -> u64
 }
 
 // Whether all that a step needs was written, and its turn may happen.
-fn is_met(step: &Step, log: &WireLog, unread: &Inboxes) -> bool
+fn is_met(step: &DrillStep, log: &WireLog, unread: &Inboxes) -> bool
     ensures { result ≡ is_met step.now log.now.state.seen unread.now }
 {
     unread.stands_first(0, step.up.as_bytes())
@@ -97,8 +97,8 @@ impl Play {
     {
         Play {
             alloc,
-            course: Course::unopened(),
-            said: Saying::nothing(alloc),
+            trace: Trace::unopened(),
+            said: Outgoing::nothing(alloc),
             unread: Inboxes::new(alloc),
             picks: Picks::new(),
         }
@@ -112,8 +112,8 @@ impl Play {
         let unread = Inboxes::empty(alloc, plan.clients + 1)?;
         Ok(Play {
             alloc,
-            course: Course::start(plan),
-            said: Saying::nothing(alloc),
+            trace: Trace::start(plan),
+            said: Outgoing::nothing(alloc),
             unread,
             picks: Picks::new(),
         })
@@ -127,7 +127,7 @@ impl Play {
         ensures own_turn { log.now.state.seen.own ≡ [] → OwnFits result.turn log.now.state.seen }
         ensures gives { result.turn ≢ NoMemory → GivesNext self.now log.now.state.seen result }
         ensures starved { result.turn ≡ NoMemory → result.change ≡ Nothing }
-        ensures ends { result.turn ≡ End 0 → self.now.course.stage ≡ Ending }
+        ensures ends { result.turn ≡ End 0 → self.now.trace.stage ≡ Ending }
     {
         if self.said.rest().is_empty() {
             self.begin(log)
@@ -168,9 +168,9 @@ impl Play {
         ensures own_turn { log.now.state.seen.own ≡ [] → OwnFits result.turn log.now.state.seen }
         ensures gives { result.turn ≢ NoMemory → GivesNext self.now log.now.state.seen result }
         ensures starved { result.turn ≡ NoMemory → result.change ≡ Nothing }
-        ensures ends { result.turn ≡ End 0 → self.now.course.stage ≡ Ending }
+        ensures ends { result.turn ≡ End 0 → self.now.trace.stage ≡ Ending }
     {
-        let Ok(step) = self.course.step(self.alloc, &self.picks, self.unread.at(0)) else {
+        let Ok(step) = self.trace.step(self.alloc, &self.picks, self.unread.at(0)) else {
             return Given {
                 turn: Turn::NoMemory,
                 change: Change::Nothing,
@@ -212,24 +212,24 @@ impl Play {
     }
 
     // A step was begun.
-    fn take(&mut self, step: Step)
+    fn take(&mut self, step: DrillStep)
         ensures { self.new ≡ begun step self.old }
     {
         let number = opener_in(self.unread.at(0));
-        keep_pick(&mut self.picks, self.course.stage(), number);
+        keep_pick(&mut self.picks, self.trace.stage(), number);
         self.unread.read(0, step.up.as_bytes().len());
         self.unread.read(step.client, step.down.as_bytes().len());
-        self.course.advance();
-        self.said = Saying::new(speaker_of(step.turn), step.says);
+        self.trace.advance();
+        self.said = Outgoing::new(speaker_of(step.turn), step.says);
         self.said.go_on();
     }
 }
 
 // The numbers that the master picked, after one more where an open was read.
-fn keep_pick(picks: &mut Picks, stage: Stage, number: u32)
+fn keep_pick(picks: &mut Picks, stage: DrillStage, number: u32)
     ensures { picks.new ≡ picks_after stage number picks.old }
 {
-    if let Stage::Confirming(client) = stage {
+    if let DrillStage::Confirming(client) = stage {
         picks.set(client, number);
     }
 }

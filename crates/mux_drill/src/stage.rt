@@ -1,6 +1,6 @@
 /// Which step of a drill comes next, with the number of its client, or of its message from 0 on.
 #[derive(Clone, Copy)]
-pub enum Stage {
+pub enum DrillStage {
     /// No drill was opened.
     Unopened,
     /// A client comes.

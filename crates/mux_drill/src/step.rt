@@ -16,7 +16,7 @@ use std::alloc::Global;
 /// A step: what has to be written before it to the server and to a client, and the turn that it
 /// gives, with all bytes that it says.
 #[derive(Drop)]
-pub struct Step {
+pub struct DrillStep {
     pub up: Text,
     pub client: u64,
     pub down: Text,
@@ -24,12 +24,12 @@ pub struct Step {
     pub says: Text,
 }
 
-impl Step {
+impl DrillStep {
     /// A turn, before which nothing is needed and which says nothing.
-    pub fn bare(alloc: Global, turn: Turn) -> Step
+    pub fn bare(alloc: Global, turn: Turn) -> DrillStep
         ensures { result ≡ bare turn }
     {
-        Step {
+        DrillStep {
             up: Text::new(alloc),
             client: 0,
             down: Text::new(alloc),
@@ -39,22 +39,22 @@ impl Step {
     }
 
     /// A client says HELLO, PROXY and its open.
-    pub fn entering(alloc: Global, client: u64) -> Result<Step, OutOfMemory>
+    pub fn entering(alloc: Global, client: u64) -> Result<DrillStep, OutOfMemory>
         ensures { IfOk result (λ step. step ≡ record (bare (Got client)) { says = greeting }) }
     {
-        let mut step = Step::bare(alloc, Turn::Got(client));
+        let mut step = DrillStep::bare(alloc, Turn::Got(client));
         add_greeting(&mut step.says)?;
         Ok(step)
     }
 
     /// The server confirms the open of a client, to the number in it.
-    pub fn confirming(alloc: Global, client: u64, number: u32) -> Result<Step, OutOfMemory>
+    pub fn confirming(alloc: Global, client: u64, number: u32) -> Result<DrillStep, OutOfMemory>
         requires some { 1 ≤ client }
         requires few { client ≤ 64 }
         ensures { IfOk result (λ step. step ≡ confirming client number) }
     {
         let down = welcome_before(alloc, client)?;
-        let mut step = Step::bare(alloc, Turn::Got(0));
+        let mut step = DrillStep::bare(alloc, Turn::Got(0));
         step.client = client - 1;
         step.down = down;
         add_open(&mut step.up, number)?;
@@ -69,7 +69,7 @@ impl Step {
         i: u64,
         before: Message,
         message: Message,
-    ) -> Result<Step, OutOfMemory>
+    ) -> Result<DrillStep, OutOfMemory>
         requires some { 1 ≤ clients }
         requires few { clients ≤ 64 }
         requires earlier { IsMessage before }
@@ -78,7 +78,7 @@ impl Step {
     {
         let up = settled_up(alloc, before, i)?;
         let down = settled_down(alloc, clients, i)?;
-        let mut step = Step::bare(alloc, Turn::Got(message.client));
+        let mut step = DrillStep::bare(alloc, Turn::Got(message.client));
         step.up = up;
         step.client = clients;
         step.down = down;
@@ -88,11 +88,11 @@ impl Step {
     }
 
     /// The server answers it, to the number of its client.
-    pub fn echoing(alloc: Global, number: u32, message: Message) -> Result<Step, OutOfMemory>
+    pub fn echoing(alloc: Global, number: u32, message: Message) -> Result<DrillStep, OutOfMemory>
         requires { IsMessage message }
         ensures { IfOk result (λ step. step ≡ echoing number message) }
     {
-        let mut step = Step::bare(alloc, Turn::Got(0));
+        let mut step = DrillStep::bare(alloc, Turn::Got(0));
         let heard = message.client as u32 - 1;
         add_data(alloc, &mut step.up, heard, message.len, message.byte)?;
         add_adjust(&mut step.says, number, message.len)?;
@@ -101,11 +101,11 @@ impl Step {
     }
 
     /// Its client answers that.
-    pub fn adjusting(alloc: Global, message: Message) -> Result<Step, OutOfMemory>
+    pub fn adjusting(alloc: Global, message: Message) -> Result<DrillStep, OutOfMemory>
         requires { IsMessage message }
         ensures { IfOk result (λ step. step ≡ adjusting message) }
     {
-        let mut step = Step::bare(alloc, Turn::Got(message.client));
+        let mut step = DrillStep::bare(alloc, Turn::Got(message.client));
         step.client = message.client;
         add_adjust(&mut step.down, 0, message.len)?;
         add_data(alloc, &mut step.down, 0, message.len, message.byte)?;
@@ -120,7 +120,7 @@ impl Step {
         messages: u64,
         before: Message,
         client: u64,
-    ) -> Result<Step, OutOfMemory>
+    ) -> Result<DrillStep, OutOfMemory>
         requires some { 1 ≤ clients }
         requires few { clients ≤ 64 }
         requires first { 1 ≤ client }
@@ -128,7 +128,7 @@ impl Step {
         requires earlier { IsMessage before }
         ensures { IfOk result (λ step. step ≡ closing clients messages before client) }
     {
-        let mut step = Step::before_close(alloc, clients, messages, before, client)?;
+        let mut step = DrillStep::before_close(alloc, clients, messages, before, client)?;
         add_close(&mut step.says, client as u32 - 1)?;
         Ok(step)
     }
@@ -140,14 +140,14 @@ impl Step {
         messages: u64,
         before: Message,
         client: u64,
-    ) -> Result<Step, OutOfMemory>
+    ) -> Result<DrillStep, OutOfMemory>
         requires some { 1 ≤ clients }
         requires few { clients ≤ 64 }
         requires earlier { IsMessage before }
         ensures { IfOk result (λ step.
             step ≡ record (closing clients messages before client) { says = [] }) }
     {
-        let mut step = Step::bare(alloc, Turn::Got(client));
+        let mut step = DrillStep::bare(alloc, Turn::Got(client));
         step.client = clients;
         if client == 1 {
             step.up = settled_up(alloc, before, messages)?;
@@ -157,24 +157,24 @@ impl Step {
     }
 
     /// The server sends CLOSE to a client, to its number.
-    pub fn closing_back(alloc: Global, number: u32, client: u64) -> Result<Step, OutOfMemory>
+    pub fn closing_back(alloc: Global, number: u32, client: u64) -> Result<DrillStep, OutOfMemory>
         requires some { 1 ≤ client }
         requires few { client ≤ 64 }
         ensures { IfOk result (λ step. step
             ≡ record (bare (Got 0)) { up = close_frame (client - 1); says = close_frame number }) }
     {
-        let mut step = Step::bare(alloc, Turn::Got(0));
+        let mut step = DrillStep::bare(alloc, Turn::Got(0));
         add_close(&mut step.up, client as u32 - 1)?;
         add_close(&mut step.says, number)?;
         Ok(step)
     }
 
     /// A client ends.
-    pub fn leaving(alloc: Global, client: u64) -> Result<Step, OutOfMemory>
+    pub fn leaving(alloc: Global, client: u64) -> Result<DrillStep, OutOfMemory>
         ensures { IfOk result (λ step. step
             ≡ record (bare (End client)) { client = client; down = close_frame 0 }) }
     {
-        let mut step = Step::bare(alloc, Turn::End(client));
+        let mut step = DrillStep::bare(alloc, Turn::End(client));
         step.client = client;
         add_close(&mut step.down, 0)?;
         Ok(step)

@@ -3,73 +3,73 @@ use Rattle.std.specs.Prelude.{◌≡◌, ◌≢◌, ℕ, Bool, true, false, ◌|
 use Rattle.indexmap.specs.IndexMap.{IndexMap, get}
 use Rattle.mux_outside.specs.declared.turn.Turn.{Turn}
 use Rattle.mux_outside.specs.declared.turn.Turn.TheVariants.{Accepted, Got, End, Writable, Failed, Joined, NoMemory}
-use Rattle.mux_edge.specs.declared.table.ready.Entry.{Entry}
+use Rattle.mux_edge.specs.declared.table.ready.StreamEntry.{StreamEntry}
 
 -- whether a socket's stream gives nothing
-abbrev pub is_silent : Entry → Bool
+abbrev pub is_silent : StreamEntry → Bool
 is_silent entry = entry.paused || (entry.connecting || entry.ended)
 
 module _ {S : Type 0} where
   -- the stream of this number has a socket
-  abbrev pub HasEntry : ℕ → IndexMap ℕ Entry S → Type 0
+  abbrev pub HasEntry : ℕ → IndexMap ℕ StreamEntry S → Type 0
   HasEntry number entries = IsSome (get nat_eq entries number)
 
   -- the sockets of all other streams stay as they are
-  abbrev pub OthersStay : ℕ → IndexMap ℕ Entry S → IndexMap ℕ Entry S → Type 0
+  abbrev pub OthersStay : ℕ → IndexMap ℕ StreamEntry S → IndexMap ℕ StreamEntry S → Type 0
   OthersStay number old new =
       (other : ℕ) → other ≢ number → get nat_eq new other ≡ get nat_eq old other
 
   -- a stream's socket is noted as one at which a write would wait
-  abbrev pub IsBlocked : ℕ → IndexMap ℕ Entry S → Type 0
+  abbrev pub IsBlocked : ℕ → IndexMap ℕ StreamEntry S → Type 0
   IsBlocked number entries =
       IsSomeAnd (get nat_eq entries number) (λ entry. entry.blocked ≡ true)
 
   -- a stream is among those to be read
-  abbrev pub IsNoted : ℕ → IndexMap ℕ Entry S → Type 0
+  abbrev pub IsNoted : ℕ → IndexMap ℕ StreamEntry S → Type 0
   IsNoted number entries = IsSomeAnd (get nat_eq entries number) (λ entry. entry.reads ≡ true)
 
   -- a stream gives nothing: it is paused or not connected yet, or has given its end
-  abbrev pub IsSilent : ℕ → IndexMap ℕ Entry S → Type 0
+  abbrev pub IsSilent : ℕ → IndexMap ℕ StreamEntry S → Type 0
   IsSilent number entries =
       IsSomeAnd (get nat_eq entries number) (λ entry. is_silent entry ≡ true)
 
   -- a stream is paused, or isn't
-  abbrev pub IsPaused : Bool → ℕ → IndexMap ℕ Entry S → Type 0
+  abbrev pub IsPaused : Bool → ℕ → IndexMap ℕ StreamEntry S → Type 0
   IsPaused b number entries =
       IsSomeAnd (get nat_eq entries number) (λ entry. entry.paused ≡ b)
 
   -- nothing more is written to a stream
-  abbrev pub IsFinished : ℕ → IndexMap ℕ Entry S → Type 0
+  abbrev pub IsFinished : ℕ → IndexMap ℕ StreamEntry S → Type 0
   IsFinished number entries =
       IsSomeAnd (get nat_eq entries number) (λ entry. entry.finished ≡ true)
 
   -- what may be read of a stream is kept back
-  abbrev pub IsHeld : ℕ → IndexMap ℕ Entry S → Type 0
+  abbrev pub IsHeld : ℕ → IndexMap ℕ StreamEntry S → Type 0
   IsHeld number entries = IsSomeAnd (get nat_eq entries number) (λ entry. entry.held ≡ true)
 
   -- reads of a stream may stop short of what is there
-  abbrev pub StopsShort : ℕ → IndexMap ℕ Entry S → Type 0
+  abbrev pub StopsShort : ℕ → IndexMap ℕ StreamEntry S → Type 0
   StopsShort number entries =
       IsSomeAnd (get nat_eq entries number) (λ entry. entry.stops_short ≡ true)
 
   -- a stream's connection is made
-  abbrev pub IsConnected : ℕ → IndexMap ℕ Entry S → Type 0
+  abbrev pub IsConnected : ℕ → IndexMap ℕ StreamEntry S → Type 0
   IsConnected number entries =
       IsSomeAnd (get nat_eq entries number) (λ entry. entry.connecting ≡ false)
 
   -- what may be read of a stream is kept back for its pause alone
-  abbrev pub IsKeptBack : ℕ → IndexMap ℕ Entry S → Type 0
+  abbrev pub IsKeptBack : ℕ → IndexMap ℕ StreamEntry S → Type 0
   IsKeptBack number entries = IsSomeAnd (get nat_eq entries number)
       (λ entry. (entry.held ≡ true) × (entry.connecting ≡ false) × (entry.ended ≡ false))
 
   -- what may be read of a stream is kept back for its connection alone
-  abbrev pub IsAwaited : ℕ → IndexMap ℕ Entry S → Type 0
+  abbrev pub IsAwaited : ℕ → IndexMap ℕ StreamEntry S → Type 0
   IsAwaited number entries = IsSomeAnd (get nat_eq entries number)
       (λ entry. (entry.held ≡ true) × (entry.paused ≡ false) × (entry.ended ≡ false))
 
   -- a client that was accepted has a socket, and so has a stream that was joined; one that can be
   -- written to is connected
-  abbrev pub Stands : Turn → IndexMap ℕ Entry S → Type 0
+  abbrev pub Stands : Turn → IndexMap ℕ StreamEntry S → Type 0
   Stands (Accepted k) entries = HasEntry k entries
   Stands (Got t) entries = Unit {0}
   Stands (End t) entries = Unit {0}

@@ -4,7 +4,7 @@ pub mod Names
 pub mod Ready
 pub mod Shares
 pub mod Sockets
-pub mod Table
+pub mod StreamTable
 pub mod Targets
 pub mod Transport
 pub mod Whole

@@ -2,12 +2,12 @@
 use Rattle.std.specs.Prelude.{◌≡◌, ◌≤◌, ◌==◌, ◌&&◌, not, ℕ, Bool, false, true, Option, Some, None, nat_le}
 use Rattle.std.specs.VecDeque.{deque_capacity, deque_len}
 use Rattle.mux_outside.specs.OwnStreams.{is_own}
-use Rattle.mux_edge.specs.declared.table.ready.Queue.{Queue}
+use Rattle.mux_edge.specs.declared.table.ready.ReadyQueue.{ReadyQueue}
 use Rattle.mux_edge.specs.declared.table.ready.Ready.{Ready}
 use Rattle.mux_edge.specs.declared.table.ready.Ready.TheVariants.{Accept, Join, Read, Write, Connect}
 
 -- one more takes memory
-abbrev pub IsFull : Queue → Type 0
+abbrev pub IsFull : ReadyQueue → Type 0
 IsFull queue = deque_capacity queue.items ≤ deque_len queue.items
 
 -- where the master's own streams are held back, none of them is read; all else is looked for
@@ -44,6 +44,6 @@ is_of number (Connect stream) = stream == number
 
 -- a round is over where nothing may be served, and where it is to be served behind what the round
 -- has gone over twice
-abbrev pub is_round_over : Option ℕ → Queue → Bool
+abbrev pub is_round_over : Option ℕ → ReadyQueue → Bool
 is_round_over None queue = true
 is_round_over (Some at) queue = nat_le queue.front at && not queue.again

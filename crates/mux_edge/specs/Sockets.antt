@@ -49,11 +49,11 @@ Serves (Connect number) numbers turn = (turn ≡ Writable number) ⊎ (turn ≡ 
 
 -- what was found is told as it is, but for a client or a stream that is joined for which there is
 -- no memory
-abbrev pub Tells : Turn → Turn → Type 0
-Tells (Accepted k) told = (told ≡ Accepted k) ⊎ (told ≡ NoMemory)
-Tells (Got t) told = told ≡ Got t
-Tells (End t) told = told ≡ End t
-Tells (Writable t) told = told ≡ Writable t
-Tells (Failed t) told = told ≡ Failed t
-Tells (Joined l t) told = (told ≡ Joined l t) ⊎ (told ≡ NoMemory)
-Tells NoMemory told = told ≡ NoMemory
+abbrev pub Records : Turn → Turn → Type 0
+Records (Accepted k) recorded = (recorded ≡ Accepted k) ⊎ (recorded ≡ NoMemory)
+Records (Got t) recorded = recorded ≡ Got t
+Records (End t) recorded = recorded ≡ End t
+Records (Writable t) recorded = recorded ≡ Writable t
+Records (Failed t) recorded = recorded ≡ Failed t
+Records (Joined l t) recorded = (recorded ≡ Joined l t) ⊎ (recorded ≡ NoMemory)
+Records NoMemory recorded = recorded ≡ NoMemory

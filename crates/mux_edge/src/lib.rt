@@ -23,5 +23,5 @@ pub use numbers::{Numbers, keep_listener, keep_stream, next_number, numbers_to_g
 pub use sink::RealSink;
 pub use sockets::Sockets;
 pub use stream::Stream;
-pub use table::{Door, Entry, Queue, Ready, Shares, Table};
+pub use table::{OwnListener, Ready, ReadyQueue, Shares, StreamEntry, StreamTable};
 pub use turns::turn_of;

@@ -68,7 +68,7 @@ impl Lookup {
         ensures late { OnOk result (IsNone now → self.new.over ≡ true) }
     {
         if self.noted {
-            self.hear()?;
+            self.receive()?;
         }
         if !(self.over || is_within(LOOKUP_SECONDS, self.since, now)) {
             self.heard.clear();
@@ -78,7 +78,7 @@ impl Lookup {
     }
 
     // Reads what the child has written so far. It is over at its end, and where it writes too much.
-    fn hear(&mut self) -> Result<(), AllocError>
+    fn receive(&mut self) -> Result<(), AllocError>
         ensures name { self.new.name ≡ self.old.name }
     {
         let mut room = [0; READ_BYTES];

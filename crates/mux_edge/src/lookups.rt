@@ -191,7 +191,7 @@ impl Lookups {
         let Some(Lookup { name, heard, .. }) = self.running.swap_remove(&number) else {
             return Ok(None);
         };
-        self.tell(name, heard.as_slice(), now)?;
+        self.report(name, heard.as_slice(), now)?;
         Ok(Some(number))
     }
 
@@ -233,7 +233,12 @@ impl Lookups {
     }
 
     // Tells the addresses of a name, of which its look-up wrote this.
-    fn tell(&mut self, name: Vec<u8>, heard: &[u8], now: Option<Instant>) -> Result<(), AllocError>
+    fn report(
+        &mut self,
+        name: Vec<u8>,
+        heard: &[u8],
+        now: Option<Instant>,
+    ) -> Result<(), AllocError>
         ensures { self.new.running ≡ self.old.running }
     {
         let addresses = addresses_of(self.alloc, heard)?;

@@ -109,7 +109,7 @@ pub fn stop_listening<C: Children + Drop>(sockets: &mut Option<Sockets<C>>)
 
 /// Closes a listener of the master's own.
 pub fn unlisten<C: Children + Drop>(sockets: &mut Option<Sockets<C>>, listener: u64)
-    ensures { IfSome sockets.new (λ s. get nat_eq s.table.doors listener ≡ None) }
+    ensures { IfSome sockets.new (λ s. get nat_eq s.table.own_listeners listener ≡ None) }
 {
     if let Some(sockets) = sockets {
         sockets.table.unlisten(listener);
@@ -125,7 +125,7 @@ pub fn listen<C: Children + Drop, N: Net + Clock>(
     port: u32,
 ) -> Result<(), FileError>
     ensures there { OnOk result
-        (IfSome sockets.new (λ s. IsSome (get nat_eq s.table.doors number))) }
+        (IfSome sockets.new (λ s. IsSome (get nat_eq s.table.own_listeners number))) }
     ensures listener { option_map (λ s. s.table.listener) sockets.new
         ≡ option_map (λ s. s.table.listener) sockets.old }
 {

@@ -30,7 +30,7 @@ impl<W: Write + Drop> RealSink<W> {
 }
 
 impl<W: Write + Drop> Sink for RealSink<W> {
-    ghost told = { λ _. None };
+    ghost recorded = { λ _. None };
 
     ghost faults = { λ s. s.faults };
 

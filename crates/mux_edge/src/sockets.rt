@@ -5,14 +5,14 @@ ghost use Rattle.mux_edge.specs.Entries.{HasEntry, IsBlocked, Stands};
 ghost use Rattle.mux_edge.specs.Names.{is_name};
 ghost use Rattle.mux_edge.specs.Shares.{PassesOwn, holds_own};
 ghost use Rattle.mux_edge.specs.Sockets.{FoundFits};
-ghost use Rattle.mux_edge.specs.Table.{Touches};
+ghost use Rattle.mux_edge.specs.StreamTable.{Touches};
 ghost use Rattle.mux_edge.specs.declared.numbers.Numbers.{Numbers};
 
 use crate::children::Children;
 use crate::lookups::{Known, Lookups};
 use crate::numbers::Numbers;
 use crate::stream::Stream;
-use crate::table::Table;
+use crate::table::StreamTable;
 use crate::turns::failure_of;
 use mux_outside::{Piece, Turn, Want};
 use std::alloc::{AllocError, Global};
@@ -24,14 +24,14 @@ use std::time::{Clock, Instant};
 /// look these up.
 #[derive(Drop)]
 pub struct Sockets<C: Children + Drop> {
-    pub table: Table,
+    pub table: StreamTable,
     lookups: Lookups,
     children: C,
 }
 
 impl<C: Children + Drop> Sockets<C> {
     /// These sockets. Nothing is looked up.
-    pub fn new(alloc: Global, table: Table, children: C) -> Sockets<C>
+    pub fn new(alloc: Global, table: StreamTable, children: C) -> Sockets<C>
         ensures table { result.table ≡ table }
         ensures children { result.children ≡ children }
     {

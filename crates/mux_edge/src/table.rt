@@ -2,7 +2,7 @@
 ghost use Rattle.std.specs.Prelude.{◌≡◌, ◌≢◌, ◌*◌, ◌||◌, None, OnOk, false, true, is_some, IfOk, IfSome, IsNone, IsSome, IsSomeAnd, nat_eq};
 ghost use Rattle.std.specs.Duration.{as_nanos};
 ghost use Rattle.mux_edge.specs.Entries.{HasEntry, IsBlocked, StopsShort};
-ghost use Rattle.mux_edge.specs.Table.{Touches};
+ghost use Rattle.mux_edge.specs.StreamTable.{Touches};
 ghost use Rattle.indexmap.specs.IndexMap.{get};
 
 mod own;
@@ -10,7 +10,7 @@ mod ready;
 mod served;
 mod shares;
 
-pub use self::ready::{Door, Entry, Queue, Ready};
+pub use self::ready::{OwnListener, Ready, ReadyQueue, StreamEntry};
 pub use self::shares::Shares;
 use crate::lookups::Lookups;
 use crate::stream::Stream;
@@ -46,19 +46,19 @@ use std::time::Duration;
 /// While the server's stream is waited for, the master's own streams are read no further than the
 /// clients are. What is ready of them keeps its place, and is passed over.
 #[derive(Drop)]
-pub struct Table {
+pub struct StreamTable {
     poll: Poll,
     events: Events,
     /// `None`: no client comes, as at first and after `stop_listening`
     pub listener: Option<UnixListener>,
-    pub entries: IndexMap<u64, Entry>,
+    pub entries: IndexMap<u64, StreamEntry>,
     /// the listeners of the master's own
-    pub doors: IndexMap<u64, Door>,
+    pub own_listeners: IndexMap<u64, OwnListener>,
     /// an accept failed for want of descriptors or memory, and is tried again
     pub pauses: bool,
     /// the same at a listener of the master's own
     pub joins_pause: bool,
-    pub ready: Queue,
+    pub ready: ReadyQueue,
     pub shares: Shares,
     /// what is read into
     pub spare: Piece,
@@ -72,40 +72,40 @@ const EVENTS: usize = 64;
 
 const PAUSE_MILLIS: u64 = 100;
 
-impl Table {
+impl StreamTable {
     /// Stream 0 alone, without a listener.
-    pub fn alone<N: Net>(rt: &N, alloc: Global, stream: Stream) -> io::Result<Table>
+    pub fn alone<N: Net>(rt: &N, alloc: Global, stream: Stream) -> io::Result<StreamTable>
         ensures server { IfOk result (λ table. HasEntry 0 table.entries) }
         ensures deaf { IfOk result (λ table. IsNone table.listener) }
     {
-        let mut table = Table::new(rt, alloc)?;
+        let mut table = StreamTable::new(rt, alloc)?;
         table.add(0, stream, false)?;
         Ok(table)
     }
 
     // No stream yet.
-    fn new<N: Net>(rt: &N, alloc: Global) -> io::Result<Table>
+    fn new<N: Net>(rt: &N, alloc: Global) -> io::Result<StreamTable>
         ensures { IfOk result (λ table. IsNone table.listener) }
     {
         let poll = Poll::new(rt)?;
         let events = Events::with_capacity(alloc, EVENTS)?;
         let spare = Piece::new(alloc).map_err(|_| AllocError)?;
-        Ok(Table::over(alloc, poll, events, spare))
+        Ok(StreamTable::over(alloc, poll, events, spare))
     }
 
     // No stream yet, over this.
-    fn over(alloc: Global, poll: Poll, events: Events, spare: Piece) -> Table
+    fn over(alloc: Global, poll: Poll, events: Events, spare: Piece) -> StreamTable
         ensures { IsNone result.listener }
     {
-        Table {
+        StreamTable {
             poll,
             events,
             listener: None,
             entries: IndexMap::new(alloc),
-            doors: IndexMap::new(alloc),
+            own_listeners: IndexMap::new(alloc),
             pauses: false,
             joins_pause: false,
-            ready: Queue::new(alloc),
+            ready: ReadyQueue::new(alloc),
             shares: Shares::new(),
             spare,
         }
@@ -122,7 +122,7 @@ impl Table {
         self.make_room()?;
         self.entries.reserve(1)?;
         stream.register(self.poll.registry(), Token(number as usize))?;
-        let entry = Entry::new(stream, number != 0, connecting);
+        let entry = StreamEntry::new(stream, number != 0, connecting);
         self.entries.insert(number, entry).map_err(|_| AllocError)?;
         Ok(())
     }
@@ -136,7 +136,7 @@ impl Table {
     fn make_room(&mut self) -> Result<(), AllocError>
         ensures { self.new ≡ record self.old { ready = self.new.ready } }
     {
-        let all = self.entries.len().saturating_add(self.doors.len());
+        let all = self.entries.len().saturating_add(self.own_listeners.len());
         self.ready.reserve(all.saturating_add(1))
     }
 
@@ -188,7 +188,7 @@ impl Table {
     }
 }
 
-impl Table {
+impl StreamTable {
     /// How long to wait for what becomes ready: not where something is, and not for long where
     /// something is to be tried again.
     pub fn timeout(&self, some: bool, is_busy: bool) -> Option<Duration>
@@ -214,7 +214,12 @@ impl Table {
         self.poll.poll(&mut self.events, timeout)?;
         for event in self.events.iter() {
             if !lookups.note(event.token().0 as u64) {
-                note_event(event, &mut self.entries, &mut self.doors, &mut self.ready)?;
+                note_event(
+                    event,
+                    &mut self.entries,
+                    &mut self.own_listeners,
+                    &mut self.ready,
+                )?;
             }
         }
         Ok(())
@@ -241,7 +246,7 @@ impl Table {
 }
 
 // Notes the streams that wait for look-ups, of which one is over.
-fn note_begun(entries: &mut IndexMap<u64, Entry>, ready: &mut Queue) {
+fn note_begun(entries: &mut IndexMap<u64, StreamEntry>, ready: &mut ReadyQueue) {
     for (number, entry) in entries.iter_mut() {
         if entry.stream.is_begun() && !entry.ended {
             let _ = ready.note_connect(*number, entry);
@@ -251,9 +256,9 @@ fn note_begun(entries: &mut IndexMap<u64, Entry>, ready: &mut Queue) {
 
 fn note_event(
     event: &Event,
-    entries: &mut IndexMap<u64, Entry>,
-    doors: &mut IndexMap<u64, Door>,
-    ready: &mut Queue,
+    entries: &mut IndexMap<u64, StreamEntry>,
+    own_listeners: &mut IndexMap<u64, OwnListener>,
+    ready: &mut ReadyQueue,
 ) -> Result<(), AllocError> {
     if event.token() == LISTENER {
         return ready.note_accept();
@@ -262,8 +267,8 @@ fn note_event(
     if let Some(entry) = entries.get_mut(&number) {
         return note_stream(event, number, entry, ready);
     }
-    match doors.get_mut(&number) {
-        Some(door) => ready.note_join(number, door),
+    match own_listeners.get_mut(&number) {
+        Some(own_listener) => ready.note_join(number, own_listener),
         None => Ok(()),
     }
 }
@@ -271,8 +276,8 @@ fn note_event(
 fn note_stream(
     event: &Event,
     number: u64,
-    entry: &mut Entry,
-    ready: &mut Queue,
+    entry: &mut StreamEntry,
+    ready: &mut ReadyQueue,
 ) -> Result<(), AllocError> {
     // An error and a peer that went away show at the next read or write.
     let ends = event.is_read_closed() || event.is_error();

@@ -21,7 +21,7 @@ pub fn turn_of(state: &WireState, found: Turn, want: Want, numbers: Numbers) -> 
     ensures turn { (before now : List ℕ) → FoundFits found numbers before now
         → TurnFits result want state.now.seen now }
     ensures own_turn { OwnFits result state.now.seen }
-    ensures told { (before now : List ℕ) → FoundFits found numbers before now
+    ensures recorded { (before now : List ℕ) → FoundFits found numbers before now
         → TurnFits found want state.now.seen now → OwnFits found state.now.seen
         → result ≡ found }
     ensures kept { (before now : List ℕ) → FoundFits found numbers before now

@@ -18,7 +18,7 @@ use Rattle.mux_history.specs.declared.ended.Ended.TheVariants as ended
 use Rattle.mux_history.specs.declared.limits.TheConstants.{HOUSE}
 use Rattle.mux_history.specs.Policy.{Policy}
 use Rattle.mux_history.specs.Promises.{turns_in}
-use Rattle.mux_machine.specs.State.{State}
+use Rattle.mux_state.specs.State.{State}
 use Rattle.mux_engine.specs.Counted.{Spent, Stops, Well}
 use Rattle.mux_engine.specs.Rests.{IsByRow, ended_as, refused_if}
 use Rattle.mux_engine.specs.Run.{IsRun}
@@ -89,14 +89,14 @@ module _ {May : HouseReply → Type 0} {Rest : Resting} {before : Option (List H
   pub ran-whole : {now : Side} {seen : Seen} {held failed : List ℕ} {s : State} (stands stands' : List HouseCall → Type 0) (turns given : ℕ) (all : Bool) (mid : Option Ended) (m n : Faults) (refused : Option ℕ) (answer : Ended)
       → Serving May Rest before now policy pid start seen held failed (given + 0) (HOUSE ∷ []) s → now.unnoted ≡ [] → HandsOn stands stands' now.calls
       → given ≤ turns → (all ≡ true → given ≡ turns) → StaysOrFails mid s.ended m n → (all ≡ false → mid ≡ None → refused ≢ None) → answer ≡ ended_as s.ended refused
-      → IsRun May Rest.rests stands stands' Rest.present policy pid turns before now.told start seen refused answer
+      → IsRun May Rest.rests stands stands' Rest.present policy pid turns before now.recorded start seen refused answer
   ran-whole {now} {seen} {held} {failed} {s} stands stands' turns given all mid m n refused answer v noted hands le every stays over is =
-      subst (λ (a : Ended). IsRun May Rest.rests stands stands' Rest.present policy pid turns before now.told start seen refused a) (sym is)
+      subst (λ (a : Ended). IsRun May Rest.rests stands stands' Rest.present policy pid turns before now.recorded start seen refused a) (sym is)
       (ends-run May Rest stands stands' before policy pid turns start refused now seen held failed (given + 0) (HOUSE ∷ []) s (ended_as s.ended refused) v noted hands only-house (none-more given turns le)
       (ends-so turns v.journal s.ended refused (λ on none. v.turns ∙ let g : given ≡ turns = given-all all given turns mid refused every over (fails-on mid s.ended m n stays on) none in (omega (arith, g)))))
 
   -- one that want of memory cut short
-  pub ran-starved : {E : Type 0} {now : Option (List HouseMark)} {seen : Seen} {refused : Option ℕ} (stands stands' : List HouseCall → Type 0) (turns given : ℕ) (r : Result Ended E) → IsErr r → given ≤ turns → Promised May Rest before now policy pid start seen.told given → IsRun May Rest.rests stands stands' Rest.present policy pid turns before now start seen refused (result_unwrap_or r ended.OutOfMemory)
+  pub ran-starved : {E : Type 0} {now : Option (List HouseMark)} {seen : Seen} {refused : Option ℕ} (stands stands' : List HouseCall → Type 0) (turns given : ℕ) (r : Result Ended E) → IsErr r → given ≤ turns → Promised May Rest before now policy pid start seen.recorded given → IsRun May Rest.rests stands stands' Rest.present policy pid turns before now start seen refused (result_unwrap_or r ended.OutOfMemory)
   ran-starved stands stands' turns given (Ok x) h le p = absurd (let z : false ≡ true = h in cc)
   ran-starved {E} {now} {seen} {refused} stands stands' turns given (Err e) h le p = ends-starved May Rest stands stands' before policy pid turns start refused now seen (promised-more given turns le p)
 

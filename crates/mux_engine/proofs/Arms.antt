@@ -15,10 +15,10 @@ use Rattle.mux_outside.specs.declared.whose.Whose.{Whose}
 use Rattle.mux_outside.specs.declared.whose.Whose.TheVariants.{Server, Client, Own}
 use Rattle.mux_history.specs.declared.ended.Ended.{Ended}
 use Rattle.mux_history.specs.declared.ended.Ended.TheVariants as ended
-use Rattle.mux_machine.specs.declared.event.Event.{Event}
-use Rattle.mux_machine.specs.declared.event.Event.TheVariants.{Accepted, FromClient, ClientEnd, ClientFailed, HouseSays, FromServer, ServerEnd, ServerFailed}
-use Rattle.mux_machine.specs.State.{State, numbers, queue_in}
-use Rattle.mux_machine.specs.Events.{Keeps, MayEnd, SameStreams, Tells, here}
+use Rattle.mux_state.specs.declared.event.Event.{Event}
+use Rattle.mux_state.specs.declared.event.Event.TheVariants.{Accepted, FromClient, ClientEnd, ClientFailed, HouseSays, FromServer, ServerEnd, ServerFailed}
+use Rattle.mux_state.specs.State.{State, numbers, queue_in}
+use Rattle.mux_state.specs.Events.{Keeps, MayEnd, SameStreams, Records, here}
 use Rattle.mux_engine.specs.Counted.{Counts, Cut, Waited, Well}
 use Rattle.mux_engine.proofs.Comes.{StaysBy, came-none, came-one, came-then, came-wait}
 use Rattle.mux_engine.specs.Serving.{IsOfferedTo, StaysOrFails}
@@ -175,7 +175,7 @@ abbrev stream-of : Mark → ℕ
 stream-of (WriteFails k) = k
 stream-of mark = 0
 
-pub failing : (e : Event) (k : ℕ) (old new : State) → Tells e (WriteFails k) → Keeps e old new → (old.ended ≡ None → MayEnd e new.ended) → Failing k old new
+pub failing : (e : Event) (k : ℕ) (old new : State) → Records e (WriteFails k) → Keeps e old new → (old.ended ≡ None → MayEnd e new.ended) → Failing k old new
 failing (Accepted j) k old new t keeps ends = absurd (cc)
 failing (FromClient j bytes) k old new t keeps ends = absurd (let z = t.1 in cc)
 failing (ClientEnd j) k old new t keeps ends = absurd (let z = t.1 in cc)

@@ -6,7 +6,7 @@ use Rattle.std.proofs.lemmas.List.{append_cancel_left}
 use Rattle.std.proofs.lemmas.List.Elements.{All-push}
 use Rattle.ssh_grammar.specs.Control.{Control, OpenForward, CloseForward}
 use Rattle.ssh_grammar.specs.ReadControl.{read_control}
-use Rattle.ssh_grammar.specs.Said.{Saying, Body, Payload, BadFraming, InProxy, parse, said}
+use Rattle.ssh_grammar.specs.Said.{Outgoing, Body, Payload, BadFraming, InProxy, parse, said}
 use Rattle.ssh_grammar.specs.declared.fault.BadControl.{BadControl}
 use Rattle.mux_outside.specs.House.{Known, OpenAsk}
 use Rattle.mux_outside.specs.declared.house.HouseReply.{HouseReply}
@@ -17,17 +17,17 @@ use Rattle.mux_outside.specs.declared.mark.Mark.{Mark}
 use Rattle.mux_outside.specs.declared.mark.Mark.TheVariants.{Waits, Accepts, Gets, Ends, Frees, Fails, Takes, Holds, WriteFails, Joins, House}
 use Rattle.mux_history.specs.declared.limits.TheConstants.{HOUSE}
 use Rattle.mux_history.specs.Choices.{pick_of, with_reply}
-use Rattle.mux_history.specs.Journal.{bytes_of, heard_item, is_accepted, items_in, new_heard, new_sayings, said_item, server_end, unless_own}
+use Rattle.mux_history.specs.Journal.{bytes_of, received_item, is_accepted, items_in, new_received, new_sayings, sent_item, server_end, unless_own}
 use Rattle.mux_history.specs.Log.{more_all, more_of}
 use Rattle.mux_history.specs.Policy.{Policy}
 use Rattle.mux_history.specs.Promises.{MayGive}
 use Rattle.mux_history.specs.Rows.{Item, Row, Says, Gone, ServerFailed}
 use Rattle.mux_history.proofs.LawfulItems.{treat-item}
 use Rattle.mux_bounds.proofs.Entries.{EachItem, by-more, each-unless, lists, next, setting, with-reply}
-use Rattle.mux_clients.specs.Asked.{asked_by, asked_of, item_asks, known_after, reading_asks, saying_asks}
-use Rattle.mux_clients.specs.Starved.{BeginsWith}
-use Rattle.mux_machine.specs.State.{State}
-use Rattle.mux_machine.specs.Stands.{GoesBy, Stands, log}
+use Rattle.mux_peers.specs.Asked.{asked_by, asked_of, item_asks, known_after, reading_asks, sending_asks}
+use Rattle.mux_peers.specs.Starved.{BeginsWith}
+use Rattle.mux_state.specs.State.{State}
+use Rattle.mux_state.specs.Stands.{GoesBy, Stands, log}
 use Rattle.mux_engine.specs.Sides.{asks_in}
 use Rattle.mux_engine.proofs.Marks.{asks-more, log-same}
 
@@ -73,7 +73,7 @@ each-front P (mark ∷ a) b x = (x.0, each-front P a b x.1)
 module _ (P : ℕ → Type 0) where
   -- an item that a client says of which it holds, or that no client says
   abbrev Speaks : Item → Type 0
-  Speaks (Says k saying given) = P k
+  Speaks (Says k outgoing given) = P k
   Speaks item = Unit {0}
 
   reading-each : (k : ℕ) → P k → (reply : HouseReply) (r : Result Control BadControl) → EachAsked P (reading_asks k reply r)
@@ -81,12 +81,12 @@ module _ (P : ℕ → Type 0) where
   reading-each k p reply (Ok (CloseForward id what)) = (p, tt)
   reading-each k p reply r = tt
 
-  saying-each : (k : ℕ) → P k → (saying : Saying) (reply : Option HouseReply) → EachAsked P (saying_asks k saying reply)
-  saying-each k p (Body body) (Some reply) = reading-each k p reply (read_control body)
-  saying-each k p saying reply = tt
+  outgoing-each : (k : ℕ) → P k → (outgoing : Outgoing) (reply : Option HouseReply) → EachAsked P (sending_asks k outgoing reply)
+  outgoing-each k p (Body body) (Some reply) = reading-each k p reply (read_control body)
+  outgoing-each k p outgoing reply = tt
 
   item-each : (item : Item) → Speaks item → EachAsked P (item_asks item)
-  item-each (Says k saying reply) p = saying-each k p saying reply
+  item-each (Says k outgoing reply) p = outgoing-each k p outgoing reply
   item-each item p = tt
 
   record Grows (rows rows' : List Row) : Type 0 where
@@ -116,18 +116,18 @@ module _ (P : ℕ → Type 0) where
   -- ---- the items of a mark
 
   -- of a mark by which a client says something
-  abbrev pub SaidBy : Mark → Type 0
-  SaidBy (Gets k bytes) = k ≢ 0 → P k
-  SaidBy (House (HouseSaid bytes)) = P HOUSE
-  SaidBy mark = Unit {0}
+  abbrev pub SentBy : Mark → Type 0
+  SentBy (Gets k bytes) = k ≢ 0 → P k
+  SentBy (House (HouseSaid bytes)) = P HOUSE
+  SentBy mark = Unit {0}
 
-  heard-speaks : (ss : List Saying) → EachItem Speaks (map heard_item ss)
+  heard-speaks : (ss : List Outgoing) → EachItem Speaks (map received_item ss)
   heard-speaks [] = tt
   heard-speaks (Body body ∷ ss) = (tt, heard-speaks ss)
   heard-speaks (Payload p ∷ ss) = (tt, heard-speaks ss)
   heard-speaks (BadFraming fault ∷ ss) = (tt, heard-speaks ss)
 
-  said-speaks : (k : ℕ) → P k → (ss : List Saying) → EachItem Speaks (map (said_item k) ss)
+  said-speaks : (k : ℕ) → P k → (ss : List Outgoing) → EachItem Speaks (map (sent_item k) ss)
   said-speaks k p [] = tt
   said-speaks k p (s ∷ ss) = (p, said-speaks k p ss)
 
@@ -142,8 +142,8 @@ module _ (P : ℕ → Type 0) where
       by_test true h = x
       by_test false h = h refl
 
-  mark-speaks : (before : List Mark) (mark : Mark) → SaidBy mark → EachItem Speaks (items_in before mark)
-  mark-speaks before (Gets k bytes) p = by-server k (new_heard (bytes_of 0 before) (bytes_of 0 before ++ bytes)) (unless_own k (new_sayings k (bytes_of k before) (bytes_of k before ++ bytes)))
+  mark-speaks : (before : List Mark) (mark : Mark) → SentBy mark → EachItem Speaks (items_in before mark)
+  mark-speaks before (Gets k bytes) p = by-server k (new_received (bytes_of 0 before) (bytes_of 0 before ++ bytes)) (unless_own k (new_sayings k (bytes_of k before) (bytes_of k before ++ bytes)))
       (heard-speaks (drop (length (parse InProxy (bytes_of 0 before)).says) (parse InProxy (bytes_of 0 before ++ bytes)).says))
       (λ nz. each-unless Speaks k (new_sayings k (bytes_of k before) (bytes_of k before ++ bytes)) (λ e. said-speaks k (p nz) (drop (length (said (bytes_of k before))) (said (bytes_of k before ++ bytes)))))
   mark-speaks before (Ends k) p = by-server k (server_end (parse InProxy (bytes_of 0 before)).rest ∷ []) (unless_own k (Gone k ∷ [])) (end-speaks (parse InProxy (bytes_of 0 before)).rest) (λ nz. each-unless Speaks k (Gone k ∷ []) (λ e. (tt, tt)))
@@ -164,8 +164,8 @@ module _ (P : ℕ → Type 0) where
 
   -- ---- the asks of an event
 
-  pub goes-asked : {May : HouseReply → Type 0} {told told' : Option (List HouseMark)} {picked : List ℕ} {replies : List HouseReply} {s s' : State} {mark : Mark} {marks : List Mark} {closed : List ℕ} (g : GoesBy May told told' picked replies s s' mark marks closed)
-      → s'.core.policy ≡ s.core.policy → s'.pid ≡ s.pid → SaidBy mark → EachAsked P g.asks
+  pub goes-asked : {May : HouseReply → Type 0} {recorded recorded' : Option (List HouseMark)} {picked : List ℕ} {replies : List HouseReply} {s s' : State} {mark : Mark} {marks : List Mark} {closed : List ℕ} (g : GoesBy May recorded recorded' picked replies s s' mark marks closed)
+      → s'.core.policy ≡ s.core.policy → s'.pid ≡ s.pid → SentBy mark → EachAsked P g.asks
   goes-asked {picked = picked} {replies = replies} {s = s} {s' = s'} {mark = mark} {marks = marks} g same_policy same_pid p =
       let ps : List ℕ = (picked ++ g.picks) ++ [] in
       let rs : List HouseReply = (replies ++ g.replies) ++ [] in
@@ -173,21 +173,21 @@ module _ (P : ℕ → Type 0) where
       subst (EachAsked P) (append_cancel_left (asked_of (log s ps rs marks)) grown.more g.asks (sym grown.is ∙ (ap asked_of (sym (log-same s s' ps rs (mark ∷ marks) same_policy same_pid)) ∙ g.asked [] []))) grown.each
 
 -- the first of what the rows of a mark ask are asks
-pub begins-asked : (P : ℕ → Type 0) (s : State) (ps : List ℕ) (rs : List HouseReply) (mark : Mark) (marks : List Mark) (asks : List HouseMark) → SaidBy P mark → BeginsWith (asked_of (log s ps rs marks)) asks (asked_of (log s ps rs (mark ∷ marks))) → EachAsked P asks
+pub begins-asked : (P : ℕ → Type 0) (s : State) (ps : List ℕ) (rs : List HouseReply) (mark : Mark) (marks : List Mark) (asks : List HouseMark) → SentBy P mark → BeginsWith (asked_of (log s ps rs marks)) asks (asked_of (log s ps rs (mark ∷ marks))) → EachAsked P asks
 begins-asked P s ps rs mark marks asks p b =
     let grown : Grows P (log s ps rs marks) (log s ps rs (mark ∷ marks)) = grows-all P s.core.policy s.pid ps rs (log s ps rs marks) (items_in marks mark) (mark-speaks P marks mark p) in
     each-front P asks b.rest (subst (EachAsked P) (append_cancel_left (asked_of (log s ps rs marks)) grown.more (asks ++ b.rest) (sym grown.is ∙ b.all_is)) grown.each)
 
 -- whoever replies may, where nothing was asked
-pub goes-unasked : {May May' : HouseReply → Type 0} {told told' : Option (List HouseMark)} {picked : List ℕ} {replies : List HouseReply} {s s' : State} {mark : Mark} {marks : List Mark} {closed : List ℕ} (st : Stands picked replies s marks closed) (g : GoesBy May' told told' picked replies s s' mark marks closed)
-    → g.asks ≡ [] → GoesBy May told told' picked replies s s' mark marks closed
+pub goes-unasked : {May May' : HouseReply → Type 0} {recorded recorded' : Option (List HouseMark)} {picked : List ℕ} {replies : List HouseReply} {s s' : State} {mark : Mark} {marks : List Mark} {closed : List ℕ} (st : Stands picked replies s marks closed) (g : GoesBy May' recorded recorded' picked replies s s' mark marks closed)
+    → g.asks ≡ [] → GoesBy May recorded recorded' picked replies s s' mark marks closed
 goes-unasked {May} {May'} {replies = replies} st g none = record {
   picks = g.picks;
   replies = g.replies;
   asks = g.asks;
   may = subst (MayGive May) (sym (no-replies g.replies size)) tt;
   stands = g.stands;
-  told = g.told;
+  recorded = g.recorded;
   asked = g.asked;
 }
   where
@@ -201,7 +201,7 @@ goes-unasked {May} {May'} {replies = replies} st g none = record {
     size : length g.replies ≡ 0
     size = let a : length (st.asks ++ []) ≡ length st.asks = ap length (append-nil st.asks) in let b : length st.asks ≡ length replies = st.each in let c : length (replies ++ g.replies) ≡ length replies + length g.replies = length-append replies g.replies in omega (arith, a, b, c, same)
 
-pub unasked-none : (May : HouseReply → Type 0) {May' : HouseReply → Type 0} {told told' : Option (List HouseMark)} {picked : List ℕ} {replies : List HouseReply} {s s' : State} {mark : Mark} {marks : List Mark} {closed : List ℕ} (st : Stands picked replies s marks closed) (g : GoesBy May' told told' picked replies s s' mark marks closed)
+pub unasked-none : (May : HouseReply → Type 0) {May' : HouseReply → Type 0} {recorded recorded' : Option (List HouseMark)} {picked : List ℕ} {replies : List HouseReply} {s s' : State} {mark : Mark} {marks : List Mark} {closed : List ℕ} (st : Stands picked replies s marks closed) (g : GoesBy May' recorded recorded' picked replies s s' mark marks closed)
     → (none : g.asks ≡ []) → (goes-unasked {May = May} st g none).asks ≡ []
 unfolding goes-unasked
 unasked-none May st g none = none

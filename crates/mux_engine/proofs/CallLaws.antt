@@ -12,9 +12,9 @@ use Rattle.mux_outside.specs.declared.mark.Mark.{Mark}
 use Rattle.mux_outside.specs.declared.mark.Mark.TheVariants.{Waits, Accepts, Gets, Ends, Frees, Fails, Takes, Holds, WriteFails, Joins, House}
 use Rattle.mux_history.specs.declared.limits.TheConstants.{HOUSE}
 use Rattle.mux_history.specs.Log.{Setting}
-use Rattle.mux_history.specs.Journal.{bytes_in, bytes_of, house_said, is_own_stream, log_of_journal, taken_by, taken_in}
+use Rattle.mux_history.specs.Journal.{bytes_in, bytes_of, house_sent, is_own_stream, log_of_journal, taken_by, taken_in}
 use Rattle.mux_history.specs.Pending.{pending}
-use Rattle.mux_engine.specs.CallLaws.{IsGivenAll, IsToldAll, bytes_got, got_by, size_by, sizes_taken}
+use Rattle.mux_engine.specs.CallLaws.{IsGivenAll, IsRecordedAll, bytes_got, got_by, size_by, sizes_taken}
 use Rattle.mux_engine.specs.Called.{calls_at, calls_in, house_calls}
 use Rattle.mux_engine.proofs.Lists.{test-other, true-false}
 
@@ -74,7 +74,7 @@ got-at setting before (Frees k) t own = got-none t (Turns (Writable k)) refl (is
 got-at setting before (Fails k) t own = got-none t (Turns (Failed k)) refl (is_own k)
 got-at setting before (WriteFails k) t own = got-none t (Turns (Failed k)) refl (is_own k)
 got-at setting before (Takes k bytes) t own = got-none t (call.Takes k (length bytes)) refl (is_own k)
-got-at setting before (House mark) t own = got-house t (pending HOUSE (log_of_journal setting before)) mark ∙ sym (ap (λ (b : Bool). elim b as (λ _. List ℕ) [ true ↦ house_said mark | false ↦ [] ]) (no-house t own))
+got-at setting before (House mark) t own = got-house t (pending HOUSE (log_of_journal setting before)) mark ∙ sym (ap (λ (b : Bool). elim b as (λ _. List ℕ) [ true ↦ house_sent mark | false ↦ [] ]) (no-house t own))
 got-at setting before (Waits waiting want streams listens) t own = refl
 got-at setting before (Accepts k) t own = refl
 got-at setting before (Holds k) t own = refl
@@ -126,9 +126,9 @@ size-at setting before (Waits waiting want streams listens) t own = refl
 size-at setting before (Accepts k) t own = refl
 size-at setting before (Holds k) t own = refl
 
-pub told-all : IsToldAll
-told-all setting [] t own = refl
-told-all setting (mark ∷ before) t own =
+pub recorded-all : IsRecordedAll
+recorded-all setting [] t own = refl
+recorded-all setting (mark ∷ before) t own =
     sizes-append t (calls_in setting before) (calls_at setting before mark)
-    ∙ (ap (λ n. n + sizes_taken t (calls_at setting before mark)) (told-all setting before t own)
+    ∙ (ap (λ n. n + sizes_taken t (calls_at setting before mark)) (recorded-all setting before t own)
     ∙ (ap (λ n. length (taken_by t before) + n) (size-at setting before mark t own) ∙ sym (length-append (taken_by t before) (taken_in t mark))))

@@ -1,6 +1,6 @@
 -- What a mark adds to the calls of the house.
 use Rattle.std.proofs.Common.{◌≡◌, ℕ, Bool, true, false, List, [], ◌∷◌, ◌++◌, sym, ap, ◌∙◌, subst, append_assoc, append-nil, cond}
-use Rattle.mux_outside.specs.HouseCalls.{HandsOn, Hears, HouseCall, calls_of}
+use Rattle.mux_outside.specs.HouseCalls.{HandsOn, Receives, HouseCall, calls_of}
 use Rattle.mux_outside.specs.OwnStreams.{is_own}
 use Rattle.mux_outside.specs.declared.house_mark.HouseMark.{HouseMark}
 use Rattle.mux_outside.specs.declared.house_mark.HouseMark.TheVariants.{HouseTook}
@@ -35,16 +35,16 @@ pub calls-own : (now : Side) (t : ℕ) (one : HouseCall) → is_own t ≡ true �
 calls-own now t one own none = subst (λ (b : Bool). CallsOn now (calling now (one ∷ [])) (cond b (one ∷ []) [])) (sym own) (calls-behind now (one ∷ []) none)
 
 -- with what the house told meanwhile
-pub calls-told : (now now' : Side) (mark more : List HouseMark) → mark ++ now'.unnoted ≡ now.unnoted ++ more → now'.calls ≡ now.calls ++ calls_of more → CallsOn now now' (calls_of mark)
-calls-told now now' mark more e c all was =
+pub calls-recorded : (now now' : Side) (mark more : List HouseMark) → mark ++ now'.unnoted ≡ now.unnoted ++ more → now'.calls ≡ now.calls ++ calls_of more → CallsOn now now' (calls_of mark)
+calls-recorded now now' mark more e c all was =
     append_assoc all (calls_of mark) (calls_of now'.unnoted)
     ∙ (ap (λ (l : List HouseCall). all ++ l) (sym (calls-append mark now'.unnoted) ∙ (ap calls_of e ∙ calls-append now.unnoted more))
     ∙ (sym (append_assoc all (calls_of now.unnoted) (calls_of more)) ∙ (ap (λ (l : List HouseCall). l ++ calls_of more) was ∙ sym c)))
 
 -- it took in these bytes as a client, which is noted at once
-pub calls-heard : (now : Side) (size : ℕ) (bytes : List ℕ) → now.unnoted ≡ HouseTook size ∷ [] → CallsOn now (record now { unnoted = []; calls = now.calls ++ Hears bytes ∷ [] }) (Hears bytes ∷ [])
+pub calls-heard : (now : Side) (size : ℕ) (bytes : List ℕ) → now.unnoted ≡ HouseTook size ∷ [] → CallsOn now (record now { unnoted = []; calls = now.calls ++ Receives bytes ∷ [] }) (Receives bytes ∷ [])
 calls-heard now size bytes took all was =
-    append-nil (all ++ Hears bytes ∷ []) ∙ ap (λ (l : List HouseCall). l ++ Hears bytes ∷ []) (sym (append-nil all) ∙ (ap (λ (l : List HouseMark). all ++ calls_of l) (sym took) ∙ was))
+    append-nil (all ++ Receives bytes ∷ []) ∙ ap (λ (l : List HouseCall). l ++ Receives bytes ∷ []) (sym (append-nil all) ∙ (ap (λ (l : List HouseMark). all ++ calls_of l) (sym took) ∙ was))
 
 -- ---- from house to house
 

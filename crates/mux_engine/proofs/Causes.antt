@@ -17,23 +17,23 @@ use Rattle.mux_history.specs.declared.ended.Ended.{Ended}
 use Rattle.mux_history.specs.declared.ended.Ended.TheVariants as ended
 use Rattle.mux_history.specs.Rows.{Item, Row}
 use Rattle.mux_history.specs.Solo.{end_of}
-use Rattle.mux_history.specs.Journal.{bytes_of, is_own_stream, new_heard, new_sayings, unless_own}
+use Rattle.mux_history.specs.Journal.{bytes_of, is_own_stream, new_received, new_sayings, unless_own}
 use Rattle.mux_history.specs.Log.{more_all}
-use Rattle.mux_machine.specs.State.{State}
-use Rattle.mux_machine.specs.Stands.{GoesBy, Stands, log, setting}
-use Rattle.mux_machine.specs.Events.{MayEnd, Tells}
-use Rattle.mux_machine.specs.declared.event.Event.{Event}
-use Rattle.mux_machine.specs.declared.event.Event.TheVariants.{Accepted, FromClient, ClientEnd, ClientFailed, HouseSays, FromServer, ServerEnd, ServerFailed}
+use Rattle.mux_state.specs.State.{State}
+use Rattle.mux_state.specs.Stands.{GoesBy, Stands, log, setting}
+use Rattle.mux_state.specs.Events.{MayEnd, Records}
+use Rattle.mux_state.specs.declared.event.Event.{Event}
+use Rattle.mux_state.specs.declared.event.Event.TheVariants.{Accepted, FromClient, ClientEnd, ClientFailed, HouseSays, FromServer, ServerEnd, ServerFailed}
 use Rattle.mux_engine.specs.Came.{BrokenBy, EndsFor, OverBy, WentUp}
 use Rattle.mux_engine.specs.Turns.{IsEventOf}
 use Rattle.mux_engine.proofs.Comes.{over-live, up-if}
-use Rattle.mux_engine.proofs.Fates.{EndsCut, EndsHeard, Uncut, end-cuts, hears-ends, says-for}
+use Rattle.mux_engine.proofs.Fates.{EndsCut, EndsReceived, Uncut, end-cuts, receives-ends, says-for}
 use Rattle.mux_engine.proofs.Marks.{log-same}
 
 -- what a client said may end the run for it, what the server said by its own words, and its end so
 abbrev ByEvent : Event → Option Ended → Type 0
 ByEvent (FromClient k bytes) o = EndsFor k o
-ByEvent (FromServer bytes) o = EndsHeard o
+ByEvent (FromServer bytes) o = EndsReceived o
 ByEvent ServerEnd o = EndsCut o
 ByEvent e o = Unit {0}
 
@@ -56,18 +56,18 @@ module _ (s : State) (picks : List ℕ) (replies : List HouseReply) (marks : Lis
 
       by_stream : (b : Bool) → (k == 0) ≡ b → EndsFor k (end_of (log s picks replies (Gets k bytes ∷ marks)))
       by_stream true e = absurd (nz (eqb-true k 0 e))
-      by_stream false e = subst (λ (b : Bool). EndsFor k (end_of (more_all (setting s picks replies) rows (elim b as (λ _. List Item) [ true ↦ new_heard (bytes_of 0 marks) (bytes_of 0 marks ++ bytes) | false ↦ unless_own k (new_sayings k (bytes_of k marks) (bytes_of k marks ++ bytes)) ])))) (sym e) (by_own (is_own_stream k))
+      by_stream false e = subst (λ (b : Bool). EndsFor k (end_of (more_all (setting s picks replies) rows (elim b as (λ _. List Item) [ true ↦ new_received (bytes_of 0 marks) (bytes_of 0 marks ++ bytes) | false ↦ unless_own k (new_sayings k (bytes_of k marks) (bytes_of k marks ++ bytes)) ])))) (sym e) (by_own (is_own_stream k))
 
-  server-ends : (bytes : List ℕ) → EndsHeard (end_of rows) → EndsHeard (end_of (log s picks replies (Gets 0 bytes ∷ marks)))
-  server-ends bytes n = hears-ends s.core.policy s.pid picks replies (drop (length (parse InProxy (bytes_of 0 marks)).says) (parse InProxy (bytes_of 0 marks ++ bytes)).says) rows n
+  server-ends : (bytes : List ℕ) → EndsReceived (end_of rows) → EndsReceived (end_of (log s picks replies (Gets 0 bytes ∷ marks)))
+  server-ends bytes n = receives-ends s.core.policy s.pid picks replies (drop (length (parse InProxy (bytes_of 0 marks)).says) (parse InProxy (bytes_of 0 marks ++ bytes)).says) rows n
 
   end-ends : EndsCut (end_of rows) → EndsCut (end_of (log s picks replies (Ends 0 ∷ marks)))
   end-ends n = end-cuts s.core.policy s.pid picks replies (parse InProxy (bytes_of 0 marks)).rest rows n
 
 -- ---- an event
 
-module _ {May : HouseReply → Type 0} {told told' : Option (List Asked)} {picked : List ℕ} {given : List HouseReply} {s s' : State} {mark : Mark} {marks : List Mark} {closed : List ℕ}
-    (st : Stands picked given s marks closed) (g : GoesBy May told told' picked given s s' mark marks closed) (policy : s'.core.policy ≡ s.core.policy) (pid : s'.pid ≡ s.pid) (live : s.ended ≡ None) where
+module _ {May : HouseReply → Type 0} {recorded recorded' : Option (List Asked)} {picked : List ℕ} {given : List HouseReply} {s s' : State} {mark : Mark} {marks : List Mark} {closed : List ℕ}
+    (st : Stands picked given s marks closed) (g : GoesBy May recorded recorded' picked given s s' mark marks closed) (policy : s'.core.policy ≡ s.core.policy) (pid : s'.pid ≡ s.pid) (live : s.ended ≡ None) where
   abbrev picks-then : List ℕ
   picks-then = (picked ++ g.picks) ++ []
 
@@ -84,9 +84,9 @@ module _ {May : HouseReply → Type 0} {told told' : Option (List Asked)} {picke
   ends-as P m is none step = subst P (sym ((g.stands.at [] []).rows.ended_is ∙ (ap end_of (log-same s s' picks-then replies-then (mark ∷ marks) policy pid) ∙ ap (λ (x : Mark). end_of (log s picks-then replies-then (x ∷ marks))) is)))
       (step (subst P (sym went-on) none))
 
-  pub event-by : (e : Event) → Tells e mark → ByEvent e s'.ended
+  pub event-by : (e : Event) → Records e mark → ByEvent e s'.ended
   event-by (FromClient k bytes) t = ends-as (EndsFor k) (Gets k bytes.now) t.1 tt (client-ends s picks-then replies-then marks k bytes.now t.0)
-  event-by (FromServer bytes) t = ends-as EndsHeard (Gets 0 bytes.now) t tt (server-ends s picks-then replies-then marks bytes.now)
+  event-by (FromServer bytes) t = ends-as EndsReceived (Gets 0 bytes.now) t tt (server-ends s picks-then replies-then marks bytes.now)
   event-by ServerEnd t = ends-as EndsCut (Ends 0) t tt (end-ends s picks-then replies-then marks)
   event-by (Accepted k) t = tt
   event-by (ClientEnd k) t = tt
@@ -138,13 +138,13 @@ uncut-broken (broke.NoChannel n) a b h up = up
 uncut-broken (broke.Channel n breach) a b h up = up
 
 -- that of a piece of the server
-by-server : (p : Bool) (said : List ℕ) (o : Option Ended) (j : ℕ) (bytes : List ℕ) (c : CallCounts) → Gets j bytes ≡ Gets 0 said → EndsHeard o → OverBy p o c (calls_after_wait (turn.Got j) c)
+by-server : (p : Bool) (said : List ℕ) (o : Option Ended) (j : ℕ) (bytes : List ℕ) (c : CallCounts) → Gets j bytes ≡ Gets 0 said → EndsReceived o → OverBy p o c (calls_after_wait (turn.Got j) c)
 by-server p said o j bytes c is h = by_end o h
   where
     up : WentUp c.server_pieces (calls_after_wait (turn.Got j) c).server_pieces
     up = up-if (j == 0) c.server_pieces (eq-eqb j 0 (ap stream-of is))
 
-    by_end : (o : Option Ended) → EndsHeard o → OverBy p o c (calls_after_wait (turn.Got j) c)
+    by_end : (o : Option Ended) → EndsReceived o → OverBy p o c (calls_after_wait (turn.Got j) c)
     by_end None h = tt
     by_end (Some ended.Disconnected) h = up
     by_end (Some (ended.Broke index why)) h = uncut-broken why c (calls_after_wait (turn.Got j) c) h up

@@ -20,10 +20,10 @@ use Rattle.mux_history.specs.Rows.{Row, rows_of, is_out, losses, loss_by, loses,
 use Rattle.mux_history.specs.Settings.{by_lists}
 use Rattle.mux_history.specs.Promises.{not_own}
 use Rattle.mux_history.proofs.Wires.{wire-keeps}
-use Rattle.mux_clients.proofs.Stood.{own_row}
-use Rattle.mux_machine.specs.State.{State, closed_by, first_of, is_here}
-use Rattle.mux_machine.specs.Events.{here}
-use Rattle.mux_machine.specs.Stands.{Closes, IsFirst, Stands, StandsFor, log, not_closed}
+use Rattle.mux_peers.proofs.Stood.{own_row}
+use Rattle.mux_state.specs.State.{State, closed_by, first_of, is_here}
+use Rattle.mux_state.specs.Events.{here}
+use Rattle.mux_state.specs.Stands.{Closes, IsFirst, Stands, Represents, log, not_closed}
 use Rattle.mux_engine.specs.Answers.{EachDeferred}
 use Rattle.mux_engine.specs.Serving.{IsSound, IsUnseen, IsUnused, Serving}
 use Rattle.mux_engine.specs.Sides.{Housed, Resting, Side}
@@ -85,14 +85,14 @@ loss-is-out k (row ∷ rows) h = elim (split-losses k (losses rows) (loss_by row
 first-out : {picked : List ℕ} {replies : List HouseReply} {s : State} {marks : List Mark} {closed : List ℕ} (st : Stands picked replies s marks closed) (k : ℕ) → IsFirst k s.leaving → (in-losses k (filter (not_closed closed) (losses (log s (picked ++ []) (replies ++ []) marks))) ≡ true) × (is_out (rows_of k (log s (picked ++ []) (replies ++ []) marks)) ≡ true)
 first-out {picked} {replies} {s} {marks} {closed} st k first =
     let rows : List Row = log s (picked ++ []) (replies ++ []) marks in
-    let v : StandsFor (picked ++ []) (replies ++ []) (length picked) st.asks s marks closed = st.at [] [] in
+    let v : Represents (picked ++ []) (replies ++ []) (length picked) st.asks s marks closed = st.at [] [] in
     let listed : in-losses k (filter (not_closed closed) (losses rows)) ≡ true = subst (λ ls. in-losses k ls ≡ true) v.rows.leaving_are (first-in k s.leaving first) in
     (listed, loss-is-out k rows (unfiltered k (not_closed closed) (losses rows) listed))
 
 -- so the server's stream is never closed
 pub first-nonzero : {picked : List ℕ} {replies : List HouseReply} {s : State} {marks : List Mark} {closed : List ℕ} (st : Stands picked replies s marks closed) (k : ℕ) → IsFirst k s.leaving → k ≢ 0
 first-nonzero {picked} {replies} {s} {marks} {closed} st k first e =
-    let v : StandsFor (picked ++ []) (replies ++ []) (length picked) st.asks s marks closed = st.at [] [] in
+    let v : Represents (picked ++ []) (replies ++ []) (length picked) st.asks s marks closed = st.at [] [] in
     true-false (sym (first-out st k first).1 ∙ (ap (λ j. is_out (rows_of j (log s (picked ++ []) (replies ++ []) marks))) e ∙ v.rows.server_in))
 
 -- what passes a test on the numbers passes it
@@ -116,7 +116,7 @@ passes k closed (l ∷ ls) h = by_test (not_closed closed l) refl h (passes k cl
 pub first-here : {picked : List ℕ} {replies : List HouseReply} {s : State} {marks : List Mark} {closed : List ℕ} (st : Stands picked replies s marks closed) (k : ℕ) → IsFirst k s.leaving → among k (here s) ≡ true
 first-here {picked} {replies} {s} {marks} {closed} st k first = among-here s k ∙ by_here (is_here s k) refl
   where
-    v : StandsFor (picked ++ []) (replies ++ []) (length picked) st.asks s marks closed
+    v : Represents (picked ++ []) (replies ++ []) (length picked) st.asks s marks closed
     v = st.at [] []
 
     by_here : (b : Bool) → is_here s k ≡ b → b ≡ true
@@ -182,7 +182,7 @@ serve-closed {May} {Rest} {before} {now} {policy} {pid} {start} {seen} {held} {f
       house_there = v.house_there;
       rested = v.rested;
       absent = v.absent;
-      tells = v.tells;
+      records = v.records;
       of_wire = (wire-keeps seen v.journal).close k v.of_wire;
       places = record {
         own = stays-all k seen.own (none-closed v k first) ∙ v.places.own;
@@ -198,7 +198,7 @@ serve-closed {May} {Rest} {before} {now} {policy} {pid} {start} {seen} {held} {f
       unseen = λ j lt le. let u : IsUnseen v.journal seen.blocked j = v.unseen j lt le in record { not_accepted = u.not_accepted; never_blocked = u.never_blocked; not_blocked = among-less k j seen.blocked u.not_blocked };
       unused = λ j free. let u : IsUnused v.journal seen j = v.unused j free in record { not_open = among-less k j seen.streams u.not_open; never_blocked = u.never_blocked; not_blocked = among-less k j seen.blocked u.not_blocked; never_failed = u.never_failed };
       failed_are = λ t own a f. v.failed_are t own (was-among k t seen.streams a).0 f;
-      hears = v.hears;
+      receives = v.receives;
       sound = λ picks later. let old : IsSound (by_lists policy pid (v.picked ++ picks) (v.replies ++ later)) v.journal todo s = v.sound picks later in
           record { kept = old.kept; failed_out = old.failed_out; settled = old.settled };
     }

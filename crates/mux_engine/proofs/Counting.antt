@@ -14,9 +14,9 @@ use Rattle.mux_outside.specs.declared.whose.Whose.{Whose}
 use Rattle.mux_outside.specs.declared.whose.Whose.TheVariants.{Server}
 use Rattle.mux_history.specs.declared.ended.Ended.{Ended}
 use Rattle.mux_history.specs.declared.ended.Ended.TheVariants as ended
-use Rattle.mux_machine.specs.declared.event.Event.{Event}
-use Rattle.mux_machine.specs.declared.event.Event.TheVariants.{Accepted, FromClient, ClientEnd, ClientFailed, HouseSays, FromServer, ServerEnd, ServerFailed}
-use Rattle.mux_machine.specs.Events.{MayEnd, Tells}
+use Rattle.mux_state.specs.declared.event.Event.{Event}
+use Rattle.mux_state.specs.declared.event.Event.TheVariants.{Accepted, FromClient, ClientEnd, ClientFailed, HouseSays, FromServer, ServerEnd, ServerFailed}
+use Rattle.mux_state.specs.Events.{MayEnd, Records}
 use Rattle.mux_engine.specs.Counted.{Counts, Cut}
 use Rattle.mux_engine.specs.Rests.{IsByRow}
 use Rattle.mux_engine.specs.Turns.{IsEventOf}
@@ -40,17 +40,17 @@ pub cut-wait : (t : Turn) (c : CallCounts) → Cut 1 c (calls_after_wait t c)
 cut-wait t c = record { few = counted-most c.waits; wants = wants-wait (is_starved t) c; late = late-wait t c; came = came-wait t c }
 
 -- one that found memory, where its turn told an event
-tells-event : (e : Event) (t : Turn) (bytes : List ℕ) → IsEventOf e t bytes → is_starved t ≡ false
-tells-event e (turn.Accepted k) bytes next = refl
-tells-event e (turn.Got k) bytes next = refl
-tells-event e (turn.End k) bytes next = refl
-tells-event e (turn.Failed k) bytes next = refl
-tells-event e (turn.Writable k) bytes next = absurd next
-tells-event e (turn.Joined l k) bytes next = absurd next
-tells-event e turn.NoMemory bytes next = absurd next
+records-event : (e : Event) (t : Turn) (bytes : List ℕ) → IsEventOf e t bytes → is_starved t ≡ false
+records-event e (turn.Accepted k) bytes next = refl
+records-event e (turn.Got k) bytes next = refl
+records-event e (turn.End k) bytes next = refl
+records-event e (turn.Failed k) bytes next = refl
+records-event e (turn.Writable k) bytes next = absurd next
+records-event e (turn.Joined l k) bytes next = absurd next
+records-event e turn.NoMemory bytes next = absurd next
 
 pub counts-event : {A E : Type 0} (r : Result A E) (e : Event) (t : Turn) (bytes : List ℕ) (c : CallCounts) → IsEventOf e t bytes → Counts 1 r c (calls_after_wait t c)
-counts-event (Ok x) e t bytes c next = well-wait t c (tells-event e t bytes next)
+counts-event (Ok x) e t bytes c next = well-wait t c (records-event e t bytes next)
 counts-event (Err x) e t bytes c next = cut-wait t c
 
 pub cut-none : (n : ℕ) (c : CallCounts) → Cut n c c
@@ -84,7 +84,7 @@ abbrev stream-of : Mark → ℕ
 stream-of (Fails k) = k
 stream-of mark = 0
 
-failed-stream : (e : Event) (k : ℕ) → IsServerFailed e → Tells e (Fails k) → k ≡ 0
+failed-stream : (e : Event) (k : ℕ) → IsServerFailed e → Records e (Fails k) → k ≡ 0
 failed-stream ServerFailed k is t = elim t [ inl m ↦ ap stream-of m | inr m ↦ absurd (cc) ]
 failed-stream (Accepted j) k is t = absurd is
 failed-stream (ClientEnd j) k is t = absurd is
@@ -94,23 +94,23 @@ failed-stream (FromClient j bytes) k is t = absurd is
 failed-stream (FromServer bytes) k is t = absurd is
 failed-stream ServerEnd k is t = absurd is
 
-not-told : (e : Event) (mark : Mark) → IsServerFailed e → Tells e mark → (mark ≡ Fails 0 → ⊥) → (mark ≡ WriteFails 0 → ⊥) → ⊥
-not-told ServerFailed mark is t f g = elim t [ inl m ↦ f m | inr m ↦ g m ]
-not-told (Accepted j) mark is t f g = is
-not-told (ClientEnd j) mark is t f g = is
-not-told (ClientFailed j) mark is t f g = is
-not-told (HouseSays j id reply) mark is t f g = is
-not-told (FromClient j bytes) mark is t f g = is
-not-told (FromServer bytes) mark is t f g = is
-not-told ServerEnd mark is t f g = is
+not-recorded : (e : Event) (mark : Mark) → IsServerFailed e → Records e mark → (mark ≡ Fails 0 → ⊥) → (mark ≡ WriteFails 0 → ⊥) → ⊥
+not-recorded ServerFailed mark is t f g = elim t [ inl m ↦ f m | inr m ↦ g m ]
+not-recorded (Accepted j) mark is t f g = is
+not-recorded (ClientEnd j) mark is t f g = is
+not-recorded (ClientFailed j) mark is t f g = is
+not-recorded (HouseSays j id reply) mark is t f g = is
+not-recorded (FromClient j bytes) mark is t f g = is
+not-recorded (FromServer bytes) mark is t f g = is
+not-recorded ServerEnd mark is t f g = is
 
 -- its count rose where a turn ended the run so
 rose-by : (e : Event) (t : Turn) (bytes : List ℕ) (f f' : Faults) → IsServerFailed e → IsEventOf e t bytes → TurnFaults t f f' → Rose f.server f'.server
 rose-by e (turn.Failed k) bytes f f' is next c =
     let s : FaultOf Server f f' = subst (λ (w : Whose). FaultOf w f f') (whose-server k (eq-eqb k 0 (failed-stream e k is next.1))) c in s.rose
-rose-by e (turn.Accepted k) bytes f f' is next c = absurd (not-told e (Accepts k) is next (λ z. cc) (λ z. cc))
-rose-by e (turn.Got k) bytes f f' is next c = absurd (not-told e (Gets k bytes) is next.1 (λ z. cc) (λ z. cc))
-rose-by e (turn.End k) bytes f f' is next c = absurd (not-told e (Ends k) is next.1 (λ z. cc) (λ z. cc))
+rose-by e (turn.Accepted k) bytes f f' is next c = absurd (not-recorded e (Accepts k) is next (λ z. cc) (λ z. cc))
+rose-by e (turn.Got k) bytes f f' is next c = absurd (not-recorded e (Gets k bytes) is next.1 (λ z. cc) (λ z. cc))
+rose-by e (turn.End k) bytes f f' is next c = absurd (not-recorded e (Ends k) is next.1 (λ z. cc) (λ z. cc))
 rose-by e (turn.Writable k) bytes f f' is next c = absurd next
 rose-by e (turn.Joined l k) bytes f f' is next c = absurd next
 rose-by e turn.NoMemory bytes f f' is next c = absurd next

@@ -16,11 +16,11 @@ use Rattle.mux_history.specs.Journal.{is_accepted, items_in, log_of_journal}
 use Rattle.mux_history.specs.Promises.{is_asked, turns_in}
 use Rattle.mux_history.specs.Wires.{OfWire}
 use Rattle.mux_bounds.specs.Bounds.{IsLog}
-use Rattle.mux_clients.specs.Asked.{TellsAsks, asked_of}
-use Rattle.mux_clients.specs.Starved.{BeginsWith}
-use Rattle.mux_clients.proofs.Starved.{all-begin}
-use Rattle.mux_machine.specs.State.{State}
-use Rattle.mux_machine.specs.Stands.{RowsFit}
+use Rattle.mux_peers.specs.Asked.{RecordsAsks, asked_of}
+use Rattle.mux_peers.specs.Starved.{BeginsWith}
+use Rattle.mux_peers.proofs.Starved.{all-begin}
+use Rattle.mux_state.specs.State.{State}
+use Rattle.mux_state.specs.Stands.{RowsFit}
 use Rattle.mux_outside.specs.HouseCalls.{HouseCall, calls_of}
 use Rattle.mux_outside.proofs.HouseCalls.{calls-append}
 use Rattle.mux_engine.specs.Called.{calls_in}
@@ -32,7 +32,7 @@ use Rattle.mux_engine.specs.Sides.{Resting, Side, asks_in, house_mark, house_mar
 use Rattle.mux_engine.proofs.Marks.{PromiseAt, kept-more, log-is, noted-more}
 use Rattle.mux_engine.proofs.Owns.{keeps-more}
 use Rattle.mux_engine.proofs.Staying.{serve-as}
-use Rattle.mux_engine.proofs.Told.{tells-more, tells-none, tells-then}
+use Rattle.mux_engine.proofs.Recorded.{records-more, records-none, records-then}
 
 pub of-streams : (streams blocked : List ℕ) (last : ℕ) (journal : List Mark) → OfWire streams blocked last journal → IsOfWire journal
 of-streams streams blocked last journal of = record { lawful = of.lawful; asked = of.asked }
@@ -63,10 +63,10 @@ on-next {May} {Rest} {before} {now} {policy} {pid} {start} {seen} {held} {failed
     }
 
 -- the rows before the mark are left, whatever the house told at the mark
-unfoldable pub cut-next : {May : HouseReply → Type 0} {Rest : Resting} {before : Option (List HouseMark)} {now : Side} {policy : Policy} {pid : ℕ} {start : Option (List Mark)} {seen : Seen} {held failed : List ℕ} {given : ℕ} {todo : List ℕ} {s : State} (v : Serving May Rest before now policy pid start seen held failed given todo s) (now' : Option (List HouseMark)) (told' : Option (List Mark)) (given' : ℕ) (mark : Mark) (more left : List HouseMark)
-    → told' ≡ option_map (λ m. m ++ mark ∷ []) seen.told → TellsAsks now.told now' more → house_mark mark ++ left ≡ now.unnoted ++ more → IsOfWire (mark ∷ v.journal) → IsPlaced v.journal mark → turns_in (mark ∷ v.journal) ≤ given' → ((set : Setting) → RestedAt Rest.rests set before v.journal mark) → (Rest.present ≡ false → is_by_house mark ≡ false) → AsksOn May policy pid v.picked v.replies (mark ∷ v.journal) v.stands.asks (asks_in more)
-    → ((set : Setting) → IsLog set (mark ∷ v.journal) (log_of_journal set v.journal)) → ((picks : List ℕ) (later : List HouseReply) → PromiseAt (by_lists policy pid (v.picked ++ picks) (v.replies ++ later)) v.journal mark) → Promised May Rest before now' policy pid start told' given'
-cut-next {May} {Rest} {before} {now} {policy} {pid} {start} {seen} {held} {failed} {given} {todo} {s} v now' told' given' mark more left e h is of placed le rested absent on cut promise =
+unfoldable pub cut-next : {May : HouseReply → Type 0} {Rest : Resting} {before : Option (List HouseMark)} {now : Side} {policy : Policy} {pid : ℕ} {start : Option (List Mark)} {seen : Seen} {held failed : List ℕ} {given : ℕ} {todo : List ℕ} {s : State} (v : Serving May Rest before now policy pid start seen held failed given todo s) (now' : Option (List HouseMark)) (recorded' : Option (List Mark)) (given' : ℕ) (mark : Mark) (more left : List HouseMark)
+    → recorded' ≡ option_map (λ m. m ++ mark ∷ []) seen.recorded → RecordsAsks now.recorded now' more → house_mark mark ++ left ≡ now.unnoted ++ more → IsOfWire (mark ∷ v.journal) → IsPlaced v.journal mark → turns_in (mark ∷ v.journal) ≤ given' → ((set : Setting) → RestedAt Rest.rests set before v.journal mark) → (Rest.present ≡ false → is_by_house mark ≡ false) → AsksOn May policy pid v.picked v.replies (mark ∷ v.journal) v.stands.asks (asks_in more)
+    → ((set : Setting) → IsLog set (mark ∷ v.journal) (log_of_journal set v.journal)) → ((picks : List ℕ) (later : List HouseReply) → PromiseAt (by_lists policy pid (v.picked ++ picks) (v.replies ++ later)) v.journal mark) → Promised May Rest before now' policy pid start recorded' given'
+cut-next {May} {Rest} {before} {now} {policy} {pid} {start} {seen} {held} {failed} {given} {todo} {s} v now' recorded' given' mark more left e h is of placed le rested absent on cut promise =
     let same : (house_marks v.journal ++ now.unnoted) ++ more ≡ (house_marks v.journal ++ house_mark mark) ++ left = noted-more (house_marks v.journal) (house_mark mark) left now.unnoted more is in
     record {
       journal = mark ∷ v.journal;
@@ -77,12 +77,12 @@ cut-next {May} {Rest} {before} {now} {policy} {pid} {start} {seen} {held} {faile
       more_asks = asks_in more;
       may = v.may;
       each = v.stands.each;
-      house = subst (TellsAsks before now') same (tells-then before now.told now' (house_marks v.journal ++ now.unnoted) more v.house h);
+      house = subst (RecordsAsks before now') same (records-then before now.recorded now' (house_marks v.journal ++ now.unnoted) more v.house h);
       asked = ap asks_in (sym same) ∙ asks-left (house_marks v.journal ++ now.unnoted) more v.stands.asks v.asked;
       asks_on = on;
       rested = λ picks later. (rested (by_lists policy pid (v.picked ++ picks) (v.replies ++ later)), v.rested picks later);
       absent = λ e. All-cons (λ (m : Mark). is_by_house m ≡ false) mark v.journal (absent e) (v.absent e);
-      tells = tells-more start seen.told told' v.journal (mark ∷ []) v.tells e;
+      records = records-more start seen.recorded recorded' v.journal (mark ∷ []) v.records e;
       of_wire = of;
       own_streams = keeps-more v.journal mark placed v.own_streams;
       turns = le;
@@ -94,9 +94,9 @@ cut-next {May} {Rest} {before} {now} {policy} {pid} {start} {seen} {held} {faile
     }
 
 -- all rows are left where the wire told no mark
-unfoldable pub cut-here : {May : HouseReply → Type 0} {Rest : Resting} {before : Option (List HouseMark)} {now : Side} {policy : Policy} {pid : ℕ} {start : Option (List Mark)} {seen : Seen} {held failed : List ℕ} {given : ℕ} {todo : List ℕ} {s : State} (v : Serving May Rest before now policy pid start seen held failed given todo s) (now' : Option (List HouseMark)) (told' : Option (List Mark)) (given' : ℕ) (more : List HouseMark)
-    → told' ≡ seen.told → TellsAsks now.told now' more → asks_in more ≡ [] → given ≤ given' → Promised May Rest before now' policy pid start told' given'
-cut-here {May} {Rest} {before} {now} {policy} {pid} {start} {seen} {held} {failed} {given} {todo} {s} v now' told' given' more e h none le = record {
+unfoldable pub cut-here : {May : HouseReply → Type 0} {Rest : Resting} {before : Option (List HouseMark)} {now : Side} {policy : Policy} {pid : ℕ} {start : Option (List Mark)} {seen : Seen} {held failed : List ℕ} {given : ℕ} {todo : List ℕ} {s : State} (v : Serving May Rest before now policy pid start seen held failed given todo s) (now' : Option (List HouseMark)) (recorded' : Option (List Mark)) (given' : ℕ) (more : List HouseMark)
+    → recorded' ≡ seen.recorded → RecordsAsks now.recorded now' more → asks_in more ≡ [] → given ≤ given' → Promised May Rest before now' policy pid start recorded' given'
+cut-here {May} {Rest} {before} {now} {policy} {pid} {start} {seen} {held} {failed} {given} {todo} {s} v now' recorded' given' more e h none le = record {
   journal = v.journal;
   picked = v.picked;
   replies = v.replies;
@@ -105,12 +105,12 @@ cut-here {May} {Rest} {before} {now} {policy} {pid} {start} {seen} {held} {faile
   more_asks = [];
   may = v.may;
   each = v.stands.each;
-  house = subst (TellsAsks before now') (append_assoc (house_marks v.journal) now.unnoted more) (tells-then before now.told now' (house_marks v.journal ++ now.unnoted) more v.house h);
+  house = subst (RecordsAsks before now') (append_assoc (house_marks v.journal) now.unnoted more) (records-then before now.recorded now' (house_marks v.journal ++ now.unnoted) more v.house h);
   asked = ap asks_in (sym (append_assoc (house_marks v.journal) now.unnoted more)) ∙ (asks-left (house_marks v.journal ++ now.unnoted) more v.stands.asks v.asked ∙ ap (λ l. v.stands.asks ++ l) none);
   asks_on = on-here v;
   rested = v.rested;
   absent = v.absent;
-  tells = e ∙ v.tells;
+  records = e ∙ v.records;
   of_wire = of-streams seen.streams seen.blocked seen.last v.journal v.of_wire;
   own_streams = v.own_streams;
   turns = let w : turns_in v.journal ≡ given = v.turns in omega arith;
@@ -122,15 +122,15 @@ cut-here {May} {Rest} {before} {now} {policy} {pid} {start} {seen} {held} {faile
 }
 
 -- where the house told nothing meanwhile
-pub cut-still : {May : HouseReply → Type 0} {Rest : Resting} {before : Option (List HouseMark)} {now : Side} {policy : Policy} {pid : ℕ} {start : Option (List Mark)} {seen : Seen} {held failed : List ℕ} {given : ℕ} {todo : List ℕ} {s : State} (v : Serving May Rest before now policy pid start seen held failed given todo s) (told' : Option (List Mark)) → told' ≡ seen.told → Promised May Rest before now.told policy pid start told' given
-cut-still {now = now} {given = given} v told' e = cut-here v now.told told' given [] e (tells-none now.told) refl (omega arith)
+pub cut-still : {May : HouseReply → Type 0} {Rest : Resting} {before : Option (List HouseMark)} {now : Side} {policy : Policy} {pid : ℕ} {start : Option (List Mark)} {seen : Seen} {held failed : List ℕ} {given : ℕ} {todo : List ℕ} {s : State} (v : Serving May Rest before now policy pid start seen held failed given todo s) (recorded' : Option (List Mark)) → recorded' ≡ seen.recorded → Promised May Rest before now.recorded policy pid start recorded' given
+cut-still {now = now} {given = given} v recorded' e = cut-here v now.recorded recorded' given [] e (records-none now.recorded) refl (omega arith)
 
 -- what the house tells is not noted yet
-pub serve-told : {May : HouseReply → Type 0} {Rest : Resting} {before : Option (List HouseMark)} {now : Side} {policy : Policy} {pid : ℕ} {start : Option (List Mark)} {seen : Seen} {held failed : List ℕ} {given : ℕ} {todo : List ℕ} {s : State} (v : Serving May Rest before now policy pid start seen held failed given todo s) (now' : Side) (more : List HouseMark) → TellsAsks now.told now'.told more → now'.unnoted ≡ now.unnoted ++ more → asks_in more ≡ [] → now'.asks ≡ now.asks → now'.let_in ≡ now.let_in → now'.calls ≡ now.calls ++ calls_of more → Serving May Rest before now' policy pid start seen held failed given todo s
-serve-told {May} {Rest} {before} {now} {policy} {pid} {start} {seen} {held} {failed} {given} {todo} {s} v now' more h is none asks within calls =
+pub serve-recorded : {May : HouseReply → Type 0} {Rest : Resting} {before : Option (List HouseMark)} {now : Side} {policy : Policy} {pid : ℕ} {start : Option (List Mark)} {seen : Seen} {held failed : List ℕ} {given : ℕ} {todo : List ℕ} {s : State} (v : Serving May Rest before now policy pid start seen held failed given todo s) (now' : Side) (more : List HouseMark) → RecordsAsks now.recorded now'.recorded more → now'.unnoted ≡ now.unnoted ++ more → asks_in more ≡ [] → now'.asks ≡ now.asks → now'.let_in ≡ now.let_in → now'.calls ≡ now.calls ++ calls_of more → Serving May Rest before now' policy pid start seen held failed given todo s
+serve-recorded {May} {Rest} {before} {now} {policy} {pid} {start} {seen} {held} {failed} {given} {todo} {s} v now' more h is none asks within calls =
     let same : (house_marks v.journal ++ now.unnoted) ++ more ≡ house_marks v.journal ++ now'.unnoted = append_assoc (house_marks v.journal) now.unnoted more ∙ ap (λ l. house_marks v.journal ++ l) (sym is) in
     serve-as v now' seen.listens todo record {
-      house = subst (TellsAsks before now'.told) same (tells-then before now.told now'.told (house_marks v.journal ++ now.unnoted) more v.house h);
+      house = subst (RecordsAsks before now'.recorded) same (records-then before now.recorded now'.recorded (house_marks v.journal ++ now.unnoted) more v.house h);
       asked = ap asks_in (sym same) ∙ (asks-left (house_marks v.journal ++ now.unnoted) more v.stands.asks v.asked ∙ (ap (λ l. v.stands.asks ++ l) none ∙ append-nil v.stands.asks));
       called = λ picks later.
           let set : Setting = by_lists policy pid (v.picked ++ picks) (v.replies ++ later) in
@@ -139,4 +139,4 @@ serve-told {May} {Rest} {before} {now} {policy} {pid} {start} {seen} {held} {fai
       deferred = subst (EachDeferred v.stands.asks) (sym asks) v.deferred;
       house_in = v.house_in ∙ sym within;
       house_there = λ e. v.house_there (sym within ∙ e);
-    } v.hears (λ t a. inl a)
+    } v.receives (λ t a. inl a)

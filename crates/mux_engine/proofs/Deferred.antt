@@ -8,7 +8,7 @@ use Rattle.mux_outside.specs.House.{Known, OpenAsk}
 use Rattle.mux_outside.specs.declared.house.HouseReply.TheVariants.{Done, Port, Refused, Later}
 use Rattle.mux_outside.specs.declared.house_mark.HouseMark.{HouseMark}
 use Rattle.mux_outside.specs.declared.house_mark.HouseMark.TheVariants.{HouseIn, HouseSaid, HouseTook, HouseAsked, HouseAnswer, HouseOrder}
-use Rattle.mux_clients.specs.Asked.{known_after}
+use Rattle.mux_peers.specs.Asked.{known_after}
 use Rattle.mux_engine.specs.Answers.{EachDeferred, is_deferred}
 use Rattle.mux_engine.specs.Sides.{Side}
 use Rattle.mux_engine.proofs.Lists.{or-true, test-same}

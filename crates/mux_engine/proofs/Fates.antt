@@ -10,7 +10,7 @@ use Rattle.ssh_grammar.specs.declared.side.Side.TheVariants.{Down, Up}
 use Rattle.ssh_grammar.specs.Control.{Answer, Control, Hello, Terminate, OpenForward, CloseForward}
 use Rattle.ssh_grammar.specs.Messages.{Global, Opens, Session, Direct, Forward, Forwarded, Cancel, KeepAlive, OtherName}
 use Rattle.ssh_grammar.specs.ReadControl.{read_control}
-use Rattle.ssh_grammar.specs.Said.{Saying, Body, Payload, BadFraming}
+use Rattle.ssh_grammar.specs.Said.{Outgoing, Body, Payload, BadFraming}
 use Rattle.ssh_grammar.specs.SpellMessage.{not_permitted, too_many_channels}
 use Rattle.mux_outside.specs.declared.house.HouseReply.{HouseReply}
 use Rattle.mux_history.specs.declared.broke.Break.{Break}
@@ -22,23 +22,23 @@ use Rattle.mux_history.specs.declared.ended.Ended.{Ended}
 use Rattle.mux_history.specs.declared.ended.Ended.TheVariants as ended
 use Rattle.mux_history.specs.Channels.{Channel, held_of, holder, live_in, with_own}
 use Rattle.mux_history.specs.Choices.{FromLists, pick_of, replies_given, reply_at}
-use Rattle.mux_history.specs.Controls.{answers_ask, answers_maybe, body_asks, first_control, first_unread, greeted, house_answer, later_control, later_unread, said_body, said_first, said_later}
+use Rattle.mux_history.specs.Controls.{answers_ask, answers_maybe, body_asks, first_control, first_unread, greeted, house_answer, later_control, later_unread, sent_body, sent_first, sent_later}
 use Rattle.mux_history.specs.Forwardings.{Forwarding, live_at}
-use Rattle.mux_history.specs.Gist.{Act, Confirmation, Fails, Gist, Open, Refuses, Requests, Succeeds, Transport, Within, read_gist}
-use Rattle.mux_history.specs.Heard.{Breaks, Dest, Disconnects, ToClient, ToMaster, dest, dest_asker, dest_confirmation, dest_gist, dest_open, dest_success, dest_within, for_master, heard_for, heard_master, pending_open}
+use Rattle.mux_history.specs.Summary.{Act, Confirmation, Fails, Summary, Open, Refuses, Requests, Succeeds, Transport, Within, read_summary}
+use Rattle.mux_history.specs.Heard.{Breaks, Dest, Disconnects, ToClient, ToMaster, dest, dest_asker, dest_confirmation, dest_summary, dest_open, dest_success, dest_within, for_master, received_for, received_master, pending_open}
 use Rattle.mux_history.specs.Keys.{learns_port}
 use Rattle.mux_history.specs.Ledger.{breach}
 use Rattle.mux_history.specs.Policy.{Policy, permits}
 use Rattle.mux_history.specs.Requests.{Ask, asker}
 use Rattle.mux_history.specs.Rows.{Row, rows_of, loses, Item, Heard, Says, Fate, Goes, Refused, Drop, End}
-use Rattle.mux_history.specs.Said.{Outcome, confirmed_at, drops, fails_open, is_failing, is_full_of_asks, on_breach, on_confirmed, on_unused, on_waiting, said_gist, said_open, said_payload, said_request, sends, sends_as, sends_if, sends_open, silent, waiting_at}
+use Rattle.mux_history.specs.Said.{Outcome, confirmed_at, drops, fails_open, is_failing, is_full_of_asks, on_breach, on_confirmed, on_unused, on_waiting, sent_summary, sent_open, sent_payload, sent_request, sends, sends_as, sends_if, sends_open, silent, waiting_at}
 use Rattle.mux_history.specs.Settings.{by_lists}
 use Rattle.mux_history.specs.Solo.{end_of}
-use Rattle.mux_history.specs.Journal.{heard_item, said_item, server_end}
-use Rattle.mux_history.specs.Log.{all_told, bare, fate_with, heard_row, makes_next, more_all, more_of, next_row, overflow, queued, row_of, said_by_client, treat}
+use Rattle.mux_history.specs.Journal.{received_item, sent_item, server_end}
+use Rattle.mux_history.specs.Log.{all_recorded, bare, fate_with, received_row, makes_next, more_all, more_of, next_row, overflow, queued, row_of, sent_by_client, treat}
 use Rattle.mux_history.specs.Pending.{waiting_down}
 use Rattle.mux_history.specs.Farewell.{farewell}
-use Rattle.mux_clients.proofs.Hearings.{heard-goes}
+use Rattle.mux_peers.proofs.Receivings.{heard-goes}
 use Rattle.mux_engine.specs.Came.{EndsFor}
 
 -- ---- a fate
@@ -49,15 +49,15 @@ EndsAs P (End cause) = P (Some cause)
 EndsAs P fate = Unit {0}
 
 -- a row doesn't end it
-abbrev pub Lives : Fate → Type 0
-Lives (End cause) = ⊥
-Lives fate = Unit {0}
+abbrev pub RelayTraces : Fate → Type 0
+RelayTraces (End cause) = ⊥
+RelayTraces fate = Unit {0}
 
-pub lives-as : (P : Option Ended → Type 0) (f : Fate) → Lives f → EndsAs P f
-lives-as P (End cause) h = absurd h
-lives-as P (Drop cause) h = tt
-lives-as P Goes h = tt
-lives-as P Refused h = tt
+pub relay_traces-as : (P : Option Ended → Type 0) (f : Fate) → RelayTraces f → EndsAs P f
+relay_traces-as P (End cause) h = absurd h
+relay_traces-as P (Drop cause) h = tt
+relay_traces-as P Goes h = tt
+relay_traces-as P Refused h = tt
 
 with-full : (P : Option Ended → Type 0) (f : Fate) (full : Option Why) → EndsAs P f → EndsAs P (fate_with f full)
 with-full P (End cause) full h = h
@@ -68,10 +68,10 @@ with-full P Refused None h = tt
 with-full P Refused (Some cause) h = tt
 
 pub row-as : (P : Option Ended → Type 0) (item : Item) (k : ℕ) (o : Outcome) (own : List Row) → EndsAs P o.ends → EndsAs P (row_of item k o own).fate
-row-as P item k o own h = by_loss (loses q) (with-full P o.ends (overflow (waiting_down own) (all_told (bare item k o) own)) h)
+row-as P item k o own h = by_loss (loses q) (with-full P o.ends (overflow (waiting_down own) (all_recorded (bare item k o) own)) h)
   where
     q : Row
-    q = queued (all_told (bare item k o) own) (bare item k o) own
+    q = queued (all_recorded (bare item k o) own) (bare item k o) own
 
     by_loss : (b : Bool) → EndsAs P q.fate → EndsAs P (elim b as (λ _. Row) [ true ↦ record q { farewell = farewell q own } | false ↦ q ]).fate
     by_loss true h = h
@@ -80,7 +80,7 @@ row-as P item k o own h = by_loss (loses q) (with-full P o.ends (overflow (waiti
 -- ---- a payload of a client ends no run
 
 abbrev pub Fine : Outcome → Type 0
-Fine o = Lives o.ends
+Fine o = RelayTraces o.ends
 
 fine-open : (own : List Row) (pick : ℕ) (p : List ℕ) (sender : ℕ) → Fine (sends_open own pick p sender)
 fine-open own pick p sender = by_room (nat_lt (length (held_of own)) MAX_CHANNELS)
@@ -89,7 +89,7 @@ fine-open own pick p sender = by_room (nat_lt (length (held_of own)) MAX_CHANNEL
     by_room true = tt
     by_room false = tt
 
-fine-kind : (policy : Policy) (own : List Row) (pick : ℕ) (p : List ℕ) (sender : ℕ) (what : Opens) → Fine (said_open policy own pick p sender what)
+fine-kind : (policy : Policy) (own : List Row) (pick : ℕ) (p : List ℕ) (sender : ℕ) (what : Opens) → Fine (sent_open policy own pick p sender what)
 fine-kind policy own pick p sender Session = fine-open own pick p sender
 fine-kind policy own pick p sender (Direct key) = by_permit (permits policy.opens key)
   where
@@ -122,13 +122,13 @@ fine-if : (b : Bool) (p : List ℕ) → Fine (sends_if b p)
 fine-if true p = tt
 fine-if false p = tt
 
-fine-request : (policy : Policy) (k : ℕ) (own : List Row) (p : List ℕ) (what : Global) (wants : Bool) → Fine (said_request policy k own p what wants)
+fine-request : (policy : Policy) (k : ℕ) (own : List Row) (p : List ℕ) (what : Global) (wants : Bool) → Fine (sent_request policy k own p what wants)
 fine-request policy k own p KeepAlive wants = tt
 fine-request policy k own p OtherName wants = tt
 fine-request policy k own p (Forward key) wants = fine-if _ p
 fine-request policy k own p (Cancel key) wants = fine-if _ p
 
-fine-asks : (policy : Policy) (k : ℕ) (own : List Row) (p : List ℕ) (what : Global) (wants b : Bool) → Fine (elim b as (λ _. Outcome) [ true ↦ drops (why.TooManyAsks MAX_GLOBAL_REQUESTS) | false ↦ said_request policy k own p what wants ])
+fine-asks : (policy : Policy) (k : ℕ) (own : List Row) (p : List ℕ) (what : Global) (wants b : Bool) → Fine (elim b as (λ _. Outcome) [ true ↦ drops (why.TooManyAsks MAX_GLOBAL_REQUESTS) | false ↦ sent_request policy k own p what wants ])
 fine-asks policy k own p what wants true = tt
 fine-asks policy k own p what wants false = fine-request policy k own p what wants
 
@@ -136,21 +136,21 @@ fine-transport : (b : Bool) → Fine (elim b as (λ _. Outcome) [ true ↦ drops
 fine-transport true = tt
 fine-transport false = tt
 
-fine-gist : (policy : Policy) (k : ℕ) (own : List Row) (pick : ℕ) (p : List ℕ) (m : Gist) → Fine (said_gist policy k own pick p m)
-fine-gist policy k own pick p (Open what sender w x) = fine-unused sender (said_open policy own pick p sender what) (with_own own sender) (fine-kind policy own pick p sender what)
-fine-gist policy k own pick p (Confirmation s sender w x) = fine-waiting s (on_unused sender (sends_as pick p) (with_own own sender)) (waiting_at own s) (fine-unused sender (sends_as pick p) (with_own own sender) tt)
-fine-gist policy k own pick p (Transport number) = fine-transport (number == DISCONNECT)
-fine-gist policy k own pick p (Requests what wants) = fine-asks policy k own p what wants (is_full_of_asks wants own)
-fine-gist policy k own pick p (Succeeds rest) = tt
-fine-gist policy k own pick p Refuses = tt
-fine-gist policy k own pick p (Within r a) = fine-within own p r a (is_failing a)
+fine-summary : (policy : Policy) (k : ℕ) (own : List Row) (pick : ℕ) (p : List ℕ) (m : Summary) → Fine (sent_summary policy k own pick p m)
+fine-summary policy k own pick p (Open what sender w x) = fine-unused sender (sent_open policy own pick p sender what) (with_own own sender) (fine-kind policy own pick p sender what)
+fine-summary policy k own pick p (Confirmation s sender w x) = fine-waiting s (on_unused sender (sends_as pick p) (with_own own sender)) (waiting_at own s) (fine-unused sender (sends_as pick p) (with_own own sender) tt)
+fine-summary policy k own pick p (Transport number) = fine-transport (number == DISCONNECT)
+fine-summary policy k own pick p (Requests what wants) = fine-asks policy k own p what wants (is_full_of_asks wants own)
+fine-summary policy k own pick p (Succeeds rest) = tt
+fine-summary policy k own pick p Refuses = tt
+fine-summary policy k own pick p (Within r a) = fine-within own p r a (is_failing a)
 
-pub fine-payload : (policy : Policy) (k : ℕ) (own : List Row) (pick : ℕ) (p : List ℕ) → Fine (said_payload policy k own pick p)
-fine-payload policy k own pick p = by_read (read_gist p)
+pub fine-payload : (policy : Policy) (k : ℕ) (own : List Row) (pick : ℕ) (p : List ℕ) → Fine (sent_payload policy k own pick p)
+fine-payload policy k own pick p = by_read (read_summary p)
   where
-    by_read : (r : Result Gist Bad) → Fine (elim r as (λ _. Outcome) [ Err bad ↦ drops (why.BadMessage bad) | Ok m ↦ said_gist policy k own pick p m ])
+    by_read : (r : Result Summary Bad) → Fine (elim r as (λ _. Outcome) [ Err bad ↦ drops (why.BadMessage bad) | Ok m ↦ sent_summary policy k own pick p m ])
     by_read (Err bad) = tt
-    by_read (Ok m) = fine-gist policy k own pick p m
+    by_read (Ok m) = fine-summary policy k own pick p m
 
 -- ---- and a control message ends it for its client alone
 
@@ -188,45 +188,45 @@ unknown-for k (bad.Unknown kind (Some id)) = tt
 unknown-for k (bad.Unknown kind None) = tt
 unknown-for k fault = tt
 
-body-for : (pid k : ℕ) (given : Option HouseReply) (has_greeted : Bool) (body : List ℕ) → For k (said_body pid k given has_greeted body)
+body-for : (pid k : ℕ) (given : Option HouseReply) (has_greeted : Bool) (body : List ℕ) → For k (sent_body pid k given has_greeted body)
 body-for pid k given has_greeted body = by_read (read_control body) has_greeted
   where
-    by_read : (r : Result Control BadControl) (b : Bool) → For k (elim b as (λ _. Outcome) [ true ↦ said_later pid k given r | false ↦ said_first r ])
+    by_read : (r : Result Control BadControl) (b : Bool) → For k (elim b as (λ _. Outcome) [ true ↦ sent_later pid k given r | false ↦ sent_first r ])
     by_read (Ok c) true = later-for pid k given c
     by_read (Err fault) true = unknown-for k fault
     by_read (Ok c) false = first-for k c
     by_read (Err fault) false = unread-for k fault
 
-saying-for : (policy : Policy) (pid k : ℕ) (own : List Row) (pick : ℕ) (x : Saying) (given : Option HouseReply) → For k (said_by_client policy pid k own pick x given)
-saying-for policy pid k own pick (Body body) given = body-for pid k given (greeted own) body
-saying-for policy pid k own pick (Payload p) given = lives-as (EndsFor k) (said_payload policy k own pick p).ends (fine-payload policy k own pick p)
-saying-for policy pid k own pick (BadFraming fault) given = tt
+outgoing-for : (policy : Policy) (pid k : ℕ) (own : List Row) (pick : ℕ) (x : Outgoing) (given : Option HouseReply) → For k (sent_by_client policy pid k own pick x given)
+outgoing-for policy pid k own pick (Body body) given = body-for pid k given (greeted own) body
+outgoing-for policy pid k own pick (Payload p) given = relay_traces-as (EndsFor k) (sent_payload policy k own pick p).ends (fine-payload policy k own pick p)
+outgoing-for policy pid k own pick (BadFraming fault) given = tt
 
 -- what a client says ends it so, whatever it said before
-abbrev pub SaysAs : (Option Ended → Type 0) → Policy → ℕ → ℕ → Saying → Type 0
-SaysAs P policy pid k x = (own : List Row) (pick : ℕ) (reply : Option HouseReply) → EndsAs P (said_by_client policy pid k own pick x reply).ends
+abbrev pub SendsAs : (Option Ended → Type 0) → Policy → ℕ → ℕ → Outgoing → Type 0
+SendsAs P policy pid k x = (own : List Row) (pick : ℕ) (reply : Option HouseReply) → EndsAs P (sent_by_client policy pid k own pick x reply).ends
 
 -- a row of what a client says ends as that does
-pub said-as : (P : Option Ended → Type 0) (policy : Policy) (pid : ℕ) (picks : List ℕ) (given : List HouseReply) (k : ℕ) (x : Saying) → SaysAs P policy pid k x → (rows : List Row) → EndsAs P (next_row (by_lists policy pid picks given) rows (said_item k x)).fate
-said-as P policy pid picks given k x ends rows = by_saying x ends
+pub said-as : (P : Option Ended → Type 0) (policy : Policy) (pid : ℕ) (picks : List ℕ) (given : List HouseReply) (k : ℕ) (x : Outgoing) → SendsAs P policy pid k x → (rows : List Row) → EndsAs P (next_row (by_lists policy pid picks given) rows (sent_item k x)).fate
+said-as P policy pid picks given k x ends rows = by_outgoing x ends
   where
-    pick : Saying → ℕ
+    pick : Outgoing → ℕ
     pick x = pick_of (FromLists picks given) rows (Says k x None)
 
-    plain : (x : Saying) → SaysAs P policy pid k x → (n : ℕ) (reply : Option HouseReply) → EndsAs P (treat policy pid n rows (Says k x reply)).fate
-    plain x ends n reply = row-as P (Says k x reply) k (said_by_client policy pid k (rows_of k rows) n x reply) (rows_of k rows) (ends (rows_of k rows) n reply)
+    plain : (x : Outgoing) → SendsAs P policy pid k x → (n : ℕ) (reply : Option HouseReply) → EndsAs P (treat policy pid n rows (Says k x reply)).fate
+    plain x ends n reply = row-as P (Says k x reply) k (sent_by_client policy pid k (rows_of k rows) n x reply) (rows_of k rows) (ends (rows_of k rows) n reply)
 
-    by_ask : (body : List ℕ) → SaysAs P policy pid k (Body body) → (b : Bool) → EndsAs P (treat policy pid (pick (Body body)) rows (elim b as (λ _. Item) [ true ↦ Says k (Body body) (Some (reply_at given (replies_given rows))) | false ↦ Says k (Body body) None ])).fate
+    by_ask : (body : List ℕ) → SendsAs P policy pid k (Body body) → (b : Bool) → EndsAs P (treat policy pid (pick (Body body)) rows (elim b as (λ _. Item) [ true ↦ Says k (Body body) (Some (reply_at given (replies_given rows))) | false ↦ Says k (Body body) None ])).fate
     by_ask body ends true = plain (Body body) ends (pick (Body body)) (Some (reply_at given (replies_given rows)))
     by_ask body ends false = plain (Body body) ends (pick (Body body)) None
 
-    by_saying : (x : Saying) → SaysAs P policy pid k x → EndsAs P (next_row (by_lists policy pid picks given) rows (said_item k x)).fate
-    by_saying (Payload p) ends = plain (Payload p) ends (pick (Payload p)) None
-    by_saying (BadFraming fault) ends = plain (BadFraming fault) ends (pick (BadFraming fault)) None
-    by_saying (Body body) ends = by_ask body ends (greeted (rows_of k rows) && body_asks body)
+    by_outgoing : (x : Outgoing) → SendsAs P policy pid k x → EndsAs P (next_row (by_lists policy pid picks given) rows (sent_item k x)).fate
+    by_outgoing (Payload p) ends = plain (Payload p) ends (pick (Payload p)) None
+    by_outgoing (BadFraming fault) ends = plain (BadFraming fault) ends (pick (BadFraming fault)) None
+    by_outgoing (Body body) ends = by_ask body ends (greeted (rows_of k rows) && body_asks body)
 
-pub said-for : (policy : Policy) (pid : ℕ) (picks : List ℕ) (given : List HouseReply) (k : ℕ) (x : Saying) (rows : List Row) → EndsAs (EndsFor k) (next_row (by_lists policy pid picks given) rows (said_item k x)).fate
-said-for policy pid picks given k x rows = said-as (EndsFor k) policy pid picks given k x (λ own pick reply. saying-for policy pid k own pick x reply) rows
+pub said-for : (policy : Policy) (pid : ℕ) (picks : List ℕ) (given : List HouseReply) (k : ℕ) (x : Outgoing) (rows : List Row) → EndsAs (EndsFor k) (next_row (by_lists policy pid picks given) rows (sent_item k x)).fate
+said-for policy pid picks given k x rows = said-as (EndsFor k) policy pid picks given k x (λ own pick reply. outgoing-for policy pid k own pick x reply) rows
 
 -- ---- what the server says
 
@@ -236,11 +236,11 @@ Uncut (broke.Cut have) = ⊥
 Uncut cause = Unit {0}
 
 -- a run goes on, or a piece of the server ended it
-abbrev pub EndsHeard : Option Ended → Type 0
-EndsHeard None = Unit {0}
-EndsHeard (Some ended.Disconnected) = Unit {0}
-EndsHeard (Some (ended.Broke index cause)) = Uncut cause
-EndsHeard (Some cause) = ⊥
+abbrev pub EndsReceived : Option Ended → Type 0
+EndsReceived None = Unit {0}
+EndsReceived (Some ended.Disconnected) = Unit {0}
+EndsReceived (Some (ended.Broke index cause)) = Uncut cause
+EndsReceived (Some cause) = ⊥
 
 -- a payload goes somewhere, or breaks the protocol as a piece does
 abbrev Whole : Dest → Type 0
@@ -313,30 +313,30 @@ whole-transport : (b : Bool) → Whole (elim b as (λ _. Dest) [ true ↦ Discon
 whole-transport true = tt
 whole-transport false = tt
 
-whole-gist : (rows : List Row) (m : Gist) → Whole (dest_gist rows m)
-whole-gist rows (Transport number) = whole-transport (number == DISCONNECT)
-whole-gist rows (Requests what wants) = tt
-whole-gist rows (Succeeds rest) = whole-asker (asker rows) (dest_success rest) (whole-success rest)
-whole-gist rows Refuses = whole-asker (asker rows) (λ a. ToClient a.client) (λ a. tt)
-whole-gist rows (Open what s w max) = whole-open rows s what
-whole-gist rows (Confirmation n s w max) = whole-confirmation rows n s
-whole-gist rows (Within n act) = whole-within rows n act
+whole-summary : (rows : List Row) (m : Summary) → Whole (dest_summary rows m)
+whole-summary rows (Transport number) = whole-transport (number == DISCONNECT)
+whole-summary rows (Requests what wants) = tt
+whole-summary rows (Succeeds rest) = whole-asker (asker rows) (dest_success rest) (whole-success rest)
+whole-summary rows Refuses = whole-asker (asker rows) (λ a. ToClient a.client) (λ a. tt)
+whole-summary rows (Open what s w max) = whole-open rows s what
+whole-summary rows (Confirmation n s w max) = whole-confirmation rows n s
+whole-summary rows (Within n act) = whole-within rows n act
 
 whole-dest : (rows : List Row) (p : List ℕ) → Whole (dest rows p)
-whole-dest rows p = by_read (read_gist p)
+whole-dest rows p = by_read (read_summary p)
   where
-    by_read : (r : Result Gist Bad) → Whole (elim r as (λ _. Dest) [ Err bad ↦ Breaks (broke.Message bad) | Ok m ↦ dest_gist rows m ])
+    by_read : (r : Result Summary Bad) → Whole (elim r as (λ _. Dest) [ Err bad ↦ Breaks (broke.Message bad) | Ok m ↦ dest_summary rows m ])
     by_read (Err bad) = tt
-    by_read (Ok m) = whole-gist rows m
+    by_read (Ok m) = whole-summary rows m
 
-fine-master : (p : List ℕ) → Fine (heard_master p)
-fine-master p = by_read (read_gist p)
+fine-master : (p : List ℕ) → Fine (received_master p)
+fine-master p = by_read (read_summary p)
   where
     by_request : (b : Bool) (what : Global) → Fine (for_master (Requests what b))
     by_request true what = tt
     by_request false what = tt
 
-    by_message : (m : Gist) → Fine (for_master m)
+    by_message : (m : Summary) → Fine (for_master m)
     by_message (Requests what wants) = by_request wants what
     by_message (Open what s w max) = tt
     by_message (Transport number) = tt
@@ -345,17 +345,17 @@ fine-master p = by_read (read_gist p)
     by_message (Confirmation n s w max) = tt
     by_message (Within n act) = tt
 
-    by_read : (r : Result Gist Bad) → Fine (elim r as (λ _. Outcome) [ Err bad ↦ silent | Ok m ↦ for_master m ])
+    by_read : (r : Result Summary Bad) → Fine (elim r as (λ _. Outcome) [ Err bad ↦ silent | Ok m ↦ for_master m ])
     by_read (Err bad) = tt
     by_read (Ok m) = by_message m
 
-payload-heard : (rows : List Row) (p : List ℕ) (d : Dest) → Whole d → EndsAs EndsHeard (heard_row rows p d).fate
-payload-heard rows p ToMaster h = lives-as EndsHeard (heard_master p).ends (fine-master p)
-payload-heard rows p (ToClient k) h = row-as EndsHeard (Heard p) k (heard_for (rows_of k rows) p) (rows_of k rows) (subst (EndsAs EndsHeard) (sym (heard-goes (rows_of k rows) p)) tt)
+payload-heard : (rows : List Row) (p : List ℕ) (d : Dest) → Whole d → EndsAs EndsReceived (received_row rows p d).fate
+payload-heard rows p ToMaster h = relay_traces-as EndsReceived (received_master p).ends (fine-master p)
+payload-heard rows p (ToClient k) h = row-as EndsReceived (Heard p) k (received_for (rows_of k rows) p) (rows_of k rows) (subst (EndsAs EndsReceived) (sym (heard-goes (rows_of k rows) p)) tt)
 payload-heard rows p Disconnects h = tt
 payload-heard rows p (Breaks cause) h = h
 
-pub heard-ends : (policy : Policy) (pid : ℕ) (picks : List ℕ) (given : List HouseReply) (x : Saying) (rows : List Row) → EndsAs EndsHeard (next_row (by_lists policy pid picks given) rows (heard_item x)).fate
+pub heard-ends : (policy : Policy) (pid : ℕ) (picks : List ℕ) (given : List HouseReply) (x : Outgoing) (rows : List Row) → EndsAs EndsReceived (next_row (by_lists policy pid picks given) rows (received_item x)).fate
 heard-ends policy pid picks given (Body p) rows = payload-heard rows p (dest rows p) (whole-dest rows p)
 heard-ends policy pid picks given (Payload p) rows = payload-heard rows p (dest rows p) (whole-dest rows p)
 heard-ends policy pid picks given (BadFraming fault) rows = tt
@@ -395,13 +395,13 @@ module _ (P : Option Ended → Type 0) (policy : Policy) (pid : ℕ) (picks : Li
       by_makes true = fate-ends (end_of rows) row.fate h n
       by_makes false = n
 
-pub says-for : (policy : Policy) (pid : ℕ) (picks : List ℕ) (given : List HouseReply) (k : ℕ) (xs : List Saying) (rows : List Row) → EndsFor k (end_of rows) → EndsFor k (end_of (more_all (by_lists policy pid picks given) rows (map (said_item k) xs)))
+pub says-for : (policy : Policy) (pid : ℕ) (picks : List ℕ) (given : List HouseReply) (k : ℕ) (xs : List Outgoing) (rows : List Row) → EndsFor k (end_of rows) → EndsFor k (end_of (more_all (by_lists policy pid picks given) rows (map (sent_item k) xs)))
 says-for policy pid picks given k [] rows n = n
-says-for policy pid picks given k (x ∷ xs) rows n = says-for policy pid picks given k xs (more_of (by_lists policy pid picks given) rows (said_item k x)) (one-ends (EndsFor k) policy pid picks given (said_item k x) rows (said-for policy pid picks given k x rows) n)
+says-for policy pid picks given k (x ∷ xs) rows n = says-for policy pid picks given k xs (more_of (by_lists policy pid picks given) rows (sent_item k x)) (one-ends (EndsFor k) policy pid picks given (sent_item k x) rows (said-for policy pid picks given k x rows) n)
 
-pub hears-ends : (policy : Policy) (pid : ℕ) (picks : List ℕ) (given : List HouseReply) (xs : List Saying) (rows : List Row) → EndsHeard (end_of rows) → EndsHeard (end_of (more_all (by_lists policy pid picks given) rows (map heard_item xs)))
-hears-ends policy pid picks given [] rows n = n
-hears-ends policy pid picks given (x ∷ xs) rows n = hears-ends policy pid picks given xs (more_of (by_lists policy pid picks given) rows (heard_item x)) (one-ends EndsHeard policy pid picks given (heard_item x) rows (heard-ends policy pid picks given x rows) n)
+pub receives-ends : (policy : Policy) (pid : ℕ) (picks : List ℕ) (given : List HouseReply) (xs : List Outgoing) (rows : List Row) → EndsReceived (end_of rows) → EndsReceived (end_of (more_all (by_lists policy pid picks given) rows (map received_item xs)))
+receives-ends policy pid picks given [] rows n = n
+receives-ends policy pid picks given (x ∷ xs) rows n = receives-ends policy pid picks given xs (more_of (by_lists policy pid picks given) rows (received_item x)) (one-ends EndsReceived policy pid picks given (received_item x) rows (heard-ends policy pid picks given x rows) n)
 
 pub end-cuts : (policy : Policy) (pid : ℕ) (picks : List ℕ) (given : List HouseReply) (rest : List ℕ) (rows : List Row) → EndsCut (end_of rows) → EndsCut (end_of (more_all (by_lists policy pid picks given) rows (server_end rest ∷ [])))
 end-cuts policy pid picks given rest rows n = one-ends EndsCut policy pid picks given (server_end rest) rows (cut-ends policy pid picks given rest rows) n

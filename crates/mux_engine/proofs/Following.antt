@@ -10,8 +10,8 @@ use Rattle.mux_outside.specs.declared.house_mark.HouseMark.{HouseMark}
 use Rattle.mux_outside.specs.declared.mark.Mark.{Mark}
 use Rattle.mux_history.specs.declared.limits.TheConstants.{HOUSE}
 use Rattle.mux_history.specs.Policy.{Policy}
-use Rattle.mux_machine.specs.Events.{here}
-use Rattle.mux_machine.specs.State.{State}
+use Rattle.mux_state.specs.Events.{here}
+use Rattle.mux_state.specs.State.{State}
 use Rattle.mux_engine.specs.Called.{Handed}
 use Rattle.mux_engine.specs.Serving.{IsServed, OwnOn, Promised, RunsOn, Scene, ServedWith, Serving, ServesOn, StaysServed}
 use Rattle.mux_engine.specs.Sides.{RestsOf, noted}
@@ -33,9 +33,9 @@ module _ {T : Type 0} (May : HouseReply → Type 0) (state : T → HouseState) w
   -- a call, where a house is there so
   abbrev RunsIf : {A E : Type 0} → Bool → Result A E → T → T → Scene → Scene → ℕ → (A → ℕ) → List ℕ → (A → List ℕ) → Type 0
   RunsIf there r a b old new most more todo rest = (first : T) (calls : List HouseCall) (before : Option (List HouseMark)) (policy : Policy) (pid : ℕ) (start : Option (List Mark)) (given : ℕ) → HandsOn (state first).stands (state a).stands calls
-      → Serving May (RestsOf state there first) before (noted (state a).told (state a).known calls) policy pid start old.seen old.held old.failed given todo old.engine
-      → MatchResult r (λ x. Handed (state first).stands (state b).stands (λ all. Serving May (RestsOf state there first) before (noted (state b).told (state b).known all) policy pid start new.seen new.held new.failed (given + more x) (rest x) new.engine))
-      (λ e. Promised May (RestsOf state there first) before (state b).told policy pid start new.seen.told (given + most))
+      → Serving May (RestsOf state there first) before (noted (state a).recorded (state a).known calls) policy pid start old.seen old.held old.failed given todo old.engine
+      → MatchResult r (λ x. Handed (state first).stands (state b).stands (λ all. Serving May (RestsOf state there first) before (noted (state b).recorded (state b).known all) policy pid start new.seen new.held new.failed (given + more x) (rest x) new.engine))
+      (λ e. Promised May (RestsOf state there first) before (state b).recorded policy pid start new.seen.recorded (given + most))
 
 module _ {T : Type 0} {May : HouseReply → Type 0} {state : T → HouseState} where
   -- first a call that went well, and then this one
@@ -67,41 +67,41 @@ module _ {T : Type 0} {May : HouseReply → Type 0} {state : T → HouseState} w
   pub ran-none : (a : T) (old : Scene) (todo : List ℕ) → Ran May state a a old old 0 todo todo
   ran-none a old todo = record { runs = λ first calls before policy pid start given hands v. record { all = calls; hands = hands; so = no-turns v } }
 
-  pub own-ran : {a b : T} {seen seen' : Seen} {held held' failed failed' todo : List ℕ} {s : State} → (state b).told ≡ (state a).told → (state b).known ≡ (state a).known → OwnOn {A = Unit {0}} {E = Unit {0}} {T = T} (Ok tt) May state a b seen seen' held held' failed failed'
+  pub own-ran : {a b : T} {seen seen' : Seen} {held held' failed failed' todo : List ℕ} {s : State} → (state b).recorded ≡ (state a).recorded → (state b).known ≡ (state a).known → OwnOn {A = Unit {0}} {E = Unit {0}} {T = T} (Ok tt) May state a b seen seen' held held' failed failed'
       → Ran May state a b (record { seen = seen; held = held; failed = failed; engine = s }) (record { seen = seen'; held = held'; failed = failed'; engine = s }) 0 todo todo
-  own-ran {a} {b} {todo = todo} {s} told known own = record {
+  own-ran {a} {b} {todo = todo} {s} recorded known own = record {
     runs = λ first calls before policy pid start given hands v.
-        let h = own (state a).known.present first before (noted (state a).told (state a).known calls) policy pid start given todo s refl hands v in
-        record { all = h.all; hands = h.hands; so = no-turns (same-noted (state a).told (state b).told (state a).known (state b).known told known h.so) };
+        let h = own (state a).known.present first before (noted (state a).recorded (state a).known calls) policy pid start given todo s refl hands v in
+        record { all = h.all; hands = h.hands; so = no-turns (same-noted (state a).recorded (state b).recorded (state a).known (state b).known recorded known h.so) };
   }
 
-  pub own-cut : {a b : T} {seen seen' : Seen} {held held' failed failed' todo : List ℕ} {s : State} → (state b).told ≡ (state a).told → OwnOn {A = Unit {0}} {E = Unit {0}} {T = T} (Err tt) May state a b seen seen' held held' failed failed'
+  pub own-cut : {a b : T} {seen seen' : Seen} {held held' failed failed' todo : List ℕ} {s : State} → (state b).recorded ≡ (state a).recorded → OwnOn {A = Unit {0}} {E = Unit {0}} {T = T} (Err tt) May state a b seen seen' held held' failed failed'
       → WasCut May state a b (record { seen = seen; held = held; failed = failed; engine = s }) (record { seen = seen'; held = held'; failed = failed'; engine = s }) 0 todo
-  own-cut {a} {seen' = seen'} {todo = todo} {s} told own = record {
+  own-cut {a} {seen' = seen'} {todo = todo} {s} recorded own = record {
     runs = λ first calls before policy pid start given hands v.
-        no-turns-left (subst (λ (marks : Option (List HouseMark)). Promised May (RestsOf state (state a).known.present first) before marks policy pid start seen'.told given) (sym told)
-        (own (state a).known.present first before (noted (state a).told (state a).known calls) policy pid start given todo s refl hands v));
+        no-turns-left (subst (λ (marks : Option (List HouseMark)). Promised May (RestsOf state (state a).known.present first) before marks policy pid start seen'.recorded given) (sym recorded)
+        (own (state a).known.present first before (noted (state a).recorded (state a).known calls) policy pid start given todo s refl hands v));
   }
 
   pub serves-ran : {a : T} {seen seen' : Seen} {held held' failed todo rest : List ℕ} {s s' : State} → ServesOn {A = Unit {0}} {E = Unit {0}} {T = T} (Ok tt) May state seen seen' held held' todo (λ x. rest) s s'
       → Ran May state a a (record { seen = seen; held = held; failed = failed; engine = s }) (record { seen = seen'; held = held'; failed = failed; engine = s' }) 0 todo rest
   serves-ran {a} {failed = failed} serves = record {
     runs = λ first calls before policy pid start given hands v.
-        record { all = calls; hands = hands; so = no-turns (serves (state a).known.present first before (noted (state a).told (state a).known calls) policy pid start failed given v) };
+        record { all = calls; hands = hands; so = no-turns (serves (state a).known.present first before (noted (state a).recorded (state a).known calls) policy pid start failed given v) };
   }
 
   pub serves-cut : {a : T} {seen seen' : Seen} {held held' failed todo : List ℕ} {s s' : State} → ServesOn {A = Unit {0}} {E = Unit {0}} {T = T} (Err tt) May state seen seen' held held' todo (λ x. []) s s'
       → WasCut May state a a (record { seen = seen; held = held; failed = failed; engine = s }) (record { seen = seen'; held = held'; failed = failed; engine = s' }) 0 todo
   serves-cut {a} {failed = failed} serves = record {
     runs = λ first calls before policy pid start given hands v.
-        no-turns-left (serves (state a).known.present first before (noted (state a).told (state a).known calls) policy pid start failed given v);
+        no-turns-left (serves (state a).known.present first before (noted (state a).recorded (state a).known calls) policy pid start failed given v);
   }
 
   pub stays-ran : {a : T} {seen seen' : Seen} {held held' failed todo : List ℕ} {s s' : State} → StaysServed May state seen seen' held held' s s'
       → Ran May state a a (record { seen = seen; held = held; failed = failed; engine = s }) (record { seen = seen'; held = held'; failed = failed; engine = s' }) 0 todo todo
   stays-ran {a} {failed = failed} {todo} stays = record {
     runs = λ first calls before policy pid start given hands v.
-        record { all = calls; hands = hands; so = no-turns (stays (state a).known.present first before (noted (state a).told (state a).known calls) policy pid start failed given todo v) };
+        record { all = calls; hands = hands; so = no-turns (stays (state a).known.present first before (noted (state a).recorded (state a).known calls) policy pid start failed given todo v) };
   }
 
   -- ---- what is left to be offered
@@ -132,7 +132,7 @@ module _ {T : Type 0} {May : HouseReply → Type 0} {state : T → HouseState} w
         pid = w.pid;
         start = w.start;
         given = w.given + more;
-        serving = subst (λ (p : Bool). Serving May (RestsOf state p w.first) w.before (noted (state b).told (state b).known h.all) w.policy w.pid w.start new.seen new.held new.failed (w.given + more) rest new.engine) (sym same) h.so;
+        serving = subst (λ (p : Bool). Serving May (RestsOf state p w.first) w.before (noted (state b).recorded (state b).known h.all) w.policy w.pid w.start new.seen new.held new.failed (w.given + more) rest new.engine) (sym same) h.so;
       }
 
   pub is-served : {a : T} {now : Scene} {todo : List ℕ} → ServedWith May state a now todo → IsServed May state now.seen now.held now.engine
@@ -140,7 +140,7 @@ module _ {T : Type 0} {May : HouseReply → Type 0} {state : T → HouseState} w
     present = (state a).known.present;
     first = w.first;
     before = w.before;
-    now = noted (state a).told (state a).known w.calls;
+    now = noted (state a).recorded (state a).known w.calls;
     policy = w.policy;
     pid = w.pid;
     start = w.start;

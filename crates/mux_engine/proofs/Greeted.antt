@@ -6,7 +6,7 @@ use Rattle.std.proofs.lemmas.Bool.{eq-eqb}
 use Rattle.ssh_grammar.specs.declared.numbers.TheConstants.{VERSION}
 use Rattle.ssh_grammar.specs.Control.{Answer, Greets}
 use Rattle.ssh_grammar.specs.Frames.{frame_answer}
-use Rattle.ssh_grammar.specs.Said.{Saying, Body, Payload, BadFraming, InProxy, parse, said}
+use Rattle.ssh_grammar.specs.Said.{Outgoing, Body, Payload, BadFraming, InProxy, parse, said}
 use Rattle.mux_outside.specs.Greeting.{GreetsFirst}
 use Rattle.mux_outside.specs.House.{HouseState}
 use Rattle.mux_outside.specs.Seen.{Seen}
@@ -20,32 +20,32 @@ use Rattle.mux_outside.specs.declared.mark.Mark.TheVariants as mark
 use Rattle.mux_history.specs.declared.ended.Ended.{Ended}
 use Rattle.mux_history.specs.declared.ended.Ended.TheVariants as ended
 use Rattle.mux_history.specs.declared.limits.TheConstants.{HOUSE, MAX_CLIENTS}
-use Rattle.mux_history.specs.Controls.{answers_ask, answers_maybe, house_answer, greeted, house_says, in_proxy, said_body}
-use Rattle.mux_history.specs.Journal.{bytes_of, heard_item, house_items, house_said, is_own_stream, items_in, log_of_journal, new_heard, new_sayings, said_item, server_end, unless_own}
-use Rattle.mux_history.specs.Log.{Setting, admits, more_all, more_of, next_row, open_matters, row_of, said_by_client}
+use Rattle.mux_history.specs.Controls.{answers_ask, answers_maybe, house_answer, greeted, house_sends, in_proxy, sent_body}
+use Rattle.mux_history.specs.Journal.{bytes_of, received_item, house_items, house_sent, is_own_stream, items_in, log_of_journal, new_received, new_sayings, sent_item, server_end, unless_own}
+use Rattle.mux_history.specs.Log.{Setting, admits, more_all, more_of, next_row, open_matters, row_of, sent_by_client}
 use Rattle.mux_history.specs.Policy.{Policy}
 use Rattle.mux_history.specs.Promises.{Throughout}
 use Rattle.mux_history.specs.Promises.{EndsAs as AnswersAs}
 use Rattle.mux_history.specs.Rows.{Row, rows_of, Item, Admit, Gone, Fate, Goes, Refused, Drop, End}
 use Rattle.mux_history.specs.Rows as row
-use Rattle.mux_history.specs.Said.{Outcome, silent, tells}
+use Rattle.mux_history.specs.Said.{Outcome, silent, records}
 use Rattle.mux_history.specs.Settings.{by_lists}
 use Rattle.mux_history.specs.Solo.{end_of}
-use Rattle.mux_engine.specs.Called.{HasSaidNothing, StandsGreeting, calls_at, calls_in, is_piece}
+use Rattle.mux_engine.specs.Called.{HasSentNothing, StandsGreeting, calls_at, calls_in, is_piece}
 use Rattle.mux_engine.specs.Came.{EndedBy, EndsFor, OverBy}
 use Rattle.mux_engine.specs.Places.{IsOfOthers}
 use Rattle.mux_engine.specs.Run.{IsRun}
 use Rattle.mux_engine.specs.Sides.{AtWaits}
-use Rattle.mux_engine.proofs.Fates.{EndsAs, EndsHeard, Fine, fine-payload, heard-ends, lives-as, one-ends, row-as, said-as, said-for}
+use Rattle.mux_engine.proofs.Fates.{EndsAs, EndsReceived, Fine, fine-payload, heard-ends, relay_traces-as, one-ends, row-as, said-as, said-for}
 use Rattle.mux_engine.proofs.Greeting.{AllSo, Greeting, greets-before, greets-behind, hello, journal-greets, proxy, so-drop, so-said}
 use Rattle.mux_engine.proofs.Lists.{true-false}
 
 -- ---- what is said so
 
 -- a control message that ends no run, whether or not the client has greeted
-abbrev Calm : Saying → Type 0
-Calm (Body body) = (pid k : ℕ) (given : Option HouseReply) (greeted : Bool) → Fine (said_body pid k given greeted body)
-Calm saying = Unit {0}
+abbrev Calm : Outgoing → Type 0
+Calm (Body body) = (pid k : ℕ) (given : Option HouseReply) (greeted : Bool) → Fine (sent_body pid k given greeted body)
+Calm outgoing = Unit {0}
 
 calm-hello : Calm (Body hello)
 calm-hello pid k given true = tt
@@ -55,7 +55,7 @@ calm-proxying : Calm (Body proxy)
 calm-proxying pid k given true = tt
 calm-proxying pid k given false = tt
 
-abbrev AllCalm : List Saying → Type 0
+abbrev AllCalm : List Outgoing → Type 0
 AllCalm = AllSo Calm
 
 calm-said : (bytes : List ℕ) → Greeting bytes → AllCalm (said bytes)
@@ -80,7 +80,7 @@ for-other k Goes ne h = tt
 for-other k Refused ne h = tt
 for-other k (Drop why) ne h = tt
 
-heard-other : (f : Fate) → EndsAs EndsHeard f → EndsAs ByOther f
+heard-other : (f : Fate) → EndsAs EndsReceived f → EndsAs ByOther f
 heard-other (End (ended.Terminated client id)) h = absurd h
 heard-other (End ended.ServerEnd) h = tt
 heard-other (End ended.Disconnected) h = tt
@@ -96,7 +96,7 @@ heard-other (Drop why) h = tt
 fine-admits : (rows : List Row) → Fine (admits rows)
 fine-admits rows = by_room (nat_lt (open_matters rows) MAX_CLIENTS)
   where
-    by_room : (b : Bool) → Fine (elim b as (λ _. Outcome) [ true ↦ tells (frame_answer (Greets VERSION)) | false ↦ record { sent = []; told = []; ends = Refused } ])
+    by_room : (b : Bool) → Fine (elim b as (λ _. Outcome) [ true ↦ records (frame_answer (Greets VERSION)) | false ↦ record { sent = []; recorded = []; ends = Refused } ])
     by_room true = tt
     by_room false = tt
 
@@ -104,7 +104,7 @@ fine-maybe : (o : Option Answer) → Fine (answers_maybe o)
 fine-maybe None = tt
 fine-maybe (Some answer) = tt
 
-fine-house : (own : List Row) (id : ℕ) (given : HouseReply) → Fine (house_says own id given)
+fine-house : (own : List Row) (id : ℕ) (given : HouseReply) → Fine (house_sends own id given)
 fine-house own id given = by_proxy (in_proxy own)
   where
     by_proxy : (b : Bool) → Fine (elim b as (λ _. Outcome) [ true ↦ silent | false ↦ answers_ask true id (Some given) ])
@@ -128,25 +128,25 @@ module _ (policy : Policy) (pid : ℕ) (picks : List ℕ) (given : List HouseRep
   all-other (item ∷ items) rows spare h = all-other items (more_of set rows item) spare.1 (one-ends ByOther policy pid picks given item rows (spare.0 rows) h)
 
   -- what another client says
-  spare-client : (k : ℕ) → k ≢ HOUSE → (xs : List Saying) → AllSpare (map (said_item k) xs)
+  spare-client : (k : ℕ) → k ≢ HOUSE → (xs : List Outgoing) → AllSpare (map (sent_item k) xs)
   spare-client k ne [] = tt
-  spare-client k ne (x ∷ xs) = (λ rows. for-other k (next_row set rows (said_item k x)).fate ne (said-for policy pid picks given k x rows), spare-client k ne xs)
+  spare-client k ne (x ∷ xs) = (λ rows. for-other k (next_row set rows (sent_item k x)).fate ne (said-for policy pid picks given k x rows), spare-client k ne xs)
 
   -- what the house says calmly
-  calm-says : (x : Saying) → Calm x → (own : List Row) (pick : ℕ) (reply : Option HouseReply) → Fine (said_by_client policy pid HOUSE own pick x reply)
+  calm-says : (x : Outgoing) → Calm x → (own : List Row) (pick : ℕ) (reply : Option HouseReply) → Fine (sent_by_client policy pid HOUSE own pick x reply)
   calm-says (Body body) h own pick reply = h pid HOUSE reply (greeted own)
   calm-says (Payload p) h own pick reply = fine-payload policy HOUSE own pick p
   calm-says (BadFraming fault) h own pick reply = tt
 
-  spare-house : (xs : List Saying) → AllCalm xs → AllSpare (map (said_item HOUSE) xs)
+  spare-house : (xs : List Outgoing) → AllCalm xs → AllSpare (map (sent_item HOUSE) xs)
   spare-house [] h = tt
   spare-house (x ∷ xs) h =
-      (said-as ByOther policy pid picks given HOUSE x (λ own pick reply. lives-as ByOther (said_by_client policy pid HOUSE own pick x reply).ends (calm-says x h.0 own pick reply)), spare-house xs h.1)
+      (said-as ByOther policy pid picks given HOUSE x (λ own pick reply. relay_traces-as ByOther (sent_by_client policy pid HOUSE own pick x reply).ends (calm-says x h.0 own pick reply)), spare-house xs h.1)
 
   -- what the server says
-  spare-heard : (xs : List Saying) → AllSpare (map heard_item xs)
+  spare-heard : (xs : List Outgoing) → AllSpare (map received_item xs)
   spare-heard [] = tt
-  spare-heard (x ∷ xs) = (λ rows. heard-other (next_row set rows (heard_item x)).fate (heard-ends policy pid picks given x rows), spare-heard xs)
+  spare-heard (x ∷ xs) = (λ rows. heard-other (next_row set rows (received_item x)).fate (heard-ends policy pid picks given x rows), spare-heard xs)
 
   spare-end : (rest : List ℕ) → AllSpare (server_end rest ∷ [])
   spare-end [] = (λ rows. tt, tt)
@@ -154,7 +154,7 @@ module _ (policy : Policy) (pid : ℕ) (picks : List ℕ) (given : List HouseRep
 
   -- an item of a client that ends nothing
   spare-row : (item : Item) (k : ℕ) (o : List Row → Outcome) → ((rows : List Row) → Fine (o rows)) → (rows : List Row) → EndsAs ByOther (row_of item k (o rows) (rows_of k rows)).fate
-  spare-row item k o fine rows = row-as ByOther item k (o rows) (rows_of k rows) (lives-as ByOther (o rows).ends (fine rows))
+  spare-row item k o fine rows = row-as ByOther item k (o rows) (rows_of k rows) (relay_traces-as ByOther (o rows).ends (fine rows))
 
   spare-admit : (k : ℕ) → AllSpare (Admit k ∷ [])
   spare-admit k = (spare-row (Admit k) k admits fine-admits, tt)
@@ -174,18 +174,18 @@ module _ (policy : Policy) (pid : ℕ) (picks : List ℕ) (given : List HouseRep
       by_stream false = unless-spare (is_own_stream k) (Gone k ∷ []) (spare-gone k)
 
   -- all items of a mark
-  spare-marked : (before : List Mark) (m : HouseMark) → AllCalm (said (bytes_of HOUSE before ++ house_said m)) → AllSpare (house_items before m)
+  spare-marked : (before : List Mark) (m : HouseMark) → AllCalm (said (bytes_of HOUSE before ++ house_sent m)) → AllSpare (house_items before m)
   spare-marked before HouseIn calm = spare-admit HOUSE
   spare-marked before (HouseSaid bytes) calm = spare-house (drop (length (said (bytes_of HOUSE before))) (said (bytes_of HOUSE before ++ bytes))) (so-drop Calm (length (said (bytes_of HOUSE before))) (said (bytes_of HOUSE before ++ bytes)) calm)
   spare-marked before (HouseTook size) calm = (λ rows. tt, tt)
   spare-marked before (HouseAsked client id opening ask reply) calm = tt
-  spare-marked before (HouseAnswer client id reply) calm = (spare-row (row.HouseSays client id reply) client (λ rows. house_says (rows_of client rows) id reply) (λ rows. fine-house (rows_of client rows) id reply), tt)
+  spare-marked before (HouseAnswer client id reply) calm = (spare-row (row.HouseSays client id reply) client (λ rows. house_sends (rows_of client rows) id reply) (λ rows. fine-house (rows_of client rows) id reply), tt)
   spare-marked before (HouseOrder order number) calm = tt
 
   spare-gets : (before : List Mark) (k : ℕ) (bytes : List ℕ) → k ≢ HOUSE → AllSpare (items_in before (mark.Gets k bytes))
   spare-gets before k bytes ne = by_stream (k == 0)
     where
-      by_stream : (b : Bool) → AllSpare (elim b as (λ _. List Item) [ true ↦ new_heard (bytes_of 0 before) (bytes_of 0 before ++ bytes) | false ↦ unless_own k (new_sayings k (bytes_of k before) (bytes_of k before ++ bytes)) ])
+      by_stream : (b : Bool) → AllSpare (elim b as (λ _. List Item) [ true ↦ new_received (bytes_of 0 before) (bytes_of 0 before ++ bytes) | false ↦ unless_own k (new_sayings k (bytes_of k before) (bytes_of k before ++ bytes)) ])
       by_stream true = spare-heard (drop (length (parse InProxy (bytes_of 0 before)).says) (parse InProxy (bytes_of 0 before ++ bytes)).says)
       by_stream false = unless-spare (is_own_stream k) (new_sayings k (bytes_of k before) (bytes_of k before ++ bytes)) (spare-client k ne (drop (length (said (bytes_of k before))) (said (bytes_of k before ++ bytes))))
 
@@ -241,7 +241,7 @@ greets-since present stands stands' since calls none stood hands greets p = gree
 
 -- what came by the end of a run whose house greets first
 pub run-came : {May : HouseReply → Type 0} {Rest : AtWaits} (house : HouseState) (stands' : List HouseCall → Type 0) (policy : Policy) (pid turns : ℕ) (before now : Option (List HouseMark)) (start : Option (List Mark)) (seen : Seen) (refused : Option ℕ) (answer : Ended) (a b : CallCounts)
-    → IsRun May Rest house.stands stands' house.known.present policy pid turns before now start seen refused answer → (answer ≢ ended.OutOfMemory → StandsGreeting house.known.present stands') → OverBy house.known.present (Some answer) a b → HasSaidNothing house → EndedBy answer a b
+    → IsRun May Rest house.stands stands' house.known.present policy pid turns before now start seen refused answer → (answer ≢ ended.OutOfMemory → StandsGreeting house.known.present stands') → OverBy house.known.present (Some answer) a b → HasSentNothing house → EndedBy answer a b
 run-came house stands' policy pid turns before now start seen refused answer a b run greets over silent = counted-other house.known.present answer a b other over
   where
     set : Setting

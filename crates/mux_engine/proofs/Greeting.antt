@@ -7,11 +7,11 @@ use Rattle.ssh_grammar.specs.declared.fault.BadFrame.{BadFrame}
 use Rattle.ssh_grammar.specs.declared.framing.Framing.TheVariants as framing
 use Rattle.ssh_grammar.specs.Frames.{cut}
 use Rattle.ssh_grammar.specs.Laws.{faults}
-use Rattle.ssh_grammar.specs.Said.{Saying, Body, Payload, BadFraming, InControl, InProxy, Parsed, parse, said}
+use Rattle.ssh_grammar.specs.Said.{Outgoing, Body, Payload, BadFraming, InControl, InProxy, Parsed, parse, said}
 use Rattle.ssh_grammar.proofs.Parses.{parse-append}
 use Rattle.ssh_grammar.proofs.Said.{payloads}
 use Rattle.mux_outside.specs.Greeting.{GreetsFirst}
-use Rattle.mux_outside.specs.HouseCalls.{Begins, Hears, HouseCall, Marks, Takes, Turns}
+use Rattle.mux_outside.specs.HouseCalls.{Begins, Receives, HouseCall, Marks, Takes, Turns}
 use Rattle.mux_outside.specs.HouseCalls as call
 use Rattle.mux_outside.specs.OwnStreams.{is_own}
 use Rattle.mux_outside.specs.declared.greeting.TheConstants.{GREETING}
@@ -20,7 +20,7 @@ use Rattle.mux_outside.specs.declared.house_mark.HouseMark.TheVariants.{HouseIn,
 use Rattle.mux_outside.specs.declared.mark.Mark.{Mark}
 use Rattle.mux_outside.specs.declared.mark.Mark.TheVariants as mark
 use Rattle.mux_history.specs.declared.limits.TheConstants.{HOUSE}
-use Rattle.mux_history.specs.Journal.{bytes_in, bytes_of, house_said, log_of_journal}
+use Rattle.mux_history.specs.Journal.{bytes_in, bytes_of, house_sent, log_of_journal}
 use Rattle.mux_history.specs.Log.{Setting}
 use Rattle.mux_history.specs.Pending.{pending}
 use Rattle.mux_history.specs.Promises.{Throughout}
@@ -49,7 +49,7 @@ own-pieces false one none = refl
 other-bytes : (t : ℕ) (bytes : List ℕ) → (t == HOUSE) ≡ false → bytes_in HOUSE (mark.Gets t bytes) ≡ []
 other-bytes t bytes other = ap (λ b. elim b as (λ _. List ℕ) [ true ↦ bytes | false ↦ [] ]) other
 
-house-pieces : (waiting : List ℕ) (m : HouseMark) → pieces (house_calls waiting m) ≡ house_said m
+house-pieces : (waiting : List ℕ) (m : HouseMark) → pieces (house_calls waiting m) ≡ house_sent m
 house-pieces waiting HouseIn = refl
 house-pieces waiting (HouseSaid bytes) = append-nil bytes
 house-pieces waiting (HouseTook size) = refl
@@ -87,7 +87,7 @@ greets-before (Marks (HouseTook size) ∷ a) b h = greets-before a b h
 greets-before (Marks (HouseAsked client id opening ask reply) ∷ a) b h = greets-before a b h
 greets-before (Marks (HouseAnswer client id reply) ∷ a) b h = greets-before a b h
 greets-before (Marks (HouseOrder order number) ∷ a) b h = greets-before a b h
-greets-before (Hears bytes ∷ a) b h = greets-before a b h
+greets-before (Receives bytes ∷ a) b h = greets-before a b h
 greets-before (Turns happening ∷ a) b h = greets-before a b h
 greets-before (Takes stream size ∷ a) b h = greets-before a b h
 
@@ -101,7 +101,7 @@ greets-behind (Marks (HouseTook size) ∷ a) b none h = greets-behind a b none h
 greets-behind (Marks (HouseAsked client id opening ask reply) ∷ a) b none h = greets-behind a b none h
 greets-behind (Marks (HouseAnswer client id reply) ∷ a) b none h = greets-behind a b none h
 greets-behind (Marks (HouseOrder order number) ∷ a) b none h = greets-behind a b none h
-greets-behind (Hears bytes ∷ a) b none h = greets-behind a b none h
+greets-behind (Receives bytes ∷ a) b none h = greets-behind a b none h
 greets-behind (Turns happening ∷ a) b none h = greets-behind a b none h
 greets-behind (Takes stream size ∷ a) b none h = greets-behind a b none h
 
@@ -118,7 +118,7 @@ greeting-pieces (Marks (HouseTook size) ∷ later) h = greeting-pieces later h
 greeting-pieces (Marks (HouseAsked client id opening ask reply) ∷ later) h = greeting-pieces later h
 greeting-pieces (Marks (HouseAnswer client id reply) ∷ later) h = greeting-pieces later h
 greeting-pieces (Marks (HouseOrder order number) ∷ later) h = greeting-pieces later h
-greeting-pieces (Hears bytes ∷ later) h = greeting-pieces later h
+greeting-pieces (Receives bytes ∷ later) h = greeting-pieces later h
 greeting-pieces (Turns happening ∷ later) h = greeting-pieces later h
 greeting-pieces (Takes stream size ∷ later) h = greeting-pieces later h
 
@@ -128,11 +128,11 @@ journal-greets set journal others greets = subst Greeting (sym (journal-pieces s
 -- ---- what is said so
 
 -- it is so of all that is said
-abbrev pub AllSo : (Saying → Type 0) → List Saying → Type 0
+abbrev pub AllSo : (Outgoing → Type 0) → List Outgoing → Type 0
 AllSo So [] = Unit {0}
 AllSo So (x ∷ xs) = So x × AllSo So xs
 
-pub so-drop : (So : Saying → Type 0) (n : ℕ) (xs : List Saying) → AllSo So xs → AllSo So (drop n xs)
+pub so-drop : (So : Outgoing → Type 0) (n : ℕ) (xs : List Outgoing) → AllSo So xs → AllSo So (drop n xs)
 so-drop So zero xs h = h
 so-drop So (suc n) [] h = tt
 so-drop So (suc n) (x ∷ xs) h = so-drop So n xs h.1
@@ -148,7 +148,7 @@ said-behind : (rest : List ℕ) → said (GREETING.now ++ rest) ≡ Body hello �
 said-behind rest = ap (λ (p : Parsed). p.says) (parse-append InControl GREETING.now rest)
 
 -- these alone are messages of the control protocol
-module _ (So : Saying → Type 0) (so-hello : So (Body hello)) (so-proxy : So (Body proxy)) (so-payload : (p : List ℕ) → So (Payload p)) (so-fault : (fault : BadFrame) → So (BadFraming fault)) where
+module _ (So : Outgoing → Type 0) (so-hello : So (Body hello)) (so-proxy : So (Body proxy)) (so-payload : (p : List ℕ) → So (Payload p)) (so-fault : (fault : BadFrame) → So (BadFraming fault)) where
   so-faults : (fault : Option BadFrame) → AllSo So (faults fault)
   so-faults None = tt
   so-faults (Some fault) = (so-fault fault, tt)

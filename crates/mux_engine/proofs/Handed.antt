@@ -21,25 +21,25 @@ use Rattle.mux_outside.specs.declared.mark.Mark.TheVariants.{Gets, Ends, Fails, 
 use Rattle.mux_outside.specs.declared.own_streams.OwnStream.{OwnStream}
 use Rattle.mux_outside.specs.declared.own_streams.TheConstants.{LAST_CLIENT}
 use Rattle.mux_outside.specs.declared.own_turn.OwnTurn.{OwnTurn}
-use Rattle.mux_outside.specs.declared.own_turn.OwnTurn.TheVariants as told
+use Rattle.mux_outside.specs.declared.own_turn.OwnTurn.TheVariants as recorded
 use Rattle.mux_outside.specs.declared.piece.TheConstants.{LONGEST_PIECE}
 use Rattle.mux_outside.specs.declared.turn.Tally.{Tally}
 use Rattle.mux_outside.specs.declared.turn.Turn.{Turn}
 use Rattle.mux_outside.specs.declared.turn.Turn.TheVariants as turn
 use Rattle.mux_outside.specs.declared.turn.Want.{Want}
 use Rattle.mux_history.specs.Policy.{Policy}
-use Rattle.mux_clients.specs.Asked.{known_after}
-use Rattle.mux_machine.specs.State.{State}
-use Rattle.mux_machine.specs.Stands.{CutsShort}
-use Rattle.mux_machine.specs.Events.{here}
-use Rattle.mux_machine.specs.declared.event.Event.{Event}
-use Rattle.mux_engine.specs.Asking.{Heeded, HeedsSo}
+use Rattle.mux_peers.specs.Asked.{known_after}
+use Rattle.mux_state.specs.State.{State}
+use Rattle.mux_state.specs.Stands.{CutsShort}
+use Rattle.mux_state.specs.Events.{here}
+use Rattle.mux_state.specs.declared.event.Event.{Event}
+use Rattle.mux_engine.specs.Asking.{Applied, AppliesSo}
 use Rattle.mux_engine.specs.Owned.{waits_for}
 use Rattle.mux_engine.specs.Rests.{HasNoneToClose, IsReady, IsReadyFor, refusal_of, refused_if}
 use Rattle.mux_engine.specs.Serving.{Promised, Serving}
 use Rattle.mux_engine.specs.Sides.{Housed, IsAlone, Resting, RestsOf, SameHouse, Side, Together, noted}
 use Rattle.mux_engine.specs.declared.room.Lists.{Lists}
-use Rattle.mux_engine.specs.Turns.{IsEventOf, IsOwnOf, failed_heard, held_heard, own_heard, want_of}
+use Rattle.mux_engine.specs.Turns.{IsEventOf, IsOwnOf, failed_received, held_received, own_received, want_of}
 use Rattle.mux_engine.proofs.Cuts.{cut-here, cut-still}
 use Rattle.mux_engine.proofs.Called.{calling}
 use Rattle.mux_engine.proofs.Causes.{EndsSo}
@@ -47,7 +47,7 @@ use Rattle.mux_engine.proofs.Lists.{among-last, among-other-last, or-last, test-
 use Rattle.mux_engine.proofs.Marks.{serve-alone, serve-on}
 use Rattle.mux_engine.proofs.Owns.{among-one, end-numbers}
 use Rattle.mux_engine.proofs.OwnTurns.{client-frees, offered-again, own-ends, own-failed, own-frees, own-gets, own-joins}
-use Rattle.mux_engine.proofs.Told.{tells-none, told-none}
+use Rattle.mux_engine.proofs.Recorded.{records-none, recorded-none}
 use Rattle.mux_engine.proofs.Turned.{EventAt, event-cut, event-ends, event-goes}
 use Rattle.mux_engine.proofs.Waits.{Offered, seen-waiting, wait-mark, waited}
 use Rattle.mux_engine.proofs.WireTurns.{client-number, event-at, now-waiting, of-turn}
@@ -60,9 +60,9 @@ pub record AtWait (Rest : Resting) (now : Side) (seen : Seen) (own held failed :
   pub admitted : s.refused ≡ []
   pub live : s.ended ≡ None
   pub offered : Offered seen own held failed queue
-  pub hears : seen.listens ≡ s.listening
+  pub receives : seen.listens ≡ s.listening
   pub all_noted : now.unnoted ≡ []
-  pub rests : Rest.rests (want_of s) now.told now.calls seen.listeners seen.own
+  pub rests : Rest.rests (want_of s) now.recorded now.calls seen.listeners seen.own
 
 -- where there is a house and no refusal may be, none came
 none-refused : (present must : Bool) (refused : Option ℕ) → IsTrue present → refused_if present must refused ≡ None → IsTrue must → refused ≡ None
@@ -77,16 +77,16 @@ pub record BeginsTurn (house : HouseState) (wire : WireState) (lists : Lists) (s
   pub permitted : refusal_of house ≡ None
   pub closed : HasNoneToClose s
   pub on : s.ended ≡ None
-  pub hears : wire.seen.listens ≡ s.listening
+  pub receives : wire.seen.listens ≡ s.listening
 
 pub at-wait : {T : Type 0} (state : T → HouseState) (first house : T) (calls : List HouseCall) (wire : WireState) (lists : Lists) (s : State) → BeginsTurn (state house) wire lists s → HandsOn (state first).stands (state house).stands calls
-    → AtWait (RestsOf state (state house).known.present first) (noted (state house).told (state house).known calls) wire.seen lists.own lists.held lists.failed (state house).queue s
+    → AtWait (RestsOf state (state house).known.present first) (noted (state house).recorded (state house).known calls) wire.seen lists.own lists.held lists.failed (state house).queue s
 at-wait state first house calls wire lists s b hands = let housed = b.together.housed in let ready = b.ready in record {
   none = b.closed.closed;
   admitted = b.closed.refused;
   live = b.on;
   offered = record { own_is = housed.own_is; opened = housed.places.opened; numbered = housed.places.numbered; offered = ready.no_more.offered };
-  hears = b.hears;
+  receives = b.receives;
   all_noted = refl;
   rests = λ present. (
     house,
@@ -120,7 +120,7 @@ has-waited wire wire' own failed queue s t bytes got todo waiting want tally aft
   own_fits = own_fits;
 }
 
-marked-twice : (a b : Mark) (told : Option (List Mark)) → option_map (λ m. m ++ (a ∷ b ∷ [])) told ≡ option_map (λ m. m ++ b ∷ []) (option_map (λ m. m ++ a ∷ []) told)
+marked-twice : (a b : Mark) (recorded : Option (List Mark)) → option_map (λ m. m ++ (a ∷ b ∷ [])) recorded ≡ option_map (λ m. m ++ b ∷ []) (option_map (λ m. m ++ a ∷ []) recorded)
 marked-twice a b None = refl
 marked-twice a b (Some m) = ap (λ (l : List Mark). Some l) (sym (append_assoc m (a ∷ []) (b ∷ [])))
 
@@ -143,101 +143,101 @@ after-asks (HouseOrder order number ∷ asks) known = after-asks asks known
 module _ {May : HouseReply → Type 0} {Rest : Resting} {before : Option (List HouseMark)} {now : Side} {policy : Policy} {pid : ℕ} {start : Option (List Mark)} {seen : Seen} {held failed : List ℕ} {given : ℕ} {s : State}
     (v : Serving May Rest before now policy pid start seen held failed given [] s) (live : s.ended ≡ None) (e : Event) (seen' : Seen) (given' : ℕ) (at : EventAt v live e seen' given') where
   -- it was taken in, and all asks were noted; or there was no memory for that
-  pub event-heeds : {A E : Type 0} (r : Result A E) (s' : State) (asks : List HouseMark) (told told' : Option (List HouseMark)) (known known' : Known) (seen0 seen'' : Seen) → seen0 ≡ seen' → now.told ≡ told → now.asks ≡ known.asks → now.let_in ≡ known.present
-      → Heeded r May e s s' asks told told' known known' seen0 seen'' → MatchResult r (λ x. Serving May Rest before (noted told' known' (now.calls ++ calls_of asks)) policy pid start seen'' held failed given' (0 ∷ here s') s') (λ x. Promised May Rest before told' policy pid start seen''.told given')
-  event-heeds (Ok x) s' asks told told' known known' seen0 seen'' is same_told same_asks same_present h =
-      let h' : HeedsSo May e s s' asks told told' known known' seen' seen'' (length asks) = subst (λ (y : Seen). HeedsSo May e s s' asks told told' known known' y seen'' (length asks)) is h in
-      let goes : Serving May Rest before (record { told = told'; asks = known'.asks; unnoted = drop (length asks) asks; let_in = now.let_in; calls = now.calls ++ calls_of asks }) policy pid start seen'' held failed given' (0 ∷ here s') s' =
-      event-goes v live e seen' given' at s' asks told told' known known' seen'' (length asks) same_told same_asks h' in
+  pub event-applies : {A E : Type 0} (r : Result A E) (s' : State) (asks : List HouseMark) (recorded recorded' : Option (List HouseMark)) (known known' : Known) (seen0 seen'' : Seen) → seen0 ≡ seen' → now.recorded ≡ recorded → now.asks ≡ known.asks → now.let_in ≡ known.present
+      → Applied r May e s s' asks recorded recorded' known known' seen0 seen'' → MatchResult r (λ x. Serving May Rest before (noted recorded' known' (now.calls ++ calls_of asks)) policy pid start seen'' held failed given' (0 ∷ here s') s') (λ x. Promised May Rest before recorded' policy pid start seen''.recorded given')
+  event-applies (Ok x) s' asks recorded recorded' known known' seen0 seen'' is same_recorded same_asks same_present h =
+      let h' : AppliesSo May e s s' asks recorded recorded' known known' seen' seen'' (length asks) = subst (λ (y : Seen). AppliesSo May e s s' asks recorded recorded' known known' y seen'' (length asks)) is h in
+      let goes : Serving May Rest before (record { recorded = recorded'; asks = known'.asks; unnoted = drop (length asks) asks; let_in = now.let_in; calls = now.calls ++ calls_of asks }) policy pid start seen'' held failed given' (0 ∷ here s') s' =
+      event-goes v live e seen' given' at s' asks recorded recorded' known known' seen'' (length asks) same_recorded same_asks h' in
       let within : now.let_in ≡ known'.present = same_present ∙ sym (ap (λ (k : Known). k.present) h.known_is ∙ (after-asks asks known).present) in
-      subst (λ (b : Bool). Serving May Rest before (record { told = told'; asks = known'.asks; unnoted = []; let_in = b; calls = now.calls ++ calls_of asks }) policy pid start seen'' held failed given' (0 ∷ here s') s') within
-      (subst (λ (l : List HouseMark). Serving May Rest before (record { told = told'; asks = known'.asks; unnoted = l; let_in = now.let_in; calls = now.calls ++ calls_of asks }) policy pid start seen'' held failed given' (0 ∷ here s') s') (drop-all asks) goes)
-  event-heeds (Err x) s' asks told told' known known' seen0 seen'' is same_told same_asks same_present (inl u) =
-      subst (λ (y : Seen). Promised May Rest before told' policy pid start y.told given') (sym (u.seen_is ∙ is))
-      (event-cut v live e seen' given' at told' (λ mark t. subst (λ (o : Option (List HouseMark)). CutsShort May o told' s mark) (sym same_told) (u.cut mark t)))
-  event-heeds (Err x) s' asks told told' known known' seen0 seen'' is same_told same_asks same_present (inr p) =
-      let h' : HeedsSo May e s s' asks told told' known known' seen' seen'' p.0 = subst (λ (y : Seen). HeedsSo May e s s' asks told told' known known' y seen'' p.0) is p.1 in
-      cut-still (event-goes v live e seen' given' at s' asks told told' known known' seen'' p.0 same_told same_asks h') seen''.told refl
+      subst (λ (b : Bool). Serving May Rest before (record { recorded = recorded'; asks = known'.asks; unnoted = []; let_in = b; calls = now.calls ++ calls_of asks }) policy pid start seen'' held failed given' (0 ∷ here s') s') within
+      (subst (λ (l : List HouseMark). Serving May Rest before (record { recorded = recorded'; asks = known'.asks; unnoted = l; let_in = now.let_in; calls = now.calls ++ calls_of asks }) policy pid start seen'' held failed given' (0 ∷ here s') s') (drop-all asks) goes)
+  event-applies (Err x) s' asks recorded recorded' known known' seen0 seen'' is same_recorded same_asks same_present (inl u) =
+      subst (λ (y : Seen). Promised May Rest before recorded' policy pid start y.recorded given') (sym (u.seen_is ∙ is))
+      (event-cut v live e seen' given' at recorded' (λ mark t. subst (λ (o : Option (List HouseMark)). CutsShort May o recorded' s mark) (sym same_recorded) (u.cut mark t)))
+  event-applies (Err x) s' asks recorded recorded' known known' seen0 seen'' is same_recorded same_asks same_present (inr p) =
+      let h' : AppliesSo May e s s' asks recorded recorded' known known' seen' seen'' p.0 = subst (λ (y : Seen). AppliesSo May e s s' asks recorded recorded' known known' y seen'' p.0) is p.1 in
+      cut-still (event-goes v live e seen' given' at s' asks recorded recorded' known known' seen'' p.0 same_recorded same_asks h') seen''.recorded refl
 
 -- ---- all that holds then
 
 module _ {May : HouseReply → Type 0} {Rest : Resting} {before : Option (List HouseMark)} {now : Side} {policy : Policy} {pid : ℕ} {start : Option (List Mark)} {seen : Seen} {held failed : List ℕ} {given : ℕ} {s : State}
     (v : Serving May Rest before now policy pid start seen held failed given [] s) {own : List ℕ} {queue : ℕ → List ℕ} (a : AtWait Rest now seen own held failed queue s) where
-  abbrev told-waiting : Serving May Rest before now policy pid start (seen-waiting v a.none a.admitted a.live a.offered) held failed (given + 1) [] s
-  told-waiting = now-waiting v a.none a.admitted a.live a.offered a.hears a.all_noted a.rests
+  abbrev recorded-waiting : Serving May Rest before now policy pid start (seen-waiting v a.none a.admitted a.live a.offered) held failed (given + 1) [] s
+  recorded-waiting = now-waiting v a.none a.admitted a.live a.offered a.receives a.all_noted a.rests
 
   abbrev seen-then : Turn → List ℕ → Seen
   seen-then t bytes = seen_after_turn t (s.waiting ++ filter (waits_for queue failed) own) (want_of s) bytes seen
 
   module _ {seen' : Seen} {t : Turn} {bytes : List ℕ} (w : HasWaited seen seen' own failed queue s t bytes) where
-    event-there : (e : Event) → IsEventOf e t bytes → EventAt (now-waiting v a.none a.admitted a.live a.offered a.hears a.all_noted a.rests) a.live e (seen-then t bytes) (given + 1)
-    event-there e next = event-at v a.none a.admitted a.live a.offered a.hears a.all_noted a.rests t bytes e w.are w.fits w.own_fits next
+    event-there : (e : Event) → IsEventOf e t bytes → EventAt (now-waiting v a.none a.admitted a.live a.offered a.receives a.all_noted a.rests) a.live e (seen-then t bytes) (given + 1)
+    event-there e next = event-at v a.none a.admitted a.live a.offered a.receives a.all_noted a.rests t bytes e w.are w.fits w.own_fits next
 
     -- the engine took in an event
-    pub turn-heeds : {A E : Type 0} (r : Result A E) (e : Event) → IsEventOf e t bytes → (s' : State) (asks : List HouseMark) (told told' : Option (List HouseMark)) (known known' : Known) (seen'' : Seen) → now.told ≡ told → now.asks ≡ known.asks → now.let_in ≡ known.present
-        → Heeded r May e s s' asks told told' known known' seen' seen'' → MatchResult r (λ x. Serving May Rest before (noted told' known' (now.calls ++ calls_of asks)) policy pid start seen'' held failed (given + 1) (0 ∷ here s') s') (λ x. Promised May Rest before told' policy pid start seen''.told (given + 1))
-    turn-heeds r e next s' asks told told' known known' seen'' same_told same_asks same_present h =
-        event-heeds told-waiting a.live e (seen-then t bytes) (given + 1) (event-there e next) r s' asks told told' known known' seen' seen'' w.seen_is same_told same_asks same_present h
+    pub turn-applies : {A E : Type 0} (r : Result A E) (e : Event) → IsEventOf e t bytes → (s' : State) (asks : List HouseMark) (recorded recorded' : Option (List HouseMark)) (known known' : Known) (seen'' : Seen) → now.recorded ≡ recorded → now.asks ≡ known.asks → now.let_in ≡ known.present
+        → Applied r May e s s' asks recorded recorded' known known' seen' seen'' → MatchResult r (λ x. Serving May Rest before (noted recorded' known' (now.calls ++ calls_of asks)) policy pid start seen'' held failed (given + 1) (0 ∷ here s') s') (λ x. Promised May Rest before recorded' policy pid start seen''.recorded (given + 1))
+    turn-applies r e next s' asks recorded recorded' known known' seen'' same_recorded same_asks same_present h =
+        event-applies recorded-waiting a.live e (seen-then t bytes) (given + 1) (event-there e next) r s' asks recorded recorded' known known' seen' seen'' w.seen_is same_recorded same_asks same_present h
 
     -- it may end so
-    pub turn-ends : {A E : Type 0} (r : Result A E) (e : Event) → IsEventOf e t bytes → (s' : State) (asks : List HouseMark) (told told' : Option (List HouseMark)) (known known' : Known) (seen'' : Seen) → Heeded r May e s s' asks told told' known known' seen' seen'' → OnOk r (EndsSo e s'.ended)
-    turn-ends (Ok x) e next s' asks told told' known known' seen'' h = event-ends (now-waiting v a.none a.admitted a.live a.offered a.hears a.all_noted a.rests) a.live e (seen-then t bytes) (given + 1) (event-there e next) s' asks told told' known known' seen' seen'' (length asks) h
-    turn-ends (Err x) e next s' asks told told' known known' seen'' h = tt
+    pub turn-ends : {A E : Type 0} (r : Result A E) (e : Event) → IsEventOf e t bytes → (s' : State) (asks : List HouseMark) (recorded recorded' : Option (List HouseMark)) (known known' : Known) (seen'' : Seen) → Applied r May e s s' asks recorded recorded' known known' seen' seen'' → OnOk r (EndsSo e s'.ended)
+    turn-ends (Ok x) e next s' asks recorded recorded' known known' seen'' h = event-ends (now-waiting v a.none a.admitted a.live a.offered a.receives a.all_noted a.rests) a.live e (seen-then t bytes) (given + 1) (event-there e next) s' asks recorded recorded' known known' seen' seen'' (length asks) h
+    turn-ends (Err x) e next s' asks recorded recorded' known known' seen'' h = tt
 
     -- one of the master's own listeners or streams told something
-    by-turn : (o : OwnTurn) → IsOwnOf o t bytes → Serving May Rest before (calling now (Turns (happening_of o) ∷ [])) policy pid start (seen-then t bytes) (held_heard o held) (failed_heard o failed) (given + 1) (0 ∷ here s) s
+    by-turn : (o : OwnTurn) → IsOwnOf o t bytes → Serving May Rest before (calling now (Turns (happening_of o) ∷ [])) policy pid start (seen-then t bytes) (held_received o held) (failed_received o failed) (given + 1) (0 ∷ here s) s
     unfolding waited serve-alone serve-on
-    by-turn (told.Joined l k) next =
+    by-turn (recorded.Joined l k) next =
         let fits : OwnFits (turn.Joined l k) seen = subst (λ (x : Turn). OwnFits x seen) next w.own_fits in
-        let of = of-turn v a.none a.admitted a.live a.offered a.hears a.all_noted a.rests (turn.Joined l k) bytes w.are (subst (λ (x : Turn). TurnFits x (want_of s) seen bytes) next w.fits) fits in
+        let of = of-turn v a.none a.admitted a.live a.offered a.receives a.all_noted a.rests (turn.Joined l k) bytes w.are (subst (λ (x : Turn). TurnFits x (want_of s) seen bytes) next w.fits) fits in
         subst (λ (x : Turn). Serving May Rest before (calling now (Turns (Joined l k) ∷ [])) policy pid start (seen-then x bytes) held failed (given + 1) (0 ∷ here s) s) (sym next)
-        (offered-again (own-joins told-waiting l k fits.0 a.all_noted fits.1 (seen-then (turn.Joined l k) bytes) (marked-twice (wait-mark v a.none a.admitted a.live a.offered) (Joins l k) seen.told) of refl refl refl refl refl refl refl))
-    by-turn (told.Got k got) next =
+        (offered-again (own-joins recorded-waiting l k fits.0 a.all_noted fits.1 (seen-then (turn.Joined l k) bytes) (marked-twice (wait-mark v a.none a.admitted a.live a.offered) (Joins l k) seen.recorded) of refl refl refl refl refl refl refl))
+    by-turn (recorded.Got k got) next =
         let fits : TurnFits (turn.Got k) (want_of s) seen bytes = subst (λ (x : Turn). TurnFits x (want_of s) seen bytes) next.1 w.fits in
-        let of = of-turn v a.none a.admitted a.live a.offered a.hears a.all_noted a.rests (turn.Got k) bytes w.are fits (subst (λ (x : Turn). OwnFits x seen) next.1 w.own_fits) in
+        let of = of-turn v a.none a.admitted a.live a.offered a.receives a.all_noted a.rests (turn.Got k) bytes w.are fits (subst (λ (x : Turn). OwnFits x seen) next.1 w.own_fits) in
         subst (λ (l : List ℕ). Serving May Rest before (calling now (Turns (Got k l) ∷ [])) policy pid start (seen-then t bytes) held failed (given + 1) (0 ∷ here s) s) (sym next.2)
         (subst (λ (x : Turn). Serving May Rest before (calling now (Turns (Got k bytes) ∷ [])) policy pid start (seen-then x bytes) held failed (given + 1) (0 ∷ here s) s) (sym next.1)
-        (offered-again (own-gets told-waiting k fits.1 (seen-then (turn.Got k) bytes) next.0 (subst (λ (x : Turn). OwnFits x seen) next.1 w.own_fits next.0) a.all_noted bytes w.are
-        record { told = marked-twice (wait-mark v a.none a.admitted a.live a.offered) (Gets k bytes) seen.told; of_wire = of; streams = refl; blocked = refl; last = refl; last_own = refl; listens = refl; listeners = refl; own = refl })))
-    by-turn (told.End k) next =
+        (offered-again (own-gets recorded-waiting k fits.1 (seen-then (turn.Got k) bytes) next.0 (subst (λ (x : Turn). OwnFits x seen) next.1 w.own_fits next.0) a.all_noted bytes w.are
+        record { recorded = marked-twice (wait-mark v a.none a.admitted a.live a.offered) (Gets k bytes) seen.recorded; of_wire = of; streams = refl; blocked = refl; last = refl; last_own = refl; listens = refl; listeners = refl; own = refl })))
+    by-turn (recorded.End k) next =
         let fits : TurnFits (turn.End k) (want_of s) seen bytes = subst (λ (x : Turn). TurnFits x (want_of s) seen bytes) next.1 w.fits in
-        let of = of-turn v a.none a.admitted a.live a.offered a.hears a.all_noted a.rests (turn.End k) bytes w.are fits (subst (λ (x : Turn). OwnFits x seen) next.1 w.own_fits) in
+        let of = of-turn v a.none a.admitted a.live a.offered a.receives a.all_noted a.rests (turn.End k) bytes w.are fits (subst (λ (x : Turn). OwnFits x seen) next.1 w.own_fits) in
         subst (λ (x : Turn). Serving May Rest before (calling now (Turns (End k) ∷ [])) policy pid start (seen-then x bytes) held failed (given + 1) (0 ∷ here s) s) (sym next.1)
-        (offered-again (own-ends told-waiting k fits.1 (seen-then (turn.End k) bytes) next.0 (subst (λ (x : Turn). OwnFits x seen) next.1 w.own_fits next.0) a.all_noted
-        record { told = marked-twice (wait-mark v a.none a.admitted a.live a.offered) (Ends k) seen.told; of_wire = of; streams = refl; blocked = refl; last = refl; last_own = refl; listens = refl; listeners = refl; own = refl }))
-    by-turn (told.Writable k) next =
+        (offered-again (own-ends recorded-waiting k fits.1 (seen-then (turn.End k) bytes) next.0 (subst (λ (x : Turn). OwnFits x seen) next.1 w.own_fits next.0) a.all_noted
+        record { recorded = marked-twice (wait-mark v a.none a.admitted a.live a.offered) (Ends k) seen.recorded; of_wire = of; streams = refl; blocked = refl; last = refl; last_own = refl; listens = refl; listeners = refl; own = refl }))
+    by-turn (recorded.Writable k) next =
         let fits : TurnFits (turn.Writable k) (want_of s) seen bytes = subst (λ (x : Turn). TurnFits x (want_of s) seen bytes) next.1 w.fits in
-        let of = of-turn v a.none a.admitted a.live a.offered a.hears a.all_noted a.rests (turn.Writable k) bytes w.are fits (subst (λ (x : Turn). OwnFits x seen) next.1 w.own_fits) in
+        let of = of-turn v a.none a.admitted a.live a.offered a.receives a.all_noted a.rests (turn.Writable k) bytes w.are fits (subst (λ (x : Turn). OwnFits x seen) next.1 w.own_fits) in
         subst (λ (x : Turn). Serving May Rest before (calling now (Turns (Writable k) ∷ [])) policy pid start (seen-then x bytes) (without k held) failed (given + 1) (0 ∷ here s) s) (sym next.1)
-        (offered-again (own-frees told-waiting k fits.0 (seen-then (turn.Writable k) bytes) next.0 a.all_noted
-        record { told = marked-twice (wait-mark v a.none a.admitted a.live a.offered) (Frees k) seen.told; of_wire = of; streams = refl; blocked = refl; last = refl; last_own = refl; listens = refl; listeners = refl; own = refl }))
-    by-turn (told.Failed k) next =
+        (offered-again (own-frees recorded-waiting k fits.0 (seen-then (turn.Writable k) bytes) next.0 a.all_noted
+        record { recorded = marked-twice (wait-mark v a.none a.admitted a.live a.offered) (Frees k) seen.recorded; of_wire = of; streams = refl; blocked = refl; last = refl; last_own = refl; listens = refl; listeners = refl; own = refl }))
+    by-turn (recorded.Failed k) next =
         let fits : TurnFits (turn.Failed k) (want_of s) seen bytes = subst (λ (x : Turn). TurnFits x (want_of s) seen bytes) next.1 w.fits in
-        let of = of-turn v a.none a.admitted a.live a.offered a.hears a.all_noted a.rests (turn.Failed k) bytes w.are fits (subst (λ (x : Turn). OwnFits x seen) next.1 w.own_fits) in
+        let of = of-turn v a.none a.admitted a.live a.offered a.receives a.all_noted a.rests (turn.Failed k) bytes w.are fits (subst (λ (x : Turn). OwnFits x seen) next.1 w.own_fits) in
         subst (λ (x : Turn). Serving May Rest before (calling now (Turns (Failed k) ∷ [])) policy pid start (seen-then x bytes) held (failed ++ k ∷ []) (given + 1) (0 ∷ here s) s) (sym next.1)
-        (offered-again (own-failed told-waiting k fits (seen-then (turn.Failed k) bytes) next.0 a.all_noted
-        record { told = marked-twice (wait-mark v a.none a.admitted a.live a.offered) (Fails k) seen.told; of_wire = of; streams = refl; blocked = refl; last = refl; last_own = refl; listens = refl; listeners = refl; own = refl }))
+        (offered-again (own-failed recorded-waiting k fits (seen-then (turn.Failed k) bytes) next.0 a.all_noted
+        record { recorded = marked-twice (wait-mark v a.none a.admitted a.live a.offered) (Fails k) seen.recorded; of_wire = of; streams = refl; blocked = refl; last = refl; last_own = refl; listens = refl; listeners = refl; own = refl }))
 
-    pub turn-owns : (o : OwnTurn) → IsOwnOf o t bytes → Serving May Rest before (calling now (Turns (happening_of o) ∷ [])) policy pid start seen' (held_heard o held) (failed_heard o failed) (given + 1) (0 ∷ here s) s
-    turn-owns o next = subst (λ (x : Seen). Serving May Rest before (calling now (Turns (happening_of o) ∷ [])) policy pid start x (held_heard o held) (failed_heard o failed) (given + 1) (0 ∷ here s) s) (sym w.seen_is) (by-turn o next)
+    pub turn-owns : (o : OwnTurn) → IsOwnOf o t bytes → Serving May Rest before (calling now (Turns (happening_of o) ∷ [])) policy pid start seen' (held_received o held) (failed_received o failed) (given + 1) (0 ∷ here s) s
+    turn-owns o next = subst (λ (x : Seen). Serving May Rest before (calling now (Turns (happening_of o) ∷ [])) policy pid start x (held_received o held) (failed_received o failed) (given + 1) (0 ∷ here s) s) (sym w.seen_is) (by-turn o next)
 
     -- a stream of the server or a client takes bytes again
     by-room : (k : ℕ) → is_own k ≡ false → t ≡ turn.Writable k → Serving May Rest before now policy pid start (seen-then t bytes) (without k held) failed (given + 1) (0 ∷ here s) s
     unfolding waited serve-alone serve-on
     by-room k client is =
         let fits : TurnFits (turn.Writable k) (want_of s) seen bytes = subst (λ (x : Turn). TurnFits x (want_of s) seen bytes) is w.fits in
-        let of = of-turn v a.none a.admitted a.live a.offered a.hears a.all_noted a.rests (turn.Writable k) bytes w.are fits (subst (λ (x : Turn). OwnFits x seen) is w.own_fits) in
+        let of = of-turn v a.none a.admitted a.live a.offered a.receives a.all_noted a.rests (turn.Writable k) bytes w.are fits (subst (λ (x : Turn). OwnFits x seen) is w.own_fits) in
         subst (λ (x : Turn). Serving May Rest before now policy pid start (seen-then x bytes) (without k held) failed (given + 1) (0 ∷ here s) s) (sym is)
-        (client-frees told-waiting k fits.0 (seen-then (turn.Writable k) bytes) client
-        record { told = marked-twice (wait-mark v a.none a.admitted a.live a.offered) (Frees k) seen.told; of_wire = of; streams = refl; blocked = refl; last = refl; last_own = refl; listens = refl; listeners = refl; own = refl })
+        (client-frees recorded-waiting k fits.0 (seen-then (turn.Writable k) bytes) client
+        record { recorded = marked-twice (wait-mark v a.none a.admitted a.live a.offered) (Frees k) seen.recorded; of_wire = of; streams = refl; blocked = refl; last = refl; last_own = refl; listens = refl; listeners = refl; own = refl })
 
     pub turn-frees : (k : ℕ) → is_own k ≡ false → t ≡ turn.Writable k → Serving May Rest before now policy pid start seen' (without k held) failed (given + 1) (0 ∷ here s) s
     turn-frees k client is = subst (λ (x : Seen). Serving May Rest before now policy pid start x (without k held) failed (given + 1) (0 ∷ here s) s) (sym w.seen_is) (by-room k client is)
 
     -- there was no memory
-    pub turn-starved : t ≡ turn.NoMemory → Promised May Rest before now.told policy pid start seen'.told (given + 1)
-    turn-starved is = cut-here v now.told seen'.told (given + 1) []
-        (ap (λ (x : Seen). x.told) w.seen_is ∙ (ap (λ (x : Turn). (seen-then x bytes).told) is ∙ told-none seen.told)) (tells-none now.told) refl (omega arith)
+    pub turn-starved : t ≡ turn.NoMemory → Promised May Rest before now.recorded policy pid start seen'.recorded (given + 1)
+    turn-starved is = cut-here v now.recorded seen'.recorded (given + 1) []
+        (ap (λ (x : Seen). x.recorded) w.seen_is ∙ (ap (λ (x : Turn). (seen-then x bytes).recorded) is ∙ recorded-none seen.recorded)) (records-none now.recorded) refl (omega arith)
 
 -- ---- the house's streams and listeners
 
@@ -301,20 +301,20 @@ event-housed known seen own waiting want (turn.Writable k) bytes e h fits next =
 event-housed known seen own waiting want (turn.Joined l k) bytes e h fits next = absurd next
 event-housed known seen own waiting want turn.NoMemory bytes e h fits next = absurd next
 
-pub turn-housed : {A E : Type 0} (r : Result A E) (May : HouseReply → Type 0) {seen seen' : Seen} {own failed : List ℕ} {queue : ℕ → List ℕ} {s : State} {t : Turn} {bytes : List ℕ} → HasWaited seen seen' own failed queue s t bytes → (e : Event) → IsEventOf e t bytes → (s' : State) (asks : List HouseMark) (told told' : Option (List HouseMark)) (known known' : Known) (seen'' : Seen)
-    → Heeded r May e s s' asks told told' known known' seen' seen'' → Housed known seen own → OnOk r (Housed known' seen'' own)
-turn-housed (Ok x) May {seen = seen} {seen' = seen'} {own = own} {failed = failed} {queue = queue} {s = s} {t = t} {bytes = bytes} w e next s' asks told told' known known' seen'' h housed =
+pub turn-housed : {A E : Type 0} (r : Result A E) (May : HouseReply → Type 0) {seen seen' : Seen} {own failed : List ℕ} {queue : ℕ → List ℕ} {s : State} {t : Turn} {bytes : List ℕ} → HasWaited seen seen' own failed queue s t bytes → (e : Event) → IsEventOf e t bytes → (s' : State) (asks : List HouseMark) (recorded recorded' : Option (List HouseMark)) (known known' : Known) (seen'' : Seen)
+    → Applied r May e s s' asks recorded recorded' known known' seen' seen'' → Housed known seen own → OnOk r (Housed known' seen'' own)
+turn-housed (Ok x) May {seen = seen} {seen' = seen'} {own = own} {failed = failed} {queue = queue} {s = s} {t = t} {bytes = bytes} w e next s' asks recorded recorded' known known' seen'' h housed =
     let all : List ℕ = s.waiting ++ filter (waits_for queue failed) own in
     let then : Seen = seen_after_turn t all (want_of s) bytes seen in
     let same : SameHouse known known' = subst (SameHouse known) (sym h.known_is) (after-asks asks known) in
     housed-as known known' then seen'' own (event-housed known seen own all (want_of s) t bytes e housed w.fits next) same.ordering same.listeners same.streams
     (ap (λ (y : Seen). y.listeners) h.seen_is ∙ ap (λ (y : Seen). y.listeners) w.seen_is) (ap (λ (y : Seen). y.own) h.seen_is ∙ ap (λ (y : Seen). y.own) w.seen_is) (ap (λ (y : Seen). y.streams) h.seen_is ∙ ap (λ (y : Seen). y.streams) w.seen_is) (ap (λ (y : Seen). y.last_own) h.seen_is ∙ ap (λ (y : Seen). y.last_own) w.seen_is)
-turn-housed (Err x) May w e next s' asks told told' known known' seen'' h housed = tt
+turn-housed (Err x) May w e next s' asks recorded recorded' known known' seen'' h housed = tt
 
 -- all but its asks stays
-pub turn-house : {A E : Type 0} (r : Result A E) (May : HouseReply → Type 0) (e : Event) (s s' : State) (asks : List HouseMark) (told told' : Option (List HouseMark)) (known known' : Known) (seen seen' : Seen) → Heeded r May e s s' asks told told' known known' seen seen' → OnOk r (SameHouse known known')
-turn-house (Ok x) May e s s' asks told told' known known' seen seen' h = subst (SameHouse known) (sym h.known_is) (after-asks asks known)
-turn-house (Err x) May e s s' asks told told' known known' seen seen' h = tt
+pub turn-house : {A E : Type 0} (r : Result A E) (May : HouseReply → Type 0) (e : Event) (s s' : State) (asks : List HouseMark) (recorded recorded' : Option (List HouseMark)) (known known' : Known) (seen seen' : Seen) → Applied r May e s s' asks recorded recorded' known known' seen seen' → OnOk r (SameHouse known known')
+turn-house (Ok x) May e s s' asks recorded recorded' known known' seen seen' h = subst (SameHouse known) (sym h.known_is) (after-asks asks known)
+turn-house (Err x) May e s s' asks recorded recorded' known known' seen seen' h = tt
 
 -- ---- what the house may be told
 
@@ -357,18 +357,18 @@ turn-fits {seen = seen} {own = own} {s = s} {t = t} {bytes = bytes} w o next kno
     loud k e = ap (is_silent k) h.streams ∙ e
 
     by_turn : (o : OwnTurn) → IsOwnOf o t bytes → OwnTurnFits o known quiet
-    by_turn (told.Joined l k) next = let f : Owns (turn.Joined l k) = subst Owns next w.own_fits in (ap (among l) h.listeners ∙ f.0, new-to known seen own h k f.1)
-    by_turn (told.Got k got) next =
+    by_turn (recorded.Joined l k) next = let f : Owns (turn.Joined l k) = subst Owns next w.own_fits in (ap (among l) h.listeners ∙ f.0, new-to known seen own h k f.1)
+    by_turn (recorded.Got k got) next =
         let f : Fits (turn.Got k) = subst Fits next.1 w.fits in
         let g : Owns (turn.Got k) = subst Owns next.1 w.own_fits in
         let is = one k f.1 next.0 in
         (record { own = is; loud = loud k (g next.0) }, ready.rests (there known alone k is) f.0, subst (λ (l : List ℕ). 0 < length l) (sym next.2) f.2, subst (λ (l : List ℕ). length l ≤ LONGEST_PIECE) (sym next.2) f.3)
-    by_turn (told.End k) next =
+    by_turn (recorded.End k) next =
         let f : Fits (turn.End k) = subst Fits next.1 w.fits in
         let g : Owns (turn.End k) = subst Owns next.1 w.own_fits in
         record { own = one k f.1 next.0; loud = loud k (g next.0) }
-    by_turn (told.Writable k) next = let f : Fits (turn.Writable k) = subst Fits next.1 w.fits in one k f.0 next.0
-    by_turn (told.Failed k) next = let f : Fits (turn.Failed k) = subst Fits next.1 w.fits in one k f next.0
+    by_turn (recorded.Writable k) next = let f : Fits (turn.Writable k) = subst Fits next.1 w.fits in one k f.0 next.0
+    by_turn (recorded.Failed k) next = let f : Fits (turn.Failed k) = subst Fits next.1 w.fits in one k f next.0
 
 -- ---- what the house knows then
 
@@ -385,20 +385,20 @@ pub record SameAsks (known known' : Known) : Type 0 where
   pub asks : known'.asks ≡ known.asks
 
 pub heard-asks : (o : OwnTurn) (known known' : Known) → known' ≡ known_after_own_turn o known → SameAsks known known'
-heard-asks (told.Joined l k) known known' e = record { present = ap (λ (x : Known). x.present) e; asks = ap (λ (x : Known). x.asks) e }
-heard-asks (told.Got k bytes) known known' e = record { present = ap (λ (x : Known). x.present) e; asks = ap (λ (x : Known). x.asks) e }
-heard-asks (told.End k) known known' e = record { present = ap (λ (x : Known). x.present) e; asks = ap (λ (x : Known). x.asks) e }
-heard-asks (told.Writable k) known known' e = record { present = ap (λ (x : Known). x.present) e; asks = ap (λ (x : Known). x.asks) e }
-heard-asks (told.Failed k) known known' e = record { present = ap (λ (x : Known). x.present) e; asks = ap (λ (x : Known). x.asks) e }
+heard-asks (recorded.Joined l k) known known' e = record { present = ap (λ (x : Known). x.present) e; asks = ap (λ (x : Known). x.asks) e }
+heard-asks (recorded.Got k bytes) known known' e = record { present = ap (λ (x : Known). x.present) e; asks = ap (λ (x : Known). x.asks) e }
+heard-asks (recorded.End k) known known' e = record { present = ap (λ (x : Known). x.present) e; asks = ap (λ (x : Known). x.asks) e }
+heard-asks (recorded.Writable k) known known' e = record { present = ap (λ (x : Known). x.present) e; asks = ap (λ (x : Known). x.asks) e }
+heard-asks (recorded.Failed k) known known' e = record { present = ap (λ (x : Known). x.present) e; asks = ap (λ (x : Known). x.asks) e }
 
-pub own-noted : {May : HouseReply → Type 0} {Rest : Resting} {before : Option (List HouseMark)} {policy : Policy} {pid : ℕ} {start : Option (List Mark)} {seen : Seen} {given : ℕ} {todo : List ℕ} {s : State} {calls : List HouseCall} (o : OwnTurn) (told told' : Option (List HouseMark)) (known known' : Known) (held held' failed failed' : List ℕ)
-    → told' ≡ told → known' ≡ known_after_own_turn o known → held' ≡ held_heard o held → failed' ≡ failed_heard o failed → Serving May Rest before (noted told known calls) policy pid start seen (held_heard o held) (failed_heard o failed) given todo s → Serving May Rest before (noted told' known' calls) policy pid start seen held' failed' given todo s
-own-noted {May} {Rest} {before} {policy} {pid} {start} {seen} {given} {todo} {s} {calls} o told told' known known' held held' failed failed' e f h i v =
+pub own-noted : {May : HouseReply → Type 0} {Rest : Resting} {before : Option (List HouseMark)} {policy : Policy} {pid : ℕ} {start : Option (List Mark)} {seen : Seen} {given : ℕ} {todo : List ℕ} {s : State} {calls : List HouseCall} (o : OwnTurn) (recorded recorded' : Option (List HouseMark)) (known known' : Known) (held held' failed failed' : List ℕ)
+    → recorded' ≡ recorded → known' ≡ known_after_own_turn o known → held' ≡ held_received o held → failed' ≡ failed_received o failed → Serving May Rest before (noted recorded known calls) policy pid start seen (held_received o held) (failed_received o failed) given todo s → Serving May Rest before (noted recorded' known' calls) policy pid start seen held' failed' given todo s
+own-noted {May} {Rest} {before} {policy} {pid} {start} {seen} {given} {todo} {s} {calls} o recorded recorded' known known' held held' failed failed' e f h i v =
     let same : SameAsks known known' = heard-asks o known known' f in
-    let side : noted told known calls ≡ noted told' known' calls = ap (λ (t : Option (List HouseMark)). noted t known calls) (sym e) ∙ (ap (λ (l : _). record (noted told' known calls) { asks = l }) (sym same.asks) ∙ ap (λ (b : Bool). record (noted told' known' calls) { let_in = b }) (sym same.present)) in
+    let side : noted recorded known calls ≡ noted recorded' known' calls = ap (λ (t : Option (List HouseMark)). noted t known calls) (sym e) ∙ (ap (λ (l : _). record (noted recorded' known calls) { asks = l }) (sym same.asks) ∙ ap (λ (b : Bool). record (noted recorded' known' calls) { let_in = b }) (sym same.present)) in
     subst (λ (n : Side). Serving May Rest before n policy pid start seen held' failed' given todo s) side
-    (subst (λ (l : List ℕ). Serving May Rest before (noted told known calls) policy pid start seen l failed' given todo s) (sym h)
-    (subst (λ (l : List ℕ). Serving May Rest before (noted told known calls) policy pid start seen (held_heard o held) l given todo s) (sym i) v))
+    (subst (λ (l : List ℕ). Serving May Rest before (noted recorded known calls) policy pid start seen l failed' given todo s) (sym h)
+    (subst (λ (l : List ℕ). Serving May Rest before (noted recorded known calls) policy pid start seen (held_received o held) l given todo s) (sym i) v))
 
 -- a stream that gives no more keeps its number
 end-one : (k t : ℕ) (own : List OwnStream) → is_one t (with_end k own) ≡ is_one t own
@@ -417,8 +417,8 @@ either-one t n own h = elim (eqb_tells n t) [
     split true e f = refl
     split false e f = true-false (sym (sym (one-last t n own ∙ (ap (λ b. b || ((n == t) || false)) e ∙ ap (λ b. b || false) f)) ∙ h))
 
-own-housed : (o : OwnTurn) (known : Known) (seen : Seen) (own waiting : List ℕ) (want : Want) (bytes : List ℕ) (t : Turn) → Housed known seen own → OwnFits t seen → IsOwnOf o t bytes → Housed (known_after_own_turn o known) (seen_after_turn t waiting want bytes seen) (own_heard o own)
-own-housed (told.Joined l k) known seen own waiting want bytes t h fits next =
+own-housed : (o : OwnTurn) (known : Known) (seen : Seen) (own waiting : List ℕ) (want : Want) (bytes : List ℕ) (t : Turn) → Housed known seen own → OwnFits t seen → IsOwnOf o t bytes → Housed (known_after_own_turn o known) (seen_after_turn t waiting want bytes seen) (own_received o own)
+own-housed (recorded.Joined l k) known seen own waiting want bytes t h fits next =
     let f : OwnFits (turn.Joined l k) seen = subst (λ (x : Turn). OwnFits x seen) next fits in
     let new : IsNewOwn seen.last_own k = f.1 in
     subst (λ (x : Turn). Housed (record known { streams = known.streams ++ new_stream k ∷ [] }) (seen_after_turn x waiting want bytes seen) (own ++ k ∷ [])) (sym next) record {
@@ -443,8 +443,8 @@ own-housed (told.Joined l k) known seen own waiting want bytes t h fits next =
         listening = λ l a. let b : l ≤ seen.last_own = h.places.listening l a in let c : seen.last_own < k = new.above in omega arith;
       };
     }
-own-housed (told.Got k got) known seen own waiting want bytes t h fits next = subst (λ (x : Turn). Housed known (seen_after_turn x waiting want bytes seen) own) (sym next.1) (housed-as known known seen (seen_after_turn (turn.Got k) waiting want bytes seen) own h refl refl refl refl refl refl refl)
-own-housed (told.End k) known seen own waiting want bytes t h fits next = subst (λ (x : Turn). Housed (record known { streams = with_end k known.streams }) (seen_after_turn x waiting want bytes seen) own) (sym next.1) record {
+own-housed (recorded.Got k got) known seen own waiting want bytes t h fits next = subst (λ (x : Turn). Housed known (seen_after_turn x waiting want bytes seen) own) (sym next.1) (housed-as known known seen (seen_after_turn (turn.Got k) waiting want bytes seen) own h refl refl refl refl refl refl refl)
+own-housed (recorded.End k) known seen own waiting want bytes t h fits next = subst (λ (x : Turn). Housed (record known { streams = with_end k known.streams }) (seen_after_turn x waiting want bytes seen) own) (sym next.1) record {
   ordering = h.ordering;
   listeners = h.listeners;
   streams = ap (with_end k) h.streams;
@@ -457,14 +457,14 @@ own-housed (told.End k) known seen own waiting want bytes t h fits next = subst 
     listening = h.places.listening;
   };
 }
-own-housed (told.Writable k) known seen own waiting want bytes t h fits next = subst (λ (x : Turn). Housed known (seen_after_turn x waiting want bytes seen) own) (sym next.1) (housed-as known known seen (seen_after_turn (turn.Writable k) waiting want bytes seen) own h refl refl refl refl refl refl refl)
-own-housed (told.Failed k) known seen own waiting want bytes t h fits next = subst (λ (x : Turn). Housed known (seen_after_turn x waiting want bytes seen) own) (sym next.1) (housed-as known known seen (seen_after_turn (turn.Failed k) waiting want bytes seen) own h refl refl refl refl refl refl refl)
+own-housed (recorded.Writable k) known seen own waiting want bytes t h fits next = subst (λ (x : Turn). Housed known (seen_after_turn x waiting want bytes seen) own) (sym next.1) (housed-as known known seen (seen_after_turn (turn.Writable k) waiting want bytes seen) own h refl refl refl refl refl refl refl)
+own-housed (recorded.Failed k) known seen own waiting want bytes t h fits next = subst (λ (x : Turn). Housed known (seen_after_turn x waiting want bytes seen) own) (sym next.1) (housed-as known known seen (seen_after_turn (turn.Failed k) waiting want bytes seen) own h refl refl refl refl refl refl refl)
 
-pub turn-own-housed : {seen seen' : Seen} {own failed : List ℕ} {queue : ℕ → List ℕ} {s : State} {t : Turn} {bytes : List ℕ} → HasWaited seen seen' own failed queue s t bytes → (o : OwnTurn) → IsOwnOf o t bytes → (known known' : Known) (own' : List ℕ) → Housed known seen own → known' ≡ known_after_own_turn o known → own' ≡ own_heard o own → Housed known' seen' own'
+pub turn-own-housed : {seen seen' : Seen} {own failed : List ℕ} {queue : ℕ → List ℕ} {s : State} {t : Turn} {bytes : List ℕ} → HasWaited seen seen' own failed queue s t bytes → (o : OwnTurn) → IsOwnOf o t bytes → (known known' : Known) (own' : List ℕ) → Housed known seen own → known' ≡ known_after_own_turn o known → own' ≡ own_received o own → Housed known' seen' own'
 turn-own-housed {seen = seen} {seen' = seen'} {own = own} {failed = failed} {queue = queue} {s = s} {t = t} {bytes = bytes} w o next known known' own' h e f =
     let all : List ℕ = s.waiting ++ filter (waits_for queue failed) own in
     subst (λ (k : Known). Housed k seen' own') (sym e) (subst (λ (l : List ℕ). Housed (known_after_own_turn o known) seen' l) (sym f)
-    (subst (λ (x : Seen). Housed (known_after_own_turn o known) x (own_heard o own)) (sym w.seen_is) (own-housed o known seen own all (want_of s) bytes t h w.own_fits next)))
+    (subst (λ (x : Seen). Housed (known_after_own_turn o known) x (own_received o own)) (sym w.seen_is) (own-housed o known seen own all (want_of s) bytes t h w.own_fits next)))
 
 -- where a stream only takes bytes again
 pub room-housed : {seen seen' : Seen} {own failed : List ℕ} {queue : ℕ → List ℕ} {s : State} {t : Turn} {bytes : List ℕ} → HasWaited seen seen' own failed queue s t bytes → (k : ℕ) → t ≡ turn.Writable k → (known : Known) → Housed known seen own → Housed known seen' own
@@ -475,14 +475,14 @@ room-housed {seen = seen} {own = own} {failed = failed} {queue = queue} {s = s} 
 
 -- where there is no house nothing comes of it
 pub alone-heard : (o : OwnTurn) (known known' : Known) (quiet : Quiet) → OwnTurnFits o known quiet → known' ≡ known_after_own_turn o known → IsAlone known → IsAlone known'
-alone-heard (told.Joined l k) known known' quiet fits e alone = record {
+alone-heard (recorded.Joined l k) known known' quiet fits e alone = record {
   listeners = λ out. ap (λ (x : Known). x.listeners) e ∙ alone.listeners (sym (ap (λ (x : Known). x.present) e) ∙ out);
   streams = λ out. true-false (sym fits.0 ∙ ap (among l) (alone.listeners (sym (ap (λ (x : Known). x.present) e) ∙ out)));
 }
-alone-heard (told.Got k bytes) known known' quiet fits e alone = subst IsAlone (sym e) alone
-alone-heard (told.End k) known known' quiet fits e alone = record {
+alone-heard (recorded.Got k bytes) known known' quiet fits e alone = subst IsAlone (sym e) alone
+alone-heard (recorded.End k) known known' quiet fits e alone = record {
   listeners = λ out. ap (λ (x : Known). x.listeners) e ∙ alone.listeners (sym (ap (λ (x : Known). x.present) e) ∙ out);
   streams = λ out. ap (λ (x : Known). x.streams) e ∙ ap (with_end k) (alone.streams (sym (ap (λ (x : Known). x.present) e) ∙ out));
 }
-alone-heard (told.Writable k) known known' quiet fits e alone = subst IsAlone (sym e) alone
-alone-heard (told.Failed k) known known' quiet fits e alone = subst IsAlone (sym e) alone
+alone-heard (recorded.Writable k) known known' quiet fits e alone = subst IsAlone (sym e) alone
+alone-heard (recorded.Failed k) known known' quiet fits e alone = subst IsAlone (sym e) alone

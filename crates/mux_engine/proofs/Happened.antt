@@ -21,9 +21,9 @@ use Rattle.mux_history.specs.Settings.{by_lists}
 use Rattle.mux_history.specs.Journal.{is_accepted, is_blocked, is_own_stream}
 use Rattle.mux_history.specs.Promises.{SpeaksInTime, not_own, turns_in}
 use Rattle.mux_history.specs.Wires.{OfWire}
-use Rattle.mux_machine.specs.State.{State}
-use Rattle.mux_machine.specs.Events.{here}
-use Rattle.mux_machine.specs.Stands.{GoesBy}
+use Rattle.mux_state.specs.State.{State}
+use Rattle.mux_state.specs.Events.{here}
+use Rattle.mux_state.specs.Stands.{GoesBy}
 use Rattle.mux_engine.specs.Answers.{AnswersDeferred, EachDeferred}
 use Rattle.mux_engine.specs.Called.{calls_at}
 use Rattle.mux_engine.specs.Run.{RestedAt, is_by_house}
@@ -36,7 +36,7 @@ use Rattle.mux_engine.proofs.Marks.{Notes, Placed, serve-next}
 use Rattle.mux_engine.proofs.Outs.{Spares}
 use Rattle.mux_engine.proofs.Owns.{Owns}
 use Rattle.mux_engine.proofs.Places.{placed-by}
-use Rattle.mux_engine.proofs.Turns.{IsTold, told-sound}
+use Rattle.mux_engine.proofs.Turns.{IsRecorded, recorded-sound}
 
 -- what is in a list with one more is that one or was in it
 pub last-or : (k t : ℕ) (xs : List ℕ) → among t (xs ++ k ∷ []) ≡ true → (k ≢ t) → among t xs ≡ true
@@ -45,15 +45,15 @@ last-or k t xs a ne = sym (among-last k t xs ∙ (ap (λ b. among t xs || (b || 
 module _ {May : HouseReply → Type 0} {Rest : Resting} {before : Option (List HouseMark)} {now : Side} {policy : Policy} {pid : ℕ} {start : Option (List Mark)} {seen : Seen} {held failed : List ℕ} {given : ℕ} {todo : List ℕ} {s : State}
     (v : Serving May Rest before now policy pid start seen held failed given todo s) where
   -- with what an event of the engine picks
-  pub serve-event : {told told' : Option (List HouseMark)} {s' : State} (mark : Mark) (g : GoesBy May told told' v.picked v.replies s s' mark v.journal v.closed) (now' : Side) (seen' : Seen) (held' failed' : List ℕ) (given' : ℕ)
-      → s'.core.policy ≡ s.core.policy → s'.pid ≡ s.pid → s.ended ≡ None → IsTold mark → ((t : ℕ) → among t (0 ∷ here s') ≡ false → among t todo ≡ false) → ((k : ℕ) → among k v.closed ≡ true → Spares k mark)
+  pub serve-event : {recorded recorded' : Option (List HouseMark)} {s' : State} (mark : Mark) (g : GoesBy May recorded recorded' v.picked v.replies s s' mark v.journal v.closed) (now' : Side) (seen' : Seen) (held' failed' : List ℕ) (given' : ℕ)
+      → s'.core.policy ≡ s.core.policy → s'.pid ≡ s.pid → s.ended ≡ None → IsRecorded mark → ((t : ℕ) → among t (0 ∷ here s') ≡ false → among t todo ≡ false) → ((k : ℕ) → among k v.closed ≡ true → Spares k mark)
       → ((picks : List ℕ) (later : List HouseReply) → SpeaksInTime (by_lists policy pid ((v.picked ++ g.picks) ++ picks) ((v.replies ++ g.replies) ++ later)) v.journal mark)
       → ((picks : List ℕ) (later : List HouseReply) → AnswersDeferred (by_lists policy pid ((v.picked ++ g.picks) ++ picks) ((v.replies ++ g.replies) ++ later)) v.journal mark)
       → Notes now now' mark g.asks → ((set : Setting) → CallsOn now now' (calls_at set v.journal mark)) → All (λ (a : OpenAsk). IsTrue (is_accepted a.client (mark ∷ v.journal))) now'.asks → ((front : List HouseMark) → EachDeferred front now.asks → EachDeferred (front ++ g.asks) now'.asks) → is_accepted HOUSE (mark ∷ v.journal) ≡ now'.let_in → (now'.let_in ≡ true → Rest.present ≡ true) → ((set : Setting) → RestedAt Rest.rests set before v.journal mark) → (Rest.present ≡ false → is_by_house mark ≡ false) → turns_in (mark ∷ v.journal) ≡ given'
-      → seen'.told ≡ option_map (λ m. m ++ mark ∷ []) seen.told → Placed s' v.journal seen seen' held' failed' mark → Serving May Rest before now' policy pid start seen' held' failed' given' (0 ∷ here s') s'
-  serve-event {s' = s'} mark g now' seen' held' failed' given' same_policy same_pid live is covers spares speaks answers notes called askers deferred within there rested absent turns told placed =
+      → seen'.recorded ≡ option_map (λ m. m ++ mark ∷ []) seen.recorded → Placed s' v.journal seen seen' held' failed' mark → Serving May Rest before now' policy pid start seen' held' failed' given' (0 ∷ here s') s'
+  serve-event {s' = s'} mark g now' seen' held' failed' given' same_policy same_pid live is covers spares speaks answers notes called askers deferred within there rested absent turns recorded placed =
       serve-next v now' seen' held' failed' given' (0 ∷ here s') s' mark g record {
-        told = told;
+        recorded = recorded;
         policy_is = same_policy;
         pid_is = same_pid;
         notes = notes;
@@ -66,7 +66,7 @@ module _ {May : HouseReply → Type 0} {Rest : Resting} {before : Option (List H
         absent = absent;
         turns = turns;
         placed = placed;
-        sound = told-sound v mark g same_policy same_pid is placed.of_wire.lawful covers live spares speaks answers;
+        sound = recorded-sound v mark g same_policy same_pid is placed.of_wire.lawful covers live spares speaks answers;
       }
 
   -- ---- where the streams are then

@@ -10,12 +10,12 @@ use Rattle.mux_outside.specs.declared.house_mark.HouseMark.{HouseMark}
 use Rattle.mux_outside.specs.declared.mark.Mark.{Mark}
 use Rattle.mux_outside.specs.declared.mark.Mark.TheVariants.{House}
 use Rattle.mux_outside.specs.HouseCalls.{HandsOn, calls_of}
-use Rattle.mux_clients.specs.Asked.{Heeds, TellsAsks, known_after}
-use Rattle.mux_machine.specs.declared.event.Event.{Event}
-use Rattle.mux_machine.specs.Events.{EndsBy, Keeps, Tells}
-use Rattle.mux_machine.specs.Stands.{GoesOn}
-use Rattle.mux_machine.specs.State.{State}
-use Rattle.mux_engine.specs.Asking.{Heeded, HeedsSo}
+use Rattle.mux_peers.specs.Asked.{Applies, RecordsAsks, known_after}
+use Rattle.mux_state.specs.declared.event.Event.{Event}
+use Rattle.mux_state.specs.Events.{EndsBy, Keeps, Records}
+use Rattle.mux_state.specs.Stands.{GoesOn}
+use Rattle.mux_state.specs.State.{State}
+use Rattle.mux_engine.specs.Asking.{Applied, AppliesSo}
 use Rattle.mux_engine.specs.Sides.{SameStreams}
 use Rattle.mux_engine.proofs.HouseCalls.{streams-same}
 use Rattle.mux_engine.proofs.Lists.{true-false}
@@ -26,47 +26,47 @@ with-streams n asks seen seen' e = subst (SameStreams seen) (sym e) record { pla
 
 -- ---- so many are noted
 
-one-more : (m : HouseMark) (ms : List HouseMark) (told : Option (List Mark)) → option_map (λ (l : List Mark). l ++ House m ∷ []) (option_map (λ (l : List Mark). l ++ map (λ (a : HouseMark). House a) ms) told) ≡ option_map (λ (l : List Mark). l ++ map (λ (a : HouseMark). House a) (ms ++ m ∷ [])) told
+one-more : (m : HouseMark) (ms : List HouseMark) (recorded : Option (List Mark)) → option_map (λ (l : List Mark). l ++ House m ∷ []) (option_map (λ (l : List Mark). l ++ map (λ (a : HouseMark). House a) ms) recorded) ≡ option_map (λ (l : List Mark). l ++ map (λ (a : HouseMark). House a) (ms ++ m ∷ [])) recorded
 one-more m ms None = refl
 one-more m ms (Some l) = ap (λ (x : List Mark). Some x) (append_assoc l (map (λ (a : HouseMark). House a) ms) (House m ∷ []) ∙ ap (λ (x : List Mark). l ++ x) (sym (map-append (λ (a : HouseMark). House a) ms (m ∷ []))))
 
 -- the next
-pub noted-next : (asks : List HouseMark) (i : ℕ) (m : HouseMark) (seen mid seen' : Seen) → i < length asks → m ≡ get_or asks i m → mid ≡ seen-with (take i asks) seen → seen' ≡ record mid { told = option_map (λ (l : List Mark). l ++ House m ∷ []) mid.told } → seen' ≡ seen-with (take (i + 1) asks) seen
+pub noted-next : (asks : List HouseMark) (i : ℕ) (m : HouseMark) (seen mid seen' : Seen) → i < length asks → m ≡ get_or asks i m → mid ≡ seen-with (take i asks) seen → seen' ≡ record mid { recorded = option_map (λ (l : List Mark). l ++ House m ∷ []) mid.recorded } → seen' ≡ seen-with (take (i + 1) asks) seen
 noted-next asks i m seen mid seen' less is so next =
-    next ∙ (ap (λ (x : Seen). record x { told = option_map (λ (l : List Mark). l ++ House m ∷ []) x.told }) so
-    ∙ (ap (λ (told : Option (List Mark)). record seen { told = told }) (one-more m (take i asks) seen.told)
+    next ∙ (ap (λ (x : Seen). record x { recorded = option_map (λ (l : List Mark). l ++ House m ∷ []) x.recorded }) so
+    ∙ (ap (λ (recorded : Option (List Mark)). record seen { recorded = recorded }) (one-more m (take i asks) seen.recorded)
     ∙ ap (λ (l : List HouseMark). seen-with l seen) (ap (λ (a : HouseMark). take i asks ++ a ∷ []) is ∙ sym (take_more asks i m less))))
 
 -- ---- the engine took in the event
 
 -- what was asked is all that is noted, where nothing was before
-all-asked : {A E : Type 0} {x : A} (none asks : List HouseMark) (old new : HouseState) → none ≡ [] → (h : Heeds {A = A} {E = E} (Ok x) none asks old new) → asks ≡ h.more
+all-asked : {A E : Type 0} {x : A} (none asks : List HouseMark) (old new : HouseState) → none ≡ [] → (h : Applies {A = A} {E = E} (Ok x) none asks old new) → asks ≡ h.more
 all-asked none asks old new empty h = h.noted ∙ ap (λ (l : List HouseMark). l ++ h.more) empty
 
-pub heeds-so : {A E : Type 0} {x : A} {May : HouseReply → Type 0} (e : Event) (s s' : State) (none asks : List HouseMark) (old new : HouseState) (seen seen' : Seen) (n : ℕ) → none ≡ [] → ((mark : Mark) → Tells e mark → GoesOn May (Some none) (Some asks) s s' mark) → Heeds {A = A} {E = E} (Ok x) none asks old new
-    → Keeps e s s' → ((mark : Mark) → Tells e mark → EndsBy e s s' mark) → seen' ≡ seen-with (take n asks) seen → HeedsSo May e s s' asks old.told new.told old.known new.known seen seen' n
-heeds-so {May = May} e s s' none asks old new seen seen' n empty goes heeds keeps ends is =
-    let same : asks ≡ heeds.more = all-asked none asks old new empty heeds in
+pub applies-so : {A E : Type 0} {x : A} {May : HouseReply → Type 0} (e : Event) (s s' : State) (none asks : List HouseMark) (old new : HouseState) (seen seen' : Seen) (n : ℕ) → none ≡ [] → ((mark : Mark) → Records e mark → GoesOn May (Some none) (Some asks) s s' mark) → Applies {A = A} {E = E} (Ok x) none asks old new
+    → Keeps e s s' → ((mark : Mark) → Records e mark → EndsBy e s s' mark) → seen' ≡ seen-with (take n asks) seen → AppliesSo May e s s' asks old.recorded new.recorded old.known new.known seen seen' n
+applies-so {May = May} e s s' none asks old new seen seen' n empty goes applies keeps ends is =
+    let same : asks ≡ applies.more = all-asked none asks old new empty applies in
     record {
-      goes = subst (λ (l : List HouseMark). (mark : Mark) → Tells e mark → GoesOn May (Some l) (Some asks) s s' mark) empty goes;
+      goes = subst (λ (l : List HouseMark). (mark : Mark) → Records e mark → GoesOn May (Some l) (Some asks) s s' mark) empty goes;
       keeps = keeps;
       ends = ends;
-      told_is = subst (TellsAsks old.told new.told) (ap (λ (l : List HouseMark). heeds.more ++ l) heeds.all_noted ∙ (append-nil heeds.more ∙ sym same)) heeds.told;
-      known_is = heeds.known ∙ ap (λ (l : List HouseMark). known_after l old.known) (sym same);
+      recorded_is = subst (RecordsAsks old.recorded new.recorded) (ap (λ (l : List HouseMark). applies.more ++ l) applies.all_noted ∙ (append-nil applies.more ∙ sym same)) applies.recorded;
+      known_is = applies.known ∙ ap (λ (l : List HouseMark). known_after l old.known) (sym same);
       seen_is = is;
     }
 
 -- there was no memory to note all of them
-pub heeded-some : {A E : Type 0} (r : Result A E) {May : HouseReply → Type 0} (e : Event) (s s' : State) (asks : List HouseMark) (told told' : Option (List HouseMark)) (known known' : Known) (seen seen' : Seen) (n : ℕ) → IsErr r → HeedsSo May e s s' asks told told' known known' seen seen' n → Heeded r May e s s' asks told told' known known' seen seen'
-heeded-some (Ok x) e s s' asks told told' known known' seen seen' n h so = true-false (sym h)
-heeded-some (Err x) e s s' asks told told' known known' seen seen' n h so = inr (n, so)
+pub applied-some : {A E : Type 0} (r : Result A E) {May : HouseReply → Type 0} (e : Event) (s s' : State) (asks : List HouseMark) (recorded recorded' : Option (List HouseMark)) (known known' : Known) (seen seen' : Seen) (n : ℕ) → IsErr r → AppliesSo May e s s' asks recorded recorded' known known' seen seen' n → Applied r May e s s' asks recorded recorded' known known' seen seen'
+applied-some (Ok x) e s s' asks recorded recorded' known known' seen seen' n h so = true-false (sym h)
+applied-some (Err x) e s s' asks recorded recorded' known known' seen seen' n h so = inr (n, so)
 
 -- the house stands for all asks, where none was there before
-pub hands-so : {A E : Type 0} {x : A} (none asks : List HouseMark) (old new : HouseState) → none ≡ [] → Heeds {A = A} {E = E} (Ok x) none asks old new → HandsOn old.stands new.stands (calls_of asks)
+pub hands-so : {A E : Type 0} {x : A} (none asks : List HouseMark) (old new : HouseState) → none ≡ [] → Applies {A = A} {E = E} (Ok x) none asks old new → HandsOn old.stands new.stands (calls_of asks)
 hands-so none asks old new empty h = subst (λ (l : List HouseMark). HandsOn old.stands new.stands (calls_of l)) (sym (all-asked none asks old new empty h)) h.stands
 
 -- the streams stay
-pub heeded-streams : {A E : Type 0} (r : Result A E) (May : HouseReply → Type 0) (e : Event) (s s' : State) (asks : List HouseMark) (told told' : Option (List HouseMark)) (known known' : Known) (seen seen' : Seen) → Heeded r May e s s' asks told told' known known' seen seen' → SameStreams seen seen'
-heeded-streams (Ok x) May e s s' asks told told' known known' seen seen' h = with-streams (length asks) asks seen seen' h.seen_is
-heeded-streams (Err x) May e s s' asks told told' known known' seen seen' (inl u) = streams-same seen seen' u.seen_is
-heeded-streams (Err x) May e s s' asks told told' known known' seen seen' (inr p) = let h = p.1 in with-streams p.0 asks seen seen' h.seen_is
+pub applied-streams : {A E : Type 0} (r : Result A E) (May : HouseReply → Type 0) (e : Event) (s s' : State) (asks : List HouseMark) (recorded recorded' : Option (List HouseMark)) (known known' : Known) (seen seen' : Seen) → Applied r May e s s' asks recorded recorded' known known' seen seen' → SameStreams seen seen'
+applied-streams (Ok x) May e s s' asks recorded recorded' known known' seen seen' h = with-streams (length asks) asks seen seen' h.seen_is
+applied-streams (Err x) May e s s' asks recorded recorded' known known' seen seen' (inl u) = streams-same seen seen' u.seen_is
+applied-streams (Err x) May e s s' asks recorded recorded' known known' seen seen' (inr p) = let h = p.1 in with-streams p.0 asks seen seen' h.seen_is

@@ -4,7 +4,7 @@ use Rattle.std.specs.Prelude.{◌==◌, All, IsTrue, Result, Ok, Err}
 use Rattle.std.specs.List.{list_any}
 use Rattle.std.proofs.lemmas.List.Folds.{list_any-append}
 use Rattle.mux_outside.specs.House.{Known, OpenAsk, ReplyFits, without_ask}
-use Rattle.mux_outside.specs.HouseCalls.{HandsOn, Hears, HouseCall, calls_of}
+use Rattle.mux_outside.specs.HouseCalls.{HandsOn, Receives, HouseCall, calls_of}
 use Rattle.mux_outside.specs.OwnStreams.{is_one, numbers_of}
 use Rattle.mux_outside.specs.Seen.{Seen, seen_after_note}
 use Rattle.mux_outside.specs.Streams.{among, without}
@@ -17,16 +17,16 @@ use Rattle.mux_outside.proofs.HouseCalls.{hands-then}
 use Rattle.mux_history.specs.declared.limits.TheConstants.{HOUSE}
 use Rattle.mux_history.specs.Policy.{Policy}
 use Rattle.mux_history.specs.Journal.{is_accepted}
-use Rattle.mux_clients.specs.Asked.{TellsAsks}
-use Rattle.mux_machine.specs.State.{State, queue_in, taken}
-use Rattle.mux_machine.specs.declared.event.Event.TheVariants.{Accepted, HouseSays}
-use Rattle.mux_machine.specs.Events.{EndsBy, Keeps, Tells, here}
-use Rattle.mux_machine.specs.Stands.{GoesAlone, GoesOn, Stands}
+use Rattle.mux_peers.specs.Asked.{RecordsAsks}
+use Rattle.mux_state.specs.State.{State, queue_in, taken}
+use Rattle.mux_state.specs.declared.event.Event.TheVariants.{Accepted, HouseSays}
+use Rattle.mux_state.specs.Events.{EndsBy, Keeps, Records, here}
+use Rattle.mux_state.specs.Stands.{GoesAlone, GoesOn, Stands}
 use Rattle.mux_engine.specs.Answers.{EachDeferred, is_deferred}
 use Rattle.mux_engine.specs.Called.{Handed}
 use Rattle.mux_engine.specs.Serving.{Promised, Serving}
 use Rattle.mux_engine.specs.Sides.{Housed, Resting, SameHouse, SamePlaces, SameStreams, Side, noted, noting}
-use Rattle.mux_engine.proofs.Cuts.{serve-told}
+use Rattle.mux_engine.proofs.Cuts.{serve-recorded}
 use Rattle.mux_engine.proofs.HouseTakes.{house-takes}
 use Rattle.mux_engine.proofs.HouseTurns.{accepted-zero, cut-answers, house-answers, house-let-in, reply-asked, reply-so, rest-so}
 use Rattle.mux_engine.proofs.Lists.{among-less, true-false, without-other}
@@ -107,14 +107,14 @@ module _ {May : HouseReply → Type 0} {Rest : Resting} {before : Option (List H
   pub none-given : {now : Side} {seen : Seen} {held failed : List ℕ} {todo : List ℕ} {s : State} → Serving May Rest before now policy pid start seen held failed (given + 0) todo s → Serving May Rest before now policy pid start seen held failed given todo s
   none-given {now} {seen} {held} {failed} {todo} {s} v = subst (λ (n : ℕ). Serving May Rest before now policy pid start seen held failed n todo s) (more-none given) v
 
-  pub no-turns-left : {now : Option (List HouseMark)} {told : Option (List Mark)} → Promised May Rest before now policy pid start told given → Promised May Rest before now policy pid start told (given + 0)
-  no-turns-left {now} {told} p = subst (λ (n : ℕ). Promised May Rest before now policy pid start told n) (sym (more-none given)) p
+  pub no-turns-left : {now : Option (List HouseMark)} {recorded : Option (List Mark)} → Promised May Rest before now policy pid start recorded given → Promised May Rest before now policy pid start recorded (given + 0)
+  no-turns-left {now} {recorded} p = subst (λ (n : ℕ). Promised May Rest before now policy pid start recorded n) (sym (more-none given)) p
 
 -- the house told nothing meanwhile, and as much is known of it
-pub same-noted : {May : HouseReply → Type 0} {Rest : Resting} {before : Option (List HouseMark)} {policy : Policy} {pid : ℕ} {start : Option (List Mark)} {seen : Seen} {held failed : List ℕ} {given : ℕ} {todo : List ℕ} {s : State} {calls : List HouseCall} (told told' : Option (List HouseMark)) (known known' : Known) → told' ≡ told → known' ≡ known → Serving May Rest before (noted told known calls) policy pid start seen held failed given todo s → Serving May Rest before (noted told' known' calls) policy pid start seen held failed given todo s
-same-noted {May} {Rest} {before} {policy} {pid} {start} {seen} {held} {failed} {given} {todo} {s} {calls} told told' known known' t k v =
+pub same-noted : {May : HouseReply → Type 0} {Rest : Resting} {before : Option (List HouseMark)} {policy : Policy} {pid : ℕ} {start : Option (List Mark)} {seen : Seen} {held failed : List ℕ} {given : ℕ} {todo : List ℕ} {s : State} {calls : List HouseCall} (recorded recorded' : Option (List HouseMark)) (known known' : Known) → recorded' ≡ recorded → known' ≡ known → Serving May Rest before (noted recorded known calls) policy pid start seen held failed given todo s → Serving May Rest before (noted recorded' known' calls) policy pid start seen held failed given todo s
+same-noted {May} {Rest} {before} {policy} {pid} {start} {seen} {held} {failed} {given} {todo} {s} {calls} recorded recorded' known known' t k v =
     subst (λ (x : Option (List HouseMark)). Serving May Rest before (noted x known' calls) policy pid start seen held failed given todo s) (sym t)
-    (subst (λ (x : Known). Serving May Rest before (noted told x calls) policy pid start seen held failed given todo s) (sym k) v)
+    (subst (λ (x : Known). Serving May Rest before (noted recorded x calls) policy pid start seen held failed given todo s) (sym k) v)
 
 -- ---- other asks are open
 
@@ -128,53 +128,53 @@ module _ {May : HouseReply → Type 0} {Rest : Resting} {before : Option (List H
     deferred = deferred;
     house_in = v.house_in;
     house_there = v.house_there;
-  } v.hears (λ t a. inl a)
+  } v.receives (λ t a. inl a)
 
   -- ---- it was told something
 
   -- it told this and asked nothing
-  pub took-told : {told told' : Option (List HouseMark)} {known : Known} {calls : List HouseCall} (known' : Known) (n : ℕ) → Serving May Rest before (noted told known calls) policy pid start seen held failed given todo s → TellsAsks told told' (HouseTook n ∷ []) → known' ≡ known → Serving May Rest before (noting (HouseTook n ∷ []) told' known' calls) policy pid start seen held failed given todo s
-  took-told {told} {told'} {known} {calls} known' n v h e =
-      subst (λ (k : Known). Serving May Rest before (noting (HouseTook n ∷ []) told' k calls) policy pid start seen held failed given todo s) (sym e)
-      (serve-told v (noting (HouseTook n ∷ []) told' known calls) (HouseTook n ∷ []) h refl refl refl refl (sym (append-nil calls)))
+  pub took-recorded : {recorded recorded' : Option (List HouseMark)} {known : Known} {calls : List HouseCall} (known' : Known) (n : ℕ) → Serving May Rest before (noted recorded known calls) policy pid start seen held failed given todo s → RecordsAsks recorded recorded' (HouseTook n ∷ []) → known' ≡ known → Serving May Rest before (noting (HouseTook n ∷ []) recorded' known' calls) policy pid start seen held failed given todo s
+  took-recorded {recorded} {recorded'} {known} {calls} known' n v h e =
+      subst (λ (k : Known). Serving May Rest before (noting (HouseTook n ∷ []) recorded' k calls) policy pid start seen held failed given todo s) (sym e)
+      (serve-recorded v (noting (HouseTook n ∷ []) recorded' known calls) (HouseTook n ∷ []) h refl refl refl refl (sym (append-nil calls)))
 
   -- it told nothing
-  pub told-nothing : {told told' : Option (List HouseMark)} {known : Known} {calls : List HouseCall} (known' : Known) → Serving May Rest before (noted told known calls) policy pid start seen held failed given todo s → TellsAsks told told' [] → known' ≡ known → Serving May Rest before (noted told' known' calls) policy pid start seen held failed given todo s
-  told-nothing {told} {told'} {known} {calls} known' v h e =
-      subst (λ (k : Known). Serving May Rest before (noted told' k calls) policy pid start seen held failed given todo s) (sym e)
-      (serve-told v (noted told' known calls) [] h refl refl refl refl (sym (append-nil calls)))
+  pub recorded-nothing : {recorded recorded' : Option (List HouseMark)} {known : Known} {calls : List HouseCall} (known' : Known) → Serving May Rest before (noted recorded known calls) policy pid start seen held failed given todo s → RecordsAsks recorded recorded' [] → known' ≡ known → Serving May Rest before (noted recorded' known' calls) policy pid start seen held failed given todo s
+  recorded-nothing {recorded} {recorded'} {known} {calls} known' v h e =
+      subst (λ (k : Known). Serving May Rest before (noted recorded' k calls) policy pid start seen held failed given todo s) (sym e)
+      (serve-recorded v (noted recorded' known calls) [] h refl refl refl refl (sym (append-nil calls)))
 
   -- nothing came of a call
-  pub still-handed : {stands mid stands' : List HouseCall → Type 0} {told told' : Option (List HouseMark)} {known : Known} {calls : List HouseCall} (known' : Known) → HandsOn stands mid calls → HandsOn mid stands' [] → TellsAsks told told' [] → known' ≡ known → Serving May Rest before (noted told known calls) policy pid start seen held failed given todo s
-      → Handed stands stands' (λ all. Serving May Rest before (noted told' known' all) policy pid start seen held failed (given + 0) todo s)
-  still-handed {stands} {mid} {stands'} {calls = calls} known' hands step h e v = record { all = calls; hands = subst (HandsOn stands stands') (append-nil calls) (hands-then stands mid stands' calls [] hands step); so = no-turns (told-nothing known' v h e) }
+  pub still-handed : {stands mid stands' : List HouseCall → Type 0} {recorded recorded' : Option (List HouseMark)} {known : Known} {calls : List HouseCall} (known' : Known) → HandsOn stands mid calls → HandsOn mid stands' [] → RecordsAsks recorded recorded' [] → known' ≡ known → Serving May Rest before (noted recorded known calls) policy pid start seen held failed given todo s
+      → Handed stands stands' (λ all. Serving May Rest before (noted recorded' known' all) policy pid start seen held failed (given + 0) todo s)
+  still-handed {stands} {mid} {stands'} {calls = calls} known' hands step h e v = record { all = calls; hands = subst (HandsOn stands stands') (append-nil calls) (hands-then stands mid stands' calls [] hands step); so = no-turns (recorded-nothing known' v h e) }
 
   -- it told an answer
-  pub answer-told : {told told' : Option (List HouseMark)} {calls : List HouseCall} (known : Known) (client id : ℕ) (reply : HouseReply) → Serving May Rest before (noted told known calls) policy pid start seen held failed given todo s → TellsAsks told told' (HouseAnswer client id reply ∷ [])
-      → Serving May Rest before (noting (HouseAnswer client id reply ∷ []) told' (record known { asks = without_ask client id known.asks }) (calls ++ calls_of (HouseAnswer client id reply ∷ []))) policy pid start seen held failed given todo s
-  answer-told {told} {told'} {calls} known client id reply v h =
-      let w = serve-told v (noting (HouseAnswer client id reply ∷ []) told' known (calls ++ calls_of (HouseAnswer client id reply ∷ []))) (HouseAnswer client id reply ∷ []) h refl refl refl refl refl in
+  pub answer-recorded : {recorded recorded' : Option (List HouseMark)} {calls : List HouseCall} (known : Known) (client id : ℕ) (reply : HouseReply) → Serving May Rest before (noted recorded known calls) policy pid start seen held failed given todo s → RecordsAsks recorded recorded' (HouseAnswer client id reply ∷ [])
+      → Serving May Rest before (noting (HouseAnswer client id reply ∷ []) recorded' (record known { asks = without_ask client id known.asks }) (calls ++ calls_of (HouseAnswer client id reply ∷ []))) policy pid start seen held failed given todo s
+  answer-recorded {recorded} {recorded'} {calls} known client id reply v h =
+      let w = serve-recorded v (noting (HouseAnswer client id reply ∷ []) recorded' known (calls ++ calls_of (HouseAnswer client id reply ∷ []))) (HouseAnswer client id reply ∷ []) h refl refl refl refl refl in
       serve-asks w (without_ask client id known.asks) (rest-so (λ (a : OpenAsk). IsTrue (is_accepted a.client w.journal)) client id known.asks w.askers)
       (rest-so (λ (a : OpenAsk). IsTrue (list_any (is_deferred a.client a.id) w.stands.asks)) client id known.asks w.deferred)
 
   -- to a client that was accepted
-  pub answer-asked : {told told' : Option (List HouseMark)} {calls : List HouseCall} (known : Known) (client id : ℕ) (reply : HouseReply) (v : Serving May Rest before (noted told known calls) policy pid start seen held failed given todo s) (h : TellsAsks told told' (HouseAnswer client id reply ∷ [])) → ReplyFits reply client id known.asks → is_accepted client (answer-told known client id reply v h).journal ≡ true
-  unfolding answer-told serve-asks serve-as
-  answer-asked {told} {told'} {calls} known client id reply v h fits =
-      let w = serve-told v (noting (HouseAnswer client id reply ∷ []) told' known (calls ++ calls_of (HouseAnswer client id reply ∷ []))) (HouseAnswer client id reply ∷ []) h refl refl refl refl refl in
+  pub answer-asked : {recorded recorded' : Option (List HouseMark)} {calls : List HouseCall} (known : Known) (client id : ℕ) (reply : HouseReply) (v : Serving May Rest before (noted recorded known calls) policy pid start seen held failed given todo s) (h : RecordsAsks recorded recorded' (HouseAnswer client id reply ∷ [])) → ReplyFits reply client id known.asks → is_accepted client (answer-recorded known client id reply v h).journal ≡ true
+  unfolding answer-recorded serve-asks serve-as
+  answer-asked {recorded} {recorded'} {calls} known client id reply v h fits =
+      let w = serve-recorded v (noting (HouseAnswer client id reply ∷ []) recorded' known (calls ++ calls_of (HouseAnswer client id reply ∷ []))) (HouseAnswer client id reply ∷ []) h refl refl refl refl refl in
       reply-asked w.journal reply client id known.asks fits w.askers
 
   -- to an ask that was put off
-  pub answer-deferred : {told told' : Option (List HouseMark)} {calls : List HouseCall} (known : Known) (client id : ℕ) (reply : HouseReply) (v : Serving May Rest before (noted told known calls) policy pid start seen held failed given todo s) (h : TellsAsks told told' (HouseAnswer client id reply ∷ [])) → ReplyFits reply client id known.asks → list_any (is_deferred client id) (answer-told known client id reply v h).stands.asks ≡ true
-  unfolding answer-told serve-asks serve-as
-  answer-deferred {told} {told'} {calls} known client id reply v h fits =
-      let w = serve-told v (noting (HouseAnswer client id reply ∷ []) told' known (calls ++ calls_of (HouseAnswer client id reply ∷ []))) (HouseAnswer client id reply ∷ []) h refl refl refl refl refl in
+  pub answer-deferred : {recorded recorded' : Option (List HouseMark)} {calls : List HouseCall} (known : Known) (client id : ℕ) (reply : HouseReply) (v : Serving May Rest before (noted recorded known calls) policy pid start seen held failed given todo s) (h : RecordsAsks recorded recorded' (HouseAnswer client id reply ∷ [])) → ReplyFits reply client id known.asks → list_any (is_deferred client id) (answer-recorded known client id reply v h).stands.asks ≡ true
+  unfolding answer-recorded serve-asks serve-as
+  answer-deferred {recorded} {recorded'} {calls} known client id reply v h fits =
+      let w = serve-recorded v (noting (HouseAnswer client id reply ∷ []) recorded' known (calls ++ calls_of (HouseAnswer client id reply ∷ []))) (HouseAnswer client id reply ∷ []) h refl refl refl refl refl in
       reply-so (λ k i. list_any (is_deferred k i) w.stands.asks ≡ true) reply client id known.asks fits w.deferred
 
 -- ---- it is let in
 
 module _ {May : HouseReply → Type 0} {Rest : Resting} {before : Option (List HouseMark)} {now : Side} {policy : Policy} {pid : ℕ} {start : Option (List Mark)} {seen : Seen} {held failed : List ℕ} {given : ℕ} {s : State} where
-  pub let-in : {May' : HouseReply → Type 0} {told told' : Option (List HouseMark)} (v : Serving May Rest before now policy pid start seen held failed given (0 ∷ here s) s) (s' : State) → v.journal ≡ [] → Rest.present ≡ true → s.ended ≡ None → s.refused ≡ [] → GoesOn May' told told' s s' (Accepts HOUSE) → Keeps (Accepted HOUSE) s s'
+  pub let-in : {May' : HouseReply → Type 0} {recorded recorded' : Option (List HouseMark)} (v : Serving May Rest before now policy pid start seen held failed given (0 ∷ here s) s) (s' : State) → v.journal ≡ [] → Rest.present ≡ true → s.ended ≡ None → s.refused ≡ [] → GoesOn May' recorded recorded' s s' (Accepts HOUSE) → Keeps (Accepted HOUSE) s s'
       → Serving May Rest before (record now { let_in = true }) policy pid start (seen-with (HouseIn ∷ []) seen) held failed given (0 ∷ here s') s'
   let-in v s' first there live admitted goes keeps =
       house-let-in v first there live admitted (let-in-covers (here s) (here s') (came (Accepted HOUSE) HOUSE s s' refl admitted (keeps.streams live))) goes keeps
@@ -197,10 +197,10 @@ module _ {May : HouseReply → Type 0} {Rest : Resting} {before : Option (List H
       by_in true e = refl
       by_in false e = true-false (sym (ap (λ b. b || among HOUSE s.refused) (queue-present s HOUSE bytes queue some no-server)) ∙ ((v.stands.at [] []).bytes.strange HOUSE e).not_here)
 
-  pub handed : {told told' : Option (List HouseMark)} {known : Known} {calls : List HouseCall} (known' : Known) (v : Serving May Rest before (noted told known calls) policy pid start seen held failed given (0 ∷ here s) s) (s' : State) (bytes : List ℕ) → TellsAsks told told' (HouseTook (length bytes) ∷ []) → known' ≡ known → bytes ≡ queue_in s HOUSE → 0 < length bytes
-      → ((picked : List ℕ) (replies : List HouseReply) (marks : List Mark) (closed : List ℕ) → Stands picked replies s marks closed → among HOUSE closed ≡ false → Waiting bytes HOUSE s picked replies marks) → s' ≡ taken s HOUSE (length bytes) → GoesAlone s s' (Takes HOUSE bytes) → Serving May Rest before (noted told' known' (calls ++ Hears bytes ∷ [])) policy pid start (seen-with (HouseTook (length bytes) ∷ []) seen) held failed given (0 ∷ without HOUSE (here s')) s'
-  handed {told} {told'} {known} known' v s' bytes h e queue some waiting is goes =
-      let w = took-told known' (length bytes) v h e in
+  pub handed : {recorded recorded' : Option (List HouseMark)} {known : Known} {calls : List HouseCall} (known' : Known) (v : Serving May Rest before (noted recorded known calls) policy pid start seen held failed given (0 ∷ here s) s) (s' : State) (bytes : List ℕ) → RecordsAsks recorded recorded' (HouseTook (length bytes) ∷ []) → known' ≡ known → bytes ≡ queue_in s HOUSE → 0 < length bytes
+      → ((picked : List ℕ) (replies : List HouseReply) (marks : List Mark) (closed : List ℕ) → Stands picked replies s marks closed → among HOUSE closed ≡ false → Waiting bytes HOUSE s picked replies marks) → s' ≡ taken s HOUSE (length bytes) → GoesAlone s s' (Takes HOUSE bytes) → Serving May Rest before (noted recorded' known' (calls ++ Receives bytes ∷ [])) policy pid start (seen-with (HouseTook (length bytes) ∷ []) seen) held failed given (0 ∷ without HOUSE (here s')) s'
+  handed {recorded} {recorded'} {known} known' v s' bytes h e queue some waiting is goes =
+      let w = took-recorded known' (length bytes) v h e in
       house-takes w s' bytes refl (waits-in w bytes queue some) (took-covers (here s) (here s') (took-run s s' HOUSE (length bytes) is).streams) queue some (waiting w.picked w.replies w.journal w.closed w.stands (not-closed w)) is goes
     where
       no-server : HOUSE ≢ 0
@@ -218,22 +218,22 @@ module _ {May : HouseReply → Type 0} {Rest : Resting} {before : Option (List H
   no-server-asked : {now : Side} {todo : List ℕ} (v : Serving May Rest before now policy pid start seen held failed given todo s) (client : ℕ) → is_accepted client v.journal ≡ true → client ≢ 0
   no-server-asked v client asked z = true-false (sym asked ∙ (ap (λ i. is_accepted i v.journal) z ∙ accepted-zero v.journal v.of_wire.lawful))
 
-  pub answered : {May' : HouseReply → Type 0} {mid mid' told told' : Option (List HouseMark)} {calls : List HouseCall} (known known' : Known) (v : Serving May Rest before (noted told known calls) policy pid start seen held failed given (0 ∷ without HOUSE (here s)) s) (s' : State) (client id : ℕ) (reply : HouseReply) → known.present ≡ true → s.ended ≡ None → ReplyFits reply client id known.asks → TellsAsks told told' (HouseAnswer client id reply ∷ [])
-      → known' ≡ record known { asks = without_ask client id known.asks } → ((mark : Mark) → Tells (HouseSays client id reply) mark → GoesOn May' mid mid' s s' mark) → Keeps (HouseSays client id reply) s s' → Serving May Rest before (noted told' known' (calls ++ calls_of (HouseAnswer client id reply ∷ []))) policy pid start (seen-with (HouseAnswer client id reply ∷ []) seen) held failed given (0 ∷ here s') s'
-  answered {told' = told'} {calls = calls} known known' v s' client id reply within live fits h e goes keeps =
-      let w = answer-told known client id reply v h in
+  pub answered : {May' : HouseReply → Type 0} {mid mid' recorded recorded' : Option (List HouseMark)} {calls : List HouseCall} (known known' : Known) (v : Serving May Rest before (noted recorded known calls) policy pid start seen held failed given (0 ∷ without HOUSE (here s)) s) (s' : State) (client id : ℕ) (reply : HouseReply) → known.present ≡ true → s.ended ≡ None → ReplyFits reply client id known.asks → RecordsAsks recorded recorded' (HouseAnswer client id reply ∷ [])
+      → known' ≡ record known { asks = without_ask client id known.asks } → ((mark : Mark) → Records (HouseSays client id reply) mark → GoesOn May' mid mid' s s' mark) → Keeps (HouseSays client id reply) s s' → Serving May Rest before (noted recorded' known' (calls ++ calls_of (HouseAnswer client id reply ∷ []))) policy pid start (seen-with (HouseAnswer client id reply ∷ []) seen) held failed given (0 ∷ here s') s'
+  answered {recorded' = recorded'} {calls = calls} known known' v s' client id reply within live fits h e goes keeps =
+      let w = answer-recorded known client id reply v h in
       let asked : is_accepted client w.journal ≡ true = answer-asked known client id reply v h fits in
       let nz : client ≢ 0 = no-server-asked w client asked in
-      subst (λ (k : Known). Serving May Rest before (noted told' k (calls ++ calls_of (HouseAnswer client id reply ∷ []))) policy pid start (seen-with (HouseAnswer client id reply ∷ []) seen) held failed given (0 ∷ here s') s') (sym e)
+      subst (λ (k : Known). Serving May Rest before (noted recorded' k (calls ++ calls_of (HouseAnswer client id reply ∷ []))) policy pid start (seen-with (HouseAnswer client id reply ∷ []) seen) held failed given (0 ∷ here s') s') (sym e)
       (house-answers w client id reply [] refl within asked (answer-deferred known client id reply v h fits) live (reply-covers (here s) (here s') (stayed (HouseSays client id reply) (House (HouseAnswer client id reply)) s s' (nz, refl) tt (keeps.streams live))) (goes (House (HouseAnswer client id reply)) (nz, refl)) keeps)
 
   -- which doesn't end the run
-  pub answered-live : {told : Option (List HouseMark)} {calls : List HouseCall} (known : Known) {todo : List ℕ} (v : Serving May Rest before (noted told known calls) policy pid start seen held failed given todo s) (s' : State) (client id : ℕ) (reply : HouseReply) → s.ended ≡ None → ReplyFits reply client id known.asks → ((mark : Mark) → Tells (HouseSays client id reply) mark → EndsBy (HouseSays client id reply) s s' mark) → s'.ended ≡ None
+  pub answered-live : {recorded : Option (List HouseMark)} {calls : List HouseCall} (known : Known) {todo : List ℕ} (v : Serving May Rest before (noted recorded known calls) policy pid start seen held failed given todo s) (s' : State) (client id : ℕ) (reply : HouseReply) → s.ended ≡ None → ReplyFits reply client id known.asks → ((mark : Mark) → Records (HouseSays client id reply) mark → EndsBy (HouseSays client id reply) s s' mark) → s'.ended ≡ None
   answered-live known v s' client id reply live fits ends =
       let asked : is_accepted client v.journal ≡ true = reply-asked v.journal reply client id known.asks fits v.askers in
       let nz : client ≢ 0 = no-server-asked v client asked in
       ends (House (HouseAnswer client id reply)) (nz, refl) v.picked v.replies v.journal v.closed v.stands (nz, asked) live
 
   -- there was no memory for its answer
-  pub cut-answered : {told told' : Option (List HouseMark)} {calls : List HouseCall} (known : Known) {todo : List ℕ} (v : Serving May Rest before (noted told known calls) policy pid start seen held failed given todo s) (client id : ℕ) (reply : HouseReply) → known.present ≡ true → ReplyFits reply client id known.asks → TellsAsks told told' (HouseAnswer client id reply ∷ []) → Promised May Rest before told' policy pid start (seen-with (HouseAnswer client id reply ∷ []) seen).told given
-  cut-answered known v client id reply within fits h = cut-answers (answer-told known client id reply v h) client id reply [] refl within (answer-asked known client id reply v h fits) (answer-deferred known client id reply v h fits)
+  pub cut-answered : {recorded recorded' : Option (List HouseMark)} {calls : List HouseCall} (known : Known) {todo : List ℕ} (v : Serving May Rest before (noted recorded known calls) policy pid start seen held failed given todo s) (client id : ℕ) (reply : HouseReply) → known.present ≡ true → ReplyFits reply client id known.asks → RecordsAsks recorded recorded' (HouseAnswer client id reply ∷ []) → Promised May Rest before recorded' policy pid start (seen-with (HouseAnswer client id reply ∷ []) seen).recorded given
+  cut-answered known v client id reply within fits h = cut-answers (answer-recorded known client id reply v h) client id reply [] refl within (answer-asked known client id reply v h fits) (answer-deferred known client id reply v h fits)

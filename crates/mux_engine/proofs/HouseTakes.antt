@@ -3,7 +3,7 @@ use Rattle.std.proofs.Common.{◌≡◌, ◌≢◌, ◌≤◌, ◌<◌, ◌+◌,
 use Rattle.std.specs.Prelude.{◌==◌}
 use Rattle.std.proofs.lemmas.Bool.Decides.{eqb_tells}
 use Rattle.ssh_fields.specs.Fields.{AreBytes}
-use Rattle.mux_outside.specs.HouseCalls.{Hears}
+use Rattle.mux_outside.specs.HouseCalls.{Receives}
 use Rattle.mux_outside.specs.Seen.{Seen}
 use Rattle.mux_outside.specs.Streams.{among, without}
 use Rattle.mux_outside.specs.declared.house.HouseReply.{HouseReply}
@@ -21,12 +21,12 @@ use Rattle.mux_history.specs.Journal.{is_accepted, log_of_journal}
 use Rattle.mux_history.specs.Promises.{IsSettled}
 use Rattle.mux_history.proofs.PendingSteps.{take-leaves}
 use Rattle.mux_history.proofs.Wires.{wire-keeps}
-use Rattle.mux_clients.specs.Asked.{asked_of}
-use Rattle.mux_machine.specs.State.{State, queue_in, taken}
-use Rattle.mux_machine.specs.Events.{Tells, here}
-use Rattle.mux_machine.specs.declared.event.Event.{Event}
-use Rattle.mux_machine.specs.Stands.{GoesAlone, RowsFit, Stands}
-use Rattle.mux_machine.proofs.Twins.{house-client, stands-alike}
+use Rattle.mux_peers.specs.Asked.{asked_of}
+use Rattle.mux_state.specs.State.{State, queue_in, taken}
+use Rattle.mux_state.specs.Events.{Records, here}
+use Rattle.mux_state.specs.declared.event.Event.{Event}
+use Rattle.mux_state.specs.Stands.{GoesAlone, RowsFit, Stands}
+use Rattle.mux_state.proofs.Twins.{house-client, stands-alike}
 use Rattle.mux_engine.specs.Serving.{IsSound, Serving, is_open}
 use Rattle.mux_engine.specs.Sides.{Resting, Side}
 use Rattle.mux_engine.proofs.Called.{CallsOn, calls-heard}
@@ -41,7 +41,7 @@ use Rattle.mux_engine.proofs.Places.{at-stream, placed-still}
 use Rattle.mux_engine.proofs.Quiet.{askers-more}
 use Rattle.mux_engine.proofs.Taken.{queue-present, took-asks, took-run}
 use Rattle.mux_engine.proofs.Todo.{serve-todo}
-use Rattle.mux_engine.proofs.Told.{tells-none}
+use Rattle.mux_engine.proofs.Recorded.{records-none}
 use Rattle.mux_engine.proofs.Turned.{EventAt, stayed}
 use Rattle.mux_engine.proofs.Waits.{handed-all}
 
@@ -74,26 +74,26 @@ module _ {May : HouseReply → Type 0} {Rest : Resting} {before : Option (List H
   -- ---- it took all
 
   pub house-takes : {todo : List ℕ} (v : Serving May Rest before now policy pid start seen held failed given todo s) (s' : State) (bytes : List ℕ) → now.unnoted ≡ HouseTook (length bytes) ∷ [] → now.let_in ≡ true → ((t : ℕ) → HOUSE ≢ t → among t (0 ∷ without HOUSE (here s')) ≡ false → among t todo ≡ false)
-      → bytes ≡ queue_in s HOUSE → 0 < length bytes → Waiting bytes HOUSE s v.picked v.replies v.journal → s' ≡ taken s HOUSE (length bytes) → GoesAlone s s' (Takes HOUSE bytes) → Serving May Rest before (record now { unnoted = []; calls = now.calls ++ Hears bytes ∷ [] }) policy pid start (seen-with (HouseTook (length bytes) ∷ []) seen) held failed given (0 ∷ without HOUSE (here s')) s'
+      → bytes ≡ queue_in s HOUSE → 0 < length bytes → Waiting bytes HOUSE s v.picked v.replies v.journal → s' ≡ taken s HOUSE (length bytes) → GoesAlone s s' (Takes HOUSE bytes) → Serving May Rest before (record now { unnoted = []; calls = now.calls ++ Receives bytes ∷ [] }) policy pid start (seen-with (HouseTook (length bytes) ∷ []) seen) held failed given (0 ∷ without HOUSE (here s')) s'
   house-takes {todo} v s' bytes e within covers queue some waiting is goes =
       let n : ℕ = length bytes in
       let mark : Mark = House (HouseTook n) in
       let alike = house-client.takes v.journal bytes n refl in
       let same : SameRun s s' = took-run s s' HOUSE n is in
       let st0 : Stands v.picked v.replies s' (Takes HOUSE bytes ∷ v.journal) v.closed = goes v.picked v.replies v.journal v.closed v.stands ((λ nz. queue-present s HOUSE bytes queue some nz), refl) in
-      serve-alone v (record now { unnoted = []; calls = now.calls ++ Hears bytes ∷ [] }) (seen-with (HouseTook n ∷ []) seen) held failed given (0 ∷ without HOUSE (here s')) s' mark
+      serve-alone v (record now { unnoted = []; calls = now.calls ++ Receives bytes ∷ [] }) (seen-with (HouseTook n ∷ []) seen) held failed given (0 ∷ without HOUSE (here s')) s' mark
       (stands-alike (Takes HOUSE bytes ∷ v.journal) (mark ∷ v.journal) v.picked v.replies s' v.closed alike st0)
       (λ picks replies. ap asked_of (sym (alike.log (by_lists s'.core.policy s'.pid picks replies))) ∙ took-asks s s' HOUSE bytes v.journal same picks replies) record {
-        told = refl;
+        recorded = refl;
         policy_is = same.policy;
         pid_is = same.pid;
-        notes = record { more = []; told_is = tells-none now.told; noted_is = sym e ∙ sym (append-nil now.unnoted); asks_are = refl };
+        notes = record { more = []; recorded_is = records-none now.recorded; noted_is = sym e ∙ sym (append-nil now.unnoted); asks_are = refl };
         called = λ picks later.
             let set : Setting = by_lists policy pid (v.picked ++ picks) (v.replies ++ later) in
             let was : pending HOUSE (log_of_journal set v.journal) ≡ bytes = sym (waiting picks later ∙ ap (pending HOUSE) (log-is s policy pid (v.picked ++ picks) (v.replies ++ later) v.journal v.policy_is v.pid_is)) in
-            subst (λ (l : List ℕ). CallsOn now (record now { unnoted = []; calls = now.calls ++ Hears bytes ∷ [] }) (Hears l ∷ [])) (sym (ap (take n) was ∙ take-all bytes)) (calls-heard now n bytes e);
+            subst (λ (l : List ℕ). CallsOn now (record now { unnoted = []; calls = now.calls ++ Receives bytes ∷ [] }) (Receives l ∷ [])) (sym (ap (take n) was ∙ take-all bytes)) (calls-heard now n bytes e);
         askers = askers-more v mark;
-        deferred = still-deferred now (record now { unnoted = []; calls = now.calls ++ Hears bytes ∷ [] }) [] refl;
+        deferred = still-deferred now (record now { unnoted = []; calls = now.calls ++ Receives bytes ∷ [] }) [] refl;
         house_in = v.house_in;
         house_there = v.house_there;
         rested = λ picks later. tt;
@@ -117,9 +117,9 @@ module _ {May : HouseReply → Type 0} {Rest : Resting} {before : Option (List H
 
   -- ---- it said something
 
-  pub house-said : (v : Serving May Rest before now policy pid start seen held failed given [] s) (live : s.ended ≡ None) (e : Event) (bytes : List ℕ) → now.unnoted ≡ HouseSaid bytes ∷ [] → now.let_in ≡ true → Tells e (Gets HOUSE bytes) → 0 < length bytes → length bytes ≤ 65536 → AreBytes bytes → length (queue_in s 0) < READING_STOPS_AT
+  pub house-said : (v : Serving May Rest before now policy pid start seen held failed given [] s) (live : s.ended ≡ None) (e : Event) (bytes : List ℕ) → now.unnoted ≡ HouseSaid bytes ∷ [] → now.let_in ≡ true → Records e (Gets HOUSE bytes) → 0 < length bytes → length bytes ≤ 65536 → AreBytes bytes → length (queue_in s 0) < READING_STOPS_AT
       → EventAt v live e (seen-with (HouseSaid bytes ∷ []) seen) (given + 1)
-  house-said v live e bytes noted within tells some few are room =
+  house-said v live e bytes noted within records some few are room =
       let mark : Mark = House (HouseSaid bytes) in
       let here_is : is_accepted HOUSE v.journal ≡ true = v.house_in ∙ within in
       let of = (wire-keeps seen v.journal).note (HouseSaid bytes) (here_is, some, few, are) refl v.of_wire in
@@ -128,7 +128,7 @@ module _ {May : HouseReply → Type 0} {Rest : Resting} {before : Option (List H
         twin = Gets HOUSE bytes;
         is = tt;
         alike = house-client.says v.journal bytes;
-        tells = tells;
+        records = records;
         allowed = ((λ nz. here_is), are, refl);
         marks = refl;
         of_wire = of;
@@ -146,6 +146,6 @@ module _ {May : HouseReply → Type 0} {Rest : Resting} {before : Option (List H
         cut = λ set. inr (0, refl);
         called = λ set. refl;
         house = refl;
-        placed = λ s' arrives. placed-still v mark (seen-with (HouseSaid bytes ∷ []) seen) s' of refl refl refl refl refl (stayed e (Gets HOUSE bytes) s s' tells tt (arrives live)) (λ t. refl) (λ t. refl) (λ t. refl) (owns-plain v.journal seen (seen-with (HouseSaid bytes ∷ []) seen) mark tt v.places refl refl refl);
+        placed = λ s' arrives. placed-still v mark (seen-with (HouseSaid bytes ∷ []) seen) s' of refl refl refl refl refl (stayed e (Gets HOUSE bytes) s s' records tt (arrives live)) (λ t. refl) (λ t. refl) (λ t. refl) (owns-plain v.journal seen (seen-with (HouseSaid bytes ∷ []) seen) mark tt v.places refl refl refl);
         right = record { opened = tt; gives = tt; writes = tt; joins = tt; others = refl };
       }

@@ -18,16 +18,16 @@ use Rattle.mux_history.specs.Policy.{Policy}
 use Rattle.mux_history.specs.Journal.{IsLawful, is_accepted}
 use Rattle.mux_history.specs.Promises.{turns_in}
 use Rattle.mux_history.proofs.Wires.{wire-keeps}
-use Rattle.mux_machine.specs.State.{State}
-use Rattle.mux_machine.specs.Events.{Keeps, here}
-use Rattle.mux_machine.specs.declared.event.Event.TheVariants.{Accepted, HouseSays}
-use Rattle.mux_machine.specs.Stands.{GoesOn}
-use Rattle.mux_machine.proofs.Twins.{house-client}
+use Rattle.mux_state.specs.State.{State}
+use Rattle.mux_state.specs.Events.{Keeps, here}
+use Rattle.mux_state.specs.declared.event.Event.TheVariants.{Accepted, HouseSays}
+use Rattle.mux_state.specs.Stands.{GoesOn}
+use Rattle.mux_state.proofs.Twins.{house-client}
 use Rattle.mux_engine.specs.Answers.{is_deferred}
 use Rattle.mux_engine.specs.Serving.{Promised, Serving}
 use Rattle.mux_engine.specs.Sides.{Resting, Side}
 use Rattle.mux_engine.proofs.Asks.{goes-asked, goes-unasked, none-asked, unasked-none}
-use Rattle.mux_engine.proofs.Called.{calls-none, calls-told}
+use Rattle.mux_engine.proofs.Called.{calls-none, calls-recorded}
 use Rattle.mux_engine.proofs.Cuts.{cut-next, now-asked, of-streams, on-next}
 use Rattle.mux_engine.proofs.Deferred.{still-deferred}
 use Rattle.mux_engine.proofs.Happened.{placed-house-in, serve-event}
@@ -37,7 +37,7 @@ use Rattle.mux_engine.proofs.Noted.{seen-with}
 use Rattle.mux_engine.proofs.Owns.{owns-plain}
 use Rattle.mux_engine.proofs.Places.{placed-still}
 use Rattle.mux_engine.proofs.Quiet.{askers-more}
-use Rattle.mux_engine.proofs.Told.{tells-none}
+use Rattle.mux_engine.proofs.Recorded.{records-none}
 use Rattle.mux_engine.proofs.Turned.{came, goes-twin, stayed}
 
 -- ---- whoever was accepted is no server
@@ -121,7 +121,7 @@ module _ {May : HouseReply → Type 0} {Rest : Resting} {before : Option (List H
   alone : v.journal ≡ [] → is_accepted HOUSE v.journal ≡ false
   alone e = ap (is_accepted HOUSE) e
 
-  pub house-let-in : {May' : HouseReply → Type 0} {told told' : Option (List HouseMark)} {s' : State} → v.journal ≡ [] → Rest.present ≡ true → s.ended ≡ None → s.refused ≡ [] → ((t : ℕ) → among t (0 ∷ here s') ≡ false → among t todo ≡ false) → GoesOn May' told told' s s' (Accepts HOUSE) → Keeps (Accepted HOUSE) s s'
+  pub house-let-in : {May' : HouseReply → Type 0} {recorded recorded' : Option (List HouseMark)} {s' : State} → v.journal ≡ [] → Rest.present ≡ true → s.ended ≡ None → s.refused ≡ [] → ((t : ℕ) → among t (0 ∷ here s') ≡ false → among t todo ≡ false) → GoesOn May' recorded recorded' s s' (Accepts HOUSE) → Keeps (Accepted HOUSE) s s'
       → Serving May Rest before (record now { let_in = true }) policy pid start (seen-with (HouseIn ∷ []) seen) held failed given (0 ∷ here s') s'
   house-let-in {s' = s'} first there live admitted covers goes keeps =
       let g0 = goes v.picked v.replies v.journal v.closed v.stands ((λ e. absurd (omega (arith, e))), alone first, refl) in
@@ -130,21 +130,21 @@ module _ {May : HouseReply → Type 0} {Rest : Resting} {before : Option (List H
       let g = goes-unasked {May = May} v.stands g1 none in
       serve-event v (House HouseIn) g (record now { let_in = true }) (seen-with (HouseIn ∷ []) seen) held failed given keeps.policy keeps.pid live tt covers
       (λ j c e. true-false (sym c ∙ (ap (λ i. among i v.closed) (sym e) ∙ ((v.stands.at [] []).bytes.strange HOUSE (alone first)).not_closed_yet))) (λ picks later. tt) (λ picks later. tt)
-      (subst (Notes now (record now { let_in = true }) (House HouseIn)) (sym (unasked-none May v.stands g1 none)) (record { more = []; told_is = tells-none now.told; noted_is = sym (append-nil now.unnoted); asks_are = refl })) (λ set. calls-none now)
+      (subst (Notes now (record now { let_in = true }) (House HouseIn)) (sym (unasked-none May v.stands g1 none)) (record { more = []; recorded_is = records-none now.recorded; noted_is = sym (append-nil now.unnoted); asks_are = refl })) (λ set. calls-none now)
       (askers-more v (House HouseIn)) (still-deferred now (record now { let_in = true }) g.asks refl) refl (λ e. there) (λ set. tt) (λ e. true-false (sym there ∙ e)) v.turns refl
       (placed-house-in v (seen-with (HouseIn ∷ []) seen) s' ((wire-keeps seen v.journal).note HouseIn first refl v.of_wire) refl refl refl refl refl (came (Accepted HOUSE) HOUSE s s' refl admitted (keeps.streams live))
       (owns-plain v.journal seen (seen-with (HouseIn ∷ []) seen) (House HouseIn) tt v.places refl refl refl))
 
   -- there was no memory to let it in
-  pub cut-let-in : v.journal ≡ [] → Rest.present ≡ true → Promised May Rest before now.told policy pid start (seen-with (HouseIn ∷ []) seen).told given
-  cut-let-in first there = cut-next v now.told (seen-with (HouseIn ∷ []) seen).told given (House HouseIn) [] now.unnoted refl (tells-none now.told) (sym (append-nil now.unnoted))
+  pub cut-let-in : v.journal ≡ [] → Rest.present ≡ true → Promised May Rest before now.recorded policy pid start (seen-with (HouseIn ∷ []) seen).recorded given
+  cut-let-in first there = cut-next v now.recorded (seen-with (HouseIn ∷ []) seen).recorded given (House HouseIn) [] now.unnoted refl (records-none now.recorded) (sym (append-nil now.unnoted))
       (of-streams seen.streams seen.blocked seen.last (House HouseIn ∷ v.journal) ((wire-keeps seen v.journal).note HouseIn first refl v.of_wire)) (record { opened = tt; gives = tt; writes = tt; joins = tt; others = refl })
       (let w : turns_in v.journal ≡ given = v.turns in omega arith) (λ set. tt) (λ e. true-false (sym there ∙ e)) (on-next v (House HouseIn)) (λ set. inr (0, refl)) (λ picks later. record { takes = tt; waits = tt; speaks = tt; open_streams = tt; answers = tt })
 
   -- ---- it answers
 
-  pub house-answers : {May' : HouseReply → Type 0} {told told' : Option (List HouseMark)} {s' : State} (client id : ℕ) (reply : HouseReply) (rest : List HouseMark) → now.unnoted ≡ HouseAnswer client id reply ∷ rest → now.let_in ≡ true → is_accepted client v.journal ≡ true → list_any (is_deferred client id) v.stands.asks ≡ true → s.ended ≡ None → ((t : ℕ) → among t (0 ∷ here s') ≡ false → among t todo ≡ false)
-      → GoesOn May' told told' s s' (House (HouseAnswer client id reply)) → Keeps (HouseSays client id reply) s s' → Serving May Rest before (record now { unnoted = rest }) policy pid start (seen-with (HouseAnswer client id reply ∷ []) seen) held failed given (0 ∷ here s') s'
+  pub house-answers : {May' : HouseReply → Type 0} {recorded recorded' : Option (List HouseMark)} {s' : State} (client id : ℕ) (reply : HouseReply) (rest : List HouseMark) → now.unnoted ≡ HouseAnswer client id reply ∷ rest → now.let_in ≡ true → is_accepted client v.journal ≡ true → list_any (is_deferred client id) v.stands.asks ≡ true → s.ended ≡ None → ((t : ℕ) → among t (0 ∷ here s') ≡ false → among t todo ≡ false)
+      → GoesOn May' recorded recorded' s s' (House (HouseAnswer client id reply)) → Keeps (HouseSays client id reply) s s' → Serving May Rest before (record now { unnoted = rest }) policy pid start (seen-with (HouseAnswer client id reply ∷ []) seen) held failed given (0 ∷ here s') s'
   house-answers {s' = s'} client id reply rest e within asked due live covers goes keeps =
       let m : HouseMark = HouseAnswer client id reply in
       let nz : client ≢ 0 = λ z. true-false (sym asked ∙ (ap (λ i. is_accepted i v.journal) z ∙ accepted-zero v.journal v.of_wire.lawful)) in
@@ -153,14 +153,14 @@ module _ {May : HouseReply → Type 0} {Rest : Resting} {before : Option (List H
       let g = goes-unasked {May = May} v.stands g1 none in
       serve-event v (House m) g (record now { unnoted = rest }) (seen-with (m ∷ []) seen) held failed given keeps.policy keeps.pid live tt covers (λ j c. tt) (λ picks later. tt)
       (λ picks later. ap (list_any (is_deferred client id)) (asked-at v g.picks g.replies (v.picked ++ g.picks) (v.replies ++ g.replies) refl refl picks later) ∙ due)
-      (subst (Notes now (record now { unnoted = rest }) (House m)) (sym (unasked-none May v.stands g1 none)) (record { more = []; told_is = tells-none now.told; noted_is = sym e ∙ sym (append-nil now.unnoted); asks_are = refl }))
-      (λ set. calls-told now (record now { unnoted = rest }) (m ∷ []) [] (sym e ∙ sym (append-nil now.unnoted)) (sym (append-nil now.calls)))
+      (subst (Notes now (record now { unnoted = rest }) (House m)) (sym (unasked-none May v.stands g1 none)) (record { more = []; recorded_is = records-none now.recorded; noted_is = sym e ∙ sym (append-nil now.unnoted); asks_are = refl }))
+      (λ set. calls-recorded now (record now { unnoted = rest }) (m ∷ []) [] (sym e ∙ sym (append-nil now.unnoted)) (sym (append-nil now.calls)))
       (askers-more v (House m)) (still-deferred now (record now { unnoted = rest }) g.asks refl) v.house_in v.house_there (λ set. tt) (λ e. true-false (sym (v.house_there within) ∙ e)) v.turns refl
       (placed-still v (House m) (seen-with (m ∷ []) seen) s' ((wire-keeps seen v.journal).note m asked refl v.of_wire) refl refl refl refl refl (stayed (HouseSays client id reply) (House m) s s' (nz, refl) tt (keeps.streams live)) (λ t. refl) (λ t. refl) (λ t. refl)
       (owns-plain v.journal seen (seen-with (m ∷ []) seen) (House m) tt v.places refl refl refl))
 
-  pub cut-answers : (client id : ℕ) (reply : HouseReply) (rest : List HouseMark) → now.unnoted ≡ HouseAnswer client id reply ∷ rest → now.let_in ≡ true → is_accepted client v.journal ≡ true → list_any (is_deferred client id) v.stands.asks ≡ true → Promised May Rest before now.told policy pid start (seen-with (HouseAnswer client id reply ∷ []) seen).told given
+  pub cut-answers : (client id : ℕ) (reply : HouseReply) (rest : List HouseMark) → now.unnoted ≡ HouseAnswer client id reply ∷ rest → now.let_in ≡ true → is_accepted client v.journal ≡ true → list_any (is_deferred client id) v.stands.asks ≡ true → Promised May Rest before now.recorded policy pid start (seen-with (HouseAnswer client id reply ∷ []) seen).recorded given
   cut-answers client id reply rest e within asked due = let m : HouseMark = HouseAnswer client id reply in
-      cut-next v now.told (seen-with (m ∷ []) seen).told given (House m) [] rest refl (tells-none now.told) (sym e ∙ sym (append-nil now.unnoted))
+      cut-next v now.recorded (seen-with (m ∷ []) seen).recorded given (House m) [] rest refl (records-none now.recorded) (sym e ∙ sym (append-nil now.unnoted))
       (of-streams seen.streams seen.blocked seen.last (House m ∷ v.journal) ((wire-keeps seen v.journal).note m asked refl v.of_wire)) (record { opened = tt; gives = tt; writes = tt; joins = tt; others = refl })
       (let w : turns_in v.journal ≡ given = v.turns in omega arith) (λ set. tt) (λ e. true-false (sym (v.house_there within) ∙ e)) (on-next v (House m)) (λ set. inr (0, refl)) (λ picks later. record { takes = tt; waits = tt; speaks = tt; open_streams = tt; answers = ap (list_any (is_deferred client id)) (now-asked v picks later) ∙ due })

@@ -21,7 +21,7 @@ use Rattle.mux_isolation.proofs.Mays.{permissions, windows}
 use Rattle.mux_isolation.proofs.OwnSayings.{own-words}
 use Rattle.mux_isolation.proofs.Passed.{passed}
 use Rattle.mux_isolation.proofs.Replied.{askers-served}
-use Rattle.mux_isolation.proofs.Told.{downs-allowed}
+use Rattle.mux_isolation.proofs.Recorded.{downs-allowed}
 use Rattle.mux_bounds.specs.Bounds.{IsLog, RestsShort}
 use Rattle.mux_bounds.proofs.Asked.{requests-bounded}
 use Rattle.mux_bounds.proofs.Closed.{leaves-nothing}

@@ -53,7 +53,7 @@ mod Staying
 mod Stepping
 mod Taken
 mod Todo
-mod Told
+mod Recorded
 mod Turned
 mod Turns
 mod Unopened

@@ -9,10 +9,10 @@ use Rattle.mux_outside.specs.Streams.{among, without}
 use Rattle.mux_history.specs.declared.limits.TheConstants.{HOUSE}
 use Rattle.mux_history.specs.Journal.{is_own_stream}
 use Rattle.mux_history.specs.Promises.{not_own}
-use Rattle.mux_clients.specs.State.{ClientState}
-use Rattle.mux_clients.specs.Among.{is_present}
-use Rattle.mux_machine.specs.State.{State, in_client, is_here, numbers}
-use Rattle.mux_machine.specs.Events.{here}
+use Rattle.mux_peers.specs.State.{ClientState}
+use Rattle.mux_peers.specs.Among.{is_present}
+use Rattle.mux_state.specs.State.{State, in_client, is_here, numbers}
+use Rattle.mux_state.specs.Events.{here}
 use Rattle.mux_engine.specs.Serving.{is_open}
 
 pub true-false : {A : Type 0} → true ≡ false → A
@@ -142,7 +142,7 @@ either b rest = elim b as (λ _. Bool) [ true ↦ true | false ↦ rest ]
 
 pub among-numbers : (k : ℕ) (cs : List ClientState) → among k (numbers cs) ≡ is_present cs k
 among-numbers k [] = refl
-among-numbers k (c ∷ cs) = ap (λ b. (c.seat.number == k) || b) (among-numbers k cs) ∙ or-cond (c.seat.number == k) (is_present cs k)
+among-numbers k (c ∷ cs) = ap (λ b. (c.peer.number == k) || b) (among-numbers k cs) ∙ or-cond (c.peer.number == k) (is_present cs k)
   where
     or-cond : (a b : Bool) → (a || b) ≡ either a b
     or-cond true b = refl
@@ -167,7 +167,7 @@ here-open s k h = ap (λ b. (k == 0) || b) h ∙ or-true (k == 0)
 
 pub look-none : {A : Type 0} (none : A) (look : ClientState → A) (k : ℕ) (cs : List ClientState) → is_present cs k ≡ false → in_client none look cs k ≡ none
 look-none none look k [] p = refl
-look-none none look k (c ∷ cs) p = by_head (look-none none look k cs) (c.seat.number == k) p
+look-none none look k (c ∷ cs) p = by_head (look-none none look k cs) (c.peer.number == k) p
   where
     by_head : (is_present cs k ≡ false → in_client none look cs k ≡ none) → (b : Bool) → either b (is_present cs k) ≡ false → cond b (look c) (in_client none look cs k) ≡ none
     by_head ih true q = true-false q

@@ -15,8 +15,8 @@ use Rattle.mux_history.specs.Journal.{items_in, is_accepted, is_blocked, is_own_
 use Rattle.mux_history.specs.Promises.{IsSettled, has_failed, listens, stops, write_failed}
 use Rattle.mux_history.proofs.OwnRows.{idle_row}
 use Rattle.mux_history.proofs.PendingSteps.{take-leaves}
-use Rattle.mux_clients.proofs.Losses.{gone-row}
-use Rattle.mux_clients.proofs.Stood.{own_row}
+use Rattle.mux_peers.proofs.Losses.{gone-row}
+use Rattle.mux_peers.proofs.Stood.{own_row}
 use Rattle.mux_engine.proofs.Lists.{or-true, test-other, true-false}
 
 more-yes : (set : Setting) (rows : List Row) (item : Item) → makes_next rows item ≡ true → more_of set rows item ≡ next_row set rows item ∷ rows

@@ -14,11 +14,11 @@ use Rattle.mux_history.specs.Policy.{Policy}
 use Rattle.mux_history.specs.Pending.{pending}
 use Rattle.mux_history.specs.Settings.{by_lists}
 use Rattle.mux_history.specs.Promises.{IsSettled, has_output, is_empty}
-use Rattle.mux_clients.specs.State.{ClientState}
-use Rattle.mux_clients.specs.Among.{is_present}
-use Rattle.mux_machine.specs.State.{State, queue_in, waiting_clients, waiting_in}
-use Rattle.mux_machine.specs.Events.{here}
-use Rattle.mux_machine.specs.Stands.{log}
+use Rattle.mux_peers.specs.State.{ClientState}
+use Rattle.mux_peers.specs.Among.{is_present}
+use Rattle.mux_state.specs.State.{State, queue_in, waiting_clients, waiting_in}
+use Rattle.mux_state.specs.Events.{here}
+use Rattle.mux_state.specs.Stands.{log}
 use Rattle.mux_engine.specs.Counted.{Counts, Cut}
 use Rattle.mux_engine.specs.Serving.{Serving, is_open}
 use Rattle.mux_engine.specs.Sides.{Resting, Side}
@@ -105,7 +105,7 @@ only-waiting {policy = policy} {pid = pid} {s = s} left v waiting waits = serve-
 
 waiting-present : (t : ℕ) (cs : List ClientState) → among t (waiting_clients cs) ≡ true → is_present cs t ≡ true
 waiting-present t [] a = absurd (let z : false ≡ true = a in cc)
-waiting-present t (c ∷ cs) a = by_empty (waiting-present t cs) (is_empty c.seat.queue) a
+waiting-present t (c ∷ cs) a = by_empty (waiting-present t cs) (is_empty c.peer.queue) a
   where
     by_head : (among t (waiting_clients cs) ≡ true → is_present cs t ≡ true) → (b : Bool) → (b || among t (waiting_clients cs)) ≡ true → either b (is_present cs t) ≡ true
     by_head ih true e = refl
@@ -115,9 +115,9 @@ waiting-present t (c ∷ cs) a = by_empty (waiting-present t cs) (is_empty c.sea
     or-rest true e = refl
     or-rest false e = e
 
-    by_empty : (among t (waiting_clients cs) ≡ true → is_present cs t ≡ true) → (b : Bool) → among t (cond b (waiting_clients cs) (c.seat.number ∷ waiting_clients cs)) ≡ true → either (c.seat.number == t) (is_present cs t) ≡ true
-    by_empty ih true e = or-rest (c.seat.number == t) (ih e)
-    by_empty ih false e = by_head ih (c.seat.number == t) e
+    by_empty : (among t (waiting_clients cs) ≡ true → is_present cs t ≡ true) → (b : Bool) → among t (cond b (waiting_clients cs) (c.peer.number ∷ waiting_clients cs)) ≡ true → either (c.peer.number == t) (is_present cs t) ≡ true
+    by_empty ih true e = or-rest (c.peer.number == t) (ih e)
+    by_empty ih false e = by_head ih (c.peer.number == t) e
 
 -- more are left to be offered something
 pub more-left : {May : HouseReply → Type 0} {Rest : Resting} {before : Option (List HouseMark)} {now : Side} {policy : Policy} {pid : ℕ} {start : Option (List Mark)} {seen : Seen} {held failed : List ℕ} {given : ℕ} {s : State} (left : List ℕ) (v : Serving May Rest before now policy pid start seen held failed given left s) → Serving May Rest before now policy pid start seen held failed given (0 ∷ (without HOUSE (here s) ++ left)) s

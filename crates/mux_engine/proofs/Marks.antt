@@ -21,22 +21,22 @@ use Rattle.mux_history.specs.Settings.{by_lists}
 use Rattle.mux_history.specs.Journal.{is_accepted, is_blocked, is_own_stream, log_of_journal}
 use Rattle.mux_history.specs.Promises.{IsSettled, MayGive, OpenAt, SpeaksInTime, TakesFront, WaitsAt, has_failed, not_own, turns_in, write_failed}
 use Rattle.mux_history.specs.Wires.{OfWire}
-use Rattle.mux_clients.specs.Asked.{asked_of, TellsAsks}
-use Rattle.mux_machine.specs.State.{State}
-use Rattle.mux_machine.specs.Events.{here}
-use Rattle.mux_machine.specs.Stands.{GoesBy, Stands, StandsFor, log}
+use Rattle.mux_peers.specs.Asked.{asked_of, RecordsAsks}
+use Rattle.mux_state.specs.State.{State}
+use Rattle.mux_state.specs.Events.{here}
+use Rattle.mux_state.specs.Stands.{GoesBy, Stands, Represents, log}
 use Rattle.mux_outside.specs.HouseCalls.{calls_of}
 use Rattle.mux_engine.specs.Answers.{AnswersDeferred, EachDeferred}
 use Rattle.mux_engine.specs.Called.{calls_at, calls_in}
 use Rattle.mux_engine.specs.Run.{Rested, RestedAt, is_by_house}
 use Rattle.mux_engine.specs.Serving.{IsFree, IsSound, IsUnseen, IsUnused, Kept, Serving}
 use Rattle.mux_engine.specs.Sides.{Resting, Side, asks_in, house_mark, house_marks}
-use Rattle.mux_machine.proofs.Over.{some-end}
+use Rattle.mux_state.proofs.Over.{some-end}
 use Rattle.mux_engine.proofs.Called.{CallsOn}
 use Rattle.mux_engine.proofs.Lists.{true-false}
 use Rattle.mux_engine.proofs.Logs.{log-listens, log-live}
 use Rattle.mux_engine.proofs.Owns.{Owns, keeps-more}
-use Rattle.mux_engine.proofs.Told.{may-more, tells-more, tells-then}
+use Rattle.mux_engine.proofs.Recorded.{may-more, records-more, records-then}
 
 -- ---- what stood before, with the numbers and replies of now
 
@@ -51,10 +51,10 @@ more-picks : {A : Type 0} (xs' xs more later : List A) → xs' ≡ xs ++ more �
 more-picks xs' xs more later e = ap (λ l. l ++ later) e ∙ append_assoc xs more later
 
 pub stood-at : {picked : List ℕ} {replies : List HouseReply} {s : State} {marks : List Mark} {closed : List ℕ} (st : Stands picked replies s marks closed) (p : List ℕ) (r : List HouseReply) (picked' : List ℕ) (replies' : List HouseReply) → picked' ≡ picked ++ p → replies' ≡ replies ++ r
-    → (picks : List ℕ) (later : List HouseReply) → StandsFor (picked' ++ picks) (replies' ++ later) (length picked) st.asks s marks closed
+    → (picks : List ℕ) (later : List HouseReply) → Represents (picked' ++ picks) (replies' ++ later) (length picked) st.asks s marks closed
 stood-at {picked} {replies} {s} {marks} {closed} st p r picked' replies' e f picks later =
-    subst (λ ps. StandsFor ps (replies' ++ later) (length picked) st.asks s marks closed) (sym (more-picks picked' picked p picks e))
-    (subst (λ rs. StandsFor (picked ++ (p ++ picks)) rs (length picked) st.asks s marks closed) (sym (more-picks replies' replies r later f)) (st.at (p ++ picks) (r ++ later)))
+    subst (λ ps. Represents ps (replies' ++ later) (length picked) st.asks s marks closed) (sym (more-picks picked' picked p picks e))
+    (subst (λ rs. Represents (picked ++ (p ++ picks)) rs (length picked) st.asks s marks closed) (sym (more-picks replies' replies r later f)) (st.at (p ++ picks) (r ++ later)))
 
 pub sound-at : {May : HouseReply → Type 0} {Rest : Resting} {before : Option (List HouseMark)} {now : Side} {policy : Policy} {pid : ℕ} {start : Option (List Mark)} {seen : Seen} {held failed : List ℕ} {given : ℕ} {todo : List ℕ} {s : State} (v : Serving May Rest before now policy pid start seen held failed given todo s) (p : List ℕ) (r : List HouseReply) (picked' : List ℕ) (replies' : List HouseReply)
     → picked' ≡ v.picked ++ p → replies' ≡ v.replies ++ r → (picks : List ℕ) (later : List HouseReply) → IsSound (by_lists policy pid (picked' ++ picks) (replies' ++ later)) v.journal todo s
@@ -119,14 +119,14 @@ pub record Placed (s' : State) (journal : List Mark) (seen seen' : Seen) (held' 
 -- what the house told with it, and what is noted of it: it was asked this
 pub record Notes (now now' : Side) (mark : Mark) (asks : List HouseMark) : Type 0 where
   pub more : List HouseMark
-  pub told_is : TellsAsks now.told now'.told more
+  pub recorded_is : RecordsAsks now.recorded now'.recorded more
   pub noted_is : house_mark mark ++ now'.unnoted ≡ now.unnoted ++ more
   pub asks_are : asks_in more ≡ asks
 
 -- how the wire, the house and the engine, which was `s` and is `s'`, stand behind it, with the
 -- numbers and replies of now
-pub record Next (Rest : Resting) (before : Option (List HouseMark)) (now now' : Side) (policy : Policy) (pid : ℕ) (picked : List ℕ) (replies : List HouseReply) (asks : List HouseMark) (s s' : State) (journal : List Mark) (seen seen' : Seen) (held' failed' : List ℕ) (given' : ℕ) (todo' : List ℕ) (mark : Mark) : Type 0 where
-  pub told : seen'.told ≡ option_map (λ m. m ++ mark ∷ []) seen.told
+pub record NextEvent (Rest : Resting) (before : Option (List HouseMark)) (now now' : Side) (policy : Policy) (pid : ℕ) (picked : List ℕ) (replies : List HouseReply) (asks : List HouseMark) (s s' : State) (journal : List Mark) (seen seen' : Seen) (held' failed' : List ℕ) (given' : ℕ) (todo' : List ℕ) (mark : Mark) : Type 0 where
+  pub recorded : seen'.recorded ≡ option_map (λ m. m ++ mark ∷ []) seen.recorded
   pub policy_is : s'.core.policy ≡ s.core.policy
   pub pid_is : s'.pid ≡ s.pid
   pub notes : Notes now now' mark asks
@@ -158,9 +158,9 @@ live-before {s = s} {marks = marks} {closed = closed} st s' mark p r picked' rep
     (sym (some-end (log_of_journal set (mark ∷ marks))) ∙ (ap (λ (rows : List Row). is_some (end_of rows)) (sym (log-same s s' (picked' ++ []) (replies' ++ []) (mark ∷ marks) g h)) ∙ (sym (ap is_some new.rows.ended_is) ∙ ap is_some live)))))
 
 -- where clients are accepted, they were accepted before
-pub hears-before : {picked : List ℕ} {replies : List HouseReply} {s : State} {marks : List Mark} {closed : List ℕ} (st : Stands picked replies s marks closed) (s' : State) (mark : Mark) (p : List ℕ) (r : List HouseReply) (picked' : List ℕ) (replies' : List HouseReply)
+pub receives-before : {picked : List ℕ} {replies : List HouseReply} {s : State} {marks : List Mark} {closed : List ℕ} (st : Stands picked replies s marks closed) (s' : State) (mark : Mark) (p : List ℕ) (r : List HouseReply) (picked' : List ℕ) (replies' : List HouseReply)
     → picked' ≡ picked ++ p → replies' ≡ replies ++ r → s'.core.policy ≡ s.core.policy → s'.pid ≡ s.pid → Stands picked' replies' s' (mark ∷ marks) closed → s'.listening ≡ true → s.listening ≡ true
-hears-before {s = s} {marks = marks} {closed = closed} st s' mark p r picked' replies' e f g h st' l =
+receives-before {s = s} {marks = marks} {closed = closed} st s' mark p r picked' replies' e f g h st' l =
     let old = stood-at st p r picked' replies' e f [] [] in
     let new = st'.at [] [] in
     old.rows.listening_is ∙ log-listens (by_lists s.core.policy s.pid (picked' ++ []) (replies' ++ [])) mark marks (ap Rattle.mux_history.specs.Promises.listens (sym (log-same s s' (picked' ++ []) (replies' ++ []) (mark ∷ marks) g h)) ∙ (sym new.rows.listening_is ∙ l))
@@ -172,7 +172,7 @@ noted-more old mark unnoted' unnoted more e = append_assoc old unnoted more ∙ 
 -- with so many numbers and replies more, where the house was asked this
 unfoldable pub serve-on : {May : HouseReply → Type 0} {Rest : Resting} {before : Option (List HouseMark)} {now : Side} {policy : Policy} {pid : ℕ} {start : Option (List Mark)} {seen : Seen} {held failed : List ℕ} {given : ℕ} {todo : List ℕ} {s : State} (v : Serving May Rest before now policy pid start seen held failed given todo s) (now' : Side) (seen' : Seen) (held' failed' : List ℕ) (given' : ℕ) (todo' : List ℕ) (s' : State) (mark : Mark) (p : List ℕ) (r : List HouseReply) (asks : List HouseMark) (picked' : List ℕ) (replies' : List HouseReply)
     → picked' ≡ v.picked ++ p → replies' ≡ v.replies ++ r → MayGive May r → (st : Stands picked' replies' s' (mark ∷ v.journal) v.closed) → st.asks ≡ v.stands.asks ++ asks
-    → Next Rest before now now' policy pid picked' replies' asks s s' v.journal seen seen' held' failed' given' todo' mark → Serving May Rest before now' policy pid start seen' held' failed' given' todo' s'
+    → NextEvent Rest before now now' policy pid picked' replies' asks s s' v.journal seen seen' held' failed' given' todo' mark → Serving May Rest before now' policy pid start seen' held' failed' given' todo' s'
 serve-on {May} {Rest} {before} {now} {policy} {pid} {start} {seen} {held} {failed} {given} {todo} {s} v now' seen' held' failed' given' todo' s' mark p r asks picked' replies' e f may st a n =
     let same : (house_marks v.journal ++ now.unnoted) ++ n.notes.more ≡ (house_marks v.journal ++ house_mark mark) ++ now'.unnoted = noted-more (house_marks v.journal) (house_mark mark) now'.unnoted now.unnoted n.notes.more n.notes.noted_is in
     record {
@@ -184,7 +184,7 @@ serve-on {May} {Rest} {before} {now} {policy} {pid} {start} {seen} {held} {faile
       pid_is = n.pid_is ∙ v.pid_is;
       may = subst (MayGive May) (sym f) (may-more May v.replies r v.may may);
       stands = st;
-      house = subst (TellsAsks before now'.told) same (tells-then before now.told now'.told (house_marks v.journal ++ now.unnoted) n.notes.more v.house n.notes.told_is);
+      house = subst (RecordsAsks before now'.recorded) same (records-then before now.recorded now'.recorded (house_marks v.journal ++ now.unnoted) n.notes.more v.house n.notes.recorded_is);
       asked = ap asks_in (sym same) ∙ (filter-append Rattle.mux_history.specs.Promises.is_asked (house_marks v.journal ++ now.unnoted) n.notes.more ∙ (ap (λ l. l ++ asks_in n.notes.more) v.asked ∙ (ap (λ l. v.stands.asks ++ l) n.notes.asks_are ∙ sym a)));
       called = λ picks later. n.called picks later (calls_in (by_lists policy pid (picked' ++ picks) (replies' ++ later)) v.journal) (called-at v p r picked' replies' e f picks later);
       askers = n.askers;
@@ -193,7 +193,7 @@ serve-on {May} {Rest} {before} {now} {policy} {pid} {start} {seen} {held} {faile
       house_there = n.house_there;
       rested = λ picks later. (n.rested picks later, rested-at v p r picked' replies' e f picks later);
       absent = λ e. All-cons (λ (m : Mark). is_by_house m ≡ false) mark v.journal (n.absent e) (v.absent e);
-      tells = tells-more start seen.told seen'.told v.journal (mark ∷ []) v.tells n.told;
+      records = records-more start seen.recorded seen'.recorded v.journal (mark ∷ []) v.records n.recorded;
       of_wire = n.placed.of_wire;
       places = n.placed.owns.places;
       own_streams = keeps-more v.journal mark n.placed.owns.right v.own_streams;
@@ -205,8 +205,8 @@ serve-on {May} {Rest} {before} {now} {policy} {pid} {start} {seen} {held} {faile
       unseen = n.placed.unseen;
       unused = n.placed.unused;
       failed_are = n.placed.failed_are;
-      hears = λ live l. n.placed.listens (v.hears (live-before v.stands s' mark p r picked' replies' e f n.policy_is n.pid_is st live)
-          (hears-before v.stands s' mark p r picked' replies' e f n.policy_is n.pid_is st l));
+      receives = λ live l. n.placed.listens (v.receives (live-before v.stands s' mark p r picked' replies' e f n.policy_is n.pid_is st live)
+          (receives-before v.stands s' mark p r picked' replies' e f n.policy_is n.pid_is st l));
       sound = λ picks later.
           let set : Setting = by_lists policy pid (picked' ++ picks) (replies' ++ later) in
           let at : SoundAt set v.journal mark todo' s' = n.sound picks later in
@@ -218,21 +218,21 @@ serve-on {May} {Rest} {before} {now} {policy} {pid} {start} {seen} {held} {faile
     }
 
 -- the asks of what stands now
-pub asks-more : {May : HouseReply → Type 0} {told told' : Option (List HouseMark)} {old new : State} {mark : Mark} {picked : List ℕ} {replies : List HouseReply} {marks : List Mark} {closed : List ℕ} (st : Stands picked replies old marks closed) (g : GoesBy May told told' picked replies old new mark marks closed) → g.stands.asks ≡ st.asks ++ g.asks
+pub asks-more : {May : HouseReply → Type 0} {recorded recorded' : Option (List HouseMark)} {old new : State} {mark : Mark} {picked : List ℕ} {replies : List HouseReply} {marks : List Mark} {closed : List ℕ} (st : Stands picked replies old marks closed) (g : GoesBy May recorded recorded' picked replies old new mark marks closed) → g.stands.asks ≡ st.asks ++ g.asks
 asks-more {picked = picked} {replies = replies} st g =
     let was = stood-at st g.picks g.replies (picked ++ g.picks) (replies ++ g.replies) refl refl [] [] in
     sym (g.stands.at [] []).rows.asked_is ∙ (g.asked [] [] ∙ ap (λ l. l ++ g.asks) was.rows.asked_is)
 
 -- with what an event picks and the house replies to it
-unfoldable pub serve-next : {May : HouseReply → Type 0} {Rest : Resting} {before : Option (List HouseMark)} {now : Side} {policy : Policy} {pid : ℕ} {start : Option (List Mark)} {seen : Seen} {held failed : List ℕ} {given : ℕ} {todo : List ℕ} {s : State} (v : Serving May Rest before now policy pid start seen held failed given todo s) (now' : Side) (seen' : Seen) (held' failed' : List ℕ) (given' : ℕ) (todo' : List ℕ) (s' : State) (mark : Mark) {told told' : Option (List HouseMark)}
-    → (g : GoesBy May told told' v.picked v.replies s s' mark v.journal v.closed) → Next Rest before now now' policy pid (v.picked ++ g.picks) (v.replies ++ g.replies) g.asks s s' v.journal seen seen' held' failed' given' todo' mark → Serving May Rest before now' policy pid start seen' held' failed' given' todo' s'
+unfoldable pub serve-next : {May : HouseReply → Type 0} {Rest : Resting} {before : Option (List HouseMark)} {now : Side} {policy : Policy} {pid : ℕ} {start : Option (List Mark)} {seen : Seen} {held failed : List ℕ} {given : ℕ} {todo : List ℕ} {s : State} (v : Serving May Rest before now policy pid start seen held failed given todo s) (now' : Side) (seen' : Seen) (held' failed' : List ℕ) (given' : ℕ) (todo' : List ℕ) (s' : State) (mark : Mark) {recorded recorded' : Option (List HouseMark)}
+    → (g : GoesBy May recorded recorded' v.picked v.replies s s' mark v.journal v.closed) → NextEvent Rest before now now' policy pid (v.picked ++ g.picks) (v.replies ++ g.replies) g.asks s s' v.journal seen seen' held' failed' given' todo' mark → Serving May Rest before now' policy pid start seen' held' failed' given' todo' s'
 serve-next v now' seen' held' failed' given' todo' s' mark g n =
     serve-on v now' seen' held' failed' given' todo' s' mark g.picks g.replies g.asks (v.picked ++ g.picks) (v.replies ++ g.replies) refl refl g.may g.stands (asks-more v.stands g) n
 
 -- where nothing is picked and the house isn't asked
 unfoldable pub serve-alone : {May : HouseReply → Type 0} {Rest : Resting} {before : Option (List HouseMark)} {now : Side} {policy : Policy} {pid : ℕ} {start : Option (List Mark)} {seen : Seen} {held failed : List ℕ} {given : ℕ} {todo : List ℕ} {s : State} (v : Serving May Rest before now policy pid start seen held failed given todo s) (now' : Side) (seen' : Seen) (held' failed' : List ℕ) (given' : ℕ) (todo' : List ℕ) (s' : State) (mark : Mark)
     → Stands v.picked v.replies s' (mark ∷ v.journal) v.closed → ((picks : List ℕ) (replies : List HouseReply) → asked_of (log s' picks replies (mark ∷ v.journal)) ≡ asked_of (log s picks replies v.journal))
-    → Next Rest before now now' policy pid v.picked v.replies [] s s' v.journal seen seen' held' failed' given' todo' mark → Serving May Rest before now' policy pid start seen' held' failed' given' todo' s'
+    → NextEvent Rest before now now' policy pid v.picked v.replies [] s s' v.journal seen seen' held' failed' given' todo' mark → Serving May Rest before now' policy pid start seen' held' failed' given' todo' s'
 serve-alone v now' seen' held' failed' given' todo' s' mark st same n =
     let asks : st.asks ≡ v.stands.asks = sym (st.at [] []).rows.asked_is ∙ (same (v.picked ++ []) (v.replies ++ []) ∙ (v.stands.at [] []).rows.asked_is) in
     serve-on v now' seen' held' failed' given' todo' s' mark [] [] [] v.picked v.replies (sym (append-nil v.picked)) (sym (append-nil v.replies)) tt st (asks ∙ sym (append-nil v.stands.asks)) n

@@ -28,10 +28,10 @@ use Rattle.mux_history.specs.Settings.{by_lists}
 use Rattle.mux_history.specs.Journal.{is_own_stream, log_of_journal}
 use Rattle.mux_history.specs.Promises.{IsFront, turns_in}
 use Rattle.mux_history.proofs.Wires.{wire-keeps}
-use Rattle.mux_machine.specs.State.{State}
-use Rattle.mux_machine.specs.Events.{here}
-use Rattle.mux_machine.specs.Stands.{GoesBy, log}
-use Rattle.mux_machine.proofs.Over.{some-end}
+use Rattle.mux_state.specs.State.{State}
+use Rattle.mux_state.specs.Events.{here}
+use Rattle.mux_state.specs.Stands.{GoesBy, log}
+use Rattle.mux_state.proofs.Over.{some-end}
 use Rattle.mux_engine.specs.Places.{IsTaking, own_in}
 use Rattle.mux_engine.specs.Run.{IsOfWire}
 use Rattle.mux_engine.specs.Serving.{IsSound, Promised, Serving, is_open}
@@ -41,11 +41,11 @@ use Rattle.mux_engine.proofs.Cuts.{cut-next, cut-still, of-streams, on-next}
 use Rattle.mux_engine.proofs.Deferred.{still-deferred}
 use Rattle.mux_engine.proofs.Lists.{among-last, among-other-last, apart-or-left, not-own-stream, or-last, test-other, true-false, without-other}
 use Rattle.mux_engine.proofs.Logs.{blocked-other, failed-other, failed-pending, fails-failed, has-failed-other, holds-blocked, holds-failed, log-out, lost-out, settled-as, takes-failed, took-pending}
-use Rattle.mux_engine.proofs.Marks.{Next, log-is, sound-at, stood-at}
+use Rattle.mux_engine.proofs.Marks.{NextEvent, log-is, sound-at, stood-at}
 use Rattle.mux_engine.proofs.Owns.{fails-placed, holds-placed, owns-as, takes-placed, writes-client}
 use Rattle.mux_engine.proofs.Places.{house-other, open-own, placed-by, placed-still, stream-open}
 use Rattle.mux_engine.proofs.Quiet.{askers-more, notes-none}
-use Rattle.mux_engine.proofs.Told.{tells-none, told-none}
+use Rattle.mux_engine.proofs.Recorded.{records-none, recorded-none}
 
 -- ---- the engine behind it
 
@@ -68,11 +68,11 @@ front-of set k journal bytes e front = subst (λ (b : Bool). MatchBool b (Unit {
 
 pub next-takes : {May : HouseReply → Type 0} {Rest : Resting} {before : Option (List HouseMark)} {now : Side} {policy : Policy} {pid : ℕ} {start : Option (List Mark)} {seen : Seen} {held failed : List ℕ} {given : ℕ} {todo : List ℕ} {s : State} (v : Serving May Rest before now policy pid start seen held failed given todo s) (s' : State) (k n : ℕ) (bytes : List ℕ)
     → is_open s k ≡ true → k ≢ HOUSE → SameRun s s' → AreBytes bytes → 1 ≤ n → n ≤ length bytes → Waiting bytes k s v.picked v.replies v.journal
-    → Next Rest before now now policy pid v.picked v.replies [] s s' v.journal seen (seen_after_write (wrote.Took n) k bytes seen) held failed given (k ∷ todo) (Takes k (take n bytes))
+    → NextEvent Rest before now now policy pid v.picked v.replies [] s s' v.journal seen (seen_after_write (wrote.Took n) k bytes seen) held failed given (k ∷ todo) (Takes k (take n bytes))
 next-takes {May} {Rest} {before} {now} {policy} {pid} {start} {seen} {held} {failed} {given} {todo} {s} v s' k n bytes opened ne same are one fits waiting =
     let mark : Mark = Takes k (take n bytes) in
     record {
-      told = refl;
+      recorded = refl;
       policy_is = same.policy;
       pid_is = same.pid;
       notes = notes-none now mark refl;
@@ -110,13 +110,13 @@ next-takes {May} {Rest} {before} {now} {policy} {pid} {start} {seen} {held} {fai
 -- ---- a stream that is blocked now
 
 pub next-holds : {May : HouseReply → Type 0} {Rest : Resting} {before : Option (List HouseMark)} {now : Side} {policy : Policy} {pid : ℕ} {start : Option (List Mark)} {seen : Seen} {held failed : List ℕ} {given : ℕ} {todo : List ℕ} {s : State} (v : Serving May Rest before now policy pid start seen held failed given todo s) (k : ℕ) (bytes : List ℕ)
-    → is_open s k ≡ true → k ≢ HOUSE → AreBytes bytes → 0 < length bytes → Next Rest before now now policy pid v.picked v.replies [] s s v.journal seen (seen_after_write wrote.Later k bytes seen) (held ++ k ∷ []) failed given (without k todo) (Holds k)
+    → is_open s k ≡ true → k ≢ HOUSE → AreBytes bytes → 0 < length bytes → NextEvent Rest before now now policy pid v.picked v.replies [] s s v.journal seen (seen_after_write wrote.Later k bytes seen) (held ++ k ∷ []) failed given (without k todo) (Holds k)
 next-holds {May} {Rest} {before} {now} {policy} {pid} {start} {seen} {held} {failed} {given} {todo} {s} v k bytes opened ne are some =
     let mark : Mark = Holds k in
     let there : among k seen.streams ≡ true = stream-open v k opened ne in
     let now-blocked : among k (seen.blocked ++ k ∷ []) ≡ true = among-last k k seen.blocked ∙ (ap (λ b. among k seen.blocked || (b || false)) (test-same k) ∙ or-last (among k seen.blocked)) in
     record {
-      told = refl;
+      recorded = refl;
       policy_is = refl;
       pid_is = refl;
       notes = notes-none now mark refl;
@@ -154,15 +154,15 @@ next-holds {May} {Rest} {before} {now} {policy} {pid} {start} {seen} {held} {fai
 -- ---- a stream that failed
 
 -- of the server that is the end; a client's farewell is left to the server's stream
-pub next-fails : {May : HouseReply → Type 0} {Rest : Resting} {before : Option (List HouseMark)} {now : Side} {policy : Policy} {pid : ℕ} {start : Option (List Mark)} {seen : Seen} {held failed : List ℕ} {given : ℕ} {todo : List ℕ} {s : State} (v : Serving May Rest before now policy pid start seen held failed given todo s) {told told' : Option (List HouseMark)} {s' : State} (k : ℕ) (bytes : List ℕ) (g : GoesBy May told told' v.picked v.replies s s' (WriteFails k) v.journal v.closed)
+pub next-fails : {May : HouseReply → Type 0} {Rest : Resting} {before : Option (List HouseMark)} {now : Side} {policy : Policy} {pid : ℕ} {start : Option (List Mark)} {seen : Seen} {held failed : List ℕ} {given : ℕ} {todo : List ℕ} {s : State} (v : Serving May Rest before now policy pid start seen held failed given todo s) {recorded recorded' : Option (List HouseMark)} {s' : State} (k : ℕ) (bytes : List ℕ) (g : GoesBy May recorded recorded' v.picked v.replies s s' (WriteFails k) v.journal v.closed)
     → g.asks ≡ [] → is_open s k ≡ true → k ≢ HOUSE → AreBytes bytes → 0 < length bytes → among 0 (k ∷ todo) ≡ true → s'.core.policy ≡ s.core.policy → s'.pid ≡ s.pid → here s' ≡ here s → (s'.ended ≡ None → s.ended ≡ None) → (k ≡ 0 → s'.ended ≢ None)
-    → Next Rest before now now policy pid (v.picked ++ g.picks) (v.replies ++ g.replies) g.asks s s' v.journal seen (seen_after_write wrote.Failed k bytes seen) held failed given (without k todo) (WriteFails k)
+    → NextEvent Rest before now now policy pid (v.picked ++ g.picks) (v.replies ++ g.replies) g.asks s s' v.journal seen (seen_after_write wrote.Failed k bytes seen) held failed given (without k todo) (WriteFails k)
 next-fails {May} {Rest} {before} {now} {policy} {pid} {start} {seen} {held} {failed} {given} {todo} {s} v {s' = s'} k bytes g unasked opened ne are some zero same_policy same_pid same on over =
     let mark : Mark = WriteFails k in
     let there : among k seen.streams ≡ true = stream-open v k opened ne in
     let client_is : is_own_stream k ≡ false = not-own-stream k (open-own v k opened ne) in
     record {
-      told = refl;
+      recorded = refl;
       policy_is = same_policy;
       pid_is = same_pid;
       notes = subst (Rattle.mux_engine.proofs.Marks.Notes now now mark) (sym unasked) (notes-none now mark refl);
@@ -214,18 +214,18 @@ wrote-of-wire {seen = seen} v answer k bytes there are some fits =
 
 -- none to note that the stream is blocked
 pub cut-holds : {May : HouseReply → Type 0} {Rest : Resting} {before : Option (List HouseMark)} {now : Side} {policy : Policy} {pid : ℕ} {start : Option (List Mark)} {seen : Seen} {held failed : List ℕ} {given : ℕ} {todo : List ℕ} {s : State} (v : Serving May Rest before now policy pid start seen held failed given todo s) (seen' : Seen) (k : ℕ) (bytes : List ℕ)
-    → (IsTrue (is_own k) → IsTaking k (own_in v.journal)) → among k seen.streams ≡ true → AreBytes bytes → 0 < length bytes → seen' ≡ seen_after_write wrote.Later k bytes seen → Promised May Rest before now.told policy pid start seen'.told given
+    → (IsTrue (is_own k) → IsTaking k (own_in v.journal)) → among k seen.streams ≡ true → AreBytes bytes → 0 < length bytes → seen' ≡ seen_after_write wrote.Later k bytes seen → Promised May Rest before now.recorded policy pid start seen'.recorded given
 cut-holds {now = now} {given = given} v seen' k bytes takes there are some e =
-    cut-next v now.told seen'.told given (Holds k) [] now.unnoted (ap (λ (x : Seen). x.told) e) (tells-none now.told) (sym (append-nil now.unnoted)) (wrote-of-wire v wrote.Later k bytes there are some tt) (holds-placed v.journal k takes (house-other v k there)) (let w : turns_in v.journal ≡ given = v.turns in omega arith) (λ set. tt) (λ e. refl) (on-next v (Holds k))
+    cut-next v now.recorded seen'.recorded given (Holds k) [] now.unnoted (ap (λ (x : Seen). x.recorded) e) (records-none now.recorded) (sym (append-nil now.unnoted)) (wrote-of-wire v wrote.Later k bytes there are some tt) (holds-placed v.journal k takes (house-other v k there)) (let w : turns_in v.journal ≡ given = v.turns in omega arith) (λ set. tt) (λ e. refl) (on-next v (Holds k))
     (λ set. inr (0, refl)) (λ picks later. record { takes = tt; waits = tt; speaks = tt; open_streams = tt; answers = tt })
 
 -- none for the event of a stream that failed
 pub cut-fails : {May : HouseReply → Type 0} {Rest : Resting} {before : Option (List HouseMark)} {now : Side} {policy : Policy} {pid : ℕ} {start : Option (List Mark)} {seen : Seen} {held failed : List ℕ} {given : ℕ} {todo : List ℕ} {s : State} (v : Serving May Rest before now policy pid start seen held failed given todo s) (seen' : Seen) (k : ℕ) (bytes : List ℕ)
-    → (IsTrue (is_own k) → IsTaking k (own_in v.journal)) → among k seen.streams ≡ true → AreBytes bytes → 0 < length bytes → seen' ≡ seen_after_write wrote.Failed k bytes seen → Promised May Rest before now.told policy pid start seen'.told given
+    → (IsTrue (is_own k) → IsTaking k (own_in v.journal)) → among k seen.streams ≡ true → AreBytes bytes → 0 < length bytes → seen' ≡ seen_after_write wrote.Failed k bytes seen → Promised May Rest before now.recorded policy pid start seen'.recorded given
 cut-fails {now = now} {given = given} v seen' k bytes takes there are some e =
-    cut-next v now.told seen'.told given (WriteFails k) [] now.unnoted (ap (λ (x : Seen). x.told) e) (tells-none now.told) (sym (append-nil now.unnoted)) (wrote-of-wire v wrote.Failed k bytes there are some tt) (fails-placed v.journal k takes (house-other v k there)) (let w : turns_in v.journal ≡ given = v.turns in omega arith) (λ set. tt) (λ e. refl) (on-next v (WriteFails k))
+    cut-next v now.recorded seen'.recorded given (WriteFails k) [] now.unnoted (ap (λ (x : Seen). x.recorded) e) (records-none now.recorded) (sym (append-nil now.unnoted)) (wrote-of-wire v wrote.Failed k bytes there are some tt) (fails-placed v.journal k takes (house-other v k there)) (let w : turns_in v.journal ≡ given = v.turns in omega arith) (λ set. tt) (λ e. refl) (on-next v (WriteFails k))
     (λ set. inr (0, refl)) (λ picks later. record { takes = tt; waits = tt; speaks = tt; open_streams = tt; answers = tt })
 
 -- none for the write
-pub cut-starved : {May : HouseReply → Type 0} {Rest : Resting} {before : Option (List HouseMark)} {now : Side} {policy : Policy} {pid : ℕ} {start : Option (List Mark)} {seen : Seen} {held failed : List ℕ} {given : ℕ} {todo : List ℕ} {s : State} (v : Serving May Rest before now policy pid start seen held failed given todo s) (seen' : Seen) (k : ℕ) (bytes : List ℕ) → seen' ≡ seen_after_write wrote.NoMemory k bytes seen → Promised May Rest before now.told policy pid start seen'.told given
-cut-starved {seen = seen} v seen' k bytes e = cut-still v seen'.told (ap (λ (x : Seen). x.told) e ∙ told-none seen.told)
+pub cut-starved : {May : HouseReply → Type 0} {Rest : Resting} {before : Option (List HouseMark)} {now : Side} {policy : Policy} {pid : ℕ} {start : Option (List Mark)} {seen : Seen} {held failed : List ℕ} {given : ℕ} {todo : List ℕ} {s : State} (v : Serving May Rest before now policy pid start seen held failed given todo s) (seen' : Seen) (k : ℕ) (bytes : List ℕ) → seen' ≡ seen_after_write wrote.NoMemory k bytes seen → Promised May Rest before now.recorded policy pid start seen'.recorded given
+cut-starved {seen = seen} v seen' k bytes e = cut-still v seen'.recorded (ap (λ (x : Seen). x.recorded) e ∙ recorded-none seen.recorded)

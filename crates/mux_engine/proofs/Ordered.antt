@@ -25,16 +25,16 @@ use Rattle.mux_history.specs.Journal.{is_blocked, is_own_stream}
 use Rattle.mux_history.specs.Promises.{has_failed, not_own}
 use Rattle.mux_history.specs.Wires.{OfWire, is_connect}
 use Rattle.mux_history.proofs.Wires.{wire-keeps}
-use Rattle.mux_machine.specs.State.{State}
-use Rattle.mux_machine.proofs.Twins.{own-silent, stands-alike}
+use Rattle.mux_state.specs.State.{State}
+use Rattle.mux_state.proofs.Twins.{own-silent, stands-alike}
 use Rattle.mux_engine.specs.Called.{calls_at}
-use Rattle.mux_engine.specs.Orders.{HasOrdered, MadeBy, failed_carried, held_carried, known_carried, more_told, seen_carried}
+use Rattle.mux_engine.specs.Orders.{HasOrdered, MadeBy, failed_carried, held_carried, known_carried, more_recorded, seen_carried}
 use Rattle.mux_engine.specs.Places.{listeners_ordered, own_ordered}
 use Rattle.mux_engine.specs.Serving.{IsFree, IsUnseen, IsUnused, Promised, Serving}
 use Rattle.mux_engine.specs.Sides.{Resting, Side, asks_in, noted, noting}
-use Rattle.mux_engine.proofs.Called.{CallsOn, calls-told}
+use Rattle.mux_engine.proofs.Called.{CallsOn, calls-recorded}
 use Rattle.mux_engine.proofs.Closed.{both-tests, was-among}
-use Rattle.mux_engine.proofs.Cuts.{cut-here, serve-told}
+use Rattle.mux_engine.proofs.Cuts.{cut-here, serve-recorded}
 use Rattle.mux_engine.proofs.Happened.{last-or}
 use Rattle.mux_engine.proofs.Lists.{among-last, among-less, among-other-last, or-last, own-stream, test-other, true-false, without-other}
 use Rattle.mux_engine.proofs.Marks.{Notes, Placed}
@@ -45,7 +45,7 @@ use Rattle.mux_engine.proofs.WireTurns.{client-number}
 
 -- what is seen once it is noted
 abbrev pub seen-noted : HouseMark → Seen → Seen
-seen-noted m seen = record seen { told = option_map (λ (l : List Mark). l ++ House m ∷ []) seen.told }
+seen-noted m seen = record seen { recorded = option_map (λ (l : List Mark). l ++ House m ∷ []) seen.recorded }
 
 -- the streams that an order closes are the master's own
 abbrev pub OwnedBy : Order → Type 0
@@ -166,48 +166,48 @@ module _ {May : HouseReply → Type 0} {Rest : Resting} {before : Option (List H
 
   -- where it is noted
   noted-order : now.let_in ≡ true → (order : Order) (number : Option ℕ) (now' : Side) (seen' : Seen) (held' failed' : List ℕ) → ((t : ℕ) → is_own_stream t ≡ false → is_blocked t (House (HouseOrder order number) ∷ v.journal) ≡ is_blocked t v.journal) → Notes now now' (House (HouseOrder order number)) [] → ((set : Setting) → CallsOn now now' (calls_at set v.journal (House (HouseOrder order number)))) → now'.asks ≡ now.asks → now'.let_in ≡ now.let_in
-      → seen'.told ≡ option_map (λ m. m ++ House (HouseOrder order number) ∷ []) seen.told → Placed s v.journal seen seen' held' failed' (House (HouseOrder order number)) → Serving May Rest before now' policy pid start seen' held' failed' (given + 1) todo s
-  noted-order inside order number now' seen' held' failed' blocked notes called asks within told placed =
+      → seen'.recorded ≡ option_map (λ m. m ++ House (HouseOrder order number) ∷ []) seen.recorded → Placed s v.journal seen seen' held' failed' (House (HouseOrder order number)) → Serving May Rest before now' policy pid start seen' held' failed' (given + 1) todo s
+  noted-order inside order number now' seen' held' failed' blocked notes called asks within recorded placed =
       let mark : Mark = House (HouseOrder order number) in
       let alike = own-silent.ordered v.journal order number in
       serve-quiet v now' seen' held' failed' (given + 1) mark
       (record { log = alike.log; blocked = blocked; unwritten = λ t client. refl; promise = λ set. record { takes = tt; waits = tt; speaks = tt; open_streams = tt; answers = tt }; rested = λ set. tt; absent = λ e. true-false (sym (v.house_there inside) ∙ e); house = refl })
-      (stands-alike v.journal (mark ∷ v.journal) v.picked v.replies s v.closed alike v.stands) notes called asks within told (ap (λ n. n + 1) v.turns) placed
+      (stands-alike v.journal (mark ∷ v.journal) v.picked v.replies s v.closed alike v.stands) notes called asks within recorded (ap (λ n. n + 1) v.turns) placed
 
   abbrev done-side : Order → Option ℕ → Option (List HouseMark) → Side
-  done-side order number told' = record now { told = told'; unnoted = []; calls = now.calls ++ calls_of (more_told order number) }
+  done-side order number recorded' = record now { recorded = recorded'; unnoted = []; calls = now.calls ++ calls_of (more_recorded order number) }
 
-  notes-of : (order : Order) (number : Option ℕ) (told' : Option (List HouseMark)) → now.unnoted ≡ order_marks (Some order) → told' ≡ option_map (λ l. l ++ more_told order number) now.told → order_marks (Some order) ++ more_told order number ≡ HouseOrder order number ∷ [] → asks_in (more_told order number) ≡ [] → Notes now (done-side order number told') (House (HouseOrder order number)) []
-  notes-of order number told' noted e same none = record {
-    more = more_told order number;
-    told_is = e;
-    noted_is = sym (ap (λ l. l ++ more_told order number) noted ∙ same);
+  notes-of : (order : Order) (number : Option ℕ) (recorded' : Option (List HouseMark)) → now.unnoted ≡ order_marks (Some order) → recorded' ≡ option_map (λ l. l ++ more_recorded order number) now.recorded → order_marks (Some order) ++ more_recorded order number ≡ HouseOrder order number ∷ [] → asks_in (more_recorded order number) ≡ [] → Notes now (done-side order number recorded') (House (HouseOrder order number)) []
+  notes-of order number recorded' noted e same none = record {
+    more = more_recorded order number;
+    recorded_is = e;
+    noted_is = sym (ap (λ l. l ++ more_recorded order number) noted ∙ same);
     asks_are = none;
   }
 
-  called-of : (order : Order) (number : Option ℕ) (told' : Option (List HouseMark)) → now.unnoted ≡ order_marks (Some order) → order_marks (Some order) ++ more_told order number ≡ HouseOrder order number ∷ [] → (set : Setting) → CallsOn now (done-side order number told') (calls_at set v.journal (House (HouseOrder order number)))
-  called-of order number told' noted same set = calls-told now (done-side order number told') (HouseOrder order number ∷ []) (more_told order number) (sym (ap (λ l. l ++ more_told order number) noted ∙ same)) refl
+  called-of : (order : Order) (number : Option ℕ) (recorded' : Option (List HouseMark)) → now.unnoted ≡ order_marks (Some order) → order_marks (Some order) ++ more_recorded order number ≡ HouseOrder order number ∷ [] → (set : Setting) → CallsOn now (done-side order number recorded') (calls_at set v.journal (House (HouseOrder order number)))
+  called-of order number recorded' noted same set = calls-recorded now (done-side order number recorded') (HouseOrder order number ∷ []) (more_recorded order number) (sym (ap (λ l. l ++ more_recorded order number) noted ∙ same)) refl
 
   -- all of it
-  pub order-done : now.let_in ≡ true → (order : Order) (number : Option ℕ) (told' : Option (List HouseMark)) → MadeBy order number seen → OwnedBy order → now.unnoted ≡ order_marks (Some order) → told' ≡ option_map (λ l. l ++ more_told order number) now.told
-      → Serving May Rest before (done-side order number told') policy pid start (seen-noted (HouseOrder order number) (seen_carried order number seen)) (held_carried order number held) (failed_carried order failed) (given + 1) todo s
-  order-done inside (Listen host port) (Some n) told' made own noted e = noted-order inside (Listen host port) (Some n) (done-side (Listen host port) (Some n) told') _ _ _ (λ t client. refl) (notes-of (Listen host port) (Some n) told' noted e refl refl) (called-of (Listen host port) (Some n) told' noted refl) refl refl refl (placed-listens host port n made)
-  order-done inside (Listen host port) None told' made own noted e = noted-order inside (Listen host port) None (done-side (Listen host port) None told') _ _ _ (λ t client. refl) (notes-of (Listen host port) None told' noted e refl refl) (called-of (Listen host port) None told' noted refl) refl refl refl (placed-plain (Listen host port) None refl _ refl refl refl refl refl (λ t. refl) (owns-order (Listen host port) None _ refl refl v.places.streams))
-  order-done inside (Connect host port) (Some n) told' made own noted e = noted-order inside (Connect host port) (Some n) (done-side (Connect host port) (Some n) told') _ _ _ (λ t client. connects-other host port n t (λ q. true-false (sym (new-own n made) ∙ (ap is_own_stream q ∙ client)))) (notes-of (Connect host port) (Some n) told' noted e refl refl) (called-of (Connect host port) (Some n) told' noted refl) refl refl refl (placed-connects host port n made)
-  order-done inside (Connect host port) None told' made own noted e = noted-order inside (Connect host port) None (done-side (Connect host port) None told') _ _ _ (λ t client. refl) (notes-of (Connect host port) None told' noted e refl refl) (called-of (Connect host port) None told' noted refl) refl refl refl (placed-plain (Connect host port) None refl _ refl refl refl refl refl (λ t. refl) (owns-order (Connect host port) None _ refl refl v.places.streams))
-  order-done inside (Unlisten l) None told' made own noted e = noted-order inside (Unlisten l) None (done-side (Unlisten l) None told') _ _ _ (λ t client. refl) (notes-of (Unlisten l) None told' noted e refl refl) (called-of (Unlisten l) None told' noted refl) refl refl refl (placed-plain (Unlisten l) None refl _ refl refl refl refl refl (λ t. refl) (owns-order (Unlisten l) None _ refl refl v.places.streams))
-  order-done inside (Pause k) None told' made own noted e = noted-order inside (Pause k) None (done-side (Pause k) None told') _ _ _ (λ t client. refl) (notes-of (Pause k) None told' noted e refl refl) (called-of (Pause k) None told' noted refl) refl refl refl (placed-plain (Pause k) None refl _ refl refl refl refl refl (λ t. refl) (owns-order (Pause k) None _ refl refl (v.places.streams ∙ sym (pause-numbers true k seen.own))))
-  order-done inside (Resume k) None told' made own noted e = noted-order inside (Resume k) None (done-side (Resume k) None told') _ _ _ (λ t client. refl) (notes-of (Resume k) None told' noted e refl refl) (called-of (Resume k) None told' noted refl) refl refl refl (placed-plain (Resume k) None refl _ refl refl refl refl refl (λ t. refl) (owns-order (Resume k) None _ refl refl (v.places.streams ∙ sym (pause-numbers false k seen.own))))
-  order-done inside (Finish k) None told' made own noted e = noted-order inside (Finish k) None (done-side (Finish k) None told') _ _ _ (λ t client. refl) (notes-of (Finish k) None told' noted e refl refl) (called-of (Finish k) None told' noted refl) refl refl refl (placed-plain (Finish k) None refl _ refl refl refl refl refl (λ t. refl) (owns-order (Finish k) None _ refl refl (v.places.streams ∙ sym (finish-numbers k seen.own))))
-  order-done inside (Close k) None told' made own noted e = noted-order inside (Close k) None (done-side (Close k) None told') _ _ _ (λ t client. refl) (notes-of (Close k) None told' noted e refl refl) (called-of (Close k) None told' noted refl) refl refl refl (placed-closes k own)
-  order-done inside (Unlisten l) (Some n) told' made own noted e = absurd (let z : Some n ≡ None = made in cc)
-  order-done inside (Pause k) (Some n) told' made own noted e = absurd (let z : Some n ≡ None = made in cc)
-  order-done inside (Resume k) (Some n) told' made own noted e = absurd (let z : Some n ≡ None = made in cc)
-  order-done inside (Finish k) (Some n) told' made own noted e = absurd (let z : Some n ≡ None = made in cc)
-  order-done inside (Close k) (Some n) told' made own noted e = absurd (let z : Some n ≡ None = made in cc)
+  pub order-done : now.let_in ≡ true → (order : Order) (number : Option ℕ) (recorded' : Option (List HouseMark)) → MadeBy order number seen → OwnedBy order → now.unnoted ≡ order_marks (Some order) → recorded' ≡ option_map (λ l. l ++ more_recorded order number) now.recorded
+      → Serving May Rest before (done-side order number recorded') policy pid start (seen-noted (HouseOrder order number) (seen_carried order number seen)) (held_carried order number held) (failed_carried order failed) (given + 1) todo s
+  order-done inside (Listen host port) (Some n) recorded' made own noted e = noted-order inside (Listen host port) (Some n) (done-side (Listen host port) (Some n) recorded') _ _ _ (λ t client. refl) (notes-of (Listen host port) (Some n) recorded' noted e refl refl) (called-of (Listen host port) (Some n) recorded' noted refl) refl refl refl (placed-listens host port n made)
+  order-done inside (Listen host port) None recorded' made own noted e = noted-order inside (Listen host port) None (done-side (Listen host port) None recorded') _ _ _ (λ t client. refl) (notes-of (Listen host port) None recorded' noted e refl refl) (called-of (Listen host port) None recorded' noted refl) refl refl refl (placed-plain (Listen host port) None refl _ refl refl refl refl refl (λ t. refl) (owns-order (Listen host port) None _ refl refl v.places.streams))
+  order-done inside (Connect host port) (Some n) recorded' made own noted e = noted-order inside (Connect host port) (Some n) (done-side (Connect host port) (Some n) recorded') _ _ _ (λ t client. connects-other host port n t (λ q. true-false (sym (new-own n made) ∙ (ap is_own_stream q ∙ client)))) (notes-of (Connect host port) (Some n) recorded' noted e refl refl) (called-of (Connect host port) (Some n) recorded' noted refl) refl refl refl (placed-connects host port n made)
+  order-done inside (Connect host port) None recorded' made own noted e = noted-order inside (Connect host port) None (done-side (Connect host port) None recorded') _ _ _ (λ t client. refl) (notes-of (Connect host port) None recorded' noted e refl refl) (called-of (Connect host port) None recorded' noted refl) refl refl refl (placed-plain (Connect host port) None refl _ refl refl refl refl refl (λ t. refl) (owns-order (Connect host port) None _ refl refl v.places.streams))
+  order-done inside (Unlisten l) None recorded' made own noted e = noted-order inside (Unlisten l) None (done-side (Unlisten l) None recorded') _ _ _ (λ t client. refl) (notes-of (Unlisten l) None recorded' noted e refl refl) (called-of (Unlisten l) None recorded' noted refl) refl refl refl (placed-plain (Unlisten l) None refl _ refl refl refl refl refl (λ t. refl) (owns-order (Unlisten l) None _ refl refl v.places.streams))
+  order-done inside (Pause k) None recorded' made own noted e = noted-order inside (Pause k) None (done-side (Pause k) None recorded') _ _ _ (λ t client. refl) (notes-of (Pause k) None recorded' noted e refl refl) (called-of (Pause k) None recorded' noted refl) refl refl refl (placed-plain (Pause k) None refl _ refl refl refl refl refl (λ t. refl) (owns-order (Pause k) None _ refl refl (v.places.streams ∙ sym (pause-numbers true k seen.own))))
+  order-done inside (Resume k) None recorded' made own noted e = noted-order inside (Resume k) None (done-side (Resume k) None recorded') _ _ _ (λ t client. refl) (notes-of (Resume k) None recorded' noted e refl refl) (called-of (Resume k) None recorded' noted refl) refl refl refl (placed-plain (Resume k) None refl _ refl refl refl refl refl (λ t. refl) (owns-order (Resume k) None _ refl refl (v.places.streams ∙ sym (pause-numbers false k seen.own))))
+  order-done inside (Finish k) None recorded' made own noted e = noted-order inside (Finish k) None (done-side (Finish k) None recorded') _ _ _ (λ t client. refl) (notes-of (Finish k) None recorded' noted e refl refl) (called-of (Finish k) None recorded' noted refl) refl refl refl (placed-plain (Finish k) None refl _ refl refl refl refl refl (λ t. refl) (owns-order (Finish k) None _ refl refl (v.places.streams ∙ sym (finish-numbers k seen.own))))
+  order-done inside (Close k) None recorded' made own noted e = noted-order inside (Close k) None (done-side (Close k) None recorded') _ _ _ (λ t client. refl) (notes-of (Close k) None recorded' noted e refl refl) (called-of (Close k) None recorded' noted refl) refl refl refl (placed-closes k own)
+  order-done inside (Unlisten l) (Some n) recorded' made own noted e = absurd (let z : Some n ≡ None = made in cc)
+  order-done inside (Pause k) (Some n) recorded' made own noted e = absurd (let z : Some n ≡ None = made in cc)
+  order-done inside (Resume k) (Some n) recorded' made own noted e = absurd (let z : Some n ≡ None = made in cc)
+  order-done inside (Finish k) (Some n) recorded' made own noted e = absurd (let z : Some n ≡ None = made in cc)
+  order-done inside (Close k) (Some n) recorded' made own noted e = absurd (let z : Some n ≡ None = made in cc)
 
   -- an order is no ask
-  no-asks : (order : Order) (number : Option ℕ) → asks_in (more_told order number) ≡ []
+  no-asks : (order : Order) (number : Option ℕ) → asks_in (more_recorded order number) ≡ []
   no-asks (Listen host port) number = refl
   no-asks (Connect host port) number = refl
   no-asks (Unlisten l) number = refl
@@ -218,10 +218,10 @@ module _ {May : HouseReply → Type 0} {Rest : Resting} {before : Option (List H
 
   -- whether or not there is memory to note it
   pub order-noted : {E : Type 0} (r : Result (Unit {0}) E) (order : Order) (number : Option ℕ) (side : Side) (seen0 seen' : Seen) (held' failed' : List ℕ) → now.let_in ≡ true → MadeBy order number seen → OwnedBy order → now.unnoted ≡ order_marks (Some order)
-      → side.told ≡ option_map (λ l. l ++ more_told order number) now.told → side.asks ≡ now.asks → side.unnoted ≡ [] → side.let_in ≡ now.let_in → side.calls ≡ now.calls ++ calls_of (more_told order number) → seen0 ≡ seen_carried order number seen → seen0.told ≡ seen.told → seen' ≡ seen_after_note r (HouseOrder order number) seen0 → held' ≡ held_carried order number held → failed' ≡ failed_carried order failed
-      → MatchResult r (λ x. Serving May Rest before side policy pid start seen' held' failed' (given + 1) todo s) (λ e. Promised May Rest before side.told policy pid start seen'.told (given + 1))
-  order-noted (Ok x) order number side seen0 seen' held' failed' inside made own noted told asks unnoted within called carried same after held_is failed_is =
-      let done : Serving May Rest before (done-side order number side.told) policy pid start (seen-noted (HouseOrder order number) (seen_carried order number seen)) (held_carried order number held) (failed_carried order failed) (given + 1) todo s = order-done inside order number side.told made own noted told in
+      → side.recorded ≡ option_map (λ l. l ++ more_recorded order number) now.recorded → side.asks ≡ now.asks → side.unnoted ≡ [] → side.let_in ≡ now.let_in → side.calls ≡ now.calls ++ calls_of (more_recorded order number) → seen0 ≡ seen_carried order number seen → seen0.recorded ≡ seen.recorded → seen' ≡ seen_after_note r (HouseOrder order number) seen0 → held' ≡ held_carried order number held → failed' ≡ failed_carried order failed
+      → MatchResult r (λ x. Serving May Rest before side policy pid start seen' held' failed' (given + 1) todo s) (λ e. Promised May Rest before side.recorded policy pid start seen'.recorded (given + 1))
+  order-noted (Ok x) order number side seen0 seen' held' failed' inside made own noted recorded asks unnoted within called carried same after held_is failed_is =
+      let done : Serving May Rest before (done-side order number side.recorded) policy pid start (seen-noted (HouseOrder order number) (seen_carried order number seen)) (held_carried order number held) (failed_carried order failed) (given + 1) todo s = order-done inside order number side.recorded made own noted recorded in
       let at : Serving May Rest before side policy pid start (seen-noted (HouseOrder order number) (seen_carried order number seen)) (held_carried order number held) (failed_carried order failed) (given + 1) todo s =
       subst (λ (l : List OpenAsk). Serving May Rest before (record side { asks = l }) policy pid start (seen-noted (HouseOrder order number) (seen_carried order number seen)) (held_carried order number held) (failed_carried order failed) (given + 1) todo s) (sym asks)
       (subst (λ (l : List HouseMark). Serving May Rest before (record side { asks = now.asks; unnoted = l }) policy pid start (seen-noted (HouseOrder order number) (seen_carried order number seen)) (held_carried order number held) (failed_carried order failed) (given + 1) todo s) (sym unnoted)
@@ -230,21 +230,21 @@ module _ {May : HouseReply → Type 0} {Rest : Resting} {before : Option (List H
       subst (λ (l : List ℕ). Serving May Rest before side policy pid start seen' l failed' (given + 1) todo s) (sym held_is)
       (subst (λ (l : List ℕ). Serving May Rest before side policy pid start seen' (held_carried order number held) l (given + 1) todo s) (sym failed_is)
       (subst (λ (x : Seen). Serving May Rest before side policy pid start x (held_carried order number held) (failed_carried order failed) (given + 1) todo s) (sym (after ∙ ap (λ (x : Seen). seen-noted (HouseOrder order number) x) carried)) at))
-  order-noted (Err e) order number side seen0 seen' held' failed' inside made own noted told asks unnoted within called carried same after held_is failed_is =
-      cut-here v side.told seen'.told (given + 1) (more_told order number) (ap (λ (x : Seen). x.told) after ∙ same) told (no-asks order number) (omega arith)
+  order-noted (Err e) order number side seen0 seen' held' failed' inside made own noted recorded asks unnoted within called carried same after held_is failed_is =
+      cut-here v side.recorded seen'.recorded (given + 1) (more_recorded order number) (ap (λ (x : Seen). x.recorded) after ∙ same) recorded (no-asks order number) (omega arith)
 
 -- ---- what is known of the house then
 
-pub carried-told : (order : Order) (number : Option ℕ) (seen : Seen) → (seen_carried order number seen).told ≡ seen.told
-carried-told (Listen host port) (Some n) seen = refl
-carried-told (Listen host port) None seen = refl
-carried-told (Connect host port) (Some n) seen = refl
-carried-told (Connect host port) None seen = refl
-carried-told (Unlisten l) number seen = refl
-carried-told (Pause k) number seen = refl
-carried-told (Resume k) number seen = refl
-carried-told (Finish k) number seen = refl
-carried-told (Close k) number seen = refl
+pub carried-recorded : (order : Order) (number : Option ℕ) (seen : Seen) → (seen_carried order number seen).recorded ≡ seen.recorded
+carried-recorded (Listen host port) (Some n) seen = refl
+carried-recorded (Listen host port) None seen = refl
+carried-recorded (Connect host port) (Some n) seen = refl
+carried-recorded (Connect host port) None seen = refl
+carried-recorded (Unlisten l) number seen = refl
+carried-recorded (Pause k) number seen = refl
+carried-recorded (Resume k) number seen = refl
+carried-recorded (Finish k) number seen = refl
+carried-recorded (Close k) number seen = refl
 
 -- its asks and whether it is there stay
 pub record SameSide (old new : Known) : Type 0 where
@@ -299,7 +299,7 @@ order-side (Close k) known = record { asks = refl; present = refl }
 pub given-side : (order : Order) (known known' : Known) → known' ≡ known_after_order (Some order) known → SameSide known known'
 given-side order known known' e = subst (SameSide known) (sym e) (order-side order known)
 
-pub order-given : {May : HouseReply → Type 0} {Rest : Resting} {before : Option (List HouseMark)} {policy : Policy} {pid : ℕ} {start : Option (List Mark)} {seen : Seen} {held failed : List ℕ} {given : ℕ} {todo : List ℕ} {s : State} {calls : List HouseCall} (order : Order) (told told' : Option (List HouseMark)) (known known' : Known)
-    → told' ≡ option_map (λ l. l ++ order_marks (Some order)) told → known' ≡ known_after_order (Some order) known → Serving May Rest before (noted told known calls) policy pid start seen held failed given todo s → Serving May Rest before (noting (order_marks (Some order)) told' known' (calls ++ calls_of (order_marks (Some order)))) policy pid start seen held failed given todo s
-order-given {calls = calls} order told told' known known' e f v = let side = given-side order known known' f in
-    serve-told v (noting (order_marks (Some order)) told' known' (calls ++ calls_of (order_marks (Some order)))) (order_marks (Some order)) e refl (order-unasked order) side.asks side.present refl
+pub order-given : {May : HouseReply → Type 0} {Rest : Resting} {before : Option (List HouseMark)} {policy : Policy} {pid : ℕ} {start : Option (List Mark)} {seen : Seen} {held failed : List ℕ} {given : ℕ} {todo : List ℕ} {s : State} {calls : List HouseCall} (order : Order) (recorded recorded' : Option (List HouseMark)) (known known' : Known)
+    → recorded' ≡ option_map (λ l. l ++ order_marks (Some order)) recorded → known' ≡ known_after_order (Some order) known → Serving May Rest before (noted recorded known calls) policy pid start seen held failed given todo s → Serving May Rest before (noting (order_marks (Some order)) recorded' known' (calls ++ calls_of (order_marks (Some order)))) policy pid start seen held failed given todo s
+order-given {calls = calls} order recorded recorded' known known' e f v = let side = given-side order known known' f in
+    serve-recorded v (noting (order_marks (Some order)) recorded' known' (calls ++ calls_of (order_marks (Some order)))) (order_marks (Some order)) e refl (order-unasked order) side.asks side.present refl

@@ -2,7 +2,7 @@
 use Rattle.std.proofs.Common.{◌≡◌, ◌≢◌, ℕ, Bool, true, false, not, ◌&&◌, ◌||◌, List, [], ◌∷◌, ◌++◌, refl, sym, ap, ◌∙◌, subst, inl, inr, ◌⊎◌, Ok, Err, append-nil, drop, length}
 use Rattle.std.specs.Prelude.{◌==◌, Result, map}
 use Rattle.ssh_grammar.specs.declared.fault.Bad.{Bad}
-use Rattle.ssh_grammar.specs.Said.{Saying, Body, Payload, BadFraming, InProxy, parse, said}
+use Rattle.ssh_grammar.specs.Said.{Outgoing, Body, Payload, BadFraming, InProxy, parse, said}
 use Rattle.mux_outside.specs.declared.house_mark.HouseMark.{HouseMark}
 use Rattle.mux_outside.specs.Streams.{among}
 use Rattle.mux_outside.specs.declared.house.HouseReply.{HouseReply}
@@ -11,13 +11,13 @@ use Rattle.mux_outside.specs.declared.mark.Mark.TheVariants.{Waits, Accepts, Get
 use Rattle.mux_outside.specs.declared.house_mark.HouseMark.TheVariants.{HouseIn, HouseSaid, HouseTook, HouseAsked, HouseAnswer, HouseOrder}
 use Rattle.mux_history.specs.declared.limits.TheConstants.{HOUSE}
 use Rattle.mux_history.specs.Choices.{pick_of, with_reply}
-use Rattle.mux_history.specs.Controls.{greeted, house_says}
+use Rattle.mux_history.specs.Controls.{greeted, house_sends}
 use Rattle.mux_history.specs.Farewell.{farewell}
-use Rattle.mux_history.specs.Gist.{Gist, read_gist}
-use Rattle.mux_history.specs.Heard.{Breaks, Dest, Disconnects, ToClient, ToMaster, dest, for_client, for_lost, heard_for, heard_gist}
-use Rattle.mux_history.specs.Journal.{IsLawful, bytes_of, heard_item, is_own_stream, items_in, log_of_journal, new_heard, new_sayings, said_item, server_end, unless_own}
+use Rattle.mux_history.specs.Summary.{Summary, read_summary}
+use Rattle.mux_history.specs.Heard.{Breaks, Dest, Disconnects, ToClient, ToMaster, dest, for_client, for_lost, received_for, received_summary}
+use Rattle.mux_history.specs.Journal.{IsLawful, bytes_of, received_item, is_own_stream, items_in, log_of_journal, new_received, new_sayings, sent_item, server_end, unless_own}
 use Rattle.mux_history.specs.Kept.{ForEach}
-use Rattle.mux_history.specs.Log.{Setting, admits, all_told, bare, fitting, goes, heard_row, is_took, makes_next, makes_row, more_all, more_of, new_answers, queued, row_of, said_by_client, treat, with_farewell}
+use Rattle.mux_history.specs.Log.{Setting, admits, all_recorded, bare, fitting, goes, received_row, is_took, makes_next, makes_row, more_all, more_of, new_answers, queued, row_of, sent_by_client, treat, with_farewell}
 use Rattle.mux_history.specs.Pending.{joined, pending_down, took_by, waiting_down}
 use Rattle.mux_history.specs.Policy.{Policy}
 use Rattle.mux_history.specs.Right.{AreFresh}
@@ -32,9 +32,9 @@ use Rattle.mux_history.proofs.Nexts.{next-live}
 use Rattle.mux_history.proofs.RightLogs.{LogKnown, RowKnown, right-known}
 use Rattle.mux_bounds.proofs.Entries.{EachItem, by-more, lists, log-first, next, tails, with-reply}
 use Rattle.mux_bounds.proofs.Knowns.{LetFirst, greeted-in, to-greeted}
-use Rattle.mux_clients.proofs.Steps.{entered-among}
-use Rattle.mux_machine.specs.State.{State}
-use Rattle.mux_machine.specs.Stands.{RowsFit}
+use Rattle.mux_peers.proofs.Steps.{entered-among}
+use Rattle.mux_state.specs.State.{State}
+use Rattle.mux_state.specs.Stands.{RowsFit}
 use Rattle.mux_engine.proofs.Lists.{true-false}
 
 -- ---- a row of a client that was lost tells it nothing
@@ -46,26 +46,26 @@ farewell-down row own = by_loss (loses row)
     by_loss true = refl
     by_loss false = refl
 
-lost-told : (item : Item) (k : ℕ) (o : Outcome) (own : List Row) → is_lost own ≡ true → o.told ≡ [] → (row_of item k o own).down ≡ []
-lost-told item k o own lost none =
-    farewell-down (queued (all_told (bare item k o) own) (bare item k o) own) own
-    ∙ ap (fitting (waiting_down own)) (ap (λ b. elim (goes o.ends && not b) as (λ _. List (List ℕ)) [ true ↦ o.told ++ new_answers (bare item k o) own | false ↦ o.told ]) lost ∙ (by_fate (goes o.ends) ∙ none))
+lost-recorded : (item : Item) (k : ℕ) (o : Outcome) (own : List Row) → is_lost own ≡ true → o.recorded ≡ [] → (row_of item k o own).down ≡ []
+lost-recorded item k o own lost none =
+    farewell-down (queued (all_recorded (bare item k o) own) (bare item k o) own) own
+    ∙ ap (fitting (waiting_down own)) (ap (λ b. elim (goes o.ends && not b) as (λ _. List (List ℕ)) [ true ↦ o.recorded ++ new_answers (bare item k o) own | false ↦ o.recorded ]) lost ∙ (by_fate (goes o.ends) ∙ none))
   where
-    by_fate : (b : Bool) → (elim (b && false) as (λ _. List (List ℕ)) [ true ↦ o.told ++ new_answers (bare item k o) own | false ↦ o.told ]) ≡ o.told
+    by_fate : (b : Bool) → (elim (b && false) as (λ _. List (List ℕ)) [ true ↦ o.recorded ++ new_answers (bare item k o) own | false ↦ o.recorded ]) ≡ o.recorded
     by_fate true = refl
     by_fate false = refl
 
-heard-nothing : (own : List Row) (p : List ℕ) → is_lost own ≡ true → (heard_for own p).told ≡ []
-heard-nothing own p lost = by_read (read_gist p)
+heard-nothing : (own : List Row) (p : List ℕ) → is_lost own ≡ true → (received_for own p).recorded ≡ []
+heard-nothing own p lost = by_read (read_summary p)
   where
-    by_read : (r : Result Gist Bad) → (elim r as (λ _. Outcome) [ Err bad ↦ silent | Ok m ↦ heard_gist own p m ]).told ≡ []
+    by_read : (r : Result Summary Bad) → (elim r as (λ _. Outcome) [ Err bad ↦ silent | Ok m ↦ received_summary own p m ]).recorded ≡ []
     by_read (Err bad) = refl
-    by_read (Ok m) = ap (λ b. (elim b as (λ _. Outcome) [ true ↦ for_lost own m | false ↦ for_client own p m ]).told) lost
+    by_read (Ok m) = ap (λ b. (elim b as (λ _. Outcome) [ true ↦ for_lost own m | false ↦ for_client own p m ]).recorded) lost
 
 -- ---- a row after which it is as it was
 
 -- out, and lost or silent ever since
-pub record HearsNothing (k : ℕ) (rows : List Row) : Type 0 where
+pub record ReceivesNothing (k : ℕ) (rows : List Row) : Type 0 where
   pub out : is_out (rows_of k rows) ≡ true
   pub silent : (is_lost (rows_of k rows) ≡ true) ⊎ (greeted (rows_of k rows) ≡ false)
 
@@ -76,22 +76,22 @@ Passes k (Admit j) = j ≢ k
 Passes k item = Unit {0}
 
 -- a row of the client gives it nothing and takes nothing, and the client was lost before
-record TellsNothing (k : ℕ) (rows : List Row) (row : Row) : Type 0 where
+record RecordsNothing (k : ℕ) (rows : List Row) (row : Row) : Type 0 where
   nothing : row.down ≡ []
   takes : took_by row.item ≡ 0
   lost : is_lost (rows_of k rows) ≡ true
 
 abbrev Leaves : ℕ → List Row → Row → Type 0
-Leaves k rows row = row.client ≡ k → TellsNothing k rows row
+Leaves k rows row = row.client ≡ k → RecordsNothing k rows row
 
 module _ (policy : Policy) (pid : ℕ) (k : ℕ) (real : k ≢ 0) where
-  not-own : (rows : List Row) (item : Item) (j : ℕ) (o : Outcome) → HearsNothing k rows → makes_next rows item ≡ true → (is_ended rows ≡ false → makes_next rows item ≡ not (is_out (rows_of j rows))) → (is_ended rows ≡ true → makes_next rows item ≡ false) → Leaves k rows (row_of item j o (rows_of j rows))
+  not-own : (rows : List Row) (item : Item) (j : ℕ) (o : Outcome) → ReceivesNothing k rows → makes_next rows item ≡ true → (is_ended rows ≡ false → makes_next rows item ≡ not (is_out (rows_of j rows))) → (is_ended rows ≡ true → makes_next rows item ≡ false) → Leaves k rows (row_of item j o (rows_of j rows))
   not-own rows item j o is makes live over mine = by_ended (is_ended rows) refl
     where
       same : j ≡ k
       same = sym (client-of item j o (rows_of j rows)) ∙ mine
 
-      by_ended : (b : Bool) → is_ended rows ≡ b → TellsNothing k rows (row_of item j o (rows_of j rows))
+      by_ended : (b : Bool) → is_ended rows ≡ b → RecordsNothing k rows (row_of item j o (rows_of j rows))
       by_ended true e = let bad : true ≡ false = sym makes ∙ over e in absurd (let h = bad in cc)
       by_ended false e = let bad : true ≡ false = sym makes ∙ (live e ∙ ap not (ap (λ i. is_out (rows_of i rows)) same ∙ is.out)) in absurd (let h = bad in cc)
 
@@ -101,24 +101,24 @@ module _ (policy : Policy) (pid : ℕ) (k : ℕ) (real : k ≢ 0) where
   no-server : (rows : List Row) (row : Row) → row.client ≡ 0 → Leaves k rows row
   no-server rows row none mine = absurd (real (sym mine ∙ none))
 
-  heard-leaves : (rows : List Row) (p : List ℕ) (d : Dest) → dest rows p ≡ d → ForEach (RowKnown policy pid) rows → HearsNothing k rows → Leaves k rows (heard_row rows p d)
-  heard-leaves rows p ToMaster e each is mine = no-server rows (heard_row rows p ToMaster) refl mine
-  heard-leaves rows p Disconnects e each is mine = no-server rows (heard_row rows p Disconnects) refl mine
-  heard-leaves rows p (Breaks cause) e each is mine = no-server rows (heard_row rows p (Breaks cause)) refl mine
+  heard-leaves : (rows : List Row) (p : List ℕ) (d : Dest) → dest rows p ≡ d → ForEach (RowKnown policy pid) rows → ReceivesNothing k rows → Leaves k rows (received_row rows p d)
+  heard-leaves rows p ToMaster e each is mine = no-server rows (received_row rows p ToMaster) refl mine
+  heard-leaves rows p Disconnects e each is mine = no-server rows (received_row rows p Disconnects) refl mine
+  heard-leaves rows p (Breaks cause) e each is mine = no-server rows (received_row rows p (Breaks cause)) refl mine
   heard-leaves rows p (ToClient j) e each is mine =
-      let same : j ≡ k = sym (client-of (Heard p) j (heard_for (rows_of j rows) p) (rows_of j rows)) ∙ mine in
+      let same : j ≡ k = sym (client-of (Heard p) j (received_for (rows_of j rows) p) (rows_of j rows)) ∙ mine in
       let lost : is_lost (rows_of k rows) ≡ true = elim is.silent [ inl l ↦ l | inr g ↦ absurd (let bad : true ≡ false = sym (to-greeted policy pid rows p k each (e ∙ ap ToClient same)) ∙ g in let h = bad in cc) ] in
       let lost-j : is_lost (rows_of j rows) ≡ true = ap (λ i. is_lost (rows_of i rows)) same ∙ lost in
       record {
-        nothing = lost-told (Heard p) j (heard_for (rows_of j rows) p) (rows_of j rows) lost-j (heard-nothing (rows_of j rows) p lost-j);
-        takes = ap took_by (item-of (Heard p) j (heard_for (rows_of j rows) p) (rows_of j rows));
+        nothing = lost-recorded (Heard p) j (received_for (rows_of j rows) p) (rows_of j rows) lost-j (heard-nothing (rows_of j rows) p lost-j);
+        takes = ap took_by (item-of (Heard p) j (received_for (rows_of j rows) p) (rows_of j rows));
         lost = lost;
       }
 
   -- each item, as it is treated
-  treat-leaves : (pick : ℕ) (rows : List Row) (item : Item) → Passes k item → makes_next rows item ≡ true → ForEach (RowKnown policy pid) rows → HearsNothing k rows → Leaves k rows (treat policy pid pick rows item)
-  treat-leaves pick rows (Says j saying given) pass makes each is = not-own rows (Says j saying given) j (said_by_client policy pid j (rows_of j rows) pick saying given) is makes (λ on. next-live rows (Says j saying given) on) (λ over. after-end rows (Says j saying given) refl over)
-  treat-leaves pick rows (HouseSays j id given) pass makes each is = not-own rows (HouseSays j id given) j (house_says (rows_of j rows) id given) is makes (λ on. next-live rows (HouseSays j id given) on) (λ over. after-end rows (HouseSays j id given) refl over)
+  treat-leaves : (pick : ℕ) (rows : List Row) (item : Item) → Passes k item → makes_next rows item ≡ true → ForEach (RowKnown policy pid) rows → ReceivesNothing k rows → Leaves k rows (treat policy pid pick rows item)
+  treat-leaves pick rows (Says j outgoing given) pass makes each is = not-own rows (Says j outgoing given) j (sent_by_client policy pid j (rows_of j rows) pick outgoing given) is makes (λ on. next-live rows (Says j outgoing given) on) (λ over. after-end rows (Says j outgoing given) refl over)
+  treat-leaves pick rows (HouseSays j id given) pass makes each is = not-own rows (HouseSays j id given) j (house_sends (rows_of j rows) id given) is makes (λ on. next-live rows (HouseSays j id given) on) (λ over. after-end rows (HouseSays j id given) refl over)
   treat-leaves pick rows (Gone j) pass makes each is = not-own rows (Gone j) j silent is makes (λ on. next-live rows (Gone j) on) (λ over. after-end rows (Gone j) refl over)
   treat-leaves pick rows (Admit j) pass makes each is = λ mine. absurd (pass (sym (client-of (Admit j) j (admits rows) (rows_of j rows)) ∙ mine))
   treat-leaves pick rows (Heard p) pass makes each is = heard-leaves rows p (dest rows p) refl each is
@@ -132,9 +132,9 @@ module _ (policy : Policy) (pid : ℕ) (k : ℕ) (real : k ≢ 0) where
   -- what waits for it afterwards, and how it stands
   pub record Stays (rows rows' : List Row) : Type 0 where
     pub waits : pending_down (rows_of k rows') ≡ pending_down (rows_of k rows)
-    pub silent : HearsNothing k rows'
+    pub silent : ReceivesNothing k rows'
 
-  stays-row : (rows : List Row) (row : Row) → HearsNothing k rows → Leaves k rows row → Stays rows (row ∷ rows)
+  stays-row : (rows : List Row) (row : Row) → ReceivesNothing k rows → Leaves k rows row → Stays rows (row ∷ rows)
   stays-row rows row is leaves = by_client (row.client == k) refl
     where
       own : (row.client == k) ≡ true → rows_of k (row ∷ rows) ≡ row ∷ rows_of k rows
@@ -144,7 +144,7 @@ module _ (policy : Policy) (pid : ℕ) (k : ℕ) (real : k ≢ 0) where
       other e = filter-no (λ (r : Row). r.client == k) row rows e
 
       by_client : (b : Bool) → (row.client == k) ≡ b → Stays rows (row ∷ rows)
-      by_client true e = let l : TellsNothing k rows row = leaves (same-number row.client k e) in record {
+      by_client true e = let l : RecordsNothing k rows row = leaves (same-number row.client k e) in record {
         waits = ap pending_down (own e) ∙ (ap (λ n. drop n (pending_down (rows_of k rows) ++ joined row.down)) l.takes ∙ (ap (λ d. pending_down (rows_of k rows) ++ joined d) l.nothing ∙ append-nil (pending_down (rows_of k rows))));
         silent = record {
           out = ap is_out (own e) ∙ or-yes (loses row || is_refusal row.fate) (is_out (rows_of k rows)) is.out;
@@ -156,20 +156,20 @@ module _ (policy : Policy) (pid : ℕ) (k : ℕ) (real : k ≢ 0) where
         silent = record { out = ap is_out (other e) ∙ is.out; silent = subst (λ (l : List Row). (is_lost l ≡ true) ⊎ (greeted l ≡ false)) (sym (other e)) is.silent };
       }
 
-  stays-none : (rows : List Row) → HearsNothing k rows → Stays rows rows
+  stays-none : (rows : List Row) → ReceivesNothing k rows → Stays rows rows
   stays-none rows is = record { waits = refl; silent = is }
 
   module _ (picks : List ℕ) (given : List HouseReply) where
     abbrev setting : Setting
     setting = by_lists policy pid picks given
 
-    stays-item : (rows : List Row) (item : Item) → Passes k item → HearsNothing k rows → ForEach (RowKnown policy pid) rows → Stays rows (more_of setting rows item)
+    stays-item : (rows : List Row) (item : Item) → Passes k item → ReceivesNothing k rows → ForEach (RowKnown policy pid) rows → Stays rows (more_of setting rows item)
     stays-item rows item pass is each = by-more policy pid picks given (Stays rows) rows item
         (λ stays. stays-none rows is)
         (λ makes. stays-row rows (next policy pid picks given rows item) is (treat-leaves (pick_of (lists policy pid picks given) rows item) rows (with_reply (lists policy pid picks given) rows item)
         (with-reply policy pid picks given (Passes k) (λ j body a b h. h) rows item pass) (reply-next policy pid picks given rows item makes) each is))
 
-    pub stays-items : (rows : List Row) (xs : List Item) → EachItem (Passes k) xs → HearsNothing k rows → ForEach (RowKnown policy pid) (more_all setting rows xs) → Stays rows (more_all setting rows xs)
+    pub stays-items : (rows : List Row) (xs : List Item) → EachItem (Passes k) xs → ReceivesNothing k rows → ForEach (RowKnown policy pid) (more_all setting rows xs) → Stays rows (more_all setting rows xs)
     stays-items rows [] pass is each = stays-none rows is
     stays-items rows (item ∷ xs) pass is each =
         let now : ForEach (RowKnown policy pid) (more_of setting rows item) = tails policy pid picks given (ForEach (RowKnown policy pid)) (λ row rs h. h.1) (more_of setting rows item) xs each in
@@ -180,13 +180,13 @@ module _ (policy : Policy) (pid : ℕ) (k : ℕ) (real : k ≢ 0) where
 
 -- ---- the items of a mark
 
-heard-pass : (k : ℕ) (ss : List Saying) → EachItem (Passes k) (map heard_item ss)
+heard-pass : (k : ℕ) (ss : List Outgoing) → EachItem (Passes k) (map received_item ss)
 heard-pass k [] = tt
 heard-pass k (Body body ∷ ss) = (tt, heard-pass k ss)
 heard-pass k (Payload p ∷ ss) = (tt, heard-pass k ss)
 heard-pass k (BadFraming fault ∷ ss) = (tt, heard-pass k ss)
 
-said-pass : (k j : ℕ) (ss : List Saying) → EachItem (Passes k) (map (said_item j) ss)
+said-pass : (k j : ℕ) (ss : List Outgoing) → EachItem (Passes k) (map (sent_item j) ss)
 said-pass k j [] = tt
 said-pass k j (s ∷ ss) = (tt, said-pass k j ss)
 
@@ -219,7 +219,7 @@ own-pass k j xs each = either-pass k (is_own_stream j) [] xs tt each
 
 mark-pass : (k : ℕ) (before : List Mark) (mark : Mark) → Spares k mark → EachItem (Passes k) (items_in before mark)
 mark-pass k before (Accepts j) spares = (spares, tt)
-mark-pass k before (Gets j bytes) spares = either-pass k (j == 0) (new_heard (bytes_of 0 before) (bytes_of 0 before ++ bytes)) (unless_own j (new_sayings j (bytes_of j before) (bytes_of j before ++ bytes)))
+mark-pass k before (Gets j bytes) spares = either-pass k (j == 0) (new_received (bytes_of 0 before) (bytes_of 0 before ++ bytes)) (unless_own j (new_sayings j (bytes_of j before) (bytes_of j before ++ bytes)))
     (heard-pass k (drop (length (parse InProxy (bytes_of 0 before)).says) (parse InProxy (bytes_of 0 before ++ bytes)).says))
     (own-pass k j (new_sayings j (bytes_of j before) (bytes_of j before ++ bytes)) (said-pass k j (drop (length (said (bytes_of j before))) (said (bytes_of j before ++ bytes)))))
 mark-pass k before (Ends j) spares = either-pass k (j == 0) (server_end (parse InProxy (bytes_of 0 before)).rest ∷ []) (unless_own j (Gone j ∷ [])) (end-pass k (parse InProxy (bytes_of 0 before)).rest) (own-pass k j (Gone j ∷ []) (tt, tt))
@@ -238,15 +238,15 @@ mark-pass k before (House (HouseAnswer client id reply)) spares = (tt, tt)
 mark-pass k before (House (HouseOrder order number)) spares = tt
 
 -- what waits for a silent client after a mark that spares it
-pub waits-on : (policy : Policy) (pid k : ℕ) → k ≢ 0 → (picks : List ℕ) (given : List HouseReply) (mark : Mark) (before : List Mark) → Spares k mark → HearsNothing k (log_of_journal (by_lists policy pid picks given) before) → LogKnown policy pid (log_of_journal (by_lists policy pid picks given) (mark ∷ before))
+pub waits-on : (policy : Policy) (pid k : ℕ) → k ≢ 0 → (picks : List ℕ) (given : List HouseReply) (mark : Mark) (before : List Mark) → Spares k mark → ReceivesNothing k (log_of_journal (by_lists policy pid picks given) before) → LogKnown policy pid (log_of_journal (by_lists policy pid picks given) (mark ∷ before))
     → pending_down (rows_of k (log_of_journal (by_lists policy pid picks given) (mark ∷ before))) ≡ pending_down (rows_of k (log_of_journal (by_lists policy pid picks given) before))
 waits-on policy pid k real picks given mark before spares is known = (stays-items policy pid k real picks given (log_of_journal (by_lists policy pid picks given) before) (items_in before mark) (mark-pass k before mark spares) is known.each).waits
 
 -- ---- a client that was closed
 
 -- it hears nothing more
-closed-hears : {taken : ℕ} {drawn : List HouseMark} {s : State} {closed : List ℕ} {rows : List Row} → RowsFit taken drawn s closed rows → ForEach LetFirst rows → (k : ℕ) → among k closed ≡ true → HearsNothing k rows
-closed-hears {rows = rows} fit first k c = record { out = fit.closed_out k c; silent = by_admitted (any_of is_admit (rows_of k rows)) refl }
+closed-receives : {taken : ℕ} {drawn : List HouseMark} {s : State} {closed : List ℕ} {rows : List Row} → RowsFit taken drawn s closed rows → ForEach LetFirst rows → (k : ℕ) → among k closed ≡ true → ReceivesNothing k rows
+closed-receives {rows = rows} fit first k c = record { out = fit.closed_out k c; silent = by_admitted (any_of is_admit (rows_of k rows)) refl }
   where
     by_greeted : any_of is_admit (rows_of k rows) ≡ false → (b : Bool) → greeted (rows_of k rows) ≡ b → b ≡ false
     by_greeted e false f = refl
@@ -265,4 +265,4 @@ pub waits-closed : {taken : ℕ} {drawn : List HouseMark} {s : State} {closed : 
     → pending_down (rows_of k (log_of_journal (by_lists policy pid picks replies) (mark ∷ before))) ≡ pending_down (rows_of k (log_of_journal (by_lists policy pid picks replies) before))
 waits-closed policy pid picks replies mark before fit lawful fresh k real c spares =
     let was : LogKnown policy pid (log_of_journal (by_lists policy pid picks replies) before) = known-log policy pid picks replies before lawful.1 fit.fresh in
-    waits-on policy pid k real picks replies mark before spares (closed-hears fit (log-first policy pid picks replies before was.each lawful.1) k c) (known-log policy pid picks replies (mark ∷ before) lawful fresh)
+    waits-on policy pid k real picks replies mark before spares (closed-receives fit (log-first policy pid picks replies before was.each lawful.1) k c) (known-log policy pid picks replies (mark ∷ before) lawful fresh)

@@ -19,17 +19,17 @@ use Rattle.mux_outside.specs.declared.turn.Want.{Want}
 use Rattle.mux_history.specs.declared.limits.TheConstants.{HOUSE}
 use Rattle.mux_history.specs.Journal.{is_accepted}
 use Rattle.mux_history.specs.Policy.{Policy}
-use Rattle.mux_clients.specs.Asked.{TellsAsks}
-use Rattle.mux_machine.specs.State.{State}
-use Rattle.mux_machine.specs.Events.{Tells}
-use Rattle.mux_machine.specs.declared.event.Event.{Event}
-use Rattle.mux_machine.specs.Stands.{GoesBy, IsAllowed, Stands}
-use Rattle.mux_engine.specs.Asking.{Heeded, HeedsSo}
+use Rattle.mux_peers.specs.Asked.{RecordsAsks}
+use Rattle.mux_state.specs.State.{State}
+use Rattle.mux_state.specs.Events.{Records}
+use Rattle.mux_state.specs.declared.event.Event.{Event}
+use Rattle.mux_state.specs.Stands.{GoesBy, IsAllowed, Stands}
+use Rattle.mux_engine.specs.Asking.{Applied, AppliesSo}
 use Rattle.mux_engine.specs.OwnFaults.{OwnCounted}
 use Rattle.mux_engine.specs.Serving.{IsUnseen, Serving}
 use Rattle.mux_engine.specs.Sides.{Resting, Side}
 use Rattle.mux_engine.specs.Turns.{IsEventOf}
-use Rattle.mux_engine.proofs.Asks.{EachAsked, SaidBy, goes-asked}
+use Rattle.mux_engine.proofs.Asks.{EachAsked, SentBy, goes-asked}
 use Rattle.mux_engine.proofs.Lists.{not-own-stream}
 use Rattle.mux_engine.proofs.OwnFaults.{own-asks, own-still}
 use Rattle.mux_engine.proofs.Places.{at-stream, open-stream}
@@ -39,7 +39,7 @@ use Rattle.mux_engine.proofs.WireTurns.{client-number}
 abbrev Anyone : ℕ → Type 0
 Anyone k = Unit {0}
 
-said-by : (mark : Mark) → SaidBy Anyone mark
+said-by : (mark : Mark) → SentBy Anyone mark
 said-by (Gets k bytes) = λ nz. tt
 said-by (Waits waiting want streams listens) = tt
 said-by (Accepts k) = tt
@@ -57,7 +57,7 @@ said-by (House (HouseAsked client id opening ask reply)) = tt
 said-by (House (HouseAnswer client id reply)) = tt
 said-by (House (HouseOrder order number)) = tt
 
-asks-are : (asks more : List HouseMark) → TellsAsks (Some []) (Some asks) more → asks ≡ more
+asks-are : (asks more : List HouseMark) → RecordsAsks (Some []) (Some asks) more → asks ≡ more
 asks-are asks more e = held e
   where
     held : Some asks ≡ Some more → asks ≡ more
@@ -66,24 +66,24 @@ asks-are asks more e = held e
 -- an event that a mark tells which may come now
 pub record MayCome (e : Event) (s : State) (journal : List Mark) : Type 0 where
   pub mark : Mark
-  pub tells : Tells e mark
+  pub records : Records e mark
   pub allowed : IsAllowed s journal mark
 
 module _ {picked : List ℕ} {replies : List HouseReply} {s : State} {journal : List Mark} {closed : List ℕ} (st : Stands picked replies s journal closed) {e : Event} (comes : MayCome e s journal) where
-  heeds-counted : {May : HouseReply → Type 0} (s' : State) (asks : List HouseMark) (told told' : Option (List HouseMark)) (known known' : Known) (seen seen' : Seen) (n : ℕ) (faults faults' : ℕ) → faults' ≡ faults → HeedsSo May e s s' asks told told' known known' seen seen' n → OwnCounted seen.told seen'.told faults faults'
-  heeds-counted {May} s' asks told told' known known' seen seen' n faults faults' same h =
-      let g : GoesBy May (Some []) (Some asks) picked replies s s' comes.mark journal closed = h.goes comes.mark comes.tells picked replies journal closed st comes.allowed in
-      let each : EachAsked Anyone asks = subst (EachAsked Anyone) (sym (asks-are asks g.asks g.told)) (goes-asked Anyone g h.keeps.policy h.keeps.pid (said-by comes.mark)) in
+  applies-counted : {May : HouseReply → Type 0} (s' : State) (asks : List HouseMark) (recorded recorded' : Option (List HouseMark)) (known known' : Known) (seen seen' : Seen) (n : ℕ) (faults faults' : ℕ) → faults' ≡ faults → AppliesSo May e s s' asks recorded recorded' known known' seen seen' n → OwnCounted seen.recorded seen'.recorded faults faults'
+  applies-counted {May} s' asks recorded recorded' known known' seen seen' n faults faults' same h =
+      let g : GoesBy May (Some []) (Some asks) picked replies s s' comes.mark journal closed = h.goes comes.mark comes.records picked replies journal closed st comes.allowed in
+      let each : EachAsked Anyone asks = subst (EachAsked Anyone) (sym (asks-are asks g.asks g.recorded)) (goes-asked Anyone g h.keeps.policy h.keeps.pid (said-by comes.mark)) in
       own-asks Anyone n asks seen seen' faults faults' each h.seen_is same
 
-  pub heeded-counted : {A E : Type 0} (r : Result A E) (May : HouseReply → Type 0) (s' : State) (asks : List HouseMark) (told told' : Option (List HouseMark)) (known known' : Known) (seen seen' : Seen) (faults faults' : ℕ) → faults' ≡ faults → Heeded r May e s s' asks told told' known known' seen seen' → OwnCounted seen.told seen'.told faults faults'
-  heeded-counted (Ok x) May s' asks told told' known known' seen seen' faults faults' same h = heeds-counted s' asks told told' known known' seen seen' (length asks) faults faults' same h
-  heeded-counted (Err x) May s' asks told told' known known' seen seen' faults faults' same (inl u) = own-still seen.told seen'.told faults faults' (ap (λ (y : Seen). y.told) u.seen_is) (omega (arith, same))
-  heeded-counted (Err x) May s' asks told told' known known' seen seen' faults faults' same (inr p) = heeds-counted s' asks told told' known known' seen seen' p.0 faults faults' same p.1
+  pub applied-counted : {A E : Type 0} (r : Result A E) (May : HouseReply → Type 0) (s' : State) (asks : List HouseMark) (recorded recorded' : Option (List HouseMark)) (known known' : Known) (seen seen' : Seen) (faults faults' : ℕ) → faults' ≡ faults → Applied r May e s s' asks recorded recorded' known known' seen seen' → OwnCounted seen.recorded seen'.recorded faults faults'
+  applied-counted (Ok x) May s' asks recorded recorded' known known' seen seen' faults faults' same h = applies-counted s' asks recorded recorded' known known' seen seen' (length asks) faults faults' same h
+  applied-counted (Err x) May s' asks recorded recorded' known known' seen seen' faults faults' same (inl u) = own-still seen.recorded seen'.recorded faults faults' (ap (λ (y : Seen). y.recorded) u.seen_is) (omega (arith, same))
+  applied-counted (Err x) May s' asks recorded recorded' known known' seen seen' faults faults' same (inr p) = applies-counted s' asks recorded recorded' known known' seen seen' p.0 faults faults' same p.1
 
 -- what the house says as a client
-pub house-comes : (e : Event) (s : State) (journal : List Mark) (bytes : List ℕ) → is_accepted HOUSE journal ≡ true → AreBytes bytes → Tells e (Gets HOUSE bytes) → MayCome e s journal
-house-comes e s journal bytes within are tells = record { mark = Gets HOUSE bytes; tells = tells; allowed = ((λ nz. within), are, refl) }
+pub house-comes : (e : Event) (s : State) (journal : List Mark) (bytes : List ℕ) → is_accepted HOUSE journal ≡ true → AreBytes bytes → Records e (Gets HOUSE bytes) → MayCome e s journal
+house-comes e s journal bytes within are records = record { mark = Gets HOUSE bytes; records = records; allowed = ((λ nz. within), are, refl) }
 
 -- ---- a turn of the wire
 
@@ -99,10 +99,10 @@ module _ {May : HouseReply → Type 0} {Rest : Resting} {before : Option (List H
   turn-comes e (turn.Accepted k) want bytes got are fits next =
       let few : k ≤ LAST_CLIENT = few-clients seen.last k fits.2 fits.3 in
       let new : IsUnseen v.journal seen.blocked k = v.unseen k (let n : k ≡ seen.last + 1 = fits.2 in omega arith) few in
-      record { mark = Accepts k; tells = next; allowed = ((λ z. let n : k ≡ seen.last + 1 = fits.2 in absurd (omega (arith, z, n))), new.not_accepted, not-own-stream k (client-number k few)) }
-  turn-comes e (turn.Got k) want bytes got are fits next = record { mark = Gets k got; tells = next.1; allowed = ((λ nz. accepted k next.0 fits.1 nz), are, not-own-stream k next.0) }
-  turn-comes e (turn.End k) want bytes got are fits next = record { mark = Ends k; tells = next.1; allowed = ((λ nz. accepted k next.0 fits.1 nz), not-own-stream k next.0) }
-  turn-comes e (turn.Failed k) want bytes got are fits next = record { mark = Fails k; tells = next.1; allowed = ((λ nz. accepted k next.0 fits nz), not-own-stream k next.0) }
+      record { mark = Accepts k; records = next; allowed = ((λ z. let n : k ≡ seen.last + 1 = fits.2 in absurd (omega (arith, z, n))), new.not_accepted, not-own-stream k (client-number k few)) }
+  turn-comes e (turn.Got k) want bytes got are fits next = record { mark = Gets k got; records = next.1; allowed = ((λ nz. accepted k next.0 fits.1 nz), are, not-own-stream k next.0) }
+  turn-comes e (turn.End k) want bytes got are fits next = record { mark = Ends k; records = next.1; allowed = ((λ nz. accepted k next.0 fits.1 nz), not-own-stream k next.0) }
+  turn-comes e (turn.Failed k) want bytes got are fits next = record { mark = Fails k; records = next.1; allowed = ((λ nz. accepted k next.0 fits nz), not-own-stream k next.0) }
   turn-comes e (turn.Writable k) want bytes got are fits next = absurd next
   turn-comes e (turn.Joined l k) want bytes got are fits next = absurd next
   turn-comes e turn.NoMemory want bytes got are fits next = absurd next

@@ -32,14 +32,14 @@ same-later a b e = omega arith
 -- ---- first one, then another
 
 -- where nothing was told
-pub own-same : (told : Option (List Mark)) (faults : ℕ) → OwnCounted told told faults faults
-own-same told faults = record { later = omega arith; counted = inl (omega arith) }
+pub own-same : (recorded : Option (List Mark)) (faults : ℕ) → OwnCounted recorded recorded faults faults
+own-same recorded faults = record { later = omega arith; counted = inl (omega arith) }
 
-pub own-still : (told told' : Option (List Mark)) (faults faults' : ℕ) → told' ≡ told → faults ≤ faults' → OwnCounted told told' faults faults'
-own-still told told' faults faults' e l = let z : unmade_in told' ≡ unmade_in told = ap unmade_in e in record { later = l; counted = inl (omega (arith, z, l)) }
+pub own-still : (recorded recorded' : Option (List Mark)) (faults faults' : ℕ) → recorded' ≡ recorded → faults ≤ faults' → OwnCounted recorded recorded' faults faults'
+own-still recorded recorded' faults faults' e l = let z : unmade_in recorded' ≡ unmade_in recorded = ap unmade_in e in record { later = l; counted = inl (omega (arith, z, l)) }
 
-pub own-kept : (told told' : Option (List Mark)) (faults faults' : ℕ) → told' ≡ told → faults' ≡ faults → OwnCounted told told' faults faults'
-own-kept told told' faults faults' e f = own-still told told' faults faults' e (same-later faults faults' f)
+pub own-kept : (recorded recorded' : Option (List Mark)) (faults faults' : ℕ) → recorded' ≡ recorded → faults' ≡ faults → OwnCounted recorded recorded' faults faults'
+own-kept recorded recorded' faults faults' e f = own-still recorded recorded' faults faults' e (same-later faults faults' f)
 
 pub own-then : (a b c : Option (List Mark)) (m n o : ℕ) → OwnCounted a b m n → OwnCounted b c n o → OwnCounted a c m o
 own-then a b c m n o v w = let f : m ≤ n = v.later in let g : n ≤ o = w.later in record { later = omega (arith, f, g); counted = both v.counted w.counted f g }
@@ -51,14 +51,14 @@ own-then a b c m n o v w = let f : m ≤ n = v.later in let g : n ≤ o = w.late
 
 -- ---- marks that are told
 
-unmade-more : (told : Option (List Mark)) (more : List Mark) → filter is_unmade more ≡ [] → unmade_in (option_map (λ m. m ++ more) told) ≡ unmade_in told
+unmade-more : (recorded : Option (List Mark)) (more : List Mark) → filter is_unmade more ≡ [] → unmade_in (option_map (λ m. m ++ more) recorded) ≡ unmade_in recorded
 unmade-more None more none = refl
 unmade-more (Some marks) more none = ap length (filter-append is_unmade marks more) ∙ (length-append (filter is_unmade marks) (filter is_unmade more) ∙ adds (length (filter is_unmade marks)) (length (filter is_unmade more)) (ap length none))
   where
     adds : (m n : ℕ) → n ≡ 0 → m + n ≡ m
     adds m n e = omega arith
 
-unmade-one : (told : Option (List Mark)) (mark : Mark) → unmade_in (option_map (λ m. m ++ mark ∷ []) told) ≤ unmade_in told + 1
+unmade-one : (recorded : Option (List Mark)) (mark : Mark) → unmade_in (option_map (λ m. m ++ mark ∷ []) recorded) ≤ unmade_in recorded + 1
 unmade-one None mark = omega arith
 unmade-one (Some marks) mark =
     let e : length (filter is_unmade (marks ++ mark ∷ [])) ≡ length (filter is_unmade marks) + length (filter is_unmade (mark ∷ [])) = ap length (filter-append is_unmade marks (mark ∷ [])) ∙ length-append (filter is_unmade marks) (filter is_unmade (mark ∷ [])) in
@@ -69,16 +69,16 @@ unmade-one (Some marks) mark =
     one false = omega arith
 
 -- none of them is an order that got no number
-pub own-told : (told told' : Option (List Mark)) (more : List Mark) (faults faults' : ℕ) → told' ≡ option_map (λ m. m ++ more) told → filter is_unmade more ≡ [] → faults ≤ faults' → OwnCounted told told' faults faults'
-own-told told told' more faults faults' e none l =
-    let z : unmade_in told' ≡ unmade_in told = ap unmade_in e ∙ unmade-more told more none in record { later = l; counted = inl (omega (arith, z, l)) }
+pub own-recorded : (recorded recorded' : Option (List Mark)) (more : List Mark) (faults faults' : ℕ) → recorded' ≡ option_map (λ m. m ++ more) recorded → filter is_unmade more ≡ [] → faults ≤ faults' → OwnCounted recorded recorded' faults faults'
+own-recorded recorded recorded' more faults faults' e none l =
+    let z : unmade_in recorded' ≡ unmade_in recorded = ap unmade_in e ∙ unmade-more recorded more none in record { later = l; counted = inl (omega (arith, z, l)) }
 
 -- one of them may be, whose fault was counted
-pub own-rose : (told told' : Option (List Mark)) (mark : Mark) (faults faults' : ℕ) → told' ≡ option_map (λ m. m ++ mark ∷ []) told → Rose faults faults' → OwnCounted told told' faults faults'
-own-rose told told' mark faults faults' e r =
-    let z : unmade_in told' ≡ unmade_in (option_map (λ m. m ++ mark ∷ []) told) = ap unmade_in e in
-    let l : unmade_in (option_map (λ m. m ++ mark ∷ []) told) ≤ unmade_in told + 1 = unmade-one told mark in
-    record { later = r.later; counted = full (unmade_in told) (unmade_in told') (omega (arith, z, l)) r.rose }
+pub own-rose : (recorded recorded' : Option (List Mark)) (mark : Mark) (faults faults' : ℕ) → recorded' ≡ option_map (λ m. m ++ mark ∷ []) recorded → Rose faults faults' → OwnCounted recorded recorded' faults faults'
+own-rose recorded recorded' mark faults faults' e r =
+    let z : unmade_in recorded' ≡ unmade_in (option_map (λ m. m ++ mark ∷ []) recorded) = ap unmade_in e in
+    let l : unmade_in (option_map (λ m. m ++ mark ∷ []) recorded) ≤ unmade_in recorded + 1 = unmade-one recorded mark in
+    record { later = r.later; counted = full (unmade_in recorded) (unmade_in recorded') (omega (arith, z, l)) r.rose }
   where
     full : (m n : ℕ) → n ≤ m + 1 → counted faults ≤ faults' → (n + faults ≤ m + faults') ⊎ (2 ^ 64 - 1 ≤ faults')
     full m n l c = grind (arith, l, c)
@@ -103,14 +103,14 @@ turn-later (turn.Writable k) f f' c = same-own f f' c
 turn-later (turn.Joined l k) f f' c = same-own f f' c
 turn-later turn.NoMemory f f' c = same-own f f' c
 
-pub own-turn : (t : Turn) (waiting : List ℕ) (want : Want) (bytes : List ℕ) (old new : Seen) (f f' : Faults) → new ≡ seen_after_turn t waiting want bytes old → TurnFaults t f f' → OwnCounted old.told new.told f.own f'.own
-own-turn (turn.Failed k) waiting want bytes old new f f' e c = own-told old.told new.told _ f.own f'.own (ap (λ (x : Seen). x.told) e) refl (turn-later (turn.Failed k) f f' c)
-own-turn (turn.Accepted k) waiting want bytes old new f f' e c = own-told old.told new.told _ f.own f'.own (ap (λ (x : Seen). x.told) e) refl (turn-later (turn.Accepted k) f f' c)
-own-turn (turn.Got k) waiting want bytes old new f f' e c = own-told old.told new.told _ f.own f'.own (ap (λ (x : Seen). x.told) e) refl (turn-later (turn.Got k) f f' c)
-own-turn (turn.End k) waiting want bytes old new f f' e c = own-told old.told new.told _ f.own f'.own (ap (λ (x : Seen). x.told) e) refl (turn-later (turn.End k) f f' c)
-own-turn (turn.Writable k) waiting want bytes old new f f' e c = own-told old.told new.told _ f.own f'.own (ap (λ (x : Seen). x.told) e) refl (turn-later (turn.Writable k) f f' c)
-own-turn (turn.Joined l k) waiting want bytes old new f f' e c = own-told old.told new.told _ f.own f'.own (ap (λ (x : Seen). x.told) e) refl (turn-later (turn.Joined l k) f f' c)
-own-turn turn.NoMemory waiting want bytes old new f f' e c = own-told old.told new.told _ f.own f'.own (ap (λ (x : Seen). x.told) e) refl (turn-later turn.NoMemory f f' c)
+pub own-turn : (t : Turn) (waiting : List ℕ) (want : Want) (bytes : List ℕ) (old new : Seen) (f f' : Faults) → new ≡ seen_after_turn t waiting want bytes old → TurnFaults t f f' → OwnCounted old.recorded new.recorded f.own f'.own
+own-turn (turn.Failed k) waiting want bytes old new f f' e c = own-recorded old.recorded new.recorded _ f.own f'.own (ap (λ (x : Seen). x.recorded) e) refl (turn-later (turn.Failed k) f f' c)
+own-turn (turn.Accepted k) waiting want bytes old new f f' e c = own-recorded old.recorded new.recorded _ f.own f'.own (ap (λ (x : Seen). x.recorded) e) refl (turn-later (turn.Accepted k) f f' c)
+own-turn (turn.Got k) waiting want bytes old new f f' e c = own-recorded old.recorded new.recorded _ f.own f'.own (ap (λ (x : Seen). x.recorded) e) refl (turn-later (turn.Got k) f f' c)
+own-turn (turn.End k) waiting want bytes old new f f' e c = own-recorded old.recorded new.recorded _ f.own f'.own (ap (λ (x : Seen). x.recorded) e) refl (turn-later (turn.End k) f f' c)
+own-turn (turn.Writable k) waiting want bytes old new f f' e c = own-recorded old.recorded new.recorded _ f.own f'.own (ap (λ (x : Seen). x.recorded) e) refl (turn-later (turn.Writable k) f f' c)
+own-turn (turn.Joined l k) waiting want bytes old new f f' e c = own-recorded old.recorded new.recorded _ f.own f'.own (ap (λ (x : Seen). x.recorded) e) refl (turn-later (turn.Joined l k) f f' c)
+own-turn turn.NoMemory waiting want bytes old new f f' e c = own-recorded old.recorded new.recorded _ f.own f'.own (ap (λ (x : Seen). x.recorded) e) refl (turn-later turn.NoMemory f f' c)
 
 wrote-later : (answer : Wrote) (k : ℕ) (f f' : Faults) → WroteFaults answer k f f' → f.own ≤ f'.own
 wrote-later wrote.Failed k f f' c = fault-later (whose k) f f' c
@@ -118,16 +118,16 @@ wrote-later (wrote.Took j) k f f' c = same-own f f' c
 wrote-later wrote.Later k f f' c = same-own f f' c
 wrote-later wrote.NoMemory k f f' c = same-own f f' c
 
-pub own-write : (answer : Wrote) (k : ℕ) (bytes : List ℕ) (old new : Seen) (f f' : Faults) → new ≡ seen_after_write answer k bytes old → WroteFaults answer k f f' → OwnCounted old.told new.told f.own f'.own
-own-write wrote.Failed k bytes old new f f' e c = own-told old.told new.told _ f.own f'.own (ap (λ (x : Seen). x.told) e) refl (wrote-later wrote.Failed k f f' c)
-own-write (wrote.Took j) k bytes old new f f' e c = own-told old.told new.told _ f.own f'.own (ap (λ (x : Seen). x.told) e) refl (wrote-later (wrote.Took j) k f f' c)
-own-write wrote.Later k bytes old new f f' e c = own-told old.told new.told _ f.own f'.own (ap (λ (x : Seen). x.told) e) refl (wrote-later wrote.Later k f f' c)
-own-write wrote.NoMemory k bytes old new f f' e c = own-told old.told new.told _ f.own f'.own (ap (λ (x : Seen). x.told) e) refl (wrote-later wrote.NoMemory k f f' c)
+pub own-write : (answer : Wrote) (k : ℕ) (bytes : List ℕ) (old new : Seen) (f f' : Faults) → new ≡ seen_after_write answer k bytes old → WroteFaults answer k f f' → OwnCounted old.recorded new.recorded f.own f'.own
+own-write wrote.Failed k bytes old new f f' e c = own-recorded old.recorded new.recorded _ f.own f'.own (ap (λ (x : Seen). x.recorded) e) refl (wrote-later wrote.Failed k f f' c)
+own-write (wrote.Took j) k bytes old new f f' e c = own-recorded old.recorded new.recorded _ f.own f'.own (ap (λ (x : Seen). x.recorded) e) refl (wrote-later (wrote.Took j) k f f' c)
+own-write wrote.Later k bytes old new f f' e c = own-recorded old.recorded new.recorded _ f.own f'.own (ap (λ (x : Seen). x.recorded) e) refl (wrote-later wrote.Later k f f' c)
+own-write wrote.NoMemory k bytes old new f f' e c = own-recorded old.recorded new.recorded _ f.own f'.own (ap (λ (x : Seen). x.recorded) e) refl (wrote-later wrote.NoMemory k f f' c)
 
 -- a mark of a house was noted that is no such order
-pub own-note : {E : Type 0} (r : Result (Unit {0}) E) (mark : HouseMark) (old new : Seen) (m n : ℕ) → is_unmade (House mark) ≡ false → new ≡ seen_after_note r mark old → n ≡ m → OwnCounted old.told new.told m n
-own-note (Ok x) mark old new m n made e f = own-told old.told new.told (House mark ∷ []) m n (ap (λ (x : Seen). x.told) e) (ap (λ b. cond b (House mark ∷ []) []) made) (same-later m n f)
-own-note (Err x) mark old new m n made e f = own-still old.told new.told m n (ap (λ (x : Seen). x.told) e) (same-later m n f)
+pub own-note : {E : Type 0} (r : Result (Unit {0}) E) (mark : HouseMark) (old new : Seen) (m n : ℕ) → is_unmade (House mark) ≡ false → new ≡ seen_after_note r mark old → n ≡ m → OwnCounted old.recorded new.recorded m n
+own-note (Ok x) mark old new m n made e f = own-recorded old.recorded new.recorded (House mark ∷ []) m n (ap (λ (x : Seen). x.recorded) e) (ap (λ b. cond b (House mark ∷ []) []) made) (same-later m n f)
+own-note (Err x) mark old new m n made e f = own-still old.recorded new.recorded m n (ap (λ (x : Seen). x.recorded) e) (same-later m n f)
 
 -- asks of clients are none
 asks-made : (P : ℕ → Type 0) (n : ℕ) (asks : List HouseMark) → EachAsked P asks → filter is_unmade (map (λ (a : HouseMark). House a) (take n asks)) ≡ []
@@ -140,8 +140,8 @@ asks-made P (suc n) (HouseTook size ∷ asks) each = absurd each.0
 asks-made P (suc n) (HouseAnswer client id reply ∷ asks) each = absurd each.0
 asks-made P (suc n) (HouseOrder order number ∷ asks) each = absurd each.0
 
-pub own-asks : (P : ℕ → Type 0) (k : ℕ) (asks : List HouseMark) (old new : Seen) (m n : ℕ) → EachAsked P asks → new ≡ record old { told = option_map (λ (l : List Mark). l ++ map (λ (a : HouseMark). House a) (take k asks)) old.told } → n ≡ m → OwnCounted old.told new.told m n
-own-asks P k asks old new m n each e f = own-told old.told new.told (map (λ (a : HouseMark). House a) (take k asks)) m n (ap (λ (x : Seen). x.told) e) (asks-made P k asks each) (same-later m n f)
+pub own-asks : (P : ℕ → Type 0) (k : ℕ) (asks : List HouseMark) (old new : Seen) (m n : ℕ) → EachAsked P asks → new ≡ record old { recorded = option_map (λ (l : List Mark). l ++ map (λ (a : HouseMark). House a) (take k asks)) old.recorded } → n ≡ m → OwnCounted old.recorded new.recorded m n
+own-asks P k asks old new m n each e f = own-recorded old.recorded new.recorded (map (λ (a : HouseMark). House a) (take k asks)) m n (ap (λ (x : Seen). x.recorded) e) (asks-made P k asks each) (same-later m n f)
 
 -- ---- an order
 
@@ -163,12 +163,12 @@ order-step (Resume t) number m n f = inl (refl, f)
 order-step (Finish t) number m n f = inl (refl, f)
 order-step (Close t) number m n f = inl (refl, f)
 
-pub own-ordered : {E : Type 0} (r : Result (Unit {0}) E) (order : Order) (number : Option ℕ) (old mid new : Seen) (m n o : ℕ) → mid.told ≡ old.told → OrderCounted order number m n → new ≡ seen_after_note r (HouseOrder order number) mid → o ≡ n → OwnCounted old.told new.told m o
+pub own-ordered : {E : Type 0} (r : Result (Unit {0}) E) (order : Order) (number : Option ℕ) (old mid new : Seen) (m n o : ℕ) → mid.recorded ≡ old.recorded → OrderCounted order number m n → new ≡ seen_after_note r (HouseOrder order number) mid → o ≡ n → OwnCounted old.recorded new.recorded m o
 own-ordered {E} r order number old mid new m n o same f e g = elim (order-step order number m n f) [
-  | inl p ↦ own-then old.told mid.told new.told m n o (own-still old.told mid.told m n same (same-later m n p.1)) (own-note r (HouseOrder order number) mid new n o p.0 e g)
+  | inl p ↦ own-then old.recorded mid.recorded new.recorded m n o (own-still old.recorded mid.recorded m n same (same-later m n p.1)) (own-note r (HouseOrder order number) mid new n o p.0 e g)
   | inr rose ↦ by_note r e rose
 ]
   where
-    by_note : (r : Result (Unit {0}) E) → new ≡ seen_after_note r (HouseOrder order number) mid → Rose m n → OwnCounted old.told new.told m o
-    by_note (Ok x) e rose = own-rose old.told new.told (House (HouseOrder order number)) m o (ap (λ (x : Seen). x.told) e ∙ ap (λ (t : Option (List Mark)). option_map (λ l. l ++ House (HouseOrder order number) ∷ []) t) same) (subst (λ (j : ℕ). Rose m j) (sym g) rose)
-    by_note (Err x) e rose = own-still old.told new.told m o (ap (λ (x : Seen). x.told) e ∙ same) (let l : m ≤ n = rose.later in omega (arith, l, g))
+    by_note : (r : Result (Unit {0}) E) → new ≡ seen_after_note r (HouseOrder order number) mid → Rose m n → OwnCounted old.recorded new.recorded m o
+    by_note (Ok x) e rose = own-rose old.recorded new.recorded (House (HouseOrder order number)) m o (ap (λ (x : Seen). x.recorded) e ∙ ap (λ (t : Option (List Mark)). option_map (λ l. l ++ House (HouseOrder order number) ∷ []) t) same) (subst (λ (j : ℕ). Rose m j) (sym g) rose)
+    by_note (Err x) e rose = own-still old.recorded new.recorded m o (ap (λ (x : Seen). x.recorded) e ∙ same) (let l : m ≤ n = rose.later in omega (arith, l, g))

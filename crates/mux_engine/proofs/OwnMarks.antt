@@ -21,8 +21,8 @@ use Rattle.mux_history.specs.Log.{Setting}
 use Rattle.mux_history.specs.Journal.{is_own_stream, log_of_journal}
 use Rattle.mux_history.specs.Promises.{IsFront, TakesFront}
 use Rattle.mux_history.proofs.Wires.{wire-keeps}
-use Rattle.mux_machine.specs.State.{State}
-use Rattle.mux_machine.proofs.Twins.{own-silent, stands-alike}
+use Rattle.mux_state.specs.State.{State}
+use Rattle.mux_state.proofs.Twins.{own-silent, stands-alike}
 use Rattle.mux_engine.specs.Called.{if_own}
 use Rattle.mux_engine.specs.Serving.{Serving}
 use Rattle.mux_engine.specs.Sides.{Resting, Side}

@@ -23,10 +23,10 @@ use Rattle.mux_history.specs.Log.{Setting}
 use Rattle.mux_history.specs.Journal.{is_blocked, is_own_stream}
 use Rattle.mux_history.specs.Promises.{has_failed, not_own}
 use Rattle.mux_history.specs.Wires.{OfWire}
-use Rattle.mux_clients.specs.Among.{numbers}
-use Rattle.mux_machine.specs.State.{State}
-use Rattle.mux_machine.specs.Events.{here}
-use Rattle.mux_machine.proofs.Twins.{own-silent, stands-alike}
+use Rattle.mux_peers.specs.Among.{numbers}
+use Rattle.mux_state.specs.State.{State}
+use Rattle.mux_state.specs.Events.{here}
+use Rattle.mux_state.proofs.Twins.{own-silent, stands-alike}
 use Rattle.std.proofs.lemmas.List.Folds.{list_any-append}
 use Rattle.mux_engine.specs.Places.{own_marked}
 use Rattle.mux_engine.specs.Serving.{IsFree, IsSound, IsUnseen, IsUnused, Serving}
@@ -56,7 +56,7 @@ module _ {May : HouseReply → Type 0} {Rest : Resting} {before : Option (List H
   module _ (k : ℕ) (found : among k seen.streams ≡ true) (seen' : Seen) where
     -- what a turn leaves as it was
     pub record Same (mark : Mark) (blocked' : List ℕ) : Type 0 where
-      pub told : seen'.told ≡ option_map (λ m. m ++ mark ∷ []) seen.told
+      pub recorded : seen'.recorded ≡ option_map (λ m. m ++ mark ∷ []) seen.recorded
       pub of_wire : OfWire seen'.streams seen'.blocked seen'.last (mark ∷ v.journal)
       pub streams : seen'.streams ≡ seen.streams
       pub blocked : seen'.blocked ≡ blocked'
@@ -76,7 +76,7 @@ module _ {May : HouseReply → Type 0} {Rest : Resting} {before : Option (List H
     pub own-gets : IsTrue (is_own k) → is_silent k seen.own ≡ false → now.unnoted ≡ [] → (bytes : List ℕ) → AreBytes bytes → Same (Gets k bytes) seen.blocked → Serving May Rest before (calling now (Turns (Got k bytes) ∷ [])) policy pid start seen' held failed given [] s
     own-gets own loud none bytes are m = serve-quiet v (calling now (Turns (Got k bytes) ∷ [])) seen' held failed given (Gets k bytes)
         (record { log = λ set. given-log set k bytes v.journal (own-is v k own found); blocked = λ t client. refl; unwritten = λ t client. refl; promise = λ set. record { takes = tt; waits = tt; speaks = tt; open_streams = tt; answers = tt }; rested = λ set. tt; absent = λ e. refl; house = refl })
-        (stands-given v.picked v.replies s k bytes v.journal v.closed (own-is v k own found) are (here-apart own) v.stands) (notes-calling now (Turns (Got k bytes) ∷ []) (Gets k bytes) refl) (λ set. calls-own now k (Turns (Got k bytes)) own none) refl refl m.told v.turns
+        (stands-given v.picked v.replies s k bytes v.journal v.closed (own-is v k own found) are (here-apart own) v.stands) (notes-calling now (Turns (Got k bytes) ∷ []) (Gets k bytes) refl) (λ set. calls-own now k (Turns (Got k bytes)) own none) refl refl m.recorded v.turns
         (placed-gets v seen' s k bytes found m.of_wire m.streams m.blocked m.last m.last_own m.listens refl
         (owns-gets v.journal seen seen' k bytes v.places (record { opened = tt; gives = giving seen v.journal v.places k found (λ own. loud); writes = tt; joins = tt; others = house-other v k found }) m.streams m.own m.listeners))
 
@@ -85,7 +85,7 @@ module _ {May : HouseReply → Type 0} {Rest : Resting} {before : Option (List H
     own-ends own loud none m = let alike = own-silent.ends v.journal k (own-is v k own found) in
         serve-quiet v (calling now (Turns (End k) ∷ [])) seen' held failed given (Ends k)
         (record { log = alike.log; blocked = λ t client. refl; unwritten = λ t client. refl; promise = λ set. record { takes = tt; waits = tt; speaks = tt; open_streams = tt; answers = tt }; rested = λ set. tt; absent = λ e. refl; house = refl })
-        (stands-alike v.journal (Ends k ∷ v.journal) v.picked v.replies s v.closed alike v.stands) (notes-calling now (Turns (End k) ∷ []) (Ends k) refl) (λ set. calls-own now k (Turns (End k)) own none) refl refl m.told v.turns
+        (stands-alike v.journal (Ends k ∷ v.journal) v.picked v.replies s v.closed alike v.stands) (notes-calling now (Turns (End k) ∷ []) (Ends k) refl) (λ set. calls-own now k (Turns (End k)) own none) refl refl m.recorded v.turns
         (placed-ends v seen' s k found m.of_wire m.streams m.blocked m.last m.last_own m.listens refl
         (owns-ends v.journal seen seen' k v.places (record { opened = tt; gives = giving seen v.journal v.places k found (λ own. loud); writes = tt; joins = tt; others = house-other v k found }) m.streams m.own m.listeners))
 
@@ -94,7 +94,7 @@ module _ {May : HouseReply → Type 0} {Rest : Resting} {before : Option (List H
     own-failed own none m = let alike = own-silent.fails v.journal k (own-is v k own found) in
         serve-quiet v (calling now (Turns (Failed k) ∷ [])) seen' held (failed ++ k ∷ []) given (Fails k)
         (record { log = alike.log; blocked = λ t client. refl; unwritten = λ t client. refl; promise = λ set. record { takes = tt; waits = tt; speaks = tt; open_streams = tt; answers = tt }; rested = λ set. tt; absent = λ e. refl; house = refl })
-        (stands-alike v.journal (Fails k ∷ v.journal) v.picked v.replies s v.closed alike v.stands) (notes-calling now (Turns (Failed k) ∷ []) (Fails k) refl) (λ set. calls-own now k (Turns (Failed k)) own none) refl refl m.told v.turns
+        (stands-alike v.journal (Fails k ∷ v.journal) v.picked v.replies s v.closed alike v.stands) (notes-calling now (Turns (Failed k) ∷ []) (Fails k) refl) (λ set. calls-own now k (Turns (Failed k)) own none) refl refl m.recorded v.turns
         (placed-fails v seen' s (failed ++ k ∷ []) k found m.of_wire m.streams m.blocked m.last m.last_own m.listens refl
         (λ is. among-last k k failed ∙ (ap (λ b. among k failed || (b || false)) (test-same k) ∙ or-last (among k failed))) (λ t a. among-last k t failed ∙ ap (λ b. b || ((k == t) || false)) a)
         (owns-plain v.journal seen seen' (Fails k) (house-other v k found) v.places m.streams m.own m.listeners))
@@ -109,14 +109,14 @@ module _ {May : HouseReply → Type 0} {Rest : Resting} {before : Option (List H
     own-frees own none m = let alike = frees-alike k v.journal in
         serve-quiet v (calling now (Turns (Writable k) ∷ [])) seen' (without k held) failed given (Frees k)
         (record { log = alike.log; blocked = λ t client. freed k t v.journal false (test-other k t (apart-own own t client)); unwritten = λ t client. refl; promise = λ set. record { takes = tt; waits = tt; speaks = tt; open_streams = tt; answers = tt }; rested = λ set. tt; absent = λ e. refl; house = refl })
-        (stands-alike v.journal (Frees k ∷ v.journal) v.picked v.replies s v.closed alike v.stands) (notes-calling now (Turns (Writable k) ∷ []) (Frees k) refl) (λ set. calls-own now k (Turns (Writable k)) own none) refl refl m.told v.turns (placed-frees m)
+        (stands-alike v.journal (Frees k ∷ v.journal) v.picked v.replies s v.closed alike v.stands) (notes-calling now (Turns (Writable k) ∷ []) (Frees k) refl) (λ set. calls-own now k (Turns (Writable k)) own none) refl refl m.recorded v.turns (placed-frees m)
 
     -- so does the server's or a client's
     pub client-frees : is_own k ≡ false → Same (Frees k) (without k seen.blocked) → Serving May Rest before now policy pid start seen' (without k held) failed given (0 ∷ here s) s
     client-frees client m = let alike = frees-alike k v.journal in
         serve-alone v now seen' (without k held) failed given (0 ∷ here s) s (Frees k)
         (stands-alike v.journal (Frees k ∷ v.journal) v.picked v.replies s v.closed alike v.stands) (λ picks replies. refl) record {
-          told = m.told;
+          recorded = m.recorded;
           policy_is = refl;
           pid_is = refl;
           notes = notes-none now (Frees k) refl;
@@ -143,14 +143,14 @@ module _ {May : HouseReply → Type 0} {Rest : Resting} {before : Option (List H
         shut t a e = true-false (sym (open-stream v k client found) ∙ (sym (among-open s k) ∙ (ap (λ i. among i (0 ∷ here s)) e ∙ a)))
 
   -- a socket was joined
-  pub own-joins : (l k : ℕ) → IsTrue (among l seen.listeners) → now.unnoted ≡ [] → IsNewOwn seen.last_own k → (seen' : Seen) → seen'.told ≡ option_map (λ m. m ++ Joins l k ∷ []) seen.told → OfWire seen'.streams seen'.blocked seen'.last (Joins l k ∷ v.journal)
+  pub own-joins : (l k : ℕ) → IsTrue (among l seen.listeners) → now.unnoted ≡ [] → IsNewOwn seen.last_own k → (seen' : Seen) → seen'.recorded ≡ option_map (λ m. m ++ Joins l k ∷ []) seen.recorded → OfWire seen'.streams seen'.blocked seen'.last (Joins l k ∷ v.journal)
       → seen'.streams ≡ seen.streams ++ k ∷ [] → seen'.blocked ≡ seen.blocked → seen'.last ≡ seen.last → seen'.last_own ≡ k → seen'.listens ≡ seen.listens → seen'.own ≡ seen.own ++ new_stream k ∷ [] → seen'.listeners ≡ seen.listeners → Serving May Rest before (calling now (Turns (Joined l k) ∷ [])) policy pid start seen' held failed given [] s
-  own-joins l k there none new seen' told of streams blocked last last_own listens own listeners =
+  own-joins l k there none new seen' recorded of streams blocked last last_own listens own listeners =
       let alike = own-silent.joins v.journal l k in
       let fresh : IsUnused v.journal seen k = v.unused k (inl (new.own, new.above)) in
       serve-quiet v (calling now (Turns (Joined l k) ∷ [])) seen' held failed given (Joins l k)
       (record { log = alike.log; blocked = λ t client. refl; unwritten = λ t client. refl; promise = λ set. record { takes = tt; waits = tt; speaks = tt; open_streams = tt; answers = tt }; rested = λ set. tt; absent = λ e. refl; house = refl })
-      (stands-alike v.journal (Joins l k ∷ v.journal) v.picked v.replies s v.closed alike v.stands) (notes-calling now (Turns (Joined l k) ∷ []) (Joins l k) refl) (λ set. calls-behind now (Turns (Joined l k) ∷ []) none) refl refl told v.turns record {
+      (stands-alike v.journal (Joins l k ∷ v.journal) v.picked v.replies s v.closed alike v.stands) (notes-calling now (Turns (Joined l k) ∷ []) (Joins l k) refl) (λ set. calls-behind now (Turns (Joined l k) ∷ []) none) refl refl recorded v.turns record {
         of_wire = of;
         open_are = ap not_own streams ∙ (filter-append (λ (t : ℕ). not (is_own t)) seen.streams (k ∷ []) ∙ (ap (λ b. not_own seen.streams ++ cond (not b) (k ∷ []) []) new.own ∙ (append-nil (not_own seen.streams) ∙ v.open_are)));
         apart = v.apart;

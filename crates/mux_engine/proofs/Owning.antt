@@ -18,22 +18,22 @@ abbrev pub JustTook : HouseState → HouseState → Type 0
 JustTook old new = OnlyTook {A = Unit {0}} {E = Unit {0}} (Ok tt) old new
 
 pub took-none : (h : HouseState) → JustTook h h
-took-none h = record { known = refl; must = refl; told = refl }
+took-none h = record { known = refl; must = refl; recorded = refl }
 
 pub took : {A E : Type 0} {x : A} {old new : HouseState} → OnlyTook {A = A} {E = E} (Ok x) old new → JustTook old new
-took t = record { known = t.known; must = t.must; told = t.told }
+took t = record { known = t.known; must = t.must; recorded = t.recorded }
 
 -- whatever came of it
 pub took-any : {A E : Type 0} {old new : HouseState} (r : Result A E) → JustTook old new → OnlyTook r old new
-took-any (Ok x) t = record { known = t.known; must = t.must; told = t.told }
-took-any (Err x) t = record { known = tt; must = t.must; told = t.told }
+took-any (Ok x) t = record { known = t.known; must = t.must; recorded = t.recorded }
+took-any (Err x) t = record { known = tt; must = t.must; recorded = t.recorded }
 
 pub took-err : {A B E F : Type 0} {e : E} {old new : HouseState} (r : Result B F) → IsErr r → OnlyTook {A = A} {E = E} (Err e) old new → OnlyTook r old new
 took-err (Ok x) h t = absurd (let z : false ≡ true = h in cc)
-took-err (Err x) h t = record { known = tt; must = t.must; told = t.told }
+took-err (Err x) h t = record { known = tt; must = t.must; recorded = t.recorded }
 
 pub took-then : {A E : Type 0} {r : Result A E} {a b c : HouseState} → JustTook a b → OnlyTook r b c → OnlyTook r a c
-took-then {A} {E} {r} {a} {b} {c} v w = record { known = by_result r w.known; must = w.must ∙ v.must; told = w.told ∙ v.told }
+took-then {A} {E} {r} {a} {b} {c} v w = record { known = by_result r w.known; must = w.must ∙ v.must; recorded = w.recorded ∙ v.recorded }
   where
     by_result : (r : Result A E) → OnOk r (c.known ≡ b.known) → OnOk r (c.known ≡ a.known)
     by_result (Ok x) k = k ∙ v.known

@@ -16,9 +16,9 @@ use Rattle.mux_history.specs.Rows.{rows_of, is_out}
 use Rattle.mux_history.specs.Journal.{is_accepted, is_blocked, is_known, is_own_stream}
 use Rattle.mux_history.specs.Promises.{has_failed, not_own}
 use Rattle.mux_history.specs.Wires.{OfWire}
-use Rattle.mux_machine.specs.State.{State}
-use Rattle.mux_machine.specs.Events.{here}
-use Rattle.mux_machine.specs.Stands.{Stands, StandsFor, log}
+use Rattle.mux_state.specs.State.{State}
+use Rattle.mux_state.specs.Events.{here}
+use Rattle.mux_state.specs.Stands.{Stands, Represents, log}
 use Rattle.mux_engine.specs.Serving.{IsFree, IsUnseen, IsUnused, Serving, is_open}
 use Rattle.mux_engine.specs.Sides.{Resting, SamePlaces, Side}
 use Rattle.mux_engine.proofs.Lists.{among-not-own, among-open, not-own-stream, open-here, own-or-house, test-other, true-false}
@@ -34,7 +34,7 @@ pub record AtStream (s : State) (marks : List Mark) (closed : List ℕ) (k : ℕ
 pub at-stream : {picked : List ℕ} {replies : List HouseReply} {s : State} {marks : List Mark} {closed : List ℕ} (st : Stands picked replies s marks closed) (k : ℕ) → is_open s k ≡ true → AtStream s marks closed k
 at-stream {picked} {replies} {s} {marks} {closed} st k opened = record { not_closed = by_closed (among k closed) refl; accepted = λ nz. by_accepted nz (is_accepted k marks) refl }
   where
-    v : StandsFor (picked ++ []) (replies ++ []) (length picked) st.asks s marks closed
+    v : Represents (picked ++ []) (replies ++ []) (length picked) st.asks s marks closed
     v = st.at [] []
 
     by_closed : (b : Bool) → among k closed ≡ b → b ≡ false

@@ -16,9 +16,9 @@ use Rattle.mux_history.specs.Log.{Setting}
 use Rattle.mux_history.specs.Settings.{by_lists}
 use Rattle.mux_history.specs.Journal.{is_accepted, is_blocked, is_own_stream, log_of_journal}
 use Rattle.mux_history.specs.Promises.{turns_in, write_failed}
-use Rattle.mux_clients.specs.Asked.{asked_of}
-use Rattle.mux_machine.specs.State.{State}
-use Rattle.mux_machine.specs.Stands.{Stands}
+use Rattle.mux_peers.specs.Asked.{asked_of}
+use Rattle.mux_state.specs.State.{State}
+use Rattle.mux_state.specs.Stands.{Stands}
 use Rattle.mux_engine.specs.Called.{calls_at}
 use Rattle.mux_engine.specs.Run.{RestedAt, is_by_house}
 use Rattle.mux_engine.specs.Serving.{IsSound, Serving}
@@ -27,15 +27,15 @@ use Rattle.mux_engine.proofs.Called.{CallsOn, calling}
 use Rattle.mux_engine.proofs.Deferred.{still-deferred}
 use Rattle.mux_engine.proofs.Logs.{accepted-more, settled-as}
 use Rattle.mux_engine.proofs.Marks.{Notes, Placed, PromiseAt, serve-alone}
-use Rattle.mux_engine.proofs.Told.{tells-none}
+use Rattle.mux_engine.proofs.Recorded.{records-none}
 
 -- the house is not called
 pub notes-none : (now : Side) (mark : Mark) → house_mark mark ≡ [] → Notes now now mark []
-notes-none now mark e = record { more = []; told_is = tells-none now.told; noted_is = ap (λ l. l ++ now.unnoted) e ∙ sym (append-nil now.unnoted); asks_are = refl }
+notes-none now mark e = record { more = []; recorded_is = records-none now.recorded; noted_is = ap (λ l. l ++ now.unnoted) e ∙ sym (append-nil now.unnoted); asks_are = refl }
 
 -- it is called about a stream of its own
 pub notes-calling : (now : Side) (calls : List HouseCall) (mark : Mark) → house_mark mark ≡ [] → Notes now (calling now calls) mark []
-notes-calling now calls mark e = record { more = []; told_is = tells-none now.told; noted_is = ap (λ l. l ++ now.unnoted) e ∙ sym (append-nil now.unnoted); asks_are = refl }
+notes-calling now calls mark e = record { more = []; recorded_is = records-none now.recorded; noted_is = ap (λ l. l ++ now.unnoted) e ∙ sym (append-nil now.unnoted); asks_are = refl }
 
 module _ {May : HouseReply → Type 0} {Rest : Resting} {before : Option (List HouseMark)} {now : Side} {policy : Policy} {pid : ℕ} {start : Option (List Mark)} {seen : Seen} {held failed : List ℕ} {given : ℕ} {todo : List ℕ} {s : State} (v : Serving May Rest before now policy pid start seen held failed given todo s) where
   -- whoever asked was accepted
@@ -53,10 +53,10 @@ module _ {May : HouseReply → Type 0} {Rest : Resting} {before : Option (List H
     pub house : is_accepted HOUSE (mark ∷ v.journal) ≡ is_accepted HOUSE v.journal
 
   pub serve-quiet : (now' : Side) (seen' : Seen) (held' failed' : List ℕ) (given' : ℕ) (mark : Mark) → IsQuiet mark → Stands v.picked v.replies s (mark ∷ v.journal) v.closed → Notes now now' mark [] → ((set : Setting) → CallsOn now now' (calls_at set v.journal mark)) → now'.asks ≡ now.asks → now'.let_in ≡ now.let_in
-      → seen'.told ≡ option_map (λ m. m ++ mark ∷ []) seen.told → turns_in (mark ∷ v.journal) ≡ given' → Placed s v.journal seen seen' held' failed' mark → Serving May Rest before now' policy pid start seen' held' failed' given' todo s
-  serve-quiet now' seen' held' failed' given' mark q st notes called asks within told turns placed =
+      → seen'.recorded ≡ option_map (λ m. m ++ mark ∷ []) seen.recorded → turns_in (mark ∷ v.journal) ≡ given' → Placed s v.journal seen seen' held' failed' mark → Serving May Rest before now' policy pid start seen' held' failed' given' todo s
+  serve-quiet now' seen' held' failed' given' mark q st notes called asks within recorded turns placed =
       serve-alone v now' seen' held' failed' given' todo s mark st (λ picks replies. ap asked_of (sym (q.log (by_lists s.core.policy s.pid picks replies)))) record {
-        told = told;
+        recorded = recorded;
         policy_is = refl;
         pid_is = refl;
         notes = notes;

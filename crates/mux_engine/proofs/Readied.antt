@@ -7,8 +7,8 @@ use Rattle.mux_outside.specs.declared.house.HouseReply.{HouseReply}
 use Rattle.mux_outside.specs.declared.house_mark.HouseMark.{HouseMark}
 use Rattle.mux_outside.specs.declared.mark.Mark.{Mark}
 use Rattle.mux_history.specs.Policy.{Policy}
-use Rattle.mux_machine.specs.State.{State, closed_by}
-use Rattle.mux_machine.specs.Stands.{IsFirst}
+use Rattle.mux_state.specs.State.{State, closed_by}
+use Rattle.mux_state.specs.Stands.{IsFirst}
 use Rattle.mux_engine.specs.Owned.{IsOffered}
 use Rattle.mux_engine.specs.Rests.{IsReady}
 use Rattle.mux_engine.specs.Serving.{Serving}

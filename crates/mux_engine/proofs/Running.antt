@@ -10,8 +10,8 @@ use Rattle.mux_outside.specs.declared.house.HouseReply.{HouseReply}
 use Rattle.mux_outside.specs.declared.house_mark.HouseMark.{HouseMark}
 use Rattle.mux_outside.specs.declared.mark.Mark.{Mark}
 use Rattle.mux_history.specs.Policy.{Policy}
-use Rattle.mux_machine.specs.State.{State}
-use Rattle.mux_machine.specs.Events.{here}
+use Rattle.mux_state.specs.State.{State}
+use Rattle.mux_state.specs.Events.{here}
 use Rattle.mux_engine.specs.Serving.{EndsTurn, Promised, Serving, Spends, to_offer}
 use Rattle.mux_engine.specs.Sides.{Resting, Side, noted, outside}
 use Rattle.mux_engine.proofs.Lists.{apart-or-left, test-other, true-false, without-other}
@@ -23,8 +23,8 @@ module _ {May : HouseReply → Type 0} {before : Option (List HouseMark)} {polic
   pub present-is : {now : Side} {seen : Seen} {held failed : List ℕ} {given : ℕ} {todo : List ℕ} {s : State} (R : Bool → Resting) (p q : Bool) → p ≡ q → Serving May (R p) before now policy pid start seen held failed given todo s → Serving May (R q) before now policy pid start seen held failed given todo s
   present-is {now} {seen} {held} {failed} {given} {todo} {s} R p q e v = subst (λ (b : Bool). Serving May (R b) before now policy pid start seen held failed given todo s) e v
 
-  pub promised-is : {now : Option (List HouseMark)} {told : Option (List Mark)} {given : ℕ} (R : Bool → Resting) (p q : Bool) → p ≡ q → Promised May (R p) before now policy pid start told given → Promised May (R q) before now policy pid start told given
-  promised-is {now} {told} {given} R p q e v = subst (λ (b : Bool). Promised May (R b) before now policy pid start told given) e v
+  pub promised-is : {now : Option (List HouseMark)} {recorded : Option (List Mark)} {given : ℕ} (R : Bool → Resting) (p q : Bool) → p ≡ q → Promised May (R p) before now policy pid start recorded given → Promised May (R q) before now policy pid start recorded given
+  promised-is {now} {recorded} {given} R p q e v = subst (λ (b : Bool). Promised May (R b) before now policy pid start recorded given) e v
 
   pub ends-is : {on : Bool} {now : Side} {seen : Seen} {held failed : List ℕ} {given : ℕ} {todo : List ℕ} {s : State} (R : Bool → Resting) (p q : Bool) → p ≡ q → EndsTurn on given May (R p) before now policy pid start seen held failed todo s → EndsTurn on given May (R q) before now policy pid start seen held failed todo s
   ends-is {on} {now} {seen} {held} {failed} {given} {todo} {s} R p q e v = subst (λ (b : Bool). EndsTurn on given May (R b) before now policy pid start seen held failed todo s) e v
@@ -93,13 +93,13 @@ match-more-both (Err e) S T f p = p
 -- ---- a house that is let in
 
 abbrev side-with : Option (List HouseMark) → Known → List HouseCall → Bool → Side
-side-with told known calls let_in = record { told = told; asks = known.asks; unnoted = []; let_in = let_in; calls = calls }
+side-with recorded known calls let_in = record { recorded = recorded; asks = known.asks; unnoted = []; let_in = let_in; calls = calls }
 
-pub still-outside : (told : Option (List HouseMark)) (known : Known) (calls : List HouseCall) → known.present ≡ false → outside told known calls ≡ noted told known calls
-still-outside told known calls absent = ap (side-with told known calls) (sym absent)
+pub still-outside : (recorded : Option (List HouseMark)) (known : Known) (calls : List HouseCall) → known.present ≡ false → outside recorded known calls ≡ noted recorded known calls
+still-outside recorded known calls absent = ap (side-with recorded known calls) (sym absent)
 
-pub let-inside : (told : Option (List HouseMark)) (known : Known) (calls : List HouseCall) → known.present ≡ true → side-with told known calls true ≡ noted told known calls
-let-inside told known calls there = ap (side-with told known calls) (sym there)
+pub let-inside : (recorded : Option (List HouseMark)) (known : Known) (calls : List HouseCall) → known.present ≡ true → side-with recorded known calls true ≡ noted recorded known calls
+let-inside recorded known calls there = ap (side-with recorded known calls) (sym there)
 
 -- ---- the end
 

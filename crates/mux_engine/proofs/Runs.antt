@@ -21,15 +21,15 @@ use Rattle.mux_history.specs.Log.{Setting}
 use Rattle.mux_history.specs.Settings.{by_lists}
 use Rattle.mux_history.specs.Solo.{end_of}
 use Rattle.mux_history.specs.Right.{AreFresh}
-use Rattle.mux_history.specs.Journal.{Tells, log_of_journal}
+use Rattle.mux_history.specs.Journal.{Records, log_of_journal}
 use Rattle.mux_history.specs.Promises.{EndsAs, MayGive, not_own, turns_in}
 use Rattle.mux_history.specs.Wires.{OfWire}
 use Rattle.mux_history.proofs.Wires.{wire-keeps}
 use Rattle.mux_bounds.specs.Bounds.{IsLog}
-use Rattle.mux_clients.specs.Asked.{asked_of, TellsAsks}
-use Rattle.mux_machine.specs.State.{State, numbers}
-use Rattle.mux_machine.specs.Events.{here}
-use Rattle.mux_machine.specs.Stands.{Stands, StandsFor, log}
+use Rattle.mux_peers.specs.Asked.{asked_of, RecordsAsks}
+use Rattle.mux_state.specs.State.{State, numbers}
+use Rattle.mux_state.specs.Events.{here}
+use Rattle.mux_state.specs.Stands.{Stands, Represents, log}
 use Rattle.mux_engine.specs.Answers.{EachDeferred, is_deferred}
 use Rattle.mux_engine.specs.Called.{calls_in}
 use Rattle.mux_engine.specs.Places.{HasPlaces, KeepsOwn}
@@ -40,7 +40,7 @@ use Rattle.mux_engine.proofs.Cuts.{on-here}
 use Rattle.mux_engine.proofs.Keeps.{keeps-rows, rests-short}
 use Rattle.mux_engine.proofs.Lists.{not-own-stream, test-other, true-false}
 use Rattle.mux_engine.proofs.Marks.{log-is}
-use Rattle.mux_engine.proofs.Told.{tells-none, told-none}
+use Rattle.mux_engine.proofs.Recorded.{records-none, recorded-none}
 use Rattle.mux_engine.proofs.Unshared.{takes-unshared}
 
 -- ---- what nothing leaves
@@ -63,25 +63,25 @@ on-again {May} {policy} {pid} {picks} {picks'} {replies} {replies'} {journal} {a
 
 -- all of a run whose rows are known
 run-of : (May : HouseReply → Type 0) (Rest : AtWaits) (stands stands' : List HouseCall → Type 0) (present : Bool) (before now : Option (List HouseMark)) (policy : Policy) (pid turns : ℕ) (start : Option (List Mark)) (seen : Seen) (refused : Option ℕ) (journal : List Mark) (picks : List ℕ) (replies : List HouseReply) (answer : Ended)
-    → IsOfWire journal → KeepsOwn journal → MayGive May replies → Tells start seen.told journal → turns_in journal ≤ turns
+    → IsOfWire journal → KeepsOwn journal → MayGive May replies → Records start seen.recorded journal → turns_in journal ≤ turns
     → (rows : List Row)
     → Kept (by_lists policy pid picks replies) journal
     → IsLog (by_lists policy pid picks replies) journal rows
     → AreFresh rows → numbers_taken rows ≡ length picks → replies_given rows ≡ length replies
-    → (more more_asks : List HouseMark) → TellsAsks before now (house_marks journal ++ more) → asks_in (house_marks journal ++ more) ≡ asked_of rows ++ more_asks → AsksOn May policy pid picks replies journal (asked_of rows) more_asks → Rested Rest (by_lists policy pid picks replies) before journal → (present ≡ false → All (λ (mark : Mark). is_by_house mark ≡ false) journal)
+    → (more more_asks : List HouseMark) → RecordsAsks before now (house_marks journal ++ more) → asks_in (house_marks journal ++ more) ≡ asked_of rows ++ more_asks → AsksOn May policy pid picks replies journal (asked_of rows) more_asks → Rested Rest (by_lists policy pid picks replies) before journal → (present ≡ false → All (λ (mark : Mark). is_by_house mark ≡ false) journal)
     → (answer ≢ ended.OutOfMemory → rows ≡ log_of_journal (by_lists policy pid picks replies) journal)
-    → (answer ≢ ended.OutOfMemory → TellsAsks before now (house_marks journal))
+    → (answer ≢ ended.OutOfMemory → RecordsAsks before now (house_marks journal))
     → (answer ≢ ended.OutOfMemory → asks_in (house_marks journal) ≡ asked_of rows)
     → (answer ≢ ended.OutOfMemory → HandsOn stands stands' (calls_in (by_lists policy pid picks replies) journal))
     → (answer ≢ ended.OutOfMemory → HasPlaces seen journal)
     → (answer ≢ ended.OutOfMemory → EndsRight (by_lists policy pid picks replies) turns journal refused answer)
     → IsRun May Rest stands stands' present policy pid turns before now start seen refused answer
-run-of May Rest stands stands' present before now policy pid turns start seen refused journal picks replies answer wire own_streams may tells given rows kept is fresh numbers answers more more_asks house asked asks_on rested absent whole house_whole asks_whole handed places ends = record {
+run-of May Rest stands stands' present before now policy pid turns start seen refused journal picks replies answer wire own_streams may records given rows kept is fresh numbers answers more more_asks house asked asks_on rested absent whole house_whole asks_whole handed places ends = record {
   journal = journal;
   picks = picks;
   replies = replies;
   rows = rows;
-  tells = tells;
+  records = records;
   of_wire = wire;
   may = may;
   written = kept.written;
@@ -114,21 +114,21 @@ run-of May Rest stands stands' present before now policy pid turns start seen re
 module _ (May : HouseReply → Type 0) (Rest : Resting) (stands stands' : List HouseCall → Type 0) (before : Option (List HouseMark)) (policy : Policy) (pid turns : ℕ) (start : Option (List Mark)) (refused : Option ℕ) where
   -- each stream was offered what waits for it, and the run ends so
   pub ends-run : (now : Side) (seen : Seen) (held failed : List ℕ) (given : ℕ) (todo : List ℕ) (s : State) (answer : Ended) (v : Serving May Rest before now policy pid start seen held failed given todo s) → now.unnoted ≡ [] → HandsOn stands stands' now.calls → ((t : ℕ) → is_own t ≡ false → among t todo ≡ false) → given ≤ turns → EndsAs turns v.journal refused s.ended answer
-      → IsRun May Rest.rests stands stands' Rest.present policy pid turns before now.told start seen refused answer
+      → IsRun May Rest.rests stands stands' Rest.present policy pid turns before now.recorded start seen refused answer
   ends-run now seen held failed given todo s answer v noted hands offered le ends =
       let picks : List ℕ = v.picked ++ [] in
       let replies : List HouseReply = v.replies ++ [] in
       let rows : List Row = log_of_journal (by_lists policy pid picks replies) v.journal in
       let same : log s picks replies v.journal ≡ rows = log-is s policy pid picks replies v.journal v.policy_is v.pid_is in
-      let at : StandsFor picks replies (length v.picked) v.stands.asks s v.journal v.closed = v.stands.at [] [] in
+      let at : Represents picks replies (length v.picked) v.stands.asks s v.journal v.closed = v.stands.at [] [] in
       let fits = at.rows in
       let sound : IsSound (by_lists policy pid picks replies) v.journal todo s = v.sound [] [] in
       let asked : asked_of rows ≡ v.stands.asks = ap asked_of (sym same) ∙ fits.asked_is in
       let all : house_marks v.journal ++ now.unnoted ≡ house_marks v.journal = ap (λ l. house_marks v.journal ++ l) noted ∙ append-nil (house_marks v.journal) in
-      run-of May Rest.rests stands stands' Rest.present before now.told policy pid turns start seen refused v.journal picks replies answer
+      run-of May Rest.rests stands stands' Rest.present before now.recorded policy pid turns start seen refused v.journal picks replies answer
       (record { lawful = v.of_wire.lawful; asked = v.of_wire.asked }) v.own_streams
       (subst (MayGive May) (sym (append-nil v.replies)) v.may)
-      v.tells
+      v.records
       (let w : turns_in v.journal ≡ given = v.turns in omega arith)
       rows sound.kept (inl refl)
       (subst AreFresh same fits.fresh)
@@ -136,7 +136,7 @@ module _ (May : HouseReply → Type 0) (Rest : Resting) (stands stands' : List H
       (ap replies_given (sym same) ∙ (fits.drawn_is ∙ (v.stands.each ∙ ap length (sym (append-nil v.replies)))))
       now.unnoted [] v.house (v.asked ∙ (sym asked ∙ sym (append-nil (asked_of rows)))) (on-again (sym (append-nil v.picked)) (sym (append-nil v.replies)) (sym asked) (on-here v)) (v.rested [] []) v.absent
       (λ ne. refl)
-      (λ ne. subst (TellsAsks before now.told) all v.house)
+      (λ ne. subst (RecordsAsks before now.recorded) all v.house)
       (λ ne. ap asks_in (sym all) ∙ (v.asked ∙ sym asked))
       (λ ne. subst (HandsOn stands stands') (sym (v.called [] []) ∙ (ap (λ l. calls_in (by_lists policy pid picks replies) v.journal ++ calls_of l) noted ∙ append-nil (calls_in (by_lists policy pid picks replies) v.journal))) hands)
       (λ ne. v.places)
@@ -146,13 +146,13 @@ module _ (May : HouseReply → Type 0) (Rest : Resting) (stands stands' : List H
       })
 
   -- there was no memory
-  pub ends-starved : (now : Option (List HouseMark)) (seen : Seen) → Promised May Rest before now policy pid start seen.told turns → IsRun May Rest.rests stands stands' Rest.present policy pid turns before now start seen refused ended.OutOfMemory
+  pub ends-starved : (now : Option (List HouseMark)) (seen : Seen) → Promised May Rest before now policy pid start seen.recorded turns → IsRun May Rest.rests stands stands' Rest.present policy pid turns before now start seen refused ended.OutOfMemory
   ends-starved now seen p =
       let left = p.left [] [] in
       run-of May Rest.rests stands stands' Rest.present before now policy pid turns start seen refused p.journal (p.picked ++ []) (p.replies ++ []) ended.OutOfMemory
       p.of_wire p.own_streams
       (subst (MayGive May) (sym (append-nil p.replies)) p.may)
-      p.tells p.turns left.rows left.kept left.is_log left.fresh
+      p.records p.turns left.rows left.kept left.is_log left.fresh
       (left.taken_is ∙ ap length (sym (append-nil p.picked)))
       (left.given_is ∙ (p.each ∙ ap length (sym (append-nil p.replies))))
       p.more p.more_asks p.house (p.asked ∙ ap (λ l. l ++ p.more_asks) (sym left.asked_is)) (on-again (sym (append-nil p.picked)) (sym (append-nil p.replies)) (sym left.asked_is) p.asks_on) (p.rested [] []) p.absent
@@ -164,7 +164,7 @@ module _ (May : HouseReply → Type 0) (Rest : Resting) (stands stands' : List H
       (λ ne. absurd (ne refl))
 
 -- with more turns
-pub promised-more : {May : HouseReply → Type 0} {Rest : Resting} {before now : Option (List HouseMark)} {policy : Policy} {pid : ℕ} {start told : Option (List Mark)} (given more : ℕ) → given ≤ more → Promised May Rest before now policy pid start told given → Promised May Rest before now policy pid start told more
+pub promised-more : {May : HouseReply → Type 0} {Rest : Resting} {before now : Option (List HouseMark)} {policy : Policy} {pid : ℕ} {start recorded : Option (List Mark)} (given more : ℕ) → given ≤ more → Promised May Rest before now policy pid start recorded given → Promised May Rest before now policy pid start recorded more
 promised-more given more le p = record {
   journal = p.journal;
   picked = p.picked;
@@ -179,7 +179,7 @@ promised-more given more le p = record {
   asks_on = p.asks_on;
   rested = p.rested;
   absent = p.absent;
-  tells = p.tells;
+  records = p.records;
   of_wire = p.of_wire;
   own_streams = p.own_streams;
   turns = let w : turns_in p.journal ≤ given = p.turns in omega arith;
@@ -192,8 +192,8 @@ of-nothing : (setting : Setting) → Kept setting []
 of-nothing setting = record { written = record { takes = tt; waits = tt; speaks = tt }; open_streams = tt; answers = tt }
 
 -- there was no memory for an engine
-pub starts-starved : (May : HouseReply → Type 0) (Rest : Resting) (house : Option (List HouseMark)) (policy : Policy) (pid : ℕ) (told : Option (List Mark)) (given : ℕ) → Promised May Rest house house policy pid told told given
-starts-starved May Rest house policy pid told given = record {
+pub starts-starved : (May : HouseReply → Type 0) (Rest : Resting) (house : Option (List HouseMark)) (policy : Policy) (pid : ℕ) (recorded : Option (List Mark)) (given : ℕ) → Promised May Rest house house policy pid recorded recorded given
+starts-starved May Rest house policy pid recorded given = record {
   journal = [];
   picked = [];
   replies = [];
@@ -202,12 +202,12 @@ starts-starved May Rest house policy pid told given = record {
   more_asks = [];
   may = tt;
   each = refl;
-  house = tells-none house;
+  house = records-none house;
   asked = refl;
   asks_on = record { more_picks = []; more_replies = []; may = tt; begins = record { rest = []; all_is = refl } };
   rested = λ picks later. tt;
   absent = λ e. All-nil (λ (mark : Mark). is_by_house mark ≡ false);
-  tells = sym (told-none told);
+  records = sym (recorded-none recorded);
   of_wire = record { lawful = tt; asked = tt };
   own_streams = record { opened = tt; gives = tt; writes = tt; joins = tt; others = tt };
   turns = (omega arith);
@@ -216,7 +216,7 @@ starts-starved May Rest house policy pid told given = record {
 
 -- a new engine is served
 pub starts : (May : HouseReply → Type 0) (Rest : Resting) (now : Side) (policy : Policy) (pid : ℕ) (seen : Seen) (s : State) → Stands [] [] s [] [] → s.core.policy ≡ policy → s.pid ≡ pid → s.clients ≡ [] → s.refused ≡ []
-    → now.asks ≡ [] → now.unnoted ≡ [] → now.let_in ≡ false → now.calls ≡ [] → seen.streams ≡ 0 ∷ [] → seen.blocked ≡ [] → seen.listens ≡ true → seen.own ≡ [] → seen.listeners ≡ [] → (v : Serving May Rest now.told now policy pid seen.told seen [] [] 0 (0 ∷ here s) s) × (v.journal ≡ [])
+    → now.asks ≡ [] → now.unnoted ≡ [] → now.let_in ≡ false → now.calls ≡ [] → seen.streams ≡ 0 ∷ [] → seen.blocked ≡ [] → seen.listens ≡ true → seen.own ≡ [] → seen.listeners ≡ [] → (v : Serving May Rest now.recorded now policy pid seen.recorded seen [] [] 0 (0 ∷ here s) s) × (v.journal ≡ [])
 starts May Rest now policy pid seen s stands e f clients refused unasked noted outside uncalled streams blocked listens own listeners =
     let none : here s ≡ [] = ap (λ cs. numbers cs ++ s.refused) clients ∙ refused in
     let asks : stands.asks ≡ [] = no-asks stands.asks stands.each in (
@@ -229,7 +229,7 @@ starts May Rest now policy pid seen s stands e f clients refused unasked noted o
         pid_is = f;
         may = tt;
         stands = stands;
-        house = subst (TellsAsks now.told now.told) (sym noted) (tells-none now.told);
+        house = subst (RecordsAsks now.recorded now.recorded) (sym noted) (records-none now.recorded);
         asked = ap asks_in noted ∙ sym asks;
         called = λ picks later. ap calls_of noted ∙ sym uncalled;
         askers = subst (λ (l : List OpenAsk). All (λ (a : OpenAsk). false ≡ true) l) (sym unasked) (All-nil (λ (a : OpenAsk). false ≡ true));
@@ -238,7 +238,7 @@ starts May Rest now policy pid seen s stands e f clients refused unasked noted o
         house_there = λ e. true-false (sym e ∙ outside);
         rested = λ picks later. tt;
         absent = λ e. All-nil (λ (mark : Mark). is_by_house mark ≡ false);
-        tells = sym (told-none seen.told);
+        records = sym (recorded-none seen.recorded);
         of_wire = subst (λ (l : List ℕ). OfWire l seen.blocked seen.last []) (sym streams) (subst (λ (l : List ℕ). OfWire (0 ∷ []) l seen.last []) (sym blocked) (wire-keeps seen []).none);
         places = record { own = own; listeners = listeners; streams = ap (filter is_own) streams ∙ sym (ap numbers_of own) };
         own_streams = record { opened = tt; gives = tt; writes = tt; joins = tt; others = tt };
@@ -250,7 +250,7 @@ starts May Rest now policy pid seen s stands e f clients refused unasked noted o
         unseen = λ k lt le. record { not_accepted = refl; never_blocked = refl; not_blocked = ap (among k) blocked };
         unused = λ k free. record { not_open = ap (among k) streams ∙ no-server k free; never_blocked = refl; not_blocked = ap (among k) blocked; never_failed = refl };
         failed_are = λ t own a f. true-false (sym f);
-        hears = λ live h. listens;
+        receives = λ live h. listens;
         sound = λ picks later. record { kept = of-nothing (by_lists policy pid picks later); failed_out = λ t client w live. true-false (sym w); settled = λ t client a. inl (nothing-pending t) };
       },
       refl,

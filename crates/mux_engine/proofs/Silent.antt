@@ -12,12 +12,12 @@ use Rattle.mux_outside.specs.declared.turn.Want.{Want}
 use Rattle.mux_history.specs.Rows.{Item, Row}
 use Rattle.mux_history.specs.Log.{Setting, more_all}
 use Rattle.mux_history.specs.Settings.{by_lists}
-use Rattle.mux_history.specs.Journal.{bytes_of, is_own_stream, log_of_journal, new_heard, new_sayings, unless_own}
-use Rattle.mux_clients.specs.Among.{numbers}
-use Rattle.mux_clients.specs.State.{ClientState}
-use Rattle.mux_machine.specs.State.{State}
-use Rattle.mux_machine.specs.Stands.{BytesFit, ClientReads, EachReads, IsStrange, RowsFit, ServerReads, Stands, StandsFor, log}
-use Rattle.mux_machine.specs.Twins.{AreAlike}
+use Rattle.mux_history.specs.Journal.{bytes_of, is_own_stream, log_of_journal, new_received, new_sayings, unless_own}
+use Rattle.mux_peers.specs.Among.{numbers}
+use Rattle.mux_peers.specs.State.{ClientState}
+use Rattle.mux_state.specs.State.{State}
+use Rattle.mux_state.specs.Stands.{BytesFit, ClientReads, EachReads, IsStrange, RowsFit, ServerReads, Stands, Represents, log}
+use Rattle.mux_state.specs.Twins.{AreAlike}
 use Rattle.mux_engine.proofs.Lists.{test-other, true-false}
 
 -- ---- the wire was waited for, or a stream holds back or takes bytes again
@@ -38,7 +38,7 @@ not-server k own = test-other k 0 (λ e. true-false (sym own ∙ ap is_own_strea
 
 pub given-log : (set : Setting) (k : ℕ) (bytes : List ℕ) (marks : List Mark) → is_own_stream k ≡ true → log_of_journal set marks ≡ log_of_journal set (Gets k bytes ∷ marks)
 given-log set k bytes marks own = sym (
-    ap (λ (b : Bool). more_all set (log_of_journal set marks) (elim b as (λ _. List Item) [ true ↦ new_heard (bytes_of 0 marks) (bytes_of 0 marks ++ bytes) | false ↦ unless_own k (new_sayings k (bytes_of k marks) (bytes_of k marks ++ bytes)) ])) (not-server k own)
+    ap (λ (b : Bool). more_all set (log_of_journal set marks) (elim b as (λ _. List Item) [ true ↦ new_received (bytes_of 0 marks) (bytes_of 0 marks ++ bytes) | false ↦ unless_own k (new_sayings k (bytes_of k marks) (bytes_of k marks ++ bytes)) ])) (not-server k own)
     ∙ ap (λ (b : Bool). more_all set (log_of_journal set marks) (elim b as (λ _. List Item) [ true ↦ [] | false ↦ new_sayings k (bytes_of k marks) (bytes_of k marks ++ bytes) ])) own)
 
 given-bytes : (k t : ℕ) (bytes : List ℕ) (marks : List Mark) → k ≢ t → bytes_of t (Gets k bytes ∷ marks) ≡ bytes_of t marks
@@ -54,8 +54,8 @@ given-are k t bytes marks are old = by_stream (k == t)
 given-reads : (k : ℕ) (bytes : List ℕ) (marks : List Mark) (cs : List ClientState) → ((t : ℕ) → among t (numbers cs) ≡ true → k ≢ t) → EachReads marks cs → EachReads (Gets k bytes ∷ marks) cs
 given-reads k bytes marks [] apart each = tt
 given-reads k bytes marks (c ∷ cs) apart each = (
-  subst (λ b. ClientReads b c) (sym (given-bytes k c.seat.number bytes marks (apart c.seat.number (ap (λ b. b || among c.seat.number (numbers cs)) (eq-eqb c.seat.number c.seat.number refl))))) each.0,
-  given-reads k bytes marks cs (λ t a. apart t (later t (c.seat.number == t) a)) each.1,
+  subst (λ b. ClientReads b c) (sym (given-bytes k c.peer.number bytes marks (apart c.peer.number (ap (λ b. b || among c.peer.number (numbers cs)) (eq-eqb c.peer.number c.peer.number refl))))) each.0,
+  given-reads k bytes marks cs (λ t a. apart t (later t (c.peer.number == t) a)) each.1,
 )
   where
     later : (t : ℕ) (b : Bool) → among t (numbers cs) ≡ true → (b || among t (numbers cs)) ≡ true
@@ -76,7 +76,7 @@ pub stands-given : (picked : List ℕ) (given : List HouseReply) (s : State) (k 
 stands-given picked given s k bytes marks closed own are apart st = record {
   asks = st.asks;
   each = st.each;
-  at = λ picks replies. let v : StandsFor (picked ++ picks) (given ++ replies) (length picked) st.asks s marks closed = st.at picks replies in
+  at = λ picks replies. let v : Represents (picked ++ picks) (given ++ replies) (length picked) st.asks s marks closed = st.at picks replies in
       let is : log s (picked ++ picks) (given ++ replies) marks ≡ log s (picked ++ picks) (given ++ replies) (Gets k bytes ∷ marks) = given-log (by_lists s.core.policy s.pid (picked ++ picks) (given ++ replies)) k bytes marks own in
       record {
         rows = subst (λ (rows : List Row). RowsFit (length picked) st.asks s closed rows) is v.rows;

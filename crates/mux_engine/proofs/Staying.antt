@@ -13,8 +13,8 @@ use Rattle.mux_history.specs.Policy.{Policy}
 use Rattle.mux_history.specs.Settings.{by_lists}
 use Rattle.mux_history.specs.Journal.{is_accepted}
 use Rattle.mux_history.specs.Promises.{IsSettled}
-use Rattle.mux_clients.specs.Asked.{TellsAsks}
-use Rattle.mux_machine.specs.State.{State}
+use Rattle.mux_peers.specs.Asked.{RecordsAsks}
+use Rattle.mux_state.specs.State.{State}
 use Rattle.mux_engine.specs.Answers.{EachDeferred}
 use Rattle.mux_engine.specs.Called.{calls_in}
 use Rattle.mux_engine.specs.Serving.{IsSound, IsUnused, Serving}
@@ -23,7 +23,7 @@ use Rattle.mux_engine.specs.Sides.{Resting, Side, asks_in, house_marks}
 module _ {May : HouseReply → Type 0} {Rest : Resting} {before : Option (List HouseMark)} {now : Side} {policy : Policy} {pid : ℕ} {start : Option (List Mark)} {seen : Seen} {held failed : List ℕ} {given : ℕ} {todo : List ℕ} {s : State} where
   -- of the house this is noted behind the journal
   pub record IsNoted (v : Serving May Rest before now policy pid start seen held failed given todo s) (now' : Side) : Type 0 where
-    pub house : TellsAsks before now'.told (house_marks v.journal ++ now'.unnoted)
+    pub house : RecordsAsks before now'.recorded (house_marks v.journal ++ now'.unnoted)
     pub asked : asks_in (house_marks v.journal ++ now'.unnoted) ≡ v.stands.asks
     pub called : (picks : List ℕ) (later : List HouseReply) → calls_in (by_lists policy pid (v.picked ++ picks) (v.replies ++ later)) v.journal ++ calls_of now'.unnoted ≡ now'.calls
     pub askers : All (λ (a : OpenAsk). IsTrue (is_accepted a.client v.journal)) now'.asks
@@ -42,7 +42,7 @@ module _ {May : HouseReply → Type 0} {Rest : Resting} {before : Option (List H
   -- of the house this is noted now, clients may be accepted no more where the engine wants none, and
   -- other streams are to be offered what waits for them
   unfoldable pub serve-as : (v : Serving May Rest before now policy pid start seen held failed given todo s) (now' : Side) (listens : Bool) (todo' : List ℕ) → IsNoted v now' → (s.ended ≡ None → s.listening ≡ true → listens ≡ true) → Covers v todo' → Serving May Rest before now' policy pid start (record seen { listens = listens }) held failed given todo' s
-  serve-as v now' listens todo' noted hears covers = record {
+  serve-as v now' listens todo' noted receives covers = record {
     journal = v.journal;
     closed = v.closed;
     picked = v.picked;
@@ -60,7 +60,7 @@ module _ {May : HouseReply → Type 0} {Rest : Resting} {before : Option (List H
     house_there = noted.house_there;
     rested = v.rested;
     absent = v.absent;
-    tells = v.tells;
+    records = v.records;
     of_wire = v.of_wire;
     places = record { own = v.places.own; listeners = v.places.listeners; streams = v.places.streams };
     own_streams = v.own_streams;
@@ -72,7 +72,7 @@ module _ {May : HouseReply → Type 0} {Rest : Resting} {before : Option (List H
     unseen = v.unseen;
     unused = λ k free. let u : IsUnused v.journal seen k = v.unused k free in record { not_open = u.not_open; never_blocked = u.never_blocked; not_blocked = u.not_blocked; never_failed = u.never_failed };
     failed_are = v.failed_are;
-    hears = hears;
+    receives = receives;
     sound = λ picks later. let old : IsSound (by_lists policy pid (v.picked ++ picks) (v.replies ++ later)) v.journal todo s = v.sound picks later in
         record { kept = old.kept; failed_out = old.failed_out; settled = λ t client a. elim (covers t a) [ inl b ↦ old.settled t client b | inr d ↦ d picks later ] };
   }

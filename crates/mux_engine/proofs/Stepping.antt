@@ -16,12 +16,12 @@ use Rattle.mux_history.specs.declared.ended.Ended.{Ended}
 use Rattle.mux_history.specs.declared.ended.Ended.TheVariants as ended
 use Rattle.mux_history.specs.declared.limits.TheConstants.{HOUSE}
 use Rattle.mux_history.specs.Policy.{Policy}
-use Rattle.mux_machine.specs.State.{State}
-use Rattle.mux_machine.specs.Events.{here}
+use Rattle.mux_state.specs.State.{State}
+use Rattle.mux_state.specs.Events.{here}
 use Rattle.mux_engine.specs.Owned.{IsOffered}
 use Rattle.mux_engine.specs.Rests.{EndsByAsk, EndsSo, HasAnswered, HasNoMore, HasNoMoreFor, IsReady, WaitsAlone}
 use Rattle.mux_engine.specs.Serving.{Serving, StaysOrFails, is_open}
-use Rattle.mux_engine.specs.Sides.{Housed, IsAlone, OrderedNothing, Resting, SaidNothing, SameHouse, SamePlaces, Side, StaysHouse, Together}
+use Rattle.mux_engine.specs.Sides.{Housed, IsAlone, OrderedNothing, Resting, SentNothing, SameHouse, SamePlaces, Side, StaysHouse, Together}
 use Rattle.mux_engine.specs.Wires.{NoFault, Works}
 use Rattle.mux_engine.specs.declared.room.Lists.{Lists}
 use Rattle.mux_engine.proofs.Comes.{over-house, over-live, over-offered}
@@ -98,7 +98,7 @@ no-more-held house lists held holds h = record {
 }
 
 -- and it says nothing: it is at rest
-pub no-more-said : (old new : HouseState) (seen seen' : Seen) (s s' : State) (held failed own : List ℕ) → SameHouse old.known new.known → old.known.present ≡ true → HasNoMore old.known old.quiet old.queue held failed own → SaidNothing old new seen seen' s s' → IsReady new.known new.quiet new.queue held failed own s'
+pub no-more-said : (old new : HouseState) (seen seen' : Seen) (s s' : State) (held failed own : List ℕ) → SameHouse old.known new.known → old.known.present ≡ true → HasNoMore old.known old.quiet old.queue held failed own → SentNothing old new seen seen' s s' → IsReady new.known new.quiet new.queue held failed own s'
 no-more-said old new seen seen' s s' held failed own known there h said = record {
   no_more = record {
     orders = λ present. ap (λ (q : Quiet). q.orders) said.same.quiet ∙ h.orders there;
@@ -159,7 +159,7 @@ ends-offered (Err y) p o o' old mid new f g h live none stays works unopened = r
 
 -- a house that is there said something
 pub ends-said : {A E : Type 0} (r : Result A E) (p : Bool) (o : Option Ended) (old new : WireState) (f f' : Faults) → p ≡ true → OnOk r (EndsByAsk o) → EndsSo r p o old new f f'
-ends-said (Ok x) p o old new f f' there e = record { failed = λ over. absurd (e.lives over); by_row = e.by_row; by_count = over-house p o old.calls new.calls there e.by_house; unopened = λ out. true-false (sym there ∙ out) }
+ends-said (Ok x) p o old new f f' there e = record { failed = λ over. absurd (e.relay_traces over); by_row = e.by_row; by_count = over-house p o old.calls new.calls there e.by_house; unopened = λ out. true-false (sym there ∙ out) }
 ends-said (Err x) p o old new f f' there e = record { failed = tt; by_row = tt; by_count = tt; unopened = λ out. true-false (sym there ∙ out) }
 
 -- ---- results
@@ -175,7 +175,7 @@ on-false (Ok b) f h = λ e. f (h e)
 on-false (Err e) f h = tt
 
 -- it said nothing
-pub on-said : {E : Type 0} (r : Result Bool E) (old new : HouseState) (seen seen' : Seen) (s s' : State) (held failed own : List ℕ) → OnOk r (SameHouse old.known new.known) → old.known.present ≡ true → HasNoMore old.known old.quiet old.queue held failed own → IfOk r (λ more. more ≡ false → SaidNothing old new seen seen' s s')
+pub on-said : {E : Type 0} (r : Result Bool E) (old new : HouseState) (seen seen' : Seen) (s s' : State) (held failed own : List ℕ) → OnOk r (SameHouse old.known new.known) → old.known.present ≡ true → HasNoMore old.known old.quiet old.queue held failed own → IfOk r (λ more. more ≡ false → SentNothing old new seen seen' s s')
     → IfOk r (λ more. more ≡ false → s'.ended ≡ None → IsReady new.known new.quiet new.queue held failed own s')
 on-said (Ok b) old new seen seen' s s' held failed own known there h said = λ e live. no-more-said old new seen seen' s s' held failed own known there h (said e)
 on-said (Err e) old new seen seen' s s' held failed own known there h said = tt

@@ -11,12 +11,12 @@ use Rattle.mux_history.specs.Settings.{by_lists}
 use Rattle.mux_history.specs.Rows.{Item, Took}
 use Rattle.mux_history.specs.Log.{more_all}
 use Rattle.mux_history.specs.Journal.{is_own_stream, log_of_journal}
-use Rattle.mux_clients.specs.State.{ClientState}
-use Rattle.mux_clients.specs.Among.{is_present}
-use Rattle.mux_clients.specs.Asked.{asked_of}
-use Rattle.mux_machine.specs.State.{State, at_client, client_took, closed_by, in_client, numbers, queue_in, taken, without_client}
-use Rattle.mux_machine.specs.Events.{here}
-use Rattle.mux_machine.specs.Stands.{log}
+use Rattle.mux_peers.specs.State.{ClientState}
+use Rattle.mux_peers.specs.Among.{is_present}
+use Rattle.mux_peers.specs.Asked.{asked_of}
+use Rattle.mux_state.specs.State.{State, at_client, client_took, closed_by, in_client, numbers, queue_in, taken, without_client}
+use Rattle.mux_state.specs.Events.{here}
+use Rattle.mux_state.specs.Stands.{log}
 use Rattle.mux_engine.proofs.Lists.{look-none, test-other}
 use Rattle.mux_engine.proofs.Logs.{took-log}
 use Rattle.mux_engine.proofs.Offers.{SameRun}
@@ -25,11 +25,11 @@ use Rattle.mux_engine.proofs.Offers.{SameRun}
 
 numbers-took : (t n : ℕ) (cs : List ClientState) → numbers (at_client t (client_took n) cs) ≡ numbers cs
 numbers-took t n [] = refl
-numbers-took t n (c ∷ cs) = by_head (c.seat.number == t) (numbers-took t n cs)
+numbers-took t n (c ∷ cs) = by_head (c.peer.number == t) (numbers-took t n cs)
   where
-    by_head : (b : Bool) → numbers (at_client t (client_took n) cs) ≡ numbers cs → numbers (cond b (client_took n c ∷ cs) (c ∷ at_client t (client_took n) cs)) ≡ c.seat.number ∷ numbers cs
+    by_head : (b : Bool) → numbers (at_client t (client_took n) cs) ≡ numbers cs → numbers (cond b (client_took n c ∷ cs) (c ∷ at_client t (client_took n) cs)) ≡ c.peer.number ∷ numbers cs
     by_head true ih = refl
-    by_head false ih = ap (λ l. c.seat.number ∷ l) ih
+    by_head false ih = ap (λ l. c.peer.number ∷ l) ih
 
 abbrev after : State → ℕ → ℕ → Bool → State
 after s t n b = cond b (record s { up = without_first n s.up }) (record s { clients = at_client t (client_took n) s.clients })
@@ -61,19 +61,19 @@ drop-none : (n : ℕ) → drop {A = ℕ} n [] ≡ []
 drop-none zero = refl
 drop-none (suc n) = refl
 
-look-took : (k n : ℕ) (cs : List ClientState) → in_client [] (λ c. c.seat.queue) (at_client k (client_took n) cs) k ≡ drop n (in_client [] (λ c. c.seat.queue) cs k)
+look-took : (k n : ℕ) (cs : List ClientState) → in_client [] (λ c. c.peer.queue) (at_client k (client_took n) cs) k ≡ drop n (in_client [] (λ c. c.peer.queue) cs k)
 look-took k n [] = sym (drop-none n)
-look-took k n (c ∷ cs) = by_head (c.seat.number == k) refl (look-took k n cs)
+look-took k n (c ∷ cs) = by_head (c.peer.number == k) refl (look-took k n cs)
   where
-    by_head : (b : Bool) → (c.seat.number == k) ≡ b → in_client [] (λ c. c.seat.queue) (at_client k (client_took n) cs) k ≡ drop n (in_client [] (λ c. c.seat.queue) cs k)
-        → in_client [] (λ c. c.seat.queue) (cond b (client_took n c ∷ cs) (c ∷ at_client k (client_took n) cs)) k ≡ drop n (cond b c.seat.queue (in_client [] (λ c. c.seat.queue) cs k))
-    by_head true e ih = ap (λ b. cond b (drop n c.seat.queue) (in_client [] (λ c. c.seat.queue) cs k)) e
-    by_head false e ih = ap (λ b. cond b c.seat.queue (in_client [] (λ c. c.seat.queue) (at_client k (client_took n) cs) k)) e ∙ ih
+    by_head : (b : Bool) → (c.peer.number == k) ≡ b → in_client [] (λ c. c.peer.queue) (at_client k (client_took n) cs) k ≡ drop n (in_client [] (λ c. c.peer.queue) cs k)
+        → in_client [] (λ c. c.peer.queue) (cond b (client_took n c ∷ cs) (c ∷ at_client k (client_took n) cs)) k ≡ drop n (cond b c.peer.queue (in_client [] (λ c. c.peer.queue) cs k))
+    by_head true e ih = ap (λ b. cond b (drop n c.peer.queue) (in_client [] (λ c. c.peer.queue) cs k)) e
+    by_head false e ih = ap (λ b. cond b c.peer.queue (in_client [] (λ c. c.peer.queue) (at_client k (client_took n) cs) k)) e ∙ ih
 
 taken-queue : (s : State) (k n : ℕ) → queue_in (taken s k n) k ≡ drop n (queue_in s k)
 taken-queue s k n = by_server (k == 0) refl
   where
-    by_server : (b : Bool) → (k == 0) ≡ b → cond b (after s k n b).up.waiting (in_client [] (λ c. c.seat.queue) (after s k n b).clients k) ≡ drop n (cond b s.up.waiting (in_client [] (λ c. c.seat.queue) s.clients k))
+    by_server : (b : Bool) → (k == 0) ≡ b → cond b (after s k n b).up.waiting (in_client [] (λ c. c.peer.queue) (after s k n b).clients k) ≡ drop n (cond b s.up.waiting (in_client [] (λ c. c.peer.queue) s.clients k))
     by_server true e = refl
     by_server false e = look-took k n s.clients
 
@@ -90,7 +90,7 @@ queue-present s k bytes e some nz = by_present (is_present s.clients k) refl
     by_present : (b : Bool) → is_present s.clients k ≡ b → b ≡ true
     by_present true h = refl
     by_present false h =
-        let q : queue_in s k ≡ [] = ap (λ b. cond b s.up.waiting (in_client [] (λ c. c.seat.queue) s.clients k)) (test-other k 0 nz) ∙ look-none [] (λ c. c.seat.queue) k s.clients h in
+        let q : queue_in s k ≡ [] = ap (λ b. cond b s.up.waiting (in_client [] (λ c. c.peer.queue) s.clients k)) (test-other k 0 nz) ∙ look-none [] (λ c. c.peer.queue) k s.clients h in
         let l : length bytes ≡ 0 = ap length (e ∙ q) in
         absurd (omega arith)
 
@@ -98,11 +98,11 @@ queue-present s k bytes e some nz = by_present (is_present s.clients k) refl
 
 without-numbers : (k : ℕ) (cs : List ClientState) → without k (numbers cs) ≡ numbers (without_client k cs)
 without-numbers k [] = refl
-without-numbers k (c ∷ cs) = by_test (c.seat.number == k) (without-numbers k cs)
+without-numbers k (c ∷ cs) = by_test (c.peer.number == k) (without-numbers k cs)
   where
-    by_test : (b : Bool) → without k (numbers cs) ≡ numbers (without_client k cs) → cond (not b) (c.seat.number ∷ without k (numbers cs)) (without k (numbers cs)) ≡ numbers (cond (not b) (c ∷ without_client k cs) (without_client k cs))
+    by_test : (b : Bool) → without k (numbers cs) ≡ numbers (without_client k cs) → cond (not b) (c.peer.number ∷ without k (numbers cs)) (without k (numbers cs)) ≡ numbers (cond (not b) (c ∷ without_client k cs) (without_client k cs))
     by_test true ih = ih
-    by_test false ih = ap (λ l. c.seat.number ∷ l) ih
+    by_test false ih = ap (λ l. c.peer.number ∷ l) ih
 
 pub here-less : (s : State) (k : ℕ) → without k (here s) ≡ here (closed_by s k)
 here-less s k = filter-append (λ (j : ℕ). not (j == k)) (numbers s.clients) s.refused ∙ ap (λ l. l ++ without k s.refused) (without-numbers k s.clients)

@@ -11,7 +11,7 @@ use Rattle.mux_history.specs.Policy.{Policy}
 use Rattle.mux_history.specs.Pending.{pending}
 use Rattle.mux_history.specs.Settings.{by_lists}
 use Rattle.mux_history.specs.Journal.{is_blocked, log_of_journal}
-use Rattle.mux_machine.specs.State.{State}
+use Rattle.mux_state.specs.State.{State}
 use Rattle.mux_engine.specs.Serving.{Serving, is_open}
 use Rattle.mux_engine.specs.Sides.{Resting, Side}
 use Rattle.mux_engine.proofs.Lists.{apart-or-left, none-without, without-other}
@@ -25,7 +25,7 @@ use Rattle.mux_engine.proofs.Staying.{Covers, serve-as, still-noted}
 pub serve-todo : {May : HouseReply → Type 0} {Rest : Resting} {before : Option (List HouseMark)} {now : Side} {policy : Policy} {pid : ℕ} {start : Option (List Mark)} {seen : Seen} {held failed : List ℕ} {given : ℕ} {todo : List ℕ} {s : State} (v : Serving May Rest before now policy pid start seen held failed given todo s) (todo' : List ℕ)
     → Covers v todo'
     → Serving May Rest before now policy pid start seen held failed given todo' s
-serve-todo {now = now} {seen = seen} v todo' h = serve-as v now seen.listens todo' (still-noted v) v.hears h
+serve-todo {now = now} {seen = seen} v todo' h = serve-as v now seen.listens todo' (still-noted v) v.receives h
 
 -- nothing waits for it
 pub nothing-left : {May : HouseReply → Type 0} {Rest : Resting} {before : Option (List HouseMark)} {now : Side} {policy : Policy} {pid : ℕ} {start : Option (List Mark)} {seen : Seen} {held failed : List ℕ} {given : ℕ} {todo : List ℕ} {s : State} (v : Serving May Rest before now policy pid start seen held failed given todo s) (k : ℕ) (bytes : List ℕ)

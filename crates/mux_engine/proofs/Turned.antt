@@ -19,24 +19,24 @@ use Rattle.mux_history.specs.Journal.{is_accepted, log_of_journal}
 use Rattle.mux_history.specs.Promises.{SpeaksInTime, turns_in}
 use Rattle.mux_history.specs.Wires.{OfWire}
 use Rattle.mux_bounds.specs.Bounds.{IsLog}
-use Rattle.mux_clients.specs.Asked.{TellsAsks, asked_of, known_after}
-use Rattle.mux_clients.specs.Starved.{BeginsWith}
-use Rattle.mux_machine.specs.State.{State, numbers}
-use Rattle.mux_machine.specs.declared.event.Event.{Event}
-use Rattle.mux_machine.specs.declared.event.Event.TheVariants.{Accepted, FromClient, ClientEnd, ClientFailed, HouseSays, FromServer, ServerEnd, ServerFailed}
-use Rattle.mux_machine.specs.Events.{Arrives, SameStreams, Tells, here}
-use Rattle.mux_machine.specs.Stands.{AsksFirst, CutsShort, GoesBy, IsAllowed, log}
-use Rattle.mux_machine.specs.Twins.{AreAlike}
-use Rattle.mux_machine.proofs.Twins.{stands-alike}
+use Rattle.mux_peers.specs.Asked.{RecordsAsks, asked_of, known_after}
+use Rattle.mux_peers.specs.Starved.{BeginsWith}
+use Rattle.mux_state.specs.State.{State, numbers}
+use Rattle.mux_state.specs.declared.event.Event.{Event}
+use Rattle.mux_state.specs.declared.event.Event.TheVariants.{Accepted, FromClient, ClientEnd, ClientFailed, HouseSays, FromServer, ServerEnd, ServerFailed}
+use Rattle.mux_state.specs.Events.{Arrives, SameStreams, Records, here}
+use Rattle.mux_state.specs.Stands.{AsksFirst, CutsShort, GoesBy, IsAllowed, log}
+use Rattle.mux_state.specs.Twins.{AreAlike}
+use Rattle.mux_state.proofs.Twins.{stands-alike}
 use Rattle.mux_engine.specs.Answers.{AnswersDeferred, EachDeferred}
-use Rattle.mux_engine.specs.Asking.{HeedsSo}
+use Rattle.mux_engine.specs.Asking.{AppliesSo}
 use Rattle.mux_engine.specs.Called.{calls_at}
 use Rattle.mux_engine.specs.Places.{IsPlaced}
 use Rattle.mux_engine.specs.Run.{AsksOn, RestedAt, is_by_house}
 use Rattle.mux_engine.specs.Serving.{Promised, Serving}
 use Rattle.mux_engine.specs.Sides.{Resting, Side, asks_in, house_mark}
-use Rattle.mux_engine.proofs.Asks.{EachAsked, SaidBy, all-asks, asked-accepted, begins-asked, goes-asked}
-use Rattle.mux_engine.proofs.Called.{CallsOn, calls-told}
+use Rattle.mux_engine.proofs.Asks.{EachAsked, SentBy, all-asks, asked-accepted, begins-asked, goes-asked}
+use Rattle.mux_engine.proofs.Called.{CallsOn, calls-recorded}
 use Rattle.mux_engine.proofs.Causes.{EndsSo, event-by}
 use Rattle.mux_engine.proofs.Cuts.{cut-next, now-asked, of-streams}
 use Rattle.mux_engine.proofs.Deferred.{asked-deferred}
@@ -45,7 +45,7 @@ use Rattle.mux_engine.proofs.Logs.{accepted-more}
 use Rattle.mux_engine.proofs.Marks.{Placed, log-is}
 use Rattle.mux_engine.proofs.Noted.{note-some, seen-with}
 use Rattle.mux_engine.proofs.Outs.{Spares}
-use Rattle.mux_engine.proofs.Turns.{IsTold, told-promise}
+use Rattle.mux_engine.proofs.Turns.{IsRecorded, recorded-promise}
 
 -- ---- who is here behind an event
 
@@ -62,7 +62,7 @@ client-of (Accepts k) = k
 client-of mark = 0
 
 -- behind an arrival
-pub came : (e : Event) (k : ℕ) (old new : State) → Tells e (Accepts k) → old.refused ≡ [] → Arrives e old new → here new ≡ here old ++ k ∷ []
+pub came : (e : Event) (k : ℕ) (old new : State) → Records e (Accepts k) → old.refused ≡ [] → Arrives e old new → here new ≡ here old ++ k ∷ []
 came (Accepted j) k old new t none a = subst (λ i. here new ≡ here old ++ i ∷ []) (sym (ap client-of t)) (one-more j old new none a)
 came (FromClient j bytes) k old new t none a = absurd (let z = t.1 in cc)
 came (ClientEnd j) k old new t none a = absurd (let z = t.1 in cc)
@@ -77,7 +77,7 @@ abbrev pub NotAccepts : Mark → Type 0
 NotAccepts (Accepts k) = ⊥
 NotAccepts mark = Unit {0}
 
-pub stayed : (e : Event) (mark : Mark) (old new : State) → Tells e mark → NotAccepts mark → Arrives e old new → here new ≡ here old
+pub stayed : (e : Event) (mark : Mark) (old new : State) → Records e mark → NotAccepts mark → Arrives e old new → here new ≡ here old
 stayed (Accepted j) mark old new t n a = absurd (subst NotAccepts t n)
 stayed (FromClient j bytes) mark old new t n a = same-here old new a
 stayed (ClientEnd j) mark old new t n a = same-here old new a
@@ -89,21 +89,21 @@ stayed ServerFailed mark old new t n a = same-here old new a
 
 -- ---- what was asked
 
-asks-are : (asks more : List HouseMark) → TellsAsks (Some []) (Some asks) more → asks ≡ more
+asks-are : (asks more : List HouseMark) → RecordsAsks (Some []) (Some asks) more → asks ≡ more
 asks-are asks more e = held e
   where
     held : Some asks ≡ Some more → asks ≡ more
     held h = cc
 
 -- the same event with a mark that says the same
-pub goes-twin : {May : HouseReply → Type 0} {told told' : Option (List HouseMark)} {picked : List ℕ} {replies : List HouseReply} {s s' : State} (twin mark : Mark) {marks : List Mark} {closed : List ℕ} → AreAlike (twin ∷ marks) (mark ∷ marks) → GoesBy May told told' picked replies s s' twin marks closed → GoesBy May told told' picked replies s s' mark marks closed
+pub goes-twin : {May : HouseReply → Type 0} {recorded recorded' : Option (List HouseMark)} {picked : List ℕ} {replies : List HouseReply} {s s' : State} (twin mark : Mark) {marks : List Mark} {closed : List ℕ} → AreAlike (twin ∷ marks) (mark ∷ marks) → GoesBy May recorded recorded' picked replies s s' twin marks closed → GoesBy May recorded recorded' picked replies s s' mark marks closed
 goes-twin {picked = picked} {replies = replies} {s = s} {s' = s'} twin mark {marks} {closed} alike g = record {
   picks = g.picks;
   replies = g.replies;
   asks = g.asks;
   may = g.may;
   stands = stands-alike (twin ∷ marks) (mark ∷ marks) (picked ++ g.picks) (replies ++ g.replies) s' closed alike g.stands;
-  told = g.told;
+  recorded = g.recorded;
   asked = λ p r. ap asked_of (sym (alike.log (by_lists s'.core.policy s'.pid ((picked ++ g.picks) ++ p) ((replies ++ g.replies) ++ r)))) ∙ g.asked p r;
 }
 
@@ -113,13 +113,13 @@ module _ {May : HouseReply → Type 0} {Rest : Resting} {before : Option (List H
   pub record EventAt (e : Event) (seen' : Seen) (given' : ℕ) : Type 0 where
     pub mark : Mark
     pub twin : Mark
-    pub is : IsTold mark
+    pub is : IsRecorded mark
     pub alike : AreAlike (twin ∷ v.journal) (mark ∷ v.journal)
-    pub tells : Tells e twin
+    pub records : Records e twin
     pub allowed : IsAllowed s v.journal twin
-    pub marks : seen'.told ≡ option_map (λ m. m ++ mark ∷ []) seen.told
+    pub marks : seen'.recorded ≡ option_map (λ m. m ++ mark ∷ []) seen.recorded
     pub of_wire : OfWire seen'.streams seen'.blocked seen'.last (mark ∷ v.journal)
-    pub said : SaidBy (λ k. is_accepted k (mark ∷ v.journal) ≡ true) mark
+    pub said : SentBy (λ k. is_accepted k (mark ∷ v.journal) ≡ true) mark
     pub spares : (k : ℕ) → among k v.closed ≡ true → Spares k mark
     pub speaks : (picks : List ℕ) (later : List HouseReply) → SpeaksInTime (by_lists policy pid (v.picked ++ picks) (v.replies ++ later)) v.journal mark
     pub answers : (set : Setting) → AnswersDeferred set v.journal mark
@@ -134,33 +134,33 @@ module _ {May : HouseReply → Type 0} {Rest : Resting} {before : Option (List H
     pub placed : (s' : State) → (s.ended ≡ None → Arrives e s s') → Placed s' v.journal seen seen' held failed mark
 
   -- the engine took it in, and so many of the asks were noted
-  pub event-goes : (e : Event) (seen' : Seen) (given' : ℕ) (at : EventAt e seen' given') (s' : State) (asks : List HouseMark) (told told' : Option (List HouseMark)) (known known' : Known) (seen'' : Seen) (n : ℕ) → now.told ≡ told → now.asks ≡ known.asks → HeedsSo May e s s' asks told told' known known' seen' seen'' n
-      → Serving May Rest before (record { told = told'; asks = known'.asks; unnoted = drop n asks; let_in = now.let_in; calls = now.calls ++ calls_of asks }) policy pid start seen'' held failed given' (0 ∷ here s') s'
-  event-goes e seen' given' at s' asks told told' known known' seen'' n same_told same_asks h =
-      let g : GoesBy May (Some []) (Some asks) v.picked v.replies s s' at.mark v.journal v.closed = goes-twin at.twin at.mark at.alike (h.goes at.twin at.tells v.picked v.replies v.journal v.closed v.stands at.allowed) in
-      let listed : asks ≡ g.asks = asks-are asks g.asks g.told in
+  pub event-goes : (e : Event) (seen' : Seen) (given' : ℕ) (at : EventAt e seen' given') (s' : State) (asks : List HouseMark) (recorded recorded' : Option (List HouseMark)) (known known' : Known) (seen'' : Seen) (n : ℕ) → now.recorded ≡ recorded → now.asks ≡ known.asks → AppliesSo May e s s' asks recorded recorded' known known' seen' seen'' n
+      → Serving May Rest before (record { recorded = recorded'; asks = known'.asks; unnoted = drop n asks; let_in = now.let_in; calls = now.calls ++ calls_of asks }) policy pid start seen'' held failed given' (0 ∷ here s') s'
+  event-goes e seen' given' at s' asks recorded recorded' known known' seen'' n same_recorded same_asks h =
+      let g : GoesBy May (Some []) (Some asks) v.picked v.replies s s' at.mark v.journal v.closed = goes-twin at.twin at.mark at.alike (h.goes at.twin at.records v.picked v.replies v.journal v.closed v.stands at.allowed) in
+      let listed : asks ≡ g.asks = asks-are asks g.asks g.recorded in
       let each : EachAsked (λ k. is_accepted k (at.mark ∷ v.journal) ≡ true) asks = subst (EachAsked (λ k. is_accepted k (at.mark ∷ v.journal) ≡ true)) (sym listed) (goes-asked (λ k. is_accepted k (at.mark ∷ v.journal) ≡ true) g h.keeps.policy h.keeps.pid at.said) in
-      let now' : Side = record { told = told'; asks = (known_after asks known).asks; unnoted = asks; let_in = now.let_in; calls = now.calls ++ calls_of asks } in
+      let now' : Side = record { recorded = recorded'; asks = (known_after asks known).asks; unnoted = asks; let_in = now.let_in; calls = now.calls ++ calls_of asks } in
       let first : Serving May Rest before now' policy pid start seen' held failed given' (0 ∷ here s') s' = serve-event v at.mark g now' seen' held failed given' h.keeps.policy h.keeps.pid live at.is (λ t a. refl) at.spares (λ picks later. subst (λ (ps : List ℕ). SpeaksInTime (by_lists policy pid ps ((v.replies ++ g.replies) ++ later)) v.journal at.mark) (sym (append_assoc v.picked g.picks picks)) (subst (λ (rs : List HouseReply). SpeaksInTime (by_lists policy pid (v.picked ++ (g.picks ++ picks)) rs) v.journal at.mark) (sym (append_assoc v.replies g.replies later)) (at.speaks (g.picks ++ picks) (g.replies ++ later)))) (λ picks later. at.answers (by_lists policy pid ((v.picked ++ g.picks) ++ picks) ((v.replies ++ g.replies) ++ later)))
-      (record { more = asks; told_is = subst (λ (t : Option (List HouseMark)). TellsAsks t told' asks) (sym same_told) h.told_is; noted_is = ap (λ l. l ++ asks) at.plain; asks_are = all-asks (λ k. is_accepted k (at.mark ∷ v.journal) ≡ true) asks each ∙ listed })
-      (λ set. subst (CallsOn now now') (sym (at.called set)) (calls-told now now' (house_mark at.mark) asks (ap (λ l. l ++ asks) at.plain) refl))
+      (record { more = asks; recorded_is = subst (λ (t : Option (List HouseMark)). RecordsAsks t recorded' asks) (sym same_recorded) h.recorded_is; noted_is = ap (λ l. l ++ asks) at.plain; asks_are = all-asks (λ k. is_accepted k (at.mark ∷ v.journal) ≡ true) asks each ∙ listed })
+      (λ set. subst (CallsOn now now') (sym (at.called set)) (calls-recorded now now' (house_mark at.mark) asks (ap (λ l. l ++ asks) at.plain) refl))
       (asked-accepted (at.mark ∷ v.journal) asks known each (subst (λ l. All (λ a. IsTrue (is_accepted a.client (at.mark ∷ v.journal))) l) same_asks (λ k d lt. accepted-more at.mark v.journal _ (v.askers k d lt))))
       (λ front all. subst (λ (l : List HouseMark). EachDeferred (front ++ l) (known_after asks known).asks) listed (asked-deferred front asks known (subst (EachDeferred front) same_asks all)))
       (at.house ∙ v.house_in) v.house_there at.rested at.absent at.turns at.marks (at.placed s' h.keeps.streams) in
-      subst (λ (x : Seen). Serving May Rest before (record { told = told'; asks = known'.asks; unnoted = drop n asks; let_in = now.let_in; calls = now.calls ++ calls_of asks }) policy pid start x held failed given' (0 ∷ here s') s') (sym h.seen_is)
-      (subst (λ (k : Known). Serving May Rest before (record { told = told'; asks = k.asks; unnoted = drop n asks; let_in = now.let_in; calls = now.calls ++ calls_of asks }) policy pid start (seen-with (take n asks) seen') held failed given' (0 ∷ here s') s') (sym h.known_is)
+      subst (λ (x : Seen). Serving May Rest before (record { recorded = recorded'; asks = known'.asks; unnoted = drop n asks; let_in = now.let_in; calls = now.calls ++ calls_of asks }) policy pid start x held failed given' (0 ∷ here s') s') (sym h.seen_is)
+      (subst (λ (k : Known). Serving May Rest before (record { recorded = recorded'; asks = k.asks; unnoted = drop n asks; let_in = now.let_in; calls = now.calls ++ calls_of asks }) policy pid start (seen-with (take n asks) seen') held failed given' (0 ∷ here s') s') (sym h.known_is)
       (note-some n asks (λ k. is_accepted k (at.mark ∷ v.journal) ≡ true) each first refl))
 
   -- and may end by it
-  pub event-ends : (e : Event) (seen' : Seen) (given' : ℕ) (at : EventAt e seen' given') (s' : State) (asks : List HouseMark) (told told' : Option (List HouseMark)) (known known' : Known) (seen0 seen'' : Seen) (n : ℕ) → HeedsSo May e s s' asks told told' known known' seen0 seen'' n → EndsSo e s'.ended
-  event-ends e seen' given' at s' asks told told' known known' seen0 seen'' n h = record {
-    may = h.ends at.twin at.tells v.picked v.replies v.journal v.closed v.stands at.allowed live;
-    by = event-by v.stands (h.goes at.twin at.tells v.picked v.replies v.journal v.closed v.stands at.allowed) h.keeps.policy h.keeps.pid live e at.tells;
+  pub event-ends : (e : Event) (seen' : Seen) (given' : ℕ) (at : EventAt e seen' given') (s' : State) (asks : List HouseMark) (recorded recorded' : Option (List HouseMark)) (known known' : Known) (seen0 seen'' : Seen) (n : ℕ) → AppliesSo May e s s' asks recorded recorded' known known' seen0 seen'' n → EndsSo e s'.ended
+  event-ends e seen' given' at s' asks recorded recorded' known known' seen0 seen'' n h = record {
+    may = h.ends at.twin at.records v.picked v.replies v.journal v.closed v.stands at.allowed live;
+    by = event-by v.stands (h.goes at.twin at.records v.picked v.replies v.journal v.closed v.stands at.allowed) h.keeps.policy h.keeps.pid live e at.records;
   }
 
   -- there was no memory for it: what it was asked by then comes first of what the mark asks
-  cut-asks : (e : Event) (seen' : Seen) (given' : ℕ) (at : EventAt e seen' given') (told' : Option (List HouseMark)) (a : AsksFirst May now.told told' v.picked v.replies s at.twin v.journal) → AsksOn May policy pid v.picked v.replies (at.mark ∷ v.journal) v.stands.asks (asks_in a.asks)
-  cut-asks e seen' given' at told' a =
+  cut-asks : (e : Event) (seen' : Seen) (given' : ℕ) (at : EventAt e seen' given') (recorded' : Option (List HouseMark)) (a : AsksFirst May now.recorded recorded' v.picked v.replies s at.twin v.journal) → AsksOn May policy pid v.picked v.replies (at.mark ∷ v.journal) v.stands.asks (asks_in a.asks)
+  cut-asks e seen' given' at recorded' a =
       let ps : List ℕ = v.picked ++ a.picks in
       let rs : List HouseReply = v.replies ++ a.replies in
       let set : Setting = by_lists policy pid ps rs in
@@ -179,8 +179,8 @@ module _ {May : HouseReply → Type 0} {Rest : Resting} {before : Option (List H
             (subst (λ (l : List HouseMark). BeginsWith l a.asks (asked_of (log s ps rs (at.mark ∷ v.journal)))) (ap asked_of (log-is s policy pid ps rs v.journal v.policy_is v.pid_is) ∙ now-asked v a.picks a.replies) here));
       }
 
-  pub event-cut : (e : Event) (seen' : Seen) (given' : ℕ) (at : EventAt e seen' given') (told' : Option (List HouseMark)) → ((mark : Mark) → Tells e mark → CutsShort May now.told told' s mark) → Promised May Rest before told' policy pid start seen'.told given'
-  event-cut e seen' given' at told' cut =
-      let a : AsksFirst May now.told told' v.picked v.replies s at.twin v.journal = cut at.twin at.tells v.picked v.replies v.journal v.closed v.stands at.allowed in
-      cut-next v told' seen'.told given' at.mark a.asks a.asks at.marks a.told (ap (λ l. l ++ a.asks) at.plain) (of-streams seen'.streams seen'.blocked seen'.last (at.mark ∷ v.journal) at.of_wire) at.right
-      (let w : turns_in (at.mark ∷ v.journal) ≡ given' = at.turns in omega arith) at.rested at.absent (cut-asks e seen' given' at told' a) at.cut (λ picks later. told-promise _ at.mark v.journal at.is (at.speaks picks later) (at.answers (by_lists policy pid (v.picked ++ picks) (v.replies ++ later))))
+  pub event-cut : (e : Event) (seen' : Seen) (given' : ℕ) (at : EventAt e seen' given') (recorded' : Option (List HouseMark)) → ((mark : Mark) → Records e mark → CutsShort May now.recorded recorded' s mark) → Promised May Rest before recorded' policy pid start seen'.recorded given'
+  event-cut e seen' given' at recorded' cut =
+      let a : AsksFirst May now.recorded recorded' v.picked v.replies s at.twin v.journal = cut at.twin at.records v.picked v.replies v.journal v.closed v.stands at.allowed in
+      cut-next v recorded' seen'.recorded given' at.mark a.asks a.asks at.marks a.recorded (ap (λ l. l ++ a.asks) at.plain) (of-streams seen'.streams seen'.blocked seen'.last (at.mark ∷ v.journal) at.of_wire) at.right
+      (let w : turns_in (at.mark ∷ v.journal) ≡ given' = at.turns in omega arith) at.rested at.absent (cut-asks e seen' given' at recorded' a) at.cut (λ picks later. recorded-promise _ at.mark v.journal at.is (at.speaks picks later) (at.answers (by_lists policy pid (v.picked ++ picks) (v.replies ++ later))))

@@ -17,9 +17,9 @@ use Rattle.mux_history.specs.Log.{Setting}
 use Rattle.mux_history.specs.Journal.{IsLawful, is_blocked, is_own_stream, log_of_journal}
 use Rattle.mux_history.specs.Promises.{IsSettled, SpeaksInTime, write_failed}
 use Rattle.mux_history.proofs.Bools.{or-left, or-right}
-use Rattle.mux_machine.specs.State.{State, is_here}
-use Rattle.mux_machine.specs.Events.{here}
-use Rattle.mux_machine.specs.Stands.{GoesBy, RowsFit}
+use Rattle.mux_state.specs.State.{State, is_here}
+use Rattle.mux_state.specs.Events.{here}
+use Rattle.mux_state.specs.Stands.{GoesBy, RowsFit}
 use Rattle.mux_engine.specs.Answers.{AnswersDeferred}
 use Rattle.mux_engine.specs.Serving.{IsSound, Serving}
 use Rattle.mux_engine.specs.Sides.{Resting, Side}
@@ -33,46 +33,46 @@ client-pending : (t : ℕ) (rows : List Row) → (t == 0) ≡ false → pending 
 client-pending t rows e = ap (λ b. elim b as (λ _. List ℕ) [ true ↦ pending_up rows | false ↦ pending_down (rows_of t rows) ]) e
 
 -- an event's mark
-abbrev pub IsTold : Mark → Type 0
-IsTold (Accepts k) = Unit {0}
-IsTold (Gets k bytes) = Unit {0}
-IsTold (Ends k) = Unit {0}
-IsTold (Fails k) = Unit {0}
-IsTold (House HouseIn) = Unit {0}
-IsTold (House (HouseSaid bytes)) = Unit {0}
-IsTold (House (HouseAnswer client id reply)) = Unit {0}
-IsTold mark = ⊥
+abbrev pub IsRecorded : Mark → Type 0
+IsRecorded (Accepts k) = Unit {0}
+IsRecorded (Gets k bytes) = Unit {0}
+IsRecorded (Ends k) = Unit {0}
+IsRecorded (Fails k) = Unit {0}
+IsRecorded (House HouseIn) = Unit {0}
+IsRecorded (House (HouseSaid bytes)) = Unit {0}
+IsRecorded (House (HouseAnswer client id reply)) = Unit {0}
+IsRecorded mark = ⊥
 
 -- it says nothing of writing
-told-blocked : (mark : Mark) (journal : List Mark) (t : ℕ) → IsTold mark → is_blocked t (mark ∷ journal) ≡ is_blocked t journal
-told-blocked (Accepts k) journal t h = refl
-told-blocked (Gets k bytes) journal t h = refl
-told-blocked (Ends k) journal t h = refl
-told-blocked (Fails k) journal t h = refl
-told-blocked (House HouseIn) journal t h = refl
-told-blocked (House (HouseSaid bytes)) journal t h = refl
-told-blocked (House (HouseAnswer client id reply)) journal t h = refl
-told-blocked mark journal t h = absurd h
+recorded-blocked : (mark : Mark) (journal : List Mark) (t : ℕ) → IsRecorded mark → is_blocked t (mark ∷ journal) ≡ is_blocked t journal
+recorded-blocked (Accepts k) journal t h = refl
+recorded-blocked (Gets k bytes) journal t h = refl
+recorded-blocked (Ends k) journal t h = refl
+recorded-blocked (Fails k) journal t h = refl
+recorded-blocked (House HouseIn) journal t h = refl
+recorded-blocked (House (HouseSaid bytes)) journal t h = refl
+recorded-blocked (House (HouseAnswer client id reply)) journal t h = refl
+recorded-blocked mark journal t h = absurd h
 
-told-failed : (mark : Mark) (journal : List Mark) (t : ℕ) → IsTold mark → write_failed t (mark ∷ journal) ≡ write_failed t journal
-told-failed (Accepts k) journal t h = refl
-told-failed (Gets k bytes) journal t h = refl
-told-failed (Ends k) journal t h = refl
-told-failed (Fails k) journal t h = refl
-told-failed (House m) journal t h = refl
-told-failed mark journal t h = absurd h
+recorded-failed : (mark : Mark) (journal : List Mark) (t : ℕ) → IsRecorded mark → write_failed t (mark ∷ journal) ≡ write_failed t journal
+recorded-failed (Accepts k) journal t h = refl
+recorded-failed (Gets k bytes) journal t h = refl
+recorded-failed (Ends k) journal t h = refl
+recorded-failed (Fails k) journal t h = refl
+recorded-failed (House m) journal t h = refl
+recorded-failed mark journal t h = absurd h
 
-pub told-promise : (set : Setting) (mark : Mark) (journal : List Mark) → IsTold mark → SpeaksInTime set journal mark → AnswersDeferred set journal mark → PromiseAt set journal mark
-told-promise set (Accepts k) journal h speaks answers = record { takes = tt; waits = tt; speaks = tt; open_streams = tt; answers = tt }
-told-promise set (Gets k bytes) journal h speaks answers = record { takes = tt; waits = tt; speaks = tt; open_streams = tt; answers = tt }
-told-promise set (Ends k) journal h speaks answers = record { takes = tt; waits = tt; speaks = tt; open_streams = tt; answers = tt }
-told-promise set (Fails k) journal h speaks answers = record { takes = tt; waits = tt; speaks = tt; open_streams = tt; answers = tt }
-told-promise set (House m) journal h speaks answers = record { takes = tt; waits = tt; speaks = speaks; open_streams = tt; answers = answers }
-told-promise set mark journal h speaks answers = absurd h
+pub recorded-promise : (set : Setting) (mark : Mark) (journal : List Mark) → IsRecorded mark → SpeaksInTime set journal mark → AnswersDeferred set journal mark → PromiseAt set journal mark
+recorded-promise set (Accepts k) journal h speaks answers = record { takes = tt; waits = tt; speaks = tt; open_streams = tt; answers = tt }
+recorded-promise set (Gets k bytes) journal h speaks answers = record { takes = tt; waits = tt; speaks = tt; open_streams = tt; answers = tt }
+recorded-promise set (Ends k) journal h speaks answers = record { takes = tt; waits = tt; speaks = tt; open_streams = tt; answers = tt }
+recorded-promise set (Fails k) journal h speaks answers = record { takes = tt; waits = tt; speaks = tt; open_streams = tt; answers = tt }
+recorded-promise set (House m) journal h speaks answers = record { takes = tt; waits = tt; speaks = speaks; open_streams = tt; answers = answers }
+recorded-promise set mark journal h speaks answers = absurd h
 
 module _ {May : HouseReply → Type 0} {Rest : Resting} {before : Option (List HouseMark)} {now : Side} {policy : Policy} {pid : ℕ} {start : Option (List Mark)} {seen : Seen} {held failed : List ℕ} {given : ℕ} {todo : List ℕ} {s : State}
-    (v : Serving May Rest before now policy pid start seen held failed given todo s) {told told' : Option (List HouseMark)} {s' : State} (mark : Mark) (g : GoesBy May told told' v.picked v.replies s s' mark v.journal v.closed)
-    (same_policy : s'.core.policy ≡ s.core.policy) (same_pid : s'.pid ≡ s.pid) (is : IsTold mark) (lawful : IsLawful (mark ∷ v.journal)) (covers : (t : ℕ) → among t (0 ∷ here s') ≡ false → among t todo ≡ false) where
+    (v : Serving May Rest before now policy pid start seen held failed given todo s) {recorded recorded' : Option (List HouseMark)} {s' : State} (mark : Mark) (g : GoesBy May recorded recorded' v.picked v.replies s s' mark v.journal v.closed)
+    (same_policy : s'.core.policy ≡ s.core.policy) (same_pid : s'.pid ≡ s.pid) (is : IsRecorded mark) (lawful : IsLawful (mark ∷ v.journal)) (covers : (t : ℕ) → among t (0 ∷ here s') ≡ false → among t todo ≡ false) where
   abbrev picks-then : List ℕ → List ℕ
   picks-then picks = (v.picked ++ g.picks) ++ picks
 
@@ -112,15 +112,15 @@ module _ {May : HouseReply → Type 0} {Rest : Resting} {before : Option (List H
       by_closed false e = inl (client-pending t new real ∙ ap pending_down ((fits-after picks later).absent t nonzero (or-right (t == 0) (is_here s' t) shut) e))
       by_closed true e = settled-as (setting picks later) mark v.journal t
           (client-pending t new real ∙ (waits-closed policy pid (picks-then picks) (replies-then later) mark v.journal (fits-before picks later) lawful (fits-after picks later).fresh t nonzero e (spares t e) ∙ sym (client-pending t old real)))
-          (told-blocked mark v.journal t is) (told-failed mark v.journal t is)
+          (recorded-blocked mark v.journal t is) (recorded-failed mark v.journal t is)
           ((sound-at v g.picks g.replies (v.picked ++ g.picks) (v.replies ++ g.replies) refl refl picks later).settled t client (covers t a))
 
   -- all of it, where the run went on before
-  pub told-sound : s.ended ≡ None → ((k : ℕ) → among k v.closed ≡ true → Spares k mark) → ((picks : List ℕ) (later : List HouseReply) → SpeaksInTime (setting picks later) v.journal mark) → ((picks : List ℕ) (later : List HouseReply) → AnswersDeferred (setting picks later) v.journal mark) → (picks : List ℕ) (later : List HouseReply) → SoundAt (setting picks later) v.journal mark (0 ∷ here s') s'
-  told-sound live spares speaks answers picks later =
+  pub recorded-sound : s.ended ≡ None → ((k : ℕ) → among k v.closed ≡ true → Spares k mark) → ((picks : List ℕ) (later : List HouseReply) → SpeaksInTime (setting picks later) v.journal mark) → ((picks : List ℕ) (later : List HouseReply) → AnswersDeferred (setting picks later) v.journal mark) → (picks : List ℕ) (later : List HouseReply) → SoundAt (setting picks later) v.journal mark (0 ∷ here s') s'
+  recorded-sound live spares speaks answers picks later =
       let old : IsSound (setting picks later) v.journal todo s = sound-at v g.picks g.replies (v.picked ++ g.picks) (v.replies ++ g.replies) refl refl picks later in
       record {
-        promise = told-promise (setting picks later) mark v.journal is (speaks picks later) (answers picks later);
-        failed_out = λ t client w on. log-out (setting picks later) mark v.journal t (old.failed_out t client (sym (told-failed mark v.journal t is) ∙ w) live);
+        promise = recorded-promise (setting picks later) mark v.journal is (speaks picks later) (answers picks later);
+        failed_out = λ t client w on. log-out (setting picks later) mark v.journal t (old.failed_out t client (sym (recorded-failed mark v.journal t is) ∙ w) live);
         settled = λ t client a. rest-settled spares picks later t client a;
       }

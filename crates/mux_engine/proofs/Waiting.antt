@@ -14,12 +14,12 @@ use Rattle.mux_history.specs.Rows.{Row, rows_of, is_out, is_refusal, loses, loss
 use Rattle.mux_history.specs.Pending.{pending, pending_down, pending_up}
 use Rattle.mux_history.specs.Promises.{has_output, is_empty}
 use Rattle.mux_history.proofs.OwnRows.{idle_row}
-use Rattle.mux_clients.specs.State.{ClientState}
-use Rattle.mux_clients.specs.Stands.{is_lost}
-use Rattle.mux_clients.specs.Among.{EachFits, is_present}
-use Rattle.mux_clients.proofs.Stood.{out_is, own_row}
-use Rattle.mux_machine.specs.State.{State, is_here, numbers, served_in, waiting_clients}
-use Rattle.mux_machine.specs.Stands.{RowsFit, not_closed}
+use Rattle.mux_peers.specs.State.{ClientState}
+use Rattle.mux_peers.specs.Stands.{is_lost}
+use Rattle.mux_peers.specs.Among.{EachFits, is_present}
+use Rattle.mux_peers.proofs.Stood.{out_is, own_row}
+use Rattle.mux_state.specs.State.{State, is_here, numbers, served_in, waiting_clients}
+use Rattle.mux_state.specs.Stands.{RowsFit, not_closed}
 use Rattle.mux_engine.proofs.Lists.{or-true, true-false}
 
 -- ---- nobody is lost where nobody leaves
@@ -89,8 +89,8 @@ either rest b = elim b as (λ _. Bool) [ true ↦ true | false ↦ rest ]
 pub all-served : (rows : List Row) (cs : List ClientState) → EachFits rows cs → ((k : ℕ) → is_present cs k ≡ true → is_out (rows_of k rows) ≡ false) → numbers cs ≡ served_in cs
 all-served rows [] each h = refl
 all-served rows (c ∷ cs) each h =
-    let going : is_lost c.seat.standing ≡ false = ap is_lost each.0.seat.standing_is ∙ (sym (out_is (rows_of c.seat.number rows)) ∙ h c.seat.number (ap (either (is_present cs c.seat.number)) (eq-eqb c.seat.number c.seat.number refl))) in
-    ap (λ l. c.seat.number ∷ l) (all-served rows cs each.1 (λ k p. h k (by_head (c.seat.number == k) k p))) ∙ sym (ap (λ b. cond b (served_in cs) (c.seat.number ∷ served_in cs)) going)
+    let going : is_lost c.peer.standing ≡ false = ap is_lost each.0.peer.standing_is ∙ (sym (out_is (rows_of c.peer.number rows)) ∙ h c.peer.number (ap (either (is_present cs c.peer.number)) (eq-eqb c.peer.number c.peer.number refl))) in
+    ap (λ l. c.peer.number ∷ l) (all-served rows cs each.1 (λ k p. h k (by_head (c.peer.number == k) k p))) ∙ sym (ap (λ b. cond b (served_in cs) (c.peer.number ∷ served_in cs)) going)
   where
     by_head : (b : Bool) (k : ℕ) → is_present cs k ≡ true → either (is_present cs k) b ≡ true
     by_head true k p = refl
@@ -101,11 +101,11 @@ all-served rows (c ∷ cs) each h =
 waiting-filter : (rows : List Row) (cs : List ClientState) → EachFits rows cs → waiting_clients cs ≡ filter (has_output rows) (numbers cs)
 waiting-filter rows [] each = refl
 waiting-filter rows (c ∷ cs) each =
-    let same : c.seat.queue ≡ pending c.seat.number rows = each.0.seat.queue_is ∙ sym (ap (λ b. elim b as (λ _. List ℕ) [ true ↦ pending_up rows | false ↦ pending_down (rows_of c.seat.number rows) ]) each.0.nonzero) in
-    ap (λ l. cond (is_empty c.seat.queue) l (c.seat.number ∷ l)) (waiting-filter rows cs each.1)
-    ∙ (ap (λ q. cond (is_empty q) (filter (has_output rows) (numbers cs)) (c.seat.number ∷ filter (has_output rows) (numbers cs))) same ∙ flip (is_empty (pending c.seat.number rows)) (filter (has_output rows) (numbers cs)))
+    let same : c.peer.queue ≡ pending c.peer.number rows = each.0.peer.queue_is ∙ sym (ap (λ b. elim b as (λ _. List ℕ) [ true ↦ pending_up rows | false ↦ pending_down (rows_of c.peer.number rows) ]) each.0.nonzero) in
+    ap (λ l. cond (is_empty c.peer.queue) l (c.peer.number ∷ l)) (waiting-filter rows cs each.1)
+    ∙ (ap (λ q. cond (is_empty q) (filter (has_output rows) (numbers cs)) (c.peer.number ∷ filter (has_output rows) (numbers cs))) same ∙ flip (is_empty (pending c.peer.number rows)) (filter (has_output rows) (numbers cs)))
   where
-    flip : (b : Bool) (l : List ℕ) → cond b l (c.seat.number ∷ l) ≡ cond (not b) (c.seat.number ∷ l) l
+    flip : (b : Bool) (l : List ℕ) → cond b l (c.peer.number ∷ l) ≡ cond (not b) (c.peer.number ∷ l) l
     flip true l = refl
     flip false l = refl
 

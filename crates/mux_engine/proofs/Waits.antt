@@ -23,11 +23,11 @@ use Rattle.mux_history.specs.Settings.{by_lists}
 use Rattle.mux_history.specs.Log.{Setting}
 use Rattle.mux_history.specs.Journal.{is_blocked, is_own_stream, log_of_journal}
 use Rattle.mux_history.specs.Promises.{MayWait, WaitsRight, OpenRight, has_failed, has_output, is_empty, not_own, write_failed}
-use Rattle.mux_machine.proofs.Over.{some-end}
-use Rattle.mux_machine.specs.State.{State, numbers, waiting_clients}
-use Rattle.mux_machine.specs.Events.{here}
-use Rattle.mux_machine.specs.Stands.{RowsFit}
-use Rattle.mux_machine.proofs.Twins.{stands-alike}
+use Rattle.mux_state.proofs.Over.{some-end}
+use Rattle.mux_state.specs.State.{State, numbers, waiting_clients}
+use Rattle.mux_state.specs.Events.{here}
+use Rattle.mux_state.specs.Stands.{RowsFit}
+use Rattle.mux_state.proofs.Twins.{stands-alike}
 use Rattle.mux_engine.specs.Called.{calls_in}
 use Rattle.mux_engine.specs.Owned.{IsOffered, waits_for}
 use Rattle.mux_engine.specs.Places.{listeners_in, own_in}
@@ -260,10 +260,10 @@ module _ {May : HouseReply → Type 0} {Rest : Resting} {before : Option (List H
     house = handed-all v picks later;
   }
 
-  pub open-right : (hears : seen.listens ≡ s.listening) (picks : List ℕ) (later : List HouseReply) → OpenRight (rows picks later) seen.streams seen.listens
-  open-right hears picks later = record {
+  pub open-right : (receives : seen.listens ≡ s.listening) (picks : List ℕ) (later : List HouseReply) → OpenRight (rows picks later) seen.streams seen.listens
+  open-right receives picks later = record {
     open_streams = streams-are ∙ ap (λ l. 0 ∷ not_own l) (all-served (rows picks later) s.clients (fits picks later).fit.each (λ k p. none-lost (fits picks later) none k (ap (λ b. b || among k s.refused) p)) ∙ (fits picks later).served_are);
-    listening = hears ∙ (fits picks later).listening_is;
+    listening = receives ∙ (fits picks later).listening_is;
   }
 
   -- the mark of the call, and what is seen with it
@@ -271,16 +271,16 @@ module _ {May : HouseReply → Type 0} {Rest : Resting} {before : Option (List H
   wait-mark = Waits all-waiting (want_of s) seen.streams seen.listens
 
   abbrev pub seen-waiting : Seen
-  seen-waiting = record seen { told = option_map (λ m. m ++ wait-mark ∷ []) seen.told }
+  seen-waiting = record seen { recorded = option_map (λ m. m ++ wait-mark ∷ []) seen.recorded }
 
   -- the call was told
-  unfoldable pub waited : seen.listens ≡ s.listening → now.unnoted ≡ [] → Rest.rests (want_of s) now.told now.calls seen.listeners seen.own → Serving May Rest before now policy pid start seen-waiting held failed (given + 1) [] s
-  waited hears noted rests =
+  unfoldable pub waited : seen.listens ≡ s.listening → now.unnoted ≡ [] → Rest.rests (want_of s) now.recorded now.calls seen.listeners seen.own → Serving May Rest before now policy pid start seen-waiting held failed (given + 1) [] s
+  waited receives noted rests =
       let alike = waits-alike all-waiting seen.streams (want_of s) seen.listens v.journal in
-      let told : now.told ≡ option_map (λ l. l ++ house_marks v.journal) before = v.house ∙ ap (λ (ms : List HouseMark). option_map (λ (l : List HouseMark). l ++ ms) before) (ap (λ l. house_marks v.journal ++ l) noted ∙ append-nil (house_marks v.journal)) in
+      let recorded : now.recorded ≡ option_map (λ l. l ++ house_marks v.journal) before = v.house ∙ ap (λ (ms : List HouseMark). option_map (λ (l : List HouseMark). l ++ ms) before) (ap (λ l. house_marks v.journal ++ l) noted ∙ append-nil (house_marks v.journal)) in
       serve-alone v now seen-waiting held failed (given + 1) [] s wait-mark
       (stands-alike v.journal (wait-mark ∷ v.journal) v.picked v.replies s v.closed alike v.stands) (λ picks replies. refl) record {
-        told = refl;
+        recorded = refl;
         policy_is = refl;
         pid_is = refl;
         notes = notes-none now wait-mark refl;
@@ -294,10 +294,10 @@ module _ {May : HouseReply → Type 0} {Rest : Resting} {before : Option (List H
             let called : calls_in set v.journal ≡ now.calls = sym (ap (λ l. calls_in set v.journal ++ calls_of l) noted ∙ append-nil (calls_in set v.journal)) ∙ v.called picks later in
             let ls : List ℕ = listeners_in v.journal in
             let os : List OwnStream = own_in v.journal in
-            subst (λ (l : List HouseCall). Rest.rests (want_of s) (option_map (λ told. told ++ house_marks v.journal) before) l ls os) (sym called)
-            (subst (λ (o : Option (List HouseMark)). Rest.rests (want_of s) o now.calls ls os) told
-            (subst (λ (l : List ℕ). Rest.rests (want_of s) now.told now.calls l os) v.places.listeners
-            (subst (λ (l : List OwnStream). Rest.rests (want_of s) now.told now.calls seen.listeners l) v.places.own rests)));
+            subst (λ (l : List HouseCall). Rest.rests (want_of s) (option_map (λ recorded. recorded ++ house_marks v.journal) before) l ls os) (sym called)
+            (subst (λ (o : Option (List HouseMark)). Rest.rests (want_of s) o now.calls ls os) recorded
+            (subst (λ (l : List ℕ). Rest.rests (want_of s) now.recorded now.calls l os) v.places.listeners
+            (subst (λ (l : List OwnStream). Rest.rests (want_of s) now.recorded now.calls seen.listeners l) v.places.own rests)));
         absent = λ e. refl;
         turns = ap (λ n. n + 1) v.turns;
         placed = placed-still v wait-mark seen-waiting s record {
@@ -311,7 +311,7 @@ module _ {May : HouseReply → Type 0} {Rest : Resting} {before : Option (List H
         sound = λ picks later.
             let old : IsSound (setting picks later) v.journal [] s = v.sound picks later in
             record {
-              promise = record { takes = tt; waits = waits-right picks later; speaks = tt; open_streams = open-right hears picks later; answers = tt };
+              promise = record { takes = tt; waits = waits-right picks later; speaks = tt; open_streams = open-right receives picks later; answers = tt };
               failed_out = old.failed_out;
               settled = old.settled;
             };

@@ -22,9 +22,9 @@ use Rattle.mux_history.specs.Policy.{Policy}
 use Rattle.mux_history.specs.Journal.{is_accepted}
 use Rattle.mux_history.specs.Wires.{OfWire}
 use Rattle.mux_history.proofs.Wires.{wire-keeps}
-use Rattle.mux_machine.specs.State.{State}
-use Rattle.mux_machine.specs.declared.event.Event.{Event}
-use Rattle.mux_machine.specs.Twins.{AreAlike}
+use Rattle.mux_state.specs.State.{State}
+use Rattle.mux_state.specs.declared.event.Event.{Event}
+use Rattle.mux_state.specs.Twins.{AreAlike}
 use Rattle.mux_engine.specs.Serving.{IsUnseen, Serving}
 use Rattle.mux_engine.specs.Sides.{Resting, Side}
 use Rattle.mux_engine.specs.Turns.{IsEventOf, want_of}
@@ -36,7 +36,7 @@ use Rattle.mux_engine.proofs.Places.{at-stream, open-stream}
 use Rattle.mux_engine.proofs.Turned.{EventAt, came, stayed}
 use Rattle.mux_engine.proofs.Waits.{Offered, all-waiting, seen-waiting, wait-mark, waited, waiting-blocked}
 
-two-marks : (a b : Mark) (told : Option (List Mark)) → option_map (λ m. m ++ (a ∷ b ∷ [])) told ≡ option_map (λ m. m ++ b ∷ []) (option_map (λ m. m ++ a ∷ []) told)
+two-marks : (a b : Mark) (recorded : Option (List Mark)) → option_map (λ m. m ++ (a ∷ b ∷ [])) recorded ≡ option_map (λ m. m ++ b ∷ []) (option_map (λ m. m ++ a ∷ []) recorded)
 two-marks a b None = refl
 two-marks a b (Some m) = ap (λ (l : List Mark). Some l) (sym (append_assoc m (a ∷ []) (b ∷ [])))
 
@@ -55,10 +55,10 @@ same-marks marks = record { log = λ set. refl; bytes = λ t. refl; accepted = �
 
 module _ {May : HouseReply → Type 0} {Rest : Resting} {before : Option (List HouseMark)} {now : Side} {policy : Policy} {pid : ℕ} {start : Option (List Mark)} {seen : Seen} {held failed : List ℕ} {given : ℕ} {s : State}
     (v : Serving May Rest before now policy pid start seen held failed given [] s) (none : s.leaving ≡ []) (admitted : s.refused ≡ []) (live : s.ended ≡ None) {own : List ℕ} {queue : ℕ → List ℕ} (o : Offered seen own held failed queue)
-    (hears : seen.listens ≡ s.listening) (noted : now.unnoted ≡ []) (rests : Rest.rests (want_of s) now.told now.calls seen.listeners seen.own) where
+    (receives : seen.listens ≡ s.listening) (noted : now.unnoted ≡ []) (rests : Rest.rests (want_of s) now.recorded now.calls seen.listeners seen.own) where
   -- what holds with the call of wait
   abbrev pub now-waiting : Serving May Rest before now policy pid start (seen-waiting v none admitted live o) held failed (given + 1) [] s
-  now-waiting = waited v none admitted live o hears noted rests
+  now-waiting = waited v none admitted live o receives noted rests
 
   abbrev pub Fits : Turn → List ℕ → Type 0
   Fits t bytes = TurnFits t (want_of s) seen bytes
@@ -87,9 +87,9 @@ module _ {May : HouseReply → Type 0} {Rest : Resting} {before : Option (List H
         twin = Accepts k;
         alike = same-marks (Accepts k ∷ now-waiting.journal);
         is = tt;
-        tells = next;
+        records = next;
         allowed = ((λ z. absurd (let n : k ≡ seen.last + 1 = fits.2 in omega arith)), new.not_accepted, not-own-stream k (client-number k few));
-        marks = two-marks (wait-mark v none admitted live o) (Accepts k) seen.told;
+        marks = two-marks (wait-mark v none admitted live o) (Accepts k) seen.recorded;
         of_wire = of-turn (turn.Accepted k) bytes are fits own_fits;
         said = tt;
         spares = λ j c e. true-false (sym c ∙ (ap (λ i. among i v.closed) (sym e) ∙ ((v.stands.at [] []).bytes.strange k new.not_accepted).not_closed_yet));
@@ -111,9 +111,9 @@ module _ {May : HouseReply → Type 0} {Rest : Resting} {before : Option (List H
     twin = Gets k bytes;
     alike = same-marks (Gets k bytes ∷ now-waiting.journal);
     is = tt;
-    tells = next.1;
+    records = next.1;
     allowed = ((λ nz. accepted k next.0 fits.1 nz), are, not-own-stream k next.0);
-    marks = two-marks (wait-mark v none admitted live o) (Gets k bytes) seen.told;
+    marks = two-marks (wait-mark v none admitted live o) (Gets k bytes) seen.recorded;
     of_wire = of-turn (turn.Got k) bytes are fits own_fits;
     said = λ nz. accepted k next.0 fits.1 nz;
     spares = λ j c. tt;
@@ -135,9 +135,9 @@ module _ {May : HouseReply → Type 0} {Rest : Resting} {before : Option (List H
     twin = Ends k;
     alike = same-marks (Ends k ∷ now-waiting.journal);
     is = tt;
-    tells = next.1;
+    records = next.1;
     allowed = ((λ nz. accepted k next.0 fits.1 nz), not-own-stream k next.0);
-    marks = two-marks (wait-mark v none admitted live o) (Ends k) seen.told;
+    marks = two-marks (wait-mark v none admitted live o) (Ends k) seen.recorded;
     of_wire = of-turn (turn.End k) bytes are fits own_fits;
     said = tt;
     spares = λ j c. tt;
@@ -159,9 +159,9 @@ module _ {May : HouseReply → Type 0} {Rest : Resting} {before : Option (List H
     twin = Fails k;
     alike = same-marks (Fails k ∷ now-waiting.journal);
     is = tt;
-    tells = next.1;
+    records = next.1;
     allowed = ((λ nz. accepted k next.0 fits nz), not-own-stream k next.0);
-    marks = two-marks (wait-mark v none admitted live o) (Fails k) seen.told;
+    marks = two-marks (wait-mark v none admitted live o) (Fails k) seen.recorded;
     of_wire = of-turn (turn.Failed k) bytes are fits own_fits;
     said = tt;
     spares = λ j c. tt;

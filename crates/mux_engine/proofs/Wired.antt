@@ -50,13 +50,13 @@ pub no-fault-same : {f f' : Faults} → f' ≡ f → NoFault f f'
 no-fault-same e = record { server = ap (λ (x : Faults). x.server) e; client = ap (λ (x : Faults). x.client) e }
 
 pub keeps-none : (w : WireState) (f : Faults) → KeepsWire w w f f
-keeps-none w f = record { openings = refl; joinings = refl; own_faults = own-same w.seen.told f.own; later = le-of f.server f.server refl }
+keeps-none w f = record { openings = refl; joinings = refl; own_faults = own-same w.seen.recorded f.own; later = le-of f.server f.server refl }
 
 pub untouched-none : (w : WireState) (f : Faults) → Untouched w w f f
 untouched-none w f = record { openings = refl; joinings = refl; calls = refl; no_fault = no-fault-none f }
 
 pub idle-none : (w : WireState) (f : Faults) → IsIdle w w f f
-idle-none w f = record { untouched = untouched-none w f; own_faults = own-same w.seen.told f.own }
+idle-none w f = record { untouched = untouched-none w f; own_faults = own-same w.seen.recorded f.own }
 
 pub worked-none : (w : WireState) (f : Faults) → Worked 0 w w f f
 worked-none w f = record { keeps = keeps-none w f; calls = well-none w.calls }
@@ -102,7 +102,7 @@ pub keeps-then : {a b c : WireState} {f g h : Faults} → KeepsWire a b f g → 
 keeps-then {a} {b} {c} {f} {g} {h} v w = let l : f.server ≤ g.server = v.later in let m : g.server ≤ h.server = w.later in record {
   openings = w.openings ∙ v.openings;
   joinings = w.joinings ∙ v.joinings;
-  own_faults = own-then a.seen.told b.seen.told c.seen.told f.own g.own h.own v.own_faults w.own_faults;
+  own_faults = own-then a.seen.recorded b.seen.recorded c.seen.recorded f.own g.own h.own v.own_faults w.own_faults;
   later = omega arith;
 }
 
@@ -117,7 +117,7 @@ untouched-then v w = record {
 pub idle-then : {a b c : WireState} {f g h : Faults} → IsIdle a b f g → IsIdle b c g h → IsIdle a c f h
 idle-then {a} {b} {c} {f} {g} {h} v w = record {
   untouched = untouched-then v.untouched w.untouched;
-  own_faults = own-then a.seen.told b.seen.told c.seen.told f.own g.own h.own v.own_faults w.own_faults;
+  own_faults = own-then a.seen.recorded b.seen.recorded c.seen.recorded f.own g.own h.own v.own_faults w.own_faults;
 }
 
 pub works-then : {A B E F : Type 0} {n : ℕ} {x : A} {r : Result B F} {a b c : WireState} {f g h : Faults} → Works {A = A} {E = E} 0 (Ok x) a b f g → Works n r b c g h → Works n r a c f h
@@ -175,10 +175,10 @@ own-of : {f f' : Faults} → f' ≡ f → f'.own ≡ f.own
 own-of e = ap (λ (x : Faults). x.own) e
 
 -- where it tells nothing
-pub idle-seeing : {f f' : Faults} (change : Seen → Seen) (old new : WireState) → ((s : Seen) → (change s).told ≡ s.told) → new ≡ seeing change old → f' ≡ f → IsIdle old new f f'
+pub idle-seeing : {f f' : Faults} (change : Seen → Seen) (old new : WireState) → ((s : Seen) → (change s).recorded ≡ s.recorded) → new ≡ seeing change old → f' ≡ f → IsIdle old new f f'
 idle-seeing {f} {f'} change old new still e same = record {
   untouched = untouched-seeing change old new e (no-fault-same same);
-  own_faults = own-kept old.seen.told new.seen.told f.own f'.own (ap (λ (x : WireState). x.seen.told) e ∙ still old.seen) (own-of same);
+  own_faults = own-kept old.seen.recorded new.seen.recorded f.own f'.own (ap (λ (x : WireState). x.seen.recorded) e ∙ still old.seen) (own-of same);
 }
 
 pub idle-close : {old new : WireState} {f f' : Faults} (k : ℕ) → new ≡ seeing (seen_after_close k) old → f' ≡ f → IsIdle old new f f'
@@ -209,7 +209,7 @@ idle-note {old = old} {new} {f} {f'} r mark made e same = record {
 }
 
 -- of an order that was carried out
-pub idle-ordered : {E : Type 0} {old mid new : WireState} {f g h : Faults} (r : Result (Unit {0}) E) (order : Order) (number : Option ℕ) → Untouched old mid f g → mid.seen.told ≡ old.seen.told → OrderCounted order number f.own g.own → new ≡ seeing (seen_after_note r (HouseOrder order number)) mid → h ≡ g → IsIdle old new f h
+pub idle-ordered : {E : Type 0} {old mid new : WireState} {f g h : Faults} (r : Result (Unit {0}) E) (order : Order) (number : Option ℕ) → Untouched old mid f g → mid.seen.recorded ≡ old.seen.recorded → OrderCounted order number f.own g.own → new ≡ seeing (seen_after_note r (HouseOrder order number)) mid → h ≡ g → IsIdle old new f h
 idle-ordered {old = old} {mid} {new} {f} {g} {h} r order number u still count e same = record {
   untouched = untouched-then u (untouched-note r (HouseOrder order number) e same);
   own_faults = own-ordered r order number old.seen mid.seen new.seen f.own g.own h.own still count (seen-of (seen_after_note r (HouseOrder order number)) mid new e) (own-of same);
@@ -325,8 +325,8 @@ works-wait-err {old = old} {new} x t waiting want bytes e cause = record {
 
 -- a wire that was only told something behind its wait, and of which all orders that got no number were
 -- counted
-pub works-told : {A E : Type 0} {n : ℕ} {old new : WireState} {f f' : Faults} (r : Result A E) {mid : WireState} {g : Faults} → Works n r old mid f g → IsIdle mid new g f' → Works n r old new f f'
-works-told {n = n} {old} {new} {f} {f'} r {mid} {g} w i = record {
+pub works-recorded : {A E : Type 0} {n : ℕ} {old new : WireState} {f f' : Faults} (r : Result A E) {mid : WireState} {g : Faults} → Works n r old mid f g → IsIdle mid new g f' → Works n r old new f f'
+works-recorded {n = n} {old} {new} {f} {f'} r {mid} {g} w i = record {
   keeps = keeps-then w.keeps (keeps-idle i);
   calls = subst (λ (x : CallCounts). Counts n r old.calls x) (sym i.untouched.calls) w.calls;
 }

@@ -9,7 +9,7 @@ use Rattle.mux_outside.specs.declared.mark.Mark.{Mark}
 use Rattle.mux_outside.specs.declared.mark.Mark.TheVariants.{House}
 use Rattle.mux_history.specs.Journal.{log_of_journal}
 use Rattle.mux_history.specs.Log.{Setting}
-use Rattle.mux_clients.specs.Asked.{asked_of}
+use Rattle.mux_peers.specs.Asked.{asked_of}
 
 -- the house put this client's ask with this id off
 abbrev pub is_deferred : ℕ → ℕ → HouseMark → Bool

@@ -7,43 +7,43 @@ use Rattle.mux_outside.specs.declared.house.HouseReply.{HouseReply}
 use Rattle.mux_outside.specs.declared.house_mark.HouseMark.{HouseMark}
 use Rattle.mux_outside.specs.declared.mark.Mark.{Mark}
 use Rattle.mux_outside.specs.declared.mark.Mark.TheVariants.{House}
-use Rattle.mux_clients.specs.Asked.{known_after, TellsAsks}
-use Rattle.mux_machine.specs.declared.event.Event.{Event}
-use Rattle.mux_machine.specs.Events.{EndsBy, Keeps, Tells}
-use Rattle.mux_machine.specs.Stands.{CutsShort, GoesOn}
-use Rattle.mux_machine.specs.State.{State}
+use Rattle.mux_peers.specs.Asked.{known_after, RecordsAsks}
+use Rattle.mux_state.specs.declared.event.Event.{Event}
+use Rattle.mux_state.specs.Events.{EndsBy, Keeps, Records}
+use Rattle.mux_state.specs.Stands.{CutsShort, GoesOn}
+use Rattle.mux_state.specs.State.{State}
 
 -- the engine took in the event, the house was asked this, and so many asks were noted
-pub record HeedsSo (May : HouseReply → Type 0) (e : Event) (s s' : State) (asks : List HouseMark)
-    (told told' : Option (List HouseMark)) (known known' : Known) (seen seen' : Seen) (n : ℕ) :
+pub record AppliesSo (May : HouseReply → Type 0) (e : Event) (s s' : State) (asks : List HouseMark)
+    (recorded recorded' : Option (List HouseMark)) (known known' : Known) (seen seen' : Seen) (n : ℕ) :
     Type 0 where
-  pub goes : (mark : Mark) → Tells e mark → GoesOn May (Some []) (Some asks) s s' mark
+  pub goes : (mark : Mark) → Records e mark → GoesOn May (Some []) (Some asks) s s' mark
   pub keeps : Keeps e s s'
-  pub ends : (mark : Mark) → Tells e mark → EndsBy e s s' mark
-  pub told_is : TellsAsks told told' asks
+  pub ends : (mark : Mark) → Records e mark → EndsBy e s s' mark
+  pub recorded_is : RecordsAsks recorded recorded' asks
   pub known_is : known' ≡ known_after asks known
   pub seen_is : seen' ≡ record seen {
-    told = option_map (λ (m : List Mark). m ++ map (λ (a : HouseMark). House a) (take n asks)) seen.told;
+    recorded = option_map (λ (m : List Mark). m ++ map (λ (a : HouseMark). House a) (take n asks)) seen.recorded;
   }
 
 -- there was no memory for the event, and the house told perhaps the first of its asks
 pub record Unheeded (May : HouseReply → Type 0) (e : Event) (s : State)
-    (told told' : Option (List HouseMark)) (seen seen' : Seen) : Type 0 where
-  pub cut : (mark : Mark) → Tells e mark → CutsShort May told told' s mark
+    (recorded recorded' : Option (List HouseMark)) (seen seen' : Seen) : Type 0 where
+  pub cut : (mark : Mark) → Records e mark → CutsShort May recorded recorded' s mark
   pub seen_is : seen' ≡ seen
 
 -- all asks were noted; or there was no memory for the event, or to note all of them
-abbrev pub Heeded : {A E : Type 0} → Result A E → (HouseReply → Type 0) → Event → State → State
+abbrev pub Applied : {A E : Type 0} → Result A E → (HouseReply → Type 0) → Event → State → State
     → List HouseMark → Option (List HouseMark) → Option (List HouseMark) → Known → Known → Seen
     → Seen → Type 0
-Heeded (Ok x) May e s s' asks told told' known known' seen seen' =
-    HeedsSo May e s s' asks told told' known known' seen seen' (length asks)
-Heeded (Err x) May e s s' asks told told' known known' seen seen' =
-    Unheeded May e s told told' seen seen'
-    ⊎ ((n : ℕ) × HeedsSo May e s s' asks told told' known known' seen seen' n)
+Applied (Ok x) May e s s' asks recorded recorded' known known' seen seen' =
+    AppliesSo May e s s' asks recorded recorded' known known' seen seen' (length asks)
+Applied (Err x) May e s s' asks recorded recorded' known known' seen seen' =
+    Unheeded May e s recorded recorded' seen seen'
+    ⊎ ((n : ℕ) × AppliesSo May e s s' asks recorded recorded' known known' seen seen' n)
 
 -- the same of a house
-abbrev pub HeedsEvent : {A E : Type 0} → Result A E → (HouseReply → Type 0) → Event → State → State
+abbrev pub AppliesEvent : {A E : Type 0} → Result A E → (HouseReply → Type 0) → Event → State → State
     → List HouseMark → HouseState → HouseState → Seen → Seen → Type 0
-HeedsEvent result May e s s' asks house house' seen seen' =
-    Heeded result May e s s' asks house.told house'.told house.known house'.known seen seen'
+AppliesEvent result May e s s' asks house house' seen seen' =
+    Applied result May e s s' asks house.recorded house'.recorded house.known house'.known seen seen'

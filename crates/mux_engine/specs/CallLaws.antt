@@ -34,8 +34,8 @@ IsGivenAll = (setting : Setting) (journal : List Mark) (t : ℕ) → is_own_stre
     → bytes_got t (calls_in setting journal) ≡ bytes_of t journal
 
 -- it is told of as many bytes as a stream of its own took
-abbrev pub IsToldAll : Type 0
-IsToldAll = (setting : Setting) (journal : List Mark) (t : ℕ) → is_own_stream t ≡ true
+abbrev pub IsRecordedAll : Type 0
+IsRecordedAll = (setting : Setting) (journal : List Mark) (t : ℕ) → is_own_stream t ≡ true
     → sizes_taken t (calls_in setting journal) ≡ length (taken_by t journal)
 
 -- a worked journal: a stream that was joined and gives "hello", and one that the house ordered,

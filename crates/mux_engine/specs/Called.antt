@@ -3,7 +3,7 @@ use Rattle.std.specs.Prelude.{◌≡◌, ℕ, Bool, true, false, List, [], ◌�
 use Rattle.std.specs.List.{list_any}
 use Rattle.mux_outside.specs.Greeting.{GreetsFirst}
 use Rattle.mux_outside.specs.House.{HouseState}
-use Rattle.mux_outside.specs.HouseCalls.{Got, End, Failed, HandsOn, Hears, HouseCall, Joined, Marks, Turns, Writable, call_of}
+use Rattle.mux_outside.specs.HouseCalls.{Got, End, Failed, HandsOn, Receives, HouseCall, Joined, Marks, Turns, Writable, call_of}
 use Rattle.mux_outside.specs.HouseCalls as call
 use Rattle.mux_outside.specs.OwnStreams.{is_own}
 use Rattle.mux_outside.specs.declared.house_mark.HouseMark.{HouseMark}
@@ -21,7 +21,7 @@ if_own stream one = if is_own stream then one ∷ [] else []
 
 -- the call of a house's mark, where this waits for the house: what it took is the front of that
 abbrev pub house_calls : List ℕ → HouseMark → List HouseCall
-house_calls waiting (HouseTook size) = Hears (take size waiting) ∷ []
+house_calls waiting (HouseTook size) = Receives (take size waiting) ∷ []
 house_calls waiting mark = call_of mark
 
 -- the call of a mark after those before it: a turn of a listener or a stream of the master's own is
@@ -57,8 +57,8 @@ is_piece (Marks (HouseSaid bytes)) = true
 is_piece call = false
 
 -- where there is a house, it stands for some calls of which none gave a piece
-abbrev pub HasSaidNothing : HouseState → Type 0
-HasSaidNothing house =
+abbrev pub HasSentNothing : HouseState → Type 0
+HasSentNothing house =
     IsTrue house.known.present
     → (calls : List HouseCall) × ((list_any is_piece calls ≡ false) × house.stands calls)
 

@@ -1,6 +1,6 @@
 -- What carrying out an order leaves.
 use Rattle.std.specs.Prelude.{◌≡◌, ◌≤◌, ℕ, true, false, List, [], ◌∷◌, ◌++◌, Option, Some, None, Result, Ok, Err, IsErr}
-use Rattle.mux_outside.specs.House.{HouseState, Known, OrderFits, known_after_order, known_after_ordered, told_more}
+use Rattle.mux_outside.specs.House.{HouseState, Known, OrderFits, known_after_order, known_after_ordered, recorded_more}
 use Rattle.mux_outside.specs.HouseCalls.{HandsOn, calls_of}
 use Rattle.mux_outside.specs.Seen.{Seen, seen_after_close, seen_after_finish, seen_after_pause, seen_after_unlisten}
 use Rattle.mux_outside.specs.Streams.{without}
@@ -57,10 +57,10 @@ known_carried (Connect host port) number known = known_after_ordered number know
 known_carried order number known = known
 
 -- what it told then, which it did as it gave the order where it makes nothing
-abbrev pub more_told : Order → Option ℕ → List HouseMark
-more_told (Listen host port) number = HouseOrder (Listen host port) number ∷ []
-more_told (Connect host port) number = HouseOrder (Connect host port) number ∷ []
-more_told order number = []
+abbrev pub more_recorded : Order → Option ℕ → List HouseMark
+more_recorded (Listen host port) number = HouseOrder (Listen host port) number ∷ []
+more_recorded (Connect host port) number = HouseOrder (Connect host port) number ∷ []
+more_recorded order number = []
 
 -- an order makes nothing but a listener or a stream, with a number that is new
 abbrev pub MadeBy : Order → Option ℕ → Seen → Type 0
@@ -96,13 +96,13 @@ pub record CarriedOut (order : Order) (number : Option ℕ) (seen seen' : Seen) 
   pub held : lists'.held ≡ held_carried order number lists.held
   pub failed : lists'.failed ≡ failed_carried order lists.failed
   pub known : house'.known ≡ known_carried order number house.known
-  pub told : house'.told ≡ told_more (more_told order number) house.told
-  pub stands : HandsOn house.stands house'.stands (calls_of (more_told order number))
+  pub recorded : house'.recorded ≡ recorded_more (more_recorded order number) house.recorded
+  pub stands : HandsOn house.stands house'.stands (calls_of (more_recorded order number))
 
 -- there was no memory for it: nothing more was told
 pub record NotCarried (seen seen' : Seen) (house house' : HouseState) : Type 0 where
-  pub marks : seen'.told ≡ seen.told
-  pub told : house'.told ≡ house.told
+  pub marks : seen'.recorded ≡ seen.recorded
+  pub recorded : house'.recorded ≡ house.recorded
 
 abbrev pub Carries : {E : Type 0} → Result (Option ℕ) E → Order → Seen → Seen → Lists → Lists
     → HouseState → HouseState → Type 0

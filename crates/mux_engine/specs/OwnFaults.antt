@@ -25,9 +25,9 @@ unmade_in None = 0
 
 -- each order that got no number since is an own fault that was counted, unless that count stands at
 -- the end of its type; it never falls
-pub record OwnCounted (told told' : Option (List Mark)) (faults faults' : ℕ) : Type 0 where
+pub record OwnCounted (recorded recorded' : Option (List Mark)) (faults faults' : ℕ) : Type 0 where
   pub later : faults ≤ faults'
-  pub counted : (unmade_in told' + faults ≤ unmade_in told + faults') ⊎ (2 ^ 64 - 1 ≤ faults')
+  pub counted : (unmade_in recorded' + faults ≤ unmade_in recorded + faults') ⊎ (2 ^ 64 - 1 ≤ faults')
 
 -- an order that got no number was counted as an own fault, and another leaves the count
 abbrev pub OrderCounted : Order → Option ℕ → ℕ → ℕ → Type 0

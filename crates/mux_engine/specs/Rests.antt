@@ -10,7 +10,7 @@ use Rattle.mux_outside.specs.declared.turn.Want.TheVariants.{Read}
 use Rattle.mux_history.specs.declared.ended.Ended.{Ended}
 use Rattle.mux_history.specs.declared.ended.Ended.TheVariants.{ServerFailed, Spent, StartRefused}
 use Rattle.mux_history.specs.declared.limits.TheConstants.{HOUSE}
-use Rattle.mux_machine.specs.State.{State}
+use Rattle.mux_state.specs.State.{State}
 use Rattle.mux_engine.specs.Came.{Came, EndsFor, OverBy}
 use Rattle.mux_engine.specs.Counted.{Stops}
 use Rattle.mux_engine.specs.Owned.{IsOffered}
@@ -74,7 +74,7 @@ pub record IsByRow (ended : Option Ended) : Type 0 where
 
 -- one that goes on or that ended by what the house said as a client
 pub record EndsByAsk (ended : Option Ended) : Type 0 where
-  pub lives : ended ≢ Some ServerFailed
+  pub relay_traces : ended ≢ Some ServerFailed
   pub by_row : IsByRow ended
   pub by_house : EndsFor HOUSE ended
 

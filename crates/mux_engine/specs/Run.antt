@@ -19,7 +19,7 @@ use Rattle.mux_history.specs.Log.{Setting}
 use Rattle.mux_history.specs.Settings.{by_lists}
 use Rattle.mux_history.specs.Solo.{solo}
 use Rattle.mux_history.specs.Right.{AreFresh, IsAdmitted, TakesPick}
-use Rattle.mux_history.specs.Journal.{IsLawful, Tells, bytes_of, log_of_journal, taken_by}
+use Rattle.mux_history.specs.Journal.{IsLawful, Records, bytes_of, log_of_journal, taken_by}
 use Rattle.mux_history.specs.Kept.{AtEach, ForEach, Kept, OwnWords}
 use Rattle.mux_history.specs.Promises.{ConnectionEnds, IsFront, MayGive, OpenStreams, Settled, Throughout, Written, is_asked, turns_in}
 use Rattle.mux_history.specs.Wires.{ReadsWhenAsked}
@@ -27,8 +27,8 @@ use Rattle.mux_isolation.specs.Bytes.{GivesAlike, SendsAlike}
 use Rattle.mux_isolation.specs.Laws.{WaitsBounded}
 use Rattle.mux_bounds.specs.Bounds.{IsLog, RestsShort, StaysBelow}
 use Rattle.mux_bounds.specs.Few.{ChannelsBounded, ForwardingsBounded, LeavesNothing, MattersBounded, RequestsBounded, UnansweredBounded}
-use Rattle.mux_clients.specs.Asked.{asked_of, TellsAsks}
-use Rattle.mux_clients.specs.Starved.{BeginsWith}
+use Rattle.mux_peers.specs.Asked.{asked_of, RecordsAsks}
+use Rattle.mux_peers.specs.Starved.{BeginsWith}
 use Rattle.mux_engine.specs.Answers.{AnswersDeferred}
 use Rattle.mux_engine.specs.Called.{calls_in}
 use Rattle.mux_engine.specs.Places.{HasPlaces, KeepsOwn, listeners_in, own_in}
@@ -45,7 +45,7 @@ pub record IsOfWire (journal : List Mark) : Type 0 where
 -- what the house told, its calls, and the listeners and streams that its orders leave open
 abbrev pub RestedAt : AtWaits → Setting → Option (List HouseMark) → List Mark → Mark → Type 0
 RestedAt Rest setting before journal (Waits waiting want streams listens) =
-    Rest want (option_map (λ told. told ++ house_marks journal) before) (calls_in setting journal)
+    Rest want (option_map (λ recorded. recorded ++ house_marks journal) before) (calls_in setting journal)
     (listeners_in journal) (own_in journal)
 RestedAt Rest setting before journal mark = Unit {0}
 
@@ -127,7 +127,7 @@ pub record IsRun (May : HouseReply → Type 0)
   pub picks : List ℕ
   pub replies : List HouseReply
   pub rows : List Row
-  pub tells : Tells start seen.told journal
+  pub records : Records start seen.recorded journal
   pub of_wire : IsOfWire journal
   pub may : MayGive May replies
   pub written : Written (by_lists policy pid picks replies) journal
@@ -148,10 +148,10 @@ pub record IsRun (May : HouseReply → Type 0)
   pub answers : replies_given rows ≡ length replies
   pub more : List HouseMark
   pub more_asks : List HouseMark
-  pub house : TellsAsks before now (house_marks journal ++ more)
+  pub house : RecordsAsks before now (house_marks journal ++ more)
   pub asked : asks_in (house_marks journal ++ more) ≡ asked_of rows ++ more_asks
   pub asks_on : AsksOn May policy pid picks replies journal (asked_of rows) more_asks
-  pub house_whole : answer ≢ OutOfMemory → TellsAsks before now (house_marks journal)
+  pub house_whole : answer ≢ OutOfMemory → RecordsAsks before now (house_marks journal)
   pub asks_whole : answer ≢ OutOfMemory → asks_in (house_marks journal) ≡ asked_of rows
   pub handed : answer ≢ OutOfMemory
       → HandsOn stands stands' (calls_in (by_lists policy pid picks replies) journal)
@@ -166,5 +166,5 @@ abbrev pub RunKept : {T : Type 0} → Ended → Policy → ℕ → ℕ → (Hous
     → (T → HouseState) → T → T → Seen → Seen → Type 0
 RunKept answer policy pid turns May state house house' seen seen' =
     IsRun May (RestsOf state (state house).known.present house).rests (state house).stands
-    (state house').stands (state house).known.present policy pid turns (state house).told
-    (state house').told seen.told seen' (refusal_after (state house) (state house')) answer
+    (state house').stands (state house).known.present policy pid turns (state house).recorded
+    (state house').recorded seen.recorded seen' (refusal_after (state house) (state house')) answer

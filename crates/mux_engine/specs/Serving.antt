@@ -21,14 +21,14 @@ use Rattle.mux_history.specs.Choices.{numbers_taken, replies_given}
 use Rattle.mux_history.specs.Log.{Setting}
 use Rattle.mux_history.specs.Settings.{by_lists}
 use Rattle.mux_history.specs.Right.{AreFresh}
-use Rattle.mux_history.specs.Journal.{Tells, is_accepted, is_blocked, is_own_stream, log_of_journal}
+use Rattle.mux_history.specs.Journal.{Records, is_accepted, is_blocked, is_own_stream, log_of_journal}
 use Rattle.mux_history.specs.Promises.{IsSettled, MayGive, OpenStreams, Throughout, Written, has_failed, not_own, turns_in, write_failed}
 use Rattle.mux_history.specs.Wires.{OfWire}
 use Rattle.mux_bounds.specs.Bounds.{IsLog}
-use Rattle.mux_clients.specs.Asked.{asked_of, TellsAsks}
-use Rattle.mux_machine.specs.State.{State, is_here, queue_in}
-use Rattle.mux_machine.specs.Events.{here}
-use Rattle.mux_machine.specs.Stands.{Stands}
+use Rattle.mux_peers.specs.Asked.{asked_of, RecordsAsks}
+use Rattle.mux_state.specs.State.{State, is_here, queue_in}
+use Rattle.mux_state.specs.Events.{here}
+use Rattle.mux_state.specs.Stands.{Stands}
 use Rattle.mux_engine.specs.Answers.{AnswersDeferred, EachDeferred}
 use Rattle.mux_engine.specs.Called.{Handed, calls_in}
 use Rattle.mux_engine.specs.Places.{HasPlaces, KeepsOwn}
@@ -101,7 +101,7 @@ pub record Serving (May : HouseReply → Type 0) (Rest : Resting)
   pub pid_is : s.pid ≡ pid
   pub may : MayGive May replies
   pub stands : Stands picked replies s journal closed
-  pub house : TellsAsks before now.told (house_marks journal ++ now.unnoted)
+  pub house : RecordsAsks before now.recorded (house_marks journal ++ now.unnoted)
   pub asked : asks_in (house_marks journal ++ now.unnoted) ≡ stands.asks
   pub called : (picks : List ℕ) (given_later : List HouseReply)
       → calls_in (by_lists policy pid (picked ++ picks) (replies ++ given_later)) journal
@@ -114,7 +114,7 @@ pub record Serving (May : HouseReply → Type 0) (Rest : Resting)
       → Rested Rest.rests (by_lists policy pid (picked ++ picks) (replies ++ given_later)) before
       journal
   pub absent : Rest.present ≡ false → All (λ (mark : Mark). is_by_house mark ≡ false) journal
-  pub tells : Tells start seen.told journal
+  pub records : Records start seen.recorded journal
   pub of_wire : OfWire seen.streams seen.blocked seen.last journal
   pub places : HasPlaces seen journal
   pub own_streams : KeepsOwn journal
@@ -128,7 +128,7 @@ pub record Serving (May : HouseReply → Type 0) (Rest : Resting)
   pub unused : (k : ℕ) → IsFree seen.last_own k → IsUnused journal seen k
   pub failed_are : (t : ℕ) → IsTrue (is_own t) → among t seen.streams ≡ true
       → has_failed t journal ≡ true → among t failed ≡ true
-  pub hears : s.ended ≡ None → s.listening ≡ true → seen.listens ≡ true
+  pub receives : s.ended ≡ None → s.listening ≡ true → seen.listens ≡ true
   pub sound : (picks : List ℕ) (given_later : List HouseReply)
       → IsSound (by_lists policy pid (picked ++ picks) (replies ++ given_later)) journal todo s
 
@@ -186,7 +186,7 @@ pub record ServedAs {T : Type 0} (noted_of : HouseState → List HouseCall → S
 abbrev pub ServedWith : {T : Type 0} → (HouseReply → Type 0) → (T → HouseState) → T → Scene
     → List ℕ → Type 0
 ServedWith May state house now todo =
-    ServedAs (λ house calls. noted house.told house.known calls) May state house now todo
+    ServedAs (λ house calls. noted house.recorded house.known calls) May state house now todo
 
 -- a run goes on with this house: it was served so far, and the server's stream and those of the
 -- clients that are here are to be offered what waits for them
@@ -200,7 +200,7 @@ pub record IsOngoing {T : Type 0} (May : HouseReply → Type 0) (state : T → H
 abbrev pub ServedOutside : {T : Type 0} → (HouseReply → Type 0) → (T → HouseState) → T → Scene
     → List ℕ → Type 0
 ServedOutside May state house now todo =
-    ServedAs (λ house calls. outside house.told house.known calls) May state house now todo
+    ServedAs (λ house calls. outside house.recorded house.known calls) May state house now todo
 
 -- ---- want of memory
 
@@ -218,7 +218,7 @@ pub record IsLeft (setting : Setting) (journal : List Mark) (taken : ℕ) (asks 
 -- what is left of it for want of memory: the house may have told the first of the asks that follow
 pub record Promised (May : HouseReply → Type 0) (Rest : Resting)
     (before now : Option (List HouseMark)) (policy : Policy) (pid : ℕ)
-    (start told : Option (List Mark)) (given : ℕ) : Type 0 where
+    (start recorded : Option (List Mark)) (given : ℕ) : Type 0 where
   pub journal : List Mark
   pub picked : List ℕ
   pub replies : List HouseReply
@@ -227,14 +227,14 @@ pub record Promised (May : HouseReply → Type 0) (Rest : Resting)
   pub more_asks : List HouseMark
   pub may : MayGive May replies
   pub each : length asks ≡ length replies
-  pub house : TellsAsks before now (house_marks journal ++ more)
+  pub house : RecordsAsks before now (house_marks journal ++ more)
   pub asked : asks_in (house_marks journal ++ more) ≡ asks ++ more_asks
   pub asks_on : AsksOn May policy pid picked replies journal asks more_asks
   pub rested : (picks : List ℕ) (given_later : List HouseReply)
       → Rested Rest.rests (by_lists policy pid (picked ++ picks) (replies ++ given_later)) before
       journal
   pub absent : Rest.present ≡ false → All (λ (mark : Mark). is_by_house mark ≡ false) journal
-  pub tells : Tells start told journal
+  pub records : Records start recorded journal
   pub of_wire : IsOfWire journal
   pub own_streams : KeepsOwn journal
   pub turns : turns_in journal ≤ given
@@ -257,7 +257,7 @@ ServesOn {T = T} result May state seen seen' held held' todo rest s s' =
     → MatchResult result
     (λ x. Serving May (RestsOf state present first) before now policy pid start seen' held' failed
     given (rest x) s')
-    (λ e. Promised May (RestsOf state present first) before now.told policy pid start seen'.told
+    (λ e. Promised May (RestsOf state present first) before now.recorded policy pid start seen'.recorded
     given)
 
 -- the server's stream and those of the clients were to be offered what waits for them, and more
@@ -298,7 +298,7 @@ OwnOn {T = T} result May state house house' seen seen' held held' failed failed'
     (λ x. Handed (state first).stands (state house').stands (λ calls.
     Serving May (RestsOf state present first) before (record now { calls = calls }) policy pid start
     seen' held' failed' given todo s))
-    (λ e. Promised May (RestsOf state present first) before now.told policy pid start seen'.told
+    (λ e. Promised May (RestsOf state present first) before now.recorded policy pid start seen'.recorded
     given)
 
 -- the same where the house, of which this is noted before and all behind, is called: with so many
@@ -315,17 +315,17 @@ RunsFrom {T = T} result now May state house house' old new most more todo rest =
     → MatchResult result
     (λ x. Handed (state first).stands (state house').stands (λ all.
     Serving May (RestsOf state (state house).known.present first) before
-    (noted (state house').told (state house').known all) policy pid start new.seen new.held
+    (noted (state house').recorded (state house').known all) policy pid start new.seen new.held
     new.failed (given + more x) (rest x) new.engine))
-    (λ e. Promised May (RestsOf state (state house).known.present first) before (state house').told
-    policy pid start new.seen.told (given + most))
+    (λ e. Promised May (RestsOf state (state house).known.present first) before (state house').recorded
+    policy pid start new.seen.recorded (given + most))
 
 -- the same where all of it was noted before
 abbrev pub RunsOn :
     {A E T : Type 0} → Result A E → (HouseReply → Type 0) → (T → HouseState) → T → T → Scene → Scene
     → ℕ → (A → ℕ) → List ℕ → (A → List ℕ) → Type 0
 RunsOn result May state house house' old new most more todo rest =
-    RunsFrom result (noted (state house).told (state house).known) May state house house' old new
+    RunsFrom result (noted (state house).recorded (state house).known) May state house house' old new
     most more todo rest
 
 -- the streams that are to be offered what waits for them: where all were, the house may be left
@@ -360,15 +360,15 @@ TurnsOn {T = T} result May state house house' old new settled =
     (pid : ℕ) (start : Option (List Mark)) (given : ℕ)
     → HandsOn (state first).stands (state house).stands calls
     → Serving May (RestsOf state (state house).known.present first) before
-    (noted (state house).told (state house).known calls) policy pid start old.seen old.held
+    (noted (state house).recorded (state house).known calls) policy pid start old.seen old.held
     old.failed given (0 ∷ here old.engine) old.engine
     → MatchResult result
     (λ on. Handed (state first).stands (state house').stands (λ all.
     EndsTurn on given May (RestsOf state (state house).known.present first) before
-    (noted (state house').told (state house').known all) policy pid start new.seen new.held
+    (noted (state house').recorded (state house').known all) policy pid start new.seen new.held
     new.failed (to_offer settled new.engine) new.engine))
-    (λ e. Promised May (RestsOf state (state house).known.present first) before (state house').told
-    policy pid start new.seen.told (given + 1))
+    (λ e. Promised May (RestsOf state (state house).known.present first) before (state house').recorded
+    policy pid start new.seen.recorded (given + 1))
 
 -- the same for all turns of the run
 abbrev pub SpendsTurns : {E T : Type 0} → Result Bool E → ℕ → (HouseReply → Type 0)
@@ -378,15 +378,15 @@ SpendsTurns {T = T} result turns May state house house' old new settled =
     (pid : ℕ) (start : Option (List Mark))
     → HandsOn (state first).stands (state house).stands calls
     → Serving May (RestsOf state (state house).known.present first) before
-    (noted (state house).told (state house).known calls) policy pid start old.seen old.held
+    (noted (state house).recorded (state house).known calls) policy pid start old.seen old.held
     old.failed 0 (0 ∷ here old.engine) old.engine
     → MatchResult result
     (λ all. Handed (state first).stands (state house').stands (λ handed.
     Spends all turns May (RestsOf state (state house).known.present first) before
-    (noted (state house').told (state house').known handed) policy pid start new.seen new.held
+    (noted (state house').recorded (state house').known handed) policy pid start new.seen new.held
     new.failed (to_offer settled new.engine) new.engine))
-    (λ e. Promised May (RestsOf state (state house).known.present first) before (state house').told
-    policy pid start new.seen.told turns)
+    (λ e. Promised May (RestsOf state (state house).known.present first) before (state house').recorded
+    policy pid start new.seen.recorded turns)
 
 -- ---- the beginning
 
@@ -401,7 +401,7 @@ LetsIn {T = T} result May state seen seen' s s' =
     → MatchResult result
     (λ x. Serving May (RestsOf state present first) before (record now { let_in = true }) policy
     pid start seen' held failed given (0 ∷ here s') s' × (s'.ended ≡ None))
-    (λ e. Promised May (RestsOf state present first) before now.told policy pid start seen'.told
+    (λ e. Promised May (RestsOf state present first) before now.recorded policy pid start seen'.recorded
     given)
 
 -- before all else this house is let in, where it is present
@@ -411,14 +411,14 @@ Enters {T = T} result May state house seen seen' s s' =
     (first : T) (calls : List HouseCall) (before : Option (List HouseMark)) (policy : Policy)
     (pid : ℕ) (start : Option (List Mark)) (held failed : List ℕ) (given : ℕ)
     → (v : Serving May (RestsOf state (state house).known.present first) before
-    (outside (state house).told (state house).known calls) policy pid start seen held failed given
+    (outside (state house).recorded (state house).known calls) policy pid start seen held failed given
     (0 ∷ here s) s) → v.journal ≡ []
     → MatchResult result
     (λ done. Serving May (RestsOf state (state house).known.present first) before
-    (noted (state house).told (state house).known calls) policy pid start seen' held failed given
+    (noted (state house).recorded (state house).known calls) policy pid start seen' held failed given
     (0 ∷ here s') s' × (s'.ended ≡ None))
-    (λ e. Promised May (RestsOf state (state house).known.present first) before (state house).told
-    policy pid start seen'.told given)
+    (λ e. Promised May (RestsOf state (state house).known.present first) before (state house).recorded
+    policy pid start seen'.recorded given)
 
 -- a whole run that begins with this house, of which nothing was noted
 abbrev pub RunsWhole : {T : Type 0} → Ended → ℕ → (HouseReply → Type 0) → (T → HouseState) → T → T
@@ -426,10 +426,10 @@ abbrev pub RunsWhole : {T : Type 0} → Ended → ℕ → (HouseReply → Type 0
 RunsWhole answer turns May state house house' seen seen' s =
     (before : Option (List HouseMark)) (policy : Policy) (pid : ℕ) (start : Option (List Mark))
     → (v : Serving May (RestsOf state (state house).known.present house) before
-    (outside (state house).told (state house).known []) policy pid start seen [] [] 0
+    (outside (state house).recorded (state house).known []) policy pid start seen [] [] 0
     (0 ∷ here s) s) → v.journal ≡ []
     → IsRun May (RestsOf state (state house).known.present house).rests (state house).stands
-    (state house').stands (state house).known.present policy pid turns before (state house').told
+    (state house').stands (state house).known.present policy pid turns before (state house').recorded
     start seen' (refusal_after (state house) (state house')) answer
 
 -- ---- the end

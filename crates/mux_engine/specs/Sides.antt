@@ -17,8 +17,8 @@ use Rattle.mux_outside.specs.declared.mark.Mark.TheVariants.{House}
 use Rattle.mux_history.specs.declared.ended.Ended.{Ended}
 use Rattle.mux_history.specs.declared.limits.TheConstants.{HOUSE}
 use Rattle.mux_history.specs.Promises.{is_asked}
-use Rattle.mux_machine.specs.State.{State}
-use Rattle.mux_engine.specs.Turns.{failed_heard, held_heard, own_heard}
+use Rattle.mux_state.specs.State.{State}
+use Rattle.mux_engine.specs.Turns.{failed_received, held_received, own_received}
 use Rattle.mux_engine.specs.declared.room.Lists.{Lists}
 
 -- ---- the house's marks of a journal
@@ -43,7 +43,7 @@ asks_in marks = filter is_asked marks
 -- what it told; its open asks; the last of what it told, which is not noted yet; whether it was
 -- let in as a client; and its calls since the run began
 pub record Side : Type 0 where
-  pub told : Option (List HouseMark)
+  pub recorded : Option (List HouseMark)
   pub asks : List OpenAsk
   pub unnoted : List HouseMark
   pub let_in : Bool
@@ -51,8 +51,8 @@ pub record Side : Type 0 where
 
 -- a house that is let in where it is present, with this that is not noted yet
 abbrev pub noting : List HouseMark → Option (List HouseMark) → Known → List HouseCall → Side
-noting unnoted told known calls = record {
-  told = told;
+noting unnoted recorded known calls = record {
+  recorded = recorded;
   asks = known.asks;
   unnoted = unnoted;
   let_in = known.present;
@@ -61,11 +61,11 @@ noting unnoted told known calls = record {
 
 -- all of it is noted
 abbrev pub noted : Option (List HouseMark) → Known → List HouseCall → Side
-noted told known calls = noting [] told known calls
+noted recorded known calls = noting [] recorded known calls
 
 -- one that was not let in yet
 abbrev pub outside : Option (List HouseMark) → Known → List HouseCall → Side
-outside told known calls = record (noted told known calls) { let_in = false }
+outside recorded known calls = record (noted recorded known calls) { let_in = false }
 
 -- how a house is right before a wait: it has nothing to order and nothing to answer, and it is at
 -- rest where more is read; and no forwarding of the start was refused where none may be
@@ -99,7 +99,7 @@ RestsOf {T} state present first = record {
   rests = λ want now calls listeners own. IsTrue present
       → (house : T)
       × (HouseWaits want (state house).quiet (state house).must (state house).refused
-      × ((state house).told ≡ now)
+      × ((state house).recorded ≡ now)
       × HandsOn (state first).stands (state house).stands calls
       × Knows (state house).known listeners own);
 }
@@ -177,7 +177,7 @@ pub record SameKnown {A E : Type 0} (result : Result A E) (old new : HouseState)
 pub record OnlyTook {A E : Type 0} (result : Result A E) (old new : HouseState) : Type 0 where
   pub known : OnOk result (new.known ≡ old.known)
   pub must : new.must ≡ old.must
-  pub told : new.told ≡ old.told
+  pub recorded : new.recorded ≡ old.recorded
 
 -- it gave no order, and nothing changed but that
 pub record OrderedNothing (old new : HouseState) (lists lists' : Lists) : Type 0 where
@@ -196,7 +196,7 @@ AnsweredOr true old new = length new.known.asks < length old.known.asks
 AnsweredOr false old new = AnsweredNothing old new
 
 -- it had nothing to say, and nothing changed
-pub record SaidNothing (old new : HouseState) (seen seen' : Seen) (s s' : State) : Type 0 where
+pub record SentNothing (old new : HouseState) (seen seen' : Seen) (s s' : State) : Type 0 where
   pub same : OffersSame old new
   pub says : new.quiet.says ≡ true
   pub engine : s' ≡ s
@@ -205,7 +205,7 @@ pub record SaidNothing (old new : HouseState) (seen seen' : Seen) (s s' : State)
 -- ---- what is heard of its streams
 
 -- the lists behind what one of them told
-pub record HeardBy (told : OwnTurn) (old new : Lists) : Type 0 where
-  pub own : new.own ≡ own_heard told old.own
-  pub held : new.held ≡ held_heard told old.held
-  pub failed : new.failed ≡ failed_heard told old.failed
+pub record ReceivedBy (recorded : OwnTurn) (old new : Lists) : Type 0 where
+  pub own : new.own ≡ own_received recorded old.own
+  pub held : new.held ≡ held_received recorded old.held
+  pub failed : new.failed ≡ failed_received recorded old.failed

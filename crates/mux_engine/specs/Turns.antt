@@ -10,11 +10,11 @@ use Rattle.mux_outside.specs.declared.turn.Turn.TheVariants as turn
 use Rattle.mux_outside.specs.declared.turn.Want.{Want}
 use Rattle.mux_outside.specs.declared.turn.Want.TheVariants.{Read, WriteOnly}
 use Rattle.mux_history.specs.declared.limits.TheConstants.{READING_STOPS_AT}
-use Rattle.mux_machine.specs.declared.event.Event.{Event}
-use Rattle.mux_machine.specs.Events.{Tells}
-use Rattle.mux_machine.specs.State.{State, queue_in}
-use Rattle.mux_engine.specs.declared.events.Next.{Next}
-use Rattle.mux_engine.specs.declared.events.Next.TheVariants as next
+use Rattle.mux_state.specs.declared.event.Event.{Event}
+use Rattle.mux_state.specs.Events.{Records}
+use Rattle.mux_state.specs.State.{State, queue_in}
+use Rattle.mux_engine.specs.declared.events.NextEvent.{NextEvent}
+use Rattle.mux_engine.specs.declared.events.NextEvent.TheVariants as next
 
 -- while 4,194,304 bytes or more wait for the server, nothing is read
 abbrev pub want_of : State → Want
@@ -22,10 +22,10 @@ want_of s = if nat_lt (length (queue_in s 0)) READING_STOPS_AT then Read else Wr
 
 -- the event that a turn tells
 abbrev pub IsEventOf : Event → Turn → List ℕ → Type 0
-IsEventOf e (turn.Accepted k) bytes = Tells e (Accepts k)
-IsEventOf e (turn.Got t) bytes = (is_own t ≡ false) × Tells e (Gets t bytes)
-IsEventOf e (turn.End t) bytes = (is_own t ≡ false) × Tells e (Ends t)
-IsEventOf e (turn.Failed t) bytes = (is_own t ≡ false) × Tells e (Fails t)
+IsEventOf e (turn.Accepted k) bytes = Records e (Accepts k)
+IsEventOf e (turn.Got t) bytes = (is_own t ≡ false) × Records e (Gets t bytes)
+IsEventOf e (turn.End t) bytes = (is_own t ≡ false) × Records e (Ends t)
+IsEventOf e (turn.Failed t) bytes = (is_own t ≡ false) × Records e (Fails t)
 IsEventOf e (turn.Writable t) bytes = ⊥
 IsEventOf e (turn.Joined l t) bytes = ⊥
 IsEventOf e turn.NoMemory bytes = ⊥
@@ -41,21 +41,21 @@ IsOwnOf (own.Failed t) given bytes = IsTrue (is_own t) × (given ≡ turn.Failed
 
 -- what a turn tells: an event of the engine, something of the master's own, that another stream
 -- takes bytes again, or that there was no memory
-abbrev pub IsNext : Next → Turn → List ℕ → Type 0
+abbrev pub IsNext : NextEvent → Turn → List ℕ → Type 0
 IsNext (next.Event e) given bytes = IsEventOf e given bytes
 IsNext (next.Own o) given bytes = IsOwnOf o given bytes
 IsNext (next.Freed t) given bytes = (is_own t ≡ false) × (given ≡ turn.Writable t)
 IsNext next.NoMemory given bytes = given ≡ turn.NoMemory
 
 -- the house's streams then, those that are blocked, and those that failed
-abbrev pub own_heard : OwnTurn → List ℕ → List ℕ
-own_heard (own.Joined l t) streams = streams ++ t ∷ []
-own_heard told streams = streams
+abbrev pub own_received : OwnTurn → List ℕ → List ℕ
+own_received (own.Joined l t) streams = streams ++ t ∷ []
+own_received recorded streams = streams
 
-abbrev pub held_heard : OwnTurn → List ℕ → List ℕ
-held_heard (own.Writable t) held = without t held
-held_heard told held = held
+abbrev pub held_received : OwnTurn → List ℕ → List ℕ
+held_received (own.Writable t) held = without t held
+held_received recorded held = held
 
-abbrev pub failed_heard : OwnTurn → List ℕ → List ℕ
-failed_heard (own.Failed t) failed = failed ++ t ∷ []
-failed_heard told failed = failed
+abbrev pub failed_received : OwnTurn → List ℕ → List ℕ
+failed_received (own.Failed t) failed = failed ++ t ∷ []
+failed_received recorded failed = failed

@@ -24,7 +24,7 @@ pub record NoFault (faults faults' : Faults) : Type 0 where
 pub record KeepsWire (old new : WireState) (faults faults' : Faults) : Type 0 where
   pub openings : new.openings ≡ old.openings
   pub joinings : new.joinings ≡ old.joinings
-  pub own_faults : OwnCounted old.seen.told new.seen.told faults.own faults'.own
+  pub own_faults : OwnCounted old.seen.recorded new.seen.recorded faults.own faults'.own
   pub later : faults.server ≤ faults'.server
 
 -- it was only told something, or ordered: neither opened, joined, waited at nor written to, and no
@@ -38,7 +38,7 @@ pub record Untouched (old new : WireState) (faults faults' : Faults) : Type 0 wh
 -- and each order that got no number is an own fault that was counted
 pub record IsIdle (old new : WireState) (faults faults' : Faults) : Type 0 where
   pub untouched : Untouched old new faults faults'
-  pub own_faults : OwnCounted old.seen.told new.seen.told faults.own faults'.own
+  pub own_faults : OwnCounted old.seen.recorded new.seen.recorded faults.own faults'.own
 
 -- so many calls of `wait` were made, where want of memory cut nothing short, and writes
 pub record Works {A E : Type 0} (waits : ℕ) (result : Result A E) (old new : WireState)

@@ -1,17 +1,17 @@
 ghost use Rattle.std.specs.Prelude.{◌≡◌, IfOk, OnOk, None};
 ghost use Rattle.mux_outside.specs.HouseCalls.{HandsOn, calls_of};
-ghost use Rattle.mux_machine.specs.Events.{went_of};
-ghost use Rattle.mux_engine.specs.Asking.{HeedsEvent};
+ghost use Rattle.mux_state.specs.Events.{went_of};
+ghost use Rattle.mux_engine.specs.Asking.{AppliesEvent};
 ghost use Rattle.mux_engine.specs.Wires.{Untouched};
 
-use mux_clients::AskLog;
-use mux_machine::{Engine, Event, Went};
 use mux_outside::{House, Wire};
+use mux_peers::AskLog;
+use mux_state::{Engine, Event, Went};
 use ssh_fields::OutOfMemory;
 
 /// Takes in an event, and notes right behind it what the house was asked by it; `asks` is room for
 /// that.
-pub fn heed<W: Wire, H: House>(
+pub fn apply<W: Wire, H: House>(
     engine: &mut Engine,
     wire: &mut W,
     house: &mut H,
@@ -19,7 +19,7 @@ pub fn heed<W: Wire, H: House>(
     e: Event<'_>,
 ) -> Result<Went, OutOfMemory>
     requires ordering { (H.state house.old).known.ordering ≡ None }
-    ensures heeded { HeedsEvent result H.may e.entry engine.old engine.new asks.new
+    ensures applied { AppliesEvent result H.may e.entry engine.old engine.new asks.new
         (H.state house.old) (H.state house.new) (W.state wire.old).seen (W.state wire.new).seen }
     ensures handed { OnOk result (HandsOn (H.state house.old).stands (H.state house.new).stands
         (calls_of asks.new)) }

@@ -5,25 +5,25 @@ ghost use Rattle.mux_outside.specs.declared.mark.Mark.{Mark as TheMark};
 ghost use Rattle.mux_outside.specs.declared.turn.Want.TheVariants.{Read as ToRead};
 ghost use Rattle.mux_history.specs.declared.limits.TheConstants.{HOUSE as TheHouse};
 ghost use Rattle.mux_history.specs.Journal.{is_accepted};
-ghost use Rattle.mux_machine.specs.Events.{here};
-ghost use Rattle.mux_machine.specs.Stands.{Stands};
+ghost use Rattle.mux_state.specs.Events.{here};
+ghost use Rattle.mux_state.specs.Stands.{Stands};
 ghost use Rattle.mux_engine.specs.OwnFaults.{OwnCounted};
 ghost use Rattle.mux_engine.specs.Rests.{EndsByAsk, EndsSo, HasAnswered, HasNoMoreFor, IsReadyFor, WaitsAlone};
 ghost use Rattle.mux_engine.specs.Serving.{IsOngoing, LetsIn, RunsOn, ServedWith, scene, scene_of};
-ghost use Rattle.mux_engine.specs.Sides.{AnsweredOr, OnlyAsked, SaidNothing, SameKnown, SamePlaces, SameStreams, StaysHouse, Together};
+ghost use Rattle.mux_engine.specs.Sides.{AnsweredOr, OnlyAsked, SentNothing, SameKnown, SamePlaces, SameStreams, StaysHouse, Together};
 ghost use Rattle.mux_engine.specs.Turns.{want_of};
 ghost use Rattle.mux_engine.specs.Wires.{IsIdle, Untouched, Works, WorksOwn};
 
-use crate::asking::heed;
+use crate::asking::apply;
 use crate::events::event_of_bytes;
 use crate::orders::next_order;
 use crate::owned::own_rounds;
 use crate::room::Lists;
 use crate::settling::flush;
-use mux_clients::AskLog;
 use mux_history::limits::{HOUSE, READING_STOPS_AT};
-use mux_machine::{Engine, Event};
 use mux_outside::{House, HouseMark, NoHouse, Piece, Want, Wire};
+use mux_peers::AskLog;
+use mux_state::{Engine, Event};
 use ssh_fields::{OutOfMemory, Text};
 use std::alloc::Global;
 
@@ -184,7 +184,7 @@ fn speak<W: Wire, H: House>(
         (λ more. if more then 0 ∷ here engine.new else []) }
     ensures house { OnlyAsked result (H.state house.old) (H.state house.new) }
     ensures silent { IfOk result (λ more. more ≡ false
-        → SaidNothing (H.state house.old) (H.state house.new) (W.state wire.old).seen
+        → SentNothing (H.state house.old) (H.state house.new) (W.state wire.old).seen
         (W.state wire.new).seen engine.old engine.new) }
     ensures ends { (held failed : List ℕ) → ServedWith H.may H.state house.old
         (scene_of (W.state wire.old) held failed engine.old) []
@@ -193,7 +193,7 @@ fn speak<W: Wire, H: House>(
     ensures counted { (picked : List ℕ) (replies : List TheReply) (journal : List TheMark)
         (closed : List ℕ) → Stands picked replies engine.old journal closed
         → is_accepted TheHouse journal ≡ true
-        → OwnCounted (W.state wire.old).seen.told (W.state wire.new).seen.told
+        → OwnCounted (W.state wire.old).seen.recorded (W.state wire.new).seen.recorded
         (W.faults wire.old).own (W.faults wire.new).own }
     ensures wire { Untouched (W.state wire.old) (W.state wire.new) (W.faults wire.old)
         (W.faults wire.new) }
@@ -204,7 +204,7 @@ fn speak<W: Wire, H: House>(
     let bytes = Text::copy(alloc, piece.as_bytes())?;
     wire.note(&HouseMark::HouseSaid(bytes))?;
     let said = event_of_bytes(HOUSE, piece.as_bytes());
-    heed(engine, wire, house, asks, said)?;
+    apply(engine, wire, house, asks, said)?;
     Ok(true)
 }
 

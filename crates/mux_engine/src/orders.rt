@@ -1,7 +1,7 @@
 ghost use Rattle.std.specs.Prelude.{◌≡◌, ℕ, true, false, List, IfOk, OnOk, Some, if◌then◌else◌};
 ghost use Rattle.mux_outside.specs.House.{order_marks};
 ghost use Rattle.mux_outside.specs.declared.order.Order.TheVariants.{Connect as TheConnect};
-ghost use Rattle.mux_machine.specs.State.{State as TheState};
+ghost use Rattle.mux_state.specs.State.{State as TheState};
 ghost use Rattle.mux_engine.specs.Orders.{Carries, CarryCounted, HasOrdered, IsMade};
 ghost use Rattle.mux_engine.specs.Serving.{RunsFrom, RunsOn, scene};
 ghost use Rattle.mux_engine.specs.Sides.{Housed, OrderedNothing, StaysHouse, noting};
@@ -99,7 +99,7 @@ fn obey<W: Wire, H: House>(
         lists.old.own }
     requires present { (H.state house.old).known.present ≡ true }
     ensures serving { (todo : List ℕ) (s : TheState) → RunsFrom result
-        (noting (order_marks (Some order)) (H.state house.old).told (H.state house.old).known)
+        (noting (order_marks (Some order)) (H.state house.old).recorded (H.state house.old).known)
         H.may H.state house.old house.new (scene (W.state wire.old) lists.old s)
         (scene (W.state wire.new) lists.new s) 1 (λ done. 1) todo (λ done. todo) }
     ensures housed { OnOk result

@@ -1,7 +1,7 @@
 ghost use Rattle.std.specs.Prelude.{◌≡◌, [], false};
 
-use mux_clients::AskLog;
 use mux_outside::Streams;
+use mux_peers::AskLog;
 use std::alloc::Global;
 
 /// The streams of a run, between its engine, its wire and its house.

@@ -4,8 +4,8 @@ ghost use Rattle.mux_outside.specs.House.{OwnTurnFits, known_after_own_turn, not
 ghost use Rattle.mux_outside.specs.HouseCalls.{HandsOn, Turns, happening_of};
 ghost use Rattle.mux_history.specs.declared.ended.Ended.TheVariants.{OutOfMemory as WantOfMemory};
 ghost use Rattle.mux_history.specs.declared.limits.TheConstants.{HOUSE as TheHouse};
-ghost use Rattle.mux_machine.specs.Events.{went_of, here};
-ghost use Rattle.mux_engine.specs.Called.{HasSaidNothing, StandsGreeting};
+ghost use Rattle.mux_state.specs.Events.{went_of, here};
+ghost use Rattle.mux_engine.specs.Called.{HasSentNothing, StandsGreeting};
 ghost use Rattle.mux_engine.specs.Came.{EndedBy};
 ghost use Rattle.mux_engine.specs.Counted.{Cut, Spent, Turned, Well};
 ghost use Rattle.mux_engine.specs.Rests.{EndsSo, GoesOnSo, HasCalled, HasEnded, HasNoneToClose};
@@ -13,42 +13,46 @@ ghost use Rattle.mux_engine.specs.Rests.{IsReadyFor, LeavesPlaces, ended_as, ref
 ghost use Rattle.mux_engine.specs.Run.{RunKept};
 ghost use Rattle.mux_engine.specs.Serving.{Enters, IsOngoing, RunsOn, RunsWhole, ServedOutside, ServedWith};
 ghost use Rattle.mux_engine.specs.Serving.{SpendsTurns, StaysOrFails, TurnsOn, scene, scene_of, to_offer};
-ghost use Rattle.mux_engine.specs.Sides.{HeardBy, Housed, IsAlone, OnlyAsked, SamePlaces, StaysHouse, Together};
+ghost use Rattle.mux_engine.specs.Sides.{ReceivedBy, Housed, IsAlone, OnlyAsked, SamePlaces, StaysHouse, Together};
 ghost use Rattle.mux_engine.specs.Wires.{IsIdle, IsOpened, KeepsWire, NoFault, Works, WorksOwn};
 
-use crate::asking::heed;
-use crate::events::{Next, next_of};
+use crate::asking::apply;
+use crate::events::{NextEvent, next_of};
 use crate::housing::{let_in, reply_all, step_house, wanted};
 use crate::owned::list_waiting;
 use crate::room::Lists;
-use crate::settling::{close_lost, flush, hush};
+use crate::settling::{close_lost, flush, stop_accepting};
 use forward_rules::Policy;
-use mux_clients::AskLog;
 use mux_history::Ended;
-use mux_machine::{Engine, Went};
 use mux_outside::{House, OwnTurn, Piece, Wire};
+use mux_peers::AskLog;
+use mux_state::{Engine, Went};
 use ssh_fields::OutOfMemory;
 use std::alloc::Global;
 
 // Keeps what one of the master's own listeners and streams told, and hands it on.
-fn hand_on<H: House>(house: &mut H, lists: &mut Lists, told: OwnTurn<'_>) -> Result<(), OutOfMemory>
+fn hand_on<H: House>(
+    house: &mut H,
+    lists: &mut Lists,
+    recorded: OwnTurn<'_>,
+) -> Result<(), OutOfMemory>
     requires ordering { (H.state house.old).known.ordering ≡ None }
-    requires fits { OwnTurnFits told (H.state house.old).known (H.state house.old).quiet }
-    ensures lists { OnOk result (HeardBy told.entry lists.old lists.new) }
+    requires fits { OwnTurnFits recorded (H.state house.old).known (H.state house.old).quiet }
+    ensures lists { OnOk result (ReceivedBy recorded.entry lists.old lists.new) }
     ensures known { OnOk result ((H.state house.new).known
-        ≡ known_after_own_turn told.entry (H.state house.old).known) }
+        ≡ known_after_own_turn recorded.entry (H.state house.old).known) }
     ensures must { (H.state house.new).must ≡ (H.state house.old).must }
-    ensures told { (H.state house.new).told ≡ (H.state house.old).told }
+    ensures recorded { (H.state house.new).recorded ≡ (H.state house.old).recorded }
     ensures stands { OnOk result (HandsOn (H.state house.old).stands (H.state house.new).stands
-        (Turns (happening_of told.entry) ∷ [])) }
+        (Turns (happening_of recorded.entry) ∷ [])) }
 {
-    match told {
+    match recorded {
         OwnTurn::Joined { stream, .. } => lists.own.push(stream)?,
         OwnTurn::Writable(stream) => lists.held.remove(stream),
         OwnTurn::Failed(stream) => lists.failed.push(stream)?,
         _ => {}
     }
-    house.turn(told)
+    house.turn(recorded)
 }
 
 // One call of `wait`: what the wire tells next goes into the engine, or to the house.
@@ -66,7 +70,7 @@ fn turn<W: Wire, H: House>(
     requires permitted { refusal_of (H.state house.old) ≡ None }
     requires closed { HasNoneToClose engine.old }
     requires on { engine.old.ended ≡ None }
-    requires hears { (W.state wire.old).seen.listens ≡ engine.old.listening }
+    requires receives { (W.state wire.old).seen.listens ≡ engine.old.listening }
     ensures serving { RunsOn result H.may H.state house.old house.new
         (scene (W.state wire.old) lists.old engine.old)
         (scene (W.state wire.new) lists.new engine.new) 1 (λ went. 1) []
@@ -86,18 +90,18 @@ fn turn<W: Wire, H: House>(
         &lists.failed,
         &mut lists.todo,
     )?;
-    let told = wire.wait(&lists.todo, wanted(engine), piece);
-    match next_of(told, piece.as_bytes()) {
-        Next::Event(e) => heed(engine, wire, house, &mut lists.asks, e),
-        Next::Own(told) => {
-            hand_on(house, lists, told)?;
+    let recorded = wire.wait(&lists.todo, wanted(engine), piece);
+    match next_of(recorded, piece.as_bytes()) {
+        NextEvent::Event(e) => apply(engine, wire, house, &mut lists.asks, e),
+        NextEvent::Own(recorded) => {
+            hand_on(house, lists, recorded)?;
             Ok(Went::On)
         }
-        Next::Freed(stream) => {
+        NextEvent::Freed(stream) => {
             lists.held.remove(stream);
             Ok(Went::On)
         }
-        Next::NoMemory => Err(OutOfMemory),
+        NextEvent::NoMemory => Err(OutOfMemory),
     }
 }
 
@@ -160,7 +164,7 @@ fn one_turn<W: Wire, H: House>(
         return Ok(engine.ended().is_none());
     }
     close_lost::<W, H>(engine, wire, &mut lists.held);
-    hush::<W, H>(engine, wire);
+    stop_accepting::<W, H>(engine, wire);
     if is_over(engine, house) {
         lists.settled = true;
         return Ok(false);
@@ -400,7 +404,7 @@ pub fn serve<W: Wire, H: House>(
     ensures ended { HasEnded (H.state house.old).known.present
         (refusal_after (H.state house.old) (H.state house.new)) result (W.state wire.old)
         (W.state wire.new) (W.faults wire.old) (W.faults wire.new) }
-    ensures came { HasSaidNothing (H.state house.old) → EndedBy result (W.state wire.old).calls
+    ensures came { HasSentNothing (H.state house.old) → EndedBy result (W.state wire.old).calls
         (W.state wire.new).calls }
     ensures calls { HasCalled (H.state house.old).known.present turns result (W.state wire.old)
         (W.state wire.new) }

@@ -1,17 +1,17 @@
 ghost use Rattle.std.specs.Prelude.{[], ◌∷◌, ◌≡◌, List, ℕ, true, false, None, OnOk, IfOk, if◌then◌else◌};
 ghost use Rattle.mux_outside.specs.Streams.{among, without};
-ghost use Rattle.mux_machine.specs.Events.{here};
-ghost use Rattle.mux_machine.specs.State.{queue_in};
+ghost use Rattle.mux_state.specs.Events.{here};
+ghost use Rattle.mux_state.specs.State.{queue_in};
 ghost use Rattle.mux_engine.specs.Rests.{HasNoneToClose, StaysReady};
 ghost use Rattle.mux_engine.specs.Serving.{CanBeOffered, CanTakeMore, IsOfferedTo, IsServed, OffersOn, ServesOn, StaysOrFails, StaysServed};
 ghost use Rattle.mux_engine.specs.Sides.{SamePlaces};
 ghost use Rattle.mux_engine.specs.Wires.{IsIdle, NoFault, Works};
 
 use crate::events::event_of_fault;
-use mux_clients::AskLog;
 use mux_history::limits::HOUSE;
-use mux_machine::Engine;
 use mux_outside::{House, NoHouse, Streams, Wire, Wrote};
+use mux_peers::AskLog;
+use mux_state::Engine;
 use ssh_fields::OutOfMemory;
 
 // Offers a stream what waits for it, once: whether it took some and can be offered the rest. A
@@ -121,12 +121,12 @@ fn offer_clients<W: Wire, H: House>(
 }
 
 // Accepts no more clients where the engine wants none, or its run is over.
-pub fn hush<W: Wire, H: House>(engine: &Engine, wire: &mut W)
-    requires hears { engine.now.ended ≡ None → engine.now.listening ≡ true
+pub fn stop_accepting<W: Wire, H: House>(engine: &Engine, wire: &mut W)
+    requires receives { engine.now.ended ≡ None → engine.now.listening ≡ true
         → (W.state wire.old).seen.listens ≡ true }
     ensures serving { (held : List ℕ) → StaysServed H.may H.state (W.state wire.old).seen
         (W.state wire.new).seen held held engine.now engine.now }
-    ensures hears { engine.now.ended ≡ None
+    ensures receives { engine.now.ended ≡ None
         → (W.state wire.new).seen.listens ≡ engine.now.listening }
     ensures places { SamePlaces (W.state wire.old).seen (W.state wire.new).seen }
     ensures wire { IsIdle (W.state wire.old) (W.state wire.new) (W.faults wire.old)
@@ -161,7 +161,7 @@ pub fn flush<W: Wire, H: House>(
     ensures idle { engine.old.waiting ≡ []
         → (engine.new ≡ engine.old) × NoFault (W.faults wire.old) (W.faults wire.new) }
 {
-    hush::<W, H>(engine, wire);
+    stop_accepting::<W, H>(engine, wire);
     offer_clients::<W, H>(engine, wire, held, todo, asks)?;
     offer::<W, H>(engine, wire, held, asks, 0)
 }

@@ -21,46 +21,46 @@ most_read number = if is_own number then LONGEST_OWN_READ else LONGEST_PIECE
 
 -- over a reader that tells its bytes, the new piece has the first of them, so many at most, and all
 -- that are gone; without bytes the piece stays
-abbrev pub Hears : Heard → ℕ → Option (List ℕ) → Option (List ℕ) → List ℕ → List ℕ → Type 0
-Hears (Bytes n) most before now old new =
+abbrev pub Receives : Heard → ℕ → Option (List ℕ) → Option (List ℕ) → List ℕ → List ℕ → Type 0
+Receives (Bytes n) most before now old new =
     (0 < n) × (n ≡ length new) × (n ≤ LONGEST_PIECE) × (n ≤ most) × Consumes before now new
-Hears End most before now old new = (new ≡ old) × Consumes before now [] × IsAtEnd now
-Hears Nothing most before now old new = (new ≡ old) × Keeps before now
-Hears Interrupted most before now old new = (new ≡ old) × Keeps before now
-Hears Failed most before now old new = (new ≡ old) × Keeps before now
+Receives End most before now old new = (new ≡ old) × Consumes before now [] × IsAtEnd now
+Receives Nothing most before now old new = (new ≡ old) × Keeps before now
+Receives Interrupted most before now old new = (new ≡ old) × Keeps before now
+Receives Failed most before now old new = (new ≡ old) × Keeps before now
 
 -- the turn that a stream of this number gives
-abbrev pub heard_turn : Heard → ℕ → Option Turn
-heard_turn (Bytes n) number = Some (turn.Got number)
-heard_turn End number = Some (turn.End number)
-heard_turn Nothing number = None
-heard_turn Interrupted number = None
-heard_turn Failed number = Some (turn.Failed number)
+abbrev pub received_turn : Heard → ℕ → Option Turn
+received_turn (Bytes n) number = Some (turn.Got number)
+received_turn End number = Some (turn.End number)
+received_turn Nothing number = None
+received_turn Interrupted number = None
+received_turn Failed number = Some (turn.Failed number)
 
 -- how many bytes were heard
-abbrev pub heard_len : Heard → ℕ
-heard_len (Bytes n) = n
-heard_len End = 0
-heard_len Nothing = 0
-heard_len Interrupted = 0
-heard_len Failed = 0
+abbrev pub received_len : Heard → ℕ
+received_len (Bytes n) = n
+received_len End = 0
+received_len Nothing = 0
+received_len Interrupted = 0
+received_len Failed = 0
 
 -- nothing more can be heard
-abbrev pub heard_last : Heard → Bool
-heard_last (Bytes n) = false
-heard_last End = true
-heard_last Nothing = false
-heard_last Interrupted = false
-heard_last Failed = true
+abbrev pub received_last : Heard → Bool
+received_last (Bytes n) = false
+received_last End = true
+received_last Nothing = false
+received_last Interrupted = false
+received_last Failed = true
 
 -- a stream is read again untold: after the most that a read takes, where reads stop short, and
 -- after a signal
-abbrev pub heard_again : Heard → Bool → ℕ → Bool
-heard_again (Bytes n) stops_short most = stops_short || nat_le most n
-heard_again End stops_short most = false
-heard_again Nothing stops_short most = false
-heard_again Interrupted stops_short most = true
-heard_again Failed stops_short most = false
+abbrev pub received_again : Heard → Bool → ℕ → Bool
+received_again (Bytes n) stops_short most = stops_short || nat_le most n
+received_again End stops_short most = false
+received_again Nothing stops_short most = false
+received_again Interrupted stops_short most = true
+received_again Failed stops_short most = false
 
 -- ---- a write
 

@@ -1,7 +1,7 @@
 //! What one read of a stream and one write to it come to.
 ghost use Rattle.std.specs.Prelude.{◌≡◌, ◌≢◌, ◌<◌, length, IfErr, IfOk};
 ghost use Rattle.std.specs.IoError.{error_kind};
-ghost use Rattle.mux_exchange.specs.Exchange.{Hears, Sends, heard_again, heard_last, heard_len, heard_turn, most_read, sent_wrote};
+ghost use Rattle.mux_exchange.specs.Exchange.{Receives, Sends, received_again, received_last, received_len, received_turn, most_read, sent_wrote};
 
 use mux_outside::{LONGEST_PIECE, Piece, Turn, Wrote, is_own};
 use std::io::{ErrorKind, Read, Write};
@@ -40,7 +40,7 @@ pub enum Sent {
 impl Heard {
     /// The turn of a stream at which this was heard.
     pub fn turn(self, number: u64) -> Option<Turn>
-        ensures { result ≡ heard_turn self number }
+        ensures { result ≡ received_turn self number }
     {
         match self {
             Heard::Bytes(_) => Some(Turn::Got(number)),
@@ -52,7 +52,7 @@ impl Heard {
 
     /// How many bytes were heard.
     pub fn len(self) -> usize
-        ensures { result ≡ heard_len self }
+        ensures { result ≡ received_len self }
     {
         match self {
             Heard::Bytes(count) => count,
@@ -62,7 +62,7 @@ impl Heard {
 
     /// Whether nothing more can be heard.
     pub fn is_last(self) -> bool
-        ensures { result ≡ heard_last self }
+        ensures { result ≡ received_last self }
     {
         matches!(self, Heard::End | Heard::Failed)
     }
@@ -70,7 +70,7 @@ impl Heard {
     /// Whether more may wait, of which the system doesn't tell again: behind the most that a read
     /// takes, after a signal, and where reads stop short of what is there.
     pub fn leaves_more(self, stops_short: bool, most: usize) -> bool
-        ensures { result ≡ heard_again self stops_short most }
+        ensures { result ≡ received_again self stops_short most }
     {
         match self {
             Heard::Bytes(count) => stops_short || count >= most,
@@ -107,12 +107,12 @@ pub fn most_read(number: u64) -> usize
 
 /// Reads once, so many bytes at most. Bytes that come are put in place of those of the piece, and
 /// else it stays. The spare piece is what is read into.
-pub fn hear<S: Read>(from: &mut S, most: usize, spare: &mut Piece, into: &mut Piece) -> Heard
+pub fn receive<S: Read>(from: &mut S, most: usize, spare: &mut Piece, into: &mut Piece) -> Heard
     requires { 0 < most }
-    ensures { Hears result most (S.remaining from.old) (S.remaining from.new) into.old into.new }
+    ensures { Receives result most (S.remaining from.old) (S.remaining from.new) into.old into.new }
 {
     let got = spare.read_from(from, most);
-    let heard = heard_of(&got);
+    let heard = received_of(&got);
     if let Heard::Bytes(_) = heard {
         mem::swap(spare, into);
     }
@@ -120,7 +120,7 @@ pub fn hear<S: Read>(from: &mut S, most: usize, spare: &mut Piece, into: &mut Pi
 }
 
 // What a read's result says.
-fn heard_of(got: &io::Result<usize>) -> Heard
+fn received_of(got: &io::Result<usize>) -> Heard
     ensures bytes { IfOk got.now (λ n. 0 < n → result ≡ Heard.Bytes n) }
     ensures end { IfOk got.now (λ n. n ≡ 0 → result ≡ Heard.End) }
     ensures nothing { IfErr got.now

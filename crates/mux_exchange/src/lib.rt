@@ -5,5 +5,5 @@
 mod exchange;
 mod permissions;
 
-pub use exchange::{Heard, LONGEST_OWN_READ, Sent, hear, most_read, send};
+pub use exchange::{Heard, LONGEST_OWN_READ, Sent, most_read, receive, send};
 pub use permissions::owner_only;

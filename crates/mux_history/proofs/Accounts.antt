@@ -2,7 +2,7 @@
 use Rattle.std.proofs.Common.{◌≡◌, ℕ, ◌+◌, ◌-◌, ◌∷◌, arith}
 use Rattle.ssh_grammar.specs.declared.side.Side.{Side}
 use Rattle.ssh_grammar.specs.declared.side.Side.TheVariants.{Up, Down}
-use Rattle.mux_history.specs.Gist.{Carries, Grants}
+use Rattle.mux_history.specs.Summary.{Carries, Grants}
 use Rattle.mux_history.specs.Channels.{Channel}
 use Rattle.mux_history.specs.Ledger.{other_side, room}
 use Rattle.mux_history.specs.Laws.{with_act, IsWithin, RoomsGoOn}

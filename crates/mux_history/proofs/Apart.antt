@@ -4,7 +4,7 @@ use Rattle.std.proofs.Common.{◌≡◌, ℕ, ◌<◌, List, [], ◌∷◌, ◌+
 use Rattle.std.specs.Prelude.{◌==◌, filter, find, ◌⊎◌}
 use Rattle.std.proofs.lemmas.Bool.Decides.{nat_tests}
 use Rattle.mux_history.specs.Channels.{Channel, is_held, is_number}
-use Rattle.mux_history.specs.Gist.{Confirms}
+use Rattle.mux_history.specs.Summary.{Confirms}
 use Rattle.ssh_grammar.specs.declared.side.Side.TheVariants.{Down, Up}
 use Rattle.mux_history.proofs.Finds.{Each, filter-no, filter-yes, find-no, find-yes}
 use Rattle.mux_history.proofs.Local.{is_of}

@@ -5,12 +5,12 @@ use Rattle.std.proofs.lemmas.List.{append-nil, take-append-le}
 use Rattle.std.proofs.lemmas.List.Elements.{filter-append}
 use Rattle.std.proofs.lemmas.Option.{slice_get_within}
 use Rattle.std.proofs.lemmas.Bool.Decides.{nat_tests}
-use Rattle.mux_history.specs.Gist.{Confirmation, Gist, Open, Refuses, Requests, Succeeds, Transport, Within, read_gist}
-use Rattle.mux_history.specs.Controls.{house_says}
-use Rattle.mux_history.specs.Heard.{Breaks, Dest, Disconnects, ToClient, ToMaster, dest, dest_asker, dest_gist, dest_success, heard_for, heard_master}
+use Rattle.mux_history.specs.Summary.{Confirmation, Summary, Open, Refuses, Requests, Succeeds, Transport, Within, read_summary}
+use Rattle.mux_history.specs.Controls.{house_sends}
+use Rattle.mux_history.specs.Heard.{Breaks, Dest, Disconnects, ToClient, ToMaster, dest, dest_asker, dest_summary, dest_success, received_for, received_master}
 use Rattle.mux_history.specs.Keys.{learns_port}
 use Rattle.mux_history.specs.Ledger.{asked}
-use Rattle.mux_history.specs.Log.{admits, bare, heard_row, said_by_client, treat}
+use Rattle.mux_history.specs.Log.{admits, bare, received_row, sent_by_client, treat}
 use Rattle.mux_history.specs.Policy.{Policy}
 use Rattle.mux_history.specs.Requests.{Ask, asker, asks, asks_of, is_reply, is_sent, replies, reply_in, wanted_by}
 use Rattle.mux_history.specs.Rows.{Admit, BadServer, Gone, Heard, HouseSays, Item, Row, RunEnd, Says, ServerCut, ServerEnd, ServerFailed, Took, is_end, rows_of}
@@ -149,10 +149,10 @@ orderly-reply row before p reply silent_row asked orderly = record {
 abbrev OrderlyNext : List Row → Row → Type 0
 OrderlyNext before row = is_end row.fate ≡ false → Orderly (row ∷ before)
 
-no-reply : (p : List ℕ) (m : Gist) → read_gist p ≡ Ok m → is_reply m ≡ false → reply_in (Heard p) ≡ []
+no-reply : (p : List ℕ) (m : Summary) → read_summary p ≡ Ok m → is_reply m ≡ false → reply_in (Heard p) ≡ []
 no-reply p m reads other = ap (λ b. elim b as (λ _. List (List ℕ)) [ true ↦ p ∷ [] | false ↦ [] ]) (reading-ok p m is_reply false reads ∙ other)
 
-is-a-reply : (p : List ℕ) (m : Gist) → read_gist p ≡ Ok m → is_reply m ≡ true → reply_in (Heard p) ≡ p ∷ []
+is-a-reply : (p : List ℕ) (m : Summary) → read_summary p ≡ Ok m → is_reply m ≡ true → reply_in (Heard p) ≡ p ∷ []
 is-a-reply p m reads other = ap (λ b. elim b as (λ _. List (List ℕ)) [ true ↦ p ∷ [] | false ↦ [] ]) (reading-ok p m is_reply false reads ∙ other)
 
 heard-asks : (k : ℕ) (p : List ℕ) (row : Row) → row.item ≡ Heard p → asks_of k (is_sent row) (wanted_by row) ≡ []
@@ -165,7 +165,7 @@ heard-asks k p row e = ap (λ o. asks_of k (is_sent row) o) (wanted-none row e) 
     by_sent true = refl
     by_sent false = refl
 
-orderly-message : (before : List Row) → Orderly before → (k : ℕ) (p : List ℕ) (m : Gist) → read_gist p ≡ Ok m → dest_gist before m ≡ ToClient k → (row : Row) → row.item ≡ Heard p → row.client ≡ k → Orderly (row ∷ before)
+orderly-message : (before : List Row) → Orderly before → (k : ℕ) (p : List ℕ) (m : Summary) → read_summary p ≡ Ok m → dest_summary before m ≡ ToClient k → (row : Row) → row.item ≡ Heard p → row.client ≡ k → Orderly (row ∷ before)
 orderly-message before orderly k p (Succeeds rest) reads e row item client = orderly-reply row before p (ap reply_in item ∙ is-a-reply p (Succeeds rest) reads refl) (heard-asks row.client p row item) (subst (Asked before) (sym client) (succeeds-asked before rest k e)) orderly
 orderly-message before orderly k p Refuses reads e row item client = orderly-reply row before p (ap reply_in item ∙ is-a-reply p Refuses reads refl) (heard-asks row.client p row item) (subst (Asked before) (sym client) (refuses-asked before k e)) orderly
 orderly-message before orderly k p (Transport number) reads e row item client = orderly-still row before (ap reply_in item ∙ no-reply p (Transport number) reads refl) orderly
@@ -193,15 +193,15 @@ success-never rest a e = by_what a.what e
     by_what OtherName e = cc
 
 orderly-master : (before : List Row) → Orderly before → (p : List ℕ) → dest before p ≡ ToMaster → (row : Row) → row.item ≡ Heard p → Orderly (row ∷ before)
-orderly-master before orderly p to row item = by_case (read_gist p) refl
+orderly-master before orderly p to row item = by_case (read_summary p) refl
   where
     to_client_never : (a : Ask) → ToClient a.client ≡ ToMaster → ⊥
     to_client_never a e = cc
 
-    other : (m : Gist) → read_gist p ≡ Ok m → is_reply m ≡ false → Orderly (row ∷ before)
+    other : (m : Summary) → read_summary p ≡ Ok m → is_reply m ≡ false → Orderly (row ∷ before)
     other m reads no_reply = orderly-still row before (ap reply_in item ∙ no-reply p m reads no_reply) orderly
 
-    by_message : (m : Gist) → read_gist p ≡ Ok m → dest_gist before m ≡ ToMaster → Orderly (row ∷ before)
+    by_message : (m : Summary) → read_summary p ≡ Ok m → dest_summary before m ≡ ToMaster → Orderly (row ∷ before)
     by_message (Succeeds rest) reads e = absurd (master-asker (asker before) (dest_success rest) (success-never rest) e)
     by_message Refuses reads e = absurd (master-asker (asker before) (λ a. ToClient a.client) to_client_never e)
     by_message (Transport number) reads e = other (Transport number) reads refl
@@ -210,18 +210,18 @@ orderly-master before orderly p to row item = by_case (read_gist p) refl
     by_message (Confirmation n s w max) reads e = other (Confirmation n s w max) reads refl
     by_message (Within n act) reads e = other (Within n act) reads refl
 
-    by_case : (r : Result Gist Bad) → read_gist p ≡ r → Orderly (row ∷ before)
+    by_case : (r : Result Summary Bad) → read_summary p ≡ r → Orderly (row ∷ before)
     by_case (Err bad) reads = let x : Breaks _ ≡ ToMaster = sym (dest-err before p bad reads) ∙ to in cc
     by_case (Ok m) reads = by_message m reads (sym (dest-ok before p m reads) ∙ to)
 
-orderly-heard : (before : List Row) → Orderly before → (p : List ℕ) (d : Dest) → dest before p ≡ d → OrderlyNext before (heard_row before p d)
-orderly-heard before orderly p ToMaster e going = orderly-master before orderly p e (bare (Heard p) 0 (heard_master p)) refl
-orderly-heard before orderly p (ToClient k) e going = row-parts (OrderlyNext before) (Heard p) k (heard_for (rows_of k before) p) (rows_of k before) (λ fw parting down fate going'. to_client k e (as_row (Heard p) k (heard_for (rows_of k before) p).sent fw down fate) refl refl) going
+orderly-heard : (before : List Row) → Orderly before → (p : List ℕ) (d : Dest) → dest before p ≡ d → OrderlyNext before (received_row before p d)
+orderly-heard before orderly p ToMaster e going = orderly-master before orderly p e (bare (Heard p) 0 (received_master p)) refl
+orderly-heard before orderly p (ToClient k) e going = row-parts (OrderlyNext before) (Heard p) k (received_for (rows_of k before) p) (rows_of k before) (λ fw parting down fate going'. to_client k e (as_row (Heard p) k (received_for (rows_of k before) p).sent fw down fate) refl refl) going
   where
     to_client : (k : ℕ) → dest before p ≡ ToClient k → (row : Row) → row.item ≡ Heard p → row.client ≡ k → Orderly (row ∷ before)
-    to_client k e row item client = by_case (read_gist p) refl
+    to_client k e row item client = by_case (read_summary p) refl
       where
-        by_case : (r : Result Gist Bad) → read_gist p ≡ r → Orderly (row ∷ before)
+        by_case : (r : Result Summary Bad) → read_summary p ≡ r → Orderly (row ∷ before)
         by_case (Err bad) reads = let x : Breaks _ ≡ ToClient k = sym (dest-err before p bad reads) ∙ e in cc
         by_case (Ok m) reads = orderly-message before orderly k p m reads (sym (dest-ok before p m reads) ∙ e) row item client
 orderly-heard before orderly p Disconnects e going = cc
@@ -229,8 +229,8 @@ orderly-heard before orderly p (Breaks why) e going = cc
 
 pub orderly-treat : (policy : Policy) (pid pick : ℕ) (before : List Row) (item : Item) → Orderly before → is_end (treat policy pid pick before item).fate ≡ false → Orderly (treat policy pid pick before item ∷ before)
 orderly-treat policy pid pick before (Admit k) orderly going = row-parts (OrderlyNext before) (Admit k) k (admits before) (rows_of k before) (λ fw parting down fate going'. orderly-still _ before refl orderly) going
-orderly-treat policy pid pick before (Says k saying reply) orderly going = row-parts (OrderlyNext before) (Says k saying reply) k (said_by_client policy pid k (rows_of k before) pick saying reply) (rows_of k before) (λ fw parting down fate going'. orderly-still _ before refl orderly) going
-orderly-treat policy pid pick before (HouseSays k id given) orderly going = row-parts (OrderlyNext before) (HouseSays k id given) k (house_says (rows_of k before) id given) (rows_of k before) (λ fw parting down fate going'. orderly-still _ before refl orderly) going
+orderly-treat policy pid pick before (Says k outgoing reply) orderly going = row-parts (OrderlyNext before) (Says k outgoing reply) k (sent_by_client policy pid k (rows_of k before) pick outgoing reply) (rows_of k before) (λ fw parting down fate going'. orderly-still _ before refl orderly) going
+orderly-treat policy pid pick before (HouseSays k id given) orderly going = row-parts (OrderlyNext before) (HouseSays k id given) k (house_sends (rows_of k before) id given) (rows_of k before) (λ fw parting down fate going'. orderly-still _ before refl orderly) going
 orderly-treat policy pid pick before (Gone k) orderly going = row-parts (OrderlyNext before) (Gone k) k silent (rows_of k before) (λ fw parting down fate going'. orderly-still _ before refl orderly) going
 orderly-treat policy pid pick before (Heard p) orderly going = orderly-heard before orderly p (dest before p) refl going
 orderly-treat policy pid pick before (Took stream size) orderly going = orderly-still _ before refl orderly

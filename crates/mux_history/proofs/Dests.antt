@@ -3,8 +3,8 @@ use Rattle.std.proofs.Common.{◌≡◌, ℕ, List, length, true, false, Bool, r
 use Rattle.std.specs.Prelude.{◌==◌, ◌&&◌, not}
 use Rattle.mux_history.specs.Channels.{Channel, holder, live_in}
 use Rattle.mux_history.specs.Forwardings.{Forwarding, live_at}
-use Rattle.mux_history.specs.Gist.{Act, Confirmation, Fails, Gist, Open, Refuses, Requests, Succeeds, Transport, Within, read_gist, recipient_of}
-use Rattle.mux_history.specs.Heard.{Breaks, Dest, ToClient, ToMaster, dest, dest_asker, dest_confirmation, dest_gist, dest_open, dest_success, dest_within, is_pending, pending_open}
+use Rattle.mux_history.specs.Summary.{Act, Confirmation, Fails, Summary, Open, Refuses, Requests, Succeeds, Transport, Within, read_summary, recipient_of}
+use Rattle.mux_history.specs.Heard.{Breaks, Dest, ToClient, ToMaster, dest, dest_asker, dest_confirmation, dest_summary, dest_open, dest_success, dest_within, is_pending, pending_open}
 use Rattle.mux_history.specs.Keys.{learns_port}
 use Rattle.mux_history.specs.Ledger.{breach}
 use Rattle.mux_history.specs.Requests.{Ask, asker}
@@ -16,11 +16,11 @@ use Rattle.ssh_grammar.specs.declared.fault.Breach.{Breach}
 use Rattle.ssh_grammar.specs.declared.side.Side.TheVariants.{Down}
 use Rattle.mux_history.specs.declared.broke.Break.TheVariants as broke
 
-pub dest-ok : (rows : List Row) (p : List ℕ) (m : Gist) → read_gist p ≡ Ok m → dest rows p ≡ dest_gist rows m
-dest-ok rows p m reads = ap (λ r. elim r as (λ _. Dest) [ Err bad ↦ Breaks (broke.Message bad) | Ok m ↦ dest_gist rows m ]) reads
+pub dest-ok : (rows : List Row) (p : List ℕ) (m : Summary) → read_summary p ≡ Ok m → dest rows p ≡ dest_summary rows m
+dest-ok rows p m reads = ap (λ r. elim r as (λ _. Dest) [ Err bad ↦ Breaks (broke.Message bad) | Ok m ↦ dest_summary rows m ]) reads
 
-pub dest-err : (rows : List Row) (p : List ℕ) (bad : Bad) → read_gist p ≡ Err bad → dest rows p ≡ Breaks (broke.Message bad)
-dest-err rows p bad reads = ap (λ r. elim r as (λ _. Dest) [ Err bad ↦ Breaks (broke.Message bad) | Ok m ↦ dest_gist rows m ]) reads
+pub dest-err : (rows : List Row) (p : List ℕ) (bad : Bad) → read_summary p ≡ Err bad → dest rows p ≡ Breaks (broke.Message bad)
+dest-err rows p bad reads = ap (λ r. elim r as (λ _. Dest) [ Err bad ↦ Breaks (broke.Message bad) | Ok m ↦ dest_summary rows m ]) reads
 
 -- an open that goes to a client, by a forwarding that is live
 pub record Offered (rows : List Row) (s : ℕ) (what : Opens) (k : ℕ) : Type 0 where
@@ -128,7 +128,7 @@ reach-legal : (rows : List Row) (n : ℕ) (act : Act) (k : ℕ) → Legal rows n
 reach-legal rows n act k a = record { channel = a.channel; is = a.is; client = a.client }
 
 -- each message with a recipient reaches a channel of its client
-pub reached : (rows : List Row) (m : Gist) (n k : ℕ) → recipient_of m ≡ Some n → dest_gist rows m ≡ ToClient k → Reached rows n k
+pub reached : (rows : List Row) (m : Summary) (n k : ℕ) → recipient_of m ≡ Some n → dest_summary rows m ≡ ToClient k → Reached rows n k
 reached rows (Confirmation n' s w max) n k some e = let same : n' ≡ n = cc in subst (λ (i : ℕ). Reached rows i k) same (reach rows n' k ((confirmed rows n' s k e).awaited))
 reached rows (Within n' Fails) n k some e = let same : n' ≡ n = cc in subst (λ (i : ℕ). Reached rows i k) same (reach rows n' k (fails-awaited rows n' k e))
 reached rows (Within n' act) n k some e = let same : n' ≡ n = cc in subst (λ (i : ℕ). Reached rows i k) same (reach-legal rows n' act k (legal-by rows n' act k e))
@@ -164,10 +164,10 @@ success-to rest k a e = by_what a.what e
     by_what KeepAlive e = cc
     by_what OtherName e = cc
 
-pub succeeds-asked : (rows : List Row) (rest : List ℕ) (k : ℕ) → dest_gist rows (Succeeds rest) ≡ ToClient k → Asked rows k
+pub succeeds-asked : (rows : List Row) (rest : List ℕ) (k : ℕ) → dest_summary rows (Succeeds rest) ≡ ToClient k → Asked rows k
 succeeds-asked rows rest k e = asked-by rows k (dest_success rest) (success-to rest k) e
 
-pub refuses-asked : (rows : List Row) (k : ℕ) → dest_gist rows Refuses ≡ ToClient k → Asked rows k
+pub refuses-asked : (rows : List Row) (k : ℕ) → dest_summary rows Refuses ≡ ToClient k → Asked rows k
 refuses-asked rows k e = asked-by rows k (λ a. ToClient a.client) to_client e
   where
     to_client : (a : Ask) → ToClient a.client ≡ ToClient k → a.client ≡ k

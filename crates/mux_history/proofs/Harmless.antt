@@ -4,23 +4,23 @@ use Rattle.std.specs.Prelude.{filter, not, Result, flat_map, nat_lt, is_none, co
 use Rattle.mux_history.specs.Channels.{Channel, any_by, held_of, is_closes, is_confirmed, is_up}
 use Rattle.mux_history.specs.Farewell.{cancel_live, farewell, late, late_refusal, late_success, leave_channel, leave_forwarding, to_number, with_ask}
 use Rattle.mux_history.specs.Forwardings.{Forwarding, forwarded, forwardings_of}
-use Rattle.mux_history.specs.Gist.{Closes, Confirmation, Fails, Gist, Open, Refuses, Requests, Succeeds, Within, read_gist}
-use Rattle.mux_history.specs.Heard.{for_client, for_lost, for_master, heard_for, heard_gist, heard_master}
+use Rattle.mux_history.specs.Summary.{Closes, Confirmation, Fails, Summary, Open, Refuses, Requests, Succeeds, Within, read_summary}
+use Rattle.mux_history.specs.Heard.{for_client, for_lost, for_master, received_for, received_summary, received_master}
 use Rattle.mux_history.specs.Kept.{Cancelling, ClientIsGone, Closing, Every, IsMasters, NotPermitted, OwnWord, Refusal, TooManyChannels, spelled_word}
 use Rattle.mux_history.specs.Keys.{bound}
 use Rattle.mux_history.specs.Requests.{Ask, asker}
 use Rattle.mux_history.specs.Rows.{Row, is_lost}
-use Rattle.mux_history.specs.Said.{Outcome, sends, silent, tells}
+use Rattle.mux_history.specs.Said.{Outcome, sends, silent, records}
 use Rattle.ssh_fields.specs.Fields.{str, u32}
 use Rattle.ssh_grammar.specs.Frames.{frame_payload}
 use Rattle.ssh_grammar.specs.Messages.{Cancel, Forward, Global, Key}
 use Rattle.ssh_grammar.specs.SpellMessage.{cancel_forward, close, open_failure, request_failure}
 use Rattle.ssh_grammar.specs.declared.fault.Bad.{Bad}
 use Rattle.ssh_grammar.specs.declared.side.Side.TheVariants.{Up}
-use Rattle.mux_history.proofs.Readings.{cancel-always, close-always, failure-always, gist-always}
+use Rattle.mux_history.proofs.Readings.{cancel-always, close-always, failure-always, summary-always}
 
 -- a refused request, a failed open, a close, or a cancel
-abbrev pub IsHarmless : Gist → Type 0
+abbrev pub IsHarmless : Summary → Type 0
 IsHarmless (Within s Closes) = Unit {0}
 IsHarmless (Within s Fails) = Unit {0}
 IsHarmless (Requests (Cancel key) wants) = Unit {0}
@@ -28,19 +28,19 @@ IsHarmless Refuses = Unit {0}
 IsHarmless m = ⊥
 
 abbrev pub Harmless : List ℕ → Type 0
-Harmless q = (m : Gist) → read_gist q ≡ Ok m → IsHarmless m
+Harmless q = (m : Summary) → read_summary q ≡ Ok m → IsHarmless m
 
 harmless-close : (s : ℕ) → Harmless (close s)
-harmless-close s m reads = gist-always IsHarmless (close s) m (close-always IsHarmless (u32 s) (λ n. tt)) reads
+harmless-close s m reads = summary-always IsHarmless (close s) m (close-always IsHarmless (u32 s) (λ n. tt)) reads
 
 harmless-refusal : Harmless request_failure
-harmless-refusal m reads = gist-always IsHarmless request_failure m tt reads
+harmless-refusal m reads = summary-always IsHarmless request_failure m tt reads
 
 pub harmless-failure : (s reason : ℕ) (text : List ℕ) → Harmless (open_failure s reason text)
-harmless-failure s reason text m reads = gist-always IsHarmless (open_failure s reason text) m (failure-always IsHarmless (u32 s ++ (u32 reason ++ (str text ++ str []))) (λ n. tt)) reads
+harmless-failure s reason text m reads = summary-always IsHarmless (open_failure s reason text) m (failure-always IsHarmless (u32 s ++ (u32 reason ++ (str text ++ str []))) (λ n. tt)) reads
 
 harmless-cancel : (key : Key) → Harmless (cancel_forward key)
-harmless-cancel key m reads = gist-always IsHarmless (cancel_forward key) m (cancel-always IsHarmless key (λ key. tt)) reads
+harmless-cancel key m reads = summary-always IsHarmless (cancel_forward key) m (cancel-always IsHarmless key (λ key. tt)) reads
 
 pub every-append : (P : List ℕ → Type 0) (xs ys : List (List ℕ)) → Every P xs → Every P ys → Every P (xs ++ ys)
 every-append P [] ys a b = b
@@ -114,43 +114,43 @@ pub masters-late-refusal : (g : Global) → Every IsMasters (late_refusal g)
 masters-late-refusal (Cancel key) = ((Cancelling key, refl), tt)
 masters-late-refusal g = tt
 
-pub masters-late : (m : Gist) (own : List Row) → Every IsMasters (late m own)
+pub masters-late : (m : Summary) (own : List Row) → Every IsMasters (late m own)
 masters-late (Confirmation n s w m) own = ((Closing s, refl), tt)
 masters-late (Succeeds rest) own = masters-asked (asker own) (late_success rest) (masters-success rest)
 masters-late Refuses own = masters-asked (asker own) late_refusal masters-late-refusal
 masters-late m own = tt
 
-pub masters-heard : (own : List Row) (p : List ℕ) → Every IsMasters (heard_for own p).sent
-masters-heard own p = by_case (read_gist p)
+pub masters-heard : (own : List Row) (p : List ℕ) → Every IsMasters (received_for own p).sent
+masters-heard own p = by_case (read_summary p)
   where
-    by_message : (m : Gist) → Every IsMasters (for_client own p m).sent
-    by_message (Open what s w max) = elim (nat_lt (length (held_of own)) 256) as (λ b. Every IsMasters (elim b as (λ _. Outcome) [ true ↦ tells (frame_payload p) | false ↦ sends (open_failure s 4 (codes "too many channels")) ]).sent) [ true ↦ tt | false ↦ ((TooManyChannels s, refl), tt) ]
+    by_message : (m : Summary) → Every IsMasters (for_client own p m).sent
+    by_message (Open what s w max) = elim (nat_lt (length (held_of own)) 256) as (λ b. Every IsMasters (elim b as (λ _. Outcome) [ true ↦ records (frame_payload p) | false ↦ sends (open_failure s 4 (codes "too many channels")) ]).sent) [ true ↦ tt | false ↦ ((TooManyChannels s, refl), tt) ]
     by_message (Confirmation n s w max) = tt
     by_message (Within n act) = tt
     by_message m = tt
 
-    by_lost : (m : Gist) (b : Bool) → Every IsMasters (elim b as (λ _. Outcome) [ true ↦ for_lost own m | false ↦ for_client own p m ]).sent
+    by_lost : (m : Summary) (b : Bool) → Every IsMasters (elim b as (λ _. Outcome) [ true ↦ for_lost own m | false ↦ for_client own p m ]).sent
     by_lost m true = masters-late m own
     by_lost m false = by_message m
 
-    by_case : (r : Result Gist Bad) → Every IsMasters (elim r as (λ _. Outcome) [ Err bad ↦ silent | Ok m ↦ heard_gist own p m ]).sent
+    by_case : (r : Result Summary Bad) → Every IsMasters (elim r as (λ _. Outcome) [ Err bad ↦ silent | Ok m ↦ received_summary own p m ]).sent
     by_case (Err bad) = tt
     by_case (Ok m) = by_lost m (is_lost own)
 
-pub masters-master : (p : List ℕ) → Every IsMasters (heard_master p).sent
-masters-master p = by_case (read_gist p)
+pub masters-master : (p : List ℕ) → Every IsMasters (received_master p).sent
+masters-master p = by_case (read_summary p)
   where
-    by_message : (m : Gist) → Every IsMasters (for_master m).sent
+    by_message : (m : Summary) → Every IsMasters (for_master m).sent
     by_message (Requests what true) = ((Refusal, refl), tt)
     by_message (Open what s w max) = ((NotPermitted s, refl), tt)
     by_message m = tt
 
-    by_case : (r : Result Gist Bad) → Every IsMasters (elim r as (λ _. Outcome) [ Err bad ↦ silent | Ok m ↦ for_master m ]).sent
+    by_case : (r : Result Summary Bad) → Every IsMasters (elim r as (λ _. Outcome) [ Err bad ↦ silent | Ok m ↦ for_master m ]).sent
     by_case (Err bad) = tt
     by_case (Ok m) = by_message m
 
-pub harmless-heard : (own : List Row) (p : List ℕ) → Every Harmless (heard_for own p).sent
-harmless-heard own p = harmless-each (heard_for own p).sent (masters-heard own p)
+pub harmless-heard : (own : List Row) (p : List ℕ) → Every Harmless (received_for own p).sent
+harmless-heard own p = harmless-each (received_for own p).sent (masters-heard own p)
 
-pub harmless-master : (p : List ℕ) → Every Harmless (heard_master p).sent
-harmless-master p = harmless-each (heard_master p).sent (masters-master p)
+pub harmless-master : (p : List ℕ) → Every Harmless (received_master p).sent
+harmless-master p = harmless-each (received_master p).sent (masters-master p)

@@ -2,9 +2,9 @@
 use Rattle.std.proofs.Common.{◌≡◌, ℕ, List, [], ◌∷◌, true, false, Bool, refl, ◌∙◌, ap, Some, None}
 use Rattle.std.specs.Prelude.{◌||◌, ◌&&◌}
 use Rattle.mux_history.specs.Choices.{Choices, FromLists, pick_of, replies_given, reply_at, with_reply}
-use Rattle.mux_history.specs.Controls.{body_asks, greeted, house_says}
-use Rattle.mux_history.specs.Heard.{Breaks, Dest, Disconnects, ToClient, ToMaster, dest, heard_for}
-use Rattle.mux_history.specs.Log.{admits, heard_row, log_of, makes_next, more_of, row_of, said_by_client, treat}
+use Rattle.mux_history.specs.Controls.{body_asks, greeted, house_sends}
+use Rattle.mux_history.specs.Heard.{Breaks, Dest, Disconnects, ToClient, ToMaster, dest, received_for}
+use Rattle.mux_history.specs.Log.{admits, received_row, log_of, makes_next, more_of, row_of, sent_by_client, treat}
 use Rattle.mux_history.specs.Policy.{Policy}
 use Rattle.mux_history.specs.Rows.{Admit, Gone, Heard, HouseSays, Item, Row, Says, any_of, rows_of}
 use Rattle.mux_history.specs.Said.{Outcome, silent}
@@ -12,7 +12,7 @@ use Rattle.mux_history.specs.Settings.{by_lists}
 use Rattle.mux_outside.specs.declared.house.HouseReply.{HouseReply}
 use Rattle.ssh_grammar.specs.Said.{BadFraming, Body, Payload}
 use Rattle.mux_history.proofs.Bools.{or-left, or-right}
-use Rattle.mux_history.proofs.SaidApart.{LawfulItem, SayingBytes, admits_client}
+use Rattle.mux_history.proofs.SentApart.{LawfulItem, SendingBytes, admits_client}
 use Rattle.mux_history.proofs.Sends.{row-parts}
 
 pub client-of : (item : Item) (k : ℕ) (o : Outcome) (own : List Row) → (row_of item k o own).client ≡ k
@@ -25,7 +25,7 @@ item-of item k o own = row-parts (λ r. r.item ≡ item) item k o own (λ fw par
 
 abbrev pub LawfulIn : List Item → Item → Type 0
 LawfulIn before (Admit k) = any_of (admits_client k) before ≡ false
-LawfulIn before (Says k saying reply) = (k ≡ 0 → ⊥) × SayingBytes saying
+LawfulIn before (Says k outgoing reply) = (k ≡ 0 → ⊥) × SendingBytes outgoing
 LawfulIn before item = Unit {0}
 
 abbrev pub LawfulItems : List Item → Type 0
@@ -34,14 +34,14 @@ LawfulItems (item ∷ before) = LawfulIn before item × LawfulItems before
 
 pub treat-item : (policy : Policy) (pid pick : ℕ) (before : List Row) (item : Item) → (treat policy pid pick before item).item ≡ item
 treat-item policy pid pick before (Admit k) = item-of (Admit k) k (admits before) (rows_of k before)
-treat-item policy pid pick before (Says k saying reply) = item-of (Says k saying reply) k (said_by_client policy pid k (rows_of k before) pick saying reply) (rows_of k before)
-treat-item policy pid pick before (HouseSays k id given) = item-of (HouseSays k id given) k (house_says (rows_of k before) id given) (rows_of k before)
+treat-item policy pid pick before (Says k outgoing reply) = item-of (Says k outgoing reply) k (sent_by_client policy pid k (rows_of k before) pick outgoing reply) (rows_of k before)
+treat-item policy pid pick before (HouseSays k id given) = item-of (HouseSays k id given) k (house_sends (rows_of k before) id given) (rows_of k before)
 treat-item policy pid pick before (Gone k) = item-of (Gone k) k silent (rows_of k before)
 treat-item policy pid pick before (Heard p) = by_dest (dest before p)
   where
-    by_dest : (d : Dest) → (heard_row before p d).item ≡ Heard p
+    by_dest : (d : Dest) → (received_row before p d).item ≡ Heard p
     by_dest ToMaster = refl
-    by_dest (ToClient k) = item-of (Heard p) k (heard_for (rows_of k before) p) (rows_of k before)
+    by_dest (ToClient k) = item-of (Heard p) k (received_for (rows_of k before) p) (rows_of k before)
     by_dest Disconnects = refl
     by_dest (Breaks why) = refl
 treat-item policy pid pick before item = refl

@@ -3,7 +3,7 @@ use Rattle.std.proofs.Common.{◌≡◌, ℕ, ◌≤◌, true, false, Bool, refl
 use Rattle.std.specs.Prelude.{nat_lt}
 use Rattle.std.proofs.lemmas.Bool.Decides.{nat_tests}
 use Rattle.mux_history.specs.Channels.{Channel, any_by, is_closes, is_confirmed, is_ends}
-use Rattle.mux_history.specs.Gist.{Carries}
+use Rattle.mux_history.specs.Summary.{Carries}
 use Rattle.mux_history.specs.Kept.{Fits}
 use Rattle.mux_history.specs.Ledger.{breach, maximum_of, room}
 use Rattle.ssh_grammar.specs.declared.fault.Breach.{Breach}

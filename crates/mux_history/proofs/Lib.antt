@@ -30,7 +30,7 @@ pub mod Renumbered
 pub mod RightLogs
 pub mod RoomActs
 pub mod Rooms
-pub mod SaidApart
+pub mod SentApart
 pub mod SameKeys
 pub mod Sends
 pub mod Steps

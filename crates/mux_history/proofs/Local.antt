@@ -4,8 +4,8 @@ use Rattle.std.specs.Prelude.{◌==◌, ◌&&◌, filter}
 use Rattle.std.proofs.lemmas.List.Elements.{filter-append}
 use Rattle.std.proofs.lemmas.List.{append-nil}
 use Rattle.std.proofs.lemmas.Bool.Decides.{nat_tests}
-use Rattle.mux_history.specs.Channels.{Channel, after_farewell, after_item, begun_by, channels_of, heard_by, is_held, is_number, opened_down, opened_up, own_of, with_down, with_up, with_ups}
-use Rattle.mux_history.specs.Gist.{Confirmation, Confirms, Gist, Open, Within, read_gist, reading}
+use Rattle.mux_history.specs.Channels.{Channel, after_farewell, after_item, begun_by, channels_of, received_by, is_held, is_number, opened_down, opened_up, own_of, with_down, with_up, with_ups}
+use Rattle.mux_history.specs.Summary.{Confirmation, Confirms, Summary, Open, Within, read_summary, reading}
 use Rattle.mux_history.specs.Rows.{Heard, Item, Row, Says, rows_of}
 use Rattle.ssh_grammar.specs.Said.{Payload}
 use Rattle.ssh_grammar.specs.declared.side.Side.TheVariants.{Down, Up}
@@ -13,30 +13,30 @@ use Rattle.mux_history.proofs.Bools.{self}
 
 -- ---- each step keeps a channel's client
 
-up-client : (own : Option ℕ) (m : Gist) (x : Channel) → (with_up own m x).client ≡ x.client
+up-client : (own : Option ℕ) (m : Summary) (x : Channel) → (with_up own m x).client ≡ x.client
 up-client own (Confirmation s n w max) x = elim (is_number x.remote s && is_held x) as (λ b. (elim b as (λ _. Channel) [ true ↦ record x { own = own; number = Some n; acts = (Up, Confirms w max) ∷ x.acts } | false ↦ x ]).client ≡ x.client) [ true ↦ refl | false ↦ refl ]
 up-client own (Within s act) x = elim (is_number x.remote s && is_held x) as (λ b. (elim b as (λ _. Channel) [ true ↦ record x { acts = (Up, act) ∷ x.acts } | false ↦ x ]).client ≡ x.client) [ true ↦ refl | false ↦ refl ]
 up-client own m x = refl
 
-down-client : (m : Gist) (x : Channel) → (with_down m x).client ≡ x.client
+down-client : (m : Summary) (x : Channel) → (with_down m x).client ≡ x.client
 down-client (Confirmation n s w max) x = elim (is_number x.number n && is_held x) as (λ b. (elim b as (λ _. Channel) [ true ↦ record x { remote = Some s; acts = (Down, Confirms w max) ∷ x.acts } | false ↦ x ]).client ≡ x.client) [ true ↦ refl | false ↦ refl ]
 down-client (Within n act) x = elim (is_number x.number n && is_held x) as (λ b. (elim b as (λ _. Channel) [ true ↦ record x { acts = (Down, act) ∷ x.acts } | false ↦ x ]).client ≡ x.client) [ true ↦ refl | false ↦ refl ]
 down-client m x = refl
 
-read-client : (p : List ℕ) (f : Gist → Channel) (x : Channel) → ((m : Gist) → (f m).client ≡ x.client) → (reading p f x).client ≡ x.client
-read-client p f x keeps = elim (read_gist p) as (λ r. (elim r as (λ _. Channel) [ Err e ↦ x | Ok m ↦ f m ]).client ≡ x.client) [ Err e ↦ refl | Ok m ↦ keeps m ]
+read-client : (p : List ℕ) (f : Summary → Channel) (x : Channel) → ((m : Summary) → (f m).client ≡ x.client) → (reading p f x).client ≡ x.client
+read-client p f x keeps = elim (read_summary p) as (λ r. (elim r as (λ _. Channel) [ Err e ↦ x | Ok m ↦ f m ]).client ≡ x.client) [ Err e ↦ refl | Ok m ↦ keeps m ]
 
 ups-client : (own : Option ℕ) (ps : List (List ℕ)) (x : Channel) → (with_ups own ps x).client ≡ x.client
 ups-client own [] x = refl
 ups-client own (p ∷ ps) x = ups-client own ps (reading p (λ m. with_up own m x) x) ∙ read-client p (λ m. with_up own m x) x (λ m. up-client own m x)
 
-heard-client : (item : Item) (x : Channel) → (heard_by item x).client ≡ x.client
+heard-client : (item : Item) (x : Channel) → (received_by item x).client ≡ x.client
 heard-client (Heard p) x = read-client p (λ m. with_down m x) x (λ m. down-client m x)
 heard-client item x = refl
 
 pub item-client : (row : Row) (x : Channel) → (after_item row x).client ≡ x.client
-item-client row x = elim (x.client == row.client) as (λ b. (elim b as (λ _. Channel) [ true ↦ with_ups (own_of row.item) row.up (heard_by row.item x) | false ↦ x ]).client ≡ x.client)
-    [ true ↦ ups-client (own_of row.item) row.up (heard_by row.item x) ∙ heard-client row.item x | false ↦ refl ]
+item-client row x = elim (x.client == row.client) as (λ b. (elim b as (λ _. Channel) [ true ↦ with_ups (own_of row.item) row.up (received_by row.item x) | false ↦ x ]).client ≡ x.client)
+    [ true ↦ ups-client (own_of row.item) row.up (received_by row.item x) ∙ heard-client row.item x | false ↦ refl ]
 
 pub farewell-client : (row : Row) (x : Channel) → (after_farewell row x).client ≡ x.client
 farewell-client row x = elim (x.client == row.client) as (λ b. (elim b as (λ _. Channel) [ true ↦ with_ups None row.farewell x | false ↦ x ]).client ≡ x.client)
@@ -83,17 +83,17 @@ leave-other k row other x mine = rw (differ x.client row.client k mine other, af
 abbrev Begun : ℕ → List Channel → Type 0
 Begun k xs = (filter (is_of k) xs ≡ xs) × ((j : ℕ) → (k == j) ≡ false → filter (is_of j) xs ≡ [])
 
-begun-up : (k : ℕ) (up : List (List ℕ)) (m : Gist) → Begun k (opened_up k up m)
+begun-up : (k : ℕ) (up : List (List ℕ)) (m : Summary) → Begun k (opened_up k up m)
 begun-up k [] m = (refl, λ j e. refl)
 begun-up k (p ∷ ps) (Open what c w max) = (rw (self k) refl, λ j e. rw e refl)
 begun-up k (p ∷ ps) m = (refl, λ j e. refl)
 
-begun-down : (k : ℕ) (up : List (List ℕ)) (m : Gist) → Begun k (opened_down k up m)
+begun-down : (k : ℕ) (up : List (List ℕ)) (m : Summary) → Begun k (opened_down k up m)
 begun-down k [] (Open what s w max) = (rw (self k) refl, λ j e. rw e refl)
 begun-down k up m = (refl, λ j e. refl)
 
-begun-reading : (k : ℕ) (p : List ℕ) (f : Gist → List Channel) → ((m : Gist) → Begun k (f m)) → Begun k (reading p f [])
-begun-reading k p f each = elim (read_gist p) as (λ r. Begun k (elim r as (λ _. List Channel) [ Err e ↦ [] | Ok m ↦ f m ])) [ Err e ↦ (refl, λ j e. refl) | Ok m ↦ each m ]
+begun-reading : (k : ℕ) (p : List ℕ) (f : Summary → List Channel) → ((m : Summary) → Begun k (f m)) → Begun k (reading p f [])
+begun-reading k p f each = elim (read_summary p) as (λ r. Begun k (elim r as (λ _. List Channel) [ Err e ↦ [] | Ok m ↦ f m ])) [ Err e ↦ (refl, λ j e. refl) | Ok m ↦ each m ]
 
 begun : (k : ℕ) (up : List (List ℕ)) (item : Item) → Begun k (begun_by k up item)
 begun k up (Says client (Payload p) reply) = begun-reading k p (opened_up k up) (begun-up k up)

@@ -4,7 +4,7 @@ use Rattle.std.specs.Prelude.{◌==◌, ◌||◌, nat_le, nat_lt, nat_eq, revers
 use Rattle.std.proofs.lemmas.Bool.Decides.{nat_tests}
 use Rattle.std.proofs.lemmas.List.{reverse-append}
 use Rattle.ssh_fields.proofs.Fields.{AreBytes-append, AreBytes-take, AreBytes-drop}
-use Rattle.mux_history.specs.Journal.{IsLawful, LawfulHouse, LawfulMark, house_items, house_said, is_own_stream, lets_in, unless_own, bytes_in, bytes_of, heard_item, items, items_in, last_client, new_heard, new_sayings, said_item, server_end}
+use Rattle.mux_history.specs.Journal.{IsLawful, LawfulHouse, LawfulMark, house_items, house_sent, is_own_stream, lets_in, unless_own, bytes_in, bytes_of, received_item, items, items_in, last_client, new_received, new_sayings, sent_item, server_end}
 use Rattle.mux_history.specs.Rows.{Admit, Gone, Item, Says, ServerFailed, any_of}
 use Rattle.mux_outside.specs.OwnStreams.{is_own}
 use Rattle.mux_outside.specs.declared.own_streams.TheConstants.{LAST_CLIENT}
@@ -15,7 +15,7 @@ use Rattle.mux_history.specs.declared.limits.TheConstants.{HOUSE}
 use Rattle.mux_outside.specs.declared.mark.Mark.TheVariants.{Accepts, Frees, Gets, Holds, Takes, Waits, WriteFails}
 use Rattle.ssh_fields.specs.Fields.{AreBytes, of_four}
 use Rattle.ssh_grammar.specs.Frames.{Faulty, Frame, Front, More, cut_content, cut_length, cut_padding, cut_rest, first_frame, shortest}
-use Rattle.ssh_grammar.specs.Said.{BadFraming, Body, InControl, InProxy, Mode, Payload, Saying, Stopped, first_in, mode_after, parse, parse_by, parse_front, said, saying_in}
+use Rattle.ssh_grammar.specs.Said.{BadFraming, Body, InControl, InProxy, Mode, Payload, Outgoing, Stopped, first_in, mode_after, parse, parse_by, parse_front, said, sending_in}
 use Rattle.ssh_grammar.specs.declared.framing.Framing.{Framing}
 use Rattle.ssh_grammar.specs.declared.numbers.TheConstants.{LONGEST_FRAME}
 use Rattle.ssh_grammar.specs.declared.fault.BadFrame.TheVariants as bad_frame
@@ -23,7 +23,7 @@ use Rattle.mux_outside.specs.declared.mark.Mark.TheVariants as wire
 use Rattle.ssh_grammar.specs.declared.framing.Framing.TheVariants as framing
 use Rattle.mux_history.proofs.Bools.{or-left, or-right}
 use Rattle.mux_history.proofs.LawfulItems.{LawfulIn, LawfulItems}
-use Rattle.mux_history.proofs.SaidApart.{SayingBytes, admits_client}
+use Rattle.mux_history.proofs.SentApart.{SendingBytes, admits_client}
 
 -- ---- what is cut from bytes are bytes
 
@@ -64,25 +64,25 @@ in-bytes Stopped bytes a = tt
 
 -- ---- what is said
 
-abbrev EachSaying : List Saying → Type 0
-EachSaying [] = Unit {0}
-EachSaying (s ∷ ss) = SayingBytes s × EachSaying ss
+abbrev EachSending : List Outgoing → Type 0
+EachSending [] = Unit {0}
+EachSending (s ∷ ss) = SendingBytes s × EachSending ss
 
-saying-bytes : (mode : Mode) (content : List ℕ) → AreBytes content → SayingBytes (saying_in mode content)
-saying-bytes InControl content a = tt
-saying-bytes InProxy content a = a
-saying-bytes Stopped content a = a
+outgoing-bytes : (mode : Mode) (content : List ℕ) → AreBytes content → SendingBytes (sending_in mode content)
+outgoing-bytes InControl content a = tt
+outgoing-bytes InProxy content a = a
+outgoing-bytes Stopped content a = a
 
-parse-bytes : (n : ℕ) (mode : Mode) (bytes : List ℕ) → AreBytes bytes → EachSaying (parse_by n mode bytes).says
+parse-bytes : (n : ℕ) (mode : Mode) (bytes : List ℕ) → AreBytes bytes → EachSending (parse_by n mode bytes).says
 parse-bytes zero mode bytes a = tt
 parse-bytes (suc n) mode bytes a = by_front (first_in mode bytes) (in-bytes mode bytes a) (λ mode rest b. parse-bytes n mode rest b)
   where
-    by_front : (f : Front) → FrontBytes f → ((mode : Mode) (rest : List ℕ) → AreBytes rest → EachSaying (parse_by n mode rest).says) → EachSaying (parse_front (parse_by n) mode bytes f).says
-    by_front (Frame content rest) b ih = (saying-bytes mode content b.0, ih (mode_after mode content) rest b.1)
+    by_front : (f : Front) → FrontBytes f → ((mode : Mode) (rest : List ℕ) → AreBytes rest → EachSending (parse_by n mode rest).says) → EachSending (parse_front (parse_by n) mode bytes f).says
+    by_front (Frame content rest) b ih = (outgoing-bytes mode content b.0, ih (mode_after mode content) rest b.1)
     by_front More b ih = tt
     by_front (Faulty fault) b ih = (tt, tt)
 
-sayings-drop : (n : ℕ) (xs : List Saying) → EachSaying xs → EachSaying (drop n xs)
+sayings-drop : (n : ℕ) (xs : List Outgoing) → EachSending xs → EachSending (drop n xs)
 sayings-drop zero xs a = a
 sayings-drop (suc n) [] a = tt
 sayings-drop (suc n) (x ∷ xs) a = sayings-drop n xs a.1
@@ -92,7 +92,7 @@ sayings-drop (suc n) (x ∷ xs) a = sayings-drop n xs a.1
 -- an item that is lawful wherever it stands
 abbrev Plain : Item → Type 0
 Plain (Admit k) = ⊥
-Plain (Says k saying reply) = (k ≡ 0 → ⊥) × SayingBytes saying
+Plain (Says k outgoing reply) = (k ≡ 0 → ⊥) × SendingBytes outgoing
 Plain item = Unit {0}
 
 abbrev EachPlain : List Item → Type 0
@@ -109,7 +109,7 @@ plain-reverse (x ∷ xs) a = subst EachPlain (sym (reverse-append (x ∷ []) xs)
 
 plain-in : (before : List Item) (item : Item) → Plain item → LawfulIn before item
 plain-in before (Admit k) a = absurd a
-plain-in before (Says k saying reply) a = a
+plain-in before (Says k outgoing reply) a = a
 plain-in before item a = tt
 
 plain-lawful : (xs ys : List Item) → EachPlain xs → LawfulItems ys → LawfulItems (xs ++ ys)
@@ -124,7 +124,7 @@ plain-admits : (k : ℕ) (xs ys : List Item) → EachPlain xs → any_of (admits
 plain-admits k [] ys a = refl
 plain-admits k (x ∷ xs) ys a = ap (λ b. b || any_of (admits_client k) (xs ++ ys)) (plain-admits-none k x a.0) ∙ plain-admits k xs ys a.1
 
-heard-plain : (ss : List Saying) → EachPlain (map heard_item ss)
+heard-plain : (ss : List Outgoing) → EachPlain (map received_item ss)
 heard-plain [] = tt
 heard-plain (Body body ∷ ss) = (tt, heard-plain ss)
 heard-plain (Payload p ∷ ss) = (tt, heard-plain ss)
@@ -134,7 +134,7 @@ end-plain : (rest : List ℕ) → Plain (server_end rest)
 end-plain [] = tt
 end-plain (b ∷ rest) = tt
 
-says-plain : (k : ℕ) → (k ≡ 0 → ⊥) → (ss : List Saying) → EachSaying ss → EachPlain (map (said_item k) ss)
+says-plain : (k : ℕ) → (k ≡ 0 → ⊥) → (ss : List Outgoing) → EachSending ss → EachPlain (map (sent_item k) ss)
 says-plain k real [] a = tt
 says-plain k real (s ∷ ss) a = ((real, a.0), says-plain k real ss a.1)
 
@@ -143,12 +143,12 @@ stream-bytes : (k : ℕ) (marks : List Mark) → IsLawful marks → AreBytes (by
 stream-bytes k [] lawful = tt
 stream-bytes k (mark ∷ before) lawful = AreBytes-append (bytes_of k before) (bytes_in k mark) (stream-bytes k before lawful.1) (by_mark mark lawful.0)
   where
-    by_house : (mark : HouseMark) → LawfulHouse before mark → AreBytes (house_said mark)
+    by_house : (mark : HouseMark) → LawfulHouse before mark → AreBytes (house_sent mark)
     by_house (HouseSaid bytes) a = a.3
     by_house mark a = tt
 
     by_mark : (mark : Mark) → LawfulMark before mark → AreBytes (bytes_in k mark)
-    by_mark (wire.House mark) a = elim (HOUSE == k) as (λ b. AreBytes (elim b as (λ _. List ℕ) [ true ↦ house_said mark | false ↦ [] ])) [ true ↦ by_house mark a | false ↦ tt ]
+    by_mark (wire.House mark) a = elim (HOUSE == k) as (λ b. AreBytes (elim b as (λ _. List ℕ) [ true ↦ house_sent mark | false ↦ [] ])) [ true ↦ by_house mark a | false ↦ tt ]
     by_mark (wire.Gets stream bytes) a = elim (stream == k) as (λ b. AreBytes (elim b as (λ _. List ℕ) [ true ↦ bytes | false ↦ [] ])) [ true ↦ a.3 | false ↦ tt ]
     by_mark mark a = tt
 
@@ -171,7 +171,7 @@ plain-mark : (before : List Mark) (mark : Mark) → IsLawful before → LawfulMa
 plain-mark before (wire.Accepts k) all lawful never = absurd (never tt)
 plain-mark before (wire.Gets stream bytes) all lawful never = by_stream (stream == 0) refl
   where
-    by_stream : (b : Bool) → (stream == 0) ≡ b → EachPlain (elim b as (λ _. List Item) [ true ↦ new_heard (bytes_of 0 before) (bytes_of 0 before ++ bytes) | false ↦ unless_own stream (new_sayings stream (bytes_of stream before) (bytes_of stream before ++ bytes)) ])
+    by_stream : (b : Bool) → (stream == 0) ≡ b → EachPlain (elim b as (λ _. List Item) [ true ↦ new_received (bytes_of 0 before) (bytes_of 0 before ++ bytes) | false ↦ unless_own stream (new_sayings stream (bytes_of stream before) (bytes_of stream before ++ bytes)) ])
     by_stream true e = heard-plain (drop (length (parse InProxy (bytes_of 0 before)).says) (parse InProxy (bytes_of 0 before ++ bytes)).says)
     by_stream false e = unless-plain stream (new_sayings stream (bytes_of stream before) (bytes_of stream before ++ bytes)) (says-plain stream (not-zero stream e) (drop (length (said (bytes_of stream before))) (said (bytes_of stream before ++ bytes))) (sayings-drop (length (said (bytes_of stream before))) (said (bytes_of stream before ++ bytes)) (parse-bytes (length (bytes_of stream before ++ bytes)) InControl (bytes_of stream before ++ bytes) (AreBytes-append (bytes_of stream before) bytes (stream-bytes stream before all) lawful.3))))
 plain-mark before (wire.Ends stream) all lawful never = gone-or stream (server_end (parse InProxy (bytes_of 0 before)).rest) (end-plain (parse InProxy (bytes_of 0 before)).rest)

@@ -14,7 +14,7 @@ use Rattle.mux_history.proofs.Finds.{filter-no, filter-yes}
 use Rattle.mux_history.proofs.LawfulItems.{client-of, treat-item}
 use Rattle.mux_history.proofs.OwnRows.{same-client}
 use Rattle.mux_history.proofs.RightLogs.{LogKnown, RowKnown}
-use Rattle.mux_history.proofs.SaidApart.{LawfulItem, admits_client}
+use Rattle.mux_history.proofs.SentApart.{LawfulItem, admits_client}
 
 -- ---- a client is let in once
 

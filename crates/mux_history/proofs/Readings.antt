@@ -7,30 +7,30 @@ use Rattle.ssh_grammar.specs.Messages.{Key, Tcp, Path, Message, PlainMessage, Pl
 use Rattle.ssh_grammar.specs.SpellMessage.{cancel_forward}
 use Rattle.ssh_fields.proofs.Fields.{take_str-str}
 use Rattle.ssh_grammar.specs.ReadMessage.{Reading, on_bool, on_u32, on_str, on_end, with_reading, read_message, read_open_failure, read_global_request, read_global, read_key, read_path}
-use Rattle.mux_history.specs.Gist.{Gist, Requests, Within, Fails, Closes, gist, gist_to, gist_of_plain, read_gist, reading}
+use Rattle.mux_history.specs.Summary.{Summary, Requests, Within, Fails, Closes, summary, summary_to, summary_of_plain, read_summary, reading}
 
 -- ---- a payload and its gist
 
-pub gist-ok : (p : List ℕ) (m : Message) → read_message p ≡ Ok m → read_gist p ≡ Ok (gist m)
-gist-ok p m e = ap (λ (r : Result Message Bad). elim r as (λ _. Result Gist Bad) [ Ok m ↦ Ok (gist m) | Err x ↦ Err x ]) e
+pub summary-ok : (p : List ℕ) (m : Message) → read_message p ≡ Ok m → read_summary p ≡ Ok (summary m)
+summary-ok p m e = ap (λ (r : Result Message Bad). elim r as (λ _. Result Summary Bad) [ Ok m ↦ Ok (summary m) | Err x ↦ Err x ]) e
 
 -- the message behind a gist
-pub record Read (p : List ℕ) (g : Gist) : Type 0 where
+pub record Read (p : List ℕ) (g : Summary) : Type 0 where
   pub message : Message
   pub reads : read_message p ≡ Ok message
-  pub is : gist message ≡ g
+  pub is : summary message ≡ g
 
-pub gist-from : (p : List ℕ) (g : Gist) → read_gist p ≡ Ok g → Read p g
-gist-from p g e = by_case (read_message p) refl e
+pub summary-from : (p : List ℕ) (g : Summary) → read_summary p ≡ Ok g → Read p g
+summary-from p g e = by_case (read_message p) refl e
   where
-    by_case : (r : Result Message Bad) → read_message p ≡ r → (elim r as (λ _. Result Gist Bad) [ Ok m ↦ Ok (gist m) | Err x ↦ Err x ]) ≡ Ok g → Read p g
+    by_case : (r : Result Message Bad) → read_message p ≡ r → (elim r as (λ _. Result Summary Bad) [ Ok m ↦ Ok (summary m) | Err x ↦ Err x ]) ≡ Ok g → Read p g
     by_case (Ok m) reads e = record { message = m; reads = reads; is = cc }
     by_case (Err x) reads e = cc
 
-pub reading-ok : {A : Type 0} (p : List ℕ) (m : Gist) (f : Gist → A) (other : A) → read_gist p ≡ Ok m → reading p f other ≡ f m
+pub reading-ok : {A : Type 0} (p : List ℕ) (m : Summary) (f : Summary → A) (other : A) → read_summary p ≡ Ok m → reading p f other ≡ f m
 reading-ok {A} p m f other reads = ap (λ r. elim r as (λ _. A) [ Err e ↦ other | Ok m ↦ f m ]) reads
 
-pub reading-err : {A : Type 0} (p : List ℕ) (e : Bad) (f : Gist → A) (other : A) → read_gist p ≡ Err e → reading p f other ≡ other
+pub reading-err : {A : Type 0} (p : List ℕ) (e : Bad) (f : Summary → A) (other : A) → read_summary p ≡ Err e → reading p f other ≡ other
 reading-err {A} p e f other reads = ap (λ r. elim r as (λ _. A) [ Err e ↦ other | Ok m ↦ f m ]) reads
 
 -- ---- what holds of all that is read
@@ -61,8 +61,8 @@ with-always P (Ok a) f each = each a
 with-always P (Err e) f each = tt
 
 -- the gist of what always is read
-pub gist-always : (P : Gist → Type 0) (p : List ℕ) (g : Gist) → Always (λ m. P (gist m)) (read_message p) → read_gist p ≡ Ok g → P g
-gist-always P p g always reads = let r = gist-from p g reads in subst P r.is (always-ok (λ m. P (gist m)) (read_message p) r.message always r.reads)
+pub summary-always : (P : Summary → Type 0) (p : List ℕ) (g : Summary) → Always (λ m. P (summary m)) (read_message p) → read_summary p ≡ Ok g → P g
+summary-always P p g always reads = let r = summary-from p g reads in subst P r.is (always-ok (λ m. P (summary m)) (read_message p) r.message always r.reads)
 
 -- ---- what payloads of a number read as
 
@@ -70,26 +70,26 @@ pub then-always : {A : Type 0} {B : Type 0} (P : B → Type 0) (r : Reading A) (
 then-always P (Ok a) f always = always
 then-always P (Err e) f always = tt
 
-pub failure-always : (P : Gist → Type 0) (rest : List ℕ) → ((n : ℕ) → P (Within n Fails)) → Always (λ m. P (gist m)) (read_message (92 ∷ rest))
+pub failure-always : (P : Summary → Type 0) (rest : List ℕ) → ((n : ℕ) → P (Within n Fails)) → Always (λ m. P (summary m)) (read_message (92 ∷ rest))
 failure-always P rest each =
-    u32-always (λ m. P (gist m)) rest 1 _ (λ n rest at. then-always (λ m. P (gist m)) (read_open_failure rest) (To n)
-    (u32-always (λ m. P (gist_to n m)) rest 5 _ (λ reason rest at. str-always (λ m. P (gist_to n m)) rest at _ (λ text rest at. str-always (λ m. P (gist_to n m)) rest at _ (λ language rest at.
-    end-always (λ m. P (gist_to n m)) rest at (OpenFailure reason text language) (each n))))))
+    u32-always (λ m. P (summary m)) rest 1 _ (λ n rest at. then-always (λ m. P (summary m)) (read_open_failure rest) (To n)
+    (u32-always (λ m. P (summary_to n m)) rest 5 _ (λ reason rest at. str-always (λ m. P (summary_to n m)) rest at _ (λ text rest at. str-always (λ m. P (summary_to n m)) rest at _ (λ language rest at.
+    end-always (λ m. P (summary_to n m)) rest at (OpenFailure reason text language) (each n))))))
 
-pub close-always : (P : Gist → Type 0) (rest : List ℕ) → ((n : ℕ) → P (Within n Closes)) → Always (λ m. P (gist m)) (read_message (97 ∷ rest))
-close-always P rest each = u32-always (λ m. P (gist m)) rest 1 _ (λ n rest at. then-always (λ m. P (gist m)) (on_end rest 5 Close) (To n) (end-always (λ m. P (gist_to n m)) rest 5 Close (each n)))
+pub close-always : (P : Summary → Type 0) (rest : List ℕ) → ((n : ℕ) → P (Within n Closes)) → Always (λ m. P (summary m)) (read_message (97 ∷ rest))
+close-always P rest each = u32-always (λ m. P (summary m)) rest 1 _ (λ n rest at. then-always (λ m. P (summary m)) (on_end rest 5 Close) (To n) (end-always (λ m. P (summary_to n m)) rest 5 Close (each n)))
 
 -- the master's cancel reads as one
-pub cancel-always : (P : Gist → Type 0) (key : Key) → ((key : Key) → P (Requests (Cancel key) false)) → Always (λ m. P (gist m)) (read_message (cancel_forward key))
+pub cancel-always : (P : Summary → Type 0) (key : Key) → ((key : Key) → P (Requests (Cancel key) false)) → Always (λ m. P (summary m)) (read_message (cancel_forward key))
 cancel-always P (Tcp address port) each =
-    then-always (λ m. P (gist m)) (read_global_request (str cancel_name ++ (0 ∷ (str address ++ u32 port)))) Plain
-    (subst (λ t. Always (λ m. P (gist_of_plain m)) (elim t as (λ _. Reading PlainMessage) [ None ↦ Err (bad.Short 1) | Some p ↦ on_bool p.1 (1 + 4 + length p.0) (λ want rest at. with_reading (read_global p.0 rest at) (GlobalRequest p.0 want rest)) ]))
+    then-always (λ m. P (summary m)) (read_global_request (str cancel_name ++ (0 ∷ (str address ++ u32 port)))) Plain
+    (subst (λ t. Always (λ m. P (summary_of_plain m)) (elim t as (λ _. Reading PlainMessage) [ None ↦ Err (bad.Short 1) | Some p ↦ on_bool p.1 (1 + 4 + length p.0) (λ want rest at. with_reading (read_global p.0 rest at) (GlobalRequest p.0 want rest)) ]))
     (sym (take_str-str cancel_name (0 ∷ (str address ++ u32 port)) (omega arith)))
-    (then-always (λ m. P (gist_of_plain m)) (read_key (str address ++ u32 port) 26 Cancel) (GlobalRequest cancel_name false (str address ++ u32 port))
+    (then-always (λ m. P (summary_of_plain m)) (read_key (str address ++ u32 port) 26 Cancel) (GlobalRequest cancel_name false (str address ++ u32 port))
     (str-always (λ what. P (Requests what false)) (str address ++ u32 port) 26 _ (λ a rest at. u32-always (λ what. P (Requests what false)) rest at _ (λ p rest at. end-always (λ what. P (Requests what false)) rest at (Cancel (Tcp a p)) (each (Tcp a p)))))))
 cancel-always P (Path path) each =
-    then-always (λ m. P (gist m)) (read_global_request (str cancel_path_name ++ (0 ∷ str path))) Plain
-    (subst (λ t. Always (λ m. P (gist_of_plain m)) (elim t as (λ _. Reading PlainMessage) [ None ↦ Err (bad.Short 1) | Some p ↦ on_bool p.1 (1 + 4 + length p.0) (λ want rest at. with_reading (read_global p.0 rest at) (GlobalRequest p.0 want rest)) ]))
+    then-always (λ m. P (summary m)) (read_global_request (str cancel_path_name ++ (0 ∷ str path))) Plain
+    (subst (λ t. Always (λ m. P (summary_of_plain m)) (elim t as (λ _. Reading PlainMessage) [ None ↦ Err (bad.Short 1) | Some p ↦ on_bool p.1 (1 + 4 + length p.0) (λ want rest at. with_reading (read_global p.0 rest at) (GlobalRequest p.0 want rest)) ]))
     (sym (take_str-str cancel_path_name (0 ∷ str path) (omega arith)))
-    (then-always (λ m. P (gist_of_plain m)) (read_path (str path) 44 Cancel) (GlobalRequest cancel_path_name false (str path))
+    (then-always (λ m. P (summary_of_plain m)) (read_path (str path) 44 Cancel) (GlobalRequest cancel_path_name false (str path))
     (str-always (λ what. P (Requests what false)) (str path) 44 _ (λ a rest at. end-always (λ what. P (Requests what false)) rest at (Cancel (Path a)) (each (Path a))))))

@@ -11,37 +11,37 @@ use Rattle.ssh_grammar.specs.Renumber.{to_recipient, to_sender}
 use Rattle.ssh_grammar.proofs.MessageReads.{reads_is_spelled}
 use Rattle.ssh_grammar.proofs.MessageSpelled.{spelled_reads}
 use Rattle.ssh_grammar.proofs.Renumbered.{with_u32-between}
-use Rattle.mux_history.specs.Gist.{Gist, Open, Confirmation, Within, gist, read_gist, reading, sender_of}
-use Rattle.mux_history.proofs.Readings.{gist-from, gist-ok, reading-ok}
+use Rattle.mux_history.specs.Summary.{Summary, Open, Confirmation, Within, summary, read_summary, reading, sender_of}
+use Rattle.mux_history.proofs.Readings.{summary-from, summary-ok, reading-ok}
 
 -- ---- gists with another number
 
-abbrev pub readdressed : ℕ → Gist → Gist
+abbrev pub readdressed : ℕ → Summary → Summary
 readdressed c (Confirmation n s w m) = Confirmation c s w m
 readdressed c (Within n act) = Within c act
 readdressed c m = m
 
-abbrev pub resent : ℕ → Gist → Gist
+abbrev pub resent : ℕ → Summary → Summary
 resent c (Open what a w m) = Open what c w m
 resent c (Confirmation s a w m) = Confirmation s c w m
 resent c m = m
 
-gist-readdressed : (c : ℕ) (m : full.Message) → gist (to_recipient c m) ≡ readdressed c (gist m)
-gist-readdressed c (full.Plain (full.Transport n rest)) = refl
-gist-readdressed c (full.Plain (full.GlobalRequest name want rest what)) = refl
-gist-readdressed c (full.Plain (full.RequestSuccess rest)) = refl
-gist-readdressed c (full.Plain full.RequestFailure) = refl
-gist-readdressed c (full.Plain (full.Open kind s w m rest what)) = refl
-gist-readdressed c (full.To r (full.Confirmation s w m rest)) = refl
-gist-readdressed c (full.To r (full.OpenFailure reason text language)) = refl
-gist-readdressed c (full.To r (full.Adjust add)) = refl
-gist-readdressed c (full.To r (full.Data bytes)) = refl
-gist-readdressed c (full.To r (full.Extended code bytes)) = refl
-gist-readdressed c (full.To r full.Eof) = refl
-gist-readdressed c (full.To r full.Close) = refl
-gist-readdressed c (full.To r (full.Request kind want rest)) = refl
-gist-readdressed c (full.To r full.Success) = refl
-gist-readdressed c (full.To r full.Failure) = refl
+summary-readdressed : (c : ℕ) (m : full.Message) → summary (to_recipient c m) ≡ readdressed c (summary m)
+summary-readdressed c (full.Plain (full.Transport n rest)) = refl
+summary-readdressed c (full.Plain (full.GlobalRequest name want rest what)) = refl
+summary-readdressed c (full.Plain (full.RequestSuccess rest)) = refl
+summary-readdressed c (full.Plain full.RequestFailure) = refl
+summary-readdressed c (full.Plain (full.Open kind s w m rest what)) = refl
+summary-readdressed c (full.To r (full.Confirmation s w m rest)) = refl
+summary-readdressed c (full.To r (full.OpenFailure reason text language)) = refl
+summary-readdressed c (full.To r (full.Adjust add)) = refl
+summary-readdressed c (full.To r (full.Data bytes)) = refl
+summary-readdressed c (full.To r (full.Extended code bytes)) = refl
+summary-readdressed c (full.To r full.Eof) = refl
+summary-readdressed c (full.To r full.Close) = refl
+summary-readdressed c (full.To r (full.Request kind want rest)) = refl
+summary-readdressed c (full.To r full.Success) = refl
+summary-readdressed c (full.To r full.Failure) = refl
 
 -- ---- the number that four bytes of it spell
 
@@ -106,10 +106,10 @@ message-renamed (n ∷ rest) (full.To r m) c lt e =
     ∙ (in-form n (by_number (forms n) n OfNone) rest r c m e ∙ ap (λ c. Ok (full.To c m)) (spelled c lt))
 
 -- a payload to another recipient reads as the same gist with that recipient
-pub read-renamed : (p : List ℕ) (g : Gist) (c : ℕ) → c < 4294967296 → read_gist p ≡ Ok g → read_gist (with_recipient p c) ≡ Ok (readdressed c g)
+pub read-renamed : (p : List ℕ) (g : Summary) (c : ℕ) → c < 4294967296 → read_summary p ≡ Ok g → read_summary (with_recipient p c) ≡ Ok (readdressed c g)
 read-renamed p g c lt reads =
-    let r = gist-from p g reads in
-    gist-ok (with_recipient p c) (to_recipient c r.message) (message-renamed p r.message c lt r.reads) ∙ (ap Ok (gist-readdressed c r.message) ∙ ap (λ g. Ok (readdressed c g)) r.is)
+    let r = summary-from p g reads in
+    summary-ok (with_recipient p c) (to_recipient c r.message) (message-renamed p r.message c lt r.reads) ∙ (ap Ok (summary-readdressed c r.message) ∙ ap (λ g. Ok (readdressed c g)) r.is)
 
 message-twice : (p : List ℕ) (m : full.Message) (c : ℕ) → c < 4294967296 → read_message p ≡ Ok m → with_recipient (with_recipient p c) c ≡ with_recipient p c
 message-twice p (full.Plain m) c lt e = ap (λ q. with_recipient q c) (ap (λ at. with_number p at c) (place-of recipient_place p (full.Plain m) e))
@@ -122,12 +122,12 @@ message-twice (n ∷ rest) (full.To r m) c lt e =
     once = ap (λ at. with_number (n ∷ rest) at c) (place-of recipient_place (n ∷ rest) (full.To r m) e)
 
 -- the same recipient twice
-pub renamed-twice : (p : List ℕ) (g : Gist) (c : ℕ) → c < 4294967296 → read_gist p ≡ Ok g → with_recipient (with_recipient p c) c ≡ with_recipient p c
-renamed-twice p g c lt reads = let r = gist-from p g reads in message-twice p r.message c lt r.reads
+pub renamed-twice : (p : List ℕ) (g : Summary) (c : ℕ) → c < 4294967296 → read_summary p ≡ Ok g → with_recipient (with_recipient p c) c ≡ with_recipient p c
+renamed-twice p g c lt reads = let r = summary-from p g reads in message-twice p r.message c lt r.reads
 
 -- ---- another sender: the payload is a front, four bytes and a tail
 
-pub record SenderIn (p : List ℕ) (m : Gist) : Type 0 where
+pub record SenderIn (p : List ℕ) (m : Summary) : Type 0 where
   pub front : List ℕ
   pub tail : List ℕ
   pub old : ℕ
@@ -135,13 +135,13 @@ pub record SenderIn (p : List ℕ) (m : Gist) : Type 0 where
   pub said : sender_of m ≡ Some old
   pub whole : p ≡ front ++ (u32 old ++ tail)
   pub place : (n : ℕ) → sender_at (front ++ (u32 n ++ tail)) ≡ Some (length front)
-  pub reads : (n : ℕ) → read_gist (front ++ (u32 n ++ tail)) ≡ Ok (resent (word n) m)
+  pub reads : (n : ℕ) → read_summary (front ++ (u32 n ++ tail)) ≡ Ok (resent (word n) m)
 
 -- what a message with a sender spells
-sender-spelled : (flag : ℕ) (m : full.Message) (front tail : List ℕ) (old : ℕ) → IsMessage m → is_true flag ≡ wants m → old < 4294967296 → sender_of (gist m) ≡ Some old
-    → ((n : ℕ) → spell_with flag (to_sender n m) ≡ front ++ (u32 n ++ tail)) → ((n : ℕ) → n < 4294967296 → IsMessage (to_sender n m)) → ((n : ℕ) → is_true flag ≡ wants (to_sender n m)) → ((n : ℕ) → sender_place (to_sender n m) ≡ Some (length front)) → ((n : ℕ) → gist (to_sender n m) ≡ resent n (gist m))
-    → (p : List ℕ) → p ≡ front ++ (u32 old ++ tail) → SenderIn p (gist m)
-sender-spelled flag m front tail old is same small said spells fits flags places gists p whole = record {
+sender-spelled : (flag : ℕ) (m : full.Message) (front tail : List ℕ) (old : ℕ) → IsMessage m → is_true flag ≡ wants m → old < 4294967296 → sender_of (summary m) ≡ Some old
+    → ((n : ℕ) → spell_with flag (to_sender n m) ≡ front ++ (u32 n ++ tail)) → ((n : ℕ) → n < 4294967296 → IsMessage (to_sender n m)) → ((n : ℕ) → is_true flag ≡ wants (to_sender n m)) → ((n : ℕ) → sender_place (to_sender n m) ≡ Some (length front)) → ((n : ℕ) → summary (to_sender n m) ≡ resent n (summary m))
+    → (p : List ℕ) → p ≡ front ++ (u32 old ++ tail) → SenderIn p (summary m)
+sender-spelled flag m front tail old is same small said spells fits flags places summaries p whole = record {
   front = front;
   tail = tail;
   old = old;
@@ -149,7 +149,7 @@ sender-spelled flag m front tail old is same small said spells fits flags places
   said = said;
   whole = whole;
   place = λ n. place-of sender_place (front ++ (u32 n ++ tail)) (to_sender (word n) m) (read n) ∙ places (word n);
-  reads = λ n. gist-ok (front ++ (u32 n ++ tail)) (to_sender (word n) m) (read n) ∙ ap Ok (gists (word n));
+  reads = λ n. summary-ok (front ++ (u32 n ++ tail)) (to_sender (word n) m) (read n) ∙ ap Ok (summaries (word n));
 }
   where
     read : (n : ℕ) → read_message (front ++ (u32 n ++ tail)) ≡ Ok (to_sender (word n) m)
@@ -157,9 +157,9 @@ sender-spelled flag m front tail old is same small said spells fits flags places
         ap (λ four. read_message (front ++ (four ++ tail))) (sym (u32-word n))
         ∙ spelled_reads (to_sender (word n) m) (front ++ (u32 (word n) ++ tail)) (record { is_message = fits (word n) (word-small n); flag = flag; boolean = flags (word n); spelled = sym (spells (word n)) })
 
-pub sender-in : (p : List ℕ) (g : Gist) (c : ℕ) → AreBytes p → read_gist p ≡ Ok g → sender_of g ≡ Some c → SenderIn p g
+pub sender-in : (p : List ℕ) (g : Summary) (c : ℕ) → AreBytes p → read_summary p ≡ Ok g → sender_of g ≡ Some c → SenderIn p g
 sender-in p g c bytes reads own =
-    let r = gist-from p g reads in
+    let r = summary-from p g reads in
     subst (SenderIn p) r.is (by_message r.message (always r.message r.reads (reads_is_spelled p bytes)) (ap sender_of r.is ∙ own))
   where
     always : (m : full.Message) → read_message p ≡ Ok m → IfOk (read_message p) (λ m. Spells m p) → Spells m p
@@ -169,7 +169,7 @@ sender-in p g c bytes reads own =
         by_case (Ok x) e holds = let same : x ≡ m = cc in subst (λ (m : full.Message). Spells m p) same holds
         by_case (Err x) e holds = cc
 
-    by_message : (m : full.Message) → Spells m p → sender_of (gist m) ≡ Some c → SenderIn p (gist m)
+    by_message : (m : full.Message) → Spells m p → sender_of (summary m) ≡ Some c → SenderIn p (summary m)
     by_message (full.Plain (full.Open kind s w x rest what)) spells own =
         sender-spelled spells.flag (full.Plain (full.Open kind s w x rest what)) (90 ∷ str kind) (u32 w ++ (u32 x ++ rest)) s spells.is_message spells.boolean spells.is_message.1 refl
         (λ n. refl) (λ n lt. (spells.is_message.0, lt, spells.is_message.2, spells.is_message.3, spells.is_message.4)) (λ n. spells.boolean) (λ n. ap Some (omega arith)) (λ n. refl) p spells.spelled
@@ -192,7 +192,7 @@ sender-in p g c bytes reads own =
 
 -- ---- what follows
 
-module _ (p : List ℕ) (m : Gist) (s : SenderIn p m) where
+module _ (p : List ℕ) (m : Summary) (s : SenderIn p m) where
   pub sent-as : (n : ℕ) → with_sender p n ≡ s.front ++ (u32 n ++ s.tail)
   sent-as n =
       ap (λ at. with_number p at n) (ap sender_at s.whole ∙ s.place s.old)
@@ -205,14 +205,14 @@ module _ (p : List ℕ) (m : Gist) (s : SenderIn p m) where
       ∙ (ap (λ q. with_number q (Some (length s.front)) c) (sent-as n)
       ∙ (with_u32-between s.front s.tail n (length s.front) c refl ∙ sym (sent-as c)))
 
-  pub reads-sent : (n : ℕ) → read_gist (with_sender p n) ≡ Ok (resent (word n) m)
-  reads-sent n = ap read_gist (sent-as n) ∙ s.reads n
+  pub reads-sent : (n : ℕ) → read_summary (with_sender p n) ≡ Ok (resent (word n) m)
+  reads-sent n = ap read_summary (sent-as n) ∙ s.reads n
 
   -- the number that stands there then
   pub number-sent : (n : ℕ) → reading (with_sender p n) sender_of None ≡ Some (word n)
   number-sent n = reading-ok (with_sender p n) (resent (word n) m) sender_of None (reads-sent n) ∙ sender-resent m (word n) s.said
     where
-      sender-resent : (m : Gist) (c : ℕ) → sender_of m ≡ Some s.old → sender_of (resent c m) ≡ Some c
+      sender-resent : (m : Summary) (c : ℕ) → sender_of m ≡ Some s.old → sender_of (resent c m) ≡ Some c
       sender-resent (Open what a w x) c e = refl
       sender-resent (Confirmation n a w x) c e = refl
       sender-resent m c e = cc

@@ -22,7 +22,7 @@ use Rattle.mux_history.proofs.KeepsApart.{good-treat}
 use Rattle.mux_history.proofs.LawfulItems.{LawfulIn, LawfulItems, reply-lawful, reply-next, rows-admits}
 use Rattle.mux_history.proofs.Marks.{left-lawful}
 use Rattle.mux_history.proofs.Nexts.{by-next}
-use Rattle.mux_history.proofs.SaidApart.{LawfulItem, admits_client}
+use Rattle.mux_history.proofs.SentApart.{LawfulItem, admits_client}
 
 -- ---- each row
 

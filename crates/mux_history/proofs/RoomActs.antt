@@ -4,12 +4,12 @@ use Rattle.std.proofs.Common.{◌≡◌, ℕ, ◌≤◌, List, [], ◌∷◌, tr
 use Rattle.std.specs.Prelude.{◌==◌, ◌&&◌, ◌⊎◌, filter, find, Result}
 use Rattle.std.proofs.lemmas.Bool.Decides.{nat_tests}
 use Rattle.mux_history.specs.Channels.{Channel, any_by, channels_of, holder, is_closes, is_confirmed, is_held, is_number, live_in, with_down, with_up, with_ups}
-use Rattle.mux_history.specs.Gist.{Act, Answers, Asks, Carries, Closes, Confirmation, Confirms, Ends, Fails, Gist, Grants, Open, Refuses, Requests, Succeeds, Transport, Within, read_gist, reading}
+use Rattle.mux_history.specs.Summary.{Act, Answers, Asks, Carries, Closes, Confirmation, Confirms, Ends, Fails, Summary, Grants, Open, Refuses, Requests, Succeeds, Transport, Within, read_summary, reading}
 use Rattle.mux_history.specs.Kept.{Every}
 use Rattle.mux_history.specs.Laws.{IsAccounted, IsWithin, with_act}
 use Rattle.mux_history.specs.Ledger.{answered, asked, breach, carried, other_side, room, sum_of, unanswered}
 use Rattle.mux_history.specs.Rows.{Row}
-use Rattle.mux_history.specs.Said.{Outcome, confirmed_at, is_failing, on_breach, on_confirmed, on_waiting, said_within, sends, waiting_at}
+use Rattle.mux_history.specs.Said.{Outcome, confirmed_at, is_failing, on_breach, on_confirmed, on_waiting, sent_within, sends, waiting_at}
 use Rattle.ssh_grammar.specs.declared.fault.Bad.{Bad}
 use Rattle.ssh_grammar.specs.declared.fault.Breach.{Breach}
 use Rattle.ssh_grammar.specs.declared.fault.Breach.TheVariants.{AfterClose, NotOpen, Unasked}
@@ -106,15 +106,15 @@ may-of way (Asks wants) x fine = tt
 
 -- ---- one message
 
-abbrev pub SafeUp : Gist → Channel → Type 0
+abbrev pub SafeUp : Summary → Channel → Type 0
 SafeUp (Within s act) x = is_number x.remote s ≡ true → is_held x ≡ true → MayAct Up act x
 SafeUp m x = Unit {0}
 
-abbrev pub SafeDown : Gist → Channel → Type 0
+abbrev pub SafeDown : Summary → Channel → Type 0
 SafeDown (Within n act) x = is_number x.number n ≡ true → is_held x ≡ true → MayAct Down act x
 SafeDown m x = Unit {0}
 
-pub accounted-up : (own : Option ℕ) (m : Gist) (x : Channel) → SafeUp m x → Accounted x → Accounted (with_up own m x)
+pub accounted-up : (own : Option ℕ) (m : Summary) (x : Channel) → SafeUp m x → Accounted x → Accounted (with_up own m x)
 accounted-up own (Confirmation s n w max) x safe known = elim (is_number x.remote s && is_held x) as (λ b. Accounted (elim b as (λ _. Channel) [ true ↦ record x { own = own; number = Some n; acts = (Up, Confirms w max) ∷ x.acts } | false ↦ x ])) [ true ↦ accounted-named own (Some n) x.remote (with_act Up (Confirms w max) x) (accounted-act Up (Confirms w max) x tt known) | false ↦ known ]
 accounted-up own (Within s act) x safe known = by_case (is_number x.remote s && is_held x) refl
   where
@@ -127,7 +127,7 @@ accounted-up own (Succeeds rest) x safe known = known
 accounted-up own Refuses x safe known = known
 accounted-up own (Open what s w max) x safe known = known
 
-pub accounted-down : (m : Gist) (x : Channel) → SafeDown m x → Accounted x → Accounted (with_down m x)
+pub accounted-down : (m : Summary) (x : Channel) → SafeDown m x → Accounted x → Accounted (with_down m x)
 accounted-down (Confirmation n s w max) x safe known = elim (is_number x.number n && is_held x) as (λ b. Accounted (elim b as (λ _. Channel) [ true ↦ record x { remote = Some s; acts = (Down, Confirms w max) ∷ x.acts } | false ↦ x ])) [ true ↦ accounted-named x.own x.number (Some s) (with_act Down (Confirms w max) x) (accounted-act Down (Confirms w max) x tt known) | false ↦ known ]
 accounted-down (Within n act) x safe known = by_case (is_number x.number n && is_held x) refl
   where
@@ -140,14 +140,14 @@ accounted-down (Succeeds rest) x safe known = known
 accounted-down Refuses x safe known = known
 accounted-down (Open what s w max) x safe known = known
 
-pub accounted-reading : (p : List ℕ) (f : Gist → Channel) (x : Channel) → Accounted x → ((m : Gist) → read_gist p ≡ Ok m → Accounted (f m)) → Accounted (reading p f x)
-accounted-reading p f x known each = by_case (read_gist p) refl
+pub accounted-reading : (p : List ℕ) (f : Summary → Channel) (x : Channel) → Accounted x → ((m : Summary) → read_summary p ≡ Ok m → Accounted (f m)) → Accounted (reading p f x)
+accounted-reading p f x known each = by_case (read_summary p) refl
   where
-    by_case : (r : Result Gist Bad) → read_gist p ≡ r → Accounted (elim r as (λ _. Channel) [ Err e ↦ x | Ok m ↦ f m ])
+    by_case : (r : Result Summary Bad) → read_summary p ≡ r → Accounted (elim r as (λ _. Channel) [ Err e ↦ x | Ok m ↦ f m ])
     by_case (Err e) reads = known
     by_case (Ok m) reads = each m reads
 
-safe-harmless : (m : Gist) (x : Channel) → IsHarmless m → SafeUp m x
+safe-harmless : (m : Summary) (x : Channel) → IsHarmless m → SafeUp m x
 safe-harmless (Within s Closes) x h = λ a b. tt
 safe-harmless (Within s Fails) x h = λ a b. tt
 safe-harmless (Within s act) x h = absurd h
@@ -186,8 +186,8 @@ pub known-in : (before : List Row) → AreApart (channels_of before) → Each Ac
 known-in before good known = by_all (channels_of before) known (λ s. found-in (λ y. is_number y.remote s) (λ x y a h k e. a.remotes h k s e) (channels_of before) good.apart) (λ n. found-in (λ y. is_number y.number n) (λ x y a h k e. a.numbers h k n e) (channels_of before) good.apart)
   where
     by_all : (xs : List Channel) → Each Accounted xs → ((s : ℕ) → Each (λ z. is_held z ≡ true → is_number z.remote s ≡ true → live_in before s ≡ Some z) xs) → ((n : ℕ) → Each (λ z. is_held z ≡ true → is_number z.number n ≡ true → holder before n ≡ Some z) xs) → Each (KnownIn before) xs
-    by_all [] known lives holds = tt
-    by_all (x ∷ xs) known lives holds = (record { accounted = known.0; live = λ s. (lives s).0; holds = λ n. (holds n).0 }, by_all xs known.1 (λ s. (lives s).1) (λ n. (holds n).1))
+    by_all [] known relay_traces holds = tt
+    by_all (x ∷ xs) known relay_traces holds = (record { accounted = known.0; live = λ s. (relay_traces s).0; holds = λ n. (holds n).0 }, by_all xs known.1 (λ s. (relay_traces s).1) (λ n. (holds n).1))
 
 pub some-same : (x y : Channel) → Some x ≡ Some y → x ≡ y
 some-same x y e = cc
@@ -198,7 +198,7 @@ abbrev pub UpLegal : List Row → ℕ → Act → Type 0
 UpLegal own s act = (is_failing act ≡ true) ⊎ ((y : Channel) × (confirmed_at own s ≡ Some y) × (breach Up act y ≡ None))
 
 -- what goes up of a message within a channel is legal
-pub within-up : (own : List Row) (p : List ℕ) (s : ℕ) (act : Act) → ((said_within own p s act).sent ≡ []) ⊎ (((said_within own p s act).sent ≡ p ∷ []) × UpLegal own s act)
+pub within-up : (own : List Row) (p : List ℕ) (s : ℕ) (act : Act) → ((sent_within own p s act).sent ≡ []) ⊎ (((sent_within own p s act).sent ≡ p ∷ []) × UpLegal own s act)
 within-up own p s act = by_failing (is_failing act) refl
   where
     by_waiting : is_failing act ≡ true → (o : Option Channel) → ((on_waiting s (sends p) o).sent ≡ []) ⊎ (((on_waiting s (sends p) o).sent ≡ p ∷ []) × UpLegal own s act)

@@ -3,17 +3,17 @@ use Rattle.std.proofs.Common.{◌≡◌, ℕ, ◌≤◌, List, [], ◌∷◌, �
 use Rattle.std.specs.Prelude.{◌==◌, ◌&&◌, ◌⊎◌, Result}
 use Rattle.std.specs.List.{AllByRecursion}
 use Rattle.std.proofs.lemmas.Bool.Decides.{nat_tests}
-use Rattle.mux_history.specs.Channels.{Channel, after_farewell, after_item, begun_by, channels_of, heard_by, is_confirmed, is_held, is_number, opened_down, opened_up, own_of, with_down, with_up, with_ups}
-use Rattle.mux_history.specs.Controls.{greeted, house_says, said_body}
-use Rattle.mux_history.specs.Gist.{Act, Answers, Asks, Carries, Closes, Confirmation, Confirms, Ends, Fails, Gist, Grants, Open, Refuses, Requests, Succeeds, Transport, Within, read_gist, reading}
-use Rattle.mux_history.specs.Heard.{Breaks, Dest, Disconnects, ToClient, ToMaster, dest, dest_within, heard_for, heard_master}
+use Rattle.mux_history.specs.Channels.{Channel, after_farewell, after_item, begun_by, channels_of, received_by, is_confirmed, is_held, is_number, opened_down, opened_up, own_of, with_down, with_up, with_ups}
+use Rattle.mux_history.specs.Controls.{greeted, house_sends, sent_body}
+use Rattle.mux_history.specs.Summary.{Act, Answers, Asks, Carries, Closes, Confirmation, Confirms, Ends, Fails, Summary, Grants, Open, Refuses, Requests, Succeeds, Transport, Within, read_summary, reading}
+use Rattle.mux_history.specs.Heard.{Breaks, Dest, Disconnects, ToClient, ToMaster, dest, dest_within, received_for, received_master}
 use Rattle.mux_history.specs.Kept.{AtEach, Every, ForEach}
 use Rattle.mux_history.specs.Laws.{IsWithin, RoomsHold, kept}
 use Rattle.mux_history.specs.Ledger.{answered, asked, breach, carried, sum_of}
-use Rattle.mux_history.specs.Log.{admits, all_told, bare, heard_row, queued, row_of, treat}
+use Rattle.mux_history.specs.Log.{admits, all_recorded, bare, received_row, queued, row_of, treat}
 use Rattle.mux_history.specs.Policy.{Policy}
 use Rattle.mux_history.specs.Rows.{Admit, BadServer, Fate, Gone, Heard, HouseSays, Item, Row, RunEnd, Says, ServerCut, ServerEnd, ServerFailed, Took, rows_of}
-use Rattle.mux_history.specs.Said.{Outcome, drops, is_failing, said_gist, said_payload, said_within, silent}
+use Rattle.mux_history.specs.Said.{Outcome, drops, is_failing, sent_summary, sent_payload, sent_within, silent}
 use Rattle.mux_outside.specs.declared.house.HouseReply.{HouseReply}
 use Rattle.ssh_fields.specs.Fields.{AreBytes}
 use Rattle.ssh_grammar.specs.Said.{BadFraming, Body, Payload}
@@ -31,7 +31,7 @@ use Rattle.mux_history.proofs.Readings.{reading-ok}
 use Rattle.mux_history.proofs.Renumbered.{reads-sent, resent, sender-in, word}
 use Rattle.mux_history.proofs.RightLogs.{LogKnown, RowKnown}
 use Rattle.mux_history.proofs.RoomActs.{Accounted, KnownIn, MayAct, SafeDown, SafeUp, UpLegal, accounted-down, accounted-harmless, accounted-reading, accounted-up, known-in, may-of, some-same, within-up}
-use Rattle.mux_history.proofs.SaidApart.{LawfulItem}
+use Rattle.mux_history.proofs.SentApart.{LawfulItem}
 use Rattle.mux_history.proofs.Sends.{Sent, admits-sent, as_row, body-sent, house-sent, row-split, sent-by}
 
 -- ---- a row
@@ -67,15 +67,15 @@ accounted-new x none Down = record { within = by_side x.by; answered = ap_none }
     ap_none : sum_of answered Up x.acts ≤ sum_of asked Down x.acts
     ap_none = let c = ap (sum_of answered Up) none in omega (arith, c)
 
-begun-reading : (p : List ℕ) (f : Gist → List Channel) → ((m : Gist) → Each Accounted (f m)) → Each Accounted (reading p f [])
-begun-reading p f each = elim (read_gist p) as (λ r. Each Accounted (elim r as (λ _. List Channel) [ Err e ↦ [] | Ok m ↦ f m ])) [ Err e ↦ tt | Ok m ↦ each m ]
+begun-reading : (p : List ℕ) (f : Summary → List Channel) → ((m : Summary) → Each Accounted (f m)) → Each Accounted (reading p f [])
+begun-reading p f each = elim (read_summary p) as (λ r. Each Accounted (elim r as (λ _. List Channel) [ Err e ↦ [] | Ok m ↦ f m ])) [ Err e ↦ tt | Ok m ↦ each m ]
 
-begun-up : (k : ℕ) (up : List (List ℕ)) (m : Gist) → Each Accounted (opened_up k up m)
+begun-up : (k : ℕ) (up : List (List ℕ)) (m : Summary) → Each Accounted (opened_up k up m)
 begun-up k [] m = tt
 begun-up k (p ∷ ps) (Open what c w max) = (accounted-new _ refl, tt)
 begun-up k (p ∷ ps) m = tt
 
-begun-down : (k : ℕ) (up : List (List ℕ)) (m : Gist) → Each Accounted (opened_down k up m)
+begun-down : (k : ℕ) (up : List (List ℕ)) (m : Summary) → Each Accounted (opened_down k up m)
 begun-down k [] (Open what s w max) = (accounted-new _ refl, tt)
 begun-down k [] m = tt
 begun-down k (p ∷ ps) m = tt
@@ -94,8 +94,8 @@ by-items before row good harmless step known =
     (begun-accounted row.client row.up row.item))
 
 -- a row that says nothing in a channel
-still-item : (before : List Row) (row : Row) → Every Harmless row.up → ((x : Channel) → heard_by row.item x ≡ x) → (x : Channel) → KnownIn before x → Accounted (after_item row x)
-still-item before row harmless stays x known = elim (x.client == row.client) as (λ b. Accounted (elim b as (λ _. Channel) [ true ↦ with_ups (own_of row.item) row.up (heard_by row.item x) | false ↦ x ])) [ true ↦ accounted-harmless (own_of row.item) row.up harmless (heard_by row.item x) (subst Accounted (sym (stays x)) known.accounted) | false ↦ known.accounted ]
+still-item : (before : List Row) (row : Row) → Every Harmless row.up → ((x : Channel) → received_by row.item x ≡ x) → (x : Channel) → KnownIn before x → Accounted (after_item row x)
+still-item before row harmless stays x known = elim (x.client == row.client) as (λ b. Accounted (elim b as (λ _. Channel) [ true ↦ with_ups (own_of row.item) row.up (received_by row.item x) | false ↦ x ])) [ true ↦ accounted-harmless (own_of row.item) row.up harmless (received_by row.item x) (subst Accounted (sym (stays x)) known.accounted) | false ↦ known.accounted ]
 
 -- ---- what a client says
 
@@ -123,40 +123,40 @@ module _ (before : List Row) (good : AreApart (channels_of before)) (k : ℕ) wh
       by_client true e = each x known e (own_of (Says k (Payload p) reply))
       by_client false e = known.accounted
 
-  one-up : (q : List ℕ) (m : Gist) → read_gist q ≡ Ok m → (x : Channel) → KnownIn before x → SafeUp m x → (own : Option ℕ) → Accounted (with_ups own (q ∷ []) x)
+  one-up : (q : List ℕ) (m : Summary) → read_summary q ≡ Ok m → (x : Channel) → KnownIn before x → SafeUp m x → (own : Option ℕ) → Accounted (with_ups own (q ∷ []) x)
   one-up q m reads x known safe own = subst Accounted (sym (reading-ok q m (λ m. with_up own m x) x reads)) (accounted-up own m x safe known.accounted)
 
-  said-ups : (policy : Policy) (pick : ℕ) (p : List ℕ) → AreBytes p → (x : Channel) → KnownIn before x → (x.client == k) ≡ true → (own : Option ℕ) → Accounted (with_ups own (said_payload policy k (rows_of k before) pick p).sent x)
-  said-ups policy pick p bytes x known mine own = by_case (read_gist p) refl
+  said-ups : (policy : Policy) (pick : ℕ) (p : List ℕ) → AreBytes p → (x : Channel) → KnownIn before x → (x.client == k) ≡ true → (own : Option ℕ) → Accounted (with_ups own (sent_payload policy k (rows_of k before) pick p).sent x)
+  said-ups policy pick p bytes x known mine own = by_case (read_summary p) refl
     where
       at : (up : List (List ℕ)) → Type 0
       at up = Accounted (with_ups own up x)
 
-      others : (m : Gist) → read_gist p ≡ Ok m → ((c : ℕ) → SafeUp (resent c m) x) → SafeUp m x → Sent (rows_of k before) pick p m (said_gist policy k (rows_of k before) pick p m).sent → Accounted (with_ups own (said_gist policy k (rows_of k before) pick p m).sent x)
+      others : (m : Summary) → read_summary p ≡ Ok m → ((c : ℕ) → SafeUp (resent c m) x) → SafeUp m x → Sent (rows_of k before) pick p m (sent_summary policy k (rows_of k before) pick p m).sent → Accounted (with_ups own (sent_summary policy k (rows_of k before) pick p m).sent x)
       others m reads safe_sent safe (inl none) = subst (λ (up : List (List ℕ)). Accounted (with_ups own up x)) (sym none) known.accounted
       others m reads safe_sent safe (inr (inl plain)) = subst (λ (up : List (List ℕ)). Accounted (with_ups own up x)) (sym plain.up) (one-up p m reads x known safe own)
       others m reads safe_sent safe (inr (inr new)) = subst (λ (up : List (List ℕ)). Accounted (with_ups own up x)) (sym new.up) (one-up (with_sender p pick) (resent (word pick) m) (reads-sent p m (sender-in p m new.c bytes reads new.owned) pick) x known (safe_sent (word pick)) own)
 
-      by_gist : (m : Gist) → read_gist p ≡ Ok m → Accounted (with_ups own (said_gist policy k (rows_of k before) pick p m).sent x)
-      by_gist (Within s act) reads = by_within (within-up (rows_of k before) p s act)
+      by_summary : (m : Summary) → read_summary p ≡ Ok m → Accounted (with_ups own (sent_summary policy k (rows_of k before) pick p m).sent x)
+      by_summary (Within s act) reads = by_within (within-up (rows_of k before) p s act)
         where
-          by_within : ((said_within (rows_of k before) p s act).sent ≡ []) ⊎ (((said_within (rows_of k before) p s act).sent ≡ p ∷ []) × UpLegal (rows_of k before) s act) → Accounted (with_ups own (said_within (rows_of k before) p s act).sent x)
+          by_within : ((sent_within (rows_of k before) p s act).sent ≡ []) ⊎ (((sent_within (rows_of k before) p s act).sent ≡ p ∷ []) × UpLegal (rows_of k before) s act) → Accounted (with_ups own (sent_within (rows_of k before) p s act).sent x)
           by_within (inl none) = subst (λ (up : List (List ℕ)). Accounted (with_ups own up x)) (sym none) known.accounted
           by_within (inr sent) = subst (λ (up : List (List ℕ)). Accounted (with_ups own up x)) (sym sent.0) (one-up p (Within s act) reads x known (meant-up x known mine s act sent.1) own)
-      by_gist (Confirmation s c w max) reads = others (Confirmation s c w max) reads (λ c. tt) tt (sent-by policy k (rows_of k before) pick p (Confirmation s c w max))
-      by_gist (Open what c w max) reads = others (Open what c w max) reads (λ c. tt) tt (sent-by policy k (rows_of k before) pick p (Open what c w max))
-      by_gist (Transport number) reads = others (Transport number) reads (λ c. tt) tt (sent-by policy k (rows_of k before) pick p (Transport number))
-      by_gist (Requests what want) reads = others (Requests what want) reads (λ c. tt) tt (sent-by policy k (rows_of k before) pick p (Requests what want))
-      by_gist (Succeeds rest) reads = others (Succeeds rest) reads (λ c. tt) tt (sent-by policy k (rows_of k before) pick p (Succeeds rest))
-      by_gist Refuses reads = others Refuses reads (λ c. tt) tt (sent-by policy k (rows_of k before) pick p Refuses)
+      by_summary (Confirmation s c w max) reads = others (Confirmation s c w max) reads (λ c. tt) tt (sent-by policy k (rows_of k before) pick p (Confirmation s c w max))
+      by_summary (Open what c w max) reads = others (Open what c w max) reads (λ c. tt) tt (sent-by policy k (rows_of k before) pick p (Open what c w max))
+      by_summary (Transport number) reads = others (Transport number) reads (λ c. tt) tt (sent-by policy k (rows_of k before) pick p (Transport number))
+      by_summary (Requests what want) reads = others (Requests what want) reads (λ c. tt) tt (sent-by policy k (rows_of k before) pick p (Requests what want))
+      by_summary (Succeeds rest) reads = others (Succeeds rest) reads (λ c. tt) tt (sent-by policy k (rows_of k before) pick p (Succeeds rest))
+      by_summary Refuses reads = others Refuses reads (λ c. tt) tt (sent-by policy k (rows_of k before) pick p Refuses)
 
-      by_case : (r : Result Gist Bad) → read_gist p ≡ r → Accounted (with_ups own (elim r as (λ _. Outcome) [ Err bad ↦ drops (why.BadMessage bad) | Ok m ↦ said_gist policy k (rows_of k before) pick p m ]).sent x)
+      by_case : (r : Result Summary Bad) → read_summary p ≡ r → Accounted (with_ups own (elim r as (λ _. Outcome) [ Err bad ↦ drops (why.BadMessage bad) | Ok m ↦ sent_summary policy k (rows_of k before) pick p m ]).sent x)
       by_case (Err bad) reads = known.accounted
-      by_case (Ok m) reads = by_gist m reads
+      by_case (Ok m) reads = by_summary m reads
 
   -- ---- what the server says to it
 
-  meant-down : (p : List ℕ) → dest before p ≡ ToClient k → (m : Gist) → read_gist p ≡ Ok m → (x : Channel) → KnownIn before x → SafeDown m x
+  meant-down : (p : List ℕ) → dest before p ≡ ToClient k → (m : Summary) → read_summary p ≡ Ok m → (x : Channel) → KnownIn before x → SafeDown m x
   meant-down p to (Within n act) reads x known = by_act act (sym (dest-ok before p (Within n act) reads) ∙ to)
     where
       legal : (act : Act) → is_plain act ≡ true → dest_within before n act ≡ ToClient k → is_number x.number n ≡ true → is_held x ≡ true → MayAct Down act x
@@ -193,7 +193,7 @@ master-item : (before : List Row) (row : Row) → AreApart (channels_of before) 
 master-item before row good none harmless = λ known. by-each (channels_of before) good.each known
   where
     stays : (x : Channel) → Sound x → after_item row x ≡ x
-    stays x sound = ap (λ b. elim b as (λ _. Channel) [ true ↦ with_ups (own_of row.item) row.up (heard_by row.item x) | false ↦ x ]) (ap (λ c. x.client == c) none ∙ not_zero x.client sound.client)
+    stays x sound = ap (λ b. elim b as (λ _. Channel) [ true ↦ with_ups (own_of row.item) row.up (received_by row.item x) | false ↦ x ]) (ap (λ c. x.client == c) none ∙ not_zero x.client sound.client)
       where
         not_zero : (c : ℕ) → (c ≡ 0 → ⊥) → (c == 0) ≡ false
         not_zero c real = by_test (c == 0) refl
@@ -218,26 +218,26 @@ master-item before row good none harmless = λ known. by-each (channels_of befor
 
 -- a row by its parts
 row-any : (P : Row → Type 0) (item : Item) (k : ℕ) (o : Outcome) (own : List Row) → ((fw : List (List ℕ)) → Every Harmless fw → (down : List (List ℕ)) (fate : Fate) → P (as_row item k o.sent fw down fate)) → P (row_of item k o own)
-row-any P item k o own each = row-split P item k o own (λ fw parting fate. each fw (harmless-each fw parting) (queued (all_told (bare item k o) own) (bare item k o) own).down fate)
+row-any P item k o own each = row-split P item k o own (λ fw parting fate. each fw (harmless-each fw parting) (queued (all_recorded (bare item k o) own) (bare item k o) own).down fate)
 
 none-harmless : (ups : List (List ℕ)) → ups ≡ [] → Every Harmless ups
 none-harmless ups none = subst (Every Harmless) (sym none) tt
 
-mute-row : (before : List Row) → AreApart (channels_of before) → (item : Item) (k : ℕ) (o : Outcome) → Every Harmless o.sent → ((x : Channel) → heard_by item x ≡ x) → Accounts before (row_of item k o (rows_of k before))
+mute-row : (before : List Row) → AreApart (channels_of before) → (item : Item) (k : ℕ) (o : Outcome) → Every Harmless o.sent → ((x : Channel) → received_by item x ≡ x) → Accounts before (row_of item k o (rows_of k before))
 mute-row before good item k o harmless stays = row-any (Accounts before) item k o (rows_of k before) (λ fw parting down fate. by-items before (as_row item k o.sent fw down fate) good parting (still-item before (as_row item k o.sent fw down fate) harmless stays))
 
-heard-accounts : (before : List Row) → AreApart (channels_of before) → (p : List ℕ) (d : Dest) → dest before p ≡ d → Accounts before (heard_row before p d)
-heard-accounts before good p ToMaster e = master-item before (bare (Heard p) 0 (heard_master p)) good refl tt
-heard-accounts before good p (ToClient k) e = row-any (Accounts before) (Heard p) k (heard_for (rows_of k before) p) (rows_of k before) (λ fw parting down fate. by-items before (as_row (Heard p) k (heard_for (rows_of k before) p).sent fw down fate) good parting (heard-item before good k p e (heard_for (rows_of k before) p).sent fw down fate (harmless-heard (rows_of k before) p)))
-heard-accounts before good p Disconnects e = master-item before (heard_row before p Disconnects) good refl tt
-heard-accounts before good p (Breaks cause) e = master-item before (heard_row before p (Breaks cause)) good refl tt
+heard-accounts : (before : List Row) → AreApart (channels_of before) → (p : List ℕ) (d : Dest) → dest before p ≡ d → Accounts before (received_row before p d)
+heard-accounts before good p ToMaster e = master-item before (bare (Heard p) 0 (received_master p)) good refl tt
+heard-accounts before good p (ToClient k) e = row-any (Accounts before) (Heard p) k (received_for (rows_of k before) p) (rows_of k before) (λ fw parting down fate. by-items before (as_row (Heard p) k (received_for (rows_of k before) p).sent fw down fate) good parting (heard-item before good k p e (received_for (rows_of k before) p).sent fw down fate (harmless-heard (rows_of k before) p)))
+heard-accounts before good p Disconnects e = master-item before (received_row before p Disconnects) good refl tt
+heard-accounts before good p (Breaks cause) e = master-item before (received_row before p (Breaks cause)) good refl tt
 
 accounts-treat : (policy : Policy) (pid pick : ℕ) (before : List Row) (item : Item) → AreApart (channels_of before) → LawfulItem before item → Accounts before (treat policy pid pick before item)
 accounts-treat policy pid pick before (Admit k) good lawful = mute-row before good (Admit k) k (admits before) (none-harmless (admits before).sent (admits-sent before)) (λ x. refl)
-accounts-treat policy pid pick before (Says k (Payload p) reply) good lawful = row-any (Accounts before) (Says k (Payload p) reply) k (said_payload policy k (rows_of k before) pick p) (rows_of k before) (λ fw parting down fate. by-items before (as_row (Says k (Payload p) reply) k (said_payload policy k (rows_of k before) pick p).sent fw down fate) good parting (said-item before good k p reply (said_payload policy k (rows_of k before) pick p).sent fw down fate (said-ups before good k policy pick p lawful.1)))
-accounts-treat policy pid pick before (Says k (Body body) reply) good lawful = mute-row before good (Says k (Body body) reply) k (said_body pid k reply (greeted (rows_of k before)) body) (none-harmless _ (body-sent pid k reply (greeted (rows_of k before)) body)) (λ x. refl)
+accounts-treat policy pid pick before (Says k (Payload p) reply) good lawful = row-any (Accounts before) (Says k (Payload p) reply) k (sent_payload policy k (rows_of k before) pick p) (rows_of k before) (λ fw parting down fate. by-items before (as_row (Says k (Payload p) reply) k (sent_payload policy k (rows_of k before) pick p).sent fw down fate) good parting (said-item before good k p reply (sent_payload policy k (rows_of k before) pick p).sent fw down fate (said-ups before good k policy pick p lawful.1)))
+accounts-treat policy pid pick before (Says k (Body body) reply) good lawful = mute-row before good (Says k (Body body) reply) k (sent_body pid k reply (greeted (rows_of k before)) body) (none-harmless _ (body-sent pid k reply (greeted (rows_of k before)) body)) (λ x. refl)
 accounts-treat policy pid pick before (Says k (BadFraming fault) reply) good lawful = mute-row before good (Says k (BadFraming fault) reply) k (drops (why.BadFrame fault)) tt (λ x. refl)
-accounts-treat policy pid pick before (HouseSays k id given) good lawful = mute-row before good (HouseSays k id given) k (house_says (rows_of k before) id given) (none-harmless _ (house-sent (rows_of k before) id given)) (λ x. refl)
+accounts-treat policy pid pick before (HouseSays k id given) good lawful = mute-row before good (HouseSays k id given) k (house_sends (rows_of k before) id given) (none-harmless _ (house-sent (rows_of k before) id given)) (λ x. refl)
 accounts-treat policy pid pick before (Gone k) good lawful = mute-row before good (Gone k) k silent tt (λ x. refl)
 accounts-treat policy pid pick before (Heard p) good lawful = heard-accounts before good p (dest before p) refl
 accounts-treat policy pid pick before (Took stream size) good lawful = by-items before (bare (Took stream size) stream silent) good tt (still-item before (bare (Took stream size) stream silent) tt (λ x. refl))

@@ -2,8 +2,8 @@
 use Rattle.std.proofs.Common.{◌≡◌, ℕ, List, [], ◌∷◌, ◌++◌, true, false, Bool, refl, ◌∙◌, ap, map, sym, Option, None, Ok, Err}
 use Rattle.std.specs.Prelude.{◌==◌, ◌&&◌, filter}
 use Rattle.std.proofs.lemmas.List.Elements.{filter-append}
-use Rattle.mux_history.specs.Channels.{Channel, after_farewell, after_item, begun_by, channels_of, heard_by, held_of, is_held, is_number, own_of, with_down, with_up, with_ups}
-use Rattle.mux_history.specs.Gist.{Confirmation, Gist, Within, read_gist, reading}
+use Rattle.mux_history.specs.Channels.{Channel, after_farewell, after_item, begun_by, channels_of, received_by, held_of, is_held, is_number, own_of, with_down, with_up, with_ups}
+use Rattle.mux_history.specs.Summary.{Confirmation, Summary, Within, read_summary, reading}
 use Rattle.mux_history.specs.Rows.{Heard, Item, Row}
 use Rattle.mux_history.proofs.Finds.{filter-no, filter-yes}
 
@@ -15,29 +15,29 @@ none_held : (b : Bool) (x : Channel) → is_held x ≡ false → (b && is_held x
 none_held true x over = over
 none_held false x over = refl
 
-down-over : (m : Gist) → LeavesOver (with_down m)
+down-over : (m : Summary) → LeavesOver (with_down m)
 down-over (Confirmation n s w m) x over = rw (none_held (is_number x.number n) x over, with_down) refl
 down-over (Within n act) x over = rw (none_held (is_number x.number n) x over, with_down) refl
 down-over m x over = refl
 
-up-over : (own : Option ℕ) (m : Gist) → LeavesOver (with_up own m)
+up-over : (own : Option ℕ) (m : Summary) → LeavesOver (with_up own m)
 up-over own (Confirmation s n w m) x over = rw (none_held (is_number x.remote s) x over, with_up) refl
 up-over own (Within s act) x over = rw (none_held (is_number x.remote s) x over, with_up) refl
 up-over own m x over = refl
 
-reading-over : (p : List ℕ) (f : Gist → Channel) (x : Channel) → ((m : Gist) → f m ≡ x) → reading p f x ≡ x
-reading-over p f x each = elim (read_gist p) as (λ r. (elim r as (λ _. Channel) [ Err e ↦ x | Ok m ↦ f m ]) ≡ x) [ Err e ↦ refl | Ok m ↦ each m ]
+reading-over : (p : List ℕ) (f : Summary → Channel) (x : Channel) → ((m : Summary) → f m ≡ x) → reading p f x ≡ x
+reading-over p f x each = elim (read_summary p) as (λ r. (elim r as (λ _. Channel) [ Err e ↦ x | Ok m ↦ f m ]) ≡ x) [ Err e ↦ refl | Ok m ↦ each m ]
 
 ups-over : (own : Option ℕ) (ps : List (List ℕ)) → LeavesOver (with_ups own ps)
 ups-over own [] x over = refl
 ups-over own (p ∷ ps) x over = ap (with_ups own ps) (reading-over p (λ m. with_up own m x) x (λ m. up-over own m x over)) ∙ ups-over own ps x over
 
-heard-over : (item : Item) → LeavesOver (heard_by item)
+heard-over : (item : Item) → LeavesOver (received_by item)
 heard-over (Heard p) x over = reading-over p (λ m. with_down m x) x (λ m. down-over m x over)
 heard-over item x over = refl
 
 pub item-over : (row : Row) → LeavesOver (after_item row)
-item-over row x over = elim (x.client == row.client) as (λ b. (elim b as (λ _. Channel) [ true ↦ with_ups (own_of row.item) row.up (heard_by row.item x) | false ↦ x ]) ≡ x)
+item-over row x over = elim (x.client == row.client) as (λ b. (elim b as (λ _. Channel) [ true ↦ with_ups (own_of row.item) row.up (received_by row.item x) | false ↦ x ]) ≡ x)
     [ true ↦ ap (with_ups (own_of row.item) row.up) (heard-over row.item x over) ∙ ups-over (own_of row.item) row.up x over | false ↦ refl ]
 
 pub farewell-over : (row : Row) → LeavesOver (after_farewell row)

@@ -6,7 +6,7 @@ use Rattle.std.proofs.Math.Seq.{drop-append_seam}
 use Rattle.std.proofs.lemmas.Bool.Decides.{nat_tests}
 use Rattle.mux_history.specs.Choices.{Choices, FromLists, TheirOwn, pick_of, replies_given, reply_at, with_reply}
 use Rattle.mux_history.specs.Controls.{body_asks, greeted}
-use Rattle.mux_history.specs.Journal.{bytes_of, heard_item, house_items, is_own_stream, unless_own, items, items_in, log_of_journal, new_heard, new_sayings, said_item, server_end, taken_by, taken_in}
+use Rattle.mux_history.specs.Journal.{bytes_of, received_item, house_items, is_own_stream, unless_own, items, items_in, log_of_journal, new_received, new_sayings, sent_item, server_end, taken_by, taken_in}
 use Rattle.mux_history.specs.Laws.{AddsUp}
 use Rattle.mux_history.specs.Log.{Setting, bare, is_took, makes_next, more_all, more_of, next_row, treat}
 use Rattle.mux_history.specs.Pending.{given_by, given_to, joined, pending, pending_down, pending_up, took_by, took_up}
@@ -20,7 +20,7 @@ use Rattle.mux_outside.specs.declared.mark.Mark.{Mark}
 use Rattle.mux_history.specs.declared.limits.TheConstants.{HOUSE}
 use Rattle.mux_outside.specs.declared.mark.Mark.TheVariants.{Accepts, Frees, Gets, Takes, Waits, WriteFails}
 use Rattle.ssh_grammar.specs.Frames.{frame_payload}
-use Rattle.ssh_grammar.specs.Said.{BadFraming, Body, InProxy, Payload, Saying, parse}
+use Rattle.ssh_grammar.specs.Said.{BadFraming, Body, InProxy, Payload, Outgoing, parse}
 use Rattle.mux_outside.specs.declared.mark.Mark.TheVariants as wire
 use Rattle.mux_history.proofs.Finds.{filter-no, filter-yes}
 use Rattle.mux_history.proofs.LawfulItems.{treat-item}
@@ -147,11 +147,11 @@ holds-took t s taken bytes rows front h = by_same (s == t) refl ∙ sym (ap (λ 
 
 -- ---- the items of a mark
 
-said-still : (k : ℕ) (ss : List Saying) → AreStill (map (said_item k) ss)
+said-still : (k : ℕ) (ss : List Outgoing) → AreStill (map (sent_item k) ss)
 said-still k [] = tt
 said-still k (s ∷ ss) = (refl, said-still k ss)
 
-heard-still : (ss : List Saying) → AreStill (map heard_item ss)
+heard-still : (ss : List Outgoing) → AreStill (map received_item ss)
 heard-still [] = tt
 heard-still (Body body ∷ ss) = (refl, heard-still ss)
 heard-still (Payload p ∷ ss) = (refl, heard-still ss)
@@ -201,7 +201,7 @@ module _ (setting : Setting) (before : List Mark) (t : ℕ) (client : is_own t �
 
   pub one-mark : (m : Mark) → TakesFront setting before m → taken_by t (m ∷ before) ++ pending t (log_of_journal setting (m ∷ before)) ≡ given_to t (log_of_journal setting (m ∷ before))
   one-mark (wire.Accepts k) front = nothing (wire.Accepts k) refl (refl, tt)
-  one-mark (wire.Gets stream bytes) front = nothing (wire.Gets stream bytes) refl (elim (stream == 0) as (λ b. AreStill (elim b as (λ _. List Item) [ true ↦ new_heard (bytes_of 0 before) (bytes_of 0 before ++ bytes) | false ↦ unless_own stream (new_sayings stream (bytes_of stream before) (bytes_of stream before ++ bytes)) ])) [ true ↦ heard-still _ | false ↦ unless-still stream _ (said-still stream _) ])
+  one-mark (wire.Gets stream bytes) front = nothing (wire.Gets stream bytes) refl (elim (stream == 0) as (λ b. AreStill (elim b as (λ _. List Item) [ true ↦ new_received (bytes_of 0 before) (bytes_of 0 before ++ bytes) | false ↦ unless_own stream (new_sayings stream (bytes_of stream before) (bytes_of stream before ++ bytes)) ])) [ true ↦ heard-still _ | false ↦ unless-still stream _ (said-still stream _) ])
   one-mark (wire.Ends stream) front = nothing (wire.Ends stream) refl (gone-still stream (server_end (parse InProxy (bytes_of 0 before)).rest) (end-still (parse InProxy (bytes_of 0 before)).rest))
   one-mark (wire.Fails stream) front = nothing (wire.Fails stream) refl (gone-still stream ServerFailed refl)
   one-mark (wire.WriteFails stream) front = nothing (wire.WriteFails stream) refl (gone-still stream ServerFailed refl)

@@ -2,8 +2,8 @@
 use Rattle.std.specs.Prelude.{ℕ, ◌==◌, List, [], ◌∷◌, ◌++◌, Option, Some, None, Bool, true, false, not, ◌&&◌, ◌||◌, filter, map, find}
 use Rattle.ssh_grammar.specs.declared.side.Side.{Side}
 use Rattle.ssh_grammar.specs.declared.side.Side.TheVariants.{Up, Down}
-use Rattle.ssh_grammar.specs.Said.{Saying, Body, Payload, BadFraming}
-use Rattle.mux_history.specs.Gist.{Act, Confirms, Fails, Ends, Closes, Gist, Open, Confirmation, Within, reading, sender_of}
+use Rattle.ssh_grammar.specs.Said.{Outgoing, Body, Payload, BadFraming}
+use Rattle.mux_history.specs.Summary.{Act, Confirms, Fails, Ends, Closes, Summary, Open, Confirmation, Within, reading, sender_of}
 use Rattle.mux_history.specs.Rows.{Row, any_of, Item, Says, Heard}
 
 -- a channel: its client, who opened it, the client's own number, the number that stands for it
@@ -78,7 +78,7 @@ is_held x = not (is_over x)
 
 -- what is sent down under the number that stands for the channel; a confirmation brings the
 -- server's number
-abbrev pub with_down : Gist → Channel → Channel
+abbrev pub with_down : Summary → Channel → Channel
 with_down (Confirmation n s w m) x = elim (is_number x.number n && is_held x) [
   | true ↦ record x { remote = Some s; acts = (Down, Confirms w m) ∷ x.acts }
   | false ↦ x
@@ -90,7 +90,7 @@ with_down (Within n act) x = elim (is_number x.number n && is_held x) [
 with_down _ x = x
 
 -- what is sent up under the server's number; a confirmation brings the other two numbers
-abbrev pub with_up : Option ℕ → Gist → Channel → Channel
+abbrev pub with_up : Option ℕ → Summary → Channel → Channel
 with_up own (Confirmation s n w m) x = elim (is_number x.remote s && is_held x) [
   | true ↦ record x { own = own; number = Some n; acts = (Up, Confirms w m) ∷ x.acts }
   | false ↦ x
@@ -109,25 +109,25 @@ with_ups own (p ∷ ps) x = with_ups own ps (reading p (λ m. with_up own m x) x
 -- ---- what one row does to a channel of its client
 
 -- the number by which a client names a channel that it opens or confirms
-abbrev pub own_of_saying : Saying → Option ℕ
-own_of_saying (Payload p) = reading p sender_of None
-own_of_saying (Body body) = None
-own_of_saying (BadFraming fault) = None
+abbrev pub own_of_sending : Outgoing → Option ℕ
+own_of_sending (Payload p) = reading p sender_of None
+own_of_sending (Body body) = None
+own_of_sending (BadFraming fault) = None
 
 -- the same of an item
 abbrev pub own_of : Item → Option ℕ
-own_of (Says k saying reply) = own_of_saying saying
+own_of (Says k outgoing reply) = own_of_sending outgoing
 own_of _ = None
 
 -- what the server says to a channel
-abbrev pub heard_by : Item → Channel → Channel
-heard_by (Heard p) x = reading p (λ m. with_down m x) x
-heard_by _ x = x
+abbrev pub received_by : Item → Channel → Channel
+received_by (Heard p) x = reading p (λ m. with_down m x) x
+received_by _ x = x
 
 -- what the item says and sends
 abbrev pub after_item : Row → Channel → Channel
 after_item row x = elim (x.client == row.client) [
-  | true ↦ with_ups (own_of row.item) row.up (heard_by row.item x)
+  | true ↦ with_ups (own_of row.item) row.up (received_by row.item x)
   | false ↦ x
 ]
 
@@ -140,7 +140,7 @@ after_farewell row x =
 
 -- a client's open that is sent: the number that stands for the channel is the sender in the payload
 -- that went up
-abbrev pub opened_up : ℕ → List (List ℕ) → Gist → List Channel
+abbrev pub opened_up : ℕ → List (List ℕ) → Summary → List Channel
 opened_up k [] m = []
 opened_up k (p ∷ ps) (Open what c w m) =
     record {
@@ -156,7 +156,7 @@ opened_up k (p ∷ ps) (Open what c w m) =
 opened_up k (p ∷ ps) _ = []
 
 -- a server's open; one that is answered in its row begins no channel
-abbrev pub opened_down : ℕ → List (List ℕ) → Gist → List Channel
+abbrev pub opened_down : ℕ → List (List ℕ) → Summary → List Channel
 opened_down k [] (Open what s w m) =
     record {
       client = k;

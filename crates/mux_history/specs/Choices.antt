@@ -28,18 +28,18 @@ numbers_taken (row ∷ before) = elim (takes_number row) [
 ]
 
 -- the number that was said, 0 where there is none
-abbrev pub said_number : Option ℕ → ℕ
-said_number None = 0
-said_number (Some c) = c
+abbrev pub sent_number : Option ℕ → ℕ
+sent_number None = 0
+sent_number (Some c) = c
 
 -- the next number
 abbrev pub pick_of : Choices → List Row → Item → ℕ
 pick_of (FromLists picks replies) rows item = slice_index picks (numbers_taken rows)
-pick_of TheirOwn rows item = said_number (own_of item)
+pick_of TheirOwn rows item = sent_number (own_of item)
 
 -- an item that carries a reply of the house
 abbrev pub has_reply : Item → Bool
-has_reply (Says k saying (Some given)) = true
+has_reply (Says k outgoing (Some given)) = true
 has_reply _ = false
 
 -- how many replies the rows carry

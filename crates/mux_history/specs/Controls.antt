@@ -8,26 +8,26 @@ use Rattle.ssh_grammar.specs.declared.numbers.TheConstants as number
 use Rattle.ssh_grammar.specs.Control.{Control, Hello, NewSession, AliveCheck, Terminate, OpenForward, CloseForward, StdioForward, StopListening, Proxy, Answer, Okay, Failed, Alive, RemotePort, Proxies, no_descriptors, no_forwardings, unsupported}
 use Rattle.ssh_grammar.specs.ReadControl.{read_control}
 use Rattle.ssh_grammar.specs.Frames.{frame_answer}
-use Rattle.ssh_grammar.specs.Said.{Saying, Body, Payload, BadFraming}
+use Rattle.ssh_grammar.specs.Said.{Outgoing, Body, Payload, BadFraming}
 use Rattle.mux_history.specs.declared.why.Why.TheVariants as why
 use Rattle.mux_history.specs.declared.ended.Ended.TheVariants as ended
 use Rattle.mux_history.specs.Rows.{Row, any_of, Item, Says, End}
-use Rattle.mux_history.specs.Said.{Outcome, silent, tells, drops}
+use Rattle.mux_history.specs.Said.{Outcome, silent, records, drops}
 
 -- the answer as a frame
 abbrev pub answers_with : Answer → Outcome
-answers_with answer = tells (frame_answer answer)
+answers_with answer = records (frame_answer answer)
 
 -- ---- while the hello is awaited
 
 -- an item of what a client says
-abbrev pub is_says : Item → Bool
-is_says (Says k saying given) = true
-is_says _ = false
+abbrev pub is_sends : Item → Bool
+is_sends (Says k outgoing given) = true
+is_sends _ = false
 
 -- the client has greeted: another first message would have dropped it
 abbrev pub greeted : List Row → Bool
-greeted own = any_of (λ row. is_says row.item) own
+greeted own = any_of (λ row. is_sends row.item) own
 
 -- the type of a control message
 abbrev pub type_of : Control → ℕ
@@ -55,9 +55,9 @@ first_unread (bad.Unknown kind id) = drops (why.NoHello kind)
 first_unread fault = drops (why.BadControl fault)
 
 -- the first message
-abbrev pub said_first : Result Control BadControl → Outcome
-said_first (Ok c) = first_control c
-said_first (Err fault) = first_unread fault
+abbrev pub sent_first : Result Control BadControl → Outcome
+sent_first (Ok c) = first_control c
+sent_first (Err fault) = first_unread fault
 
 -- ---- after it
 
@@ -85,7 +85,7 @@ later_control pid k given (Hello version extensions) = drops why.SecondHello
 later_control pid k given (NewSession id rest) = answers_with (Failed id no_descriptors)
 later_control pid k given (AliveCheck id) = answers_with (Alive id pid)
 later_control pid k given (Terminate id) =
-    record { sent = []; told = frame_answer (Okay id) ∷ []; ends = End (ended.Terminated k id) }
+    record { sent = []; recorded = frame_answer (Okay id) ∷ []; ends = End (ended.Terminated k id) }
 later_control pid k given (OpenForward id what) = answers_ask true id given
 later_control pid k given (CloseForward id what) = answers_ask false id given
 later_control pid k given (StdioForward id rest) = answers_with (Failed id no_descriptors)
@@ -98,17 +98,17 @@ later_unread (bad.Unknown kind (Some id)) = answers_with (Failed id unsupported)
 later_unread fault = drops (why.BadControl fault)
 
 -- a message after the hello
-abbrev pub said_later : ℕ → ℕ → Option HouseReply → Result Control BadControl → Outcome
-said_later pid k given (Ok c) = later_control pid k given c
-said_later pid k given (Err fault) = later_unread fault
+abbrev pub sent_later : ℕ → ℕ → Option HouseReply → Result Control BadControl → Outcome
+sent_later pid k given (Ok c) = later_control pid k given c
+sent_later pid k given (Err fault) = later_unread fault
 
 -- ---- a body
 
 -- a body, before or after the hello
-abbrev pub said_body : ℕ → ℕ → Option HouseReply → Bool → List ℕ → Outcome
-said_body pid k given has_greeted body = elim has_greeted [
-  | true ↦ said_later pid k given (read_control body)
-  | false ↦ said_first (read_control body)
+abbrev pub sent_body : ℕ → ℕ → Option HouseReply → Bool → List ℕ → Outcome
+sent_body pid k given has_greeted body = elim has_greeted [
+  | true ↦ sent_later pid k given (read_control body)
+  | false ↦ sent_first (read_control body)
 ]
 
 -- whether a body asks the house
@@ -142,7 +142,7 @@ body_stops body = elim (read_control body) [ Err fault ↦ false | Ok c ↦ is_s
 -- ---- what the house replies later
 
 -- a saying behind which the client speaks to the server
-abbrev pub proxies_by : Saying → Bool
+abbrev pub proxies_by : Outgoing → Bool
 proxies_by (Body body) = body_proxies body
 proxies_by (Payload p) = true
 proxies_by (BadFraming fault) = false
@@ -151,13 +151,13 @@ proxies_by (BadFraming fault) = false
 abbrev pub in_proxy : List Row → Bool
 in_proxy [] = false
 in_proxy (row ∷ before) = elim row.item [
-  | Says k saying given ↦ proxies_by saying
+  | Says k outgoing given ↦ proxies_by outgoing
   | _ ↦ in_proxy before
 ]
 
 -- the reply to an ask, as a frame; a port is told only of an ask that opens
-abbrev pub house_says : List Row → ℕ → HouseReply → Outcome
-house_says own id given = elim (in_proxy own) [
+abbrev pub house_sends : List Row → ℕ → HouseReply → Outcome
+house_sends own id given = elim (in_proxy own) [
   | true ↦ silent
   | false ↦ answers_ask true id (Some given)
 ]

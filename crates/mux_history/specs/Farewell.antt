@@ -4,7 +4,7 @@ use Rattle.ssh_grammar.specs.declared.side.Side.TheVariants.{Up}
 use Rattle.ssh_grammar.specs.declared.numbers.TheConstants.{CONNECT_FAILED}
 use Rattle.ssh_grammar.specs.Messages.{Key, Global, Forward, Cancel}
 use Rattle.ssh_grammar.specs.SpellMessage.{close, open_failure, cancel_forward, client_is_gone}
-use Rattle.mux_history.specs.Gist.{Gist, Succeeds, Refuses, Confirmation}
+use Rattle.mux_history.specs.Summary.{Summary, Succeeds, Refuses, Confirmation}
 use Rattle.mux_history.specs.Rows.{Row, any_of, is_lost, is_admit}
 use Rattle.mux_history.specs.Channels.{Channel, held_of, is_confirmed, is_up, any_by, is_closes, is_held}
 use Rattle.mux_history.specs.Requests.{Ask, asks, replies, asker}
@@ -65,7 +65,7 @@ with_ask (Some a) f = f a.what
 -- what a message for a lost client sends up, after the client's rows before it: CLOSE after a
 -- confirmation, a cancel without reply after a success of its forwarding request or a failure of
 -- its cancel
-abbrev pub late : Gist → List Row → List (List ℕ)
+abbrev pub late : Summary → List Row → List (List ℕ)
 late (Confirmation n s w m) own = close s ∷ []
 late (Succeeds rest) own = with_ask (asker own) (late_success rest)
 late Refuses own = with_ask (asker own) late_refusal

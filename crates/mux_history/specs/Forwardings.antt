@@ -4,7 +4,7 @@
 use Rattle.std.specs.Prelude.{ℕ, ◌==◌, List, [], ◌∷◌, ◌++◌, Option, Some, None, Bool, true, false, not, ◌&&◌, length, map, filter, find, is_none}
 use Rattle.ssh_grammar.specs.Messages.{Key, Forward, Cancel}
 use Rattle.ssh_grammar.specs.Said.{Payload}
-use Rattle.mux_history.specs.Gist.{Gist, Requests, Succeeds, Refuses, reading}
+use Rattle.mux_history.specs.Summary.{Summary, Requests, Succeeds, Refuses, reading}
 use Rattle.mux_history.specs.Rows.{Row, rows_of, loses, Says, Heard}
 use Rattle.mux_history.specs.Channels.{is_number}
 use Rattle.mux_history.specs.Keys.{has_key, bound}
@@ -27,7 +27,7 @@ is_request f place = (f.request == place) && is_none f.live
 -- the reply to the request at a place: a success makes live what was asked there and ends what was
 -- to be cancelled there; a refusal ends what was asked there and leaves what was to be cancelled
 -- there
-abbrev pub replied : ℕ → Gist → Forwarding → Forwarding
+abbrev pub replied : ℕ → Summary → Forwarding → Forwarding
 replied place (Succeeds rest) f = elim (is_request f place) [
   | true ↦ record f { live = Some (bound f.key rest) }
   | false ↦ elim (is_number f.cancel place) [ true ↦ record f { over = true } | false ↦ f ]
@@ -57,7 +57,7 @@ change_first test change (f ∷ fs) = elim (test f) [
 ]
 
 -- what a client's request that is sent makes of the forwardings
-abbrev pub requested : ℕ → ℕ → Gist → List Forwarding → List Forwarding
+abbrev pub requested : ℕ → ℕ → Summary → List Forwarding → List Forwarding
 requested k place (Requests (Forward key) wants) fs =
     fs ++ record {
       client = k;
@@ -79,7 +79,7 @@ of_client k change f = elim (f.client == k) [ true ↦ change f | false ↦ f ]
 -- the forwardings after what one more row says; `own` are the rows of its client before it
 abbrev pub forwarded : Row → List Row → List Forwarding → List Forwarding
 forwarded row own fs = elim row.item [
-  | Says k saying reply ↦ elim saying [
+  | Says k outgoing reply ↦ elim outgoing [
     | Payload p ↦ elim (is_sent row) [
       | true ↦ reading p (λ m. requested row.client (length (asks own)) m fs) fs
       | false ↦ fs

@@ -10,7 +10,7 @@ use Rattle.mux_history.specs.declared.broke.Break.{Break}
 use Rattle.mux_history.specs.declared.broke.Break.TheVariants as broke
 use Rattle.mux_history.specs.declared.ended.Ended.{Ended}
 use Rattle.mux_history.specs.declared.ended.Ended.TheVariants as ended
-use Rattle.mux_history.specs.Gist.{Gist, Transport, Requests, Succeeds, Refuses, Open, Confirmation, Within, Act, Fails, read_gist}
+use Rattle.mux_history.specs.Summary.{Summary, Transport, Requests, Succeeds, Refuses, Open, Confirmation, Within, Act, Fails, read_summary}
 use Rattle.mux_history.specs.Rows.{Row, is_lost, Item, Heard, Goes, End}
 use Rattle.mux_history.specs.Channels.{Channel, held_of, holder, live_in, is_confirmed, is_up}
 use Rattle.mux_history.specs.Ledger.{breach}
@@ -18,7 +18,7 @@ use Rattle.mux_history.specs.Requests.{Ask, asker}
 use Rattle.mux_history.specs.Keys.{learns_port}
 use Rattle.mux_history.specs.Forwardings.{live_at}
 use Rattle.mux_history.specs.Farewell.{late}
-use Rattle.mux_history.specs.Said.{Outcome, silent, sends, tells}
+use Rattle.mux_history.specs.Said.{Outcome, silent, sends, records}
 
 -- ---- where a payload goes: this alone looks at all rows
 
@@ -91,24 +91,24 @@ dest_within rows n act = elim (holder rows n) [
 ]
 
 -- where a message goes
-abbrev pub dest_gist : List Row → Gist → Dest
-dest_gist rows (Transport number) =
+abbrev pub dest_summary : List Row → Summary → Dest
+dest_summary rows (Transport number) =
     elim (number == DISCONNECT) [ true ↦ Disconnects | false ↦ ToMaster ]
-dest_gist rows (Requests what wants) = ToMaster
-dest_gist rows (Succeeds rest) = dest_asker (asker rows) (dest_success rest)
-dest_gist rows Refuses = dest_asker (asker rows) (λ a. ToClient a.client)
-dest_gist rows (Open what s window maximum) = dest_open rows s what
-dest_gist rows (Confirmation n s window maximum) = dest_confirmation rows n s
-dest_gist rows (Within n act) = dest_within rows n act
+dest_summary rows (Requests what wants) = ToMaster
+dest_summary rows (Succeeds rest) = dest_asker (asker rows) (dest_success rest)
+dest_summary rows Refuses = dest_asker (asker rows) (λ a. ToClient a.client)
+dest_summary rows (Open what s window maximum) = dest_open rows s what
+dest_summary rows (Confirmation n s window maximum) = dest_confirmation rows n s
+dest_summary rows (Within n act) = dest_within rows n act
 
 -- where a payload goes
 abbrev pub dest : List Row → List ℕ → Dest
-dest rows p = elim (read_gist p) [ Err bad ↦ Breaks (broke.Message bad) | Ok m ↦ dest_gist rows m ]
+dest rows p = elim (read_summary p) [ Err bad ↦ Breaks (broke.Message bad) | Ok m ↦ dest_summary rows m ]
 
 -- ---- what it gives, after the rows of the client that it goes to
 
 -- what the master answers itself
-abbrev pub for_master : Gist → Outcome
+abbrev pub for_master : Summary → Outcome
 for_master (Requests what true) = sends request_failure
 for_master (Open what s window maximum) =
     sends (open_failure s ADMINISTRATIVELY_PROHIBITED not_permitted)
@@ -125,46 +125,46 @@ renamed own p None = p
 renamed own p (Some n) = with_recipient p (own_number (holder own n))
 
 -- of a client that is not lost; replies are given by the row's answers
-abbrev pub for_client : List Row → List ℕ → Gist → Outcome
+abbrev pub for_client : List Row → List ℕ → Summary → Outcome
 for_client own p (Open what s window maximum) = elim (nat_lt (length (held_of own)) MAX_CHANNELS) [
-  | true ↦ tells (frame_payload p)
+  | true ↦ records (frame_payload p)
   | false ↦ sends (open_failure s RESOURCE_SHORTAGE too_many_channels)
 ]
-for_client own p (Confirmation n s w m) = tells (frame_payload (renamed own p (Some n)))
-for_client own p (Within n act) = tells (frame_payload (renamed own p (Some n)))
+for_client own p (Confirmation n s w m) = records (frame_payload (renamed own p (Some n)))
+for_client own p (Within n act) = records (frame_payload (renamed own p (Some n)))
 for_client own p _ = silent
 
 -- of a client that is lost
-abbrev pub for_lost : List Row → Gist → Outcome
-for_lost own m = record { sent = late m own; told = []; ends = Goes }
+abbrev pub for_lost : List Row → Summary → Outcome
+for_lost own m = record { sent = late m own; recorded = []; ends = Goes }
 
 -- what a message gives its client
-abbrev pub heard_gist : List Row → List ℕ → Gist → Outcome
-heard_gist own p m = elim (is_lost own) [ true ↦ for_lost own m | false ↦ for_client own p m ]
+abbrev pub received_summary : List Row → List ℕ → Summary → Outcome
+received_summary own p m = elim (is_lost own) [ true ↦ for_lost own m | false ↦ for_client own p m ]
 
 -- what a payload gives its client
-abbrev pub heard_for : List Row → List ℕ → Outcome
-heard_for own p = elim (read_gist p) [ Err bad ↦ silent | Ok m ↦ heard_gist own p m ]
+abbrev pub received_for : List Row → List ℕ → Outcome
+received_for own p = elim (read_summary p) [ Err bad ↦ silent | Ok m ↦ received_summary own p m ]
 
 -- what a payload gives that goes to the master
-abbrev pub heard_master : List ℕ → Outcome
-heard_master p = elim (read_gist p) [ Err bad ↦ silent | Ok m ↦ for_master m ]
+abbrev pub received_master : List ℕ → Outcome
+received_master p = elim (read_summary p) [ Err bad ↦ silent | Ok m ↦ for_master m ]
 
 -- nothing but the end
 abbrev pub finishes : Ended → Outcome
-finishes cause = record { sent = []; told = []; ends = End cause }
+finishes cause = record { sent = []; recorded = []; ends = End cause }
 
 -- ---- breaks
 
 -- a payload of the server
-abbrev pub is_heard : Item → Bool
-is_heard (Heard p) = true
-is_heard _ = false
+abbrev pub is_received : Item → Bool
+is_received (Heard p) = true
+is_received _ = false
 
 -- the place of the server's next frame, counted from 1
 abbrev pub next_index : List Row → ℕ
 next_index [] = 1
-next_index (row ∷ before) = elim (is_heard row.item) [
+next_index (row ∷ before) = elim (is_received row.item) [
   | true ↦ next_index before + 1
   | false ↦ next_index before
 ]

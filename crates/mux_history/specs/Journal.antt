@@ -9,7 +9,7 @@ use Rattle.mux_outside.specs.declared.house_mark.HouseMark.TheVariants.{HouseIn,
 use Rattle.mux_outside.specs.declared.order.Order.TheVariants.{Connect}
 use Rattle.mux_outside.specs.declared.own_streams.TheConstants.{LAST_CLIENT}
 use Rattle.ssh_fields.specs.Fields.{AreBytes}
-use Rattle.ssh_grammar.specs.Said.{Saying, Body, Payload, BadFraming, said, InProxy, parse}
+use Rattle.ssh_grammar.specs.Said.{Outgoing, Body, Payload, BadFraming, said, InProxy, parse}
 use Rattle.mux_history.specs.Rows.{Item, Admit, Says, HouseSays, Gone, Heard, BadServer, ServerEnd, ServerCut, ServerFailed, Took, Row}
 use Rattle.mux_history.specs.declared.limits.TheConstants.{HOUSE}
 use Rattle.mux_history.specs.Log.{Setting, more_all}
@@ -21,14 +21,14 @@ abbrev pub is_own_stream : ℕ → Bool
 is_own_stream t = is_own t && not (t == HOUSE)
 
 -- the bytes that the house said at a mark, as a client
-abbrev pub house_said : HouseMark → List ℕ
-house_said (HouseSaid bytes) = bytes
-house_said _ = []
+abbrev pub house_sent : HouseMark → List ℕ
+house_sent (HouseSaid bytes) = bytes
+house_sent _ = []
 
 -- the bytes that a stream gave at a mark, or the house as a client
 abbrev pub bytes_in : ℕ → Mark → List ℕ
 bytes_in t (Gets stream bytes) = elim (stream == t) [ true ↦ bytes | false ↦ [] ]
-bytes_in t (House mark) = elim (HOUSE == t) [ true ↦ house_said mark | false ↦ [] ]
+bytes_in t (House mark) = elim (HOUSE == t) [ true ↦ house_sent mark | false ↦ [] ]
 bytes_in t _ = []
 
 -- all bytes that a stream gave, in order
@@ -66,23 +66,23 @@ is_blocked t (mark ∷ before) = is_blocked t before
 -- ---- items
 
 -- one thing that a client says
-abbrev pub said_item : ℕ → Saying → Item
-said_item k saying = Says k saying None
+abbrev pub sent_item : ℕ → Outgoing → Item
+sent_item k outgoing = Says k outgoing None
 
 -- what a client says by its new bytes: by position, so that what is said twice counts twice
 abbrev pub new_sayings : ℕ → List ℕ → List ℕ → List Item
-new_sayings k before after = map (said_item k) (drop (length (said before)) (said after))
+new_sayings k before after = map (sent_item k) (drop (length (said before)) (said after))
 
 -- one thing that the server says
-abbrev pub heard_item : Saying → Item
-heard_item (Body body) = Heard body
-heard_item (Payload p) = Heard p
-heard_item (BadFraming fault) = BadServer fault
+abbrev pub received_item : Outgoing → Item
+received_item (Body body) = Heard body
+received_item (Payload p) = Heard p
+received_item (BadFraming fault) = BadServer fault
 
 -- the same of the server: a frame that is none is told once, since nothing is read after it
-abbrev pub new_heard : List ℕ → List ℕ → List Item
-new_heard before after =
-    map heard_item (drop (length (parse InProxy before).says) (parse InProxy after).says)
+abbrev pub new_received : List ℕ → List ℕ → List Item
+new_received before after =
+    map received_item (drop (length (parse InProxy before).says) (parse InProxy after).says)
 
 -- the end of the server's stream, after the bytes that are left
 abbrev pub server_end : List ℕ → Item
@@ -107,7 +107,7 @@ unless_own stream items = elim (is_own_stream stream) [ true ↦ [] | false ↦ 
 abbrev pub items_in : List Mark → Mark → List Item
 items_in before (Accepts k) = Admit k ∷ []
 items_in before (Gets stream bytes) = elim (is_server stream) [
-  | true ↦ new_heard (bytes_of 0 before) (bytes_of 0 before ++ bytes)
+  | true ↦ new_received (bytes_of 0 before) (bytes_of 0 before ++ bytes)
   | false ↦ unless_own stream
       (new_sayings stream (bytes_of stream before) (bytes_of stream before ++ bytes))
 ]
@@ -140,8 +140,8 @@ log_of_journal setting (mark ∷ before) =
 
 -- what a wire told at first, and what it tells after these marks: a wire's list has the oldest mark
 -- first
-abbrev pub Tells : Option (List Mark) → Option (List Mark) → List Mark → Type 0
-Tells start now marks = now ≡ option_map (λ told. told ++ reverse marks) start
+abbrev pub Records : Option (List Mark) → Option (List Mark) → List Mark → Type 0
+Records start now marks = now ≡ option_map (λ recorded. recorded ++ reverse marks) start
 
 -- ---- lawful journals: what any wire can give
 

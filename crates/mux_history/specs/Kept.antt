@@ -12,13 +12,13 @@ use Rattle.ssh_grammar.specs.Frames.{frame_payload}
 use Rattle.mux_history.specs.declared.limits.TheConstants.{MAX_CHANNELS, MAX_FORWARDINGS, MAX_QUEUE}
 use Rattle.mux_history.specs.declared.why.Why.{Why}
 use Rattle.mux_history.specs.declared.why.Why.TheVariants.{QueueFull}
-use Rattle.mux_history.specs.Gist.{Carries, Confirmation, Fails, Gist, Open, Requests, Within, read_gist, reading}
+use Rattle.mux_history.specs.Summary.{Carries, Confirmation, Fails, Summary, Open, Requests, Within, read_summary, reading}
 use Rattle.mux_history.specs.Rows.{Row, rows_of, any_of, sent_by, is_lost, is_end, Heard, Says, Fate, Goes, Refused, Drop, End}
 use Rattle.mux_history.specs.Channels.{Channel, held_of, holder, is_number, own_of, with_own}
 use Rattle.mux_history.specs.Ledger.{breach, room, maximum_of}
 use Rattle.mux_history.specs.Pending.{joined, waiting_down}
 use Rattle.mux_history.specs.Requests.{answers, asker, is_reply}
-use Rattle.mux_history.specs.Controls.{is_says}
+use Rattle.mux_history.specs.Controls.{is_sends}
 use Rattle.mux_history.specs.Keys.{is_askable}
 use Rattle.mux_history.specs.Policy.{Policy, permits}
 use Rattle.mux_history.specs.Farewell.{late}
@@ -44,12 +44,12 @@ Every P [] = Unit {0}
 Every P (p ∷ ps) = P p × Every P ps
 
 -- a fact of what each payload says, where it reads
-abbrev pub EachSays : (Gist → Type 0) → List (List ℕ) → Type 0
-EachSays P payloads = Every (λ p. (m : Gist) → read_gist p ≡ Ok m → P m) payloads
+abbrev pub EachSends : (Summary → Type 0) → List (List ℕ) → Type 0
+EachSends P payloads = Every (λ p. (m : Summary) → read_summary p ≡ Ok m → P m) payloads
 
 -- the same of what each frame holds: the payload stands behind the five bytes of its header
-abbrev pub EachTells : (Gist → Type 0) → List (List ℕ) → Type 0
-EachTells P frames = Every (λ frame. (m : Gist) → read_gist (drop 5 frame) ≡ Ok m → P m) frames
+abbrev pub EachRecords : (Summary → Type 0) → List (List ℕ) → Type 0
+EachRecords P frames = Every (λ frame. (m : Summary) → read_summary (drop 5 frame) ≡ Ok m → P m) frames
 
 -- ---- Sent for it: the payloads that were sent for a client, in order
 
@@ -65,56 +65,56 @@ Fits way size None = ⊥
 Fits way size (Some x) = (size ≤ room way x) × (size ≤ maximum_of way x)
 
 -- of what goes up, from the client's rows before it
-abbrev pub UpFits : List Row → Gist → Type 0
+abbrev pub UpFits : List Row → Summary → Type 0
 UpFits own (Within s (Carries size)) = Fits Up size (confirmed_at own s)
 UpFits own m = Unit {0}
 
 -- of what goes down, from the client's rows before it
-abbrev pub DownFits : List Row → Gist → Type 0
+abbrev pub DownFits : List Row → Summary → Type 0
 DownFits own (Within c (Carries size)) = Fits Down size (with_own own c)
 DownFits own m = Unit {0}
 
 -- data in a row fits
 pub record Window (before : List Row) (row : Row) : Type 0 where
-  pub up : EachSays (UpFits (rows_of row.client before)) (sent_by row)
-  pub down : EachTells (DownFits (rows_of row.client before)) row.down
+  pub up : EachSends (UpFits (rows_of row.client before)) (sent_by row)
+  pub down : EachRecords (DownFits (rows_of row.client before)) row.down
 
 -- ---- Permission: no forwarding passes its permission list, and each forwarded open meets a live
 -- forwarding
 
 -- a direct channel and a forwarding that is asked are on their lists, be it by address and port or
 -- by path
-abbrev pub IsPermitted : Policy → Gist → Type 0
+abbrev pub IsPermitted : Policy → Summary → Type 0
 IsPermitted policy (Open (Direct key) c window maximum) = permits policy.opens key ≡ true
 IsPermitted policy (Requests (Forward key) wants) = permits policy.listens key ≡ true
 IsPermitted policy m = Unit {0}
 
 -- a forwarded open is for the client of the earliest live forwarding of its key
-abbrev pub MeetsLive : List Row → ℕ → Gist → Type 0
+abbrev pub MeetsLive : List Row → ℕ → Summary → Type 0
 MeetsLive before k (Open (Forwarded key) s window maximum) =
     option_map (λ f. f.client) (live_at before key) ≡ Some k
 MeetsLive before k m = Unit {0}
 
 -- what a row sends and tells is permitted
 pub record Permission (policy : Policy) (before : List Row) (row : Row) : Type 0 where
-  pub up : EachSays (IsPermitted policy) (sent_by row)
-  pub down : EachTells (MeetsLive before row.client) row.down
+  pub up : EachSends (IsPermitted policy) (sent_by row)
+  pub down : EachRecords (MeetsLive before row.client) row.down
 
 -- ---- a full queue: the one cause for which what the server says drops a client
 
 -- the next frame does not fit behind what waited and what was told: the bytes that wait then, and
 -- its length
 abbrev pub IsFull : ℕ → List (List ℕ) → Why → Type 0
-IsFull waited told (QueueFull have want) =
-    (have ≡ waited + length (joined told)) × (MAX_QUEUE < have + want)
-IsFull waited told _ = ⊥
+IsFull waited recorded (QueueFull have want) =
+    (have ≡ waited + length (joined recorded)) × (MAX_QUEUE < have + want)
+IsFull waited recorded _ = ⊥
 
 -- the client and the run go on; or the run ends; or the client is dropped since its queue is full
 abbrev pub GoesUnlessFull : ℕ → List (List ℕ) → Fate → Type 0
-GoesUnlessFull waited told Goes = Unit {0}
-GoesUnlessFull waited told Refused = ⊥
-GoesUnlessFull waited told (Drop cause) = IsFull waited told cause
-GoesUnlessFull waited told (End cause) = Unit {0}
+GoesUnlessFull waited recorded Goes = Unit {0}
+GoesUnlessFull waited recorded Refused = ⊥
+GoesUnlessFull waited recorded (Drop cause) = IsFull waited recorded cause
+GoesUnlessFull waited recorded (End cause) = Unit {0}
 
 -- of a row of what the server says
 abbrev pub DropsIfFull : List Row → Row → Type 0
@@ -132,21 +132,21 @@ ReachesAsker before row =
 
 -- it stands first in what the row tells, before the refusals that waited behind it, and these are
 -- the client's next answers, in the order of its requests
-pub record TellsNext (own : List Row) (row : Row) (p : List ℕ) : Type 0 where
+pub record RecordsNext (own : List Row) (row : Row) (p : List ℕ) : Type 0 where
   pub refusals : ℕ
-  pub told : row.down ≡ frame_payload p ∷ replicate refusals (frame_payload request_failure)
+  pub recorded : row.down ≡ frame_payload p ∷ replicate refusals (frame_payload request_failure)
   pub in_order : answers (row ∷ own) ≡ answers own ++ (p ∷ replicate refusals request_failure)
 
 -- unless the client was lost before, or is dropped by this row since its queue is full
-abbrev pub TellsReply : List Row → Row → Type 0
-TellsReply before row =
+abbrev pub RecordsReply : List Row → Row → Type 0
+RecordsReply before row =
     (p : List ℕ) → row.item ≡ Heard p → reading p is_reply false ≡ true → row.fate ≡ Goes
-    → is_lost (rows_of row.client before) ≡ false → TellsNext (rows_of row.client before) row p
+    → is_lost (rows_of row.client before) ≡ false → RecordsNext (rows_of row.client before) row p
 
 -- a reply in a row is its asker's
 pub record Asker (before : List Row) (row : Row) : Type 0 where
   pub reaches : ReachesAsker before row
-  pub tells : TellsReply before row
+  pub records : RecordsReply before row
   pub full : DropsIfFull before row
 
 -- ---- Delivers: what the server says to a channel or a forwarding reaches its client
@@ -159,24 +159,24 @@ pub record ReachesChannel (before : List Row) (row : Row) (p : List ℕ) (n : �
   pub client : row.client ≡ channel.client
   pub number : ℕ
   pub named : channel.own ≡ Some number
-  pub told : is_lost (rows_of row.client before) ≡ false → row.fate ≡ Goes
+  pub recorded : is_lost (rows_of row.client before) ≡ false → row.fate ≡ Goes
       → row.down ≡ frame_payload (with_recipient p number) ∷ []
 
 -- where the client has 256 channels, a server's open fails in place of being told
 pub record FailsOpen (row : Row) (s : ℕ) : Type 0 where
-  pub told : row.down ≡ []
+  pub recorded : row.down ≡ []
   pub sent : row.up ≡ open_failure s RESOURCE_SHORTAGE too_many_channels ∷ []
 
 -- an open for a forwarding that is live is its client's: it is told as it came, or fails there
 pub record ReachesForwarding (before : List Row) (row : Row) (p : List ℕ) (s : ℕ)
     (forwarding : Forwarding) : Type 0 where
   pub client : row.client ≡ forwarding.client
-  pub told : is_lost (rows_of row.client before) ≡ false → row.fate ≡ Goes
+  pub recorded : is_lost (rows_of row.client before) ≡ false → row.fate ≡ Goes
       → MatchBool (nat_lt (length (held_of (rows_of row.client before))) MAX_CHANNELS)
       (row.down ≡ frame_payload p ∷ []) (FailsOpen row s)
 
 -- by what the payload says
-abbrev pub Reaches : List Row → Row → List ℕ → Gist → Type 0
+abbrev pub Reaches : List Row → Row → List ℕ → Summary → Type 0
 Reaches before row p (Open (Forwarded key) s window maximum) =
     (f : Forwarding) → live_at before key ≡ Some f → ReachesForwarding before row p s f
 Reaches before row p (Confirmation n s window maximum) = ReachesChannel before row p n
@@ -185,15 +185,15 @@ Reaches before row p m = Unit {0}
 
 -- a client that was lost before is told nothing; what goes up then undoes what the server confirms
 -- or replies
-pub record LeavesLate (own : List Row) (row : Row) (m : Gist) : Type 0 where
-  pub told : row.down ≡ []
+pub record LeavesLate (own : List Row) (row : Row) (m : Summary) : Type 0 where
+  pub recorded : row.down ≡ []
   pub sent : row.up ≡ late m own
 
 -- unless the run ends; and nothing that the server says drops a client but a full queue
 pub record Delivers (before : List Row) (row : Row) : Type 0 where
-  pub reaches : (p : List ℕ) (m : Gist) → row.item ≡ Heard p → read_gist p ≡ Ok m
+  pub reaches : (p : List ℕ) (m : Summary) → row.item ≡ Heard p → read_summary p ≡ Ok m
       → is_end row.fate ≡ false → Reaches before row p m
-  pub lost : (p : List ℕ) (m : Gist) → row.item ≡ Heard p → read_gist p ≡ Ok m → row.client ≢ 0
+  pub lost : (p : List ℕ) (m : Summary) → row.item ≡ Heard p → read_summary p ≡ Ok m → row.client ≢ 0
       → is_lost (rows_of row.client before) ≡ true → LeavesLate (rows_of row.client before) row m
   pub full : DropsIfFull before row
 
@@ -222,7 +222,7 @@ MustAsk own ups p wants = is_full_of_asks wants own ≡ false → ups ≡ p ∷ 
 -- than 64 are asked or live; a cancel of one that is live, and a keepalive; a confirmation or
 -- failure of a server's open that waits for it; and every other message to a confirmed channel
 -- whose account allows it
-abbrev pub MustGoUp : Policy → ℕ → List Row → List (List ℕ) → List ℕ → Gist → Type 0
+abbrev pub MustGoUp : Policy → ℕ → List Row → List (List ℕ) → List ℕ → Summary → Type 0
 MustGoUp policy k own ups p (Open Session c window maximum) = MustOpen own ups p c
 MustGoUp policy k own ups p (Open (Direct key) c window maximum) =
     permits policy.opens key ≡ true → MustOpen own ups p c
@@ -246,8 +246,8 @@ pub record Passes (policy : Policy) (before : List Row) (row : Row) : Type 0 whe
       → row.item ≡ Says k (Payload p) given → row.client ≡ k
   pub unchanged : (k : ℕ) (p : List ℕ) (given : Option HouseReply)
       → row.item ≡ Says k (Payload p) given → GoesUp row.up p (own_of row.item)
-  pub must : (k : ℕ) (p : List ℕ) (given : Option HouseReply) (m : Gist)
-      → row.item ≡ Says k (Payload p) given → read_gist p ≡ Ok m
+  pub must : (k : ℕ) (p : List ℕ) (given : Option HouseReply) (m : Summary)
+      → row.item ≡ Says k (Payload p) given → read_summary p ≡ Ok m
       → MustGoUp policy k (rows_of k before) row.up p m
 
 -- ---- The master's own words: all that it sends that no client said
@@ -280,7 +280,7 @@ IsMasters p = (word : OwnWord) × (p ≡ spelled_word word)
 pub record OwnWords (before : List Row) (row : Row) : Type 0 where
   pub farewell : Every IsMasters row.farewell
   pub up : row.client ≡ 0 → Every IsMasters row.up
-  pub unsaid : is_says row.item ≡ false → Every IsMasters row.up
+  pub unsaid : is_sends row.item ≡ false → Every IsMasters row.up
 
 -- ---- Numbers: none is held by two channels, and none of the server's is live in two
 

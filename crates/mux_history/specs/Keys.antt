@@ -11,8 +11,8 @@ is_key (Path a) (Path b) = bytes_eq a b
 is_key _ _ = false
 
 -- the test passes for the same key alone; an address and a path with the same bytes are two
-abbrev pub KeysAreToldApart : Type 0
-KeysAreToldApart = (a b : Key) → (is_key a b ≡ true → a ≡ b) × (a ≡ b → is_key a b ≡ true)
+abbrev pub KeysAreRecordedApart : Type 0
+KeysAreRecordedApart = (a b : Key) → (is_key a b ≡ true → a ≡ b) × (a ≡ b → is_key a b ≡ true)
 
 -- a key that is there, and is this one
 abbrev pub has_key : Option Key → Key → Bool

@@ -5,7 +5,7 @@ use Rattle.mux_outside.specs.OwnStreams.{is_own}
 use Rattle.mux_outside.specs.declared.mark.Mark.{Mark}
 use Rattle.mux_outside.specs.declared.house.HouseReply.{HouseReply}
 use Rattle.ssh_grammar.specs.declared.side.Side.{Side}
-use Rattle.mux_history.specs.Gist.{Act, Carries, Grants}
+use Rattle.mux_history.specs.Summary.{Act, Carries, Grants}
 use Rattle.mux_history.specs.Policy.{Policy}
 use Rattle.mux_history.specs.Rows.{Row, rows_of, Item, Says, HouseSays, Gone, Heard, Took}
 use Rattle.mux_history.specs.Heard.{ToClient, dest}
@@ -15,7 +15,7 @@ use Rattle.mux_history.specs.Ledger.{answered, asked, carried, granted, initial,
 use Rattle.mux_history.specs.Requests.{asks, answers}
 use Rattle.mux_history.specs.Forwardings.{forwardings_of}
 use Rattle.mux_history.specs.Said.{confirmed_at, waiting_at}
-use Rattle.mux_history.specs.Log.{Setting, treat, heard_row}
+use Rattle.mux_history.specs.Log.{Setting, treat, received_row}
 use Rattle.mux_history.specs.Journal.{taken_by, log_of_journal, IsLawful}
 use Rattle.mux_history.specs.Promises.{Throughout, TakesFront, IsCut}
 use Rattle.mux_history.specs.Right.{AreFresh, IsRight, TakesPick}
@@ -45,7 +45,7 @@ LookUpsAreLocal = (k : ℕ) (rows : List Row) → IsLocal k rows
 -- an item of this client alone: what it says, what the house replies it, its end, and what it
 -- takes
 abbrev pub IsOf : ℕ → Item → Type 0
-IsOf k (Says j saying given) = j ≡ k
+IsOf k (Says j outgoing given) = j ≡ k
 IsOf k (HouseSays j id given) = j ≡ k
 IsOf k (Gone j) = j ≡ k
 IsOf k (Took j size) = j ≡ k
@@ -56,7 +56,7 @@ pub record RowsAreLocal (policy : Policy) (pid pick k : ℕ) (rows : List Row) :
   pub own : (item : Item) → IsOf k item → treat policy pid pick rows item
       ≡ treat policy pid pick (rows_of k rows) item
   pub heard : (p : List ℕ) → dest rows p ≡ ToClient k → treat policy pid pick rows (Heard p)
-      ≡ heard_row (rows_of k rows) p (ToClient k)
+      ≡ received_row (rows_of k rows) p (ToClient k)
 
 -- of every client and every log
 abbrev pub Locality : Type 0

@@ -6,7 +6,7 @@ use Rattle.ssh_grammar.specs.declared.side.Side.TheVariants.{Up, Down}
 use Rattle.ssh_grammar.specs.declared.fault.Breach.{Breach}
 use Rattle.ssh_grammar.specs.declared.fault.Breach.TheVariants.{NotOpen, AfterClose, AfterEof, PastPacket, PastWindow, Overflow, Unasked, TooManyAsks}
 use Rattle.mux_history.specs.declared.limits.TheConstants.{MAX_CHANNEL_REQUESTS, MAX_WINDOW}
-use Rattle.mux_history.specs.Gist.{Act, Confirms, Grants, Carries, Ends, Asks, Answers}
+use Rattle.mux_history.specs.Summary.{Act, Confirms, Grants, Carries, Ends, Asks, Answers}
 use Rattle.mux_history.specs.Channels.{Channel, same_side, any_by, is_closes, is_ends, is_confirmed}
 
 -- the direction back

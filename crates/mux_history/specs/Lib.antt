@@ -1,4 +1,4 @@
-pub mod Gist
+pub mod Summary
 pub mod Rows
 pub mod PlainRows
 pub mod Pending

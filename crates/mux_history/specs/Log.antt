@@ -7,20 +7,20 @@ pub use Rattle.mux_history.specs.Treat.{
   bare,
   new_answers,
   goes,
-  all_told,
+  all_recorded,
   fitting,
   overflow,
   fate_with,
   queued,
   with_farewell,
   row_of,
-  said_by_client,
+  sent_by_client,
   entered,
   matters_of,
   open_matters,
   served,
   admits,
-  heard_row,
+  received_row,
   treat,
 }
 
@@ -28,7 +28,7 @@ pub use Rattle.mux_history.specs.Treat.{
 
 -- what is taken makes a row always; items of a client that is out make none
 abbrev pub makes_row : List Row → Item → Bool
-makes_row rows (Says k saying given) = not (is_out (rows_of k rows))
+makes_row rows (Says k outgoing given) = not (is_out (rows_of k rows))
 makes_row rows (HouseSays k id given) = not (is_out (rows_of k rows))
 makes_row rows (Gone k) = not (is_out (rows_of k rows))
 makes_row rows (RunEnd cause) = false

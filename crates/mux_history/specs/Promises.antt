@@ -133,7 +133,7 @@ Settled setting marks = (t : ℕ) → is_own t ≡ false → IsSettled setting m
 abbrev pub stops : Row → List Row → Bool
 stops row own =
     goes row.fate && elim row.item [
-      | Says k saying given ↦ elim saying [
+      | Says k outgoing given ↦ elim outgoing [
         | Body body ↦ greeted own && body_stops body
         | _ ↦ false
       ]

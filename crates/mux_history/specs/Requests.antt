@@ -3,7 +3,7 @@ use Rattle.std.specs.Prelude.{ℕ, ◌-◌, List, [], ◌∷◌, ◌++◌, Optio
 use Rattle.ssh_grammar.specs.Messages.{Global}
 use Rattle.ssh_grammar.specs.SpellMessage.{request_failure}
 use Rattle.ssh_grammar.specs.Said.{Payload}
-use Rattle.mux_history.specs.Gist.{Gist, Requests, Succeeds, Refuses, reading}
+use Rattle.mux_history.specs.Summary.{Summary, Requests, Succeeds, Refuses, reading}
 use Rattle.mux_history.specs.Rows.{Row, Item, Says, Heard}
 
 -- a request that was sent and wants a reply
@@ -12,14 +12,14 @@ pub record Ask : Type 0 where
   pub what : Global
 
 -- a request that wants a reply
-abbrev pub wanted_in : Gist → Option Global
+abbrev pub wanted_in : Summary → Option Global
 wanted_in (Requests what true) = Some what
 wanted_in _ = None
 
 -- the wanted request that a row's client says
 abbrev pub wanted_by : Row → Option Global
 wanted_by row = elim row.item [
-  | Says k saying reply ↦ elim saying [ Payload p ↦ reading p wanted_in None | _ ↦ None ]
+  | Says k outgoing reply ↦ elim outgoing [ Payload p ↦ reading p wanted_in None | _ ↦ None ]
   | _ ↦ None
 ]
 
@@ -48,7 +48,7 @@ wanted [] = []
 wanted (row ∷ before) = wanted before ++ sent_flags (is_sent row) (wanted_by row)
 
 -- a success or a failure
-abbrev pub is_reply : Gist → Bool
+abbrev pub is_reply : Summary → Bool
 is_reply (Succeeds rest) = true
 is_reply Refuses = true
 is_reply _ = false

@@ -3,17 +3,17 @@ use Rattle.std.specs.Prelude.{ℕ, ◌≡◌, ◌<◌, List, [], ◌∷◌, true
 use Rattle.mux_outside.specs.declared.mark.Mark.{Mark}
 use Rattle.mux_history.specs.declared.limits.TheConstants.{NUMBERS_END}
 use Rattle.ssh_fields.specs.Fields.{u32, u32_at}
-use Rattle.mux_history.specs.Gist.{reading, sender_of}
+use Rattle.mux_history.specs.Summary.{reading, sender_of}
 use Rattle.mux_history.specs.Rows.{Row, rows_of, any_of, is_admit}
 use Rattle.mux_history.specs.Channels.{holder}
-use Rattle.mux_history.specs.Choices.{Choices, takes_number, said_number, pick_of}
+use Rattle.mux_history.specs.Choices.{Choices, takes_number, sent_number, pick_of}
 use Rattle.mux_history.specs.Journal.{items}
 use Rattle.mux_history.specs.Log.{Setting, log_of}
 
 -- the number that a row's OPEN or CONFIRMATION carried up
 abbrev pub carried_number : List (List ℕ) → ℕ
 carried_number [] = 0
-carried_number (p ∷ ps) = said_number (reading p sender_of None)
+carried_number (p ∷ ps) = sent_number (reading p sender_of None)
 
 -- each number taken was below the bound, and no channel held it
 abbrev pub AreFresh : List Row → Type 0

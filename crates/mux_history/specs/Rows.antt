@@ -2,7 +2,7 @@
 use Rattle.std.specs.Prelude.{ℕ, ◌==◌, ◌++◌, ◌||◌, List, [], ◌∷◌, Option, Some, None, Bool, true, false, filter}
 use Rattle.mux_outside.specs.declared.house.HouseReply.{HouseReply}
 use Rattle.ssh_grammar.specs.declared.fault.BadFrame.{BadFrame}
-use Rattle.ssh_grammar.specs.Said.{Saying}
+use Rattle.ssh_grammar.specs.Said.{Outgoing}
 use Rattle.mux_history.specs.declared.why.Why.{Why}
 use Rattle.mux_history.specs.declared.ended.Ended.{Ended}
 
@@ -12,7 +12,7 @@ use Rattle.mux_history.specs.declared.ended.Ended.{Ended}
 -- client alone how the run ended.
 pub data Item : Type 0 where
   Admit : (client : ℕ) → Item
-  Says : (client : ℕ) (saying : Saying) (reply : Option HouseReply) → Item
+  Says : (client : ℕ) (outgoing : Outgoing) (reply : Option HouseReply) → Item
   HouseSays : (client id : ℕ) (reply : HouseReply) → Item
   Gone : (client : ℕ) → Item
   Heard : (payload : List ℕ) → Item

@@ -10,7 +10,7 @@ use Rattle.ssh_grammar.specs.Frames.{frame_payload}
 use Rattle.mux_history.specs.declared.limits.TheConstants.{MAX_CHANNELS, MAX_FORWARDINGS, MAX_GLOBAL_REQUESTS}
 use Rattle.mux_history.specs.declared.why.Why.{Why}
 use Rattle.mux_history.specs.declared.why.Why.TheVariants as why
-use Rattle.mux_history.specs.Gist.{Gist, Transport, Requests, Succeeds, Refuses, Open, Confirmation, Within, Act, Fails, read_gist}
+use Rattle.mux_history.specs.Summary.{Summary, Transport, Requests, Succeeds, Refuses, Open, Confirmation, Within, Act, Fails, read_summary}
 use Rattle.mux_history.specs.Rows.{Row, any_of, Fate, Goes, Drop}
 use Rattle.mux_history.specs.Channels.{Channel, held_of, is_confirmed, is_up, is_number, with_own}
 use Rattle.mux_history.specs.Ledger.{breach}
@@ -23,24 +23,24 @@ use Rattle.mux_history.specs.Forwardings.{current, is_free_at}
 -- and a fate
 pub record Outcome : Type 0 where
   pub sent : List (List ℕ)
-  pub told : List (List ℕ)
+  pub recorded : List (List ℕ)
   pub ends : Fate
 
 -- nothing
 abbrev pub silent : Outcome
-silent = record { sent = []; told = []; ends = Goes }
+silent = record { sent = []; recorded = []; ends = Goes }
 
 -- one payload up
 abbrev pub sends : List ℕ → Outcome
-sends p = record { sent = p ∷ []; told = []; ends = Goes }
+sends p = record { sent = p ∷ []; recorded = []; ends = Goes }
 
 -- one frame down
-abbrev pub tells : List ℕ → Outcome
-tells frame = record { sent = []; told = frame ∷ []; ends = Goes }
+abbrev pub records : List ℕ → Outcome
+records frame = record { sent = []; recorded = frame ∷ []; ends = Goes }
 
 -- the client is dropped
 abbrev pub drops : Why → Outcome
-drops cause = record { sent = []; told = []; ends = Drop cause }
+drops cause = record { sent = []; recorded = []; ends = Drop cause }
 
 -- ---- channels
 
@@ -55,7 +55,7 @@ confirmed_at own s = find (λ x. is_number x.remote s && is_confirmed x) (held_o
 
 -- the open fails, which the master tells the client
 abbrev pub fails_open : ℕ → ℕ → List ℕ → Outcome
-fails_open sender reason text = tells (frame_payload (open_failure sender reason text))
+fails_open sender reason text = records (frame_payload (open_failure sender reason text))
 
 -- sent with a fresh number at the sender's place
 abbrev pub sends_as : ℕ → List ℕ → Outcome
@@ -69,13 +69,13 @@ sends_open own pick p sender = elim (nat_lt (length (held_of own)) MAX_CHANNELS)
 ]
 
 -- sessions and permitted direct channels alone
-abbrev pub said_open : Policy → List Row → ℕ → List ℕ → ℕ → Opens → Outcome
-said_open policy own pick p sender Session = sends_open own pick p sender
-said_open policy own pick p sender (Direct key) = elim (permits policy.opens key) [
+abbrev pub sent_open : Policy → List Row → ℕ → List ℕ → ℕ → Opens → Outcome
+sent_open policy own pick p sender Session = sends_open own pick p sender
+sent_open policy own pick p sender (Direct key) = elim (permits policy.opens key) [
   | true ↦ sends_open own pick p sender
   | false ↦ fails_open sender ADMINISTRATIVELY_PROHIBITED not_permitted
 ]
-said_open policy own pick p sender _ = fails_open sender UNKNOWN_CHANNEL_TYPE unknown_type
+sent_open policy own pick p sender _ = fails_open sender UNKNOWN_CHANNEL_TYPE unknown_type
 
 -- an open of the server must wait under this number
 abbrev pub on_waiting : ℕ → Outcome → Option Channel → Outcome
@@ -98,8 +98,8 @@ is_failing Fails = true
 is_failing _ = false
 
 -- a failed open answers one that waits; all else is said in a confirmed channel
-abbrev pub said_within : List Row → List ℕ → ℕ → Act → Outcome
-said_within own p s act = elim (is_failing act) [
+abbrev pub sent_within : List Row → List ℕ → ℕ → Act → Outcome
+sent_within own p s act = elim (is_failing act) [
   | true ↦ on_waiting s (sends p) (waiting_at own s)
   | false ↦ on_confirmed p s act (confirmed_at own s)
 ]
@@ -117,13 +117,13 @@ sends_if true p = sends p
 sends_if false p = silent
 
 -- a global request, by its name
-abbrev pub said_request : Policy → ℕ → List Row → List ℕ → Global → Bool → Outcome
-said_request policy k own p KeepAlive wants = sends p
-said_request policy k own p OtherName wants = silent
-said_request policy k own p (Forward key) wants =
+abbrev pub sent_request : Policy → ℕ → List Row → List ℕ → Global → Bool → Outcome
+sent_request policy k own p KeepAlive wants = sends p
+sent_request policy k own p OtherName wants = silent
+sent_request policy k own p (Forward key) wants =
     sends_if (wants && (is_askable key
     && (permits policy.listens key && nat_lt (length (current own)) MAX_FORWARDINGS))) p
-said_request policy k own p (Cancel key) wants =
+sent_request policy k own p (Cancel key) wants =
     sends_if (any_of (is_free_at k key) (current own)) p
 
 -- one wanted request too many
@@ -133,26 +133,26 @@ is_full_of_asks wants own = wants && nat_le MAX_GLOBAL_REQUESTS (unanswered_asks
 -- ---- all messages
 
 -- a message, by its number
-abbrev pub said_gist : Policy → ℕ → List Row → ℕ → List ℕ → Gist → Outcome
-said_gist policy k own pick p (Transport number) = elim (number == DISCONNECT) [
+abbrev pub sent_summary : Policy → ℕ → List Row → ℕ → List ℕ → Summary → Outcome
+sent_summary policy k own pick p (Transport number) = elim (number == DISCONNECT) [
   | true ↦ drops why.Disconnected
   | false ↦ silent
 ]
-said_gist policy k own pick p (Requests what wants) = elim (is_full_of_asks wants own) [
+sent_summary policy k own pick p (Requests what wants) = elim (is_full_of_asks wants own) [
   | true ↦ drops (why.TooManyAsks MAX_GLOBAL_REQUESTS)
-  | false ↦ said_request policy k own p what wants
+  | false ↦ sent_request policy k own p what wants
 ]
-said_gist policy k own pick p (Succeeds rest) = drops (why.Unasked REQUEST_SUCCESS)
-said_gist policy k own pick p Refuses = drops (why.Unasked REQUEST_FAILURE)
-said_gist policy k own pick p (Open what sender window maximum) =
-    on_unused sender (said_open policy own pick p sender what) (with_own own sender)
-said_gist policy k own pick p (Confirmation s sender window maximum) =
+sent_summary policy k own pick p (Succeeds rest) = drops (why.Unasked REQUEST_SUCCESS)
+sent_summary policy k own pick p Refuses = drops (why.Unasked REQUEST_FAILURE)
+sent_summary policy k own pick p (Open what sender window maximum) =
+    on_unused sender (sent_open policy own pick p sender what) (with_own own sender)
+sent_summary policy k own pick p (Confirmation s sender window maximum) =
     on_waiting s (on_unused sender (sends_as pick p) (with_own own sender)) (waiting_at own s)
-said_gist policy k own pick p (Within s act) = said_within own p s act
+sent_summary policy k own pick p (Within s act) = sent_within own p s act
 
 -- a payload; one that does not read drops the client
-abbrev pub said_payload : Policy → ℕ → List Row → ℕ → List ℕ → Outcome
-said_payload policy k own pick p = elim (read_gist p) [
+abbrev pub sent_payload : Policy → ℕ → List Row → ℕ → List ℕ → Outcome
+sent_payload policy k own pick p = elim (read_summary p) [
   | Err bad ↦ drops (why.BadMessage bad)
-  | Ok m ↦ said_gist policy k own pick p m
+  | Ok m ↦ sent_summary policy k own pick p m
 ]

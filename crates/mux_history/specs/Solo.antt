@@ -2,7 +2,7 @@
 use Rattle.std.specs.Prelude.{ℕ, ◌≡◌, List, [], ◌∷◌, ◌++◌, Option, Some, None, Bool, true, false, map, bytes_eq}
 use Rattle.ssh_grammar.specs.SpellMessage.{with_sender}
 use Rattle.mux_history.specs.declared.ended.Ended.{Ended}
-use Rattle.mux_history.specs.Gist.{reading, recipient_of}
+use Rattle.mux_history.specs.Summary.{reading, recipient_of}
 use Rattle.mux_history.specs.Rows.{Row, rows_of, Item, Heard, RunEnd, Fate, End}
 use Rattle.mux_history.specs.Channels.{own_of}
 use Rattle.mux_history.specs.Heard.{renamed}
@@ -45,7 +45,7 @@ solo setting k rows = log_of (alone_setting setting) (items_concerning k rows)
 -- what a row gives, seen by its client
 pub record Seen : Type 0 where
   pub sent : List (List ℕ)
-  pub told : List (List ℕ)
+  pub recorded : List (List ℕ)
   pub ends : Fate
 
 -- each number that the client's OPEN or CONFIRMATION carried up replaced by its own
@@ -58,13 +58,13 @@ abbrev pub seen : Row → Seen
 seen row =
     record {
       sent = own_ups (own_of row.item) row.up ++ row.farewell;
-      told = row.down;
+      recorded = row.down;
       ends = row.fate;
     }
 
 -- alone
 abbrev pub seen_alone : Row → Seen
-seen_alone row = record { sent = row.up ++ row.farewell; told = row.down; ends = row.fate }
+seen_alone row = record { sent = row.up ++ row.farewell; recorded = row.down; ends = row.fate }
 
 -- the client's rows and those of the unshared connection agree one by one
 abbrev pub IsUnshared : Setting → ℕ → List Row → Type 0

@@ -4,7 +4,7 @@ use Rattle.mux_outside.specs.declared.house.HouseReply.{HouseReply}
 use Rattle.ssh_grammar.specs.declared.numbers.TheConstants.{VERSION}
 use Rattle.ssh_grammar.specs.Control.{Greets}
 use Rattle.ssh_grammar.specs.Frames.{frame_payload, frame_answer}
-use Rattle.ssh_grammar.specs.Said.{Saying, Body, Payload, BadFraming}
+use Rattle.ssh_grammar.specs.Said.{Outgoing, Body, Payload, BadFraming}
 use Rattle.mux_history.specs.declared.limits.TheConstants.{MAX_CLIENTS, MAX_QUEUE}
 use Rattle.mux_history.specs.declared.why.Why.{Why}
 use Rattle.mux_history.specs.declared.why.Why.TheVariants as why
@@ -15,9 +15,9 @@ use Rattle.mux_history.specs.Pending.{waiting_down}
 use Rattle.mux_history.specs.Requests.{answers}
 use Rattle.mux_history.specs.Policy.{Policy}
 use Rattle.mux_history.specs.Farewell.{farewell, has_open_matters}
-use Rattle.mux_history.specs.Said.{Outcome, silent, tells, drops, said_payload}
-use Rattle.mux_history.specs.Controls.{greeted, house_says, said_body}
-use Rattle.mux_history.specs.Heard.{Dest, ToMaster, ToClient, Disconnects, Breaks, dest, heard_for, heard_master, finishes, broken}
+use Rattle.mux_history.specs.Said.{Outcome, silent, records, drops, sent_payload}
+use Rattle.mux_history.specs.Controls.{greeted, house_sends, sent_body}
+use Rattle.mux_history.specs.Heard.{Dest, ToMaster, ToClient, Disconnects, Breaks, dest, received_for, received_master, finishes, broken}
 
 -- ---- a client's row: the answers that its requests and replies complete, the queue's bound, the
 -- farewell
@@ -29,7 +29,7 @@ bare item k o = record {
   client = k;
   up = o.sent;
   farewell = [];
-  down = o.told;
+  down = o.recorded;
   fate = o.ends;
 }
 
@@ -43,8 +43,8 @@ goes Goes = true
 goes _ = false
 
 -- a row that goes on, of a client that is not lost, tells them after its own frames
-abbrev pub all_told : Row → List Row → List (List ℕ)
-all_told row own = elim (goes row.fate && not (is_lost own)) [
+abbrev pub all_recorded : Row → List Row → List (List ℕ)
+all_recorded row own = elim (goes row.fate && not (is_lost own)) [
   | true ↦ row.down ++ new_answers row own
   | false ↦ row.down
 ]
@@ -90,15 +90,15 @@ with_farewell row own =
 -- the row of a client, from its rows so far and what its item does
 abbrev pub row_of : Item → ℕ → Outcome → List Row → Row
 row_of item k o own = let row = bare item k o in
-    with_farewell (queued (all_told row own) row own) own
+    with_farewell (queued (all_recorded row own) row own) own
 
 -- ---- what each item does
 
 -- what a client says
-abbrev pub said_by_client : Policy → ℕ → ℕ → List Row → ℕ → Saying → Option HouseReply → Outcome
-said_by_client policy pid k own pick (Body body) given = said_body pid k given (greeted own) body
-said_by_client policy pid k own pick (Payload p) given = said_payload policy k own pick p
-said_by_client policy pid k own pick (BadFraming fault) given = drops (why.BadFrame fault)
+abbrev pub sent_by_client : Policy → ℕ → ℕ → List Row → ℕ → Outgoing → Option HouseReply → Outcome
+sent_by_client policy pid k own pick (Body body) given = sent_body pid k given (greeted own) body
+sent_by_client policy pid k own pick (Payload p) given = sent_payload policy k own pick p
+sent_by_client policy pid k own pick (BadFraming fault) given = drops (why.BadFrame fault)
 
 -- the clients that were let in, in order
 abbrev pub entered : List Row → List ℕ
@@ -125,27 +125,27 @@ served rows = filter (λ k. not (is_out (rows_of k rows))) (entered rows)
 -- the hello, where fewer than 64 clients have open matters
 abbrev pub admits : List Row → Outcome
 admits rows = elim (nat_lt (open_matters rows) MAX_CLIENTS) [
-  | true ↦ tells (frame_answer (Greets VERSION))
-  | false ↦ record { sent = []; told = []; ends = Refused }
+  | true ↦ records (frame_answer (Greets VERSION))
+  | false ↦ record { sent = []; recorded = []; ends = Refused }
 ]
 
 -- the row of a payload of the server
-abbrev pub heard_row : List Row → List ℕ → Dest → Row
-heard_row rows p ToMaster = bare (Heard p) 0 (heard_master p)
-heard_row rows p (ToClient k) = row_of (Heard p) k (heard_for (rows_of k rows) p) (rows_of k rows)
-heard_row rows p Disconnects = bare (Heard p) 0 (finishes ended.Disconnected)
-heard_row rows p (Breaks cause) = bare (Heard p) 0 (broken rows cause)
+abbrev pub received_row : List Row → List ℕ → Dest → Row
+received_row rows p ToMaster = bare (Heard p) 0 (received_master p)
+received_row rows p (ToClient k) = row_of (Heard p) k (received_for (rows_of k rows) p) (rows_of k rows)
+received_row rows p Disconnects = bare (Heard p) 0 (finishes ended.Disconnected)
+received_row rows p (Breaks cause) = bare (Heard p) 0 (broken rows cause)
 
 -- the row of an item after these rows, where `pick` is the next fresh number
 abbrev pub treat : Policy → ℕ → ℕ → List Row → Item → Row
 treat policy pid pick rows (Admit k) = row_of (Admit k) k (admits rows) (rows_of k rows)
-treat policy pid pick rows (Says k saying given) =
-    row_of (Says k saying given) k (said_by_client policy pid k (rows_of k rows) pick saying given)
+treat policy pid pick rows (Says k outgoing given) =
+    row_of (Says k outgoing given) k (sent_by_client policy pid k (rows_of k rows) pick outgoing given)
     (rows_of k rows)
 treat policy pid pick rows (HouseSays k id given) =
-    row_of (HouseSays k id given) k (house_says (rows_of k rows) id given) (rows_of k rows)
+    row_of (HouseSays k id given) k (house_sends (rows_of k rows) id given) (rows_of k rows)
 treat policy pid pick rows (Gone k) = row_of (Gone k) k silent (rows_of k rows)
-treat policy pid pick rows (Heard p) = heard_row rows p (dest rows p)
+treat policy pid pick rows (Heard p) = received_row rows p (dest rows p)
 treat policy pid pick rows (BadServer fault) =
     bare (BadServer fault) 0 (broken rows (broke.Frame fault))
 treat policy pid pick rows ServerEnd = bare ServerEnd 0 (finishes ended.ServerEnd)

@@ -50,12 +50,12 @@ abbrev pub sent : List Row → List ℕ
 sent rows = given_to 0 rows
 
 -- what a client is given
-abbrev pub told : ℕ → List Row → List ℕ
-told k rows = given_to k rows
+abbrev pub recorded : ℕ → List Row → List ℕ
+recorded k rows = given_to k rows
 
 -- the same after the hello and the answer to PROXY
-abbrev pub told_in_proxy : ℕ → List Row → List ℕ
-told_in_proxy k rows = drop 24 (given_to k rows)
+abbrev pub recorded_in_proxy : ℕ → List Row → List ℕ
+recorded_in_proxy k rows = drop 24 (given_to k rows)
 
 -- ---- what clients begin with
 

@@ -89,8 +89,8 @@ cancel_refused_late =
     ∷ Gets 0 failure ∷ [])
 
 -- the first client fails while it is told its port
-abbrev pub told_too_late : List Mark
-told_too_late =
+abbrev pub recorded_too_late : List Mark
+recorded_too_late =
     enters 1 ++ (enters 2 ++ (Gets 1 (asks_port 0) ∷ Gets 2 (asks_port 0) ∷ Gets 0 (bound_to 40001)
     ∷ WriteFails 1 ∷ Gets 0 (bound_to 40002) ∷ []))
 

@@ -7,7 +7,7 @@ use Rattle.mux_history.specs.Rows.{Row}
 use Rattle.mux_history.specs.Channels.{held_of, with_own}
 use Rattle.mux_history.specs.Requests.{unanswered_asks}
 use Rattle.mux_history.specs.Policy.{Policy}
-use Rattle.mux_history.specs.Said.{tells, sends, drops, said_payload}
+use Rattle.mux_history.specs.Said.{records, sends, drops, sent_payload}
 use Rattle.mux_history.specs.Worked.{hex}
 use Rattle.mux_history.specs.WorkedProxy.{session}
 
@@ -19,8 +19,8 @@ payload_in frame = drop 5 frame
 abbrev pub FullOfChannels : Type 0
 FullOfChannels =
     (policy : Policy) (k pick : ℕ) (own : List Row) → length (held_of own) ≡ 256
-    → with_own own 300 ≡ None → said_payload policy k own pick (payload_in (session 300))
-    ≡ tells (hex (codes "00000023 00 5c 0000012c 00000004 00000011")
+    → with_own own 300 ≡ None → sent_payload policy k own pick (payload_in (session 300))
+    ≡ records (hex (codes "00000023 00 5c 0000012c 00000004 00000011")
     ++ (codes "too many channels" ++ hex (codes "00000000")))
 
 -- a global request that wants a reply
@@ -31,13 +31,13 @@ keepalive = hex (codes "50 00000015") ++ (codes "keepalive@openssh.com" ++ hex (
 abbrev pub OneMoreAsk : Type 0
 OneMoreAsk =
     (policy : Policy) (k pick : ℕ) (own : List Row) → unanswered_asks own ≡ 1023
-    → said_payload policy k own pick keepalive ≡ sends keepalive
+    → sent_payload policy k own pick keepalive ≡ sends keepalive
 
 -- the 1,025th
 abbrev pub OneAskTooMany : Type 0
 OneAskTooMany =
     (policy : Policy) (k pick : ℕ) (own : List Row) → unanswered_asks own ≡ 1024
-    → said_payload policy k own pick keepalive ≡ drops (TooManyAsks 1024)
+    → sent_payload policy k own pick keepalive ≡ drops (TooManyAsks 1024)
 
 -- the longest payload
 abbrev pub LongestFrame : Type 0

@@ -46,8 +46,8 @@ abbrev pub sixty_five : List Mark
 sixty_five = come 1 65
 
 -- the server never answers the client that left, and 64 more come
-abbrev pub crowded : List Mark
-crowded = leaves ++ come 2 64
+abbrev pub dialogs_full : List Mark
+dialogs_full = leaves ++ come 2 64
 
 -- a client takes nothing for now; another is served
 abbrev pub held_back : List Mark

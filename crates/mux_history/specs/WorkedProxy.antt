@@ -110,12 +110,12 @@ opens_display =
 -- ---- frames
 
 -- a client says bytes
-abbrev pub says_at_once : List ℕ → List Mark
-says_at_once bytes = enters 1 ++ Gets 1 bytes ∷ []
+abbrev pub sends_at_once : List ℕ → List Mark
+sends_at_once bytes = enters 1 ++ Gets 1 bytes ∷ []
 
 -- the server says bytes
-abbrev pub server_says : List ℕ → List Mark
-server_says bytes = Gets 0 bytes ∷ []
+abbrev pub server_sends : List ℕ → List Mark
+server_sends bytes = Gets 0 bytes ∷ []
 
 -- PROXY in two pieces, the second of which begins the first payload
 abbrev pub enters_in_pieces : List Mark

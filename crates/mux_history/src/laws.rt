@@ -2,7 +2,7 @@
 //! contract is the law.
 
 ghost use Rattle.mux_history.specs.Laws.{OthersStay, LookUpsAreLocal, Locality, HeldGoesOn, AnswersOnlyGrow, AccountsGoOn, WrittenAddsUp, JournalsGiveRightLogs, NumbersAreApart, PicksAreTaken, RoomsNeverFall, OneIndexServes};
-ghost use Rattle.mux_history.specs.Keys.{KeysAreToldApart};
+ghost use Rattle.mux_history.specs.Keys.{KeysAreRecordedApart};
 ghost use Rattle.mux_history.specs.Wires.{WiresKeepTheLaw};
 ghost use Rattle.mux_history.specs.Steps.{CurrentGoesOn, MattersGoOn, AskersGoOn, UnrepliedAreLocal, PendingGoesOn, TakesLeaveTheRest};
 
@@ -107,6 +107,6 @@ pub fn journals_of_wires_are_lawful()
 
 /// The same key is told by its kind, its bytes and its port; an address and a path never are the
 /// same.
-pub fn keys_are_told_apart()
-    ensures { KeysAreToldApart }
+pub fn keys_are_recorded_apart()
+    ensures { KeysAreRecordedApart }
 {}

@@ -3,16 +3,16 @@ use Rattle.std.proofs.Common.{◌≡◌, ℕ, ◌-◌, List, [], ◌∷◌, leng
 use Rattle.std.specs.Prelude.{◌&&◌, not, filter, find, option_map, nat_lt, nat_le, codes}
 use Rattle.std.proofs.lemmas.List.{length-map}
 use Rattle.mux_history.specs.Channels.{Channel, channels_of, held_of, is_confirmed, is_held, is_number, is_up, with_own}
-use Rattle.mux_history.specs.Choices.{said_number}
+use Rattle.mux_history.specs.Choices.{sent_number}
 use Rattle.mux_history.specs.Forwardings.{current, forwardings_of, is_free_at}
-use Rattle.mux_history.specs.Gist.{Act, Asks, Confirmation, Gist, Open, Refuses, Requests, Succeeds, Transport, Within, sender_of}
+use Rattle.mux_history.specs.Summary.{Act, Asks, Confirmation, Summary, Open, Refuses, Requests, Succeeds, Transport, Within, sender_of}
 use Rattle.mux_history.specs.Keys.{is_askable}
 use Rattle.mux_history.specs.Ledger.{breach}
 use Rattle.mux_history.specs.Pending.{waiting_down}
 use Rattle.mux_history.specs.Policy.{Policy, permits}
 use Rattle.mux_history.specs.Requests.{answers_to, asks, replies, unanswered_asks, wanted}
 use Rattle.mux_history.specs.Rows.{Row, any_of}
-use Rattle.mux_history.specs.Said.{Outcome, confirmed_at, drops, fails_open, is_failing, on_breach, on_confirmed, on_unused, on_waiting, said_gist, said_open, said_request, said_within, sends, sends_as, sends_if, sends_open, waiting_at}
+use Rattle.mux_history.specs.Said.{Outcome, confirmed_at, drops, fails_open, is_failing, on_breach, on_confirmed, on_unused, on_waiting, sent_summary, sent_open, sent_request, sent_within, sends, sends_as, sends_if, sends_open, waiting_at}
 use Rattle.mux_history.specs.Solo.{own_ups}
 use Rattle.ssh_grammar.specs.Messages.{Cancel, Direct, Forward, Global, KeepAlive, Opens, OtherName, Session}
 use Rattle.ssh_grammar.specs.SpellMessage.{wants, with_sender}
@@ -83,7 +83,7 @@ module _ (own own' : List Row) (alike : Alike own own') where
   unused-blind c o None = refl
   unused-blind c o (Some x) = refl
 
-  within-said : (p : List ℕ) (s : ℕ) (act : Act) → said_within own' p s act ≡ said_within own p s act
+  within-said : (p : List ℕ) (s : ℕ) (act : Act) → sent_within own' p s act ≡ sent_within own p s act
   within-said p s act = by_case (is_failing act)
     where
       by_case : (b : Bool) → (elim b as (λ _. Outcome) [ true ↦ on_waiting s (sends p) (waiting_at own' s) | false ↦ on_confirmed p s act (confirmed_at own' s) ]) ≡ (elim b as (λ _. Outcome) [ true ↦ on_waiting s (sends p) (waiting_at own s) | false ↦ on_confirmed p s act (confirmed_at own s) ])
@@ -103,7 +103,7 @@ module _ (own own' : List Row) (alike : Alike own own') where
   unanswered-alike : unanswered_asks own' ≡ unanswered_asks own
   unanswered-alike = ap (λ w. length w - length (answers_to w (replies own'))) alike.wanted ∙ ap (λ r. length (wanted own) - length (answers_to (wanted own) r)) alike.replies
 
-  requests-said : (policy : Policy) (k : ℕ) (p : List ℕ) (what : Global) (wants : Bool) → said_request policy k own' p what wants ≡ said_request policy k own p what wants
+  requests-said : (policy : Policy) (k : ℕ) (p : List ℕ) (what : Global) (wants : Bool) → sent_request policy k own' p what wants ≡ sent_request policy k own p what wants
   requests-said policy k p KeepAlive wants = refl
   requests-said policy k p OtherName wants = refl
   requests-said policy k p (Forward key) wants = ap (λ fs. sends_if (wants && (is_askable key && (permits policy.listens key && nat_lt (length fs) 64))) p) current-alike
@@ -119,7 +119,7 @@ module _ (own own' : List Row) (alike : Alike own own') where
       by_case true = sends-said pick c p again
       by_case false = refl
 
-  open-said : (policy : Policy) (pick c : ℕ) (p : List ℕ) (what : Opens) → Resent pick c p → said_open policy own' c p c what ≡ numbered (Some c) (said_open policy own pick p c what)
+  open-said : (policy : Policy) (pick c : ℕ) (p : List ℕ) (what : Opens) → Resent pick c p → sent_open policy own' c p c what ≡ numbered (Some c) (sent_open policy own pick p c what)
   open-said policy pick c p Session again = sends_open-said pick c p again
   open-said policy pick c p (Direct key) again = by_case (permits policy.opens key)
     where
@@ -137,14 +137,14 @@ module _ (own own' : List Row) (alike : Alike own own') where
   waiting-numbered s c o o' (Some x) same = same
 
   -- what a client says has the same effect alone, with its own number as the pick
-  pub message-said : (policy : Policy) (k pick : ℕ) (p : List ℕ) (m : Gist) → ((c : ℕ) → sender_of m ≡ Some c → Resent pick c p) → said_gist policy k own' (said_number (sender_of m)) p m ≡ numbered (sender_of m) (said_gist policy k own pick p m)
+  pub message-said : (policy : Policy) (k pick : ℕ) (p : List ℕ) (m : Summary) → ((c : ℕ) → sender_of m ≡ Some c → Resent pick c p) → sent_summary policy k own' (sent_number (sender_of m)) p m ≡ numbered (sender_of m) (sent_summary policy k own pick p m)
   message-said policy k pick p (Transport number) again = refl
-  message-said policy k pick p (Requests what wants) again = ap (λ n. elim (wants && nat_le 1024 n) as (λ _. Outcome) [ true ↦ drops (why.TooManyAsks 1024) | false ↦ said_request policy k own' p what wants ]) unanswered-alike ∙ ap (λ o. elim (wants && nat_le 1024 (unanswered_asks own)) as (λ _. Outcome) [ true ↦ drops (why.TooManyAsks 1024) | false ↦ o ]) (requests-said policy k p what wants)
+  message-said policy k pick p (Requests what wants) again = ap (λ n. elim (wants && nat_le 1024 n) as (λ _. Outcome) [ true ↦ drops (why.TooManyAsks 1024) | false ↦ sent_request policy k own' p what wants ]) unanswered-alike ∙ ap (λ o. elim (wants && nat_le 1024 (unanswered_asks own)) as (λ _. Outcome) [ true ↦ drops (why.TooManyAsks 1024) | false ↦ o ]) (requests-said policy k p what wants)
   message-said policy k pick p (Succeeds rest) again = refl
   message-said policy k pick p Refuses again = refl
   message-said policy k pick p (Open what c w max) again =
-      unused-said c (said_open policy own' c p c what) (said_open policy own' c p c what)
-      ∙ unused-numbered c (said_open policy own pick p c what) (said_open policy own' c p c what) (with_own own c) (open-said policy pick c p what (again c refl))
+      unused-said c (sent_open policy own' c p c what) (sent_open policy own' c p c what)
+      ∙ unused-numbered c (sent_open policy own pick p c what) (sent_open policy own' c p c what) (with_own own c) (open-said policy pick c p what (again c refl))
   message-said policy k pick p (Confirmation s c w max) again =
       by-found (on_waiting s (on_unused c (sends_as c p) (with_own own' c))) (waiting-blind s (on_unused c (sends_as c p) (with_own own' c))) (λ x. is_number x.remote s && (not (is_up x.by) && not (is_confirmed x))) (λ x. refl)
       ∙ waiting-numbered s c (on_unused c (sends_as pick p) (with_own own c)) (on_unused c (sends_as c p) (with_own own' c)) (waiting_at own s)

@@ -2,10 +2,10 @@
 use Rattle.std.proofs.Common.{◌≡◌, ◌++◌, drop, length, length-append, length-drop, ℕ, ◌+◌, ◌≤◌, List, [], ◌∷◌, length, true, false, Bool, refl, ap, arith, sym, subst}
 use Rattle.std.specs.Prelude.{◌==◌, nat_le}
 use Rattle.std.proofs.lemmas.Bool.Decides.{nat_tests}
-use Rattle.mux_history.specs.Controls.{house_says}
-use Rattle.mux_history.specs.Heard.{Breaks, Dest, Disconnects, ToClient, ToMaster, dest, heard_for, heard_master}
+use Rattle.mux_history.specs.Controls.{house_sends}
+use Rattle.mux_history.specs.Heard.{Breaks, Dest, Disconnects, ToClient, ToMaster, dest, received_for, received_master}
 use Rattle.mux_history.specs.Kept.{AtEach, ForEach}
-use Rattle.mux_history.specs.Log.{admits, all_told, bare, fitting, heard_row, row_of, said_by_client, treat}
+use Rattle.mux_history.specs.Log.{admits, all_recorded, bare, fitting, received_row, row_of, sent_by_client, treat}
 use Rattle.mux_history.specs.Pending.{joined, pending_down, took_by, waiting_down}
 use Rattle.mux_history.specs.Policy.{Policy}
 use Rattle.mux_history.specs.Rows.{Admit, Gone, Heard, HouseSays, Item, Row, Says, Took, rows_of}
@@ -15,7 +15,7 @@ use Rattle.mux_history.proofs.Finds.{filter-no, filter-yes}
 use Rattle.mux_history.proofs.OwnRows.{same-client}
 use Rattle.mux_history.proofs.RightLogs.{LogKnown, by-treat}
 use Rattle.mux_history.proofs.Sends.{row-split}
-use Rattle.mux_isolation.proofs.Told.{master-told}
+use Rattle.mux_isolation.proofs.Recorded.{master-recorded}
 
 le-from : (a b : ℕ) → nat_le a b ≡ true → a ≤ b
 le-from a b e = grind (arith, nat_tests)
@@ -34,21 +34,21 @@ abbrev pub Keeps : List Row → Row → Type 0
 Keeps before row = waiting_down (rows_of row.client before) ≤ 33554432 → waiting_down (rows_of row.client before) + length (joined row.down) ≤ 33554432
 
 pub keeps-row : (before : List Row) (item : Item) (k : ℕ) (o : Outcome) → Keeps before (row_of item k o (rows_of k before))
-keeps-row before item k o = row-split (Keeps before) item k o (rows_of k before) (λ fw parting fate le. fitting-bound (waiting_down (rows_of k before)) (all_told (bare item k o) (rows_of k before)) le)
+keeps-row before item k o = row-split (Keeps before) item k o (rows_of k before) (λ fw parting fate le. fitting-bound (waiting_down (rows_of k before)) (all_recorded (bare item k o) (rows_of k before)) le)
 
 pub keeps-none : (before : List Row) (row : Row) → row.down ≡ [] → Keeps before row
 keeps-none before row none le = let e = ap (λ fs. length (joined fs)) none in omega arith
 
-keeps-heard : (before : List Row) (p : List ℕ) (d : Dest) → Keeps before (heard_row before p d)
-keeps-heard before p ToMaster = keeps-none before (bare (Heard p) 0 (heard_master p)) (master-told p)
-keeps-heard before p (ToClient k) = keeps-row before (Heard p) k (heard_for (rows_of k before) p)
-keeps-heard before p Disconnects = keeps-none before (heard_row before p Disconnects) refl
-keeps-heard before p (Breaks why) = keeps-none before (heard_row before p (Breaks why)) refl
+keeps-heard : (before : List Row) (p : List ℕ) (d : Dest) → Keeps before (received_row before p d)
+keeps-heard before p ToMaster = keeps-none before (bare (Heard p) 0 (received_master p)) (master-recorded p)
+keeps-heard before p (ToClient k) = keeps-row before (Heard p) k (received_for (rows_of k before) p)
+keeps-heard before p Disconnects = keeps-none before (received_row before p Disconnects) refl
+keeps-heard before p (Breaks why) = keeps-none before (received_row before p (Breaks why)) refl
 
 pub keeps-treat : (policy : Policy) (pid pick : ℕ) (before : List Row) (item : Item) → Keeps before (treat policy pid pick before item)
 keeps-treat policy pid pick before (Admit k) = keeps-row before (Admit k) k (admits before)
-keeps-treat policy pid pick before (Says k saying reply) = keeps-row before (Says k saying reply) k (said_by_client policy pid k (rows_of k before) pick saying reply)
-keeps-treat policy pid pick before (HouseSays k id given) = keeps-row before (HouseSays k id given) k (house_says (rows_of k before) id given)
+keeps-treat policy pid pick before (Says k outgoing reply) = keeps-row before (Says k outgoing reply) k (sent_by_client policy pid k (rows_of k before) pick outgoing reply)
+keeps-treat policy pid pick before (HouseSays k id given) = keeps-row before (HouseSays k id given) k (house_sends (rows_of k before) id given)
 keeps-treat policy pid pick before (Gone k) = keeps-row before (Gone k) k silent
 keeps-treat policy pid pick before (Heard p) = keeps-heard before p (dest before p)
 keeps-treat policy pid pick before item = keeps-none before (treat policy pid pick before item) refl

@@ -4,14 +4,14 @@ use Rattle.std.specs.Prelude.{Result, nat_lt, nat_le, codes}
 use Rattle.std.proofs.lemmas.Bool.Decides.{nat_tests}
 use Rattle.mux_history.specs.Channels.{held_of}
 use Rattle.mux_history.specs.Farewell.{farewell}
-use Rattle.mux_history.specs.Gist.{Gist, Open, Requests, read_gist}
-use Rattle.mux_history.specs.Heard.{Breaks, Dest, Disconnects, ToClient, ToMaster, dest, for_client, for_lost, for_master, heard_for, heard_gist, heard_master}
+use Rattle.mux_history.specs.Summary.{Summary, Open, Requests, read_summary}
+use Rattle.mux_history.specs.Heard.{Breaks, Dest, Disconnects, ToClient, ToMaster, dest, for_client, for_lost, for_master, received_for, received_summary, received_master}
 use Rattle.mux_history.specs.Kept.{DropsIfFull, GoesUnlessFull}
-use Rattle.mux_history.specs.Log.{all_told, bare, fate_with, fitting, heard_row, overflow, queued, row_of, treat}
+use Rattle.mux_history.specs.Log.{all_recorded, bare, fate_with, fitting, received_row, overflow, queued, row_of, treat}
 use Rattle.mux_history.specs.Pending.{joined, waiting_down}
 use Rattle.mux_history.specs.Policy.{Policy}
 use Rattle.mux_history.specs.Rows.{Fate, Goes, Heard, Item, Row, is_lost, loses, rows_of}
-use Rattle.mux_history.specs.Said.{Outcome, sends, silent, tells}
+use Rattle.mux_history.specs.Said.{Outcome, sends, silent, records}
 use Rattle.ssh_grammar.specs.Frames.{frame_payload}
 use Rattle.ssh_grammar.specs.SpellMessage.{open_failure}
 use Rattle.ssh_grammar.specs.declared.fault.Bad.{Bad}
@@ -21,11 +21,11 @@ use Rattle.mux_history.proofs.LawfulItems.{treat-item}
 use Rattle.mux_history.proofs.Sends.{as_row}
 
 -- a row of a client, from its parts
-pub row-whole : (P : Row → Type 0) (item : Item) (k : ℕ) (o : Outcome) (own : List Row) → ((fw : List (List ℕ)) → P (as_row item k o.sent fw (fitting (waiting_down own) (all_told (bare item k o) own)) (fate_with o.ends (overflow (waiting_down own) (all_told (bare item k o) own))))) → P (row_of item k o own)
-row-whole P item k o own each = by_case (loses (queued (all_told (bare item k o) own) (bare item k o) own))
+pub row-whole : (P : Row → Type 0) (item : Item) (k : ℕ) (o : Outcome) (own : List Row) → ((fw : List (List ℕ)) → P (as_row item k o.sent fw (fitting (waiting_down own) (all_recorded (bare item k o) own)) (fate_with o.ends (overflow (waiting_down own) (all_recorded (bare item k o) own))))) → P (row_of item k o own)
+row-whole P item k o own each = by_case (loses (queued (all_recorded (bare item k o) own) (bare item k o) own))
   where
-    by_case : (b : Bool) → P (elim b as (λ _. Row) [ true ↦ record (queued (all_told (bare item k o) own) (bare item k o) own) { farewell = farewell (queued (all_told (bare item k o) own) (bare item k o) own) own } | false ↦ queued (all_told (bare item k o) own) (bare item k o) own ])
-    by_case true = each (farewell (queued (all_told (bare item k o) own) (bare item k o) own) own)
+    by_case : (b : Bool) → P (elim b as (λ _. Row) [ true ↦ record (queued (all_recorded (bare item k o) own) (bare item k o) own) { farewell = farewell (queued (all_recorded (bare item k o) own) (bare item k o) own) own } | false ↦ queued (all_recorded (bare item k o) own) (bare item k o) own ])
+    by_case true = each (farewell (queued (all_recorded (bare item k o) own) (bare item k o) own) own)
     by_case false = each []
 
 -- ---- frames that fit, and the first that does not
@@ -44,10 +44,10 @@ no-overflow None e = refl
 no-overflow (Some why) e = cc
 
 -- with one more frame before them
-one-before : (n : ℕ) (f : List ℕ) (told : List (List ℕ)) (o : Option Why) → GoesUnlessFull (n + length f) told (fate_with Goes o) → GoesUnlessFull n (f ∷ told) (fate_with Goes o)
-one-before n f told None full = tt
-one-before n f told (Some (why.QueueFull have want)) full = let both = length-append f (joined told) in (omega arith, full.1)
-one-before n f told (Some cause) full = full
+one-before : (n : ℕ) (f : List ℕ) (recorded : List (List ℕ)) (o : Option Why) → GoesUnlessFull (n + length f) recorded (fate_with Goes o) → GoesUnlessFull n (f ∷ recorded) (fate_with Goes o)
+one-before n f recorded None full = tt
+one-before n f recorded (Some (why.QueueFull have want)) full = let both = length-append f (joined recorded) in (omega arith, full.1)
+one-before n f recorded (Some cause) full = full
 
 past : (n : ℕ) → nat_le n 33554432 ≡ false → 33554432 < n
 past n e = grind (arith, nat_tests)
@@ -63,39 +63,39 @@ full-of n (f ∷ fs) = by_case (nat_le (n + length f) 33554432) refl (full-of (n
 
 -- ---- what the server says drops nobody else
 
-pub heard-goes : (own : List Row) (p : List ℕ) → (heard_for own p).ends ≡ Goes
-heard-goes own p = by_case (read_gist p)
+pub heard-goes : (own : List Row) (p : List ℕ) → (received_for own p).ends ≡ Goes
+heard-goes own p = by_case (read_summary p)
   where
-    by_message : (m : Gist) → (for_client own p m).ends ≡ Goes
-    by_message (Open what s w max) = elim (nat_lt (length (held_of own)) 256) as (λ b. (elim b as (λ _. Outcome) [ true ↦ tells (frame_payload p) | false ↦ sends (open_failure s 4 (codes "too many channels")) ]).ends ≡ Goes) [ true ↦ refl | false ↦ refl ]
+    by_message : (m : Summary) → (for_client own p m).ends ≡ Goes
+    by_message (Open what s w max) = elim (nat_lt (length (held_of own)) 256) as (λ b. (elim b as (λ _. Outcome) [ true ↦ records (frame_payload p) | false ↦ sends (open_failure s 4 (codes "too many channels")) ]).ends ≡ Goes) [ true ↦ refl | false ↦ refl ]
     by_message m = refl
 
-    by_lost : (m : Gist) (b : Bool) → (elim b as (λ _. Outcome) [ true ↦ for_lost own m | false ↦ for_client own p m ]).ends ≡ Goes
+    by_lost : (m : Summary) (b : Bool) → (elim b as (λ _. Outcome) [ true ↦ for_lost own m | false ↦ for_client own p m ]).ends ≡ Goes
     by_lost m true = refl
     by_lost m false = by_message m
 
-    by_case : (r : Result Gist Bad) → (elim r as (λ _. Outcome) [ Err bad ↦ silent | Ok m ↦ heard_gist own p m ]).ends ≡ Goes
+    by_case : (r : Result Summary Bad) → (elim r as (λ _. Outcome) [ Err bad ↦ silent | Ok m ↦ received_summary own p m ]).ends ≡ Goes
     by_case (Err bad) = refl
     by_case (Ok m) = by_lost m (is_lost own)
 
-master-goes : (p : List ℕ) → (heard_master p).ends ≡ Goes
-master-goes p = by_case (read_gist p)
+master-goes : (p : List ℕ) → (received_master p).ends ≡ Goes
+master-goes p = by_case (read_summary p)
   where
-    by_message : (m : Gist) → (for_master m).ends ≡ Goes
+    by_message : (m : Summary) → (for_master m).ends ≡ Goes
     by_message (Requests what true) = refl
     by_message (Requests what false) = refl
     by_message m = refl
 
-    by_case : (r : Result Gist Bad) → (elim r as (λ _. Outcome) [ Err bad ↦ silent | Ok m ↦ for_master m ]).ends ≡ Goes
+    by_case : (r : Result Summary Bad) → (elim r as (λ _. Outcome) [ Err bad ↦ silent | Ok m ↦ for_master m ]).ends ≡ Goes
     by_case (Err bad) = refl
     by_case (Ok m) = by_message m
 
 abbrev FullOnly : List Row → Row → Type 0
 FullOnly before row = GoesUnlessFull (waiting_down (rows_of row.client before)) row.down row.fate
 
-heard-full : (before : List Row) (p : List ℕ) (d : Dest) → FullOnly before (heard_row before p d)
-heard-full before p ToMaster = subst (GoesUnlessFull (waiting_down (rows_of 0 before)) (heard_master p).told) (sym (master-goes p)) tt
-heard-full before p (ToClient k) = row-whole (FullOnly before) (Heard p) k (heard_for (rows_of k before) p) (rows_of k before) (λ fw. by_ends (all_told (bare (Heard p) k (heard_for (rows_of k before) p)) (rows_of k before)) (heard_for (rows_of k before) p).ends (heard-goes (rows_of k before) p))
+heard-full : (before : List Row) (p : List ℕ) (d : Dest) → FullOnly before (received_row before p d)
+heard-full before p ToMaster = subst (GoesUnlessFull (waiting_down (rows_of 0 before)) (received_master p).recorded) (sym (master-goes p)) tt
+heard-full before p (ToClient k) = row-whole (FullOnly before) (Heard p) k (received_for (rows_of k before) p) (rows_of k before) (λ fw. by_ends (all_recorded (bare (Heard p) k (received_for (rows_of k before) p)) (rows_of k before)) (received_for (rows_of k before) p).ends (heard-goes (rows_of k before) p))
   where
     by_ends : (fs : List (List ℕ)) (fate : Fate) → fate ≡ Goes → GoesUnlessFull (waiting_down (rows_of k before)) (fitting (waiting_down (rows_of k before)) fs) (fate_with fate (overflow (waiting_down (rows_of k before)) fs))
     by_ends fs fate e = subst (λ (f : Fate). GoesUnlessFull (waiting_down (rows_of k before)) (fitting (waiting_down (rows_of k before)) fs) (fate_with f (overflow (waiting_down (rows_of k before)) fs))) (sym e) (full-of (waiting_down (rows_of k before)) fs)

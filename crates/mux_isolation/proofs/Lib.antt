@@ -7,7 +7,7 @@ pub mod Bytes
 pub mod Delivered
 pub mod Fulls
 pub mod Heard
-pub mod HeardAlone
+pub mod ReceivedAlone
 pub mod Logs
 pub mod Mays
 pub mod Meets
@@ -18,14 +18,14 @@ pub mod Passed
 pub mod Renamed
 pub mod Replied
 pub mod Rows
-pub mod SaidTold
+pub mod SentRecorded
 pub mod Sendings
 pub mod Solos
-pub mod Told
+pub mod Recorded
 pub mod Treats
 pub mod Unshared
 pub mod ViewChannels
-pub mod ViewHeard
+pub mod ViewReceived
 pub mod ViewRows
-pub mod ViewSaid
+pub mod ViewSent
 pub mod Views

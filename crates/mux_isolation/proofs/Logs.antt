@@ -2,7 +2,7 @@
 use Rattle.std.proofs.Common.{◌≡◌, ℕ, List, [], ◌∷◌, ◌++◌, true, false, Bool, refl, ◌∙◌, ap, map, sym, Option, Some, None, subst}
 use Rattle.std.specs.Prelude.{◌==◌, ◌||◌}
 use Rattle.mux_history.specs.Channels.{channels_of, own_of}
-use Rattle.mux_history.specs.Choices.{Choices, FromLists, pick_of, said_number, with_reply}
+use Rattle.mux_history.specs.Choices.{Choices, FromLists, pick_of, sent_number, with_reply}
 use Rattle.mux_history.specs.Journal.{items}
 use Rattle.mux_history.specs.Log.{Setting, admits, bare, log_of, makes_next, more_of, next_row, treat}
 use Rattle.mux_history.specs.Policy.{Policy}
@@ -21,7 +21,7 @@ use Rattle.mux_history.proofs.Finds.{filter-no, filter-yes}
 use Rattle.mux_history.proofs.KeepsApart.{good-treat}
 use Rattle.mux_history.proofs.LawfulItems.{LawfulIn, LawfulItems, client-of, reply-lawful, reply-next, rows-admits}
 use Rattle.mux_history.proofs.Nexts.{by-next, next-live, next-took}
-use Rattle.mux_history.proofs.SaidApart.{IsFresh, LawfulItem, admits_client}
+use Rattle.mux_history.proofs.SentApart.{IsFresh, LawfulItem, admits_client}
 use Rattle.mux_isolation.proofs.Numbers.{AllNamed}
 use Rattle.mux_isolation.proofs.Rows.{AllSmall, SmallItem}
 use Rattle.mux_isolation.proofs.Solos.{alone, alone_row}
@@ -57,7 +57,7 @@ module _ (policy : Policy) (pid pick k : ℕ) (real : k ≡ 0 → ⊥) (before :
   once-item (Admit j) lawful mine =
       let same : j ≡ k = sym (client-of (Admit j) j (admits before) (rows_of j before)) ∙ mine in
       (is-of j k same, any-part (λ row. admits_client k row.item) k before (subst (λ (i : ℕ). any_of (λ row. admits_client i row.item) before ≡ false) same lawful))
-  once-item (Says j saying reply) lawful mine = tt
+  once-item (Says j outgoing reply) lawful mine = tt
   once-item (HouseSays j id given) lawful mine = tt
   once-item (Gone j) lawful mine = tt
   once-item (Heard p) lawful mine = tt
@@ -105,7 +105,7 @@ module _ (policy : Policy) (pid pick k : ℕ) (real : k ≡ 0 → ⊥) (before :
         own_rows = λ un. (
           record {
             makes = subst (λ (i : Item). makes_next (alone (rows_of k before)) (item_for (rows_of k before) i) ≡ true) (sym f.is) (own-makes f);
-            treats = subst (λ (i : Item). treat policy pid (said_number (own_of (item_for (rows_of k before) i))) (alone (rows_of k before)) (item_for (rows_of k before) i) ≡ alone_row (rows_of k before) (treat policy pid pick before item)) (sym f.is) (f.treats (subst (λ (i : Item). Unrefused i (is_admit (treat policy pid pick before item))) f.is un.0));
+            treats = subst (λ (i : Item). treat policy pid (sent_number (own_of (item_for (rows_of k before) i))) (alone (rows_of k before)) (item_for (rows_of k before) i) ≡ alone_row (rows_of k before) (treat policy pid pick before item)) (sym f.is) (f.treats (subst (λ (i : Item). Unrefused i (is_admit (treat policy pid pick before item))) f.is un.0));
           },
           facts.own un.1,
         );

@@ -3,7 +3,7 @@ use Rattle.std.proofs.Common.{◌≡◌, ℕ, List, [], ◌∷◌, true, false, 
 use Rattle.std.specs.Prelude.{◌==◌, ◌&&◌, filter, find}
 use Rattle.std.proofs.lemmas.Bool.Decides.{nat_tests}
 use Rattle.mux_history.specs.Channels.{Channel, is_held, is_number, with_down}
-use Rattle.mux_history.specs.Gist.{Act, Confirmation, Confirms, Within}
+use Rattle.mux_history.specs.Summary.{Act, Confirmation, Confirms, Within}
 use Rattle.ssh_grammar.specs.declared.side.Side.TheVariants.{Down}
 use Rattle.mux_history.proofs.Apart.{AllApart, ApartFrom, each-both, each-filter}
 use Rattle.mux_history.proofs.Finds.{Each, filter-no, filter-yes, find-no, find-yes}

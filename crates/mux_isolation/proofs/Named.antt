@@ -4,12 +4,12 @@ use Rattle.std.proofs.Common.{◌≡◌, ℕ, ◌<◌, List, [], ◌∷◌, true
 use Rattle.std.specs.Prelude.{◌==◌, filter, find, Result}
 use Rattle.std.proofs.lemmas.Bool.Decides.{nat_tests}
 use Rattle.mux_history.specs.Channels.{Channel, begun_by, channels_of, held_of, holder, is_held, is_number, opened_down, opened_up, own_of}
-use Rattle.mux_history.specs.Gist.{Confirmation, Gist, Open, Within, read_gist, reading, recipient_of, sender_of}
+use Rattle.mux_history.specs.Summary.{Confirmation, Summary, Open, Within, read_summary, reading, recipient_of, sender_of}
 use Rattle.mux_history.specs.Heard.{Breaks, ToClient, dest, own_number}
 use Rattle.mux_history.specs.Kept.{Every}
 use Rattle.mux_history.specs.Policy.{Policy}
 use Rattle.mux_history.specs.Rows.{Admit, BadServer, Fate, Gone, Heard, HouseSays, Item, Row, RunEnd, Says, ServerCut, ServerEnd, ServerFailed, Took, rows_of}
-use Rattle.mux_history.specs.Said.{Outcome, drops, said_gist, said_payload}
+use Rattle.mux_history.specs.Said.{Outcome, drops, sent_summary, sent_payload}
 use Rattle.mux_history.specs.Solo.{item_for, own_ups}
 use Rattle.mux_outside.specs.declared.house.HouseReply.{HouseReply}
 use Rattle.ssh_fields.specs.Fields.{AreBytes}
@@ -25,11 +25,11 @@ use Rattle.mux_history.proofs.Local.{channels-local}
 use Rattle.mux_history.proofs.Quiets.{Quiet}
 use Rattle.mux_history.proofs.Readings.{reading-ok}
 use Rattle.mux_history.proofs.Renumbered.{SenderIn, number-sent, readdressed, reads-sent, resent, sender-in, sent-again, spelled, word}
-use Rattle.mux_history.proofs.SaidApart.{ok-same, opened-none, opened-plain, own-small, quiet-plain}
+use Rattle.mux_history.proofs.SentApart.{ok-same, opened-none, opened-plain, own-small, quiet-plain}
 use Rattle.mux_history.proofs.Sends.{Sent, as_row, sent-by}
 use Rattle.mux_isolation.proofs.Heard.{Named}
 use Rattle.mux_isolation.proofs.Meets.{Distinct, Meets, distinct-of, meets-all, own_numbered}
-use Rattle.mux_isolation.proofs.Numbers.{HeardOne, Numbered, RowNamed, UpsNamed}
+use Rattle.mux_isolation.proofs.Numbers.{ReceivedOne, Numbered, RowNamed, UpsNamed}
 use Rattle.mux_isolation.proofs.Rows.{SmallItem, same-use, seen_payload}
 use Rattle.mux_history.proofs.Bools.{is-of}
 
@@ -93,7 +93,7 @@ module _ (before : List Row) (good : AreApart (channels_of before)) (k : ℕ) wh
   pub small-item : (item : Item) → SmallItem (rows_of k before) item
   small-item (Heard p) = λ m n reads some. small-own n
   small-item (Admit j) = tt
-  small-item (Says j saying reply) = tt
+  small-item (Says j outgoing reply) = tt
   small-item (HouseSays j id given) = tt
   small-item (Gone j) = tt
   small-item (BadServer fault) = tt
@@ -126,16 +126,16 @@ module _ (before : List Row) (good : AreApart (channels_of before)) (k : ℕ) wh
   pub number-met : (n : ℕ) (r : Met (rows_of k before) n) → own_number (holder (rows_of k before) n) ≡ r.c
   number-met n r = ap own_number r.is ∙ ap (λ o. elim o as (λ _. ℕ) [ None ↦ 0 | Some c ↦ c ]) r.owns
 
-  heard-each : (p : List ℕ) → dest before p ≡ ToClient k → Each (HeardOne (rows_of k before) (Heard p)) (channels_of (rows_of k before))
-  heard-each p to = by_case (read_gist p) refl
+  heard-each : (p : List ℕ) → dest before p ≡ ToClient k → Each (ReceivedOne (rows_of k before) (Heard p)) (channels_of (rows_of k before))
+  heard-each p to = by_case (read_summary p) refl
     where
-      none-named : (m : Gist) → read_gist p ≡ Ok m → recipient_of m ≡ None → (x : Channel) → Named (rows_of k before) p x
+      none-named : (m : Summary) → read_summary p ≡ Ok m → recipient_of m ≡ None → (x : Channel) → Named (rows_of k before) p x
       none-named m reads none x = record {
         small = λ m' n reads' some. small-own n;
         meets = λ m' n reads' some. let same : m ≡ m' = ok-same p m m' reads reads' in absurd (let bad : None ≡ Some n = sym none ∙ (ap recipient_of same ∙ some) in cc);
       }
 
-      some-named : (m : Gist) (n : ℕ) → read_gist p ≡ Ok m → recipient_of m ≡ Some n → (r : Met (rows_of k before) n) → (x : Channel) → Meets n r.c x → Named (rows_of k before) p x
+      some-named : (m : Summary) (n : ℕ) → read_summary p ≡ Ok m → recipient_of m ≡ Some n → (r : Met (rows_of k before) n) → (x : Channel) → Meets n r.c x → Named (rows_of k before) p x
       some-named m n reads some r x meets = record {
         small = λ m' n' reads' some'. small-own n';
         meets = λ m' n' reads' some'.
@@ -145,18 +145,18 @@ module _ (before : List Row) (good : AreApart (channels_of before)) (k : ℕ) wh
             subst (λ (i : ℕ). Meets i (own_number (holder (rows_of k before) i)) x) eq (subst (λ (c : ℕ). Meets n c x) (sym (number-met n r)) meets);
       }
 
-      by_some : (m : Gist) → read_gist p ≡ Ok m → (o : Option ℕ) → recipient_of m ≡ o → Each (HeardOne (rows_of k before) (Heard p)) (channels_of (rows_of k before))
-      by_some m reads None none = each-unit (HeardOne (rows_of k before) (Heard p)) (none-named m reads none) (channels_of (rows_of k before))
+      by_some : (m : Summary) → read_summary p ≡ Ok m → (o : Option ℕ) → recipient_of m ≡ o → Each (ReceivedOne (rows_of k before) (Heard p)) (channels_of (rows_of k before))
+      by_some m reads None none = each-unit (ReceivedOne (rows_of k before) (Heard p)) (none-named m reads none) (channels_of (rows_of k before))
       by_some m reads (Some n) some =
           let r : Met (rows_of k before) n = met n (reached before m n k some (sym (dest-ok before p m reads) ∙ to)) in
-          each-of (Meets n r.c) (HeardOne (rows_of k before) (Heard p)) (some-named m n reads some r) (channels_of (rows_of k before)) r.meets
+          each-of (Meets n r.c) (ReceivedOne (rows_of k before) (Heard p)) (some-named m n reads some r) (channels_of (rows_of k before)) r.meets
 
-      by_case : (r : Result Gist Bad) → read_gist p ≡ r → Each (HeardOne (rows_of k before) (Heard p)) (channels_of (rows_of k before))
+      by_case : (r : Result Summary Bad) → read_summary p ≡ r → Each (ReceivedOne (rows_of k before) (Heard p)) (channels_of (rows_of k before))
       by_case (Err bad) reads = let x : Breaks _ ≡ ToClient k = sym (dest-err before p bad reads) ∙ to in absurd (let h = x in cc)
       by_case (Ok m) reads = by_some m reads (recipient_of m) refl
 
   -- what the server says to the client
-  down-same : (up : List (List ℕ)) (m : Gist) (c : ℕ) → opened_down k up (readdressed c m) ≡ opened_down k up m
+  down-same : (up : List (List ℕ)) (m : Summary) (c : ℕ) → opened_down k up (readdressed c m) ≡ opened_down k up m
   down-same [] (Confirmation n s w max) c = refl
   down-same [] (Within n act) c = refl
   down-same [] m c = refl
@@ -164,13 +164,13 @@ module _ (before : List Row) (good : AreApart (channels_of before)) (k : ℕ) wh
   down-same (q ∷ qs) (Within n act) c = refl
   down-same (q ∷ qs) m c = refl
 
-  down-own : (up : List (List ℕ)) (m : Gist) → map own_numbered (opened_down k up m) ≡ opened_down k up m
+  down-own : (up : List (List ℕ)) (m : Summary) → map own_numbered (opened_down k up m) ≡ opened_down k up m
   down-own [] (Open what s w max) = refl
   down-own [] m = refl
   down-own (q ∷ qs) m = refl
 
   reading-own : (p : List ℕ) (up : List (List ℕ)) → map own_numbered (reading p (opened_down k up) []) ≡ reading p (opened_down k up) []
-  reading-own p up = elim (read_gist p) as (λ r. map own_numbered (elim r as (λ _. List Channel) [ Err e ↦ [] | Ok m ↦ opened_down k up m ]) ≡ (elim r as (λ _. List Channel) [ Err e ↦ [] | Ok m ↦ opened_down k up m ])) [ Err e ↦ refl | Ok m ↦ down-own up m ]
+  reading-own p up = elim (read_summary p) as (λ r. map own_numbered (elim r as (λ _. List Channel) [ Err e ↦ [] | Ok m ↦ opened_down k up m ]) ≡ (elim r as (λ _. List Channel) [ Err e ↦ [] | Ok m ↦ opened_down k up m ])) [ Err e ↦ refl | Ok m ↦ down-own up m ]
 
   pub named-heard : (p : List ℕ) → dest before p ≡ ToClient k → (up : List (List ℕ)) → Every Quiet up → (fw : List (List ℕ)) → Every Quiet fw → (down : List (List ℕ)) (fate : Fate) → RowNamed (rows_of k before) (as_row (Heard p) k up fw down fate)
   named-heard p to up quiet fw parting down fate = record {
@@ -185,9 +185,9 @@ module _ (before : List Row) (good : AreApart (channels_of before)) (k : ℕ) wh
       by_zero false = same-use (rows_of k before) p (opened_down k up) [] (λ m n reads some. small-own n) (down-same up) ∙ sym (reading-own p up)
 
   -- rows that send nothing and begin nothing
-  pub named-mute : (item : Item) → (up : List (List ℕ)) → up ≡ [] → ((x : Channel) → HeardOne (rows_of k before) item x) → own_of item ≡ None → begun_by k [] (item_for (rows_of k before) item) ≡ [] → begun_by k [] item ≡ [] → (fw : List (List ℕ)) → Every Quiet fw → (down : List (List ℕ)) (fate : Fate) → RowNamed (rows_of k before) (as_row item k up fw down fate)
+  pub named-mute : (item : Item) → (up : List (List ℕ)) → up ≡ [] → ((x : Channel) → ReceivedOne (rows_of k before) item x) → own_of item ≡ None → begun_by k [] (item_for (rows_of k before) item) ≡ [] → begun_by k [] item ≡ [] → (fw : List (List ℕ)) → Every Quiet fw → (down : List (List ℕ)) (fate : Fate) → RowNamed (rows_of k before) (as_row item k up fw down fate)
   named-mute item up none heard unowned begun begun' fw parting down fate = record {
-    heard = each-unit (HeardOne (rows_of k before) item) heard (channels_of (rows_of k before));
+    heard = each-unit (ReceivedOne (rows_of k before) item) heard (channels_of (rows_of k before));
     ups = subst (λ (o : Option ℕ). UpsNamed o up) (sym unowned) (subst (Every Quiet) (sym none) tt);
     parting = parting;
     begun = ap (λ o. begun_by k (own_ups o up) (item_for (rows_of k before) item)) unowned ∙ (ap (λ u. begun_by k u (item_for (rows_of k before) item)) none ∙ (begun ∙ sym (ap (map own_numbered) (ap (λ u. begun_by k u item) none ∙ begun'))));
@@ -203,28 +203,28 @@ module _ (before : List Row) (good : AreApart (channels_of before)) (k : ℕ) wh
   named-nil (Some c) = tt
 
   begun-nil : (j : ℕ) (p : List ℕ) (reply : Option HouseReply) → begun_by k [] (Says j (Payload p) reply) ≡ []
-  begun-nil j p reply = elim (read_gist p) as (λ r. (elim r as (λ _. List Channel) [ Err e ↦ [] | Ok m ↦ opened_up k [] m ]) ≡ []) [ Err e ↦ refl | Ok m ↦ opened-none k m ]
+  begun-nil j p reply = elim (read_summary p) as (λ r. (elim r as (λ _. List Channel) [ Err e ↦ [] | Ok m ↦ opened_up k [] m ]) ≡ []) [ Err e ↦ refl | Ok m ↦ opened-none k m ]
 
-  resent-twice : (c n : ℕ) (m : Gist) → resent c (resent n m) ≡ resent c m
+  resent-twice : (c n : ℕ) (m : Summary) → resent c (resent n m) ≡ resent c m
   resent-twice c n (Open what s w max) = refl
   resent-twice c n (Confirmation r s w max) = refl
   resent-twice c n m = refl
 
   module _ (p : List ℕ) (reply : Option HouseReply) (fw : List (List ℕ)) (parting : Every Quiet fw) (down : List (List ℕ)) (fate : Fate) where
-    abbrev said_row : List (List ℕ) → Row
-    said_row up = as_row (Says k (Payload p) reply) k up fw down fate
+    abbrev row_sent : List (List ℕ) → Row
+    row_sent up = as_row (Says k (Payload p) reply) k up fw down fate
 
-    named-nothing : RowNamed (rows_of k before) (said_row [])
+    named-nothing : RowNamed (rows_of k before) (row_sent [])
     named-nothing = record {
-      heard = each-unit (HeardOne (rows_of k before) (Says k (Payload p) reply)) (λ x. tt) (channels_of (rows_of k before));
+      heard = each-unit (ReceivedOne (rows_of k before) (Says k (Payload p) reply)) (λ x. tt) (channels_of (rows_of k before));
       ups = named-nil (own_of (Says k (Payload p) reply));
       parting = parting;
       begun = ap (λ u. begun_by k u (Says k (Payload p) reply)) (ups-nil (own_of (Says k (Payload p) reply))) ∙ (begun-nil k p reply ∙ sym (ap (map own_numbered) (begun-nil k p reply)));
     }
 
-    named-plain : (m : Gist) → read_gist p ≡ Ok m → sender_of m ≡ None → RowNamed (rows_of k before) (said_row (p ∷ []))
+    named-plain : (m : Summary) → read_summary p ≡ Ok m → sender_of m ≡ None → RowNamed (rows_of k before) (row_sent (p ∷ []))
     named-plain m reads unowned = record {
-      heard = each-unit (HeardOne (rows_of k before) (Says k (Payload p) reply)) (λ x. tt) (channels_of (rows_of k before));
+      heard = each-unit (ReceivedOne (rows_of k before) (Says k (Payload p) reply)) (λ x. tt) (channels_of (rows_of k before));
       ups = subst (λ (o : Option ℕ). UpsNamed o (p ∷ [])) (sym none) (quiet-plain p m reads unowned, tt);
       parting = parting;
       begun = ap (λ o. begun_by k (own_ups o (p ∷ [])) (Says k (Payload p) reply)) none ∙ (begun ∙ sym (ap (map own_numbered) begun));
@@ -236,9 +236,9 @@ module _ (before : List Row) (good : AreApart (channels_of before)) (k : ℕ) wh
         begun : begun_by k (p ∷ []) (Says k (Payload p) reply) ≡ []
         begun = reading-ok p m (opened_up k (p ∷ [])) [] reads ∙ opened-plain k (p ∷ []) m unowned
 
-    named-fresh : (pick c : ℕ) (m : Gist) → AreBytes p → read_gist p ≡ Ok m → sender_of m ≡ Some c → RowNamed (rows_of k before) (said_row (with_sender p pick ∷ []))
+    named-fresh : (pick c : ℕ) (m : Summary) → AreBytes p → read_summary p ≡ Ok m → sender_of m ≡ Some c → RowNamed (rows_of k before) (row_sent (with_sender p pick ∷ []))
     named-fresh pick c m bytes reads owned = record {
-      heard = each-unit (HeardOne (rows_of k before) (Says k (Payload p) reply)) (λ x. tt) (channels_of (rows_of k before));
+      heard = each-unit (ReceivedOne (rows_of k before) (Says k (Payload p) reply)) (λ x. tt) (channels_of (rows_of k before));
       ups = subst (λ (o : Option ℕ). UpsNamed o (with_sender p pick ∷ [])) (sym has_own) (numbered, tt);
       parting = parting;
       begun = ap (λ o. begun_by k (own_ups o (with_sender p pick ∷ [])) (Says k (Payload p) reply)) has_own
@@ -260,24 +260,24 @@ module _ (before : List Row) (good : AreApart (channels_of before)) (k : ℕ) wh
         numbered = record {
           said = resent (word pick) m;
           reads = reads-sent p m sender pick;
-          again = ap read_gist (sent-again p m sender pick c) ∙ (reads-sent p m sender c ∙ (ap (λ i. Ok (resent i m)) (spelled c small) ∙ sym (ap Ok (resent-twice c (word pick) m))));
+          again = ap read_summary (sent-again p m sender pick c) ∙ (reads-sent p m sender c ∙ (ap (λ i. Ok (resent i m)) (spelled c small) ∙ sym (ap Ok (resent-twice c (word pick) m))));
         }
 
         at : reading (with_sender (with_sender p pick) c) sender_of None ≡ Some c
         at = ap (λ q. reading q sender_of None) (sent-again p m sender pick c) ∙ (number-sent p m sender c ∙ ap Some (spelled c small))
 
-        begun : (m' : Gist) → sender_of m' ≡ Some c → opened_up k (with_sender (with_sender p pick) c ∷ []) m' ≡ map own_numbered (opened_up k (with_sender p pick ∷ []) m')
+        begun : (m' : Summary) → sender_of m' ≡ Some c → opened_up k (with_sender (with_sender p pick) c ∷ []) m' ≡ map own_numbered (opened_up k (with_sender p pick ∷ []) m')
         begun (Open what c' w max) e = ap (λ (i : Option ℕ). record { client = k; by = Up; own = Some c'; number = i; remote = None; window = w; maximum = max; acts = [] } ∷ []) at ∙ ap (λ (o : Option ℕ). record { client = k; by = Up; own = Some c'; number = o; remote = None; window = w; maximum = max; acts = [] } ∷ []) (sym e)
         begun m' e = refl
 
-    pub named-said : (policy : Policy) (pick : ℕ) → AreBytes p → RowNamed (rows_of k before) (said_row (said_payload policy k (rows_of k before) pick p).sent)
-    named-said policy pick bytes = by_case (read_gist p) refl
+    pub named-said : (policy : Policy) (pick : ℕ) → AreBytes p → RowNamed (rows_of k before) (row_sent (sent_payload policy k (rows_of k before) pick p).sent)
+    named-said policy pick bytes = by_case (read_summary p) refl
       where
-        by_sent : (m : Gist) (up : List (List ℕ)) → read_gist p ≡ Ok m → Sent (rows_of k before) pick p m up → RowNamed (rows_of k before) (said_row up)
-        by_sent m up reads (inl none) = subst (λ (u : List (List ℕ)). RowNamed (rows_of k before) (said_row u)) (sym none) named-nothing
-        by_sent m up reads (inr (inl plain)) = subst (λ (u : List (List ℕ)). RowNamed (rows_of k before) (said_row u)) (sym plain.up) (named-plain m reads plain.unowned)
-        by_sent m up reads (inr (inr new)) = subst (λ (u : List (List ℕ)). RowNamed (rows_of k before) (said_row u)) (sym new.up) (named-fresh pick new.c m bytes reads new.owned)
+        by_sent : (m : Summary) (up : List (List ℕ)) → read_summary p ≡ Ok m → Sent (rows_of k before) pick p m up → RowNamed (rows_of k before) (row_sent up)
+        by_sent m up reads (inl none) = subst (λ (u : List (List ℕ)). RowNamed (rows_of k before) (row_sent u)) (sym none) named-nothing
+        by_sent m up reads (inr (inl plain)) = subst (λ (u : List (List ℕ)). RowNamed (rows_of k before) (row_sent u)) (sym plain.up) (named-plain m reads plain.unowned)
+        by_sent m up reads (inr (inr new)) = subst (λ (u : List (List ℕ)). RowNamed (rows_of k before) (row_sent u)) (sym new.up) (named-fresh pick new.c m bytes reads new.owned)
 
-        by_case : (r : Result Gist Bad) → read_gist p ≡ r → RowNamed (rows_of k before) (said_row (elim r as (λ _. Outcome) [ Err bad ↦ drops (why.BadMessage bad) | Ok m ↦ said_gist policy k (rows_of k before) pick p m ]).sent)
+        by_case : (r : Result Summary Bad) → read_summary p ≡ r → RowNamed (rows_of k before) (row_sent (elim r as (λ _. Outcome) [ Err bad ↦ drops (why.BadMessage bad) | Ok m ↦ sent_summary policy k (rows_of k before) pick p m ]).sent)
         by_case (Err bad) reads = named-nothing
-        by_case (Ok m) reads = by_sent m (said_gist policy k (rows_of k before) pick p m).sent reads (sent-by policy k (rows_of k before) pick p m)
+        by_case (Ok m) reads = by_sent m (sent_summary policy k (rows_of k before) pick p m).sent reads (sent-by policy k (rows_of k before) pick p m)

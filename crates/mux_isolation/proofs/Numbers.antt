@@ -2,8 +2,8 @@
 use Rattle.std.proofs.Common.{◌≡◌, ℕ, List, [], ◌∷◌, ◌++◌, true, false, Bool, refl, ◌∙◌, ap, map, sym, Option, Some, None, Ok, Err}
 use Rattle.std.specs.Prelude.{◌==◌, ◌&&◌, Result}
 use Rattle.std.proofs.lemmas.List.{map-append}
-use Rattle.mux_history.specs.Channels.{Channel, after_farewell, after_item, begun_by, channels_of, heard_by, is_held, is_number, own_of, with_up, with_ups}
-use Rattle.mux_history.specs.Gist.{Act, Confirmation, Confirms, Gist, Within, read_gist, reading}
+use Rattle.mux_history.specs.Channels.{Channel, after_farewell, after_item, begun_by, channels_of, received_by, is_held, is_number, own_of, with_up, with_ups}
+use Rattle.mux_history.specs.Summary.{Act, Confirmation, Confirms, Summary, Within, read_summary, reading}
 use Rattle.mux_history.specs.Kept.{Every}
 use Rattle.mux_history.specs.Rows.{Heard, Item, Row}
 use Rattle.mux_history.specs.Solo.{item_for, own_ups}
@@ -20,9 +20,9 @@ use Rattle.mux_isolation.proofs.Meets.{own_numbered}
 use Rattle.mux_isolation.proofs.Solos.{alone, alone_row}
 
 pub record Numbered (c : ℕ) (q : List ℕ) : Type 0 where
-  pub said : Gist
-  pub reads : read_gist q ≡ Ok said
-  pub again : read_gist (with_sender q c) ≡ Ok (resent c said)
+  pub said : Summary
+  pub reads : read_summary q ≡ Ok said
+  pub again : read_summary (with_sender q c) ≡ Ok (resent c said)
 
 abbrev pub UpsNamed : Option ℕ → List (List ℕ) → Type 0
 UpsNamed None ups = Every Quiet ups
@@ -42,20 +42,20 @@ confirmation-up c s a w m x = pick (is_number x.remote s && is_held x)
     pick true = refl
     pick false = refl
 
-quiet-up : (own : Option ℕ) (m : Gist) → IsQuiet m → (x : Channel) → with_up own m (own_numbered x) ≡ own_numbered (with_up own m x)
+quiet-up : (own : Option ℕ) (m : Summary) → IsQuiet m → (x : Channel) → with_up own m (own_numbered x) ≡ own_numbered (with_up own m x)
 quiet-up own (Confirmation s n w m) quiet x = absurd quiet
 quiet-up own (Within s act) quiet x = within-up own s act x
 quiet-up own m quiet x = refl
 
-resent-up : (c : ℕ) (m : Gist) (x : Channel) → with_up (Some c) (resent c m) (own_numbered x) ≡ own_numbered (with_up (Some c) m x)
+resent-up : (c : ℕ) (m : Summary) (x : Channel) → with_up (Some c) (resent c m) (own_numbered x) ≡ own_numbered (with_up (Some c) m x)
 resent-up c (Confirmation s a w m) x = confirmation-up c s a w m x
 resent-up c (Within s act) x = within-up (Some c) s act x
 resent-up c m x = refl
 
 quiet-one : (q : List ℕ) → Quiet q → (x : Channel) → reading q (λ m. with_up None m (own_numbered x)) (own_numbered x) ≡ own_numbered (reading q (λ m. with_up None m x) x)
-quiet-one q quiet x = by_case (read_gist q) (λ m e. quiet m e)
+quiet-one q quiet x = by_case (read_summary q) (λ m e. quiet m e)
   where
-    by_case : (r : Result Gist Bad) → ((m : Gist) → r ≡ Ok m → IsQuiet m) → (elim r as (λ _. Channel) [ Err e ↦ own_numbered x | Ok m ↦ with_up None m (own_numbered x) ]) ≡ own_numbered (elim r as (λ _. Channel) [ Err e ↦ x | Ok m ↦ with_up None m x ])
+    by_case : (r : Result Summary Bad) → ((m : Summary) → r ≡ Ok m → IsQuiet m) → (elim r as (λ _. Channel) [ Err e ↦ own_numbered x | Ok m ↦ with_up None m (own_numbered x) ]) ≡ own_numbered (elim r as (λ _. Channel) [ Err e ↦ x | Ok m ↦ with_up None m x ])
     by_case (Err e) quiet = refl
     by_case (Ok m) quiet = quiet-up None m (quiet m refl) x
 
@@ -76,12 +76,12 @@ ups-alone None ups named x = quiet-ups ups named x
 ups-alone (Some c) ups named x = numbered-ups c ups named x
 
 -- what is known of a row of the client when it comes
-abbrev pub HeardOne : List Row → Item → Channel → Type 0
-HeardOne before (Heard p) x = Named before p x
-HeardOne before item x = Unit {0}
+abbrev pub ReceivedOne : List Row → Item → Channel → Type 0
+ReceivedOne before (Heard p) x = Named before p x
+ReceivedOne before item x = Unit {0}
 
 pub record RowNamed (before : List Row) (row : Row) : Type 0 where
-  pub heard : Each (HeardOne before row.item) (channels_of before)
+  pub heard : Each (ReceivedOne before row.item) (channels_of before)
   pub ups : UpsNamed (own_of row.item) row.up
   pub parting : Every Quiet row.farewell
   pub begun : begun_by row.client (own_ups (own_of row.item) row.up) (item_for before row.item) ≡ map own_numbered (begun_by row.client row.up row.item)
@@ -94,18 +94,18 @@ own_of-item : (before : List Row) (item : Item) → own_of (item_for before item
 own_of-item before (Heard p) = refl
 own_of-item before item = refl
 
-heard-one : (before : List Row) (item : Item) (x : Channel) → HeardOne before item x → heard_by (item_for before item) (own_numbered x) ≡ own_numbered (heard_by item x)
+heard-one : (before : List Row) (item : Item) (x : Channel) → ReceivedOne before item x → received_by (item_for before item) (own_numbered x) ≡ own_numbered (received_by item x)
 heard-one before (Heard p) x named = heard-alone before p x named
 heard-one before item x named = refl
 
-item-alone : (before : List Row) (row : Row) (x : Channel) → HeardOne before row.item x → UpsNamed (own_of row.item) row.up → after_item (alone_row before row) (own_numbered x) ≡ own_numbered (after_item row x)
+item-alone : (before : List Row) (row : Row) (x : Channel) → ReceivedOne before row.item x → UpsNamed (own_of row.item) row.up → after_item (alone_row before row) (own_numbered x) ≡ own_numbered (after_item row x)
 item-alone before row x heard ups = by_case (x.client == row.client)
   where
-    by_case : (b : Bool) → (elim b as (λ _. Channel) [ true ↦ with_ups (own_of (item_for before row.item)) (own_ups (own_of row.item) row.up) (heard_by (item_for before row.item) (own_numbered x)) | false ↦ own_numbered x ]) ≡ own_numbered (elim b as (λ _. Channel) [ true ↦ with_ups (own_of row.item) row.up (heard_by row.item x) | false ↦ x ])
+    by_case : (b : Bool) → (elim b as (λ _. Channel) [ true ↦ with_ups (own_of (item_for before row.item)) (own_ups (own_of row.item) row.up) (received_by (item_for before row.item) (own_numbered x)) | false ↦ own_numbered x ]) ≡ own_numbered (elim b as (λ _. Channel) [ true ↦ with_ups (own_of row.item) row.up (received_by row.item x) | false ↦ x ])
     by_case true =
         ap (with_ups (own_of (item_for before row.item)) (own_ups (own_of row.item) row.up)) (heard-one before row.item x heard)
-        ∙ (ap (λ o. with_ups o (own_ups (own_of row.item) row.up) (own_numbered (heard_by row.item x))) (own_of-item before row.item)
-        ∙ ups-alone (own_of row.item) row.up ups (heard_by row.item x))
+        ∙ (ap (λ o. with_ups o (own_ups (own_of row.item) row.up) (own_numbered (received_by row.item x))) (own_of-item before row.item)
+        ∙ ups-alone (own_of row.item) row.up ups (received_by row.item x))
     by_case false = refl
 
 leave-alone : (before : List Row) (row : Row) (x : Channel) → Every Quiet row.farewell → after_farewell (alone_row before row) (own_numbered x) ≡ own_numbered (after_farewell row x)
@@ -115,7 +115,7 @@ leave-alone before row x quiet = by_case (x.client == row.client)
     by_case true = quiet-ups row.farewell quiet x
     by_case false = refl
 
-item-all : (before : List Row) (row : Row) (xs : List Channel) → Each (HeardOne before row.item) xs → UpsNamed (own_of row.item) row.up → map (after_item (alone_row before row)) (map own_numbered xs) ≡ map own_numbered (map (after_item row) xs)
+item-all : (before : List Row) (row : Row) (xs : List Channel) → Each (ReceivedOne before row.item) xs → UpsNamed (own_of row.item) row.up → map (after_item (alone_row before row)) (map own_numbered xs) ≡ map own_numbered (map (after_item row) xs)
 item-all before row [] heard ups = refl
 item-all before row (x ∷ xs) heard ups = ap (λ y. y ∷ map (after_item (alone_row before row)) (map own_numbered xs)) (item-alone before row x heard.0 ups) ∙ ap (λ ys. own_numbered (after_item row x) ∷ ys) (item-all before row xs heard.1 ups)
 

@@ -20,7 +20,7 @@ use Rattle.mux_isolation.proofs.Rows.{AllSmall, alone-all, forwardings-alone, re
 use Rattle.mux_isolation.proofs.Solos.{alone, alone_row}
 use Rattle.mux_isolation.proofs.Treats.{alone-admits, greeted-alone, proxy-alone, out-alone}
 use Rattle.mux_isolation.proofs.Unshared.{AllOwn, one-more, solo-alone}
-use Rattle.mux_isolation.proofs.ViewSaid.{own_view}
+use Rattle.mux_isolation.proofs.ViewSent.{own_view}
 use Rattle.mux_isolation.proofs.Views.{view-own}
 
 -- ---- rows

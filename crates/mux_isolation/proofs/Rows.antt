@@ -5,9 +5,9 @@ use Rattle.std.proofs.lemmas.Bool.Decides.{nat_tests}
 use Rattle.mux_history.specs.Channels.{Channel, channels_of, held_of, holder, is_held, own_of}
 use Rattle.mux_history.specs.Farewell.{farewell, leave_channel, leave_forwarding}
 use Rattle.mux_history.specs.Forwardings.{Forwarding, dropped, forwarded, forwardings_of, of_client, replied, requested}
-use Rattle.mux_history.specs.Gist.{Confirmation, Gist, Within, read_gist, reading, recipient_of}
+use Rattle.mux_history.specs.Summary.{Confirmation, Summary, Within, read_summary, reading, recipient_of}
 use Rattle.mux_history.specs.Heard.{own_number, renamed}
-use Rattle.mux_history.specs.Log.{all_told, bare, fate_with, fitting, goes, new_answers, overflow, queued, row_of, with_farewell}
+use Rattle.mux_history.specs.Log.{all_recorded, bare, fate_with, fitting, goes, new_answers, overflow, queued, row_of, with_farewell}
 use Rattle.mux_history.specs.Requests.{answers, answers_to, asks, is_reply, is_sent, replies, reply_in, wanted}
 use Rattle.mux_history.specs.Rows.{Heard, Item, Row, Says, is_lost, loses, rows_of}
 use Rattle.mux_history.specs.Said.{Outcome}
@@ -27,39 +27,39 @@ use Rattle.mux_isolation.proofs.Solos.{alone, alone_row}
 
 -- the own number at the recipient's place fits
 abbrev pub IsSmall : List Row → List ℕ → Type 0
-IsSmall before p = (m : Gist) (n : ℕ) → read_gist p ≡ Ok m → recipient_of m ≡ Some n → own_number (holder before n) < 4294967296
+IsSmall before p = (m : Summary) (n : ℕ) → read_summary p ≡ Ok m → recipient_of m ≡ Some n → own_number (holder before n) < 4294967296
 
 abbrev pub seen_payload : List Row → List ℕ → List ℕ
 seen_payload before p = reading p (λ m. renamed before p (recipient_of m)) p
 
 -- what looks at a message but not at its recipient finds the same in the payload that the client
 -- sees
-pub same-use : {A : Type 0} (before : List Row) (p : List ℕ) (f : Gist → A) (other : A) → IsSmall before p → ((m : Gist) (c : ℕ) → f (readdressed c m) ≡ f m) → reading (seen_payload before p) f other ≡ reading p f other
-same-use {A} before p f other small blind = by_case (read_gist p) refl
+pub same-use : {A : Type 0} (before : List Row) (p : List ℕ) (f : Summary → A) (other : A) → IsSmall before p → ((m : Summary) (c : ℕ) → f (readdressed c m) ≡ f m) → reading (seen_payload before p) f other ≡ reading p f other
+same-use {A} before p f other small blind = by_case (read_summary p) refl
   where
-    by_some : (m : Gist) → read_gist p ≡ Ok m → (o : Option ℕ) → recipient_of m ≡ o → reading (renamed before p o) f other ≡ f m
+    by_some : (m : Summary) → read_summary p ≡ Ok m → (o : Option ℕ) → recipient_of m ≡ o → reading (renamed before p o) f other ≡ f m
     by_some m reads None none = reading-ok p m f other reads
     by_some m reads (Some n) some = reading-ok (with_recipient p (own_number (holder before n))) (readdressed (own_number (holder before n)) m) f other (read-renamed p m (own_number (holder before n)) (small m n reads some) reads) ∙ blind m (own_number (holder before n))
 
-    by_case : (r : Result Gist Bad) → read_gist p ≡ r → reading (seen_payload before p) f other ≡ reading p f other
+    by_case : (r : Result Summary Bad) → read_summary p ≡ r → reading (seen_payload before p) f other ≡ reading p f other
     by_case (Err e) reads = ap (λ q. reading q f other) (reading-err p e (λ m. renamed before p (recipient_of m)) p reads)
     by_case (Ok m) reads = ap (λ q. reading q f other) (reading-ok p m (λ m. renamed before p (recipient_of m)) p reads) ∙ (by_some m reads (recipient_of m) refl ∙ sym (reading-ok p m f other reads))
 
 -- a payload with no recipient is seen as it is
-pub same-payload : (before : List Row) (p : List ℕ) (m : Gist) → read_gist p ≡ Ok m → recipient_of m ≡ None → seen_payload before p ≡ p
+pub same-payload : (before : List Row) (p : List ℕ) (m : Summary) → read_summary p ≡ Ok m → recipient_of m ≡ None → seen_payload before p ≡ p
 same-payload before p m reads none = reading-ok p m (λ m. renamed before p (recipient_of m)) p reads ∙ ap (renamed before p) none
 
-replied-all : (place : ℕ) (m : Gist) (c : ℕ) → replied place (readdressed c m) ≡ replied place m
+replied-all : (place : ℕ) (m : Summary) (c : ℕ) → replied place (readdressed c m) ≡ replied place m
 replied-all place (Confirmation n s w max) c = refl
 replied-all place (Within n act) c = refl
 replied-all place m c = refl
 
-reply-blind : (m : Gist) (c : ℕ) → is_reply (readdressed c m) ≡ is_reply m
+reply-blind : (m : Summary) (c : ℕ) → is_reply (readdressed c m) ≡ is_reply m
 reply-blind (Confirmation n s w max) c = refl
 reply-blind (Within n act) c = refl
 reply-blind m c = refl
 
-reply-none : (m : Gist) → is_reply m ≡ true → recipient_of m ≡ None
+reply-none : (m : Summary) → is_reply m ≡ true → recipient_of m ≡ None
 reply-none (Confirmation n s w max) reply = cc
 reply-none (Within n act) reply = cc
 reply-none m reply = refl
@@ -73,13 +73,13 @@ AllSmall [] = Unit {0}
 AllSmall (row ∷ before) = SmallItem before row.item × AllSmall before
 
 reply-item : (before : List Row) (item : Item) → SmallItem before item → reply_in (item_for before item) ≡ reply_in item
-reply-item before (Heard p) small = ap (λ b. elim b as (λ _. List (List ℕ)) [ true ↦ seen_payload before p ∷ [] | false ↦ [] ]) (same-use before p is_reply false small reply-blind) ∙ by_case (read_gist p) refl
+reply-item before (Heard p) small = ap (λ b. elim b as (λ _. List (List ℕ)) [ true ↦ seen_payload before p ∷ [] | false ↦ [] ]) (same-use before p is_reply false small reply-blind) ∙ by_case (read_summary p) refl
   where
     by_flag : (b : Bool) → (b ≡ true → seen_payload before p ≡ p) → (elim b as (λ _. List (List ℕ)) [ true ↦ seen_payload before p ∷ [] | false ↦ [] ]) ≡ (elim b as (λ _. List (List ℕ)) [ true ↦ p ∷ [] | false ↦ [] ])
     by_flag true same = ap (λ q. q ∷ []) (same refl)
     by_flag false same = refl
 
-    by_case : (r : Result Gist Bad) → read_gist p ≡ r → (elim (reading p is_reply false) as (λ _. List (List ℕ)) [ true ↦ seen_payload before p ∷ [] | false ↦ [] ]) ≡ (elim (reading p is_reply false) as (λ _. List (List ℕ)) [ true ↦ p ∷ [] | false ↦ [] ])
+    by_case : (r : Result Summary Bad) → read_summary p ≡ r → (elim (reading p is_reply false) as (λ _. List (List ℕ)) [ true ↦ seen_payload before p ∷ [] | false ↦ [] ]) ≡ (elim (reading p is_reply false) as (λ _. List (List ℕ)) [ true ↦ p ∷ [] | false ↦ [] ])
     by_case (Err e) reads = by_flag (reading p is_reply false) (λ t. reading-err p e (λ m. renamed before p (recipient_of m)) p reads)
     by_case (Ok m) reads = by_flag (reading p is_reply false) (λ t. same-payload before p m reads (reply-none m (sym (reading-ok p m is_reply false reads) ∙ t)))
 reply-item before item small = refl
@@ -148,8 +148,8 @@ farewell-alone k own row all small named =
     ∙ ap (λ fs. flat_map leave_channel (held_of (row ∷ own)) ++ flat_map leave_forwarding (filter (λ (f : Forwarding). not f.over) fs))
     (ap (forwarded (alone_row own row) (alone own)) (forwardings-alone k own all small.1) ∙ forwarded-alone own row (forwardings_of own) small.0 small.1)))
 
-told-alone : (own : List Row) (row : Row) → AllSmall (row ∷ own) → all_told (alone_row own row) (alone own) ≡ all_told row own
-told-alone own row small =
+recorded-alone : (own : List Row) (row : Row) → AllSmall (row ∷ own) → all_recorded (alone_row own row) (alone own) ≡ all_recorded row own
+recorded-alone own row small =
     ap (λ b. elim (goes row.fate && not b) as (λ _. List (List ℕ)) [ true ↦ row.down ++ new_answers (alone_row own row) (alone own) | false ↦ row.down ]) (lost-alone own)
     ∙ ap (λ fs. elim (goes row.fate && not (is_lost own)) as (λ _. List (List ℕ)) [ true ↦ row.down ++ fs | false ↦ row.down ])
     (ap (λ a. map frame_payload (drop (length a) (answers (alone_row own row ∷ alone own)))) (answers-alone own small.1)
@@ -169,8 +169,8 @@ parting-alone k own row all small named =
     by_case false = refl
 
 -- the row of an outcome, and alone the row of the same outcome under the client's own number
-pub row-alone : (k : ℕ) (own : List Row) (item : Item) (o : Outcome) → AllOf k own → AllSmall own → SmallItem own item → AllNamed own → RowNamed own (queued (all_told (bare item k o) own) (bare item k o) own) → row_of (item_for own item) k (numbered (own_of item) o) (alone own) ≡ alone_row own (row_of item k o own)
+pub row-alone : (k : ℕ) (own : List Row) (item : Item) (o : Outcome) → AllOf k own → AllSmall own → SmallItem own item → AllNamed own → RowNamed own (queued (all_recorded (bare item k o) own) (bare item k o) own) → row_of (item_for own item) k (numbered (own_of item) o) (alone own) ≡ alone_row own (row_of item k o own)
 row-alone k own item o all small small_item named row_named =
-    ap (λ frames. with_farewell (queued frames (alone_row own (bare item k o)) (alone own)) (alone own)) (told-alone own (bare item k o) (small_item, small))
-    ∙ (ap (λ r. with_farewell r (alone own)) (queued-alone own (bare item k o) (all_told (bare item k o) own))
-    ∙ parting-alone k own (queued (all_told (bare item k o) own) (bare item k o) own) all (small_item, small) (row_named, named))
+    ap (λ frames. with_farewell (queued frames (alone_row own (bare item k o)) (alone own)) (alone own)) (recorded-alone own (bare item k o) (small_item, small))
+    ∙ (ap (λ r. with_farewell r (alone own)) (queued-alone own (bare item k o) (all_recorded (bare item k o) own))
+    ∙ parting-alone k own (queued (all_recorded (bare item k o) own) (bare item k o) own) all (small_item, small) (row_named, named))

@@ -7,9 +7,9 @@ use Rattle.ssh_grammar.specs.declared.fault.Bad.{Bad}
 use Rattle.ssh_grammar.specs.declared.numbers.TheConstants.{CONNECT_FAILED}
 use Rattle.ssh_grammar.specs.declared.side.Side.{Side}
 use Rattle.ssh_grammar.specs.declared.side.Side.TheVariants.{Down, Up}
-use Rattle.mux_history.specs.Channels.{Channel, after_farewell, after_item, begun_by, heard_by, held_of, is_closes, is_confirms, is_ends, is_fails, is_held, is_number, is_up, own_of, same_side, with_down, with_up, with_ups}
+use Rattle.mux_history.specs.Channels.{Channel, after_farewell, after_item, begun_by, received_by, held_of, is_closes, is_confirms, is_ends, is_fails, is_held, is_number, is_up, own_of, same_side, with_down, with_up, with_ups}
 use Rattle.mux_history.specs.Farewell.{leave_channel, to_number}
-use Rattle.mux_history.specs.Gist.{Act, Confirmation, Confirms, Gist, Within, read_gist, reading}
+use Rattle.mux_history.specs.Summary.{Act, Confirmation, Confirms, Summary, Within, read_summary, reading}
 use Rattle.mux_history.specs.Ledger.{answered, asked, carried, first_window, granted, other_side, packet}
 use Rattle.mux_history.specs.Rows.{Heard, Item, Row, any_of}
 use Rattle.mux_isolation.specs.View.{ChannelView, Way, channel_view}
@@ -51,12 +51,12 @@ act-seen side act x = by_side x.by
 
 -- ---- messages
 
-abbrev down_seen : Gist → ChannelView → ChannelView
+abbrev down_seen : Summary → ChannelView → ChannelView
 down_seen (Confirmation n s w m) v = elim (is_number v.number n && held_seen v) [ true ↦ add_act Down (Confirms w m) (record v { remote = Some s }) | false ↦ v ]
 down_seen (Within n act) v = elim (is_number v.number n && held_seen v) [ true ↦ add_act Down act v | false ↦ v ]
 down_seen _ v = v
 
-down-seen : (m : Gist) (x : Channel) → channel_view (with_down m x) ≡ down_seen m (channel_view x)
+down-seen : (m : Summary) (x : Channel) → channel_view (with_down m x) ≡ down_seen m (channel_view x)
 down-seen (Confirmation n s w m) x = by_case (is_number x.number n && is_held x)
   where
     by_case : (b : Bool) → channel_view (elim b as (λ _. Channel) [ true ↦ record x { remote = Some s; acts = (Down, Confirms w m) ∷ x.acts } | false ↦ x ]) ≡ (elim b as (λ _. ChannelView) [ true ↦ add_act Down (Confirms w m) (record (channel_view x) { remote = Some s }) | false ↦ channel_view x ])
@@ -69,12 +69,12 @@ down-seen (Within n act) x = by_case (is_number x.number n && is_held x)
     by_case false = refl
 down-seen m x = refl
 
-abbrev up_seen : Option ℕ → Gist → ChannelView → ChannelView
+abbrev up_seen : Option ℕ → Summary → ChannelView → ChannelView
 up_seen own (Confirmation s n w m) v = elim (is_number v.remote s && held_seen v) [ true ↦ add_act Up (Confirms w m) (record v { own = own; number = Some n }) | false ↦ v ]
 up_seen own (Within s act) v = elim (is_number v.remote s && held_seen v) [ true ↦ add_act Up act v | false ↦ v ]
 up_seen own _ v = v
 
-up-seen : (own : Option ℕ) (m : Gist) (x : Channel) → channel_view (with_up own m x) ≡ up_seen own m (channel_view x)
+up-seen : (own : Option ℕ) (m : Summary) (x : Channel) → channel_view (with_up own m x) ≡ up_seen own m (channel_view x)
 up-seen own (Confirmation s n w m) x = by_case (is_number x.remote s && is_held x)
   where
     by_case : (b : Bool) → channel_view (elim b as (λ _. Channel) [ true ↦ record x { own = own; number = Some n; acts = (Up, Confirms w m) ∷ x.acts } | false ↦ x ]) ≡ (elim b as (λ _. ChannelView) [ true ↦ add_act Up (Confirms w m) (record (channel_view x) { own = own; number = Some n }) | false ↦ channel_view x ])
@@ -87,10 +87,10 @@ up-seen own (Within s act) x = by_case (is_number x.remote s && is_held x)
     by_case false = refl
 up-seen own m x = refl
 
-reading-seen : (p : List ℕ) (f : Gist → Channel) (g : Gist → ChannelView) (x : Channel) → ((m : Gist) → channel_view (f m) ≡ g m) → channel_view (reading p f x) ≡ reading p g (channel_view x)
-reading-seen p f g x each = by_case (read_gist p)
+reading-seen : (p : List ℕ) (f : Summary → Channel) (g : Summary → ChannelView) (x : Channel) → ((m : Summary) → channel_view (f m) ≡ g m) → channel_view (reading p f x) ≡ reading p g (channel_view x)
+reading-seen p f g x each = by_case (read_summary p)
   where
-    by_case : (r : Result Gist Bad) → channel_view (elim r as (λ _. Channel) [ Err e ↦ x | Ok m ↦ f m ]) ≡ (elim r as (λ _. ChannelView) [ Err e ↦ channel_view x | Ok m ↦ g m ])
+    by_case : (r : Result Summary Bad) → channel_view (elim r as (λ _. Channel) [ Err e ↦ x | Ok m ↦ f m ]) ≡ (elim r as (λ _. ChannelView) [ Err e ↦ channel_view x | Ok m ↦ g m ])
     by_case (Err e) = refl
     by_case (Ok m) = each m
 
@@ -102,24 +102,24 @@ ups-seen : (own : Option ℕ) (ps : List (List ℕ)) (x : Channel) → channel_v
 ups-seen own [] x = refl
 ups-seen own (p ∷ ps) x = ups-seen own ps (reading p (λ m. with_up own m x) x) ∙ ap (ups_seen own ps) (reading-seen p (λ m. with_up own m x) (λ m. up_seen own m (channel_view x)) x (λ m. up-seen own m x))
 
-abbrev heard_seen : Item → ChannelView → ChannelView
-heard_seen (Heard p) v = reading p (λ m. down_seen m v) v
-heard_seen _ v = v
+abbrev received_seen : Item → ChannelView → ChannelView
+received_seen (Heard p) v = reading p (λ m. down_seen m v) v
+received_seen _ v = v
 
-heard-seen : (item : Item) (x : Channel) → channel_view (heard_by item x) ≡ heard_seen item (channel_view x)
+heard-seen : (item : Item) (x : Channel) → channel_view (received_by item x) ≡ received_seen item (channel_view x)
 heard-seen (Heard p) x = reading-seen p (λ m. with_down m x) (λ m. down_seen m (channel_view x)) x (λ m. down-seen m x)
 heard-seen item x = refl
 
 -- ---- one row
 
 abbrev item_seen : Row → ChannelView → ChannelView
-item_seen row v = elim (v.client == row.client) [ true ↦ ups_seen (own_of row.item) row.up (heard_seen row.item v) | false ↦ v ]
+item_seen row v = elim (v.client == row.client) [ true ↦ ups_seen (own_of row.item) row.up (received_seen row.item v) | false ↦ v ]
 
 item-seen : (row : Row) (x : Channel) → channel_view (after_item row x) ≡ item_seen row (channel_view x)
 item-seen row x = by_case (x.client == row.client)
   where
-    by_case : (b : Bool) → channel_view (elim b as (λ _. Channel) [ true ↦ with_ups (own_of row.item) row.up (heard_by row.item x) | false ↦ x ]) ≡ (elim b as (λ _. ChannelView) [ true ↦ ups_seen (own_of row.item) row.up (heard_seen row.item (channel_view x)) | false ↦ channel_view x ])
-    by_case true = ups-seen (own_of row.item) row.up (heard_by row.item x) ∙ ap (ups_seen (own_of row.item) row.up) (heard-seen row.item x)
+    by_case : (b : Bool) → channel_view (elim b as (λ _. Channel) [ true ↦ with_ups (own_of row.item) row.up (received_by row.item x) | false ↦ x ]) ≡ (elim b as (λ _. ChannelView) [ true ↦ ups_seen (own_of row.item) row.up (received_seen row.item (channel_view x)) | false ↦ channel_view x ])
+    by_case true = ups-seen (own_of row.item) row.up (received_by row.item x) ∙ ap (ups_seen (own_of row.item) row.up) (heard-seen row.item x)
     by_case false = refl
 
 abbrev farewell_seen : Row → ChannelView → ChannelView

@@ -6,10 +6,10 @@ use Rattle.std.proofs.Math.Seq.{drop-append_seam}
 use Rattle.ssh_grammar.specs.Frames.{frame_payload}
 use Rattle.ssh_grammar.specs.SpellMessage.{request_failure}
 use Rattle.mux_history.specs.Channels.{held_of}
-use Rattle.mux_history.specs.Controls.{is_says, proxies_by}
+use Rattle.mux_history.specs.Controls.{is_sends, proxies_by}
 use Rattle.mux_history.specs.Farewell.{farewell, leave_channel, leave_forwarding}
 use Rattle.mux_history.specs.Forwardings.{Forwarding, current, dropped, forwarded, forwardings_of}
-use Rattle.mux_history.specs.Log.{all_told, bare, fate_with, fitting, goes, new_answers, overflow, queued, row_of, with_farewell}
+use Rattle.mux_history.specs.Log.{all_recorded, bare, fate_with, fitting, goes, new_answers, overflow, queued, row_of, with_farewell}
 use Rattle.mux_history.specs.Pending.{joined, took_by}
 use Rattle.mux_history.specs.Requests.{Ask, answers, answers_to, asks, asks_of, is_sent, replies, reply_in, sent_flags, wanted, wanted_by}
 use Rattle.mux_history.specs.Rows.{Item, Row, Says, is_admit, is_lost, is_refusal, loses, rows_of}
@@ -17,7 +17,7 @@ use Rattle.mux_history.specs.Said.{Outcome}
 use Rattle.mux_isolation.specs.View.{ChannelView, View, Waiting, left_of}
 use Rattle.mux_history.proofs.CurrentSteps.{current-step, forwarded_at, is_on, on-forwarded}
 use Rattle.mux_isolation.proofs.ViewChannels.{channels-step, leaves-same, next_channels}
-use Rattle.mux_isolation.proofs.ViewSaid.{channels, own_view, waiting}
+use Rattle.mux_isolation.proofs.ViewSent.{channels, own_view, waiting}
 
 -- ---- answers
 
@@ -45,8 +45,8 @@ new-answers row own = ap (map frame_payload) (
 -- ---- the row
 
 module _ (own others : List Row) (same : own_view own ≡ own_view others) where
-  told-same : (row : Row) → all_told row own ≡ all_told row others
-  told-same row =
+  recorded-same : (row : Row) → all_recorded row own ≡ all_recorded row others
+  recorded-same row =
       ap (λ b. elim (goes row.fate && not b) as (λ _. List (List ℕ)) [ true ↦ row.down ++ new_answers row own | false ↦ row.down ]) (ap (λ (v : View). v.lost) same)
       ∙ ap (λ (new : List (List ℕ)). elim (goes row.fate && not (is_lost others)) as (λ _. List (List ℕ)) [ true ↦ row.down ++ new | false ↦ row.down ])
       (new-answers row own ∙ (ap (answers_after row) (waiting own others same) ∙ sym (new-answers row others)))
@@ -70,9 +70,9 @@ module _ (own others : List Row) (same : own_view own ≡ own_view others) where
 
   pub row-alike : (item : Item) (k : ℕ) (o : Outcome) → row_of item k o own ≡ row_of item k o others
   row-alike item k o =
-      ap (λ frames. with_farewell (queued frames (bare item k o) own) own) (told-same (bare item k o))
-      ∙ (ap (λ row. with_farewell row own) (queued-same (all_told (bare item k o) others) (bare item k o))
-      ∙ leaving-same (queued (all_told (bare item k o) others) (bare item k o) others))
+      ap (λ frames. with_farewell (queued frames (bare item k o) own) own) (recorded-same (bare item k o))
+      ∙ (ap (λ row. with_farewell row own) (queued-same (all_recorded (bare item k o) others) (bare item k o))
+      ∙ leaving-same (queued (all_recorded (bare item k o) others) (bare item k o) others))
 
 -- ---- the view after it
 
@@ -86,8 +86,8 @@ drop-append (x ∷ xs) ys (suc n) = let e : n - length xs ≡ suc n - length (x 
 abbrev pub next_view : Row → View → View
 next_view row v = record {
   admitted = is_admit row || v.admitted;
-  has_greeted = is_says row.item || v.has_greeted;
-  proxied = elim row.item as (λ _. Bool) [ Says k saying given ↦ proxies_by saying | _ ↦ v.proxied ];
+  has_greeted = is_sends row.item || v.has_greeted;
+  proxied = elim row.item as (λ _. Bool) [ Says k outgoing given ↦ proxies_by outgoing | _ ↦ v.proxied ];
   lost = loses row || v.lost;
   out = (loses row || is_refusal row.fate) || v.out;
   channels = next_channels row v.channels;

@@ -3,12 +3,12 @@ use Rattle.std.proofs.Common.{◌≡◌, ℕ, List, [], ◌∷◌, map, length, 
 use Rattle.std.specs.Prelude.{◌==◌, ◌||◌, ◌&&◌, not, filter, nat_lt}
 use Rattle.std.proofs.lemmas.Bool.Decides.{nat_tests}
 use Rattle.mux_history.specs.Channels.{Channel, channels_of, held_of, is_held}
-use Rattle.mux_history.specs.Controls.{answers_ask, greeted, house_says, in_proxy}
+use Rattle.mux_history.specs.Controls.{answers_ask, greeted, house_sends, in_proxy}
 use Rattle.mux_history.specs.Farewell.{has_open_matters}
 use Rattle.mux_history.specs.Forwardings.{Forwarding, current, forwardings_of}
-use Rattle.mux_history.specs.Heard.{ToClient, dest, heard_for}
+use Rattle.mux_history.specs.Heard.{ToClient, dest, received_for}
 use Rattle.mux_history.specs.Laws.{IsOf}
-use Rattle.mux_history.specs.Log.{admits, bare, heard_row, makes_row, row_of, said_by_client, treat}
+use Rattle.mux_history.specs.Log.{admits, bare, received_row, makes_row, row_of, sent_by_client, treat}
 use Rattle.mux_history.specs.Pending.{pending_down}
 use Rattle.mux_history.specs.Policy.{Policy}
 use Rattle.mux_history.specs.Requests.{Ask, asks, replies, wanted}
@@ -24,9 +24,9 @@ use Rattle.mux_history.proofs.LawfulItems.{client-of}
 use Rattle.mux_history.proofs.Local.{channels-local, is_of}
 use Rattle.mux_history.proofs.OwnRows.{idle_row, own_row, rows-twice}
 use Rattle.mux_isolation.proofs.ViewChannels.{any-view, held_seen}
-use Rattle.mux_isolation.proofs.ViewHeard.{heard-alike}
+use Rattle.mux_isolation.proofs.ViewReceived.{heard-alike}
 use Rattle.mux_isolation.proofs.ViewRows.{next_view, row-alike, view-step}
-use Rattle.mux_isolation.proofs.ViewSaid.{own_view, said-alike}
+use Rattle.mux_isolation.proofs.ViewSent.{own_view, said-alike}
 
 -- ---- the view is one of the client's own rows
 
@@ -106,11 +106,11 @@ module _ (policy : Policy) (pid pick k : ℕ) (rows others : List Row) (same : v
       (client-of item k o (rows_of k rows))
 
   own-step : (item : Item) → IsOf k item → SameStep k rows others (treat policy pid pick rows item) (treat policy pid pick others item)
-  own-step (Says j saying given) is = subst (λ (i : ℕ). SameStep k rows others (treat policy pid pick rows (Says i saying given)) (treat policy pid pick others (Says i saying given))) (sym is)
-      (of-row (Says k saying given) (said_by_client policy pid k (rows_of k rows) pick saying given) (said_by_client policy pid k (rows_of k others) pick saying given)
-      (said-alike (rows_of k rows) (rows_of k others) same-own policy pid k pick saying given))
+  own-step (Says j outgoing given) is = subst (λ (i : ℕ). SameStep k rows others (treat policy pid pick rows (Says i outgoing given)) (treat policy pid pick others (Says i outgoing given))) (sym is)
+      (of-row (Says k outgoing given) (sent_by_client policy pid k (rows_of k rows) pick outgoing given) (sent_by_client policy pid k (rows_of k others) pick outgoing given)
+      (said-alike (rows_of k rows) (rows_of k others) same-own policy pid k pick outgoing given))
   own-step (HouseSays j id given) is = subst (λ (i : ℕ). SameStep k rows others (treat policy pid pick rows (HouseSays i id given)) (treat policy pid pick others (HouseSays i id given))) (sym is)
-      (of-row (HouseSays k id given) (house_says (rows_of k rows) id given) (house_says (rows_of k others) id given)
+      (of-row (HouseSays k id given) (house_sends (rows_of k rows) id given) (house_sends (rows_of k others) id given)
       (ap (λ (v : View). elim v.proxied as (λ _. Outcome) [ true ↦ silent | false ↦ answers_ask true id (Some given) ]) same-own))
   own-step (Gone j) is = subst (λ (i : ℕ). SameStep k rows others (treat policy pid pick rows (Gone i)) (treat policy pid pick others (Gone i))) (sym is) (of-row (Gone k) silent silent refl)
   own-step (Took j size) is = step (bare (Took j size) j silent) (bare (Took j size) j silent) refl is
@@ -118,12 +118,12 @@ module _ (policy : Policy) (pid pick k : ℕ) (rows others : List Row) (same : v
 
   heard-step : (p : List ℕ) → dest rows p ≡ ToClient k → dest others p ≡ ToClient k → SameStep k rows others (treat policy pid pick rows (Heard p)) (treat policy pid pick others (Heard p))
   heard-step p here there =
-      subst (λ r. SameStep k rows others r (treat policy pid pick others (Heard p))) (sym (ap (heard_row rows p) here))
-      (subst (λ r. SameStep k rows others (heard_row rows p (ToClient k)) r) (sym (ap (heard_row others p) there))
-      (of-row (Heard p) (heard_for (rows_of k rows) p) (heard_for (rows_of k others) p) (heard-alike (rows_of k rows) (rows_of k others) same-own p)))
+      subst (λ r. SameStep k rows others r (treat policy pid pick others (Heard p))) (sym (ap (received_row rows p) here))
+      (subst (λ r. SameStep k rows others (received_row rows p (ToClient k)) r) (sym (ap (received_row others p) there))
+      (of-row (Heard p) (received_for (rows_of k rows) p) (received_for (rows_of k others) p) (heard-alike (rows_of k rows) (rows_of k others) same-own p)))
 
   makes-same : (item : Item) → IsOf k item → makes_row rows item ≡ makes_row others item
-  makes-same (Says j saying given) is = ap (λ i. not (is_out (rows_of i rows))) is ∙ (ap (λ (v : View). not v.out) same ∙ ap (λ i. not (is_out (rows_of i others))) (sym is))
+  makes-same (Says j outgoing given) is = ap (λ i. not (is_out (rows_of i rows))) is ∙ (ap (λ (v : View). not v.out) same ∙ ap (λ i. not (is_out (rows_of i others))) (sym is))
   makes-same (HouseSays j id given) is = ap (λ i. not (is_out (rows_of i rows))) is ∙ (ap (λ (v : View). not v.out) same ∙ ap (λ i. not (is_out (rows_of i others))) (sym is))
   makes-same (Gone j) is = ap (λ i. not (is_out (rows_of i rows))) is ∙ (ap (λ (v : View). not v.out) same ∙ ap (λ i. not (is_out (rows_of i others))) (sym is))
   makes-same (Took j size) is = refl

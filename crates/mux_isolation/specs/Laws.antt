@@ -42,8 +42,8 @@ abbrev pub MessagesAreSent : Type 0
 MessagesAreSent = OverRight (λ setting rows. ForEach (Passes setting.policy) rows)
 
 -- what the master sends of its own is, byte for byte, one of its few words: no client's data
-abbrev pub MasterSaysLittle : Type 0
-MasterSaysLittle = OverRight (λ setting rows. ForEach OwnWords rows)
+abbrev pub MasterSendsLittle : Type 0
+MasterSendsLittle = OverRight (λ setting rows. ForEach OwnWords rows)
 
 -- what waits for each client is at most 33,554,432 bytes
 abbrev pub WaitsBounded : List Row → Type 0

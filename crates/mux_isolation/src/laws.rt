@@ -1,4 +1,4 @@
-ghost use Rattle.mux_isolation.specs.Laws.{Isolation, WindowsAreKept, PermissionsAreKept, AskersAreServed, MessagesAreDelivered, MessagesAreSent, MasterSaysLittle, AllIsKept};
+ghost use Rattle.mux_isolation.specs.Laws.{Isolation, WindowsAreKept, PermissionsAreKept, AskersAreServed, MessagesAreDelivered, MessagesAreSent, MasterSendsLittle, AllIsKept};
 ghost use Rattle.mux_isolation.specs.Laws.{QueuesAreBounded, ViewsShowRooms, IdleRowsLeaveViews, CutsKeepViews, RowsFollowViews};
 ghost use Rattle.mux_isolation.specs.Renaming.{RowsAreRenamed, ViewsAreRenamed, CutsCutItems};
 ghost use Rattle.mux_isolation.specs.Bytes.{BytesAreUnshared, TakesAreUnshared, SendsAreUnshared};
@@ -79,8 +79,8 @@ pub fn messages_are_sent()
 /// What the master sends that no client said, for nobody, in farewells and in answer to the server,
 /// is, byte for byte, a refused request, a failed open with a text of its own, a close, or a cancel
 /// without reply.
-pub fn master_says_little()
-    ensures { MasterSaysLittle }
+pub fn master_sends_little()
+    ensures { MasterSendsLittle }
 {}
 
 /// At no row do more than 33,554,432 bytes wait for a client.

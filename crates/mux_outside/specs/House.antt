@@ -57,16 +57,16 @@ NoMark None = Unit {0}
 NoMark (Some marks) = marks ≡ []
 
 -- a house that has nothing yet and has told nothing
-pub record IsBlank (known : Known) (told : Option (List HouseMark)) : Type 0 where
+pub record IsBlank (known : Known) (recorded : Option (List HouseMark)) : Type 0 where
   pub nothing : known ≡ nothing_known known.present
-  pub no_mark : NoMark told
+  pub no_mark : NoMark recorded
 
 -- all that is known of a house, whatever it is: its marks, where they are told; what is always known;
 -- whether it has nothing to say, to order and to answer; what waits for each stream; the first of the
 -- forwardings asked for at the start that was refused, if any was; whether the run ends where one is;
 -- and which calls it stands for, each with its answer, the oldest first
 pub record HouseState : Type 1 where
-  pub told : Option (List HouseMark)
+  pub recorded : Option (List HouseMark)
   pub known : Known
   pub quiet : Quiet
   pub queue : ℕ → List ℕ
@@ -76,22 +76,22 @@ pub record HouseState : Type 1 where
 
 -- one that was never called
 pub record IsFresh (state : HouseState) : Type 0 where
-  pub blank : IsBlank state.known state.told
+  pub blank : IsBlank state.known state.recorded
   pub unrefused : state.refused ≡ None
   pub stands : state.stands []
 
 -- ---- what a call leaves
 
 -- the marks that are told after these more
-abbrev pub told_more : List HouseMark → Option (List HouseMark) → Option (List HouseMark)
-told_more more told = option_map (λ marks. marks ++ more) told
+abbrev pub recorded_more : List HouseMark → Option (List HouseMark) → Option (List HouseMark)
+recorded_more more recorded = option_map (λ marks. marks ++ more) recorded
 
 -- after a call that gave this: what is known changes so, and the house stands for it
 pub record Gave (marks : List HouseMark) (change : Known → Known) (old new : HouseState) :
     Type 0 where
   pub known : new.known ≡ change old.known
   pub must : new.must ≡ old.must
-  pub told : new.told ≡ told_more marks old.told
+  pub recorded : new.recorded ≡ recorded_more marks old.recorded
   pub stands : HandsOn old.stands new.stands (calls_of marks)
 
 -- the same where there may have been no memory for it: then only its marks are known, and whether the
@@ -100,7 +100,7 @@ pub record GaveOr {A E : Type 0} (result : Result A E) (marks : List HouseMark)
     (change : A → Known → Known) (old new : HouseState) : Type 0 where
   pub known : IfOk result (λ answer. new.known ≡ change answer old.known)
   pub must : new.must ≡ old.must
-  pub told : new.told ≡ told_more marks old.told
+  pub recorded : new.recorded ≡ recorded_more marks old.recorded
   pub stands : OnOk result (HandsOn old.stands new.stands (calls_of marks))
 
 -- it offers what it did before
@@ -186,21 +186,21 @@ gives_none (Some x) = false
 -- ---- says and takes
 
 -- what was said has a byte at least, and fits a piece
-abbrev pub SaysFits : {E : Type 0} → Result Bool E → List ℕ → Type 0
-SaysFits (Ok true) bytes = (0 < length bytes) × (length bytes ≤ LONGEST_PIECE)
-SaysFits (Ok false) bytes = Unit {0}
-SaysFits (Err e) bytes = Unit {0}
+abbrev pub SendsFits : {E : Type 0} → Result Bool E → List ℕ → Type 0
+SendsFits (Ok true) bytes = (0 < length bytes) × (length bytes ≤ LONGEST_PIECE)
+SendsFits (Ok false) bytes = Unit {0}
+SendsFits (Err e) bytes = Unit {0}
 
-abbrev pub says_marks : {E : Type 0} → Result Bool E → List ℕ → List HouseMark
-says_marks (Ok true) bytes = HouseSaid bytes ∷ []
-says_marks (Ok false) bytes = []
-says_marks (Err e) bytes = []
+abbrev pub sends_marks : {E : Type 0} → Result Bool E → List ℕ → List HouseMark
+sends_marks (Ok true) bytes = HouseSaid bytes ∷ []
+sends_marks (Ok false) bytes = []
+sends_marks (Err e) bytes = []
 
 -- whether it said that it has nothing to say
-abbrev pub says_nothing : {E : Type 0} → Result Bool E → Bool
-says_nothing (Ok true) = false
-says_nothing (Ok false) = true
-says_nothing (Err e) = false
+abbrev pub sends_nothing : {E : Type 0} → Result Bool E → Bool
+sends_nothing (Ok true) = false
+sends_nothing (Ok false) = true
+sends_nothing (Err e) = false
 
 abbrev pub takes_marks : {E : Type 0} → Result (Unit {0}) E → List ℕ → List HouseMark
 takes_marks (Ok x) bytes = HouseTook (length bytes) ∷ []

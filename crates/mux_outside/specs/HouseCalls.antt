@@ -19,7 +19,7 @@ pub data Happening : Type 0 where
 pub data HouseCall : Type 0 where
   Begins : (starts : Starts) → HouseCall
   Marks : (mark : HouseMark) → HouseCall
-  Hears : (bytes : List ℕ) → HouseCall
+  Receives : (bytes : List ℕ) → HouseCall
   Turns : (happening : Happening) → HouseCall
   Takes : (stream size : ℕ) → HouseCall
 

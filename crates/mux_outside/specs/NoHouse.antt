@@ -5,7 +5,7 @@ use Rattle.mux_outside.specs.House.{HouseState, nothing_known}
 -- it tells nothing, has nothing, and may have been called in any way
 abbrev pub no_house : HouseState
 no_house = record {
-  told = None;
+  recorded = None;
   known = nothing_known false;
   quiet = record { says = true; orders = true; answers = true };
   queue = λ t. [];

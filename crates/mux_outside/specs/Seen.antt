@@ -21,7 +21,7 @@ use Rattle.mux_outside.specs.declared.turn.Wrote.TheVariants.{Took, Later, Faile
 -- that are open, which stand among the open streams too; and the last number of either, the last
 -- one of a client before the first
 pub record Seen : Type 0 where
-  pub told : Option (List Mark)
+  pub recorded : Option (List Mark)
   pub streams : List ℕ
   pub blocked : List ℕ
   pub listens : Bool
@@ -33,7 +33,7 @@ pub record Seen : Type 0 where
 -- of a wire that was never called and tells nothing
 abbrev pub nothing_seen : Seen
 nothing_seen = record {
-  told = None;
+  recorded = None;
   streams = [];
   blocked = [];
   listens = false;
@@ -45,7 +45,7 @@ nothing_seen = record {
 
 -- the same but for what is told
 abbrev pub untold : Seen → Seen
-untold seen = record seen { told = None }
+untold seen = record seen { recorded = None }
 
 -- ---- marks and streams after a turn and after a write
 
@@ -177,8 +177,8 @@ moved_by_turn turn seen = record seen {
 -- after a turn
 abbrev pub seen_after_turn : Turn → List ℕ → Want → List ℕ → Seen → Seen
 seen_after_turn turn waiting want bytes seen = record (moved_by_turn turn seen) {
-  told = option_map (λ m.
-      m ++ wait_marks turn waiting want seen.streams seen.listens bytes) seen.told;
+  recorded = option_map (λ m.
+      m ++ wait_marks turn waiting want seen.streams seen.listens bytes) seen.recorded;
 }
 
 -- the streams after a write
@@ -189,7 +189,7 @@ moved_by_write wrote stream seen =
 -- after a write
 abbrev pub seen_after_write : Wrote → ℕ → List ℕ → Seen → Seen
 seen_after_write wrote stream bytes seen = record (moved_by_write wrote stream seen) {
-  told = option_map (λ m. m ++ write_marks wrote stream bytes) seen.told;
+  recorded = option_map (λ m. m ++ write_marks wrote stream bytes) seen.recorded;
 }
 
 -- after a stream was closed
@@ -203,7 +203,7 @@ seen_after_close stream seen = record seen {
 -- after a house's mark was noted
 abbrev pub seen_after_note : {E : Type 0} → Result (Unit {0}) E → HouseMark → Seen → Seen
 seen_after_note (Ok x) mark seen =
-    record seen { told = option_map (λ m. m ++ House mark ∷ []) seen.told }
+    record seen { recorded = option_map (λ m. m ++ House mark ∷ []) seen.recorded }
 seen_after_note (Err e) mark seen = seen
 
 -- after a listener was to be opened

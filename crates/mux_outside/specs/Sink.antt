@@ -17,12 +17,12 @@ Takes (Err Failed) before now bytes = TookPrefix before now bytes
 Takes (Err OutOfMemory) before now bytes = now ≡ before
 
 -- the same, where it is told
-abbrev pub TakesTold : Result (Unit {0}) FileError → Option (List ℕ) → Option (List ℕ)
+abbrev pub TakesRecorded : Result (Unit {0}) FileError → Option (List ℕ) → Option (List ℕ)
     → List ℕ → Type 0
-TakesTold answer None None bytes = Unit {0}
-TakesTold answer None (Some now) bytes = ⊥
-TakesTold answer (Some before) None bytes = ⊥
-TakesTold answer (Some before) (Some now) bytes = Takes answer before now bytes
+TakesRecorded answer None None bytes = Unit {0}
+TakesRecorded answer None (Some now) bytes = ⊥
+TakesRecorded answer (Some before) None bytes = ⊥
+TakesRecorded answer (Some before) (Some now) bytes = Takes answer before now bytes
 
 -- a sink in memory takes all bytes or none
 abbrev pub TakesOrNothing : Result (Unit {0}) FileError → List ℕ → List ℕ → List ℕ → Type 0

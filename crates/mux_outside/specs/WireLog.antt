@@ -1,7 +1,7 @@
 -- What a wire in memory keeps of its calls.
 use Rattle.std.specs.Prelude.{◌≡◌, ◌<◌, ◌≤◌, ◌⊎◌, ℕ, Bool, true, false, [], Result, Ok, Err}
 use Rattle.mux_outside.specs.Faults.{Faults, no_faults}
-use Rattle.mux_outside.specs.WireState.{WireState, nothing_called, telling}
+use Rattle.mux_outside.specs.WireState.{WireState, nothing_called, recording}
 use Rattle.mux_outside.specs.declared.file_error.FileError.{FileError}
 use Rattle.mux_outside.specs.declared.file_error.FileError.TheVariants.{Failed, OutOfMemory as NoMemory}
 use Rattle.mux_outside.specs.declared.own_streams.TheConstants.{LAST_OWN}
@@ -13,7 +13,7 @@ pub record Logged : Type 0 where
 
 -- nothing was called
 abbrev pub nothing_logged : Logged
-nothing_logged = record { state = telling [] [] [] nothing_called; faults = no_faults }
+nothing_logged = record { state = recording [] [] [] nothing_called; faults = no_faults }
 
 -- a call of open or join succeeds exactly where it is to, but for want of memory
 abbrev pub OpensAs : Bool → Result (Unit {0}) FileError → Type 0

@@ -36,9 +36,9 @@ nothing_called = record {
 }
 
 -- the same of a wire that tells these arguments of its calls of open and of join, and these marks
-abbrev pub telling : List OpenCall → List (List ℕ) → List Mark → WireState → WireState
-telling openings joinings marks state = record state {
-  seen = record state.seen { told = Some marks };
+abbrev pub recording : List OpenCall → List (List ℕ) → List Mark → WireState → WireState
+recording openings joinings marks state = record state {
+  seen = record state.seen { recorded = Some marks };
   openings = Some openings;
   joinings = Some joinings;
 }

@@ -10,7 +10,7 @@ use ssh_fields::{Text, Texts};
 /// Files and directories. What is told of them no call changes.
 pub trait Files {
     /// The paths and contents of all files, where they are told.
-    ghost told: { Self → Option (List ThePair) };
+    ghost recorded: { Self → Option (List ThePair) };
 
     /// How many calls failed.
     ghost faults: { Self → ℕ };
@@ -25,18 +25,18 @@ pub trait Files {
     /// The first `most` bytes of a file, fewer where it is shorter. `None`: there is no such file,
     /// or the path names a directory.
     fn read(&mut self, path: &[u8], most: usize) -> Result<Option<Text>, FileError>
-        ensures reads { Reads (told self.old) path.now most result }
+        ensures reads { Reads (recorded self.old) path.now most result }
         ensures at_most { IfOk result (λ found. IfSome found (λ text. length text ≤ most)) }
         ensures cause { HasCause result (faults self.old) (faults self.new) }
         ensures failed { NotesFailed result path.now (failed self.old) (failed self.new) }
         ensures noted { NotesReading result path.now most (readings self.old) (readings self.new) }
-        ensures told { told self.new ≡ told self.old };
+        ensures recorded { recorded self.new ≡ recorded self.old };
 
     /// The names in a directory, in any order. `None`: there is no such directory.
     fn list(&mut self, dir: &[u8]) -> Result<Option<Texts>, FileError>
-        ensures lists { Lists (told self.old) dir.now result }
+        ensures lists { Lists (recorded self.old) dir.now result }
         ensures cause { HasCause result (faults self.old) (faults self.new) }
         ensures failed { NotesFailed result dir.now (failed self.old) (failed self.new) }
         ensures noted { readings self.new ≡ readings self.old }
-        ensures told { told self.new ≡ told self.old };
+        ensures recorded { recorded self.new ≡ recorded self.old };
 }

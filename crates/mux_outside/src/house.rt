@@ -1,12 +1,12 @@
 ghost use Rattle.std.specs.Prelude.{◌≡◌, ◌∷◌, ◌≤◌, ℕ, false, [], List, length, OnOk, IfOk, IsSome, IsTrue, Ok};
 ghost use Rattle.mux_outside.specs.OwnStreams.{is_one, is_finished};
 ghost use Rattle.mux_outside.specs.declared.house.HouseReply.{HouseReply as TheReply};
-ghost use Rattle.mux_outside.specs.House.{HouseState as TheState, Gave, GaveOr, IsBlank, IsFresh, OffersSame, told_more};
+ghost use Rattle.mux_outside.specs.House.{HouseState as TheState, Gave, GaveOr, IsBlank, IsFresh, OffersSame, recorded_more};
 ghost use Rattle.mux_outside.specs.House.{ask_marks, known_after_ask, AnswerFits, answer_marks, known_after_answer, gives_none};
-ghost use Rattle.mux_outside.specs.House.{SaysFits, says_marks, says_nothing, takes_marks};
+ghost use Rattle.mux_outside.specs.House.{SendsFits, sends_marks, sends_nothing, takes_marks};
 ghost use Rattle.mux_outside.specs.House.{OrderFits, order_marks, known_after_order, NumberFits, ordered_marks, known_after_ordered};
 ghost use Rattle.mux_outside.specs.House.{OwnTurnFits, known_after_own_turn, queue_after_took};
-ghost use Rattle.mux_outside.specs.HouseCalls.{HouseCall as TheCall, Begins, Hears, HandsOn, Takes, Turns, happening_of};
+ghost use Rattle.mux_outside.specs.HouseCalls.{HouseCall as TheCall, Begins, Receives, HandsOn, Takes, Turns, happening_of};
 ghost use Rattle.mux_outside.specs.Greeting.{GreetsFirst};
 
 use crate::order::Order;
@@ -80,7 +80,7 @@ pub trait House: Asks {
         ensures present { result ≡ (Self.state self.now).known.present }
         ensures fresh { fresh self.now → IsFresh (Self.state self.now) }
         ensures begun { begun self.now
-            → IsBlank (Self.state self.now).known (Self.state self.now).told }
+            → IsBlank (Self.state self.now).known (Self.state self.now).recorded }
         ensures greets { IsTrue (Self.state self.now).known.present → (calls : List TheCall)
             → (Self.state self.now).stands calls → GreetsFirst calls };
 
@@ -92,7 +92,7 @@ pub trait House: Asks {
             ((Self.state self.new).known ≡ (Self.state self.old).known) }
         ensures must { OnOk result (IsTrue (Self.state self.old).known.present
             → (Self.state self.new).must ≡ starts.now.must) }
-        ensures told { (Self.state self.new).told ≡ (Self.state self.old).told }
+        ensures recorded { (Self.state self.new).recorded ≡ (Self.state self.old).recorded }
         ensures stands { OnOk result ((Self.state self.old).stands []
             → (Self.state self.new).stands (Begins starts.now ∷ [])) };
 
@@ -108,11 +108,11 @@ pub trait House: Asks {
     /// What it says next as a client, if anything.
     fn says(&mut self, into: &mut Piece) -> Result<bool, OutOfMemory>
         requires { (Self.state self.old).known.ordering ≡ None }
-        ensures fits { SaysFits result into.new }
-        ensures exact { OnOk result (says_nothing result ≡ (Self.state self.old).quiet.says) }
+        ensures fits { SendsFits result into.new }
+        ensures exact { OnOk result (sends_nothing result ≡ (Self.state self.old).quiet.says) }
         ensures still { result ≡ Ok false
             → OffersSame (Self.state self.old) (Self.state self.new) }
-        ensures gave { GaveOr result (says_marks result into.new) (λ said known. known)
+        ensures gave { GaveOr result (sends_marks result into.new) (λ said known. known)
             (Self.state self.old) (Self.state self.new) };
 
     /// Takes what is written to it as a client.
@@ -121,10 +121,10 @@ pub trait House: Asks {
         ensures known { OnOk result
             ((Self.state self.new).known ≡ (Self.state self.old).known) }
         ensures must { (Self.state self.new).must ≡ (Self.state self.old).must }
-        ensures told { (Self.state self.new).told
-            ≡ told_more (takes_marks result bytes.now) (Self.state self.old).told }
+        ensures recorded { (Self.state self.new).recorded
+            ≡ recorded_more (takes_marks result bytes.now) (Self.state self.old).recorded }
         ensures stands { OnOk result (HandsOn (Self.state self.old).stands
-            (Self.state self.new).stands (Hears bytes.now ∷ [])) };
+            (Self.state self.new).stands (Receives bytes.now ∷ [])) };
 
     /// What it orders next of the wire, if anything. After a Listen or a Connect its next call is
     /// `ordered`.
@@ -150,7 +150,7 @@ pub trait House: Asks {
         ensures known { OnOk result ((Self.state self.new).known
             ≡ known_after_own_turn t.entry (Self.state self.old).known) }
         ensures must { (Self.state self.new).must ≡ (Self.state self.old).must }
-        ensures told { (Self.state self.new).told ≡ (Self.state self.old).told }
+        ensures recorded { (Self.state self.new).recorded ≡ (Self.state self.old).recorded }
         ensures stands { OnOk result (HandsOn (Self.state self.old).stands
             (Self.state self.new).stands (Turns (happening_of t.entry) ∷ [])) };
 
@@ -170,7 +170,7 @@ pub trait House: Asks {
         ensures queues { (t : ℕ) → (Self.state self.new).queue t
             ≡ queue_after_took stream n t ((Self.state self.old).queue t) }
         ensures must { (Self.state self.new).must ≡ (Self.state self.old).must }
-        ensures told { (Self.state self.new).told ≡ (Self.state self.old).told }
+        ensures recorded { (Self.state self.new).recorded ≡ (Self.state self.old).recorded }
         ensures stands { HandsOn (Self.state self.old).stands (Self.state self.new).stands
             (Takes stream n ∷ []) };
 

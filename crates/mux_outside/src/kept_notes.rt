@@ -30,7 +30,7 @@ impl KeptNotes {
 }
 
 impl Notes for KeptNotes {
-    ghost told = { λ n. Some n.marks.items };
+    ghost recorded = { λ n. Some n.marks.items };
 
     ghost spare = { λ n. vec_capacity n.marks - vec_len n.marks };
 
@@ -53,7 +53,7 @@ impl Notes for KeptNotes {
 pub struct NoNotes;
 
 impl Notes for NoNotes {
-    ghost told = { λ _. None };
+    ghost recorded = { λ _. None };
 
     ghost spare = { λ _. 2 ^ 64 };
 

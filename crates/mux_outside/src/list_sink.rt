@@ -1,7 +1,7 @@
 ghost use Rattle.std.specs.Prelude.{◌≡◌, [], Some};
 ghost use Rattle.mux_outside.specs.Calls.{FailsByNumber, calls_after};
 ghost use Rattle.mux_outside.specs.Counts.{HasCause, counted as count_after};
-ghost use Rattle.mux_outside.specs.Sink.{TakesTold, TakesOrNothing};
+ghost use Rattle.mux_outside.specs.Sink.{TakesRecorded, TakesOrNothing};
 
 use crate::calls::Calls;
 use crate::counts::{counted, raised};
@@ -47,14 +47,14 @@ impl ListSink {
 }
 
 impl Sink for ListSink {
-    ghost told = { λ s. Some s.taken };
+    ghost recorded = { λ s. Some s.taken };
 
     ghost faults = { λ s. s.faults };
 
     ghost puts = { λ s. s.puts };
 
     fn put(&mut self, bytes: &[u8]) -> Result<(), FileError>
-        ensures taken { TakesTold result (Some self.old.taken) (Some self.new.taken) bytes.now }
+        ensures taken { TakesRecorded result (Some self.old.taken) (Some self.new.taken) bytes.now }
         ensures cause { HasCause result self.old.faults self.new.faults }
         ensures puts { self.new.puts ≡ count_after self.old.puts }
         ensures all_or_nothing { TakesOrNothing result self.old.taken self.new.taken bytes.now }

@@ -115,7 +115,7 @@ fn list_names(alloc: Global, files: &[Pair], dir: &[u8]) -> Result<Option<Texts>
 }
 
 impl Files for MapFiles {
-    ghost told = { λ f. Some f.files };
+    ghost recorded = { λ f. Some f.files };
 
     ghost faults = { λ f. f.faults };
 
@@ -127,7 +127,7 @@ impl Files for MapFiles {
         ensures reads { Reads (Some self.old.files) path.now most result }
         ensures at_most { IfOk result (λ found. IfSome found (λ text. length text ≤ most)) }
         ensures cause { HasCause result self.old.faults self.new.faults }
-        ensures told { Some self.new.files ≡ Some self.old.files }
+        ensures recorded { Some self.new.files ≡ Some self.old.files }
         ensures failed { NotesFailed result path.now (Some self.old.failed) (Some self.new.failed) }
         ensures noted { NotesReading result path.now most (Some self.old.readings)
             (Some self.new.readings) }
@@ -153,7 +153,7 @@ impl Files for MapFiles {
     fn list(&mut self, dir: &[u8]) -> Result<Option<Texts>, FileError>
         ensures lists { Lists (Some self.old.files) dir.now result }
         ensures cause { HasCause result self.old.faults self.new.faults }
-        ensures told { Some self.new.files ≡ Some self.old.files }
+        ensures recorded { Some self.new.files ≡ Some self.old.files }
         ensures failed { NotesFailed result dir.now (Some self.old.failed) (Some self.new.failed) }
         ensures noted { Some self.new.readings ≡ Some self.old.readings }
         ensures exact { FailsWhereNoted result self.old.calls self.old.fails }

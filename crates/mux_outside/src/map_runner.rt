@@ -63,7 +63,7 @@ fn status_of(statuses: &[CommandStatus], command: &[u8]) -> u8
 }
 
 impl Runner for MapRunner {
-    ghost told = { λ r. Some r.statuses };
+    ghost recorded = { λ r. Some r.statuses };
 
     ghost ran = { λ r. Some r.ran };
 
@@ -74,7 +74,7 @@ impl Runner for MapRunner {
         ensures ran { Some self.new.ran
             ≡ option_map (λ cs. cs ++ commands_run result command.now) (Some self.old.ran) }
         ensures cause { HasCause result self.old.faults self.new.faults }
-        ensures told { Some self.new.statuses ≡ Some self.old.statuses }
+        ensures recorded { Some self.new.statuses ≡ Some self.old.statuses }
         ensures exact { FailsByNumber result self.old.calls self.old.fails }
         ensures calls { self.new.calls ≡ calls_after result self.old.calls }
         ensures fails { self.new.fails ≡ self.old.fails }

@@ -13,17 +13,17 @@ use std::alloc::Global;
 /// where they are the same.
 #[derive(Drop)]
 pub struct Marks {
-    pub told: Vec<Mark>,
+    pub recorded: Vec<Mark>,
     waiting: Option<KeptStreams>,
 }
 
 impl Marks {
     /// No mark.
     pub fn new(alloc: Global) -> Marks
-        ensures { result.told.items ≡ [] }
+        ensures { result.recorded.items ≡ [] }
     {
         Marks {
-            told: Vec::new(alloc),
+            recorded: Vec::new(alloc),
             waiting: None,
         }
     }
@@ -38,7 +38,7 @@ impl Marks {
         listening: bool,
     ) -> Result<Mark, OutOfMemory>
         ensures mark { IfOk result (λ mark. mark ≡ Waits waiting.now want streams listening) }
-        ensures told { self.new.told ≡ self.old.told }
+        ensures recorded { self.new.recorded ≡ self.old.recorded }
     {
         let waiting = keep(alloc, &mut self.waiting, waiting.as_slice())?;
         Ok(Mark::Waits(waiting, want, streams, listening))

@@ -8,26 +8,26 @@ use ssh_fields::OutOfMemory;
 /// Where a house hands its marks.
 pub trait Notes {
     /// The marks taken, where they are told.
-    ghost told: { Self → Option (List TheMark) };
+    ghost recorded: { Self → Option (List TheMark) };
 
     /// For how many marks there is room.
     ghost spare: { Self → ℕ };
 
     /// Whether they keep any mark. Where they don't, none need be made.
     fn keeps(&self) -> bool
-        ensures { result ≡ false → told self.now ≡ None };
+        ensures { result ≡ false → recorded self.now ≡ None };
 
     /// Makes room for so many marks at least.
     fn room(&mut self, n: usize) -> Result<(), OutOfMemory>
         ensures ok { OnOk result (n ≤ spare self.new) }
         ensures more { OnOk result (spare self.old ≤ spare self.new) }
         ensures unchanged { OnErr result (spare self.new ≡ spare self.old) }
-        ensures told { told self.new ≡ told self.old };
+        ensures recorded { recorded self.new ≡ recorded self.old };
 
     /// Takes a mark, and no memory.
     fn note(&mut self, m: HouseMark)
         requires { 1 ≤ spare self.old }
-        ensures told { told self.new
-            ≡ option_map (λ marks. marks ++ m ∷ []) (told self.old) }
+        ensures recorded { recorded self.new
+            ≡ option_map (λ marks. marks ++ m ∷ []) (recorded self.old) }
         ensures spare { spare self.old ≤ spare self.new + 1 };
 }

@@ -26,16 +26,16 @@ pub fn marks_of_wait(
 ) -> Result<(Mark, Mark), OutOfMemory>
     ensures marks { IfOk result (λ two. wait_marks turn waiting.now want state.old.seen.streams
         state.old.seen.listens bytes.now ≡ two.0 ∷ two.1 ∷ []) }
-    ensures told { marks.new.told.items ≡ marks.old.told.items }
+    ensures recorded { marks.new.recorded.items ≡ marks.old.recorded.items }
     ensures room { OnOk result
-        (vec_len marks.new.told + 2 ≤ vec_capacity marks.new.told) }
+        (vec_len marks.new.recorded + 2 ≤ vec_capacity marks.new.recorded) }
     ensures state { state.new ≡ state.old }
     ensures memory { OnOk result (turn ≢ NoMemory) }
 {
     let gives = mark_of_turn(alloc, turn, bytes)?;
     let open = state.keep()?;
     let waits = marks.wait_mark(alloc, waiting, want, open, state.is_listening())?;
-    marks.told.reserve(2)?;
+    marks.recorded.reserve(2)?;
     Ok((waits, gives))
 }
 
@@ -64,8 +64,8 @@ pub fn mark_of_write(
 ) -> Result<Mark, OutOfMemory>
     requires { WroteFits wrote (length bytes.now) }
     ensures mark { IfOk result (λ mark. write_marks wrote stream bytes.now ≡ mark ∷ []) }
-    ensures told { marks.new.told.items ≡ marks.old.told.items }
-    ensures room { OnOk result (vec_len marks.new.told + 1 ≤ vec_capacity marks.new.told) }
+    ensures recorded { marks.new.recorded.items ≡ marks.old.recorded.items }
+    ensures room { OnOk result (vec_len marks.new.recorded + 1 ≤ vec_capacity marks.new.recorded) }
     ensures memory { OnOk result (wrote ≢ NoMemoryToWrite) }
 {
     let mark = match wrote {
@@ -74,6 +74,6 @@ pub fn mark_of_write(
         Wrote::Failed => Mark::WriteFails(stream),
         Wrote::NoMemory => return Err(OutOfMemory),
     };
-    marks.told.reserve(1)?;
+    marks.recorded.reserve(1)?;
     Ok(mark)
 }

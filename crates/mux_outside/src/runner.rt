@@ -9,7 +9,7 @@ use crate::file_error::FileError;
 /// What runs commands.
 pub trait Runner {
     /// The statuses of commands, where they are told.
-    ghost told: { Self → Option (List TheStatus) };
+    ghost recorded: { Self → Option (List TheStatus) };
 
     /// The commands that were run, in order, where they are told.
     ghost ran: { Self → Option (List (List ℕ)) };
@@ -19,9 +19,9 @@ pub trait Runner {
 
     /// The status with which a command of the shell ends.
     fn run(&mut self, command: &[u8]) -> Result<u8, FileError>
-        ensures status { EndsWith (told self.old) command.now result }
+        ensures status { EndsWith (recorded self.old) command.now result }
         ensures ran { ran self.new ≡ option_map (λ cs. cs ++ commands_run result command.now)
             (ran self.old) }
         ensures cause { HasCause result (faults self.old) (faults self.new) }
-        ensures told { told self.new ≡ told self.old };
+        ensures recorded { recorded self.new ≡ recorded self.old };
 }

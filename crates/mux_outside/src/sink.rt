@@ -1,13 +1,13 @@
 ghost use Rattle.std.specs.Prelude.{◌≡◌, ℕ, List, Option};
 ghost use Rattle.mux_outside.specs.Counts.{HasCause, counted};
-ghost use Rattle.mux_outside.specs.Sink.{TakesTold};
+ghost use Rattle.mux_outside.specs.Sink.{TakesRecorded};
 
 use crate::file_error::FileError;
 
 /// What takes the bytes that are written.
 pub trait Sink {
     /// The bytes taken, in order, where they are told.
-    ghost told: { Self → Option (List ℕ) };
+    ghost recorded: { Self → Option (List ℕ) };
 
     /// How many calls failed.
     ghost faults: { Self → ℕ };
@@ -19,7 +19,7 @@ pub trait Sink {
     /// Hands bytes over. `Ok`: all were taken; `Failed`: a prefix was taken; `OutOfMemory`: nothing
     /// was taken.
     fn put(&mut self, bytes: &[u8]) -> Result<(), FileError>
-        ensures taken { TakesTold result (told self.old) (told self.new) bytes.now }
+        ensures taken { TakesRecorded result (recorded self.old) (recorded self.new) bytes.now }
         ensures cause { HasCause result (faults self.old) (faults self.new) }
         ensures puts { puts self.new ≡ counted (puts self.old) };
 }

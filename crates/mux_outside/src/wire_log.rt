@@ -37,12 +37,12 @@ pub struct WireLog {
 
 impl Model for WireLog {
     ghost use Rattle.mux_outside.specs.WireLog.{Logged};
-    ghost use Rattle.mux_outside.specs.WireState.{telling};
+    ghost use Rattle.mux_outside.specs.WireState.{recording};
 
     ghost Value = { Logged };
 
     ghost view = { λ l. record {
-      state = telling l.openings.items l.joinings.items l.marks.told.items l.state;
+      state = recording l.openings.items l.joinings.items l.marks.recorded.items l.state;
       faults = l.faults;
     } };
 }
@@ -94,9 +94,9 @@ impl WireLog {
 
     /// The marks so far.
     pub fn marks(&self) -> &[Mark]
-        ensures { Some result.now ≡ self.now.state.seen.told }
+        ensures { Some result.now ≡ self.now.state.seen.recorded }
     {
-        self.marks.told.as_slice()
+        self.marks.recorded.as_slice()
     }
 
     /// The arguments of the calls of `open` so far.
@@ -116,9 +116,9 @@ impl WireLog {
     /// All bytes that a stream took.
     pub fn taken(&self, stream: u64) -> Result<Text, OutOfMemory>
         ensures { IfOk result (λ bytes. Some bytes
-            ≡ option_map (all_taken stream) self.now.state.seen.told) }
+            ≡ option_map (all_taken stream) self.now.state.seen.recorded) }
     {
-        bytes_taken(self.alloc, &self.marks.told, stream)
+        bytes_taken(self.alloc, &self.marks.recorded, stream)
     }
 
     /// Keeps a call of `open` with these arguments, which succeeds or fails. A failure counts as
@@ -196,8 +196,8 @@ impl WireLog {
         };
         self.state.waited(turn)?;
         self.faults.waited(turn);
-        self.marks.told.push_reserved(waits);
-        self.marks.told.push_reserved(gives);
+        self.marks.recorded.push_reserved(waits);
+        self.marks.recorded.push_reserved(gives);
         Ok(())
     }
 
@@ -217,7 +217,7 @@ impl WireLog {
         };
         self.state.wrote(wrote, stream)?;
         self.faults.wrote(wrote, stream);
-        self.marks.told.push_reserved(mark);
+        self.marks.recorded.push_reserved(mark);
         Ok(())
     }
 
@@ -243,7 +243,7 @@ impl WireLog {
         ensures faults { self.new.faults ≡ self.old.faults }
     {
         let kept = KeptMark::copy(self.alloc, mark)?;
-        self.marks.told.push(Mark::House(kept))?;
+        self.marks.recorded.push(Mark::House(kept))?;
         Ok(())
     }
 

@@ -44,7 +44,7 @@ impl Model for WireState {
 
     ghost view = { λ s. record {
       seen = record {
-        told = None;
+        recorded = None;
         streams = s.streams;
         blocked = s.blocked;
         listens = s.listening;

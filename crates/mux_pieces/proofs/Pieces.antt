@@ -3,7 +3,7 @@ use Rattle.std.proofs.Common.{◌≡◌, ◌∙◌, refl, ap, sym, ℕ, Bool, tr
 use Rattle.std.proofs.lemmas.Bool.Decides.{eqb_tells}
 use Rattle.std.specs.Prelude.{reverse}
 use Rattle.std.proofs.lemmas.List.{append-nil, reverse-append}
-use Rattle.ssh_grammar.specs.Said.{InControl, InProxy, Mode, Parsed, Saying, parse}
+use Rattle.ssh_grammar.specs.Said.{InControl, InProxy, Mode, Parsed, Outgoing, parse}
 use Rattle.ssh_grammar.proofs.Parses.{parse-append}
 use Rattle.mux_outside.specs.declared.mark.Mark.{Mark}
 use Rattle.mux_outside.specs.declared.mark.Mark.TheVariants as wire
@@ -11,30 +11,30 @@ use Rattle.mux_outside.specs.declared.turn.Want.{Want}
 use Rattle.mux_outside.specs.declared.house_mark.HouseMark.{HouseMark}
 use Rattle.mux_outside.specs.declared.house_mark.HouseMark.TheVariants.{HouseAnswer, HouseAsked, HouseIn, HouseOrder, HouseSaid, HouseTook}
 use Rattle.mux_history.specs.declared.limits.TheConstants.{HOUSE}
-use Rattle.mux_history.specs.Journal.{bytes_in, bytes_of, heard_item, is_own_stream, items, items_in, new_heard, new_sayings, said_item, server_end, unless_own}
+use Rattle.mux_history.specs.Journal.{bytes_in, bytes_of, received_item, is_own_stream, items, items_in, new_received, new_sayings, sent_item, server_end, unless_own}
 use Rattle.mux_history.specs.Rows.{Item, Gone}
 use Rattle.mux_pieces.specs.Pieces.{AreAlike}
 
 -- ---- what is new in two parts
 
-drop-front : (xs ys : List Saying) → drop (length xs) (xs ++ ys) ≡ ys
+drop-front : (xs ys : List Outgoing) → drop (length xs) (xs ++ ys) ≡ ys
 drop-front [] ys = refl
 drop-front (x ∷ xs) ys = drop-front xs ys
 
 -- what is behind the first of three is what is behind it of two, and the third
-drop-two : (xs ys zs : List Saying) → drop (length xs) ((xs ++ ys) ++ zs) ≡ ys ++ zs
+drop-two : (xs ys zs : List Outgoing) → drop (length xs) ((xs ++ ys) ++ zs) ≡ ys ++ zs
 drop-two xs ys zs = ap (drop (length xs)) (append_assoc xs ys zs) ∙ drop-front xs (ys ++ zs)
 
-pub map-append : (f : Saying → Item) (xs ys : List Saying) → map f (xs ++ ys) ≡ map f xs ++ map f ys
+pub map-append : (f : Outgoing → Item) (xs ys : List Outgoing) → map f (xs ++ ys) ≡ map f xs ++ map f ys
 map-append f [] ys = refl
 map-append f (x ∷ xs) ys = ap (λ l. f x ∷ l) (map-append f xs ys)
 
 -- what is said from a mode on
-abbrev pub says : Mode → List ℕ → List Saying
+abbrev pub says : Mode → List ℕ → List Outgoing
 says mode bytes = (parse mode bytes).says
 
 -- what more bytes say
-abbrev pub more : Mode → List ℕ → List ℕ → List Saying
+abbrev pub more : Mode → List ℕ → List ℕ → List Outgoing
 more mode a b = (parse (parse mode a).mode ((parse mode a).rest ++ b)).says
 
 pub says-more : (mode : Mode) (a b : List ℕ) → says mode (a ++ b) ≡ says mode a ++ more mode a b
@@ -54,27 +54,27 @@ new-parts mode x a b =
     ∙ (ap (λ l. l ++ more mode (x ++ a) b) (sym (new-is mode x a))
     ∙ ap (λ l. drop (length (says mode x)) (says mode (x ++ a)) ++ l) (sym (new-is mode (x ++ a) b)))))
 
-items-parts : (f : Saying → Item) (mode : Mode) (x a b : List ℕ)
+items-parts : (f : Outgoing → Item) (mode : Mode) (x a b : List ℕ)
     → map f (drop (length (says mode x)) (says mode (x ++ (a ++ b))))
     ≡ map f (drop (length (says mode x)) (says mode (x ++ a))) ++ map f (drop (length (says mode (x ++ a))) (says mode ((x ++ a) ++ b)))
 items-parts f mode x a b = ap (map f) (new-parts mode x a b) ∙ map-append f _ _
 
 -- the items of a piece of the stream, which is the server's or a client's
 abbrev new_items : Bool → ℕ → List ℕ → List ℕ → List Item
-new_items is_server t x y = elim is_server as (λ _. List Item) [ true ↦ new_heard x y | false ↦ unless_own t (new_sayings t x y) ]
+new_items is_server t x y = elim is_server as (λ _. List Item) [ true ↦ new_received x y | false ↦ unless_own t (new_sayings t x y) ]
 
 -- the items of a client's piece, of which one of the master's own has none
-abbrev new_said : ℕ → List ℕ → List ℕ → List Item
-new_said t x y = unless_own t (new_sayings t x y)
+abbrev new_sent : ℕ → List ℕ → List ℕ → List Item
+new_sent t x y = unless_own t (new_sayings t x y)
 
 new-items-parts : (b : Bool) (t : ℕ) (x a c : List ℕ)
     → new_items b t x (x ++ (a ++ c)) ≡ new_items b t x (x ++ a) ++ new_items b t (x ++ a) ((x ++ a) ++ c)
-new-items-parts true t x a c = items-parts heard_item InProxy x a c
+new-items-parts true t x a c = items-parts received_item InProxy x a c
 new-items-parts false t x a c = by_own (is_own_stream t)
   where
     by_own : (b : Bool) → elim b as (λ _. List Item) [ true ↦ [] | false ↦ new_sayings t x (x ++ (a ++ c)) ] ≡ elim b as (λ _. List Item) [ true ↦ [] | false ↦ new_sayings t x (x ++ a) ] ++ elim b as (λ _. List Item) [ true ↦ [] | false ↦ new_sayings t (x ++ a) ((x ++ a) ++ c) ]
     by_own true = refl
-    by_own false = items-parts (said_item t) InControl x a c
+    by_own false = items-parts (sent_item t) InControl x a c
 
 -- ---- a piece in two parts
 
@@ -109,8 +109,8 @@ module _ (before : List Mark) (waiting : List ℕ) (want : Want) (streams : List
   items-zero : (a b : List ℕ) → items (wire.Gets 0 b ∷ then_waits 0 a) ≡ items (wire.Gets 0 (a ++ b) ∷ before)
   items-zero a b =
       let x = bytes_of 0 before in
-      ap (λ y. reverse (new_heard y (y ++ b)) ++ (reverse (new_heard x (x ++ a)) ++ items before)) (append-nil (x ++ a))
-      ∙ joined (new_heard (x ++ a) ((x ++ a) ++ b)) (new_heard x (x ++ a)) (new_heard x (x ++ (a ++ b))) (items before) (new-items-parts true 0 x a b)
+      ap (λ y. reverse (new_received y (y ++ b)) ++ (reverse (new_received x (x ++ a)) ++ items before)) (append-nil (x ++ a))
+      ∙ joined (new_received (x ++ a) ((x ++ a) ++ b)) (new_received x (x ++ a)) (new_received x (x ++ (a ++ b))) (items before) (new-items-parts true 0 x a b)
 
   items-other : (t : ℕ) (a b : List ℕ) → (t == 0) ≡ false → items (wire.Gets t b ∷ then_waits t a) ≡ items (wire.Gets t (a ++ b) ∷ before)
   items-other t a b e =
@@ -118,10 +118,10 @@ module _ (before : List Mark) (waiting : List ℕ) (want : Want) (streams : List
       let x0 = bytes_of 0 before in
       let y0 = bytes_of 0 (then_waits t a) in
       let y' = bytes_of t (then_waits t a) in
-      ap (λ c. reverse (elim c as (λ _. List Item) [ true ↦ new_heard y0 (y0 ++ b) | false ↦ new_said t y' (y' ++ b) ]) ++ (reverse (elim c as (λ _. List Item) [ true ↦ new_heard x0 (x0 ++ a) | false ↦ new_said t x (x ++ a) ]) ++ items before)) e
-      ∙ (ap (λ y. reverse (new_said t y (y ++ b)) ++ (reverse (new_said t x (x ++ a)) ++ items before)) (behind t a)
-      ∙ (joined (new_said t (x ++ a) ((x ++ a) ++ b)) (new_said t x (x ++ a)) (new_said t x (x ++ (a ++ b))) (items before) (new-items-parts false t x a b)
-      ∙ sym (ap (λ c. reverse (elim c as (λ _. List Item) [ true ↦ new_heard x0 (x0 ++ (a ++ b)) | false ↦ new_said t x (x ++ (a ++ b)) ]) ++ items before) e)))
+      ap (λ c. reverse (elim c as (λ _. List Item) [ true ↦ new_received y0 (y0 ++ b) | false ↦ new_sent t y' (y' ++ b) ]) ++ (reverse (elim c as (λ _. List Item) [ true ↦ new_received x0 (x0 ++ a) | false ↦ new_sent t x (x ++ a) ]) ++ items before)) e
+      ∙ (ap (λ y. reverse (new_sent t y (y ++ b)) ++ (reverse (new_sent t x (x ++ a)) ++ items before)) (behind t a)
+      ∙ (joined (new_sent t (x ++ a) ((x ++ a) ++ b)) (new_sent t x (x ++ a)) (new_sent t x (x ++ (a ++ b))) (items before) (new-items-parts false t x a b)
+      ∙ sym (ap (λ c. reverse (elim c as (λ _. List Item) [ true ↦ new_received x0 (x0 ++ (a ++ b)) | false ↦ new_sent t x (x ++ (a ++ b)) ]) ++ items before) e)))
 
   items-alike : (t : ℕ) (a b : List ℕ) → items (wire.Gets t b ∷ then_waits t a) ≡ items (wire.Gets t (a ++ b) ∷ before)
   items-alike t a b = elim (eqb_tells t 0) [
@@ -141,8 +141,8 @@ parts-alike before t a b waiting want streams listens = record {
 module _ (marks others : List Mark) (same : (t : ℕ) → bytes_of t marks ≡ bytes_of t others) where
   mark-alike : (mark : Mark) → items_in marks mark ≡ items_in others mark
   mark-alike (wire.Gets t bytes) =
-      ap (λ x. elim (t == 0) as (λ _. List Item) [ true ↦ new_heard x (x ++ bytes) | false ↦ new_said t (bytes_of t marks) (bytes_of t marks ++ bytes) ]) (same 0)
-      ∙ ap (λ x. elim (t == 0) as (λ _. List Item) [ true ↦ new_heard (bytes_of 0 others) (bytes_of 0 others ++ bytes) | false ↦ new_said t x (x ++ bytes) ]) (same t)
+      ap (λ x. elim (t == 0) as (λ _. List Item) [ true ↦ new_received x (x ++ bytes) | false ↦ new_sent t (bytes_of t marks) (bytes_of t marks ++ bytes) ]) (same 0)
+      ∙ ap (λ x. elim (t == 0) as (λ _. List Item) [ true ↦ new_received (bytes_of 0 others) (bytes_of 0 others ++ bytes) | false ↦ new_sent t x (x ++ bytes) ]) (same t)
   mark-alike (wire.Ends t) = ap (λ x. elim (t == 0) as (λ _. List Item) [ true ↦ server_end (parse InProxy x).rest ∷ [] | false ↦ unless_own t (Gone t ∷ []) ]) (same 0)
   mark-alike (wire.Accepts k) = refl
   mark-alike (wire.Fails t) = refl

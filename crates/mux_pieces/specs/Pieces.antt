@@ -5,7 +5,7 @@ use Rattle.mux_outside.specs.declared.mark.Mark.{Mark}
 use Rattle.mux_outside.specs.declared.mark.Mark.TheVariants.{Waits, Gets}
 use Rattle.mux_outside.specs.declared.turn.Want.{Want}
 use Rattle.ssh_grammar.specs.Said.{Body, heard, said}
-use Rattle.mux_history.specs.Journal.{bytes_of, heard_item, is_own_stream, items, log_of_journal, said_item}
+use Rattle.mux_history.specs.Journal.{bytes_of, received_item, is_own_stream, items, log_of_journal, sent_item}
 use Rattle.mux_history.specs.Policy.{Policy}
 use Rattle.mux_history.specs.Rows.{BadServer, Heard, Item, Says}
 use Rattle.mux_history.specs.Settings.{by_lists}
@@ -66,9 +66,9 @@ CutsMakeNoDifference =
 -- ---- what is said is said by all bytes of a stream
 
 -- an item that this client says
-abbrev pub is_said_by : ℕ → Item → Bool
-is_said_by k (Says j saying given) = j == k
-is_said_by k item = false
+abbrev pub is_sent_by : ℕ → Item → Bool
+is_sent_by k (Says j outgoing given) = j == k
+is_sent_by k item = false
 
 -- an item that the server says
 abbrev pub is_by_server : Item → Bool
@@ -81,19 +81,19 @@ is_by_server item = false
 abbrev pub SayingsAreOfBytes : Type 0
 SayingsAreOfBytes =
     (marks : List Mark) (k : ℕ) → 0 < k → is_own_stream k ≡ false
-    → filter (is_said_by k) (reverse (items marks)) ≡ map (said_item k) (said (bytes_of k marks))
+    → filter (is_sent_by k) (reverse (items marks)) ≡ map (sent_item k) (said (bytes_of k marks))
 
 -- the same of the server
-abbrev pub HeardIsOfBytes : Type 0
-HeardIsOfBytes =
+abbrev pub ReceivedIsOfBytes : Type 0
+ReceivedIsOfBytes =
     (marks : List Mark)
-    → filter is_by_server (reverse (items marks)) ≡ map heard_item (heard (bytes_of 0 marks))
+    → filter is_by_server (reverse (items marks)) ≡ map received_item (heard (bytes_of 0 marks))
 
 -- ---- the bytes of each stream and the order in which they complete make the items
 
 -- an item without its words: who says something, or else what happens
 abbrev pub without_words : Item → Item
-without_words (Says k saying given) = Says k (Body []) None
+without_words (Says k outgoing given) = Says k (Body []) None
 without_words (Heard p) = Heard []
 without_words (BadServer fault) = Heard []
 without_words item = item

@@ -1,4 +1,4 @@
-ghost use Rattle.mux_pieces.specs.Pieces.{PartsGiveAlike, JournalsGoOnAlike, CutsMakeNoDifference, ItemsMakeRows, SayingsAreOfBytes, HeardIsOfBytes, BytesMakeItems, BytesMakeRows};
+ghost use Rattle.mux_pieces.specs.Pieces.{PartsGiveAlike, JournalsGoOnAlike, CutsMakeNoDifference, ItemsMakeRows, SayingsAreOfBytes, ReceivedIsOfBytes, BytesMakeItems, BytesMakeRows};
 
 /// A piece that comes in two parts, with a wait between, gives the items that it gives as a whole.
 pub fn parts_give_alike()
@@ -26,7 +26,7 @@ pub fn items_make_rows()
 /// order, and so do those of the server.
 pub fn sayings_are_of_bytes()
     ensures clients { SayingsAreOfBytes }
-    ensures server { HeardIsOfBytes }
+    ensures server { ReceivedIsOfBytes }
 {}
 
 /// The same bytes of each stream, cut in any way and completing in the same order, make the same

@@ -35,16 +35,16 @@ impl<R: Files + Drop> Drop for Temporary<R> {
 
 /// The name of the control socket, which is removed when this is dropped, if it still names our
 /// socket.
-pub struct Control<R: Files + Drop> {
+pub struct ControlSocket<R: Files + Drop> {
     rt: R,
     path: String,
     dev: u64,
     ino: u64,
 }
 
-impl<R: Files + Drop> Drop for Control<R> {
+impl<R: Files + Drop> Drop for ControlSocket<R> {
     fn drop(self) {
-        let Control { rt, path, dev, ino } = self;
+        let ControlSocket { rt, path, dev, ino } = self;
         if let Ok(found) = fs::symlink_metadata(&rt, path.as_str()) {
             if found.dev() == dev && found.ino() == ino {
                 let _ = fs::remove_file(&rt, path.as_str());
@@ -203,7 +203,7 @@ impl<R: Files + Net + Clone + Drop> Unnamed<R> {
         rt: &R,
         alloc: Global,
         path: &str,
-    ) -> io::Result<(UnixListener, Control<R>)>
+    ) -> io::Result<(UnixListener, ControlSocket<R>)>
         ensures listener { IfOk result (λ named. named.0 ≡ self.listener) }
         ensures path { IfOk result (λ named. string_bytes named.1.path ≡ path.now) }
         ensures dev { IfOk result (λ named. named.1.dev ≡ self.dev) }
@@ -218,7 +218,7 @@ impl<R: Files + Net + Clone + Drop> Unnamed<R> {
         let name = String::from_str(alloc, path)?;
         let owner = rt.clone()?;
         fs::hard_link(rt, temporary.path.as_str(), path)?;
-        let control = Control {
+        let control = ControlSocket {
             rt: owner,
             path: name,
             dev,

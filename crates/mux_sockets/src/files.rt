@@ -37,7 +37,7 @@ impl<R: System + AllocGlobal + Clone + Drop> RealFiles<R> {
 }
 
 impl<R: System + AllocGlobal + Clone + Drop> Files for RealFiles<R> {
-    ghost told = { λ _. None };
+    ghost recorded = { λ _. None };
 
     ghost faults = { λ f. f.faults };
 

@@ -2,9 +2,9 @@
 ghost use Rattle.std.specs.Prelude.{◌≡◌, ◌≢◌, Err, IfOk, IsErr, IsNone, IsSome, IsUtf8, OnOk};
 ghost use Rattle.std.specs.IoError.{error_kind};
 
-use crate::control::{Control, Unnamed, listen_beside};
+use crate::control::{ControlSocket, Unnamed, listen_beside};
 use crate::transport::{connect, connect_unix};
-use mux_edge::Table;
+use mux_edge::StreamTable;
 use std::alloc::Global;
 use std::fs::Files;
 use std::io::ErrorKind;
@@ -14,7 +14,7 @@ use std::{io, str};
 /// Why the sockets did not open.
 #[derive(Clone, Copy)]
 pub enum Fault {
-    Control,
+    ControlSocket,
     Transport,
     Memory,
 }
@@ -25,12 +25,12 @@ pub fn open<R: Files + Net + Clone + Drop>(
     alloc: Global,
     control: &[u8],
     transport: &[u8],
-) -> Result<(Control<R>, Table), Fault>
-    ensures not_text { ¬ (IsUtf8 control.now) → result ≡ Err Fault.Control }
+) -> Result<(ControlSocket<R>, StreamTable), Fault>
+    ensures not_text { ¬ (IsUtf8 control.now) → result ≡ Err Fault.ControlSocket }
     ensures listens { IfOk result (λ opened. IsSome opened.1.listener) }
 {
     let Ok(path) = str::from_utf8(control) else {
-        return Err(Fault::Control);
+        return Err(Fault::ControlSocket);
     };
     open_at(rt, alloc, path, transport)
 }
@@ -41,16 +41,16 @@ fn open_at<R: Files + Net + Clone + Drop>(
     alloc: Global,
     path: &str,
     transport: &[u8],
-) -> Result<(Control<R>, Table), Fault>
+) -> Result<(ControlSocket<R>, StreamTable), Fault>
     ensures { IfOk result (λ opened. IsSome opened.1.listener) }
 {
-    let unnamed = listen_beside(rt, alloc, path).map_err(|e| fault_of(&e, Fault::Control))?;
+    let unnamed = listen_beside(rt, alloc, path).map_err(|e| fault_of(&e, Fault::ControlSocket))?;
     let mut table = connected(rt, alloc, transport).map_err(|e| fault_of(&e, Fault::Transport))?;
     match publish(rt, alloc, path, unnamed, &mut table) {
         Ok(control) => Ok((control, table)),
         Err(e) => {
             drop(table);
-            Err(fault_of(&e, Fault::Control))
+            Err(fault_of(&e, Fault::ControlSocket))
         }
     }
 }
@@ -61,8 +61,8 @@ fn publish<R: Files + Net + Clone + Drop>(
     alloc: Global,
     path: &str,
     unnamed: Unnamed<R>,
-    table: &mut Table,
-) -> io::Result<Control<R>>
+    table: &mut StreamTable,
+) -> io::Result<ControlSocket<R>>
     ensures { OnOk result (IsSome table.new.listener) }
 {
     let (listener, control) = unnamed.publish(rt, alloc, path)?;
@@ -71,7 +71,7 @@ fn publish<R: Files + Net + Clone + Drop>(
 }
 
 /// Connects to another master's control socket. Nothing listens, and nothing has a name.
-pub fn join<N: Files + Net>(rt: &N, alloc: Global, control: &[u8]) -> Result<Table, Fault>
+pub fn join<N: Files + Net>(rt: &N, alloc: Global, control: &[u8]) -> Result<StreamTable, Fault>
     ensures not_text { ¬ (IsUtf8 control.now) → IsErr result }
     ensures deaf { IfOk result (λ table. IsNone table.listener) }
 {
@@ -79,18 +79,18 @@ pub fn join<N: Files + Net>(rt: &N, alloc: Global, control: &[u8]) -> Result<Tab
 }
 
 // The other master's stream alone.
-fn joined<N: Files + Net>(rt: &N, alloc: Global, control: &[u8]) -> io::Result<Table>
+fn joined<N: Files + Net>(rt: &N, alloc: Global, control: &[u8]) -> io::Result<StreamTable>
     ensures not_text { ¬ (IsUtf8 control.now) → IsErr result }
     ensures deaf { IfOk result (λ table. IsNone table.listener) }
 {
     let stream = connect_unix(rt, control)?;
-    Table::alone(rt, alloc, stream)
+    StreamTable::alone(rt, alloc, stream)
 }
 
 // The server's stream alone.
-fn connected<N: Files + Net>(rt: &N, alloc: Global, transport: &[u8]) -> io::Result<Table> {
+fn connected<N: Files + Net>(rt: &N, alloc: Global, transport: &[u8]) -> io::Result<StreamTable> {
     let stream = connect(rt, alloc, transport)?;
-    Table::alone(rt, alloc, stream)
+    StreamTable::alone(rt, alloc, stream)
 }
 
 fn fault_of(e: &io::Error, other: Fault) -> Fault

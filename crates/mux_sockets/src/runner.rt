@@ -33,7 +33,7 @@ impl<P: Processes + Drop> RealRunner<P> {
 }
 
 impl<P: Processes + Drop> Runner for RealRunner<P> {
-    ghost told = { λ _. None };
+    ghost recorded = { λ _. None };
 
     ghost ran = { λ _. None };
 

@@ -9,9 +9,9 @@ ghost use Rattle.mux_outside.specs.WireState.{nothing_called, opens_stream, seei
 ghost use Rattle.mux_outside.specs.declared.turn.Turn.TheVariants.{NoMemory};
 ghost use Rattle.mux_outside.specs.declared.turn.Want.{Want as TheWant};
 ghost use Rattle.mux_edge.specs.Entries.{HasEntry, IsFinished, IsPaused};
-ghost use Rattle.mux_edge.specs.Sockets.{Tells};
+ghost use Rattle.mux_edge.specs.Sockets.{Records};
 
-use crate::control::Control;
+use crate::control::ControlSocket;
 use crate::opening::{Fault, join, open};
 use crate::workers::Workers;
 use mux_edge::opened::{
@@ -19,7 +19,8 @@ use mux_edge::opened::{
     write,
 };
 use mux_edge::{
-    Sockets, Table, count_made, keep_listener, keep_stream, next_number, numbers_to_give, turn_of,
+    Sockets, StreamTable, count_made, keep_listener, keep_stream, next_number, numbers_to_give,
+    turn_of,
 };
 use mux_outside::{
     FaultCounts, FileError, HouseMark, Piece, Streams, Tally, Turn, Want, Whose, Wire, WireState,
@@ -44,7 +45,7 @@ pub struct RealWire<R: Files + Net + Processes + Clock + Clone + Drop> {
     alloc: Global,
     // it stands before the sockets, so that the name goes before its listener: as long as that
     // stands, no other file has the same number
-    control: Option<Control<R>>,
+    control: Option<ControlSocket<R>>,
     sockets: Option<Sockets<Workers<R>>>,
     state: WireState,
     faults: FaultCounts,
@@ -75,7 +76,12 @@ impl<R: Files + Net + Processes + Clock + Clone + Drop> RealWire<R> {
     }
 
     // Takes in what was opened or joined.
-    fn take_in(&mut self, control: Option<Control<R>>, table: Table, workers: Workers<R>)
+    fn take_in(
+        &mut self,
+        control: Option<ControlSocket<R>>,
+        table: StreamTable,
+        workers: Workers<R>,
+    )
         ensures control { self.new.control ≡ control }
         ensures listens { IsSome table.listener
             → IsSomeAnd self.new.sockets (λ sockets. IsSome sockets.table.listener) }
@@ -142,7 +148,7 @@ impl<R: Files + Net + Processes + Clock + Clone + Drop> RealWire<R> {
         ensures cause { OpenFaults (Err result) self.old.faults self.new.faults }
     {
         match fault {
-            Fault::Control => self.faults.of(Whose::Client(0)),
+            Fault::ControlSocket => self.faults.of(Whose::Client(0)),
             Fault::Transport => self.faults.of(Whose::Server),
             Fault::Memory => return FileError::OutOfMemory,
         }
@@ -156,7 +162,7 @@ impl<R: Files + Net + Processes + Clock + Clone + Drop> RealWire<R> {
         ensures cause { JoinFaults (Err result) self.old.faults self.new.faults }
     {
         match fault {
-            Fault::Control | Fault::Transport => {
+            Fault::ControlSocket | Fault::Transport => {
                 self.faults.of(Whose::Server);
                 FileError::Failed
             }
@@ -172,7 +178,7 @@ impl<R: Files + Net + Processes + Clock + Clone + Drop> RealWire<R> {
             → TurnFits turn want self.old.state.seen bytes
             → TurnFits result want self.old.state.seen bytes }
         ensures own_turn { OwnFits result self.old.state.seen }
-        ensures told { Tells turn result }
+        ensures recorded { Records turn result }
         ensures room { result ≡ NoMemory → (opens_stream turn ≡ true) ⊎ (turn ≡ NoMemory) }
         ensures named { self.new.control ≡ self.old.control }
         ensures sockets { result ≢ NoMemory → self.new.sockets ≡ self.old.sockets }

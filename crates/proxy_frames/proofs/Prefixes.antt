@@ -12,7 +12,7 @@ use Rattle.ssh_grammar.specs.IsFrame.{IsContent}
 use Rattle.ssh_grammar.proofs.Frames.{IsFirst, first-is}
 use Rattle.proxy_frames.specs.Fronts.{HasNoPadding, IsUnfinished, IsPartial, IsPrefix, IsFault}
 use Rattle.proxy_frames.specs.Laws.{MoreIsPrefix}
-use Rattle.proxy_frames.proofs.Tells.{more-partial, fault-told}
+use Rattle.proxy_frames.proofs.Records.{more-partial, fault-recorded}
 
 -- ---- less than a whole frame goes on to one
 
@@ -109,11 +109,11 @@ no-frame framing bytes content rest valid is p =
 
 pub more-prefix : MoreIsPrefix
 more-prefix framing bytes h = (
-  λ (more : first_frame framing bytes ≡ More). (partial-goes_on framing bytes h ((more-partial framing bytes).0 more), λ fault is. let there : first_frame framing bytes ≡ Faulty fault = (fault-told framing bytes fault).1 is in cc),
+  λ (more : first_frame framing bytes ≡ More). (partial-goes_on framing bytes h ((more-partial framing bytes).0 more), λ fault is. let there : first_frame framing bytes ≡ Faulty fault = (fault-recorded framing bytes fault).1 is in cc),
   by_front (first_frame framing bytes) refl (first-is framing bytes h),
 )
   where
     by_front : (front : Front) → first_frame framing bytes ≡ front → IsFirst framing bytes front → IsPrefix framing bytes × ((fault : BadFrame) → IsFault framing bytes fault → ⊥) → first_frame framing bytes ≡ More
     by_front (Frame content rest) e is p = absurd (no-frame framing bytes content rest is.0 is.1 p.0)
     by_front More e is p = e
-    by_front (Faulty fault) e is p = absurd (p.1 fault ((fault-told framing bytes fault).0 e))
+    by_front (Faulty fault) e is p = absurd (p.1 fault ((fault-recorded framing bytes fault).0 e))

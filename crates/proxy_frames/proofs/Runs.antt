@@ -7,7 +7,7 @@ use Rattle.ssh_grammar.specs.Frames.{Cut, cut, with_frame, Front, Frame, More, F
 use Rattle.ssh_grammar.specs.Laws.{cut_then}
 use Rattle.ssh_grammar.proofs.Cuts.{IsShorter, first-shorter, Extends, first-extends, cut-at, cut-append}
 use Rattle.proxy_frames.specs.State.{FramerState}
-use Rattle.proxy_frames.specs.Steps.{new_framer, pushed, once_told, front_of, after_front}
+use Rattle.proxy_frames.specs.Steps.{new_framer, pushed, once_recorded, front_of, after_front}
 use Rattle.proxy_frames.specs.Runs.{Taken, taken_front, taken_by, taken, taken_of, stream_of, cut_taken}
 use Rattle.proxy_frames.specs.History.{cut_of, to_come}
 use Rattle.proxy_frames.specs.Laws.{PiecesGiveTheCut, AnyPiecesGiveTheSame, AnyTimeGivesTheSame}
@@ -29,7 +29,7 @@ has_header framing (a ∷ b ∷ c ∷ []) content rest e = absurd (cc)
 has_header framing (a ∷ b ∷ c ∷ d ∷ bytes) content rest e = omega arith
 
 front-untold : (f : FramerState) → f.fault ≡ None → front_of f ≡ first_frame f.framing f.rest
-front-untold f e = ap (λ (t : Option BadFrame). once_told t Faulty (first_frame f.framing f.rest)) e
+front-untold f e = ap (λ (t : Option BadFrame). once_recorded t Faulty (first_frame f.framing f.rest)) e
 
 taken-is : (n : ℕ) (f : FramerState) → f.fault ≡ None → length f.rest < n → IsCut f.framing (cut f.framing f.rest) (taken_by n f)
 taken-is zero f none h = absurd (omega arith)
@@ -43,10 +43,10 @@ taken-is (suc n) f none h = subst (λ (front : Front). IsCut f.framing (cut f.fr
     by_front (Faulty bad) e s go = record { made = sym (cut-at f.framing f.rest (Faulty bad) e); cuts = refl }
 
 -- after a fault nothing is taken
-taken-told : (f : FramerState) (bad : BadFrame) → f.fault ≡ Some bad → IsCut f.framing (record { frames = []; rest = f.rest; fault = Some bad }) (taken f)
-taken-told f bad e =
+taken-recorded : (f : FramerState) (bad : BadFrame) → f.fault ≡ Some bad → IsCut f.framing (record { frames = []; rest = f.rest; fault = Some bad }) (taken f)
+taken-recorded f bad e =
     let n : length f.rest + 1 ≡ suc (length f.rest) = omega arith in
-    let front : front_of f ≡ Faulty bad = ap (λ (t : Option BadFrame). once_told t Faulty (first_frame f.framing f.rest)) e in
+    let front : front_of f ≡ Faulty bad = ap (λ (t : Option BadFrame). once_recorded t Faulty (first_frame f.framing f.rest)) e in
     subst (IsCut f.framing (record { frames = []; rest = f.rest; fault = Some bad })) (sym (ap (λ k. taken_by k f) n ∙ ap (taken_front (taken_by (length f.rest)) f) front)) (record { made = refl; cuts = refl })
 
 -- ---- of each piece
@@ -88,7 +88,7 @@ piece-taken framing bytes piece f is = by_fault (cut framing bytes).fault refl
         let old : List ℕ = (cut framing bytes).rest in
         let there : first_frame framing old ≡ Faulty bad = fault-stands (length bytes + 1) framing bytes bad (omega arith) e in
         let stays : first_frame framing (old ++ piece) ≡ Faulty bad = subst (λ (front : Front). Extends piece front (first_frame framing (old ++ piece))) there (first-extends framing old piece) in
-        let all : IsCut f.framing (record { frames = []; rest = f.rest ++ piece; fault = Some bad }) (taken (pushed piece f)) = taken-told (pushed piece f) bad (is.fault ∙ e) in
+        let all : IsCut f.framing (record { frames = []; rest = f.rest ++ piece; fault = Some bad }) (taken (pushed piece f)) = taken-recorded (pushed piece f) bad (is.fault ∙ e) in
         record { made = all.made ∙ (ap (λ l. record { frames = []; rest = l ++ piece; fault = Some bad }) is.rest ∙ sym (cut-at framing (old ++ piece) (Faulty bad) stays)); cuts = all.cuts ∙ is.cuts }
 
 pieces-taken : (framing : Framing) (bytes : List ℕ) (f : FramerState) (pieces : List (List ℕ)) → Follows framing bytes f → cut_then (cut framing bytes) (cut_taken (taken_of f pieces)) ≡ cut framing (bytes ++ stream_of pieces)

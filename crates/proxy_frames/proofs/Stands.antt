@@ -8,10 +8,10 @@ use Rattle.ssh_grammar.specs.Frames.{Cut, cut, frame, with_frame}
 use Rattle.ssh_grammar.specs.IsFrame.{IsContent, joined}
 use Rattle.ssh_grammar.specs.Said.{said}
 use Rattle.ssh_grammar.proofs.Frames.{cut-frame}
-use Rattle.ssh_grammar.proofs.Said.{proxy_is_said}
-use Rattle.proxy_frames.specs.Laws.{NothingIsLost, SwitchedIsSaid}
+use Rattle.ssh_grammar.proofs.Said.{proxy_is_sent}
+use Rattle.proxy_frames.specs.Laws.{NothingIsLost, SwitchedIsSent}
 use Rattle.proxy_frames.specs.State.{FramerState}
-use Rattle.proxy_frames.specs.History.{History, StandsFor, HasTold, behind, cut_of, left, to_come}
+use Rattle.proxy_frames.specs.History.{History, Represents, HasRecorded, behind, cut_of, left, to_come}
 
 -- frames that stand in front of bytes are cut first
 pub cut-joined : (framing : Framing) (given : List (List ℕ)) (rest : List ℕ) → AllByRecursion (IsContent framing) given → cut framing (joined framing given ++ rest) ≡ behind given (cut framing rest)
@@ -21,25 +21,25 @@ cut-joined framing (content ∷ given) rest valid =
     ∙ (cut-frame framing content (joined framing given ++ rest) valid.0 ∙ ap (with_frame content) (cut-joined framing given rest valid.1))
 
 -- what was given and what is left say all
-pub stands_by : (h : History) (f : FramerState) → AllByRecursion (IsContent h.framing) h.given → h.bytes ≡ joined h.framing h.given ++ f.rest → f.fault ≡ h.told → HasTold h.told h f → StandsFor h f
-stands_by h f valid filled fault told = record {
+pub stands_by : (h : History) (f : FramerState) → AllByRecursion (IsContent h.framing) h.given → h.bytes ≡ joined h.framing h.given ++ f.rest → f.fault ≡ h.recorded → HasRecorded h.recorded h f → Represents h f
+stands_by h f valid filled fault recorded = record {
   valid = valid;
   filled = filled;
   frames = ap (cut h.framing) filled ∙ cut-joined h.framing h.given f.rest valid;
   fault = fault;
-  told = told;
+  recorded = recorded;
 }
 
 -- the frames to come are those of the rest
-pub to_come-is : (h : History) (f : FramerState) → StandsFor h f → to_come h ≡ (cut h.framing f.rest).frames
+pub to_come-is : (h : History) (f : FramerState) → Represents h f → to_come h ≡ (cut h.framing f.rest).frames
 to_come-is h f st = ap (λ (c : Cut). drop (length h.given) c.frames) st.frames ∙ drop_at h.given (cut h.framing f.rest).frames (length h.given) refl
 
 -- and so is the fault
-pub fault-is : (h : History) (f : FramerState) → StandsFor h f → (cut_of h).fault ≡ (cut h.framing f.rest).fault
+pub fault-is : (h : History) (f : FramerState) → Represents h f → (cut_of h).fault ≡ (cut h.framing f.rest).fault
 fault-is h f st = ap (λ (c : Cut). c.fault) st.frames
 
 -- the bytes that are left are the rest
-pub left-is : (h : History) (f : FramerState) → StandsFor h f → left h ≡ f.rest
+pub left-is : (h : History) (f : FramerState) → Represents h f → left h ≡ f.rest
 left-is h f st = ap (drop (length (joined h.framing h.given))) st.filled ∙ drop_at (joined h.framing h.given) f.rest (length (joined h.framing h.given)) refl
 
 -- one more frame
@@ -62,7 +62,7 @@ valid-but_last framing (x ∷ given) content valid =
 pub nothing-lost : NothingIsLost
 nothing-lost h f st = st.filled ∙ ap (λ l. joined h.framing h.given ++ l) (sym (left-is h f st))
 
-pub switched-said : SwitchedIsSaid
+pub switched-said : SwitchedIsSent
 switched-said h f bodies last more st cuts given keep begins =
     let valid : AllByRecursion (IsContent kind.Control) bodies × IsContent kind.Control last =
     valid-but_last kind.Control bodies last (subst (AllByRecursion (IsContent kind.Control)) given (subst (λ k. AllByRecursion (IsContent k) h.given) cuts st.valid)) in
@@ -70,4 +70,4 @@ switched-said h f bodies last more st cuts given keep begins =
     nothing-lost h f st ∙ (ap (λ k. joined k h.given ++ left h) cuts ∙ (ap (λ l. joined kind.Control l ++ left h) given ∙ ap (λ l. l ++ left h) (joined-and kind.Control bodies last))) in
     let whole : h.bytes ++ more ≡ joined kind.Control bodies ++ (frame kind.Control last ++ (left h ++ more)) =
     ap (λ b. b ++ more) filled ∙ (append_assoc (joined kind.Control bodies ++ frame kind.Control last) (left h) more ∙ append_assoc (joined kind.Control bodies) (frame kind.Control last) (left h ++ more)) in
-    ap said whole ∙ proxy_is_said bodies last (left h ++ more) valid.0 keep valid.1 begins
+    ap said whole ∙ proxy_is_sent bodies last (left h ++ more) valid.0 keep valid.1 begins

@@ -8,7 +8,7 @@ use Rattle.ssh_grammar.specs.IsFrame.{IsContent, joined}
 use Rattle.proxy_frames.specs.declared.next.Next.{Next}
 use Rattle.proxy_frames.specs.declared.next.Next.TheVariants as next
 use Rattle.proxy_frames.specs.State.{FramerState}
-use Rattle.proxy_frames.specs.Steps.{once_told}
+use Rattle.proxy_frames.specs.Steps.{once_recorded}
 
 -- since a framer began, or was switched: how it cuts, the bytes that came, first those that the
 -- switch left, the frames that were given, and the fault, once one was told
@@ -16,11 +16,11 @@ pub record History : Type 0 where
   pub framing : Framing
   pub bytes : List ℕ
   pub given : List (List ℕ)
-  pub told : Option BadFrame
+  pub recorded : Option BadFrame
 
 -- nothing came yet
 abbrev pub new_history : Framing → History
-new_history framing = record { framing = framing; bytes = []; given = []; told = None }
+new_history framing = record { framing = framing; bytes = []; given = []; recorded = None }
 
 -- all frames of the bytes that came, the bytes after the last one, and their fault
 abbrev pub cut_of : History → Cut
@@ -46,16 +46,16 @@ and_frame content h = record h { given = h.given ++ content ∷ [] }
 
 -- a fault was told
 abbrev pub and_fault : BadFrame → History → History
-and_fault fault h = record h { told = Some fault }
+and_fault fault h = record h { recorded = Some fault }
 
 -- from now on the bytes that are left are cut so; after a fault nothing is
 abbrev pub and_switch : Framing → History → History
 and_switch framing h =
-    once_told h.told (λ _. h) (record {
+    once_recorded h.recorded (λ _. h) (record {
       framing = framing;
       bytes = left h;
       given = [];
-      told = None;
+      recorded = None;
     })
 
 -- ---- what is next
@@ -68,7 +68,7 @@ next_in [] None = next.More
 
 -- the same, but a fault that was told is told again
 abbrev pub next_of : History → Next
-next_of h = once_told h.told next.Bad (next_in (to_come h) (cut_of h).fault)
+next_of h = once_recorded h.recorded next.Bad (next_in (to_come h) (cut_of h).fault)
 
 -- the frame that it gives, if it is one
 abbrev pub first_of : List (List ℕ) → Option (List ℕ)
@@ -76,7 +76,7 @@ first_of (content ∷ more) = Some content
 first_of [] = None
 
 abbrev pub frame_next : History → Option (List ℕ)
-frame_next h = once_told h.told (λ _. None) (first_of (to_come h))
+frame_next h = once_recorded h.recorded (λ _. None) (first_of (to_come h))
 
 -- what came and what was given then
 abbrev pub and_next_in : List (List ℕ) → Option BadFrame → History → History
@@ -85,7 +85,7 @@ and_next_in [] (Some fault) h = and_fault fault h
 and_next_in [] None h = h
 
 abbrev pub and_next : History → History
-and_next h = once_told h.told (λ _. h) (and_next_in (to_come h) (cut_of h).fault h)
+and_next h = once_recorded h.recorded (λ _. h) (and_next_in (to_come h) (cut_of h).fault h)
 
 -- ---- what a framer stands for
 
@@ -95,25 +95,25 @@ behind given c = record { frames = given ++ c.frames; rest = c.rest; fault = c.f
 
 -- while no fault was told the framer cuts as the history does; one that was told stands at the
 -- front of its rest
-abbrev pub HasTold : Option BadFrame → History → FramerState → Type 0
-HasTold None h f = f.framing ≡ h.framing
-HasTold (Some fault) h f = first_frame h.framing f.rest ≡ Faulty fault
+abbrev pub HasRecorded : Option BadFrame → History → FramerState → Type 0
+HasRecorded None h f = f.framing ≡ h.framing
+HasRecorded (Some fault) h f = first_frame h.framing f.rest ≡ Faulty fault
 
 -- the frames that were given are the first ones of all the bytes that came; the others, the bytes
 -- after the last one and the fault are those of the framer's rest
-pub record StandsFor (h : History) (f : FramerState) : Type 0 where
+pub record Represents (h : History) (f : FramerState) : Type 0 where
   pub valid : AllByRecursion (IsContent h.framing) h.given
   pub filled : h.bytes ≡ joined h.framing h.given ++ f.rest
   pub frames : cut_of h ≡ behind h.given (cut h.framing f.rest)
-  pub fault : f.fault ≡ h.told
-  pub told : HasTold h.told h f
+  pub fault : f.fault ≡ h.recorded
+  pub recorded : HasRecorded h.recorded h f
 
 -- of each history that it stood for before a call, a framer stands afterwards for what the history
 -- became
 abbrev pub GoesOn : FramerState → FramerState → (History → History) → Type 0
-GoesOn old new event = (h : History) → StandsFor h old → StandsFor (event h) new
+GoesOn old new event = (h : History) → Represents h old → Represents (event h) new
 
 -- of each history that it stood for, this is what comes next
 abbrev pub IsNext : FramerState → Next → FramerState → Type 0
 IsNext old answer new =
-    (h : History) → StandsFor h old → (answer ≡ next_of h) × (new.current ≡ frame_next h)
+    (h : History) → Represents h old → (answer ≡ next_of h) × (new.current ≡ frame_next h)

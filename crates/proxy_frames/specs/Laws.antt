@@ -12,7 +12,7 @@ use Rattle.ssh_grammar.specs.Laws.{KeepControl, says}
 use Rattle.proxy_frames.specs.State.{FramerState}
 use Rattle.proxy_frames.specs.Steps.{new_framer, with_written}
 use Rattle.proxy_frames.specs.Fronts.{IsPartial, IsPrefix, IsFault}
-use Rattle.proxy_frames.specs.History.{History, StandsFor, to_come, left, behind}
+use Rattle.proxy_frames.specs.History.{History, Represents, to_come, left, behind}
 use Rattle.proxy_frames.specs.Runs.{taken_of, cut_taken, stream_of}
 
 -- ---- in any pieces
@@ -41,7 +41,7 @@ pub record AreAlike (h i : History) (f g : FramerState) : Type 0 where
 -- whatever frames taken between them, these are the same
 abbrev pub AnyTimeGivesTheSame : Type 0
 AnyTimeGivesTheSame =
-    (h i : History) (f g : FramerState) → StandsFor h f → StandsFor i g
+    (h i : History) (f g : FramerState) → Represents h f → Represents i g
     → h.framing ≡ i.framing → h.bytes ≡ i.bytes → AreAlike h i f g
 
 -- ---- through a switch
@@ -49,13 +49,13 @@ AnyTimeGivesTheSame =
 -- what is left at a switch is all that follows the frames that were given
 abbrev pub NothingIsLost : Type 0
 NothingIsLost =
-    (h : History) (f : FramerState) → StandsFor h f → h.bytes ≡ joined h.framing h.given ++ left h
+    (h : History) (f : FramerState) → Represents h f → h.bytes ≡ joined h.framing h.given ++ left h
 
 -- where the last control message given begins the proxy, all bytes say the messages given, and then
 -- the payloads and the fault of what is left and of what comes after the switch
-abbrev pub SwitchedIsSaid : Type 0
-SwitchedIsSaid =
-    (h : History) (f : FramerState) (bodies : List (List ℕ)) (last more : List ℕ) → StandsFor h f
+abbrev pub SwitchedIsSent : Type 0
+SwitchedIsSent =
+    (h : History) (f : FramerState) (bodies : List (List ℕ)) (last more : List ℕ) → Represents h f
     → h.framing ≡ framing.Control → h.given ≡ bodies ++ last ∷ [] → KeepControl bodies
     → after_body last ≡ InProxy
     → said (h.bytes ++ more) ≡ map Body bodies
@@ -76,8 +76,8 @@ MoreIsPrefix =
     ↔ (IsPrefix framing bytes × ((fault : BadFrame) → IsFault framing bytes fault → ⊥))
 
 -- a fault is told exactly where one stands there
-abbrev pub FaultsAreTold : Type 0
-FaultsAreTold =
+abbrev pub FaultsAreRecorded : Type 0
+FaultsAreRecorded =
     (framing : Framing) (bytes : List ℕ) (fault : BadFrame)
     → (first_frame framing bytes ≡ Faulty fault) ↔ IsFault framing bytes fault
 
@@ -110,4 +110,4 @@ abbrev pub WritingKeepsTheHistory : Type 0
 WritingKeepsTheHistory =
     (h : History) (f : FramerState) (content written : List ℕ) → f.current ≡ Some content
     → length written ≡ length content
-    → StandsFor h f → StandsFor h (with_written f written)
+    → Represents h f → Represents h (with_written f written)

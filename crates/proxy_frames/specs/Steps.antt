@@ -20,14 +20,14 @@ abbrev pub switched : Framing → FramerState → FramerState
 switched framing f = record f { framing = framing; current = None }
 
 -- one value once a fault was told, and another one before
-abbrev pub once_told : {A : Type 0} → Option BadFrame → (BadFrame → A) → A → A
-once_told (Some fault) after before = after fault
-once_told None after before = before
+abbrev pub once_recorded : {A : Type 0} → Option BadFrame → (BadFrame → A) → A → A
+once_recorded (Some fault) after before = after fault
+once_recorded None after before = before
 
 -- what comes next: the fault, once one was told, and before that what stands at the front of the
 -- rest
 abbrev pub front_of : FramerState → Front
-front_of f = once_told f.fault Faulty (first_frame f.framing f.rest)
+front_of f = once_recorded f.fault Faulty (first_frame f.framing f.rest)
 
 -- what is answered to it
 abbrev pub answer_to : Front → Next

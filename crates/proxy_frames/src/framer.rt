@@ -5,7 +5,7 @@ ghost use Rattle.ssh_grammar.specs.declared.fault.BadFrame.{BadFrame};
 ghost use Rattle.proxy_frames.specs.contracts.framer.Framer.{the_row};
 ghost use Rattle.proxy_frames.specs.Steps.{new_framer, pushed, switched, front_of, answer_to, after_front, with_written};
 ghost use Rattle.proxy_frames.specs.Fronts.{WantsMore, HasFault};
-ghost use Rattle.proxy_frames.specs.History.{StandsFor, GoesOn, IsNext, new_history, and_bytes, and_switch, and_next};
+ghost use Rattle.proxy_frames.specs.History.{Represents, GoesOn, IsNext, new_history, and_bytes, and_switch, and_next};
 
 use crate::next::{Front, Next, first_frame};
 use ssh_fields::OutOfMemory;
@@ -42,7 +42,7 @@ impl Framer {
     /// A framer without a byte.
     pub fn new(alloc: Global, kind: Framing) -> Framer
         ensures exact { result ≡ new_framer kind }
-        ensures stands { StandsFor (new_history kind) result }
+        ensures stands { Represents (new_history kind) result }
     {
         Framer {
             framing: kind,

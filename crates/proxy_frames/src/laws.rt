@@ -1,6 +1,6 @@
 //! What holds of framers over all bytes: each function's contract is the law.
 
-ghost use Rattle.proxy_frames.specs.Laws.{PiecesGiveTheCut, AnyPiecesGiveTheSame, AnyTimeGivesTheSame, NothingIsLost, SwitchedIsSaid, MoreIsPartial, MoreIsPrefix, FaultsAreTold, FaultsStay, QueuedFramesAreCut, WritingChangesTheFrame, WritingKeepsTheHistory};
+ghost use Rattle.proxy_frames.specs.Laws.{PiecesGiveTheCut, AnyPiecesGiveTheSame, AnyTimeGivesTheSame, NothingIsLost, SwitchedIsSent, MoreIsPartial, MoreIsPrefix, FaultsAreRecorded, FaultsStay, QueuedFramesAreCut, WritingChangesTheFrame, WritingKeepsTheHistory};
 
 /// The frames of a stream, its rest and its fault don't depend on the pieces in which it came, nor
 /// on when its frames were taken.
@@ -14,14 +14,14 @@ pub fn pieces_of_a_stream()
 /// before the switch to the proxy, and the payloads given after it.
 pub fn switches_of_a_stream()
     ensures left { NothingIsLost }
-    ensures said { SwitchedIsSaid }
+    ensures said { SwitchedIsSent }
 {}
 
 /// What stands at the front of bytes where no whole frame does.
 pub fn fronts_of_a_stream()
     ensures more { MoreIsPartial }
     ensures prefix { MoreIsPrefix }
-    ensures fault { FaultsAreTold }
+    ensures fault { FaultsAreRecorded }
     ensures stays { FaultsStay }
 {}
 

@@ -1,5 +1,5 @@
 //! What came of a row, as lines.
-use crate::marks::{add_marks, heard, tell_streams};
+use crate::marks::{add_marks, heard, record_streams};
 use crate::play::Played;
 use crate::spelling::{add_number, escape, spell_frames};
 use mux_outside::{OpenCall, WireLog};
@@ -69,12 +69,12 @@ fn add_text(lines: &mut Texts, alloc: Global, head: &[u8], text: &[u8]) -> Resul
 // The line of a text.
 fn text_line(alloc: Global, head: &[u8], text: &[u8]) -> Result<Text, OutOfMemory> {
     let mut line = Text::new(alloc);
-    tell_text(&mut line, head, text)?;
+    record_text(&mut line, head, text)?;
     Ok(line)
 }
 
 // Tells a text behind what is said of it.
-fn tell_text(line: &mut Text, head: &[u8], text: &[u8]) -> Result<(), OutOfMemory> {
+fn record_text(line: &mut Text, head: &[u8], text: &[u8]) -> Result<(), OutOfMemory> {
     line.add(head)?;
     escape(line, text)
 }
@@ -82,7 +82,7 @@ fn tell_text(line: &mut Text, head: &[u8], text: &[u8]) -> Result<(), OutOfMemor
 // The line of how the wire was opened.
 fn opening_line(alloc: Global, opening: &OpenCall) -> Result<Text, OutOfMemory> {
     let mut line = text_line(alloc, b"opened ", opening.control.as_bytes())?;
-    tell_text(&mut line, b" over ", opening.transport.as_bytes())?;
+    record_text(&mut line, b" over ", opening.transport.as_bytes())?;
     Ok(line)
 }
 
@@ -134,7 +134,7 @@ fn add_taken(lines: &mut Texts, alloc: Global, log: &WireLog) -> Result<(), OutO
 // The line of the streams that are open.
 fn left_line(alloc: Global, log: &WireLog) -> Result<Text, OutOfMemory> {
     let mut line = Text::new(alloc);
-    tell_streams(&mut line, alloc, b"left", log.streams().as_slice())?;
+    record_streams(&mut line, alloc, b"left", log.streams().as_slice())?;
     line.add(heard(log.is_listening()))?;
     Ok(line)
 }

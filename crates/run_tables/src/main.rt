@@ -15,38 +15,38 @@ mod table;
 mod trouble;
 
 use std::io;
-use table::Table;
+use table::RunTable;
 use trouble::Trouble;
 
 fn main(rt: HostRuntime) -> io::Result<()> {
-    let mut table = Table::new(rt.alloc());
+    let mut table = RunTable::new(rt.alloc());
     let played = play_rows(&rt, &mut table);
     drop(table);
     played
 }
 
 // Plays all rows of standard input.
-fn play_rows(rt: &HostRuntime, table: &mut Table) -> io::Result<()> {
+fn play_rows(rt: &HostRuntime, table: &mut RunTable) -> io::Result<()> {
     play_lines(rt, table)?;
-    let told = table.finish();
-    tell(rt, told)?;
+    let recorded = table.finish();
+    report(rt, recorded)?;
     sum_up(rt, table)
 }
 
 // Plays the lines of standard input.
-fn play_lines(rt: &HostRuntime, table: &mut Table) -> io::Result<()> {
+fn play_lines(rt: &HostRuntime, table: &mut RunTable) -> io::Result<()> {
     for line in rt.lines(rt.alloc()) {
         let line = line?;
         match table.take(line.as_str()) {
             Err(Trouble::Unread) => println!(rt; "a line isn't read: {line}")?,
-            told => tell(rt, told)?,
+            recorded => report(rt, recorded)?,
         }
     }
     Ok(())
 }
 
 // How many rows were played, and of how many came what was written.
-fn sum_up(rt: &HostRuntime, table: &Table) -> io::Result<()> {
+fn sum_up(rt: &HostRuntime, table: &RunTable) -> io::Result<()> {
     println!(rt;
         "{} rows, {} as written",
         table.rows(),
@@ -55,8 +55,8 @@ fn sum_up(rt: &HostRuntime, table: &Table) -> io::Result<()> {
 }
 
 // Prints what a row came to, where it isn't what was written.
-fn tell(rt: &HostRuntime, told: Result<Option<String>, Trouble>) -> io::Result<()> {
-    match told {
+fn report(rt: &HostRuntime, recorded: Result<Option<String>, Trouble>) -> io::Result<()> {
+    match recorded {
         Ok(None) => Ok(()),
         Ok(Some(text)) => print!(rt; "{text}"),
         Err(trouble) => println!(rt; "{trouble}"),

@@ -15,32 +15,32 @@ pub fn add_marks(lines: &mut Texts, alloc: Global, marks: &[Mark]) -> Result<(),
 // The line of a mark.
 fn mark_line(alloc: Global, mark: &Mark) -> Result<Text, OutOfMemory> {
     let mut line = Text::new(alloc);
-    tell_mark(&mut line, alloc, mark)?;
+    record_mark(&mut line, alloc, mark)?;
     Ok(line)
 }
 
 // Tells a mark.
-fn tell_mark(line: &mut Text, alloc: Global, mark: &Mark) -> Result<(), OutOfMemory> {
+fn record_mark(line: &mut Text, alloc: Global, mark: &Mark) -> Result<(), OutOfMemory> {
     match mark {
         Mark::Waits(waiting, want, open, listens) => {
-            tell_wait(line, alloc, waiting, *want, open, *listens)
+            record_wait(line, alloc, waiting, *want, open, *listens)
         }
-        Mark::Accepts(stream) => tell_stream(line, alloc, b"accepts", *stream),
-        Mark::Gets(stream, bytes) => tell_bytes(line, alloc, b"gets", *stream, bytes),
-        Mark::Ends(stream) => tell_stream(line, alloc, b"ends", *stream),
-        Mark::Frees(stream) => tell_stream(line, alloc, b"frees", *stream),
-        Mark::Fails(stream) => tell_stream(line, alloc, b"fails", *stream),
-        Mark::Takes(stream, bytes) => tell_bytes(line, alloc, b"takes", *stream, bytes),
-        Mark::Holds(stream) => tell_stream(line, alloc, b"holds", *stream),
-        Mark::WriteFails(stream) => tell_stream(line, alloc, b"loses", *stream),
-        Mark::Joins(listener, stream) => tell_join(line, alloc, *listener, *stream),
-        Mark::House(mark) => tell_house(line, alloc, mark.as_mark()),
+        Mark::Accepts(stream) => record_stream(line, alloc, b"accepts", *stream),
+        Mark::Gets(stream, bytes) => record_bytes(line, alloc, b"gets", *stream, bytes),
+        Mark::Ends(stream) => record_stream(line, alloc, b"ends", *stream),
+        Mark::Frees(stream) => record_stream(line, alloc, b"frees", *stream),
+        Mark::Fails(stream) => record_stream(line, alloc, b"fails", *stream),
+        Mark::Takes(stream, bytes) => record_bytes(line, alloc, b"takes", *stream, bytes),
+        Mark::Holds(stream) => record_stream(line, alloc, b"holds", *stream),
+        Mark::WriteFails(stream) => record_stream(line, alloc, b"loses", *stream),
+        Mark::Joins(listener, stream) => record_join(line, alloc, *listener, *stream),
+        Mark::House(mark) => record_house(line, alloc, mark.as_mark()),
     }
 }
 
 // Tells a wait: the streams that are open; behind `for` those that are waited for, `only` where
 // nothing else is wanted; `deaf` where no client is accepted.
-fn tell_wait(
+fn record_wait(
     line: &mut Text,
     alloc: Global,
     waiting: &KeptStreams,
@@ -48,9 +48,9 @@ fn tell_wait(
     open: &KeptStreams,
     listens: bool,
 ) -> Result<(), OutOfMemory> {
-    tell_streams(line, alloc, b"waits", open.as_slice())?;
+    record_streams(line, alloc, b"waits", open.as_slice())?;
     if !waiting.as_slice().is_empty() {
-        tell_streams(line, alloc, b" for", waiting.as_slice())?;
+        record_streams(line, alloc, b" for", waiting.as_slice())?;
     }
     line.add(wanted(want))?;
     line.add(heard(listens))
@@ -71,7 +71,7 @@ pub fn heard(listens: bool) -> &'static [u8] {
 }
 
 /// Tells the numbers of streams behind what is said of them.
-pub fn tell_streams(
+pub fn record_streams(
     line: &mut Text,
     alloc: Global,
     head: &[u8],
@@ -85,18 +85,18 @@ pub fn tell_streams(
 }
 
 // Tells a socket that is joined: its listener and its stream.
-fn tell_join(
+fn record_join(
     line: &mut Text,
     alloc: Global,
     listener: u64,
     stream: u64,
 ) -> Result<(), OutOfMemory> {
-    tell_stream(line, alloc, b"joins", listener)?;
+    record_stream(line, alloc, b"joins", listener)?;
     add_number(line, alloc, stream)
 }
 
 // Tells a house's mark.
-fn tell_house(line: &mut Text, alloc: Global, mark: &HouseMark) -> Result<(), OutOfMemory> {
+fn record_house(line: &mut Text, alloc: Global, mark: &HouseMark) -> Result<(), OutOfMemory> {
     match mark {
         HouseMark::HouseIn => line.add(b"house in"),
         HouseMark::HouseSaid(_) => line.add(b"house said"),
@@ -104,35 +104,35 @@ fn tell_house(line: &mut Text, alloc: Global, mark: &HouseMark) -> Result<(), Ou
         HouseMark::HouseAsked { .. } => line.add(b"house asked"),
         HouseMark::HouseAnswer { .. } => line.add(b"house answer"),
         HouseMark::HouseOrder { order, number } => {
-            tell_order(line, alloc, order)?;
-            tell_made(line, alloc, *number)
+            record_order(line, alloc, order)?;
+            record_made(line, alloc, *number)
         }
     }
 }
 
 // Tells the number of what an order made.
-fn tell_made(line: &mut Text, alloc: Global, number: Option<u64>) -> Result<(), OutOfMemory> {
+fn record_made(line: &mut Text, alloc: Global, number: Option<u64>) -> Result<(), OutOfMemory> {
     match number {
-        Some(made) => tell_stream(line, alloc, b" as", made),
+        Some(made) => record_stream(line, alloc, b" as", made),
         None => Ok(()),
     }
 }
 
 // Tells the order of a house.
-fn tell_order(line: &mut Text, alloc: Global, order: &Order) -> Result<(), OutOfMemory> {
+fn record_order(line: &mut Text, alloc: Global, order: &Order) -> Result<(), OutOfMemory> {
     match order {
-        Order::Listen { host, port } => tell_place(line, alloc, b"house listens ", host, *port),
-        Order::Connect { host, port } => tell_place(line, alloc, b"house connects ", host, *port),
-        Order::Unlisten(listener) => tell_stream(line, alloc, b"house unlistens", *listener),
-        Order::Pause(stream) => tell_stream(line, alloc, b"house pauses", *stream),
-        Order::Resume(stream) => tell_stream(line, alloc, b"house resumes", *stream),
-        Order::Finish(stream) => tell_stream(line, alloc, b"house finishes", *stream),
-        Order::Close(stream) => tell_stream(line, alloc, b"house closes", *stream),
+        Order::Listen { host, port } => record_place(line, alloc, b"house listens ", host, *port),
+        Order::Connect { host, port } => record_place(line, alloc, b"house connects ", host, *port),
+        Order::Unlisten(listener) => record_stream(line, alloc, b"house unlistens", *listener),
+        Order::Pause(stream) => record_stream(line, alloc, b"house pauses", *stream),
+        Order::Resume(stream) => record_stream(line, alloc, b"house resumes", *stream),
+        Order::Finish(stream) => record_stream(line, alloc, b"house finishes", *stream),
+        Order::Close(stream) => record_stream(line, alloc, b"house closes", *stream),
     }
 }
 
 // Tells a host and a port behind what is said of them.
-fn tell_place(
+fn record_place(
     line: &mut Text,
     alloc: Global,
     head: &[u8],
@@ -145,7 +145,7 @@ fn tell_place(
 }
 
 // Tells what happened to a stream.
-fn tell_stream(
+fn record_stream(
     line: &mut Text,
     alloc: Global,
     head: &[u8],
@@ -156,13 +156,13 @@ fn tell_stream(
 }
 
 // The same with a count of bytes.
-fn tell_bytes(
+fn record_bytes(
     line: &mut Text,
     alloc: Global,
     head: &[u8],
     stream: u64,
     bytes: &Text,
 ) -> Result<(), OutOfMemory> {
-    tell_stream(line, alloc, head, stream)?;
+    record_stream(line, alloc, head, stream)?;
     add_number(line, alloc, bytes.as_bytes().len() as u64)
 }

@@ -1,6 +1,6 @@
 //! One row: what a run is to be played over, and what must come of it.
 use crate::facts::{ann, fact, forget_fact};
-use crate::scripted::{add_writes, bytes_of, number_of, step_of, tell_taken};
+use crate::scripted::{add_writes, bytes_of, number_of, record_taken, step_of};
 use crate::spelling::unescape;
 use crate::trouble::Trouble;
 use mux_outside::{
@@ -267,7 +267,7 @@ impl Row {
 fn expect_taken(line: &mut Text, alloc: Global, took: &str, names: &Pairs) -> Result<(), Trouble> {
     let (stream, bytes) = took.split_once(' ').unwrap_or((took, ""));
     let bytes = bytes_of(alloc, bytes, names)?;
-    tell_taken(line, stream.as_bytes(), bytes.as_bytes())?;
+    record_taken(line, stream.as_bytes(), bytes.as_bytes())?;
     Ok(())
 }
 

@@ -59,7 +59,7 @@ fn stream_step(
 }
 
 /// Tells what a stream took.
-pub fn tell_taken(line: &mut Text, stream: &[u8], bytes: &[u8]) -> Result<(), OutOfMemory> {
+pub fn record_taken(line: &mut Text, stream: &[u8], bytes: &[u8]) -> Result<(), OutOfMemory> {
     line.add(b"took ")?;
     line.add(stream)?;
     spell_frames(line, bytes)

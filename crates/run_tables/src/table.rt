@@ -10,7 +10,7 @@ use std::str;
 
 /// A table that is being read.
 #[derive(Drop)]
-pub struct Table {
+pub struct RunTable {
     alloc: Global,
     names: Pairs,
     row: Option<Row>,
@@ -18,10 +18,10 @@ pub struct Table {
     as_written: u64,
 }
 
-impl Table {
+impl RunTable {
     /// A table without a row.
-    pub fn new(alloc: Global) -> Table {
-        Table {
+    pub fn new(alloc: Global) -> RunTable {
+        RunTable {
             alloc,
             names: Pairs::new(alloc),
             row: None,
@@ -54,9 +54,9 @@ impl Table {
 
     // Ends the row before, and begins one of this name.
     fn next_row(&mut self, name: &str) -> Result<Option<String>, Trouble> {
-        let told = self.finish();
+        let recorded = self.finish();
         self.begin(name)?;
-        told
+        recorded
     }
 
     // Begins a row of this name.
@@ -94,23 +94,23 @@ impl Table {
         let Some(mut row) = self.row.take() else {
             return Ok(None);
         };
-        let told = self.compare(&mut row);
+        let recorded = self.compare(&mut row);
         drop(row);
-        told
+        recorded
     }
 
     // Plays a row: what came of it, where it isn't what was expected.
     fn compare(&mut self, row: &mut Row) -> Result<Option<String>, Trouble> {
         let lines = play(self.alloc, row)?;
         self.rows = self.rows.saturating_add(1);
-        let told = if are_same(&lines, &row.expected) {
+        let recorded = if are_same(&lines, &row.expected) {
             self.as_written = self.as_written.saturating_add(1);
             Ok(None)
         } else {
-            told_of(self.alloc, &row.name, &lines).map(Some)
+            recorded_of(self.alloc, &row.name, &lines).map(Some)
         };
         drop(lines);
-        told
+        recorded
     }
 }
 
@@ -139,12 +139,15 @@ fn are_same(a: &Texts, b: &Texts) -> bool {
 }
 
 // A row's name and its lines.
-fn told_of(alloc: Global, name: &Text, lines: &Texts) -> Result<String, Trouble> {
-    let mut told = format!(in alloc; "row {}\n", str::from_utf8(name.as_bytes()).unwrap_or("?"))?;
+fn recorded_of(alloc: Global, name: &Text, lines: &Texts) -> Result<String, Trouble> {
+    let mut recorded = format!(in alloc;
+        "row {}\n",
+        str::from_utf8(name.as_bytes()).unwrap_or("?")
+    )?;
     for line in lines.as_slice() {
-        told.push_str("> ")?;
-        told.push_str(str::from_utf8(line.as_bytes()).unwrap_or("?"))?;
-        told.push('\n')?;
+        recorded.push_str("> ")?;
+        recorded.push_str(str::from_utf8(line.as_bytes()).unwrap_or("?"))?;
+        recorded.push('\n')?;
     }
-    Ok(told)
+    Ok(recorded)
 }

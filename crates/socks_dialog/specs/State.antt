@@ -105,21 +105,21 @@ and_step (step.Reply reply) h = record h { given = h.given ++ reply ∷ [] }
 and_step _ h = h
 
 -- the dialog is that of all bytes, and the replies given are its first ones
-pub record StandsFor (h : History) (d : State) : Type 0 where
+pub record Represents (h : History) (d : State) : Type 0 where
   pub bytes : d.bytes ≡ dialog_bytes h.bytes
   pub given : h.given ≡ take d.given (socks h.bytes).replies
   pub some : d.given ≤ length (socks h.bytes).replies
 
 -- of each history that it stood for before a call, it stands afterwards for what that became
 abbrev pub GoesOn : State → State → (History → History) → Type 0
-GoesOn old new event = (h : History) → StandsFor h old → StandsFor (event h) new
+GoesOn old new event = (h : History) → Represents h old → Represents (event h) new
 
 -- of each history that it stood for, this is what comes next
 abbrev pub IsNext : State → Step → Type 0
-IsNext old answer = (h : History) → StandsFor h old → answer ≡ next_of h
+IsNext old answer = (h : History) → Represents h old → answer ≡ next_of h
 
 -- of each history that it stood for, what follows the dialog is what followed it, and then these
 -- bytes but for so many
 abbrev pub RestIs : State → List ℕ → ℕ → Type 0
-RestIs old piece taken = (h : History) → StandsFor h old
+RestIs old piece taken = (h : History) → Represents h old
     → (socks (h.bytes ++ piece)).rest ≡ (socks h.bytes).rest ++ drop taken piece

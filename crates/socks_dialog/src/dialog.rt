@@ -1,7 +1,7 @@
 ghost use Rattle.std.specs.Prelude.{◌≡◌, ◌+◌, ◌-◌, ◌≤◌, ◌++◌, length, min, take};
 ghost use Rattle.ssh_fields.specs.Fields.{AreBytes};
 ghost use Rattle.socks_dialog.specs.Replies.{granted_to, refused_to};
-ghost use Rattle.socks_dialog.specs.State.{dialog_bytes, IsWithin, new_dialog, pushed, step_of, stepped, HasConnect, GivesConnect, version_of, new_history, StandsFor, GoesOn, and_bytes, and_step, IsNext, RestIs};
+ghost use Rattle.socks_dialog.specs.State.{dialog_bytes, IsWithin, new_dialog, pushed, step_of, stepped, HasConnect, GivesConnect, version_of, new_history, Represents, GoesOn, and_bytes, and_step, IsNext, RestIs};
 
 use crate::outcome::Outcome;
 use crate::read::read;
@@ -72,7 +72,7 @@ impl Dialog {
     /// A dialog of which no byte came.
     pub fn new() -> Dialog
         ensures exact { result ≡ new_dialog }
-        ensures stands { StandsFor new_history result }
+        ensures stands { Represents new_history result }
     {
         Dialog {
             bytes: [0; LONGEST_DIALOG],

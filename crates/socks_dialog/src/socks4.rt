@@ -28,7 +28,7 @@ fn read_name(port: u16, bytes: &[u8]) -> Reading
 }
 
 // Whether an address stands for a name that follows.
-fn stands_for_name(address: &[u8]) -> bool
+fn represents_name(address: &[u8]) -> bool
     ensures { result ≡ is_for_name address.now }
 {
     match address {
@@ -46,7 +46,7 @@ fn read_user(port: u16, address: &[u8], bytes: &[u8]) -> Reading
         Text::Open => wants_more(),
         Text::TooLong { rest } => ends_with(reply_of_4(REJECTED), rest),
         Text::Whole { rest, .. } => {
-            if stands_for_name(address) {
+            if represents_name(address) {
                 read_name(port, rest)
             } else {
                 asks_for(dotted_decimal(address), port, rest)

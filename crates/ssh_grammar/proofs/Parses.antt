@@ -2,7 +2,7 @@
 use Rattle.std.proofs.Common.{◌≡◌, ℕ, zero, suc, ◌-◌, ◌≤◌, List, [], ◌∷◌, ◌++◌, length, refl, sym, ◌∙◌, ap, arith, subst}
 use Rattle.ssh_grammar.specs.declared.framing.Framing.TheVariants as framing
 use Rattle.ssh_grammar.specs.Frames.{Front, Frame, More, Faulty}
-use Rattle.ssh_grammar.specs.Said.{Mode, InControl, InProxy, Stopped, BadFraming, first_in, saying_in, mode_after, Parsed, with_saying, parse_front, parse_by, parse, and_then}
+use Rattle.ssh_grammar.specs.Said.{Mode, InControl, InProxy, Stopped, BadFraming, first_in, sending_in, mode_after, Parsed, with_sending, parse_front, parse_by, parse, and_then}
 use Rattle.ssh_grammar.proofs.Cuts.{IsShorter, first-shorter, Extends, first-extends}
 
 pub in-extends : (mode : Mode) (a b : List ℕ) → Extends b (first_in mode a) (first_in mode (a ++ b))
@@ -34,7 +34,7 @@ parse-fuel (suc n) (suc m) mode a h k = by_case (first_in mode a) (in-shorter mo
   where
     by_case : (f : Front) → IsShorter (length a - 4) f → ((mode : Mode) (rest : List ℕ) → length rest ≤ n → length rest ≤ m → parse_by n mode rest ≡ parse_by m mode rest)
         → parse_front (parse_by n) mode a f ≡ parse_front (parse_by m) mode a f
-    by_case (Frame content rest) s ih = ap (with_saying (saying_in mode content)) (ih (mode_after mode content) rest (omega arith) (omega arith))
+    by_case (Frame content rest) s ih = ap (with_sending (sending_in mode content)) (ih (mode_after mode content) rest (omega arith) (omega arith))
     by_case More s ih = refl
     by_case (Faulty f) s ih = refl
 
@@ -44,7 +44,7 @@ parse-step mode [] = sym (ap (parse_front parse mode []) (nothing-yet mode))
 parse-step mode (x ∷ a) = by_case (first_in mode (x ∷ a)) (in-shorter mode (x ∷ a))
   where
     by_case : (f : Front) → IsShorter (length (x ∷ a) - 4) f → parse_front (parse_by (length a)) mode (x ∷ a) f ≡ parse_front parse mode (x ∷ a) f
-    by_case (Frame content rest) s = ap (with_saying (saying_in mode content)) (parse-fuel (length a) (length rest) (mode_after mode content) rest (omega arith) (omega arith))
+    by_case (Frame content rest) s = ap (with_sending (sending_in mode content)) (parse-fuel (length a) (length rest) (mode_after mode content) rest (omega arith) (omega arith))
     by_case More s = refl
     by_case (Faulty f) s = refl
 
@@ -58,7 +58,7 @@ append-at : (mode : Mode) (a b : List ℕ) (f : Front) → first_in mode a ≡ f
     → parse mode (a ++ b) ≡ and_then (parse mode a) b
 append-at mode a b (Frame content rest) e x ih =
     parse-at mode (a ++ b) (Frame content (rest ++ b)) x
-    ∙ (ap (with_saying (saying_in mode content)) (ih content rest refl)
+    ∙ (ap (with_sending (sending_in mode content)) (ih content rest refl)
     ∙ sym (ap (λ p. and_then p b) (parse-at mode a (Frame content rest) e)))
 append-at mode a b More e x ih = sym (ap (λ p. and_then p b) (parse-at mode a More e))
 append-at mode a b (Faulty f) e x ih =

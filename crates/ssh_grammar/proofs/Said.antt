@@ -5,7 +5,7 @@ use Rattle.ssh_grammar.specs.declared.fault.BadFrame.{BadFrame}
 use Rattle.ssh_grammar.specs.declared.framing.Framing.TheVariants as framing
 use Rattle.ssh_grammar.specs.Frames.{Front, Frame, More, Faulty, frame, first_frame, Cut, cut}
 use Rattle.ssh_grammar.specs.IsFrame.{IsContent, joined, EndsAt, Cuts}
-use Rattle.ssh_grammar.specs.Said.{Mode, InControl, InProxy, Stopped, Saying, Body, Payload, after_body, Parsed, with_saying, parse, said}
+use Rattle.ssh_grammar.specs.Said.{Mode, InControl, InProxy, Stopped, Outgoing, Body, Payload, after_body, Parsed, with_sending, parse, said}
 use Rattle.ssh_grammar.specs.Laws.{faults, says, KeepControl, AreBodies}
 use Rattle.ssh_grammar.proofs.Cuts.{IsShorter, first-shorter, cut-at}
 use Rattle.ssh_grammar.proofs.Frames.{first-frame, cut-is}
@@ -34,7 +34,7 @@ payloads bytes = payloads-by (length bytes) bytes (omega arith)
 
 -- ---- control messages
 
-pub parse-body : (body rest : List ℕ) → IsContent framing.Control body → parse InControl (frame framing.Control body ++ rest) ≡ with_saying (Body body) (parse (after_body body) rest)
+pub parse-body : (body rest : List ℕ) → IsContent framing.Control body → parse InControl (frame framing.Control body ++ rest) ≡ with_sending (Body body) (parse (after_body body) rest)
 parse-body body rest is = parse-at InControl (frame framing.Control body ++ rest) (Frame body rest) (first-frame framing.Control body rest is)
 
 pub parse-bodies : (bodies : List (List ℕ)) (rest : List ℕ) → AreBodies bodies → KeepControl bodies → (parse InControl (joined framing.Control bodies ++ rest)).says ≡ map Body bodies ++ (parse InControl rest).says
@@ -48,8 +48,8 @@ ends : (rest : List ℕ) (fault : Option BadFrame) → EndsAt fault (first_frame
 ends rest None e = ap (λ (p : Parsed). p.says) (parse-at InControl rest More e)
 ends rest (Some f) e = ap (λ (p : Parsed). p.says) (parse-at InControl rest (Faulty f) e)
 
-pub control_is_said : (bytes : List ℕ) → AreBytes bytes → KeepControl (cut framing.Control bytes).frames → said bytes ≡ says framing.Control Body bytes
-control_is_said bytes h keep =
+pub control_is_sent : (bytes : List ℕ) → AreBytes bytes → KeepControl (cut framing.Control bytes).frames → said bytes ≡ says framing.Control Body bytes
+control_is_sent bytes h keep =
     let is : Cuts framing.Control bytes (cut framing.Control bytes) = cut-is framing.Control bytes h in
     ap (λ x. (parse InControl x).says) is.filled
     ∙ (parse-bodies (cut framing.Control bytes).frames (cut framing.Control bytes).rest is.valid keep
@@ -61,13 +61,13 @@ after-last bodies last rest mode are keep is after =
     parse-bodies bodies (frame framing.Control last ++ rest) are keep
     ∙ ap (λ xs. map Body bodies ++ xs) (ap (λ (p : Parsed). p.says) (parse-body last rest is) ∙ ap (λ m. Body last ∷ (parse m rest).says) after)
 
-pub proxy_is_said : (bodies : List (List ℕ)) (last rest : List ℕ) → AreBodies bodies → KeepControl bodies → IsContent framing.Control last → after_body last ≡ InProxy
+pub proxy_is_sent : (bodies : List (List ℕ)) (last rest : List ℕ) → AreBodies bodies → KeepControl bodies → IsContent framing.Control last → after_body last ≡ InProxy
     → said (joined framing.Control bodies ++ (frame framing.Control last ++ rest)) ≡ map Body bodies ++ (Body last ∷ says framing.Proxy Payload rest)
-proxy_is_said bodies last rest are keep is after = after-last bodies last rest InProxy are keep is after ∙ ap (λ xs. map Body bodies ++ (Body last ∷ xs)) (payloads rest)
+proxy_is_sent bodies last rest are keep is after = after-last bodies last rest InProxy are keep is after ∙ ap (λ xs. map Body bodies ++ (Body last ∷ xs)) (payloads rest)
 
-pub nothing_more_is_said : (bodies : List (List ℕ)) (last rest : List ℕ) → AreBodies bodies → KeepControl bodies → IsContent framing.Control last → after_body last ≡ Stopped
+pub nothing_more_is_sent : (bodies : List (List ℕ)) (last rest : List ℕ) → AreBodies bodies → KeepControl bodies → IsContent framing.Control last → after_body last ≡ Stopped
     → said (joined framing.Control bodies ++ (frame framing.Control last ++ rest)) ≡ map Body bodies ++ (Body last ∷ [])
-nothing_more_is_said bodies last rest are keep is after = after-last bodies last rest Stopped are keep is after ∙ ap (λ (p : Parsed). map Body bodies ++ (Body last ∷ p.says)) (parse-stopped rest)
+nothing_more_is_sent bodies last rest are keep is after = after-last bodies last rest Stopped are keep is after ∙ ap (λ (p : Parsed). map Body bodies ++ (Body last ∷ p.says)) (parse-stopped rest)
 
-pub said_stays : (a b : List ℕ) → (more : List Saying) × (said (a ++ b) ≡ said a ++ more)
-said_stays a b = ((parse (parse InControl a).mode ((parse InControl a).rest ++ b)).says, ap (λ (p : Parsed). p.says) (parse-append InControl a b))
+pub sent_stays : (a b : List ℕ) → (more : List Outgoing) × (said (a ++ b) ≡ said a ++ more)
+sent_stays a b = ((parse (parse InControl a).mode ((parse InControl a).rest ++ b)).says, ap (λ (p : Parsed). p.says) (parse-append InControl a b))

@@ -17,7 +17,7 @@ use Rattle.ssh_grammar.specs.IsControl.{IsControl, SpellsControl}
 use Rattle.ssh_grammar.specs.ReadAnswer.{read_answer, IsAnswer}
 use Rattle.ssh_grammar.specs.Frames.{Cut, cut, frame}
 use Rattle.ssh_grammar.specs.IsFrame.{IsContent, joined, Cuts}
-use Rattle.ssh_grammar.specs.Said.{Mode, InControl, InProxy, Stopped, Saying, Body, Payload, BadFraming, after_body, parse, and_then, said, heard}
+use Rattle.ssh_grammar.specs.Said.{Mode, InControl, InProxy, Stopped, Outgoing, Body, Payload, BadFraming, after_body, parse, and_then, said, heard}
 
 -- ---- messages
 
@@ -108,16 +108,16 @@ abbrev pub ParsesJoin : Type 0
 ParsesJoin = (mode : Mode) (a b : List ℕ) → parse mode (a ++ b) ≡ and_then (parse mode a) b
 
 -- what was said stays said
-abbrev pub SaidStays : Type 0
-SaidStays = (a b : List ℕ) → (more : List Saying) × (said (a ++ b) ≡ said a ++ more)
+abbrev pub SentStays : Type 0
+SentStays = (a b : List ℕ) → (more : List Outgoing) × (said (a ++ b) ≡ said a ++ more)
 
-abbrev pub faults : Option BadFrame → List Saying
+abbrev pub faults : Option BadFrame → List Outgoing
 faults None = []
 faults (Some fault) = BadFraming fault ∷ []
 
 -- all frames of some bytes, and then their fault
-abbrev pub says : Framing → (List ℕ → Saying) → List ℕ → List Saying
-says framing saying bytes = map saying (cut framing bytes).frames
+abbrev pub says : Framing → (List ℕ → Outgoing) → List ℕ → List Outgoing
+says framing outgoing bytes = map outgoing (cut framing bytes).frames
     ++ faults (cut framing bytes).fault
 
 -- control messages after which control messages are read
@@ -129,27 +129,27 @@ AreBodies bodies = AllByRecursion (IsContent framing.Control) bodies
 
 -- where no control message begins the proxy or ends the reading, all control messages are said, and
 -- then the fault
-abbrev pub ControlIsSaid : Type 0
-ControlIsSaid =
+abbrev pub ControlIsSent : Type 0
+ControlIsSent =
     (bytes : List ℕ) → AreBytes bytes → KeepControl (cut framing.Control bytes).frames
     → said bytes ≡ says framing.Control Body bytes
 
 -- after the first that begins the proxy, the frames of all bytes after it are payloads
-abbrev pub ProxyIsSaid : Type 0
-ProxyIsSaid =
+abbrev pub ProxyIsSent : Type 0
+ProxyIsSent =
     (bodies : List (List ℕ)) (last rest : List ℕ) → AreBodies bodies → KeepControl bodies
     → IsContent framing.Control last → after_body last ≡ InProxy
     → said (joined framing.Control bodies ++ (frame framing.Control last ++ rest))
     ≡ map Body bodies ++ (Body last ∷ says framing.Proxy Payload rest)
 
 -- after the first that ends the reading, nothing is said
-abbrev pub NothingMoreIsSaid : Type 0
-NothingMoreIsSaid =
+abbrev pub NothingMoreIsSent : Type 0
+NothingMoreIsSent =
     (bodies : List (List ℕ)) (last rest : List ℕ) → AreBodies bodies → KeepControl bodies
     → IsContent framing.Control last → after_body last ≡ Stopped
     → said (joined framing.Control bodies ++ (frame framing.Control last ++ rest))
     ≡ map Body bodies ++ (Body last ∷ [])
 
 -- the server says payloads from its first byte on
-abbrev pub ServerIsHeard : Type 0
-ServerIsHeard = (bytes : List ℕ) → heard bytes ≡ says framing.Proxy Payload bytes
+abbrev pub ServerIsReceived : Type 0
+ServerIsReceived = (bytes : List ℕ) → heard bytes ≡ says framing.Proxy Payload bytes

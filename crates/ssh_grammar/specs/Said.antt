@@ -14,10 +14,10 @@ pub data Mode : Type 0 where
   Stopped : Mode
 
 -- what is said at once: a control message's body, a payload, or a frame that is none
-pub data Saying : Type 0 where
-  Body : (body : List ℕ) → Saying
-  Payload : (payload : List ℕ) → Saying
-  BadFraming : (fault : BadFrame) → Saying
+pub data Outgoing : Type 0 where
+  Body : (body : List ℕ) → Outgoing
+  Payload : (payload : List ℕ) → Outgoing
+  BadFraming : (fault : BadFrame) → Outgoing
 
 -- the mode after a control message: PROXY begins the proxy, and after the two requests that hand
 -- descriptors over nothing is read
@@ -38,10 +38,10 @@ first_in InProxy bytes = first_frame framing.Proxy bytes
 first_in Stopped bytes = More
 
 -- what a frame says
-abbrev pub saying_in : Mode → List ℕ → Saying
-saying_in InControl content = Body content
-saying_in InProxy content = Payload content
-saying_in Stopped content = Payload content
+abbrev pub sending_in : Mode → List ℕ → Outgoing
+sending_in InControl content = Body content
+sending_in InProxy content = Payload content
+sending_in Stopped content = Payload content
 
 -- the mode after a frame
 abbrev pub mode_after : Mode → List ℕ → Mode
@@ -51,18 +51,18 @@ mode_after Stopped content = Stopped
 
 -- what was said, how the next bytes are read, and the bytes that are not read yet
 pub record Parsed : Type 0 where
-  pub says : List Saying
+  pub says : List Outgoing
   pub mode : Mode
   pub rest : List ℕ
 
 -- one more thing in front
-abbrev pub with_saying : Saying → Parsed → Parsed
-with_saying x p = record { says = x ∷ p.says; mode = p.mode; rest = p.rest }
+abbrev pub with_sending : Outgoing → Parsed → Parsed
+with_sending x p = record { says = x ∷ p.says; mode = p.mode; rest = p.rest }
 
 -- after a fault nothing more is read
 abbrev pub parse_front : (Mode → List ℕ → Parsed) → Mode → List ℕ → Front → Parsed
 parse_front go mode bytes (Frame content rest) =
-    with_saying (saying_in mode content) (go (mode_after mode content) rest)
+    with_sending (sending_in mode content) (go (mode_after mode content) rest)
 parse_front go mode bytes More = record { says = []; mode = mode; rest = bytes }
 parse_front go mode bytes (Faulty fault) =
     record { says = BadFraming fault ∷ []; mode = Stopped; rest = bytes }
@@ -83,9 +83,9 @@ and_then p bytes =
     record { says = p.says ++ more.says; mode = more.mode; rest = more.rest }
 
 -- what a client has said by all its bytes
-abbrev pub said : List ℕ → List Saying
+abbrev pub said : List ℕ → List Outgoing
 said bytes = (parse InControl bytes).says
 
 -- what the server has said by all its bytes: payloads from the first byte on
-abbrev pub heard : List ℕ → List Saying
+abbrev pub heard : List ℕ → List Outgoing
 heard bytes = (parse InProxy bytes).says

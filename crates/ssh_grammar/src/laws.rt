@@ -1,6 +1,6 @@
 //! What the grammar promises, over all bytes: each function's contract is the law.
 
-ghost use Rattle.ssh_grammar.specs.Laws.{MessagesAreSpelledSo, MessagesReadBack, NoPayloadForTwo, NumbersStand, RecipientIsReplaced, SenderIsReplaced, ControlsAreSpelledSo, ControlsReadBack, NoBodyForTwo, AnswersReadBack, NoBodyForTwoAnswers, CutIsLongest, NoOtherCut, CutsJoin, ParsesJoin, SaidStays, ControlIsSaid, ProxyIsSaid, NothingMoreIsSaid, ServerIsHeard};
+ghost use Rattle.ssh_grammar.specs.Laws.{MessagesAreSpelledSo, MessagesReadBack, NoPayloadForTwo, NumbersStand, RecipientIsReplaced, SenderIsReplaced, ControlsAreSpelledSo, ControlsReadBack, NoBodyForTwo, AnswersReadBack, NoBodyForTwoAnswers, CutIsLongest, NoOtherCut, CutsJoin, ParsesJoin, SentStays, ControlIsSent, ProxyIsSent, NothingMoreIsSent, ServerIsReceived};
 
 /// What reads as a message is a payload of it, and each payload of it reads as it.
 pub fn messages_and_their_payloads()
@@ -39,11 +39,11 @@ pub fn frames_of_a_stream()
 
 /// What a client says by pieces is what it says by all its bytes: control messages, and after the
 /// one that begins the proxy payloads.
-pub fn what_is_said_by_bytes()
+pub fn what_is_sent_by_bytes()
     ensures join { ParsesJoin }
-    ensures stays { SaidStays }
-    ensures control { ControlIsSaid }
-    ensures proxy { ProxyIsSaid }
-    ensures nothing_more { NothingMoreIsSaid }
-    ensures server { ServerIsHeard }
+    ensures stays { SentStays }
+    ensures control { ControlIsSent }
+    ensures proxy { ProxyIsSent }
+    ensures nothing_more { NothingMoreIsSent }
+    ensures server { ServerIsReceived }
 {}

@@ -16,11 +16,11 @@ use Rattle.ssh_mux.specs.declared.ending.Ending.TheVariants as endings
 use Rattle.ssh_mux.specs.declared.status.Status.{Status}
 use Rattle.ssh_mux.specs.declared.status.Status.TheVariants as statuses
 use Rattle.ssh_mux.specs.Answers.{may_ask, may_open, may_show, may_write, reaches}
-use Rattle.ssh_mux.specs.Client.{Answers, AnswersBy, Converses, ConversesBy, ConversesFor, IsAnswered, IsAsked, IsUnasked, JoinsOnce, TalksFor, asks_in, ends_asking, talk_told}
+use Rattle.ssh_mux.specs.Client.{Answers, AnswersBy, Converses, ConversesBy, ConversesFor, IsAnswered, IsAsked, IsUnasked, JoinsOnce, TalksFor, asks_in, ends_asking, talk_recorded}
 use Rattle.ssh_mux.specs.Ending.{shown}
 use Rattle.ssh_mux.specs.Err.{Reports}
 use Rattle.ssh_mux.specs.Outcomes.{Known, Certain, Client, Listing, Master, asks, drills, opens}
-use Rattle.ssh_mux.specs.Sharing.{TellsEnd, WireCause}
+use Rattle.ssh_mux.specs.Sharing.{RecordsEnd, WireCause}
 use Rattle.ssh_mux.specs.Status.{status_of}
 use Rattle.ssh_mux.proofs.EndLemmas.{carried, on-memory, reported}
 
@@ -71,22 +71,22 @@ closed statuses.StartRefused e = absurd cc
 closed statuses.Refused e = absurd cc
 closed statuses.BadMaster e = absurd cc
 
-module _ (start told : Option (List Mark)) (out out' : Option (List ℕ)) (b n : Option (List ℕ)) (f f' : ℕ) where
+module _ (start recorded : Option (List Mark)) (out out' : Option (List ℕ)) (b n : Option (List ℕ)) (f f' : ℕ) where
   -- an end with the line that was handed over
-  with-line : (what : Asks) (meant : MeantEnding) (status : Status) → IsAsked what start told out out' (Err meant) → Reports status (shown meant) b n f f' → IsAnswered what start told out out' status b n f f'
-  with-line what meant status h r = record { answer = h.answer; talks = h.talks; shows = h.shows; line = subst (λ x. TellsEnd x status b n f f') h.is_told r }
+  with-line : (what : Asks) (meant : MeantEnding) (status : Status) → IsAsked what start recorded out out' (Err meant) → Reports status (shown meant) b n f f' → IsAnswered what start recorded out out' status b n f f'
+  with-line what meant status h r = record { answer = h.answer; talks = h.talks; shows = h.shows; line = subst (λ x. RecordsEnd x status b n f f') h.is_recorded r }
 
-  memory-answers : (what : Asks) (meant : MeantEnding) → Converses what start told out out' (Err meant) → Reports statuses.Memory (shown meant) b n f f' → Answers what start told out out' statuses.Memory b n f f'
+  memory-answers : (what : Asks) (meant : MeantEnding) → Converses what start recorded out out' (Err meant) → Reports statuses.Memory (shown meant) b n f f' → Answers what start recorded out out' statuses.Memory b n f f'
   memory-answers what endings.NotOpened h r = inl h
   memory-answers what endings.NoMemory (inl h) r = inl h
   memory-answers what endings.NoMemory (inr h) r = inr (with-line what endings.NoMemory statuses.Memory h r)
   memory-answers what meant h r = inr (with-line what meant statuses.Memory h r)
 
   -- no talk ends as words and configurations do, nor as a master
-  none-ends : (what : Asks) (meant : MeantEnding) → ends_asking meant ≡ false → IsAsked what start told out out' (Err meant) → ⊥
-  none-ends what meant e h = by_end h.answer h.is_told
+  none-ends : (what : Asks) (meant : MeantEnding) → ends_asking meant ≡ false → IsAsked what start recorded out out' (Err meant) → ⊥
+  none-ends what meant e h = by_end h.answer h.is_recorded
     where
-      by_end : (x : Talked) → Err meant ≡ talk_told x → ⊥
+      by_end : (x : Talked) → Err meant ≡ talk_recorded x → ⊥
       by_end talks.Done t = absurd cc
       by_end talks.WriteFault t = absurd cc
       by_end (talks.Refused id) t = let m : meant ≡ endings.MasterRefused = cc in let z : ends_asking meant ≡ true = ap ends_asking m in absurd cc
@@ -95,7 +95,7 @@ module _ (start told : Option (List Mark)) (out out' : Option (List ℕ)) (b n :
       by_end talks.Spent t = let m : meant ≡ endings.TurnsSpent = cc in let z : ends_asking meant ≡ true = ap ends_asking m in absurd cc
       by_end talks.OutOfMemory t = let m : meant ≡ endings.NoMemory = cc in let z : ends_asking meant ≡ true = ap ends_asking m in absurd cc
 
-  own-answers : (what : Asks) (meant : MeantEnding) → Converses what start told out out' (Err meant) → Reports (status_of (shown meant)) (shown meant) b n f f' → Answers what start told out out' (status_of (shown meant)) b n f f'
+  own-answers : (what : Asks) (meant : MeantEnding) → Converses what start recorded out out' (Err meant) → Reports (status_of (shown meant)) (shown meant) b n f f' → Answers what start recorded out out' (status_of (shown meant)) b n f f'
   own-answers what endings.NotOpened h r = h
   own-answers what endings.NoMemory h r = memory-answers what endings.NoMemory h r
   own-answers what endings.TransportFailed h r = with-line what endings.TransportFailed statuses.Transport h r
@@ -112,44 +112,44 @@ module _ (start told : Option (List Mark)) (out out' : Option (List ℕ)) (b n :
   abbrev Reading : Type 0
   Reading = Option (Result Asks ResolveError)
 
-  memory-by : (x : Reading) (meant : MeantEnding) → ConversesBy x start told out out' (Err meant) → Reports statuses.Memory (shown meant) b n f f' → AnswersBy x start told out out' statuses.Memory b n f f'
+  memory-by : (x : Reading) (meant : MeantEnding) → ConversesBy x start recorded out out' (Err meant) → Reports statuses.Memory (shown meant) b n f f' → AnswersBy x start recorded out out' statuses.Memory b n f f'
   memory-by None meant h r = tt
   memory-by (Some (Ok what)) meant h r = memory-answers what meant h r
   memory-by (Some (Err e)) meant h r = h
 
-  own-by : (x : Reading) (meant : MeantEnding) → ConversesBy x start told out out' (Err meant) → Reports (status_of (shown meant)) (shown meant) b n f f' → AnswersBy x start told out out' (status_of (shown meant)) b n f f'
+  own-by : (x : Reading) (meant : MeantEnding) → ConversesBy x start recorded out out' (Err meant) → Reports (status_of (shown meant)) (shown meant) b n f f' → AnswersBy x start recorded out out' (status_of (shown meant)) b n f f'
   own-by None meant h r = tt
   own-by (Some (Ok what)) meant h r = own-answers what meant h r
   own-by (Some (Err e)) meant h r = h
 
-  untold-by : (x : Reading) → IsUnasked start told out out' → AnswersBy x start told out out' statuses.Memory b n f f'
+  untold-by : (x : Reading) → IsUnasked start recorded out out' → AnswersBy x start recorded out out' statuses.Memory b n f f'
   untold-by None h = tt
   untold-by (Some (Ok what)) h = inl h
   untold-by (Some (Err e)) h = h
 
   -- over a wire that wasn't joined nobody was asked
-  memory-asks : (opened touched asking written : Bool) (x : Reading) (meant : MeantEnding) → (opened ≡ false → written ≡ false) → OnTrue (opened && asking) (ConversesBy x start told out out' (Err meant)) → OnFalse ((opened && touched) || (opened && asking)) (told ≡ start) → OnFalse (written || (opened && asking)) (out' ≡ out) → Reports statuses.Memory (shown meant) b n f f' → OnTrue asking (AnswersBy x start told out out' statuses.Memory b n f f')
+  memory-asks : (opened touched asking written : Bool) (x : Reading) (meant : MeantEnding) → (opened ≡ false → written ≡ false) → OnTrue (opened && asking) (ConversesBy x start recorded out out' (Err meant)) → OnFalse ((opened && touched) || (opened && asking)) (recorded ≡ start) → OnFalse (written || (opened && asking)) (out' ≡ out) → Reports statuses.Memory (shown meant) b n f f' → OnTrue asking (AnswersBy x start recorded out out' statuses.Memory b n f f')
   memory-asks opened touched false written x meant q h w o r = tt
   memory-asks true touched true written x meant q h w o r = memory-by x meant h r
   memory-asks false touched true written x meant q h w o r = untold-by x (record { same_wire = w; same_out = subst (λ y. OnFalse (y || false) (out' ≡ out)) (q refl) o })
 
-  own-asks : (asking : Bool) (x : Reading) (meant : MeantEnding) → OnTrue asking (ConversesBy x start told out out' (Err meant)) → Reports (status_of (shown meant)) (shown meant) b n f f' → OnTrue asking (AnswersBy x start told out out' (status_of (shown meant)) b n f f')
+  own-asks : (asking : Bool) (x : Reading) (meant : MeantEnding) → OnTrue asking (ConversesBy x start recorded out out' (Err meant)) → Reports (status_of (shown meant)) (shown meant) b n f f' → OnTrue asking (AnswersBy x start recorded out out' (status_of (shown meant)) b n f f')
   own-asks false x meant h r = tt
   own-asks true x meant h r = own-by x meant h r
 
   abbrev Answered : Known → Status → Type 0
-  Answered k status = OnTrue (may_ask k status) (AnswersBy (asks_in k) start told out out' status b n f f')
+  Answered k status = OnTrue (may_ask k status) (AnswersBy (asks_in k) start recorded out out' status b n f f')
 
-  asked-by : (k : Known) (status : Status) (meant : MeantEnding) → (status ≡ statuses.Memory) ⊎ (status ≡ status_of (shown meant)) → Reports status (shown meant) b n f f' → ConversesFor k start told out out' (Err meant) → OnFalse (reaches k (status_of (shown meant))) (told ≡ start) → OnFalse (may_show k (status_of (shown meant))) (out' ≡ out) → Answered k status
+  asked-by : (k : Known) (status : Status) (meant : MeantEnding) → (status ≡ statuses.Memory) ⊎ (status ≡ status_of (shown meant)) → Reports status (shown meant) b n f f' → ConversesFor k start recorded out out' (Err meant) → OnFalse (reaches k (status_of (shown meant))) (recorded ≡ start) → OnFalse (may_show k (status_of (shown meant))) (out' ≡ out) → Answered k status
   asked-by k status meant (inl e) r h w o = subst (λ s. Answered k s) (sym e) (memory-asks (may_open (status_of (shown meant))) (opens k || drills k) (asks k) (may_write (status_of (shown meant))) (asks_in k) meant (closed (status_of (shown meant))) h w o (subst (λ s. Reports s (shown meant) b n f f') e r))
   asked-by k status meant (inr e) r h w o = subst (λ s. Answered k s) (sym e) (own-asks (may_ask k (status_of (shown meant))) (asks_in k) meant h (subst (λ s. Reports s (shown meant) b n f f') e r))
 
-  pub asked_after : (k : Known) (status : Status) (meant : MeantEnding) → Reports status (shown meant) b n f f' → ConversesFor k start told out out' (Err meant) → OnFalse (reaches k (status_of (shown meant))) (told ≡ start) → OnFalse (may_show k (status_of (shown meant))) (out' ≡ out) → Answered k status
+  pub asked_after : (k : Known) (status : Status) (meant : MeantEnding) → Reports status (shown meant) b n f f' → ConversesFor k start recorded out out' (Err meant) → OnFalse (reaches k (status_of (shown meant))) (recorded ≡ start) → OnFalse (may_show k (status_of (shown meant))) (out' ≡ out) → Answered k status
   asked_after k status meant r h w o = asked-by k status meant (reported status (shown meant) b n f f' r) r h w o
 
 -- ---- an end without a line
 
-silent-is : (status : Status) (x : Talked) → Ok status ≡ talk_told x → (status ≡ statuses.Done) ⊎ (status ≡ statuses.Write)
+silent-is : (status : Status) (x : Talked) → Ok status ≡ talk_recorded x → (status ≡ statuses.Done) ⊎ (status ≡ statuses.Write)
 silent-is status talks.Done t = inl cc
 silent-is status talks.WriteFault t = inr cc
 silent-is status (talks.Refused id) t = absurd cc
@@ -158,25 +158,25 @@ silent-is status talks.ServerFailed t = absurd cc
 silent-is status talks.Spent t = absurd cc
 silent-is status talks.OutOfMemory t = absurd cc
 
-module _ (start told : Option (List Mark)) (out out' : Option (List ℕ)) (b : Option (List ℕ)) (f : ℕ) where
-  well-answered : (what : Asks) (status : Status) → IsAsked what start told out out' (Ok status) → IsAnswered what start told out out' status b b f f
-  well-answered what status h = record { answer = h.answer; talks = h.talks; shows = h.shows; line = subst (λ x. TellsEnd x status b b f f) h.is_told (refl, refl) }
+module _ (start recorded : Option (List Mark)) (out out' : Option (List ℕ)) (b : Option (List ℕ)) (f : ℕ) where
+  well-answered : (what : Asks) (status : Status) → IsAsked what start recorded out out' (Ok status) → IsAnswered what start recorded out out' status b b f f
+  well-answered what status h = record { answer = h.answer; talks = h.talks; shows = h.shows; line = subst (λ x. RecordsEnd x status b b f f) h.is_recorded (refl, refl) }
 
-  well-answers : (what : Asks) (status : Status) → IsAsked what start told out out' (Ok status) → Answers what start told out out' status b b f f
-  well-answers what status h = by_status (silent-is status h.answer h.is_told)
+  well-answers : (what : Asks) (status : Status) → IsAsked what start recorded out out' (Ok status) → Answers what start recorded out out' status b b f f
+  well-answers what status h = by_status (silent-is status h.answer h.is_recorded)
     where
-      by_status : (status ≡ statuses.Done) ⊎ (status ≡ statuses.Write) → Answers what start told out out' status b b f f
-      by_status (inl e) = subst (λ s. IsAsked what start told out out' (Ok s) → Answers what start told out out' s b b f f) (sym e) (λ g. well-answered what statuses.Done g) h
-      by_status (inr e) = subst (λ s. IsAsked what start told out out' (Ok s) → Answers what start told out out' s b b f f) (sym e) (λ g. well-answered what statuses.Write g) h
+      by_status : (status ≡ statuses.Done) ⊎ (status ≡ statuses.Write) → Answers what start recorded out out' status b b f f
+      by_status (inl e) = subst (λ s. IsAsked what start recorded out out' (Ok s) → Answers what start recorded out out' s b b f f) (sym e) (λ g. well-answered what statuses.Done g) h
+      by_status (inr e) = subst (λ s. IsAsked what start recorded out out' (Ok s) → Answers what start recorded out out' s b b f f) (sym e) (λ g. well-answered what statuses.Write g) h
 
-  well-by : (x : Option (Result Asks ResolveError)) (status : Status) → ConversesBy x start told out out' (Ok status) → AnswersBy x start told out out' status b b f f
+  well-by : (x : Option (Result Asks ResolveError)) (status : Status) → ConversesBy x start recorded out out' (Ok status) → AnswersBy x start recorded out out' status b b f f
   well-by None status h = tt
   well-by (Some (Ok what)) status h = well-answers what status h
   well-by (Some (Err e)) status h = h
 
-  well-on : (asking : Bool) (x : Option (Result Asks ResolveError)) (status : Status) → OnTrue asking (ConversesBy x start told out out' (Ok status)) → OnTrue asking (AnswersBy x start told out out' status b b f f)
+  well-on : (asking : Bool) (x : Option (Result Asks ResolveError)) (status : Status) → OnTrue asking (ConversesBy x start recorded out out' (Ok status)) → OnTrue asking (AnswersBy x start recorded out out' status b b f f)
   well-on false x status h = tt
   well-on true x status h = well-by x status h
 
-  pub asked_well : (k : Known) (status : Status) → ConversesFor k start told out out' (Ok status) → OnTrue (may_ask k status) (AnswersBy (asks_in k) start told out out' status b b f f)
+  pub asked_well : (k : Known) (status : Status) → ConversesFor k start recorded out out' (Ok status) → OnTrue (may_ask k status) (AnswersBy (asks_in k) start recorded out out' status b b f f)
   asked_well k status h = well-on (may_ask k status) (asks_in k) status h

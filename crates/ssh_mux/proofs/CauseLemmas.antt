@@ -9,7 +9,7 @@ use Rattle.conf_rules.specs.declared.causes.ResolveError.{ResolveError}
 use Rattle.conf_rules.specs.declared.causes.ResolveError.TheVariants.{At, OutOfMemory}
 use Rattle.conf_rules.specs.Diagnostics as ends
 use Rattle.conf_rules.specs.Diagnostics.{Ending}
-use Rattle.conf_rules.specs.Outcome.{Machine, told_of, command_execs}
+use Rattle.conf_rules.specs.Outcome.{Machine, recorded_of, command_execs}
 use Rattle.conf_rules.specs.Resolution.{execs}
 use Rattle.conf_rules.specs.Texts.{Bytes}
 use Rattle.conf_fold.specs.Results.{RanUnless, breaks_off}
@@ -82,7 +82,7 @@ fault-later status f f' r r' h = inr h
 
 -- the commands that the lines of what is asked reach, where the machine is told
 abbrev pub Reaches : Command → Asked → Type 0
-Reaches command asked = (m : Machine) → command_execs m command ≡ execs (told_of m asked)
+Reaches command asked = (m : Machine) → command_execs m command ≡ execs (recorded_of m asked)
 
 ran-refused : (e : ResolveError) (commands : List Bytes) (before now : Option (List Bytes)) → RanUnless (breaks_off {A = List Given} (Err e)) before now commands → RunsFor (Some commands) (status_of (shown (refused_as e))) before now
 ran-refused OutOfMemory commands before now h = h
@@ -90,21 +90,21 @@ ran-refused (At file line ReadFault) commands before now h = h
 ran-refused (At file line RunFault) commands before now h = h
 ran-refused (At file line cause) commands before now h = h
 
-pub refused-runs : (files : Option (List Pair)) (ends_with : Option (List CommandStatus)) (facts : Facts) (asked : Asked) (command : Command) (e : ResolveError) (before now : Option (List Bytes)) → Reaches command asked → Promise files ends_with facts asked (λ told. RanUnless (breaks_off {A = List Given} (Err e)) before now (execs told)) → RunsFor (commands_of (machine files ends_with facts) command) (status_of (shown (refused_as e))) before now
+pub refused-runs : (files : Option (List Pair)) (ends_with : Option (List CommandStatus)) (facts : Facts) (asked : Asked) (command : Command) (e : ResolveError) (before now : Option (List Bytes)) → Reaches command asked → Promise files ends_with facts asked (λ recorded. RanUnless (breaks_off {A = List Given} (Err e)) before now (execs recorded)) → RunsFor (commands_of (machine files ends_with facts) command) (status_of (shown (refused_as e))) before now
 unfolding commands_of machine
 refused-runs None ends_with facts asked command e before now is h = tt
 refused-runs (Some files) None facts asked command e before now is h = tt
 refused-runs (Some files) (Some ends_with) facts asked command e before now is h =
     let m = machine_of files ends_with facts in
-    subst (λ cs. RunsFor (Some cs) (status_of (shown (refused_as e))) before now) (sym (is m)) (ran-refused e (execs (told_of m asked)) before now (h (told_of m asked) refl refl (refl, refl) refl))
+    subst (λ cs. RunsFor (Some cs) (status_of (shown (refused_as e))) before now) (sym (is m)) (ran-refused e (execs (recorded_of m asked)) before now (h (recorded_of m asked) refl refl (refl, refl) refl))
 
-pub resolved-runs : {A : Type 0} (x : A) (files : Option (List Pair)) (ends_with : Option (List CommandStatus)) (facts : Facts) (asked : Asked) (command : Command) (before now : Option (List Bytes)) → Reaches command asked → Promise files ends_with facts asked (λ told. RanAll before now (execs told)) → RunsUnless (commands_of (machine files ends_with facts) command) (Ok x) before now
+pub resolved-runs : {A : Type 0} (x : A) (files : Option (List Pair)) (ends_with : Option (List CommandStatus)) (facts : Facts) (asked : Asked) (command : Command) (before now : Option (List Bytes)) → Reaches command asked → Promise files ends_with facts asked (λ recorded. RanAll before now (execs recorded)) → RunsUnless (commands_of (machine files ends_with facts) command) (Ok x) before now
 unfolding commands_of machine
 resolved-runs x None ends_with facts asked command before now is h = tt
 resolved-runs x (Some files) None facts asked command before now is h = tt
 resolved-runs x (Some files) (Some ends_with) facts asked command before now is h =
     let m = machine_of files ends_with facts in
-    subst (λ cs. RanAll before now cs) (sym (is m)) (h (told_of m asked) refl refl (refl, refl) refl)
+    subst (λ cs. RanAll before now cs) (sym (is m)) (h (recorded_of m asked) refl refl (refl, refl) refl)
 
 -- once all were run, any status may follow
 pub all-ran : {A : Type 0} (x : A) (commands : Option (List Bytes)) (status : Status) (before now : Option (List Bytes)) → RunsUnless commands (Ok x) before now → RunsFor commands status before now

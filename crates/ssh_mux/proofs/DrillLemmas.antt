@@ -5,7 +5,7 @@ use Rattle.conf_rules.specs.declared.causes.Cause.TheVariants.{ReadFault, RunFau
 use Rattle.conf_rules.specs.Outcome.{Ends, Writes, Opens, Drills, Joins}
 use Rattle.conf_resolve.specs.Faults.{FailedPaths}
 use Rattle.conf_rules.specs.Texts.{Bytes}
-use Rattle.conf_rules.specs.Told.{Told}
+use Rattle.conf_rules.specs.Recorded.{Recorded}
 use Rattle.ssh_mux.specs.Places.{Placed}
 use Rattle.mux_history.specs.Policy.{any_policy}
 use Rattle.mux_outside.specs.declared.mark.Mark.{Mark}
@@ -20,13 +20,13 @@ use Rattle.ssh_mux.specs.declared.status.Status.{Status}
 use Rattle.ssh_mux.specs.declared.status.Status.TheVariants as statuses
 use Rattle.ssh_mux.specs.Answers.{Comes, IsRefused, may_open, so_far, touches}
 use Rattle.ssh_mux.specs.Causes.{Caused}
-use Rattle.ssh_mux.specs.Drill.{AnyCalls, DrillGoes, DrillServes, DrillShares, DrillTells, EndsDrill, IsDrill, IsDrilled, NoneRests, RefusesAll, RunsDrill, SumsUp, drill_text, drill_transport}
+use Rattle.ssh_mux.specs.Drill.{AnyCalls, DrillGoes, DrillServes, DrillShares, DrillRecords, EndsDrill, IsDrill, IsDrilled, NoneRests, RefusesAll, RunsDrill, SumsUp, drill_text, drill_transport}
 use Rattle.ssh_mux.specs.Ending.{shown}
 use Rattle.ssh_mux.specs.Err.{Reports}
 use Rattle.ssh_mux.specs.Master.{EndsMaster}
 use Rattle.ssh_mux.specs.Out.{HandsOver, OutTakes}
 use Rattle.ssh_mux.specs.Outcomes.{Known, Certain, Listing, Master, Client, drills}
-use Rattle.ssh_mux.specs.Sharing.{CallsEnd, CameFor, CountsFor, IdleCause, IsShared, OpensAt, Shares, StartCause, WaitsFor, WireCause, told_as}
+use Rattle.ssh_mux.specs.Sharing.{CallsEnd, CameFor, CountsFor, IdleCause, IsShared, OpensAt, Shares, StartCause, WaitsFor, WireCause, recorded_as}
 use Rattle.ssh_mux.specs.Status.{status_of}
 use Rattle.ssh_mux.specs.World.{OutState, Sockets, Sources, world}
 use Rattle.ssh_mux.proofs.EndLemmas.{reported}
@@ -70,15 +70,15 @@ drill-cause (Err endings.TurnsSpent) f r h = (refl, refl)
 drill-cause (Err ending) f r h = absurd cc
 
 -- nor is a fault of one told
-pub drilled-placed : (told : Option Told) (result : Result Status Ending) (ran ran' : Option (List Bytes)) (failed failed' : FailedPaths) → EndsDrill result → Placed told result ran ran' failed failed'
-drilled-placed told (Ok status) ran ran' failed failed' h = tt
+pub drilled-placed : (recorded : Option Recorded) (result : Result Status Ending) (ran ran' : Option (List Bytes)) (failed failed' : FailedPaths) → EndsDrill result → Placed recorded result ran ran' failed failed'
+drilled-placed recorded (Ok status) ran ran' failed failed' h = tt
 drilled-placed None (Err ending) ran ran' failed failed' h = tt
-drilled-placed (Some told) (Err endings.NoMemory) ran ran' failed failed' h = tt
-drilled-placed (Some told) (Err endings.NotOpened) ran ran' failed failed' h = tt
-drilled-placed (Some told) (Err endings.TransportFailed) ran ran' failed failed' h = tt
-drilled-placed (Some told) (Err (endings.ServerBroke index why)) ran ran' failed failed' h = tt
-drilled-placed (Some told) (Err endings.TurnsSpent) ran ran' failed failed' h = tt
-drilled-placed (Some told) (Err ending) ran ran' failed failed' h = absurd cc
+drilled-placed (Some recorded) (Err endings.NoMemory) ran ran' failed failed' h = tt
+drilled-placed (Some recorded) (Err endings.NotOpened) ran ran' failed failed' h = tt
+drilled-placed (Some recorded) (Err endings.TransportFailed) ran ran' failed failed' h = tt
+drilled-placed (Some recorded) (Err (endings.ServerBroke index why)) ran ran' failed failed' h = tt
+drilled-placed (Some recorded) (Err endings.TurnsSpent) ran ran' failed failed' h = tt
+drilled-placed (Some recorded) (Err ending) ran ran' failed failed' h = absurd cc
 
 pub handed-ends : (text : Bytes) (result : Result Status Ending) (before now : Option (List ℕ)) → HandsOver result text before now → EndsDrill result
 handed-ends text (Ok statuses.Done) before now h = refl
@@ -91,16 +91,16 @@ handed-ends text (Err ending) before now h = absurd h
 
 module _ (words : List Bytes) (turns : ℕ) (w w' : WireState) (out out' : Option (List ℕ)) where
   abbrev Shared : Result Status Ending → Type 0
-  Shared result = Shares RefusesAll NoneRests AnyCalls AnyCalls any_policy 0 turns None None w.seen.told w'.seen None result
+  Shared result = Shares RefusesAll NoneRests AnyCalls AnyCalls any_policy 0 turns None None w.seen.recorded w'.seen None result
 
   abbrev Ran : Result Status Ending → Type 0
-  Ran result = IsShared RefusesAll NoneRests AnyCalls AnyCalls any_policy 0 turns None None w.seen.told w'.seen None result
+  Ran result = IsShared RefusesAll NoneRests AnyCalls AnyCalls any_policy 0 turns None None w.seen.recorded w'.seen None result
 
   -- of a run that ended well
-  summed-run : (due : Status) (result : Result Status Ending) → Ran (Ok due) → HandsOver result (drill_text w'.tally) out out' → RunsDrill turns w.seen.told w'.seen w'.tally result out out'
-  summed-run due result h d = record { answer = h.answer; run = h.run; ends = subst (λ e. SumsUp e w'.tally result out out') h.is_told d }
+  summed-run : (due : Status) (result : Result Status Ending) → Ran (Ok due) → HandsOver result (drill_text w'.tally) out out' → RunsDrill turns w.seen.recorded w'.seen w'.tally result out out'
+  summed-run due result h d = record { answer = h.answer; run = h.run; ends = subst (λ e. SumsUp e w'.tally result out out') h.is_recorded d }
 
-  summed-shared : (due : Status) (result : Result Status Ending) → Ran (Ok due) → HandsOver result (drill_text w'.tally) out out' → DrillShares turns w.seen.told w'.seen w'.tally result out out'
+  summed-shared : (due : Status) (result : Result Status Ending) → Ran (Ok due) → HandsOver result (drill_text w'.tally) out out' → DrillShares turns w.seen.recorded w'.seen w'.tally result out out'
   summed-shared due (Ok status) h d = summed-run due (Ok status) h d
   summed-shared due (Err endings.NotOpened) h d = absurd d
   summed-shared due (Err endings.NoMemory) h d = inr (summed-run due (Err endings.NoMemory) h d)
@@ -125,16 +125,16 @@ module _ (words : List Bytes) (turns : ℕ) (w w' : WireState) (out : Option (Li
   drilled endings.StartRefused e r = absurd cc
   drilled meant e r = e
 
-  unsummed-run : (meant : Ending) → IsShared RefusesAll NoneRests AnyCalls AnyCalls any_policy 0 turns None None w.seen.told w'.seen None (Err meant) → RunsDrill turns w.seen.told w'.seen w'.tally (Err meant) out out
-  unsummed-run meant h = record { answer = h.answer; run = h.run; ends = subst (λ e. SumsUp e w'.tally (Err meant) out out) h.is_told (refl, refl) }
+  unsummed-run : (meant : Ending) → IsShared RefusesAll NoneRests AnyCalls AnyCalls any_policy 0 turns None None w.seen.recorded w'.seen None (Err meant) → RunsDrill turns w.seen.recorded w'.seen w'.tally (Err meant) out out
+  unsummed-run meant h = record { answer = h.answer; run = h.run; ends = subst (λ e. SumsUp e w'.tally (Err meant) out out) h.is_recorded (refl, refl) }
 
-  unsummed-shared : (meant : Ending) → Shares RefusesAll NoneRests AnyCalls AnyCalls any_policy 0 turns None None w.seen.told w'.seen None (Err meant) → DrillShares turns w.seen.told w'.seen w'.tally (Err meant) out out
+  unsummed-shared : (meant : Ending) → Shares RefusesAll NoneRests AnyCalls AnyCalls any_policy 0 turns None None w.seen.recorded w'.seen None (Err meant) → DrillShares turns w.seen.recorded w'.seen w'.tally (Err meant) out out
   unsummed-shared endings.NotOpened h = (h, refl)
   unsummed-shared endings.NoMemory (inl h) = inl (h, refl)
   unsummed-shared endings.NoMemory (inr h) = inr (unsummed-run endings.NoMemory h)
   unsummed-shared meant h = unsummed-run meant h
 
-  pub unsummed-goes : (meant : Ending) → EndsMaster (Err meant) → StartCause (status_of (shown meant)) None → OpensAt [] (drill_transport words) (status_of (shown meant)) w.openings w'.openings → Shares RefusesAll NoneRests AnyCalls AnyCalls any_policy 0 turns None None w.seen.told w'.seen None (Err meant) → DrillGoes words turns (Err meant) w w' out out
+  pub unsummed-goes : (meant : Ending) → EndsMaster (Err meant) → StartCause (status_of (shown meant)) None → OpensAt [] (drill_transport words) (status_of (shown meant)) w.openings w'.openings → Shares RefusesAll NoneRests AnyCalls AnyCalls any_policy 0 turns None None w.seen.recorded w'.seen None (Err meant) → DrillGoes words turns (Err meant) w w' out out
   unsummed-goes meant e r o h = record { ends = drilled meant e r; opened = o; shared = unsummed-shared meant h }
 
 summed-cause : (text : Bytes) (result : Result Status Ending) (before now : Option (List ℕ)) (w w' : Faults) → HandsOver result text before now → WireCause (so_far result) w w'
@@ -197,8 +197,8 @@ unwritten-end tally meant (Err ending) out out' h = h.1
 unwritten : (turns : ℕ) (start : Option (List Mark)) (seen : Seen) (tally : Tally) (meant : Ending) (out out' : Option (List ℕ)) → DrillShares turns start seen tally (Err meant) out out' → out' ≡ out
 unwritten turns start seen tally endings.NotOpened out out' h = h.1
 unwritten turns start seen tally endings.NoMemory out out' (inl h) = h.1
-unwritten turns start seen tally endings.NoMemory out out' (inr h) = unwritten-end tally endings.NoMemory (told_as h.answer) out out' h.ends
-unwritten turns start seen tally meant out out' h = unwritten-end tally meant (told_as h.answer) out out' h.ends
+unwritten turns start seen tally endings.NoMemory out out' (inr h) = unwritten-end tally endings.NoMemory (recorded_as h.answer) out out' h.ends
+unwritten turns start seen tally meant out out' h = unwritten-end tally meant (recorded_as h.answer) out out' h.ends
 
 drill-takes-from : (seed clients messages turns : ℕ) (start : Option (List Mark)) (seen : Seen) (tally : Tally) (result : Result Status Ending) (out out' : Option (List ℕ)) → EndsDrill result → DrillShares turns start seen tally result out out' → OutTakes (so_far result) (Certain (Drills seed clients messages)) out out'
 drill-takes-from seed clients messages turns start seen tally (Ok statuses.Done) out out' e h = tt
@@ -208,7 +208,7 @@ drill-takes-from seed clients messages turns start seen tally (Err meant) out ou
     subst (λ o. OutTakes (status_of (shown meant)) (Certain (Drills seed clients messages)) out o) (sym (unwritten turns start seen tally meant out out' h)) (quiet-out (status_of (shown meant)) (Certain (Drills seed clients messages)) out (loud (shown meant)))
 
 pub drill-takes : (seed clients messages : ℕ) (words : List Bytes) (turns : ℕ) (result : Result Status Ending) (w w' : WireState) (out out' : Option (List ℕ)) → DrillGoes words turns result w w' out out' → OutTakes (so_far result) (Certain (Drills seed clients messages)) out out'
-drill-takes seed clients messages words turns result w w' out out' h = drill-takes-from seed clients messages turns w.seen.told w'.seen w'.tally result out out' h.ends h.shared
+drill-takes seed clients messages words turns result w w' out out' h = drill-takes-from seed clients messages turns w.seen.recorded w'.seen w'.tally result out out' h.ends h.shared
 
 -- ---- an ending that came before
 
@@ -233,14 +233,14 @@ module _ (words : List Bytes) (turns : ℕ) (w w' : WireState) (out out' : Optio
   Went result = DrillGoes words turns result w w' out out'
 
   -- without one
-  well-told : (status : Status) (end : Result Status Ending) (err : Option (List ℕ)) (f : ℕ) → SumsUp end w'.tally (Ok status) out out' → DrillTells end w'.tally status out out' err err f f
-  well-told statuses.Done (Ok due) err f h = (h, refl)
-  well-told statuses.Write (Ok due) err f h = (h, refl)
-  well-told status (Ok due) err f h = absurd h
-  well-told status (Err ending) err f h = let e = h.0 in absurd cc
+  well-recorded : (status : Status) (end : Result Status Ending) (err : Option (List ℕ)) (f : ℕ) → SumsUp end w'.tally (Ok status) out out' → DrillRecords end w'.tally status out out' err err f f
+  well-recorded statuses.Done (Ok due) err f h = (h, refl)
+  well-recorded statuses.Write (Ok due) err f h = (h, refl)
+  well-recorded status (Ok due) err f h = absurd h
+  well-recorded status (Err ending) err f h = let e = h.0 in absurd cc
 
-  well-run : (status : Status) (err : Option (List ℕ)) (f : ℕ) → RunsDrill turns w.seen.told w'.seen w'.tally (Ok status) out out' → IsDrilled turns w.seen.told w'.seen w'.tally status out out' err err f f
-  well-run status err f h = record { answer = h.answer; run = h.run; ends = well-told status (told_as h.answer) err f h.ends }
+  well-run : (status : Status) (err : Option (List ℕ)) (f : ℕ) → RunsDrill turns w.seen.recorded w'.seen w'.tally (Ok status) out out' → IsDrilled turns w.seen.recorded w'.seen w'.tally status out out' err err f f
+  well-run status err f h = record { answer = h.answer; run = h.run; ends = well-recorded status (recorded_as h.answer) err f h.ends }
 
   -- a status without a line is neither that of want of memory nor that of sockets that aren't open
   silent-end : (status : Status) (end : Result Status Ending) → SumsUp end w'.tally (Ok status) out out' → (status ≡ statuses.Done) ⊎ (status ≡ statuses.Write)
@@ -250,57 +250,57 @@ module _ (words : List Bytes) (turns : ℕ) (w w' : WireState) (out out' : Optio
   silent-end status (Err ending) h = let e = h.0 in absurd cc
 
   abbrev Served : Status → Option (List ℕ) → ℕ → Type 0
-  Served status err f = DrillServes turns w.seen.told w'.seen w'.tally status out out' err err f f
+  Served status err f = DrillServes turns w.seen.recorded w'.seen w'.tally status out out' err err f f
 
-  well-served : (status : Status) (err : Option (List ℕ)) (f : ℕ) → (status ≡ statuses.Done) ⊎ (status ≡ statuses.Write) → IsDrilled turns w.seen.told w'.seen w'.tally status out out' err err f f → Served status err f
-  well-served status err f (inl e) h = subst (λ x. Served x err f) (sym e) (subst (λ x. IsDrilled turns w.seen.told w'.seen w'.tally x out out' err err f f) e h)
-  well-served status err f (inr e) h = subst (λ x. Served x err f) (sym e) (subst (λ x. IsDrilled turns w.seen.told w'.seen w'.tally x out out' err err f f) e h)
+  well-served : (status : Status) (err : Option (List ℕ)) (f : ℕ) → (status ≡ statuses.Done) ⊎ (status ≡ statuses.Write) → IsDrilled turns w.seen.recorded w'.seen w'.tally status out out' err err f f → Served status err f
+  well-served status err f (inl e) h = subst (λ x. Served x err f) (sym e) (subst (λ x. IsDrilled turns w.seen.recorded w'.seen w'.tally x out out' err err f f) e h)
+  well-served status err f (inr e) h = subst (λ x. Served x err f) (sym e) (subst (λ x. IsDrilled turns w.seen.recorded w'.seen w'.tally x out out' err err f f) e h)
 
   well-goes : (status : Status) (err : Option (List ℕ)) (f : ℕ) → Went (Ok status) → OpensAt [] (drill_transport words) status w.openings w'.openings × Served status err f
-  well-goes status err f h = (h.opened, well-served status err f (silent-end status (told_as h.shared.answer) h.shared.ends) (well-run status err f h.shared))
+  well-goes status err f h = (h.opened, well-served status err f (silent-end status (recorded_as h.shared.answer) h.shared.ends) (well-run status err f h.shared))
 
-pub drill_well : (drilled : Bool) (words : List Bytes) (turns : ℕ) (status : Status) (k k' : Sockets) (s s' : Sources) (out out' err : OutState) → OnTrue drilled (DrillGoes words turns (Ok status) k.wire k'.wire out.told out'.told) → OnTrue drilled (IsDrill words turns status (world k s out err) (world k' s' out' err))
-drill_well true words turns status k k' s s' out out' err h = let w = well-goes words turns k.wire k'.wire out.told out'.told status err.told err.faults h in record { opened = w.0; served = w.1 }
+pub drill_well : (drilled : Bool) (words : List Bytes) (turns : ℕ) (status : Status) (k k' : Sockets) (s s' : Sources) (out out' err : OutState) → OnTrue drilled (DrillGoes words turns (Ok status) k.wire k'.wire out.recorded out'.recorded) → OnTrue drilled (IsDrill words turns status (world k s out err) (world k' s' out' err))
+drill_well true words turns status k k' s s' out out' err h = let w = well-goes words turns k.wire k'.wire out.recorded out'.recorded status err.recorded err.faults h in record { opened = w.0; served = w.1 }
 drill_well false words turns status k k' s s' out out' err h = tt
 
 -- with one
 module _ (words : List Bytes) (turns : ℕ) (w w' : WireState) (out out' : Option (List ℕ)) (err err' : Option (List ℕ)) (f f' : ℕ) where
-  abbrev ToldSo : Status → Type 0
-  ToldSo status = DrillServes turns w.seen.told w'.seen w'.tally status out out' err err' f f'
+  abbrev RecordedSo : Status → Type 0
+  RecordedSo status = DrillServes turns w.seen.recorded w'.seen w'.tally status out out' err err' f f'
 
-  bad-told : (meant : Ending) (status : Status) (end : Result Status Ending) → (meant ≡ endings.NoMemory → status ≡ statuses.Memory) → SumsUp end w'.tally (Err meant) out out' → Reports status (shown meant) err err' f f' → DrillTells end w'.tally status out out' err err' f f'
-  bad-told endings.NoMemory status (Ok due) is h r = subst (λ x. DrillTells (Ok due) w'.tally x out out' err err' f f') (sym (is refl)) (h, subst (λ x. Reports x (shown endings.NoMemory) err err' f f') (is refl) r)
-  bad-told meant status (Ok due) is h r = absurd h
-  bad-told meant status (Err ending) is h r = let same : meant ≡ ending = (let e = h.0 in cc) in (h.1, subst (λ m. Reports status (shown m) err err' f f') same r)
+  bad-recorded : (meant : Ending) (status : Status) (end : Result Status Ending) → (meant ≡ endings.NoMemory → status ≡ statuses.Memory) → SumsUp end w'.tally (Err meant) out out' → Reports status (shown meant) err err' f f' → DrillRecords end w'.tally status out out' err err' f f'
+  bad-recorded endings.NoMemory status (Ok due) is h r = subst (λ x. DrillRecords (Ok due) w'.tally x out out' err err' f f') (sym (is refl)) (h, subst (λ x. Reports x (shown endings.NoMemory) err err' f f') (is refl) r)
+  bad-recorded meant status (Ok due) is h r = absurd h
+  bad-recorded meant status (Err ending) is h r = let same : meant ≡ ending = (let e = h.0 in cc) in (h.1, subst (λ m. Reports status (shown m) err err' f f') same r)
 
-  bad-run : (meant : Ending) (status : Status) → (meant ≡ endings.NoMemory → status ≡ statuses.Memory) → RunsDrill turns w.seen.told w'.seen w'.tally (Err meant) out out' → Reports status (shown meant) err err' f f' → IsDrilled turns w.seen.told w'.seen w'.tally status out out' err err' f f'
-  bad-run meant status is h r = record { answer = h.answer; run = h.run; ends = bad-told meant status (told_as h.answer) is h.ends r }
+  bad-run : (meant : Ending) (status : Status) → (meant ≡ endings.NoMemory → status ≡ statuses.Memory) → RunsDrill turns w.seen.recorded w'.seen w'.tally (Err meant) out out' → Reports status (shown meant) err err' f f' → IsDrilled turns w.seen.recorded w'.seen w'.tally status out out' err err' f f'
+  bad-run meant status is h r = record { answer = h.answer; run = h.run; ends = bad-recorded meant status (recorded_as h.answer) is h.ends r }
 
-  memory-told : (meant : Ending) → DrillShares turns w.seen.told w'.seen w'.tally (Err meant) out out' → Reports statuses.Memory (shown meant) err err' f f' → ToldSo statuses.Memory
-  memory-told endings.NotOpened h r = inl h
-  memory-told endings.NoMemory (inl h) r = inl h
-  memory-told endings.NoMemory (inr h) r = inr (bad-run endings.NoMemory statuses.Memory (λ e. refl) h r)
-  memory-told meant h r = inr (bad-run meant statuses.Memory (λ e. refl) h r)
+  memory-recorded : (meant : Ending) → DrillShares turns w.seen.recorded w'.seen w'.tally (Err meant) out out' → Reports statuses.Memory (shown meant) err err' f f' → RecordedSo statuses.Memory
+  memory-recorded endings.NotOpened h r = inl h
+  memory-recorded endings.NoMemory (inl h) r = inl h
+  memory-recorded endings.NoMemory (inr h) r = inr (bad-run endings.NoMemory statuses.Memory (λ e. refl) h r)
+  memory-recorded meant h r = inr (bad-run meant statuses.Memory (λ e. refl) h r)
 
-  own-told : (meant : Ending) → EndsDrill (Err meant) → DrillShares turns w.seen.told w'.seen w'.tally (Err meant) out out' → Reports (status_of (shown meant)) (shown meant) err err' f f' → ToldSo (status_of (shown meant))
-  own-told endings.NotOpened e h r = h
-  own-told endings.NoMemory e h r = memory-told endings.NoMemory h r
-  own-told endings.TransportFailed e h r = bad-run endings.TransportFailed statuses.Transport (λ x. absurd cc) h r
-  own-told (endings.ServerBroke index why) e h r = bad-run (endings.ServerBroke index why) statuses.Broke (λ x. absurd cc) h r
-  own-told endings.TurnsSpent e h r = bad-run endings.TurnsSpent statuses.Spent (λ x. absurd cc) h r
-  own-told meant e h r = absurd cc
+  own-recorded : (meant : Ending) → EndsDrill (Err meant) → DrillShares turns w.seen.recorded w'.seen w'.tally (Err meant) out out' → Reports (status_of (shown meant)) (shown meant) err err' f f' → RecordedSo (status_of (shown meant))
+  own-recorded endings.NotOpened e h r = h
+  own-recorded endings.NoMemory e h r = memory-recorded endings.NoMemory h r
+  own-recorded endings.TransportFailed e h r = bad-run endings.TransportFailed statuses.Transport (λ x. absurd cc) h r
+  own-recorded (endings.ServerBroke index why) e h r = bad-run (endings.ServerBroke index why) statuses.Broke (λ x. absurd cc) h r
+  own-recorded endings.TurnsSpent e h r = bad-run endings.TurnsSpent statuses.Spent (λ x. absurd cc) h r
+  own-recorded meant e h r = absurd cc
 
   memory-opened : (status : Status) → OpensAt [] (drill_transport words) status w.openings w'.openings → OpensAt [] (drill_transport words) statuses.Memory w.openings w'.openings
   memory-opened statuses.Memory h = h
   memory-opened status h = inr h
 
   abbrev Drilled : Status → Type 0
-  Drilled status = OpensAt [] (drill_transport words) status w.openings w'.openings × ToldSo status
+  Drilled status = OpensAt [] (drill_transport words) status w.openings w'.openings × RecordedSo status
 
   bad-goes : (meant : Ending) (status : Status) → (status ≡ statuses.Memory) ⊎ (status ≡ status_of (shown meant)) → DrillGoes words turns (Err meant) w w' out out' → Reports status (shown meant) err err' f f' → Drilled status
-  bad-goes meant status (inl e) h r = subst Drilled (sym e) (memory-opened (status_of (shown meant)) h.opened, memory-told meant h.shared (subst (λ x. Reports x (shown meant) err err' f f') e r))
-  bad-goes meant status (inr e) h r = subst Drilled (sym e) (h.opened, own-told meant h.ends h.shared (subst (λ x. Reports x (shown meant) err err' f f') e r))
+  bad-goes meant status (inl e) h r = subst Drilled (sym e) (memory-opened (status_of (shown meant)) h.opened, memory-recorded meant h.shared (subst (λ x. Reports x (shown meant) err err' f f') e r))
+  bad-goes meant status (inr e) h r = subst Drilled (sym e) (h.opened, own-recorded meant h.ends h.shared (subst (λ x. Reports x (shown meant) err err' f f') e r))
 
-pub drill_after : (drilled : Bool) (words : List Bytes) (turns : ℕ) (meant : Ending) (status : Status) (k k' : Sockets) (s s' : Sources) (out out' err err' : OutState) → Reports status (shown meant) err.told err'.told err.faults err'.faults → OnTrue drilled (DrillGoes words turns (Err meant) k.wire k'.wire out.told out'.told) → OnTrue drilled (IsDrill words turns status (world k s out err) (world k' s' out' err'))
-drill_after true words turns meant status k k' s s' out out' err err' r h = let w = bad-goes words turns k.wire k'.wire out.told out'.told err.told err'.told err.faults err'.faults meant status (reported status (shown meant) err.told err'.told err.faults err'.faults r) h r in record { opened = w.0; served = w.1 }
+pub drill_after : (drilled : Bool) (words : List Bytes) (turns : ℕ) (meant : Ending) (status : Status) (k k' : Sockets) (s s' : Sources) (out out' err err' : OutState) → Reports status (shown meant) err.recorded err'.recorded err.faults err'.faults → OnTrue drilled (DrillGoes words turns (Err meant) k.wire k'.wire out.recorded out'.recorded) → OnTrue drilled (IsDrill words turns status (world k s out err) (world k' s' out' err'))
+drill_after true words turns meant status k k' s s' out out' err err' r h = let w = bad-goes words turns k.wire k'.wire out.recorded out'.recorded err.recorded err'.recorded err.faults err'.faults meant status (reported status (shown meant) err.recorded err'.recorded err.faults err'.faults r) h r in record { opened = w.0; served = w.1 }
 drill_after false words turns meant status k k' s s' out out' err err' r h = tt

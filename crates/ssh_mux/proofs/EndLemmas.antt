@@ -4,7 +4,7 @@ use Rattle.std.specs.Bool.{OnFalse, OnTrue}
 use Rattle.conf_rules.specs.Diagnostics.{Ending}
 use Rattle.conf_rules.specs.Outcome.{Ends, Writes, Opens, Drills, Joins}
 use Rattle.conf_rules.specs.Texts.{Bytes}
-use Rattle.conf_rules.specs.Told.{Told}
+use Rattle.conf_rules.specs.Recorded.{Recorded}
 use Rattle.mux_engine.specs.Sides.{Resting}
 use Rattle.mux_outside.specs.HouseCalls.{HouseCall}
 use Rattle.mux_outside.specs.declared.house.HouseReply.{HouseReply}
@@ -30,8 +30,8 @@ use Rattle.ssh_mux.specs.Out.{OutStays, OutTakes}
 use Rattle.ssh_mux.specs.Outcomes.{Known, Certain, Listing, Master, Client, asks, drills, opens}
 use Rattle.ssh_mux.specs.Master.{ends_sharing}
 use Rattle.ssh_mux.specs.Places.{EndPlace}
-use Rattle.ssh_mux.specs.Sharing.{CallsEnd, CameFor, IdleCause, IsServed, IsShared, OpensOnce, Serves, Shares, StartCause, TellsEnd, WaitsFor, WireCause}
-use Rattle.ssh_mux.specs.Sharing.{told_as}
+use Rattle.ssh_mux.specs.Sharing.{CallsEnd, CameFor, IdleCause, IsServed, IsShared, OpensOnce, Serves, Shares, StartCause, RecordsEnd, WaitsFor, WireCause}
+use Rattle.ssh_mux.specs.Sharing.{recorded_as}
 use Rattle.ssh_mux.specs.Starts.{BeganWith, Begun, MustsAs}
 use Rattle.ssh_mux.specs.Status.{status_of}
 use Rattle.ssh_mux.specs.World.{World}
@@ -55,18 +55,18 @@ carried P status ending (inr e) memory held = subst P (sym e) held
 quiet : (status : Status) (ending : Ending) → is_silent status ≡ true → status ≡ status_of ending → ⊥
 quiet status ending silent e = let k : is_silent (status_of ending) ≡ true = subst (λ (s : Status). is_silent s ≡ true) e silent in let l = loud ending in absurd cc
 
-pub ended : (k : Known) (told : Option Told) (status : Status) (ending : Ending) (before after : World) → IsDue k ending → EndCause ending before.files.faults after.files.faults before.commands.faults after.commands.faults → EndPlace told ending before.commands.ran after.commands.ran before.files.failed after.files.failed → Reports status ending before.err.told after.err.told before.err.faults after.err.faults
-    → Ended k told status before after
-ended k told statuses.Done ending before after due cause place r = absurd (quiet statuses.Done ending refl r.0)
-ended k told statuses.Write ending before after due cause place r = absurd (quiet statuses.Write ending refl r.0)
-ended k told statuses.Memory ending before after due cause place r = r
-ended k told status ending before after due cause place r = record { ending = ending; is_due = due; has_status = r.0; line = r.1; cause = cause; place = place }
+pub ended : (k : Known) (recorded : Option Recorded) (status : Status) (ending : Ending) (before after : World) → IsDue k ending → EndCause ending before.files.faults after.files.faults before.commands.faults after.commands.faults → EndPlace recorded ending before.commands.ran after.commands.ran before.files.failed after.files.failed → Reports status ending before.err.recorded after.err.recorded before.err.faults after.err.faults
+    → Ended k recorded status before after
+ended k recorded statuses.Done ending before after due cause place r = absurd (quiet statuses.Done ending refl r.0)
+ended k recorded statuses.Write ending before after due cause place r = absurd (quiet statuses.Write ending refl r.0)
+ended k recorded statuses.Memory ending before after due cause place r = r
+ended k recorded status ending before after due cause place r = record { ending = ending; is_due = due; has_status = r.0; line = r.1; cause = cause; place = place }
 
 -- without a line
-pub ended-well : (k : Known) (told : Option Told) (status : Status) (before after : World) → after.err.told ≡ before.err.told → IsWell k status → Ended k told status before after
-ended-well k told statuses.Done before after e h = (h, e)
-ended-well k told statuses.Write before after e h = (h, e)
-ended-well k told status before after e h = absurd h
+pub ended-well : (k : Known) (recorded : Option Recorded) (status : Status) (before after : World) → after.err.recorded ≡ before.err.recorded → IsWell k status → Ended k recorded status before after
+ended-well k recorded statuses.Done before after e h = (h, e)
+ended-well k recorded statuses.Write before after e h = (h, e)
+ended-well k recorded status before after e h = absurd h
 
 pub well-cause : (k : Known) (status : Status) (f f' r r' : ℕ) → IsWell k status → (f' ≡ f) × (r' ≡ r) → FaultCause status f f' r r'
 well-cause k statuses.Done f f' r r' w h = h
@@ -74,8 +74,8 @@ well-cause k statuses.Write f f' r r' w h = h
 well-cause k status f f' r r' w h = absurd w
 
 -- a status with a line says nothing of what takes none
-pub told_after : (P : Type 0) (status : Status) (ending : Ending) (b n : Option (List ℕ)) (f f' : ℕ) → Reports status ending b n f f' → OnTrue (is_silent status) P
-told_after P status ending b n f f' r = carried (λ s. OnTrue (is_silent s) P) status ending (reported status ending b n f f' r) tt (not_true (is_silent (status_of ending)) P (loud ending))
+pub recorded_after : (P : Type 0) (status : Status) (ending : Ending) (b n : Option (List ℕ)) (f f' : ℕ) → Reports status ending b n f f' → OnTrue (is_silent status) P
+recorded_after P status ending b n f f' r = carried (λ s. OnTrue (is_silent s) P) status ending (reported status ending b n f f' r) tt (not_true (is_silent (status_of ending)) P (loud ending))
 
 -- ---- what else holds of it
 
@@ -146,7 +146,7 @@ module _ (May : HouseReply → Type 0) (Rest : Resting) (stands stands' : List H
 
   -- an end with the line that was handed over
   with-line : (meant : MeantEnding) (status : Status) → IsShared May Rest stands stands' policy pid turns before now start seen refused (Err meant) → Reports status (shown meant) b n f f' → IsServed May Rest stands stands' policy pid turns before now start seen refused status b n f f'
-  with-line meant status h r = record { answer = h.answer; run = h.run; line = subst (λ x. TellsEnd x status b n f f') h.is_told r }
+  with-line meant status h r = record { answer = h.answer; run = h.run; line = subst (λ x. RecordsEnd x status b n f f') h.is_recorded r }
 
   memory-serves : (meant : MeantEnding) → Shared (Err meant) → Reports statuses.Memory (shown meant) b n f f' → Served statuses.Memory
   memory-serves endings.NotOpened h r = inl h
@@ -156,9 +156,9 @@ module _ (May : HouseReply → Type 0) (Rest : Resting) (stands stands' : List H
 
   -- no run ends as words and configurations do
   none-ends : (meant : MeantEnding) → ends_sharing meant ≡ false → IsShared May Rest stands stands' policy pid turns before now start seen refused (Err meant) → ⊥
-  none-ends meant e h = by_end h.answer h.is_told
+  none-ends meant e h = by_end h.answer h.is_recorded
     where
-      by_end : (x : Rattle.mux_history.specs.declared.ended.Ended.Ended) → Err meant ≡ told_as x → ⊥
+      by_end : (x : Rattle.mux_history.specs.declared.ended.Ended.Ended) → Err meant ≡ recorded_as x → ⊥
       by_end answers.ServerEnd t = absurd cc
       by_end answers.Disconnected t = absurd cc
       by_end (answers.Terminated client id) t = absurd cc
@@ -182,7 +182,7 @@ module _ (May : HouseReply → Type 0) (Rest : Resting) (stands stands' : List H
   own-serves endings.MasterRefused h r = absurd (none-ends endings.MasterRefused refl h)
   own-serves endings.MasterBroke h r = absurd (none-ends endings.MasterBroke refl h)
 
-module _ (May : HouseReply → Type 0) (Rest : Starts → Resting) (stands : List HouseCall → Type 0) (by : Option Told) (policy : Policy) (pid turns : ℕ) (before now : Option (List HouseMark)) (start : Option (List Mark)) (seen : Seen) (refused : Option ℕ) (b n : Option (List ℕ)) (f f' : ℕ) where
+module _ (May : HouseReply → Type 0) (Rest : Starts → Resting) (stands : List HouseCall → Type 0) (by : Option Recorded) (policy : Policy) (pid turns : ℕ) (before now : Option (List HouseMark)) (start : Option (List Mark)) (seen : Seen) (refused : Option ℕ) (b n : Option (List ℕ)) (f f' : ℕ) where
   abbrev ServedSo : Status → Type 0
   ServedSo status = Begun by (λ starts. Serves May (Rest starts) (BeganWith starts) stands policy pid turns before now start seen refused status b n f f')
 
@@ -190,7 +190,7 @@ module _ (May : HouseReply → Type 0) (Rest : Starts → Resting) (stands : Lis
   SharedSo result = Begun by (λ starts. Shares May (Rest starts) (BeganWith starts) stands policy pid turns before now start seen refused result)
 
   -- a wire that wasn't touched is served by nobody
-  memory-by : (opened shares drilled asked : Bool) (meant : MeantEnding) → OnTrue (opened && shares) (SharedSo (Err meant)) → OnFalse ((opened && (shares || drilled)) || (opened && asked)) (seen.told ≡ start) → OnFalse (opened && shares) (now ≡ before) → Reports statuses.Memory (shown meant) b n f f' → OnTrue shares (ServedSo statuses.Memory)
+  memory-by : (opened shares drilled asked : Bool) (meant : MeantEnding) → OnTrue (opened && shares) (SharedSo (Err meant)) → OnFalse ((opened && (shares || drilled)) || (opened && asked)) (seen.recorded ≡ start) → OnFalse (opened && shares) (now ≡ before) → Reports statuses.Memory (shown meant) b n f f' → OnTrue shares (ServedSo statuses.Memory)
   memory-by opened false drilled asked meant h w g r = tt
   memory-by true true drilled asked meant h w g r = record { starts = h.starts; due = h.due; so = memory-serves May (Rest h.starts) (BeganWith h.starts) stands policy pid turns before now start seen refused b n f f' meant h.so r }
   memory-by false true drilled asked meant h w g r = some-begun by (λ starts. Serves May (Rest starts) (BeganWith starts) stands policy pid turns before now start seen refused statuses.Memory b n f f') (λ starts. inl (record { same_wire = w; same_house = g }))
@@ -199,15 +199,15 @@ module _ (May : HouseReply → Type 0) (Rest : Starts → Resting) (stands : Lis
   own-by false meant h r = tt
   own-by true meant h r = record { starts = h.starts; due = h.due; so = own-serves May (Rest h.starts) (BeganWith h.starts) stands policy pid turns before now start seen refused b n f f' meant h.so r }
 
-  shared-by : (k : Known) (status : Status) (meant : MeantEnding) → (status ≡ statuses.Memory) ⊎ (status ≡ status_of (shown meant)) → Reports status (shown meant) b n f f' → OnTrue (may_share k (status_of (shown meant))) (SharedSo (Err meant)) → OnFalse (reaches k (status_of (shown meant))) (seen.told ≡ start) → OnFalse (may_share k (status_of (shown meant))) (now ≡ before) → OnTrue (may_share k status) (ServedSo status)
+  shared-by : (k : Known) (status : Status) (meant : MeantEnding) → (status ≡ statuses.Memory) ⊎ (status ≡ status_of (shown meant)) → Reports status (shown meant) b n f f' → OnTrue (may_share k (status_of (shown meant))) (SharedSo (Err meant)) → OnFalse (reaches k (status_of (shown meant))) (seen.recorded ≡ start) → OnFalse (may_share k (status_of (shown meant))) (now ≡ before) → OnTrue (may_share k status) (ServedSo status)
   shared-by k status meant (inl e) r h w g = subst (λ s. OnTrue (may_share k s) (ServedSo s)) (sym e) (memory-by (may_open (status_of (shown meant))) (opens k) (drills k) (asks k) meant h w g (subst (λ s. Reports s (shown meant) b n f f') e r))
   shared-by k status meant (inr e) r h w g = subst (λ s. OnTrue (may_share k s) (ServedSo s)) (sym e) (own-by (may_share k (status_of (shown meant))) meant h (subst (λ s. Reports s (shown meant) b n f f') e r))
 
-  pub shared_after : (k : Known) (status : Status) (meant : MeantEnding) → Reports status (shown meant) b n f f' → OnTrue (may_share k (status_of (shown meant))) (SharedSo (Err meant)) → OnFalse (reaches k (status_of (shown meant))) (seen.told ≡ start) → OnFalse (may_share k (status_of (shown meant))) (now ≡ before) → OnTrue (may_share k status) (ServedSo status)
+  pub shared_after : (k : Known) (status : Status) (meant : MeantEnding) → Reports status (shown meant) b n f f' → OnTrue (may_share k (status_of (shown meant))) (SharedSo (Err meant)) → OnFalse (reaches k (status_of (shown meant))) (seen.recorded ≡ start) → OnFalse (may_share k (status_of (shown meant))) (now ≡ before) → OnTrue (may_share k status) (ServedSo status)
   shared_after k status meant r h w g = shared-by k status meant (reported status (shown meant) b n f f' r) r h w g
 
 -- an end without a line
-done-is : (status : Status) (x : Rattle.mux_history.specs.declared.ended.Ended.Ended) → Ok status ≡ told_as x → status ≡ statuses.Done
+done-is : (status : Status) (x : Rattle.mux_history.specs.declared.ended.Ended.Ended) → Ok status ≡ recorded_as x → status ≡ statuses.Done
 done-is status answers.ServerEnd t = cc
 done-is status answers.Disconnected t = cc
 done-is status (answers.Terminated client id) t = cc
@@ -219,11 +219,11 @@ done-is status answers.OutOfMemory t = absurd cc
 
 shared-well-now : (May : HouseReply → Type 0) (Rest : Resting) (stands stands' : List HouseCall → Type 0) (policy : Policy) (pid turns : ℕ) (before now : Option (List HouseMark)) (start : Option (List Mark)) (seen : Seen) (refused : Option ℕ) (b : Option (List ℕ)) (f : ℕ) (status : Status) → IsShared May Rest stands stands' policy pid turns before now start seen refused (Ok status) → Serves May Rest stands stands' policy pid turns before now start seen refused status b b f f
 shared-well-now May Rest stands stands' policy pid turns before now start seen refused b f status h =
-    let e : status ≡ statuses.Done = done-is status h.answer h.is_told in
+    let e : status ≡ statuses.Done = done-is status h.answer h.is_recorded in
     subst (λ s. Serves May Rest stands stands' policy pid turns before now start seen refused s b b f f) (sym e)
-    (record { answer = h.answer; run = h.run; line = subst (λ x. TellsEnd x statuses.Done b b f f) (ap (λ (s : Status). Ok s) (sym e) ∙ h.is_told) (refl, refl) })
+    (record { answer = h.answer; run = h.run; line = subst (λ x. RecordsEnd x statuses.Done b b f f) (ap (λ (s : Status). Ok s) (sym e) ∙ h.is_recorded) (refl, refl) })
 
-pub shared_well : (May : HouseReply → Type 0) (Rest : Starts → Resting) (stands : List HouseCall → Type 0) (by : Option Told) (policy : Policy) (pid turns : ℕ) (before now : Option (List HouseMark)) (start : Option (List Mark)) (seen : Seen) (refused : Option ℕ) (b : Option (List ℕ)) (f : ℕ) (shares : Bool) (status : Status) → OnTrue shares (Begun by (λ starts. IsShared May (Rest starts) (BeganWith starts) stands policy pid turns before now start seen refused (Ok status))) → OnTrue shares (Begun by (λ starts. Serves May (Rest starts) (BeganWith starts) stands policy pid turns before now start seen refused status b b f f))
+pub shared_well : (May : HouseReply → Type 0) (Rest : Starts → Resting) (stands : List HouseCall → Type 0) (by : Option Recorded) (policy : Policy) (pid turns : ℕ) (before now : Option (List HouseMark)) (start : Option (List Mark)) (seen : Seen) (refused : Option ℕ) (b : Option (List ℕ)) (f : ℕ) (shares : Bool) (status : Status) → OnTrue shares (Begun by (λ starts. IsShared May (Rest starts) (BeganWith starts) stands policy pid turns before now start seen refused (Ok status))) → OnTrue shares (Begun by (λ starts. Serves May (Rest starts) (BeganWith starts) stands policy pid turns before now start seen refused status b b f f))
 shared_well May Rest stands by policy pid turns before now start seen refused b f false status h = tt
 shared_well May Rest stands by policy pid turns before now start seen refused b f true status h = record { starts = h.starts; due = h.due; so = shared-well-now May (Rest h.starts) (BeganWith h.starts) stands policy pid turns before now start seen refused b f status h.so }
 
@@ -275,6 +275,6 @@ pub wire_stays_after : (k : Known) (P : Type 0) (status : Status) (ending : Endi
 wire_stays_after k P status ending b n f f' r h = carried (λ s. OnFalse (reaches k s) P) status ending (reported status ending b n f f' r) (unreached (may_open (status_of ending)) (opens k || drills k) (asks k) P h) h
 
 -- what is told of what stays
-pub same_told : {X Y : Type 0} (b : Bool) (told : X → Y) (before now : X) → OnFalse b (now ≡ before) → OnFalse b (told now ≡ told before)
-same_told true told before now h = tt
-same_told false told before now h = ap told h
+pub same_recorded : {X Y : Type 0} (b : Bool) (recorded : X → Y) (before now : X) → OnFalse b (now ≡ before) → OnFalse b (recorded now ≡ recorded before)
+same_recorded true recorded before now h = tt
+same_recorded false recorded before now h = ap recorded h

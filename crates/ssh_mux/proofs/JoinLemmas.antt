@@ -3,7 +3,7 @@ use Rattle.std.proofs.Common.{◌≡◌, ◌⊎◌, inl, inr, ℕ, Bool, ◌&&�
 use Rattle.std.specs.Bool.{OnFalse}
 use Rattle.conf_rules.specs.declared.asked.Asked.{Asked}
 use Rattle.conf_rules.specs.declared.command.Command.TheVariants as commands
-use Rattle.conf_rules.specs.declared.control.Control.{Control}
+use Rattle.conf_rules.specs.declared.control.MasterCommand.{MasterCommand}
 use Rattle.conf_rules.specs.declared.key.TheConstants.{LISTING_ORDER}
 use Rattle.conf_rules.specs.declared.causes.ListError.{ListError}
 use Rattle.conf_rules.specs.declared.causes.ListError.TheVariants as list_errors
@@ -11,7 +11,7 @@ use Rattle.conf_rules.specs.declared.causes.ResolveError.{ResolveError}
 use Rattle.conf_rules.specs.declared.causes.ResolveError.TheVariants as errors
 use Rattle.conf_rules.specs.Diagnostics.{Ending, BadLine, BadListing, NoControlPath}
 use Rattle.conf_rules.specs.Listing.{listing_over, control_path_at}
-use Rattle.conf_rules.specs.Outcome.{Outcome, Ends, told_of, listed_end, opened_end, joined_end, unrefused, Machine}
+use Rattle.conf_rules.specs.Outcome.{Outcome, Ends, recorded_of, listed_end, opened_end, joined_end, unrefused, Machine}
 use Rattle.conf_rules.specs.Resolution.{all_rows, refusal_in, refusal}
 use Rattle.conf_rules.specs.Rows.{Row}
 use Rattle.conf_rules.specs.Texts.{Bytes}
@@ -31,35 +31,35 @@ use Rattle.ssh_mux.proofs.RefusalLemmas.{Promise, by-cause, kept, looks-rows, re
 
 -- ---- what a client uses
 
-looks-joined : (asked : Asked) (what : Control) (r : Result (Option Bytes) ListError) → looks (Certain (joined_end asked what r)) ≡ true
+looks-joined : (asked : Asked) (what : MasterCommand) (r : Result (Option Bytes) ListError) → looks (Certain (joined_end asked what r)) ≡ true
 looks-joined asked what (Ok (Some path)) = refl
 looks-joined asked what (Ok None) = refl
 looks-joined asked what (Err e) = refl
 
-shut-joined : (asked : Asked) (what : Control) (r : Result (Option Bytes) ListError) → opens (Certain (joined_end asked what r)) ≡ false
+shut-joined : (asked : Asked) (what : MasterCommand) (r : Result (Option Bytes) ListError) → opens (Certain (joined_end asked what r)) ≡ false
 shut-joined asked what (Ok (Some path)) = refl
 shut-joined asked what (Ok None) = refl
 shut-joined asked what (Err e) = refl
 
-undrilled-joined : (asked : Asked) (what : Control) (r : Result (Option Bytes) ListError) → drills (Certain (joined_end asked what r)) ≡ false
+undrilled-joined : (asked : Asked) (what : MasterCommand) (r : Result (Option Bytes) ListError) → drills (Certain (joined_end asked what r)) ≡ false
 undrilled-joined asked what (Ok (Some path)) = refl
 undrilled-joined asked what (Ok None) = refl
 undrilled-joined asked what (Err e) = refl
 
-pub client-looks : (m : Option Machine) (asked : Asked) (what : Control) → looks (of_command m (commands.Control asked what)) ≡ true
+pub client-looks : (m : Option Machine) (asked : Asked) (what : MasterCommand) → looks (of_command m (commands.MasterCommand asked what)) ≡ true
 unfolding of_command
 client-looks None asked what = refl
-client-looks (Some m) asked what = looks-rows (all_rows (told_of m asked)) (joined_end asked what (control_path_at (told_of m asked) (all_rows (told_of m asked)))) (looks-joined asked what (control_path_at (told_of m asked) (all_rows (told_of m asked))))
+client-looks (Some m) asked what = looks-rows (all_rows (recorded_of m asked)) (joined_end asked what (control_path_at (recorded_of m asked) (all_rows (recorded_of m asked)))) (looks-joined asked what (control_path_at (recorded_of m asked) (all_rows (recorded_of m asked))))
 
-pub client-shut : (m : Option Machine) (asked : Asked) (what : Control) → opens (of_command m (commands.Control asked what)) ≡ false
+pub client-shut : (m : Option Machine) (asked : Asked) (what : MasterCommand) → opens (of_command m (commands.MasterCommand asked what)) ≡ false
 unfolding of_command
 client-shut None asked what = refl
-client-shut (Some m) asked what = shut-rows (all_rows (told_of m asked)) (joined_end asked what (control_path_at (told_of m asked) (all_rows (told_of m asked)))) (shut-joined asked what (control_path_at (told_of m asked) (all_rows (told_of m asked))))
+client-shut (Some m) asked what = shut-rows (all_rows (recorded_of m asked)) (joined_end asked what (control_path_at (recorded_of m asked) (all_rows (recorded_of m asked)))) (shut-joined asked what (control_path_at (recorded_of m asked) (all_rows (recorded_of m asked))))
 
-pub client-undrilled : (m : Option Machine) (asked : Asked) (what : Control) → drills (of_command m (commands.Control asked what)) ≡ false
+pub client-undrilled : (m : Option Machine) (asked : Asked) (what : MasterCommand) → drills (of_command m (commands.MasterCommand asked what)) ≡ false
 unfolding of_command
 client-undrilled None asked what = refl
-client-undrilled (Some m) asked what = undrilled-rows (all_rows (told_of m asked)) (joined_end asked what (control_path_at (told_of m asked) (all_rows (told_of m asked)))) (undrilled-joined asked what (control_path_at (told_of m asked) (all_rows (told_of m asked))))
+client-undrilled (Some m) asked what = undrilled-rows (all_rows (recorded_of m asked)) (joined_end asked what (control_path_at (recorded_of m asked) (all_rows (recorded_of m asked)))) (undrilled-joined asked what (control_path_at (recorded_of m asked) (all_rows (recorded_of m asked))))
 
 -- ---- who asks no running master
 
@@ -81,12 +81,12 @@ unasked-opened transport os ls (Err e) = refl
 pub list-unasked : (m : Option Machine) (asked : Asked) → asks (of_command m (commands.List asked)) ≡ false
 unfolding of_command
 list-unasked None asked = refl
-list-unasked (Some m) asked = unasked-rows (all_rows (told_of m asked)) (listed_end (listing_over LISTING_ORDER (told_of m asked) (all_rows (told_of m asked)))) (unasked-listed (listing_over LISTING_ORDER (told_of m asked) (all_rows (told_of m asked))))
+list-unasked (Some m) asked = unasked-rows (all_rows (recorded_of m asked)) (listed_end (listing_over LISTING_ORDER (recorded_of m asked) (all_rows (recorded_of m asked)))) (unasked-listed (listing_over LISTING_ORDER (recorded_of m asked) (all_rows (recorded_of m asked))))
 
 pub master-unasked : (m : Option Machine) (asked : Asked) (transport : Bytes) (os ls : List Bytes) → asks (of_command m (commands.Master asked transport os ls)) ≡ false
 unfolding of_command
 master-unasked None asked transport os ls = refl
-master-unasked (Some m) asked transport os ls = unasked-rows (all_rows (told_of m asked)) (opened_end transport os ls (control_path_at (told_of m asked) (all_rows (told_of m asked)))) (unasked-opened transport os ls (control_path_at (told_of m asked) (all_rows (told_of m asked))))
+master-unasked (Some m) asked transport os ls = unasked-rows (all_rows (recorded_of m asked)) (opened_end transport os ls (control_path_at (recorded_of m asked) (all_rows (recorded_of m asked)))) (unasked-opened transport os ls (control_path_at (recorded_of m asked) (all_rows (recorded_of m asked))))
 
 -- ---- what its output takes
 
@@ -106,7 +106,7 @@ ends-taken e statuses.StartRefused before now h = h
 ends-taken e statuses.Refused before now h = h
 ends-taken e statuses.BadMaster before now h = h
 
-joins-taken : (asked : Asked) (what : Control) (path : Bytes) (status : Status) (before now : Option (List ℕ)) → OnFalse (may_open status && true) (now ≡ before) → OutTakes status (Certain (joins_at asked what path)) before now
+joins-taken : (asked : Asked) (what : MasterCommand) (path : Bytes) (status : Status) (before now : Option (List ℕ)) → OnFalse (may_open status && true) (now ≡ before) → OutTakes status (Certain (joins_at asked what path)) before now
 joins-taken asked what path statuses.Done before now h = tt
 joins-taken asked what path statuses.Write before now h = tt
 joins-taken asked what path statuses.Usage before now h = h
@@ -114,7 +114,7 @@ joins-taken asked what path statuses.Config before now h = h
 joins-taken asked what path statuses.Outside before now h = h
 joins-taken asked what path status before now h = tt
 
-some-taken : (asked : Asked) (what : Control) (status : Status) (before now : Option (List ℕ)) → OnFalse (may_open status && true) (now ≡ before) → OutTakes status (Client asked what) before now
+some-taken : (asked : Asked) (what : MasterCommand) (status : Status) (before now : Option (List ℕ)) → OnFalse (may_open status && true) (now ≡ before) → OutTakes status (Client asked what) before now
 some-taken asked what statuses.Done before now h = tt
 some-taken asked what statuses.Write before now h = tt
 some-taken asked what statuses.Usage before now h = h
@@ -122,7 +122,7 @@ some-taken asked what statuses.Config before now h = h
 some-taken asked what statuses.Outside before now h = h
 some-taken asked what status before now h = tt
 
-end-taken : (asked : Asked) (what : Control) (r : Result (Option Bytes) ListError) (status : Status) (before now : Option (List ℕ)) → OnFalse (may_ask (Certain (joined_end asked what r)) status) (now ≡ before) → OutTakes status (Certain (joined_end asked what r)) before now
+end-taken : (asked : Asked) (what : MasterCommand) (r : Result (Option Bytes) ListError) (status : Status) (before now : Option (List ℕ)) → OnFalse (may_ask (Certain (joined_end asked what r)) status) (now ≡ before) → OutTakes status (Certain (joined_end asked what r)) before now
 end-taken asked what (Ok (Some path)) status before now h = joins-taken asked what path status before now h
 end-taken asked what (Ok None) status before now h = ends-taken NoControlPath status before now h
 end-taken asked what (Err e) status before now h = ends-taken (BadListing e) status before now h
@@ -133,13 +133,13 @@ rows-taken rows x status before now = on (refusal_in rows) where
   on (Some e) f h = ends-taken (BadLine e) status before now h
   on None f h = f h
 
-pub client-taken : (m : Option Machine) (asked : Asked) (what : Control) (status : Status) (before now : Option (List ℕ)) → OnFalse (may_ask (of_command m (commands.Control asked what)) status) (now ≡ before) → OutTakes status (of_command m (commands.Control asked what)) before now
+pub client-taken : (m : Option Machine) (asked : Asked) (what : MasterCommand) (status : Status) (before now : Option (List ℕ)) → OnFalse (may_ask (of_command m (commands.MasterCommand asked what)) status) (now ≡ before) → OutTakes status (of_command m (commands.MasterCommand asked what)) before now
 unfolding of_command
 client-taken None asked what status before now h = some-taken asked what status before now h
 client-taken (Some m) asked what status before now h =
-    let told = told_of m asked in
-    let path = control_path_at told (all_rows told) in
-    rows-taken (all_rows told) (joined_end asked what path) status before now (end-taken asked what path status before now) h
+    let recorded = recorded_of m asked in
+    let path = control_path_at recorded (all_rows recorded) in
+    rows-taken (all_rows recorded) (joined_end asked what path) status before now (end-taken asked what path status before now) h
 
 -- where nothing may be shown at all, as where the configuration is refused
 ends-unlisted : (asking : Bool) (status : Status) (P : Type 0) → OnFalse (may_open status && asking) P → OnFalse asking P
@@ -149,7 +149,7 @@ ends-unlisted false status P h = closed-off (may_open status) h where
   closed-off true h = h
   closed-off false h = h
 
-writes-joined : (asked : Asked) (what : Control) (r : Result (Option Bytes) ListError) → writes_out (Certain (joined_end asked what r)) ≡ asks (Certain (joined_end asked what r))
+writes-joined : (asked : Asked) (what : MasterCommand) (r : Result (Option Bytes) ListError) → writes_out (Certain (joined_end asked what r)) ≡ asks (Certain (joined_end asked what r))
 writes-joined asked what (Ok (Some path)) = refl
 writes-joined asked what (Ok None) = refl
 writes-joined asked what (Err e) = refl
@@ -160,57 +160,57 @@ writes-rows rows x h = on (refusal_in rows) where
   on (Some e) = refl
   on None = h
 
-client-writes : (m : Option Machine) (asked : Asked) (what : Control) → writes_out (of_command m (commands.Control asked what)) ≡ asks (of_command m (commands.Control asked what))
+client-writes : (m : Option Machine) (asked : Asked) (what : MasterCommand) → writes_out (of_command m (commands.MasterCommand asked what)) ≡ asks (of_command m (commands.MasterCommand asked what))
 unfolding of_command
 client-writes None asked what = refl
-client-writes (Some m) asked what = writes-rows (all_rows (told_of m asked)) (joined_end asked what (control_path_at (told_of m asked) (all_rows (told_of m asked)))) (writes-joined asked what (control_path_at (told_of m asked) (all_rows (told_of m asked))))
+client-writes (Some m) asked what = writes-rows (all_rows (recorded_of m asked)) (joined_end asked what (control_path_at (recorded_of m asked) (all_rows (recorded_of m asked)))) (writes-joined asked what (control_path_at (recorded_of m asked) (all_rows (recorded_of m asked))))
 
-pub unlisted-client : (m : Option Machine) (asked : Asked) (what : Control) (status : Status) (P : Type 0) → OnFalse (may_ask (of_command m (commands.Control asked what)) status) P → OnFalse (writes_out (of_command m (commands.Control asked what))) P
-unlisted-client m asked what status P h = subst (λ b. OnFalse b P) (sym (client-writes m asked what)) (ends-unlisted (asks (of_command m (commands.Control asked what))) status P h)
+pub unlisted-client : (m : Option Machine) (asked : Asked) (what : MasterCommand) (status : Status) (P : Type 0) → OnFalse (may_ask (of_command m (commands.MasterCommand asked what)) status) P → OnFalse (writes_out (of_command m (commands.MasterCommand asked what))) P
+unlisted-client m asked what status P h = subst (λ b. OnFalse b P) (sym (client-writes m asked what)) (ends-unlisted (asks (of_command m (commands.MasterCommand asked what))) status P h)
 
 -- ---- the control path of a client
 
-refused-client : (asked : Asked) (what : Control) (e : ResolveError) → IsRefused (Client asked what) (shown (refused_as e))
+refused-client : (asked : Asked) (what : MasterCommand) (e : ResolveError) → IsRefused (Client asked what) (shown (refused_as e))
 refused-client asked what errors.OutOfMemory = tt
 refused-client asked what (errors.At file line cause) = by-cause (Client asked what) file line cause refl (λ plain. refl)
 
-pub client-refused : (files : Option (List Pair)) (statuses : Option (List CommandStatus)) (facts : Facts) (asked : Asked) (what : Control) (e : ResolveError) → Promise files statuses facts asked (λ told. Resolved told (Err e)) → IsRefused (of_command (machine files statuses facts) (commands.Control asked what)) (shown (refused_as e))
+pub client-refused : (files : Option (List Pair)) (statuses : Option (List CommandStatus)) (facts : Facts) (asked : Asked) (what : MasterCommand) (e : ResolveError) → Promise files statuses facts asked (λ recorded. Resolved recorded (Err e)) → IsRefused (of_command (machine files statuses facts) (commands.MasterCommand asked what)) (shown (refused_as e))
 unfolding of_command machine
 client-refused None statuses facts asked what e h = refused-client asked what e
 client-refused (Some files) None facts asked what e h = refused-client asked what e
 client-refused (Some files) (Some statuses) facts asked what e h =
-    let told = told_of (machine_of files statuses facts) asked in
-    let path = control_path_at told (all_rows told) in
-    refused-rows told (joined_end asked what path) e (looks-joined asked what path) (kept files statuses facts asked (λ t. Resolved t (Err e)) h)
+    let recorded = recorded_of (machine_of files statuses facts) asked in
+    let path = control_path_at recorded (all_rows recorded) in
+    refused-rows recorded (joined_end asked what path) e (looks-joined asked what path) (kept files statuses facts asked (λ t. Resolved t (Err e)) h)
 
-path-is : (files : List Pair) (statuses : List CommandStatus) (facts : Facts) (asked : Asked) (what : Control) (settings : List Given) (r : Result (Option Bytes) ListError) → Promise (Some files) (Some statuses) facts asked (λ told. Resolved told (Ok settings)) → control_path_at (told_of (machine_of files statuses facts) asked) (all_rows (told_of (machine_of files statuses facts) asked)) ≡ r
-    → unrefused (all_rows (told_of (machine_of files statuses facts) asked)) (joined_end asked what (control_path_at (told_of (machine_of files statuses facts) asked) (all_rows (told_of (machine_of files statuses facts) asked)))) ≡ joined_end asked what r
+path-is : (files : List Pair) (statuses : List CommandStatus) (facts : Facts) (asked : Asked) (what : MasterCommand) (settings : List Given) (r : Result (Option Bytes) ListError) → Promise (Some files) (Some statuses) facts asked (λ recorded. Resolved recorded (Ok settings)) → control_path_at (recorded_of (machine_of files statuses facts) asked) (all_rows (recorded_of (machine_of files statuses facts) asked)) ≡ r
+    → unrefused (all_rows (recorded_of (machine_of files statuses facts) asked)) (joined_end asked what (control_path_at (recorded_of (machine_of files statuses facts) asked) (all_rows (recorded_of (machine_of files statuses facts) asked)))) ≡ joined_end asked what r
 path-is files statuses facts asked what settings r h is =
-    let told = told_of (machine_of files statuses facts) asked in
-    let none : refusal told ≡ None = (kept files statuses facts asked (λ t. Resolved t (Ok settings)) h).0 in
-    unrefused-rows (all_rows told) (joined_end asked what (control_path_at told (all_rows told))) none ∙ ap (joined_end asked what) is
+    let recorded = recorded_of (machine_of files statuses facts) asked in
+    let none : refusal recorded ≡ None = (kept files statuses facts asked (λ t. Resolved t (Ok settings)) h).0 in
+    unrefused-rows (all_rows recorded) (joined_end asked what (control_path_at recorded (all_rows recorded))) none ∙ ap (joined_end asked what) is
 
-pub client-found : (files : Option (List Pair)) (statuses : Option (List CommandStatus)) (facts : Facts) (asked : Asked) (what : Control) (settings : List Given) (path : Bytes) → Promise files statuses facts asked (λ told. Resolved told (Ok settings)) → HasControlPath (Ok (Some path)) settings asked.original facts → (of_command (machine files statuses facts) (commands.Control asked what) ≡ Certain (joins_at asked what path)) ⊎ (of_command (machine files statuses facts) (commands.Control asked what) ≡ Client asked what)
+pub client-found : (files : Option (List Pair)) (statuses : Option (List CommandStatus)) (facts : Facts) (asked : Asked) (what : MasterCommand) (settings : List Given) (path : Bytes) → Promise files statuses facts asked (λ recorded. Resolved recorded (Ok settings)) → HasControlPath (Ok (Some path)) settings asked.original facts → (of_command (machine files statuses facts) (commands.MasterCommand asked what) ≡ Certain (joins_at asked what path)) ⊎ (of_command (machine files statuses facts) (commands.MasterCommand asked what) ≡ Client asked what)
 unfolding of_command machine
 client-found None statuses facts asked what settings path h p = inr refl
 client-found (Some files) None facts asked what settings path h p = inr refl
 client-found (Some files) (Some statuses) facts asked what settings path h p =
-    let told = told_of (machine_of files statuses facts) asked in
-    inl (ap (λ o. Certain o) (path-is files statuses facts asked what settings (Ok (Some path)) h (p told (all_rows told) (settled files statuses facts asked settings h))))
+    let recorded = recorded_of (machine_of files statuses facts) asked in
+    inl (ap (λ o. Certain o) (path-is files statuses facts asked what settings (Ok (Some path)) h (p recorded (all_rows recorded) (settled files statuses facts asked settings h))))
 
-pub client-unset : (files : Option (List Pair)) (statuses : Option (List CommandStatus)) (facts : Facts) (asked : Asked) (what : Control) (settings : List Given) → Promise files statuses facts asked (λ told. Resolved told (Ok settings)) → HasControlPath (Ok None) settings asked.original facts → IsRefused (of_command (machine files statuses facts) (commands.Control asked what)) NoControlPath
+pub client-unset : (files : Option (List Pair)) (statuses : Option (List CommandStatus)) (facts : Facts) (asked : Asked) (what : MasterCommand) (settings : List Given) → Promise files statuses facts asked (λ recorded. Resolved recorded (Ok settings)) → HasControlPath (Ok None) settings asked.original facts → IsRefused (of_command (machine files statuses facts) (commands.MasterCommand asked what)) NoControlPath
 unfolding of_command machine
 client-unset None statuses facts asked what settings h p = refl
 client-unset (Some files) None facts asked what settings h p = refl
 client-unset (Some files) (Some statuses) facts asked what settings h p =
-    let told = told_of (machine_of files statuses facts) asked in
-    subst (λ o. IsRefused (Certain o) NoControlPath) (sym (path-is files statuses facts asked what settings (Ok None) h (p told (all_rows told) (settled files statuses facts asked settings h)))) refl
+    let recorded = recorded_of (machine_of files statuses facts) asked in
+    subst (λ o. IsRefused (Certain o) NoControlPath) (sym (path-is files statuses facts asked what settings (Ok None) h (p recorded (all_rows recorded) (settled files statuses facts asked settings h)))) refl
 
-pub client-unlisted : (files : Option (List Pair)) (statuses : Option (List CommandStatus)) (facts : Facts) (asked : Asked) (what : Control) (settings : List Given) (e : ListError) → Promise files statuses facts asked (λ told. Resolved told (Ok settings)) → HasControlPath (Err e) settings asked.original facts → IsRefused (of_command (machine files statuses facts) (commands.Control asked what)) (shown (unlisted_as e))
+pub client-unlisted : (files : Option (List Pair)) (statuses : Option (List CommandStatus)) (facts : Facts) (asked : Asked) (what : MasterCommand) (settings : List Given) (e : ListError) → Promise files statuses facts asked (λ recorded. Resolved recorded (Ok settings)) → HasControlPath (Err e) settings asked.original facts → IsRefused (of_command (machine files statuses facts) (commands.MasterCommand asked what)) (shown (unlisted_as e))
 unfolding of_command machine
 client-unlisted files statuses facts asked what settings list_errors.OutOfMemory h p = tt
 client-unlisted None statuses facts asked what settings (list_errors.Token key error) h p = refl
 client-unlisted (Some files) None facts asked what settings (list_errors.Token key error) h p = refl
 client-unlisted (Some files) (Some statuses) facts asked what settings (list_errors.Token key error) h p =
-    let told = told_of (machine_of files statuses facts) asked in
-    subst (λ o. IsRefused (Certain o) (BadListing (list_errors.Token key error))) (sym (path-is files statuses facts asked what settings (Err (list_errors.Token key error)) h (p told (all_rows told) (settled files statuses facts asked settings h)))) refl
+    let recorded = recorded_of (machine_of files statuses facts) asked in
+    subst (λ o. IsRefused (Certain o) (BadListing (list_errors.Token key error))) (sym (path-is files statuses facts asked what settings (Err (list_errors.Token key error)) h (p recorded (all_rows recorded) (settled files statuses facts asked settings h)))) refl

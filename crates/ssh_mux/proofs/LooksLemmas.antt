@@ -5,7 +5,7 @@ use Rattle.conf_rules.specs.declared.asked.Asked.{Asked}
 use Rattle.conf_rules.specs.declared.command.Command.{Command}
 use Rattle.conf_rules.specs.Outcome.{Outcome}
 use Rattle.conf_rules.specs.Texts.{Bytes}
-use Rattle.conf_rules.specs.Told.{Told}
+use Rattle.conf_rules.specs.Recorded.{Recorded}
 use Rattle.mux_outside.specs.declared.facts.Facts.{Facts}
 use Rattle.ssh_mux.specs.declared.ending.Ending.{Ending}
 use Rattle.ssh_mux.specs.declared.ending.Ending.TheVariants as endings
@@ -20,7 +20,7 @@ use Rattle.ssh_mux.specs.Looks.{FoundFor, Looks, coming, machine_of_sources}
 use Rattle.ssh_mux.specs.Master.{EndsMaster}
 use Rattle.ssh_mux.specs.Out.{HandsOver}
 use Rattle.ssh_mux.specs.Outcomes.{Known}
-use Rattle.ssh_mux.specs.Places.{Placed, told_over}
+use Rattle.ssh_mux.specs.Places.{Placed, recorded_over}
 use Rattle.ssh_mux.specs.World.{Sources}
 use Rattle.ssh_mux.proofs.CauseLemmas.{all-ran}
 use Rattle.ssh_mux.proofs.ReadLemmas.{all-read}
@@ -32,7 +32,7 @@ found-looks shows unknown facts command asked meant s s' h = record { exact = st
 
 -- behind what was found
 pub looks-on : {A : Type 0} (shows : A → Outcome) (unknown : Known) (facts : Facts) (command : Command) (asked : Asked) (x : A) (s s' : Sources) (result : Result Status Ending) → FoundFor shows unknown facts command asked (Ok x) s s' → Comes (coming s facts command) result
-    → Placed (told_over (machine_of_sources s facts) asked) result s.commands.ran s'.commands.ran s.files.failed s'.files.failed
+    → Placed (recorded_over (machine_of_sources s facts) asked) result s.commands.ran s'.commands.ran s.files.failed s'.files.failed
     → Caused result s.files.faults s'.files.faults s.commands.faults s'.commands.faults → Looks facts command asked result s s'
 looks-on shows unknown facts command asked x s s' result h comes placed caused = record { exact = comes; ran = all-ran x _ _ _ _ h.ran; read = all-read x _ _ _ _ h.read; place = placed; cause = caused }
 
@@ -42,9 +42,9 @@ runs-alike : {A B : Type 0} (x : A) (y : B) (commands : Option (List Bytes)) (be
 runs-alike x y None before now h = tt
 runs-alike x y (Some commands) before now h = h
 
-reads-alike : {A B : Type 0} (x : A) (y : B) (told : Option Told) (before now : Readings) → ReadsUnless told (Ok x) before now → ReadsUnless told (Ok y) before now
+reads-alike : {A B : Type 0} (x : A) (y : B) (recorded : Option Recorded) (before now : Readings) → ReadsUnless recorded (Ok x) before now → ReadsUnless recorded (Ok y) before now
 reads-alike x y None before now h = tt
-reads-alike x y (Some told) before now h = h
+reads-alike x y (Some recorded) before now h = h
 
 pub found-under : {A B : Type 0} (shows : B → Outcome) (part : A → B) (unknown : Known) (facts : Facts) (command : Command) (asked : Asked) (x : A) (s s' : Sources) → FoundFor (λ y. shows (part y)) unknown facts command asked (Ok x) s s' → FoundFor shows unknown facts command asked (Ok (part x)) s s'
 found-under shows part unknown facts command asked x s s' h = record { exact = h.exact; ran = runs-alike x (part x) _ _ _ h.ran; read = reads-alike x (part x) _ _ _ h.read; place = tt; cause = h.cause }
@@ -54,30 +54,30 @@ found-over shows shows' unknown facts command asked meant s s' h = record { exac
 
 -- ---- an ending behind that tells no fault
 
-pub master-placed : (told : Option Told) (result : Result Status Ending) (ran ran' : Option (List Bytes)) (failed failed' : FailedPaths) → EndsMaster result → Placed told result ran ran' failed failed'
-master-placed told (Ok status) ran ran' failed failed' h = tt
+pub master-placed : (recorded : Option Recorded) (result : Result Status Ending) (ran ran' : Option (List Bytes)) (failed failed' : FailedPaths) → EndsMaster result → Placed recorded result ran ran' failed failed'
+master-placed recorded (Ok status) ran ran' failed failed' h = tt
 master-placed None (Err ending) ran ran' failed failed' h = tt
-master-placed (Some told) (Err endings.NoMemory) ran ran' failed failed' h = tt
-master-placed (Some told) (Err endings.NotOpened) ran ran' failed failed' h = tt
-master-placed (Some told) (Err endings.TransportFailed) ran ran' failed failed' h = tt
-master-placed (Some told) (Err (endings.ServerBroke index why)) ran ran' failed failed' h = tt
-master-placed (Some told) (Err endings.TurnsSpent) ran ran' failed failed' h = tt
-master-placed (Some told) (Err endings.StartRefused) ran ran' failed failed' h = tt
-master-placed (Some told) (Err ending) ran ran' failed failed' h = absurd cc
+master-placed (Some recorded) (Err endings.NoMemory) ran ran' failed failed' h = tt
+master-placed (Some recorded) (Err endings.NotOpened) ran ran' failed failed' h = tt
+master-placed (Some recorded) (Err endings.TransportFailed) ran ran' failed failed' h = tt
+master-placed (Some recorded) (Err (endings.ServerBroke index why)) ran ran' failed failed' h = tt
+master-placed (Some recorded) (Err endings.TurnsSpent) ran ran' failed failed' h = tt
+master-placed (Some recorded) (Err endings.StartRefused) ran ran' failed failed' h = tt
+master-placed (Some recorded) (Err ending) ran ran' failed failed' h = absurd cc
 
-pub client-placed : (told : Option Told) (result : Result Status Ending) (ran ran' : Option (List Bytes)) (failed failed' : FailedPaths) → EndsClient result → Placed told result ran ran' failed failed'
-client-placed told (Ok status) ran ran' failed failed' h = tt
+pub client-placed : (recorded : Option Recorded) (result : Result Status Ending) (ran ran' : Option (List Bytes)) (failed failed' : FailedPaths) → EndsClient result → Placed recorded result ran ran' failed failed'
+client-placed recorded (Ok status) ran ran' failed failed' h = tt
 client-placed None (Err ending) ran ran' failed failed' h = tt
-client-placed (Some told) (Err endings.NoMemory) ran ran' failed failed' h = tt
-client-placed (Some told) (Err endings.NotOpened) ran ran' failed failed' h = tt
-client-placed (Some told) (Err endings.TransportFailed) ran ran' failed failed' h = tt
-client-placed (Some told) (Err endings.TurnsSpent) ran ran' failed failed' h = tt
-client-placed (Some told) (Err endings.MasterRefused) ran ran' failed failed' h = tt
-client-placed (Some told) (Err endings.MasterBroke) ran ran' failed failed' h = tt
-client-placed (Some told) (Err ending) ran ran' failed failed' h = absurd cc
+client-placed (Some recorded) (Err endings.NoMemory) ran ran' failed failed' h = tt
+client-placed (Some recorded) (Err endings.NotOpened) ran ran' failed failed' h = tt
+client-placed (Some recorded) (Err endings.TransportFailed) ran ran' failed failed' h = tt
+client-placed (Some recorded) (Err endings.TurnsSpent) ran ran' failed failed' h = tt
+client-placed (Some recorded) (Err endings.MasterRefused) ran ran' failed failed' h = tt
+client-placed (Some recorded) (Err endings.MasterBroke) ran ran' failed failed' h = tt
+client-placed (Some recorded) (Err ending) ran ran' failed failed' h = absurd cc
 
-pub handed-placed : (told : Option Told) (text : Bytes) (result : Result Status Ending) (before now : Option (List ℕ)) (ran ran' : Option (List Bytes)) (failed failed' : FailedPaths) → HandsOver result text before now → Placed told result ran ran' failed failed'
-handed-placed told text (Ok status) before now ran ran' failed failed' h = tt
+pub handed-placed : (recorded : Option Recorded) (text : Bytes) (result : Result Status Ending) (before now : Option (List ℕ)) (ran ran' : Option (List Bytes)) (failed failed' : FailedPaths) → HandsOver result text before now → Placed recorded result ran ran' failed failed'
+handed-placed recorded text (Ok status) before now ran ran' failed failed' h = tt
 handed-placed None text (Err ending) before now ran ran' failed failed' h = tt
-handed-placed (Some told) text (Err endings.NoMemory) before now ran ran' failed failed' h = tt
-handed-placed (Some told) text (Err ending) before now ran ran' failed failed' h = absurd h
+handed-placed (Some recorded) text (Err endings.NoMemory) before now ran ran' failed failed' h = tt
+handed-placed (Some recorded) text (Err ending) before now ran ran' failed failed' h = absurd h

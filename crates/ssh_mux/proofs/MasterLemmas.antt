@@ -7,7 +7,7 @@ use Rattle.conf_rules.specs.declared.asked.Asked.{Asked}
 use Rattle.conf_rules.specs.declared.command.Command.TheVariants as commands
 use Rattle.conf_rules.specs.Outcome.{Machine}
 use Rattle.conf_rules.specs.Texts.{Bytes}
-use Rattle.conf_rules.specs.Told.{Told}
+use Rattle.conf_rules.specs.Recorded.{Recorded}
 use Rattle.mux_engine.specs.Came.{EndedBy}
 use Rattle.mux_engine.specs.Rests.{HasCalled, HasEnded, refusal_after}
 use Rattle.mux_engine.specs.Wires.{IsOpened, KeepsWire, NoFault}
@@ -28,13 +28,13 @@ use Rattle.ssh_mux.specs.Answers.{IsRefused, may_share, serves_house, so_far}
 use Rattle.ssh_mux.specs.Ending.{shown}
 use Rattle.ssh_mux.specs.Master.{EndsMaster}
 use Rattle.ssh_mux.specs.Outcomes.{Known, of_command}
-use Rattle.ssh_mux.specs.Sharing.{CameFor, CountsFor, MasterLeaves, OpensAt, SharesWith, StartCause, WireCause, opened, policy_in, policy_of, told_as}
+use Rattle.ssh_mux.specs.Sharing.{CameFor, CountsFor, MasterLeaves, OpensAt, SharesWith, StartCause, WireCause, opened, policy_in, policy_of, recorded_as}
 use Rattle.ssh_mux.specs.Starts.{BeganWith, Begun, BegunRests, MustsAs, SettledFor, must_for, starts_for}
 use Rattle.ssh_mux.specs.Status.{status_of}
 use Rattle.ssh_mux.specs.World.{Sockets}
 use Rattle.ssh_mux.proofs.PolicyLemmas.{with-policy}
 use Rattle.ssh_mux.proofs.SharingLemmas.{IsMaster, came_end, idle_end, master-came, master-idle, master-opened, master-opens, master-waits, opened_ended, opened_stops, opening_calls, serving_calls, waits_end}
-use Rattle.ssh_mux.proofs.StartLemmas.{musts-told, starts-told}
+use Rattle.ssh_mux.proofs.StartLemmas.{musts-recorded, starts-recorded}
 use Rattle.ssh_mux.proofs.StillLemmas.{on_true, still-came, still-calls, still-idle, still-must, still-opened, still-shared, still-start, still-wire, unshared-waits, where_false}
 
 -- ---- counts
@@ -68,7 +68,7 @@ pub is-opened : (x : Unit {0}) (control transport : Bytes) (old mid : WireState)
 is-opened x control transport old mid e = subst (λ (w : WireState). IsOpened w.seen) (sym e) (record { server_alone = refl; none_blocked = refl; listens = refl; own = refl; listeners = refl })
 
 -- where it was served
-served-cause : (ended : Ended) (present : Bool) (refused : Option ℕ) (mid new : WireState) (f f' f'' : Faults) → f' ≡ f → HasEnded present refused ended mid new f' f'' → WireCause (so_far (told_as ended)) f f''
+served-cause : (ended : Ended) (present : Bool) (refused : Option ℕ) (mid new : WireState) (f f' f'' : Faults) → f' ≡ f → HasEnded present refused ended mid new f' f'' → WireCause (so_far (recorded_as ended)) f f''
 served-cause ends.ServerFailed present refused mid new f f' f'' e h = subst (λ (x : Faults). WireCause statuses.Transport x f'') e (h.failed refl)
 served-cause ends.ServerEnd present refused mid new f f' f'' e h = tt
 served-cause ends.Disconnected present refused mid new f f' f'' e h = tt
@@ -78,7 +78,7 @@ served-cause (ends.StartRefused index) present refused mid new f f' f'' e h = tt
 served-cause ends.Spent present refused mid new f f' f'' e h = tt
 served-cause ends.OutOfMemory present refused mid new f f' f'' e h = tt
 
-pub served-counts : (housed : Bool) (turns : ℕ) (ended : Ended) (refused : Option ℕ) (x : Unit {0}) (control transport : Bytes) (old mid new : WireState) (f f' f'' : Faults) → mid ≡ state_after_open (Ok x) control transport mid.tally old → f' ≡ f → HasCalled housed turns ended mid new → HasEnded housed refused ended mid new f' f'' → EndedBy ended mid.calls new.calls → KeepsWire mid new f' f'' → (turns ≡ 0 → housed ≡ false → NoFault f' f'') → CountsFor housed turns (so_far (told_as ended)) old new f f''
+pub served-counts : (housed : Bool) (turns : ℕ) (ended : Ended) (refused : Option ℕ) (x : Unit {0}) (control transport : Bytes) (old mid new : WireState) (f f' f'' : Faults) → mid ≡ state_after_open (Ok x) control transport mid.tally old → f' ≡ f → HasCalled housed turns ended mid new → HasEnded housed refused ended mid new f' f'' → EndedBy ended mid.calls new.calls → KeepsWire mid new f' f'' → (turns ≡ 0 → housed ≡ false → NoFault f' f'') → CountsFor housed turns (so_far (recorded_as ended)) old new f f''
 served-counts housed turns ended refused x control transport old mid new f f' f'' e same called over came keeps idle =
     let c : mid.calls ≡ calls_after_open (Ok x) old.calls = ap (λ (w : WireState). w.calls) e in
     record {
@@ -91,7 +91,7 @@ served-counts housed turns ended refused x control transport old mid new f f' f'
     }
 
 -- and the wire was opened once
-pub opens_end : (ended : Ended) (control transport : Bytes) (before now : Option (List OpenCall)) → now ≡ opened control transport before → OpensAt control transport (so_far (told_as ended)) before now
+pub opens_end : (ended : Ended) (control transport : Bytes) (before now : Option (List OpenCall)) → now ≡ opened control transport before → OpensAt control transport (so_far (recorded_as ended)) before now
 opens_end ends.OutOfMemory control transport before now e = inr e
 opens_end ends.ServerEnd control transport before now e = e
 opens_end ends.Disconnected control transport before now e = e
@@ -102,7 +102,7 @@ opens_end (ends.StartRefused index) control transport before now e = e
 opens_end ends.Spent control transport before now e = e
 
 -- where the opening found no memory, nothing more is told of it
-pub nothing-more : {A : Type 0} (told : Option (List A)) → option_map (λ xs. xs ++ []) told ≡ told
+pub nothing-more : {A : Type 0} (recorded : Option (List A)) → option_map (λ xs. xs ++ []) recorded ≡ recorded
 nothing-more None = refl
 nothing-more (Some xs) = ap Some (append-nil xs)
 
@@ -110,11 +110,11 @@ nothing-more (Some xs) = ap Some (append-nil xs)
 
 module _ {T : Type 0} (May : HouseReply → Type 0) (state : T → HouseState) where
   -- of a master that was refused before
-  pub refused-leaves : (known : Known) (by : Option Told) (pid turns : ℕ) (meant : Ending) (k : Sockets) → IsRefused known (shown meant) → MasterLeaves May state known by pid turns (Err meant) k k
+  pub refused-leaves : (known : Known) (by : Option Recorded) (pid turns : ℕ) (meant : Ending) (k : Sockets) → IsRefused known (shown meant) → MasterLeaves May state known by pid turns (Err meant) k k
   refused-leaves known by pid turns meant k r = record {
     opened = still-opened known (shown meant) k.wire.openings r;
     joinings = refl;
-    served = still-shared known meant May (BegunRests state k.house.known.present) k.house.stands by (policy_in known) pid turns k.house.told k.wire.seen (refusal_after k.house k.house) r;
+    served = still-shared known meant May (BegunRests state k.house.known.present) k.house.stands by (policy_in known) pid turns k.house.recorded k.wire.seen (refusal_after k.house k.house) r;
     start = still-start known (shown meant) (refusal_after k.house k.house) r;
     must = λ p. still-must known (shown meant) (must_for by) k.house.must r;
     wire_cause = still-wire known (shown meant) k.faults k.faults r;
@@ -125,7 +125,7 @@ module _ {T : Type 0} (May : HouseReply → Type 0) (state : T → HouseState) w
   }
 
   -- of one whose control path was found
-  pub served-leaves : (m : Option Machine) (asked : Asked) (transport : Bytes) (os ls : List Bytes) (control : Bytes) (by : Option Told) (settings : List Given) (pid turns : ℕ) (result : Result Status Ending) (k k' : Sockets) → IsMaster (of_command m (commands.Master asked transport os ls)) transport os ls control → SettledFor by settings → EndsMaster result → OpensAt control transport (so_far result) k.wire.openings k'.wire.openings
+  pub served-leaves : (m : Option Machine) (asked : Asked) (transport : Bytes) (os ls : List Bytes) (control : Bytes) (by : Option Recorded) (settings : List Given) (pid turns : ℕ) (result : Result Status Ending) (k k' : Sockets) → IsMaster (of_command m (commands.Master asked transport os ls)) transport os ls control → SettledFor by settings → EndsMaster result → OpensAt control transport (so_far result) k.wire.openings k'.wire.openings
       → SharesWith May (BegunRests state k.house.known.present (starts_for settings)) (BeganWith (starts_for settings)) (policy_of os ls) pid turns k.house k'.house k.wire k'.wire result
       → StartCause (so_far result) (refusal_after k.house k'.house) → (IsTrue k.house.known.present → MustsAs (so_far result) (Some (starts_for settings).must) k'.house.must) → CountsFor k.house.known.present turns (so_far result) k.wire k'.wire k.faults k'.faults
       → MasterLeaves May state (of_command m (commands.Master asked transport os ls)) by pid turns result k k'
@@ -137,9 +137,9 @@ module _ {T : Type 0} (May : HouseReply → Type 0) (state : T → HouseState) w
         opened = master-opened known transport os ls control status k.wire.openings k'.wire.openings is (master-opens result over) once;
         joinings = counts.joinings;
         served = with-policy m asked transport os ls status (λ p. Begun by (λ (starts : Starts). SharesWith May (BegunRests state present starts) (BeganWith starts) p pid turns k.house k'.house k.wire k'.wire result))
-            (on_true (may_share known status) (Begun by (λ (starts : Starts). SharesWith May (BegunRests state present starts) (BeganWith starts) (policy_of os ls) pid turns k.house k'.house k.wire k'.wire result)) (record { starts = starts_for settings; due = starts-told by settings settled; so = served }));
+            (on_true (may_share known status) (Begun by (λ (starts : Starts). SharesWith May (BegunRests state present starts) (BeganWith starts) (policy_of os ls) pid turns k.house k'.house k.wire k'.wire result)) (record { starts = starts_for settings; due = starts-recorded by settings settled; so = served }));
         start = on_true (may_share known status) (StartCause status (refusal_after k.house k'.house)) start;
-        must = λ p. on_true (may_share known status) (MustsAs status (must_for by) k'.house.must) (musts-told by settings status k'.house.must settled (must p));
+        must = λ p. on_true (may_share known status) (MustsAs status (must_for by) k'.house.must) (musts-recorded by settings status k'.house.must settled (must p));
         wire_cause = on_true (may_share known status) (WireCause status k.faults k'.faults) counts.cause;
         calls = counts.calls;
         came = master-came known status k.wire.calls k'.wire.calls counts.came;

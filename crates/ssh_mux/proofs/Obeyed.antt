@@ -6,11 +6,11 @@ use Rattle.conf_command.specs.declared.reader.WordsError.{WordsError}
 use Rattle.conf_command.specs.Results.{Fails}
 use Rattle.conf_rules.specs.declared.asked.Asked.{Asked}
 use Rattle.conf_rules.specs.declared.command.Command.TheVariants as commands
-use Rattle.conf_rules.specs.declared.control.Control.{Control}
+use Rattle.conf_rules.specs.declared.control.MasterCommand.{MasterCommand}
 use Rattle.conf_rules.specs.Outcome.{Drills, Machine}
 use Rattle.conf_rules.specs.Reading.{reading}
 use Rattle.conf_rules.specs.Texts.{Bytes}
-use Rattle.conf_rules.specs.Told.{Told}
+use Rattle.conf_rules.specs.Recorded.{Recorded}
 use Rattle.mux_engine.specs.Rests.{refusal_after}
 use Rattle.mux_outside.specs.declared.facts.Facts.{Facts}
 use Rattle.mux_outside.specs.declared.house.HouseReply.{HouseReply}
@@ -26,11 +26,11 @@ use Rattle.ssh_mux.specs.Client.{ClientLeaves, ConversesFor, JoinsOnce, TalksFor
 use Rattle.ssh_mux.specs.Commands.{RunsFor, commands_for, commands_of}
 use Rattle.ssh_mux.specs.Drill.{DrillGoes}
 use Rattle.ssh_mux.specs.Ending.{misread_as, shown}
-use Rattle.ssh_mux.specs.Err.{IsToldBy, Reports}
+use Rattle.ssh_mux.specs.Err.{IsRecordedBy, Reports}
 use Rattle.ssh_mux.specs.Looks.{Looks, coming, machine_of_sources}
 use Rattle.ssh_mux.specs.Out.{OutTakes}
 use Rattle.ssh_mux.specs.Outcomes.{Known, Certain, drills, of_words, opens}
-use Rattle.ssh_mux.specs.Places.{Placed, told_for, told_over}
+use Rattle.ssh_mux.specs.Places.{Placed, recorded_for, recorded_over}
 use Rattle.ssh_mux.specs.Puts.{PutsOnce, prints}
 use Rattle.ssh_mux.specs.Reads.{ReadsFor}
 use Rattle.ssh_mux.specs.Runs.{Runs}
@@ -54,22 +54,22 @@ use Rattle.ssh_mux.proofs.TalkLemmas.{none-joined, refused-unjoined, still-asked
 
 -- By what is known of them, what is told for them and the commands that are due: from what sources,
 -- sockets and the output showed to what they show.
-pub record Obeyed {T : Type 0} (known : Known) (told : Option Told) (due : Option (List Bytes)) (words : List Bytes) (pid turns : ℕ) (May : HouseReply → Type 0) (state : T → HouseState) (result : Result Status Ending) (s s' : Sources) (k k' : Sockets) (out out' : OutState) : Type 0 where
+pub record Obeyed {T : Type 0} (known : Known) (recorded : Option Recorded) (due : Option (List Bytes)) (words : List Bytes) (pid turns : ℕ) (May : HouseReply → Type 0) (state : T → HouseState) (result : Result Status Ending) (s s' : Sources) (k k' : Sockets) (out out' : OutState) : Type 0 where
   pub exact : Comes known result
-  pub place : Placed told result s.commands.ran s'.commands.ran s.files.failed s'.files.failed
+  pub place : Placed recorded result s.commands.ran s'.commands.ran s.files.failed s'.files.failed
   pub cause : Caused result s.files.faults s'.files.faults s.commands.faults s'.commands.faults
-  pub takes : OutTakes (so_far result) known out.told out'.told
+  pub takes : OutTakes (so_far result) known out.recorded out'.recorded
   pub out_cause : OutCause (so_far result) out.faults out'.faults
   pub out_once : OnTrue (prints known) (PutsOnce (so_far result) out.puts out'.puts)
   pub ran : RunsFor due (so_far result) s.commands.ran s'.commands.ran
-  pub read : ReadsFor told (so_far result) s.files.readings s'.files.readings
+  pub read : ReadsFor recorded (so_far result) s.files.readings s'.files.readings
   pub opened : OpensOnce known (so_far result) k.wire.openings k'.wire.openings
   pub joined : JoinsOnce known (so_far result) k.wire.joinings k'.wire.joinings
-  pub shared : SharesFor May state known told pid turns k k' result
+  pub shared : SharesFor May state known recorded pid turns k k' result
   pub start : OnTrue (may_share known (so_far result)) (StartCause (so_far result) (refusal_after k.house k'.house))
-  pub must : IsTrue k.house.known.present → OnTrue (may_share known (so_far result)) (MustsAs (so_far result) (must_for told) k'.house.must)
+  pub must : IsTrue k.house.known.present → OnTrue (may_share known (so_far result)) (MustsAs (so_far result) (must_for recorded) k'.house.must)
   pub wire_cause : OnTrue (touches known (so_far result)) (WireCause (so_far result) k.faults k'.faults)
-  pub asked : ConversesFor known k.wire.seen.told k'.wire.seen.told out.told out'.told result
+  pub asked : ConversesFor known k.wire.seen.recorded k'.wire.seen.recorded out.recorded out'.recorded result
   pub asked_cause : OnTrue (may_ask known (so_far result)) (WireCause (so_far result) k.faults k'.faults)
   pub asked_waits : OnTrue (may_ask known (so_far result)) (TalksFor turns (so_far result) k.wire.calls k'.wire.calls)
   pub calls : CallsEnd turns (so_far result) k.wire.calls k'.wire.calls
@@ -77,10 +77,10 @@ pub record Obeyed {T : Type 0} (known : Known) (told : Option Told) (due : Optio
   pub came : OnTrue (touches known (so_far result)) (CameFor (so_far result) k.wire.calls k'.wire.calls)
   pub waited : OnFalse (serves_house k.house.known.present known) (OnTrue (touches known (so_far result)) (WaitsFor turns (so_far result) k.wire.calls k'.wire.calls))
   pub idle : turns ≡ 0 → OnFalse (serves_house k.house.known.present known) (IdleCause (so_far result) k.faults k'.faults)
-  pub drill : OnTrue (drills known) (DrillGoes words turns result k.wire k'.wire out.told out'.told)
-  pub still_wire : OnFalse (reaches known (so_far result)) (k'.wire.seen.told ≡ k.wire.seen.told)
-  pub still_house : OnFalse (may_share known (so_far result)) (k'.house.told ≡ k.house.told)
-  pub still_out : OnFalse (may_show known (so_far result)) (out'.told ≡ out.told)
+  pub drill : OnTrue (drills known) (DrillGoes words turns result k.wire k'.wire out.recorded out'.recorded)
+  pub still_wire : OnFalse (reaches known (so_far result)) (k'.wire.seen.recorded ≡ k.wire.seen.recorded)
+  pub still_house : OnFalse (may_share known (so_far result)) (k'.house.recorded ≡ k.house.recorded)
+  pub still_out : OnFalse (may_show known (so_far result)) (out'.recorded ≡ out.recorded)
 
 -- ---- a run
 
@@ -88,17 +88,17 @@ module _ {T : Type 0} (words : List Bytes) (facts : Facts) (turns : ℕ) (May : 
   abbrev Known_ : Known
   Known_ = of_words (machine_of_sources s facts) words
 
-  abbrev Told_ : Option Told
-  Told_ = told_for (machine_of_sources s facts) words
+  abbrev Recorded_ : Option Recorded
+  Recorded_ = recorded_for (machine_of_sources s facts) words
 
   abbrev Obeys : Result Status Ending → Type 0
-  Obeys result = Obeyed Known_ Told_ (commands_for (machine_of_sources s facts) words) words (pid_of facts.pid) turns May state result s s' k k' out out'
+  Obeys result = Obeyed Known_ Recorded_ (commands_for (machine_of_sources s facts) words) words (pid_of facts.pid) turns May state result s s' k k' out out'
 
   -- without a line
   well-runs : (status : Status) (err : OutState) → Obeys (Ok status) → Runs words facts (world k s out err) May state turns status (world k' s' out' err)
   well-runs status err h = record {
-    shared = shared_well May (BegunRests state k.house.known.present) k'.house.stands Told_ (policy_in Known_) (pid_of facts.pid) turns k.house.told k'.house.told k.wire.seen.told k'.wire.seen (refusal_after k.house k'.house) err.told err.faults (may_share Known_ status) status h.shared;
-    ended = ended-well Known_ Told_ status (world k s out err) (world k' s' out' err) refl h.exact;
+    shared = shared_well May (BegunRests state k.house.known.present) k'.house.stands Recorded_ (policy_in Known_) (pid_of facts.pid) turns k.house.recorded k'.house.recorded k.wire.seen.recorded k'.wire.seen (refusal_after k.house k'.house) err.recorded err.faults (may_share Known_ status) status h.shared;
+    ended = ended-well Known_ Recorded_ status (world k s out err) (world k' s' out' err) refl h.exact;
     err_once = well-puts Known_ status (err.puts ≡ counted err.puts) h.exact;
     fault_cause = well-cause Known_ status s.files.faults s'.files.faults s.commands.faults s'.commands.faults h.exact h.cause;
     out = h.takes;
@@ -106,7 +106,7 @@ module _ {T : Type 0} (words : List Bytes) (facts : Facts) (turns : ℕ) (May : 
     out_once = h.out_once;
     ran = h.ran;
     read = h.read;
-    asked = asked_well k.wire.seen.told k'.wire.seen.told out.told out'.told err.told err.faults Known_ status h.asked;
+    asked = asked_well k.wire.seen.recorded k'.wire.seen.recorded out.recorded out'.recorded err.recorded err.faults Known_ status h.asked;
     joined = h.joined;
     asked_cause = h.asked_cause;
     asked_waits = h.asked_waits;
@@ -123,47 +123,47 @@ module _ {T : Type 0} (words : List Bytes) (facts : Facts) (turns : ℕ) (May : 
   }
 
   -- with one
-  told-runs : (meant : Ending) (status : Status) (err err' : OutState) → Obeys (Err meant) → Reports status (shown meant) err.told err'.told err.faults err'.faults → err'.puts ≡ counted err.puts → Runs words facts (world k s out err) May state turns status (world k' s' out' err')
-  told-runs meant status err err' h r once = let e : Rattle.conf_rules.specs.Diagnostics.Ending = shown meant in record {
-    shared = shared_after May (BegunRests state k.house.known.present) k'.house.stands Told_ (policy_in Known_) (pid_of facts.pid) turns k.house.told k'.house.told k.wire.seen.told k'.wire.seen (refusal_after k.house k'.house) err.told err'.told err.faults err'.faults Known_ status meant r h.shared h.still_wire h.still_house;
-    ended = ended Known_ Told_ status e (world k s out err) (world k' s' out' err') h.exact h.cause h.place r;
+  recorded-runs : (meant : Ending) (status : Status) (err err' : OutState) → Obeys (Err meant) → Reports status (shown meant) err.recorded err'.recorded err.faults err'.faults → err'.puts ≡ counted err.puts → Runs words facts (world k s out err) May state turns status (world k' s' out' err')
+  recorded-runs meant status err err' h r once = let e : Rattle.conf_rules.specs.Diagnostics.Ending = shown meant in record {
+    shared = shared_after May (BegunRests state k.house.known.present) k'.house.stands Recorded_ (policy_in Known_) (pid_of facts.pid) turns k.house.recorded k'.house.recorded k.wire.seen.recorded k'.wire.seen (refusal_after k.house k'.house) err.recorded err'.recorded err.faults err'.faults Known_ status meant r h.shared h.still_wire h.still_house;
+    ended = ended Known_ Recorded_ status e (world k s out err) (world k' s' out' err') h.exact h.cause h.place r;
     err_once = loud-puts _ (err'.puts ≡ counted err.puts) once;
-    fault_cause = fault_after status e err.told err'.told err.faults err'.faults _ _ _ _ r h.cause;
-    out = out_after Known_ status e err.told err'.told err.faults err'.faults _ _ r h.takes;
-    out_cause = sink_after status e err.told err'.told err.faults err'.faults _ _ r h.out_cause;
-    out_once = puts_after (prints Known_) status e err.told err'.told err.faults err'.faults out.puts out'.puts r h.out_once;
-    ran = runs_after _ status e err.told err'.told err.faults err'.faults _ _ r h.ran;
-    read = reads_after Told_ status e err.told err'.told err.faults err'.faults _ _ r h.read;
-    asked = asked_after k.wire.seen.told k'.wire.seen.told out.told out'.told err.told err'.told err.faults err'.faults Known_ status meant r h.asked h.still_wire h.still_out;
-    joined = joined_after Known_ status e err.told err'.told err.faults err'.faults _ _ r h.joined;
-    asked_cause = asked_cause_after Known_ status e err.told err'.told err.faults err'.faults k.faults k'.faults r h.asked_cause;
-    asked_waits = asked_waits_after Known_ turns status e err.told err'.told err.faults err'.faults k.wire.calls k'.wire.calls r h.asked_waits;
-    must = λ p. must_after Known_ (must_for Told_) k'.house.must status e err.told err'.told err.faults err'.faults r (h.must p);
-    start = start_after Known_ status e err.told err'.told err.faults err'.faults (refusal_after k.house k'.house) r h.start;
+    fault_cause = fault_after status e err.recorded err'.recorded err.faults err'.faults _ _ _ _ r h.cause;
+    out = out_after Known_ status e err.recorded err'.recorded err.faults err'.faults _ _ r h.takes;
+    out_cause = sink_after status e err.recorded err'.recorded err.faults err'.faults _ _ r h.out_cause;
+    out_once = puts_after (prints Known_) status e err.recorded err'.recorded err.faults err'.faults out.puts out'.puts r h.out_once;
+    ran = runs_after _ status e err.recorded err'.recorded err.faults err'.faults _ _ r h.ran;
+    read = reads_after Recorded_ status e err.recorded err'.recorded err.faults err'.faults _ _ r h.read;
+    asked = asked_after k.wire.seen.recorded k'.wire.seen.recorded out.recorded out'.recorded err.recorded err'.recorded err.faults err'.faults Known_ status meant r h.asked h.still_wire h.still_out;
+    joined = joined_after Known_ status e err.recorded err'.recorded err.faults err'.faults _ _ r h.joined;
+    asked_cause = asked_cause_after Known_ status e err.recorded err'.recorded err.faults err'.faults k.faults k'.faults r h.asked_cause;
+    asked_waits = asked_waits_after Known_ turns status e err.recorded err'.recorded err.faults err'.faults k.wire.calls k'.wire.calls r h.asked_waits;
+    must = λ p. must_after Known_ (must_for Recorded_) k'.house.must status e err.recorded err'.recorded err.faults err'.faults r (h.must p);
+    start = start_after Known_ status e err.recorded err'.recorded err.faults err'.faults (refusal_after k.house k'.house) r h.start;
     drill = drill_after (drills Known_) words turns meant status k k' s s' out out' err err' r h.drill;
-    opened = opened_after Known_ status e err.told err'.told err.faults err'.faults _ _ r h.opened;
-    unopened = stays_after _ _ status e err.told err'.told err.faults err'.faults r h.unopened;
-    wire_cause = wire_after Known_ status e err.told err'.told err.faults err'.faults k.faults k'.faults r h.wire_cause;
-    calls = calls_after turns status e err.told err'.told err.faults err'.faults k.wire.calls k'.wire.calls r h.calls;
-    came = came_after Known_ status e err.told err'.told err.faults err'.faults k.wire.calls k'.wire.calls r h.came;
-    waited = follows _ _ _ (waits_after Known_ turns status e err.told err'.told err.faults err'.faults k.wire.calls k'.wire.calls r) h.waited;
-    idle = λ z. follows _ _ _ (idle_after status e err.told err'.told err.faults err'.faults k.faults k'.faults r) (h.idle z);
+    opened = opened_after Known_ status e err.recorded err'.recorded err.faults err'.faults _ _ r h.opened;
+    unopened = stays_after _ _ status e err.recorded err'.recorded err.faults err'.faults r h.unopened;
+    wire_cause = wire_after Known_ status e err.recorded err'.recorded err.faults err'.faults k.faults k'.faults r h.wire_cause;
+    calls = calls_after turns status e err.recorded err'.recorded err.faults err'.faults k.wire.calls k'.wire.calls r h.calls;
+    came = came_after Known_ status e err.recorded err'.recorded err.faults err'.faults k.wire.calls k'.wire.calls r h.came;
+    waited = follows _ _ _ (waits_after Known_ turns status e err.recorded err'.recorded err.faults err'.faults k.wire.calls k'.wire.calls r) h.waited;
+    idle = λ z. follows _ _ _ (idle_after status e err.recorded err'.recorded err.faults err'.faults k.faults k'.faults r) (h.idle z);
   }
 
   -- whatever line was written of it
-  obeys-runs : (result : Result Status Ending) → Obeys result → (status : Status) (err err' : OutState) → IsToldBy result status err err' → Runs words facts (world k s out err) May state turns status (world k' s' out' err')
+  obeys-runs : (result : Result Status Ending) → Obeys result → (status : Status) (err err' : OutState) → IsRecordedBy result status err err' → Runs words facts (world k s out err) May state turns status (world k' s' out' err')
   obeys-runs (Ok due) h status err err' e = subst (λ x. Runs words facts (world k s out err) May state turns x (world k' s' out' err')) (sym e.0) (subst (λ x. Runs words facts (world k s out err) May state turns due (world k' s' out' x)) (sym e.1) (well-runs due err h))
-  obeys-runs (Err meant) h status err err' e = told-runs meant status err err' h e.0 e.1
+  obeys-runs (Err meant) h status err err' e = recorded-runs meant status err err' h e.0 e.1
 
   -- where it is so much that is known, told and due
-  pub obeyed-runs : (known : Known) (told : Option Told) (due : Option (List Bytes)) (result : Result Status Ending) → of_words (machine_of_sources s facts) words ≡ known → told_for (machine_of_sources s facts) words ≡ told → commands_for (machine_of_sources s facts) words ≡ due → Obeyed known told due words (pid_of facts.pid) turns May state result s s' k k' out out' → (status : Status) (err err' : OutState) → IsToldBy result status err err' → Runs words facts (world k s out err) May state turns status (world k' s' out' err')
-  obeyed-runs known told due result a b c h = obeys-runs result (subst (λ x. Obeyed x Told_ (commands_for (machine_of_sources s facts) words) words (pid_of facts.pid) turns May state result s s' k k' out out') (sym a) (subst (λ x. Obeyed known x (commands_for (machine_of_sources s facts) words) words (pid_of facts.pid) turns May state result s s' k k' out out') (sym b) (subst (λ x. Obeyed known told x words (pid_of facts.pid) turns May state result s s' k k' out out') (sym c) h)))
+  pub obeyed-runs : (known : Known) (recorded : Option Recorded) (due : Option (List Bytes)) (result : Result Status Ending) → of_words (machine_of_sources s facts) words ≡ known → recorded_for (machine_of_sources s facts) words ≡ recorded → commands_for (machine_of_sources s facts) words ≡ due → Obeyed known recorded due words (pid_of facts.pid) turns May state result s s' k k' out out' → (status : Status) (err err' : OutState) → IsRecordedBy result status err err' → Runs words facts (world k s out err) May state turns status (world k' s' out' err')
+  obeyed-runs known recorded due result a b c h = obeys-runs result (subst (λ x. Obeyed x Recorded_ (commands_for (machine_of_sources s facts) words) words (pid_of facts.pid) turns May state result s s' k k' out out') (sym a) (subst (λ x. Obeyed known x (commands_for (machine_of_sources s facts) words) words (pid_of facts.pid) turns May state result s s' k k' out out') (sym b) (subst (λ x. Obeyed known recorded x words (pid_of facts.pid) turns May state result s s' k k' out out') (sym c) h)))
 
 -- ---- from what each command does
 
 module _ {T : Type 0} (words : List Bytes) (pid turns : ℕ) (May : HouseReply → Type 0) (state : T → HouseState) where
   -- words that have no reading
-  pub misread-obeyed : (m : Option Machine) (e : WordsError) (s : Sources) (k : Sockets) (out : OutState) → Fails e (reading words) → Obeyed (of_words m words) (told_for m words) (commands_for m words) words pid turns May state (Err (misread_as e)) s s k k out out
+  pub misread-obeyed : (m : Option Machine) (e : WordsError) (s : Sources) (k : Sockets) (out : OutState) → Fails e (reading words) → Obeyed (of_words m words) (recorded_for m words) (commands_for m words) words pid turns May state (Err (misread_as e)) s s k k out out
   misread-obeyed m e s k out fails = let r = misread m words e fails in record {
     exact = still-due _ _ r;
     place = misread-place _ _ _ _ _ _;
@@ -175,7 +175,7 @@ module _ {T : Type 0} (words : List Bytes) (pid turns : ℕ) (May : HouseReply �
     read = misread-reads m words e _ fails;
     opened = still-opened _ _ _ r;
     joined = still-joined _ _ _ r;
-    shared = still-shared (of_words m words) (misread_as e) May (BegunRests state k.house.known.present) k.house.stands (told_for m words) (policy_in (of_words m words)) pid turns k.house.told k.wire.seen (refusal_after k.house k.house) r;
+    shared = still-shared (of_words m words) (misread_as e) May (BegunRests state k.house.known.present) k.house.stands (recorded_for m words) (policy_in (of_words m words)) pid turns k.house.recorded k.wire.seen (refusal_after k.house k.house) r;
     start = still-start _ _ _ r;
     must = λ p. still-must _ _ _ _ r;
     wire_cause = still-caused _ _ _ _ r;
@@ -187,15 +187,15 @@ module _ {T : Type 0} (words : List Bytes) (pid turns : ℕ) (May : HouseReply �
     came = refused-came _ _ k.wire.calls k.wire.calls r;
     waited = refused-waits (serves_house k.house.known.present (of_words m words)) _ _ turns k.wire.calls k.wire.calls r;
     idle = λ z. where_false _ _ (still-idle _ k.faults);
-    drill = still-drill _ (misread_as e) words turns k.wire out.told r;
+    drill = still-drill _ (misread_as e) words turns k.wire out.recorded r;
     still_wire = on_false _ _;
     still_house = on_false _ _;
     still_out = on_false _ _;
   }
 
   -- a listing
-  pub list-obeyed : (facts : Facts) (asked : Asked) (result : Result Status Ending) (s s' : Sources) (k : Sockets) (out out' : OutState) → Looks facts (commands.List asked) asked result s s' → OutTakes (so_far result) (coming s facts (commands.List asked)) out.told out'.told → OutCause (so_far result) out.faults out'.faults → PutsOnce (so_far result) out.puts out'.puts → OnFalse (may_write (so_far result)) (out'.told ≡ out.told)
-      → Obeyed (coming s facts (commands.List asked)) (told_over (machine_of_sources s facts) asked) (commands_of (machine_of_sources s facts) (commands.List asked)) words pid turns May state result s s' k k out out'
+  pub list-obeyed : (facts : Facts) (asked : Asked) (result : Result Status Ending) (s s' : Sources) (k : Sockets) (out out' : OutState) → Looks facts (commands.List asked) asked result s s' → OutTakes (so_far result) (coming s facts (commands.List asked)) out.recorded out'.recorded → OutCause (so_far result) out.faults out'.faults → PutsOnce (so_far result) out.puts out'.puts → OnFalse (may_write (so_far result)) (out'.recorded ≡ out.recorded)
+      → Obeyed (coming s facts (commands.List asked)) (recorded_over (machine_of_sources s facts) asked) (commands_of (machine_of_sources s facts) (commands.List asked)) words pid turns May state result s s' k k out out'
   list-obeyed facts asked result s s' k out out' looks takes out_cause once unwritten = let m = machine_of_sources s facts in let known = coming s facts (commands.List asked) in record {
     exact = looks.exact;
     place = looks.place;
@@ -222,12 +222,12 @@ module _ {T : Type 0} (words : List Bytes) (pid turns : ℕ) (May : HouseReply �
     drill = not_true _ _ (list-undrilled m asked);
     still_wire = on_false _ _;
     still_house = on_false _ _;
-    still_out = or-else (may_write (so_far result)) (may_ask known (so_far result)) (out'.told ≡ out.told) unwritten;
+    still_out = or-else (may_write (so_far result)) (may_ask known (so_far result)) (out'.recorded ≡ out.recorded) unwritten;
   }
 
   -- a master
-  pub master-obeyed : (facts : Facts) (asked : Asked) (transport : Bytes) (os ls : List Bytes) (result : Result Status Ending) (s s' : Sources) (k k' : Sockets) (out : OutState) → Looks facts (commands.Master asked transport os ls) asked result s s' → MasterLeaves May state (coming s facts (commands.Master asked transport os ls)) (told_over (machine_of_sources s facts) asked) pid turns result k k' → OnFalse (may_share (coming s facts (commands.Master asked transport os ls)) (so_far result)) ((k'.wire ≡ k.wire) × (k'.house.told ≡ k.house.told))
-      → Obeyed (coming s facts (commands.Master asked transport os ls)) (told_over (machine_of_sources s facts) asked) (commands_of (machine_of_sources s facts) (commands.Master asked transport os ls)) words pid turns May state result s s' k k' out out
+  pub master-obeyed : (facts : Facts) (asked : Asked) (transport : Bytes) (os ls : List Bytes) (result : Result Status Ending) (s s' : Sources) (k k' : Sockets) (out : OutState) → Looks facts (commands.Master asked transport os ls) asked result s s' → MasterLeaves May state (coming s facts (commands.Master asked transport os ls)) (recorded_over (machine_of_sources s facts) asked) pid turns result k k' → OnFalse (may_share (coming s facts (commands.Master asked transport os ls)) (so_far result)) ((k'.wire ≡ k.wire) × (k'.house.recorded ≡ k.house.recorded))
+      → Obeyed (coming s facts (commands.Master asked transport os ls)) (recorded_over (machine_of_sources s facts) asked) (commands_of (machine_of_sources s facts) (commands.Master asked transport os ls)) words pid turns May state result s s' k k' out out
   master-obeyed facts asked transport os ls result s s' k k' out looks leaves still =
       let m = machine_of_sources s facts in
       let known : Known = coming s facts (commands.Master asked transport os ls) in
@@ -239,7 +239,7 @@ module _ {T : Type 0} (words : List Bytes) (pid turns : ℕ) (May : HouseReply �
         exact = looks.exact;
         place = looks.place;
         cause = looks.cause;
-        takes = none-taken known status out.told quiet;
+        takes = none-taken known status out.recorded quiet;
         out_cause = none-counted known result out.faults quiet looks.exact;
         out_once = not_true _ _ (unprinted known quiet);
         ran = looks.ran;
@@ -254,31 +254,31 @@ module _ {T : Type 0} (words : List Bytes) (pid turns : ℕ) (May : HouseReply �
         asked_cause = not_true _ _ (unasked known status apart);
         asked_waits = not_true _ _ (unasked known status apart);
         calls = leaves.calls;
-        unopened = untouched (may_open status) (opens known) (drills known) (k'.wire.calls.opens ≡ k.wire.calls.opens) (follows (may_share known status) ((k'.wire ≡ k.wire) × (k'.house.told ≡ k.house.told)) (k'.wire.calls.opens ≡ k.wire.calls.opens) (λ e. ap (λ (w : WireState). w.calls.opens) e.0) still);
+        unopened = untouched (may_open status) (opens known) (drills known) (k'.wire.calls.opens ≡ k.wire.calls.opens) (follows (may_share known status) ((k'.wire ≡ k.wire) × (k'.house.recorded ≡ k.house.recorded)) (k'.wire.calls.opens ≡ k.wire.calls.opens) (λ e. ap (λ (w : WireState). w.calls.opens) e.0) still);
         came = for-master (may_open status) (opens known) (drills known) (CameFor status k.wire.calls k'.wire.calls) none leaves.came;
         waited = follows (serves_house k.house.known.present known) (OnTrue (may_share known status) (WaitsFor turns status k.wire.calls k'.wire.calls)) (OnTrue (touches known status) (WaitsFor turns status k.wire.calls k'.wire.calls)) (for-master (may_open status) (opens known) (drills known) (WaitsFor turns status k.wire.calls k'.wire.calls) none) leaves.waited;
         idle = leaves.idle;
         drill = not_true _ _ none;
-        still_wire = or-else (touches known status) (may_ask known status) (k'.wire.seen.told ≡ k.wire.seen.told) (untouched (may_open status) (opens known) (drills known) (k'.wire.seen.told ≡ k.wire.seen.told) (follows (may_share known status) ((k'.wire ≡ k.wire) × (k'.house.told ≡ k.house.told)) (k'.wire.seen.told ≡ k.wire.seen.told) (λ e. ap (λ (w : WireState). w.seen.told) e.0) still));
-        still_house = follows (may_share known status) ((k'.wire ≡ k.wire) × (k'.house.told ≡ k.house.told)) (k'.house.told ≡ k.house.told) (λ e. e.1) still;
+        still_wire = or-else (touches known status) (may_ask known status) (k'.wire.seen.recorded ≡ k.wire.seen.recorded) (untouched (may_open status) (opens known) (drills known) (k'.wire.seen.recorded ≡ k.wire.seen.recorded) (follows (may_share known status) ((k'.wire ≡ k.wire) × (k'.house.recorded ≡ k.house.recorded)) (k'.wire.seen.recorded ≡ k.wire.seen.recorded) (λ e. ap (λ (w : WireState). w.seen.recorded) e.0) still));
+        still_house = follows (may_share known status) ((k'.wire ≡ k.wire) × (k'.house.recorded ≡ k.house.recorded)) (k'.house.recorded ≡ k.house.recorded) (λ e. e.1) still;
         still_out = on_false _ _;
       }
 
   -- a client
-  pub client-obeyed : (facts : Facts) (asked : Asked) (what : Control) (result : Result Status Ending) (s s' : Sources) (w w' : WireState) (f f' : Faults) (house : HouseState) (out out' : OutState) → Looks facts (commands.Control asked what) asked result s s' → ClientLeaves (coming s facts (commands.Control asked what)) turns result w w' f f' out out' → OnFalse (may_ask (coming s facts (commands.Control asked what)) (so_far result)) ((w' ≡ w) × (out'.told ≡ out.told))
-      → Obeyed (coming s facts (commands.Control asked what)) (told_over (machine_of_sources s facts) asked) (commands_of (machine_of_sources s facts) (commands.Control asked what)) words pid turns May state result s s' (record { wire = w; faults = f; house = house }) (record { wire = w'; faults = f'; house = house }) out out'
+  pub client-obeyed : (facts : Facts) (asked : Asked) (what : MasterCommand) (result : Result Status Ending) (s s' : Sources) (w w' : WireState) (f f' : Faults) (house : HouseState) (out out' : OutState) → Looks facts (commands.MasterCommand asked what) asked result s s' → ClientLeaves (coming s facts (commands.MasterCommand asked what)) turns result w w' f f' out out' → OnFalse (may_ask (coming s facts (commands.MasterCommand asked what)) (so_far result)) ((w' ≡ w) × (out'.recorded ≡ out.recorded))
+      → Obeyed (coming s facts (commands.MasterCommand asked what)) (recorded_over (machine_of_sources s facts) asked) (commands_of (machine_of_sources s facts) (commands.MasterCommand asked what)) words pid turns May state result s s' (record { wire = w; faults = f; house = house }) (record { wire = w'; faults = f'; house = house }) out out'
   client-obeyed facts asked what result s s' w w' f f' house out out' looks leaves still =
       let m = machine_of_sources s facts in
-      let known : Known = coming s facts (commands.Control asked what) in
+      let known : Known = coming s facts (commands.MasterCommand asked what) in
       let status : Status = so_far result in
       let none = client-undrilled m asked what in
       let closed = client-shut m asked what in
-      let unwritten : OnFalse (may_ask known status) (out'.told ≡ out.told) = follows (may_ask known status) ((w' ≡ w) × (out'.told ≡ out.told)) (out'.told ≡ out.told) (λ e. e.1) still in
+      let unwritten : OnFalse (may_ask known status) (out'.recorded ≡ out.recorded) = follows (may_ask known status) ((w' ≡ w) × (out'.recorded ≡ out.recorded)) (out'.recorded ≡ out.recorded) (λ e. e.1) still in
       record {
         exact = looks.exact;
         place = looks.place;
         cause = looks.cause;
-        takes = client-taken m asked what status out.told out'.told unwritten;
+        takes = client-taken m asked what status out.recorded out'.recorded unwritten;
         out_cause = leaves.out_cause;
         out_once = not_true _ _ (client-unprinted m asked what);
         ran = looks.ran;
@@ -298,14 +298,14 @@ module _ {T : Type 0} (words : List Bytes) (pid turns : ℕ) (May : HouseReply �
         waited = unopened-waits (serves_house house.known.present known) known status turns w.calls w'.calls closed none;
         idle = λ z. where_false _ _ (leaves.idle z);
         drill = not_true _ _ none;
-        still_wire = else-or (touches known status) (may_ask known status) (w'.seen.told ≡ w.seen.told) (follows (may_ask known status) ((w' ≡ w) × (out'.told ≡ out.told)) (w'.seen.told ≡ w.seen.told) (λ e. ap (λ (x : WireState). x.seen.told) e.0) still);
+        still_wire = else-or (touches known status) (may_ask known status) (w'.seen.recorded ≡ w.seen.recorded) (follows (may_ask known status) ((w' ≡ w) × (out'.recorded ≡ out.recorded)) (w'.seen.recorded ≡ w.seen.recorded) (λ e. ap (λ (x : WireState). x.seen.recorded) e.0) still);
         still_house = on_false _ _;
-        still_out = else-or (may_write status) (may_ask known status) (out'.told ≡ out.told) unwritten;
+        still_out = else-or (may_write status) (may_ask known status) (out'.recorded ≡ out.recorded) unwritten;
       }
 
   -- a drill
-  pub drill-obeyed : (m : Option Machine) (seed clients messages : ℕ) (result : Result Status Ending) (s : Sources) (w w' : WireState) (f f' : Faults) (house : HouseState) (out out' : OutState) → reading words ≡ Ok (commands.Drill seed clients messages) → DrillGoes words turns result w w' out.told out'.told → CountsFor false turns (so_far result) w w' f f' → OutCause (so_far result) out.faults out'.faults → PutsOnce (so_far result) out.puts out'.puts → OnFalse (may_write (so_far result)) (out'.told ≡ out.told)
-      → Obeyed (Certain (Drills seed clients messages)) (told_for m words) (commands_for m words) words pid turns May state result s s (record { wire = w; faults = f; house = house }) (record { wire = w'; faults = f'; house = house }) out out'
+  pub drill-obeyed : (m : Option Machine) (seed clients messages : ℕ) (result : Result Status Ending) (s : Sources) (w w' : WireState) (f f' : Faults) (house : HouseState) (out out' : OutState) → reading words ≡ Ok (commands.Drill seed clients messages) → DrillGoes words turns result w w' out.recorded out'.recorded → CountsFor false turns (so_far result) w w' f f' → OutCause (so_far result) out.faults out'.faults → PutsOnce (so_far result) out.puts out'.puts → OnFalse (may_write (so_far result)) (out'.recorded ≡ out.recorded)
+      → Obeyed (Certain (Drills seed clients messages)) (recorded_for m words) (commands_for m words) words pid turns May state result s s (record { wire = w; faults = f; house = house }) (record { wire = w'; faults = f'; house = house }) out out'
   drill-obeyed m seed clients messages result s w w' f f' house out out' e goes counts out_cause once unwritten =
       let known : Known = Certain (Drills seed clients messages) in
       let status : Status = so_far result in
@@ -314,7 +314,7 @@ module _ {T : Type 0} (words : List Bytes) (pid turns : ℕ) (May : HouseReply �
         exact = drill-comes seed clients messages result goes.ends;
         place = drilled-placed _ result _ _ _ _ goes.ends;
         cause = drill-cause result _ _ goes.ends;
-        takes = drill-takes seed clients messages words turns result w w' out.told out'.told goes;
+        takes = drill-takes seed clients messages words turns result w w' out.recorded out'.recorded goes;
         out_cause = out_cause;
         out_once = once;
         ran = drilled-runs m words seed clients messages status _ e;
@@ -334,7 +334,7 @@ module _ {T : Type 0} (words : List Bytes) (pid turns : ℕ) (May : HouseReply �
         waited = where_false _ _ (on_true _ _ counts.waited);
         idle = λ z. where_false _ _ (counts.idle z);
         drill = goes;
-        still_wire = or-else (touches known status) (may_ask known status) (w'.seen.told ≡ w.seen.told) (not_false (touches known status) (w'.seen.told ≡ w.seen.told) touched);
+        still_wire = or-else (touches known status) (may_ask known status) (w'.seen.recorded ≡ w.seen.recorded) (not_false (touches known status) (w'.seen.recorded ≡ w.seen.recorded) touched);
         still_house = on_false _ _;
-        still_out = or-else (may_write status) (may_ask known status) (out'.told ≡ out.told) unwritten;
+        still_out = or-else (may_write status) (may_ask known status) (out'.recorded ≡ out.recorded) unwritten;
       }

@@ -4,8 +4,8 @@ use Rattle.std.specs.Prelude.{◌||◌, ◌&&◌, not, nat_lt, if◌then◌else�
 use Rattle.conf_rules.specs.declared.asked.Asked.{Asked}
 use Rattle.conf_rules.specs.declared.command.Command.TheVariants as commands
 use Rattle.std.specs.List.{list_any}
-use Rattle.conf_rules.specs.declared.control.Control.{Control}
-use Rattle.conf_rules.specs.declared.control.Control.TheVariants.{Check}
+use Rattle.conf_rules.specs.declared.control.MasterCommand.{MasterCommand}
+use Rattle.conf_rules.specs.declared.control.MasterCommand.TheVariants.{Check}
 use Rattle.conf_rules.specs.declared.usage.UsageError.{UsageError}
 use Rattle.conf_rules.specs.declared.usage.Usage.TheVariants.{BadEntry, NoForward, OnlyForMaster}
 use Rattle.conf_rules.specs.Results.{◌>>=◌}
@@ -132,10 +132,10 @@ command-master n steps = by_mode (first_mode steps)
     by_transport host None = tt
     by_transport host (Some t) = permitted-master steps (asked_of host steps) t
 
-    by_control : (host : Bytes) (control : Control) → OfMaster (client_of n host steps control)
+    by_control : (host : Bytes) (control : MasterCommand) → OfMaster (client_of n host steps control)
     by_control host control = by_named (is_about_forwardings control && not (list_any asks_forwarding steps))
       where
-        by_named : (t : Bool) → OfMaster (if t then refused (n + 1) NoForward else Ok (commands.Control (asked_of host steps) control))
+        by_named : (t : Bool) → OfMaster (if t then refused (n + 1) NoForward else Ok (commands.MasterCommand (asked_of host steps) control))
         by_named true = tt
         by_named false = tt
 

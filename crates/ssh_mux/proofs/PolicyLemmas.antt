@@ -9,7 +9,7 @@ use Rattle.conf_rules.specs.declared.causes.ResolveError.{ResolveError}
 use Rattle.conf_rules.specs.declared.command.Command.TheVariants as commands
 use Rattle.conf_rules.specs.Diagnostics.{BadLine}
 use Rattle.conf_rules.specs.Listing.{control_path_at}
-use Rattle.conf_rules.specs.Outcome.{Machine, Outcome, Ends, told_of, opened_end, unrefused}
+use Rattle.conf_rules.specs.Outcome.{Machine, Outcome, Ends, recorded_of, opened_end, unrefused}
 use Rattle.conf_rules.specs.Reading.{reading}
 use Rattle.conf_rules.specs.Resolution.{all_rows, refusal_in}
 use Rattle.conf_rules.specs.Rows.{Row}
@@ -41,9 +41,9 @@ opened-policy : (m : Option Machine) (asked : Asked) (transport : Bytes) (os ls 
 unfolding of_command
 opened-policy None asked transport os ls p = refl
 opened-policy (Some m) asked transport os ls p =
-    let told = told_of m asked in
-    let path = control_path_at told (all_rows told) in
-    rows-policy (all_rows told) (opened_end transport os ls path) (policy_of os ls) (end-policy transport os ls path) p
+    let recorded = recorded_of m asked in
+    let path = control_path_at recorded (all_rows recorded) in
+    rows-policy (all_rows recorded) (opened_end transport os ls path) (policy_of os ls) (end-policy transport os ls path) p
 
 carried : (opened shares : Bool) (P : Policy → Type 0) (due policy : Policy) → (shares ≡ true → policy ≡ due) → OnTrue (opened && shares) (P due) → OnTrue (opened && shares) (P policy)
 carried true true P due policy is h = subst P (sym (is refl)) h

@@ -5,10 +5,10 @@ use Rattle.conf_rules.specs.declared.asked.Asked.{Asked}
 use Rattle.conf_rules.specs.declared.causes.ListError.{ListError}
 use Rattle.conf_rules.specs.declared.causes.ResolveError.{ResolveError}
 use Rattle.conf_rules.specs.declared.command.Command.TheVariants as commands
-use Rattle.conf_rules.specs.declared.control.Control.{Control}
+use Rattle.conf_rules.specs.declared.control.MasterCommand.{MasterCommand}
 use Rattle.conf_rules.specs.Diagnostics.{Ending, BadLine}
 use Rattle.conf_rules.specs.Listing.{control_path_at}
-use Rattle.conf_rules.specs.Outcome.{Outcome, Ends, Writes, Opens, Drills, Joins, Machine, joined_end, told_of, unrefused}
+use Rattle.conf_rules.specs.Outcome.{Outcome, Ends, Writes, Opens, Drills, Joins, Machine, joined_end, recorded_of, unrefused}
 use Rattle.conf_rules.specs.Resolution.{all_rows, refusal_in}
 use Rattle.conf_rules.specs.Rows.{Row}
 use Rattle.conf_rules.specs.Texts.{Bytes}
@@ -82,12 +82,12 @@ unprinted-rows rows x h = on (refusal_in rows) where
   on (Some e) = refl
   on None = h
 
-unprinted-joined : (asked : Asked) (what : Control) (r : Result (Option Bytes) ListError) → prints (Certain (joined_end asked what r)) ≡ false
+unprinted-joined : (asked : Asked) (what : MasterCommand) (r : Result (Option Bytes) ListError) → prints (Certain (joined_end asked what r)) ≡ false
 unprinted-joined asked what (Ok (Some path)) = refl
 unprinted-joined asked what (Ok None) = refl
 unprinted-joined asked what (Err e) = refl
 
-pub client-unprinted : (m : Option Machine) (asked : Asked) (what : Control) → prints (of_command m (commands.Control asked what)) ≡ false
+pub client-unprinted : (m : Option Machine) (asked : Asked) (what : MasterCommand) → prints (of_command m (commands.MasterCommand asked what)) ≡ false
 unfolding of_command
 client-unprinted None asked what = refl
-client-unprinted (Some m) asked what = unprinted-rows (all_rows (told_of m asked)) (joined_end asked what (control_path_at (told_of m asked) (all_rows (told_of m asked)))) (unprinted-joined asked what (control_path_at (told_of m asked) (all_rows (told_of m asked))))
+client-unprinted (Some m) asked what = unprinted-rows (all_rows (recorded_of m asked)) (joined_end asked what (control_path_at (recorded_of m asked) (all_rows (recorded_of m asked)))) (unprinted-joined asked what (control_path_at (recorded_of m asked) (all_rows (recorded_of m asked))))

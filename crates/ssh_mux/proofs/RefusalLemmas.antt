@@ -12,15 +12,15 @@ use Rattle.conf_rules.specs.declared.causes.ResolveError.{ResolveError}
 use Rattle.conf_rules.specs.declared.causes.ResolveError.TheVariants as errors
 use Rattle.conf_rules.specs.Diagnostics.{Ending, BadLine, BadListing, NoControlPath, is_fault}
 use Rattle.conf_rules.specs.Listing.{listing_over, control_path_at}
-use Rattle.conf_rules.specs.Outcome.{Outcome, Ends, Writes, Opens, Drills, Joins, told_of, listed_end, opened_end, unrefused, Machine}
+use Rattle.conf_rules.specs.Outcome.{Outcome, Ends, Writes, Opens, Drills, Joins, recorded_of, listed_end, opened_end, unrefused, Machine}
 use Rattle.conf_rules.specs.Resolution.{all_rows, refusal_in, refusal}
 use Rattle.conf_rules.specs.Rows.{Row}
 use Rattle.conf_rules.specs.Texts.{Bytes}
-use Rattle.conf_rules.specs.Told.{Told}
-use Rattle.conf_match.specs.Evaluated.{TellsStatus}
+use Rattle.conf_rules.specs.Recorded.{Recorded}
+use Rattle.conf_match.specs.Evaluated.{RecordsStatus}
 use Rattle.conf_options.specs.Kept.{Given}
 use Rattle.conf_output.specs.Settled.{Settled, Lists, HasControlPath}
-use Rattle.conf_reader.specs.Known.{TellsFiles}
+use Rattle.conf_reader.specs.Known.{RecordsFiles}
 use Rattle.conf_resolve.specs.Passes.{Resolved}
 use Rattle.conf_tokens.specs.Known.{known}
 use Rattle.mux_outside.specs.declared.facts.Facts.{Facts}
@@ -92,32 +92,32 @@ undrilled-opened transport os ls (Err e) = refl
 pub list-looks : (m : Option Machine) (asked : Asked) → looks (of_command m (commands.List asked)) ≡ true
 unfolding of_command
 list-looks None asked = refl
-list-looks (Some m) asked = looks-rows (all_rows (told_of m asked)) (listed_end (listing_over LISTING_ORDER (told_of m asked) (all_rows (told_of m asked)))) (looks-listed (listing_over LISTING_ORDER (told_of m asked) (all_rows (told_of m asked))))
+list-looks (Some m) asked = looks-rows (all_rows (recorded_of m asked)) (listed_end (listing_over LISTING_ORDER (recorded_of m asked) (all_rows (recorded_of m asked)))) (looks-listed (listing_over LISTING_ORDER (recorded_of m asked) (all_rows (recorded_of m asked))))
 
 pub list-shut : (m : Option Machine) (asked : Asked) → opens (of_command m (commands.List asked)) ≡ false
 unfolding of_command
 list-shut None asked = refl
-list-shut (Some m) asked = shut-rows (all_rows (told_of m asked)) (listed_end (listing_over LISTING_ORDER (told_of m asked) (all_rows (told_of m asked)))) (shut-listed (listing_over LISTING_ORDER (told_of m asked) (all_rows (told_of m asked))))
+list-shut (Some m) asked = shut-rows (all_rows (recorded_of m asked)) (listed_end (listing_over LISTING_ORDER (recorded_of m asked) (all_rows (recorded_of m asked)))) (shut-listed (listing_over LISTING_ORDER (recorded_of m asked) (all_rows (recorded_of m asked))))
 
 pub master-looks : (m : Option Machine) (asked : Asked) (transport : Bytes) (os ls : List Bytes) → looks (of_command m (commands.Master asked transport os ls)) ≡ true
 unfolding of_command
 master-looks None asked transport os ls = refl
-master-looks (Some m) asked transport os ls = looks-rows (all_rows (told_of m asked)) (opened_end transport os ls (control_path_at (told_of m asked) (all_rows (told_of m asked)))) (looks-opened transport os ls (control_path_at (told_of m asked) (all_rows (told_of m asked))))
+master-looks (Some m) asked transport os ls = looks-rows (all_rows (recorded_of m asked)) (opened_end transport os ls (control_path_at (recorded_of m asked) (all_rows (recorded_of m asked)))) (looks-opened transport os ls (control_path_at (recorded_of m asked) (all_rows (recorded_of m asked))))
 
 pub master-quiet : (m : Option Machine) (asked : Asked) (transport : Bytes) (os ls : List Bytes) → writes_out (of_command m (commands.Master asked transport os ls)) ≡ false
 unfolding of_command
 master-quiet None asked transport os ls = refl
-master-quiet (Some m) asked transport os ls = quiet-rows (all_rows (told_of m asked)) (opened_end transport os ls (control_path_at (told_of m asked) (all_rows (told_of m asked)))) (quiet-opened transport os ls (control_path_at (told_of m asked) (all_rows (told_of m asked))))
+master-quiet (Some m) asked transport os ls = quiet-rows (all_rows (recorded_of m asked)) (opened_end transport os ls (control_path_at (recorded_of m asked) (all_rows (recorded_of m asked)))) (quiet-opened transport os ls (control_path_at (recorded_of m asked) (all_rows (recorded_of m asked))))
 
 pub list-undrilled : (m : Option Machine) (asked : Asked) → drills (of_command m (commands.List asked)) ≡ false
 unfolding of_command
 list-undrilled None asked = refl
-list-undrilled (Some m) asked = undrilled-rows (all_rows (told_of m asked)) (listed_end (listing_over LISTING_ORDER (told_of m asked) (all_rows (told_of m asked)))) (undrilled-listed (listing_over LISTING_ORDER (told_of m asked) (all_rows (told_of m asked))))
+list-undrilled (Some m) asked = undrilled-rows (all_rows (recorded_of m asked)) (listed_end (listing_over LISTING_ORDER (recorded_of m asked) (all_rows (recorded_of m asked)))) (undrilled-listed (listing_over LISTING_ORDER (recorded_of m asked) (all_rows (recorded_of m asked))))
 
 pub master-undrilled : (m : Option Machine) (asked : Asked) (transport : Bytes) (os ls : List Bytes) → drills (of_command m (commands.Master asked transport os ls)) ≡ false
 unfolding of_command
 master-undrilled None asked transport os ls = refl
-master-undrilled (Some m) asked transport os ls = undrilled-rows (all_rows (told_of m asked)) (opened_end transport os ls (control_path_at (told_of m asked) (all_rows (told_of m asked)))) (undrilled-opened transport os ls (control_path_at (told_of m asked) (all_rows (told_of m asked))))
+master-undrilled (Some m) asked transport os ls = undrilled-rows (all_rows (recorded_of m asked)) (opened_end transport os ls (control_path_at (recorded_of m asked) (all_rows (recorded_of m asked)))) (undrilled-opened transport os ls (control_path_at (recorded_of m asked) (all_rows (recorded_of m asked))))
 
 -- ---- a configuration that is refused
 
@@ -145,16 +145,16 @@ plain-rows : (rows : List Row) (x : Outcome) (e : ResolveError) → refusal_in r
 plain-rows rows x e h = subst (λ o. Plain (Certain o) (BadLine e)) (sym (ap (λ (r : Option ResolveError). elim r [ Some e ↦ Ends (BadLine e) | None ↦ x ]) h)) refl
 
 -- what files, commands and facts that tell promise of a resolution
-abbrev pub Promise : Option (List Pair) → Option (List CommandStatus) → Facts → Asked → (Told → Type 0) → Type 0
-Promise files statuses facts asked P = (told : Told) → told.asked ≡ asked → told.facts ≡ known facts → TellsFiles files told → TellsStatus statuses told.status → P told
+abbrev pub Promise : Option (List Pair) → Option (List CommandStatus) → Facts → Asked → (Recorded → Type 0) → Type 0
+Promise files statuses facts asked P = (recorded : Recorded) → recorded.asked ≡ asked → recorded.facts ≡ known facts → RecordsFiles files recorded → RecordsStatus statuses recorded.status → P recorded
 
 -- it is a promise of the machine
-pub kept : (files : List Pair) (statuses : List CommandStatus) (facts : Facts) (asked : Asked) (P : Told → Type 0) → Promise (Some files) (Some statuses) facts asked P → P (told_of (machine_of files statuses facts) asked)
-kept files statuses facts asked P h = h (told_of (machine_of files statuses facts) asked) refl refl (refl, refl) refl
+pub kept : (files : List Pair) (statuses : List CommandStatus) (facts : Facts) (asked : Asked) (P : Recorded → Type 0) → Promise (Some files) (Some statuses) facts asked P → P (recorded_of (machine_of files statuses facts) asked)
+kept files statuses facts asked P h = h (recorded_of (machine_of files statuses facts) asked) refl refl (refl, refl) refl
 
-pub refused-rows : (told : Told) (x : Outcome) (e : ResolveError) → looks (Certain x) ≡ true → Resolved told (Err e) → IsRefused (Certain (unrefused (all_rows told) x)) (shown (refused_as e))
-refused-rows told x errors.OutOfMemory l h = tt
-refused-rows told x (errors.At file line cause) l h = by-cause (Certain (unrefused (all_rows told) x)) file line cause (looks-rows (all_rows told) x l) (λ plain. plain-rows (all_rows told) x (errors.At file line cause) (h plain))
+pub refused-rows : (recorded : Recorded) (x : Outcome) (e : ResolveError) → looks (Certain x) ≡ true → Resolved recorded (Err e) → IsRefused (Certain (unrefused (all_rows recorded) x)) (shown (refused_as e))
+refused-rows recorded x errors.OutOfMemory l h = tt
+refused-rows recorded x (errors.At file line cause) l h = by-cause (Certain (unrefused (all_rows recorded) x)) file line cause (looks-rows (all_rows recorded) x l) (λ plain. plain-rows (all_rows recorded) x (errors.At file line cause) (h plain))
 
 refused-listing : (e : ResolveError) → IsRefused Listing (shown (refused_as e))
 refused-listing errors.OutOfMemory = tt
@@ -164,86 +164,86 @@ refused-master : (transport : Bytes) (os ls : List Bytes) (e : ResolveError) →
 refused-master transport os ls errors.OutOfMemory = tt
 refused-master transport os ls (errors.At file line cause) = by-cause (Master transport os ls) file line cause refl (λ plain. refl)
 
-pub list-refused : (files : Option (List Pair)) (statuses : Option (List CommandStatus)) (facts : Facts) (asked : Asked) (e : ResolveError) → Promise files statuses facts asked (λ told. Resolved told (Err e)) → IsRefused (of_command (machine files statuses facts) (commands.List asked)) (shown (refused_as e))
+pub list-refused : (files : Option (List Pair)) (statuses : Option (List CommandStatus)) (facts : Facts) (asked : Asked) (e : ResolveError) → Promise files statuses facts asked (λ recorded. Resolved recorded (Err e)) → IsRefused (of_command (machine files statuses facts) (commands.List asked)) (shown (refused_as e))
 unfolding of_command machine
 list-refused None statuses facts asked e h = refused-listing e
 list-refused (Some files) None facts asked e h = refused-listing e
 list-refused (Some files) (Some statuses) facts asked e h =
-    let told = told_of (machine_of files statuses facts) asked in
-    let listed = listing_over LISTING_ORDER told (all_rows told) in
-    refused-rows told (listed_end listed) e (looks-listed listed) (kept files statuses facts asked (λ t. Resolved t (Err e)) h)
+    let recorded = recorded_of (machine_of files statuses facts) asked in
+    let listed = listing_over LISTING_ORDER recorded (all_rows recorded) in
+    refused-rows recorded (listed_end listed) e (looks-listed listed) (kept files statuses facts asked (λ t. Resolved t (Err e)) h)
 
-pub master-refused : (files : Option (List Pair)) (statuses : Option (List CommandStatus)) (facts : Facts) (asked : Asked) (transport : Bytes) (os ls : List Bytes) (e : ResolveError) → Promise files statuses facts asked (λ told. Resolved told (Err e)) → IsRefused (of_command (machine files statuses facts) (commands.Master asked transport os ls)) (shown (refused_as e))
+pub master-refused : (files : Option (List Pair)) (statuses : Option (List CommandStatus)) (facts : Facts) (asked : Asked) (transport : Bytes) (os ls : List Bytes) (e : ResolveError) → Promise files statuses facts asked (λ recorded. Resolved recorded (Err e)) → IsRefused (of_command (machine files statuses facts) (commands.Master asked transport os ls)) (shown (refused_as e))
 unfolding of_command machine
 master-refused None statuses facts asked transport os ls e h = refused-master transport os ls e
 master-refused (Some files) None facts asked transport os ls e h = refused-master transport os ls e
 master-refused (Some files) (Some statuses) facts asked transport os ls e h =
-    let told = told_of (machine_of files statuses facts) asked in
-    let path = control_path_at told (all_rows told) in
-    refused-rows told (opened_end transport os ls path) e (looks-opened transport os ls path) (kept files statuses facts asked (λ t. Resolved t (Err e)) h)
+    let recorded = recorded_of (machine_of files statuses facts) asked in
+    let path = control_path_at recorded (all_rows recorded) in
+    refused-rows recorded (opened_end transport os ls path) e (looks-opened transport os ls path) (kept files statuses facts asked (λ t. Resolved t (Err e)) h)
 
 -- ---- settings
 
-pub settled : (files : List Pair) (statuses : List CommandStatus) (facts : Facts) (asked : Asked) (settings : List Given) → Promise (Some files) (Some statuses) facts asked (λ told. Resolved told (Ok settings)) → Settled (told_of (machine_of files statuses facts) asked) (all_rows (told_of (machine_of files statuses facts) asked)) settings asked.original facts
+pub settled : (files : List Pair) (statuses : List CommandStatus) (facts : Facts) (asked : Asked) (settings : List Given) → Promise (Some files) (Some statuses) facts asked (λ recorded. Resolved recorded (Ok settings)) → Settled (recorded_of (machine_of files statuses facts) asked) (all_rows (recorded_of (machine_of files statuses facts) asked)) settings asked.original facts
 settled files statuses facts asked settings h =
     record { name = refl; facts = refl; keeps = (kept files statuses facts asked (λ t. Resolved t (Ok settings)) h).1 }
 
 pub unrefused-rows : (rows : List Row) (x : Outcome) → refusal_in rows ≡ None → unrefused rows x ≡ x
 unrefused-rows rows x h = ap (λ (r : Option ResolveError). elim r [ Some e ↦ Ends (BadLine e) | None ↦ x ]) h
 
-pub list-found : (files : Option (List Pair)) (statuses : Option (List CommandStatus)) (facts : Facts) (asked : Asked) (settings : List Given) (text : Bytes) → Promise files statuses facts asked (λ told. Resolved told (Ok settings)) → Lists (Ok text) settings asked.original facts → (of_command (machine files statuses facts) (commands.List asked) ≡ Certain (Writes text)) ⊎ (of_command (machine files statuses facts) (commands.List asked) ≡ Listing)
+pub list-found : (files : Option (List Pair)) (statuses : Option (List CommandStatus)) (facts : Facts) (asked : Asked) (settings : List Given) (text : Bytes) → Promise files statuses facts asked (λ recorded. Resolved recorded (Ok settings)) → Lists (Ok text) settings asked.original facts → (of_command (machine files statuses facts) (commands.List asked) ≡ Certain (Writes text)) ⊎ (of_command (machine files statuses facts) (commands.List asked) ≡ Listing)
 unfolding of_command machine
 list-found None statuses facts asked settings text h l = inr refl
 list-found (Some files) None facts asked settings text h l = inr refl
 list-found (Some files) (Some statuses) facts asked settings text h l =
-    let told = told_of (machine_of files statuses facts) asked in
-    let none : refusal told ≡ None = (kept files statuses facts asked (λ t. Resolved t (Ok settings)) h).0 in
-    let lists : listing_over LISTING_ORDER told (all_rows told) ≡ Ok text = l told (all_rows told) (settled files statuses facts asked settings h) in
-    inl (ap (λ o. Certain o) (unrefused-rows (all_rows told) (listed_end (listing_over LISTING_ORDER told (all_rows told))) none ∙ ap listed_end lists))
+    let recorded = recorded_of (machine_of files statuses facts) asked in
+    let none : refusal recorded ≡ None = (kept files statuses facts asked (λ t. Resolved t (Ok settings)) h).0 in
+    let lists : listing_over LISTING_ORDER recorded (all_rows recorded) ≡ Ok text = l recorded (all_rows recorded) (settled files statuses facts asked settings h) in
+    inl (ap (λ o. Certain o) (unrefused-rows (all_rows recorded) (listed_end (listing_over LISTING_ORDER recorded (all_rows recorded))) none ∙ ap listed_end lists))
 
-pub list-unlisted : (files : Option (List Pair)) (statuses : Option (List CommandStatus)) (facts : Facts) (asked : Asked) (settings : List Given) (e : ListError) → Promise files statuses facts asked (λ told. Resolved told (Ok settings)) → Lists (Err e) settings asked.original facts → IsRefused (of_command (machine files statuses facts) (commands.List asked)) (shown (unlisted_as e))
+pub list-unlisted : (files : Option (List Pair)) (statuses : Option (List CommandStatus)) (facts : Facts) (asked : Asked) (settings : List Given) (e : ListError) → Promise files statuses facts asked (λ recorded. Resolved recorded (Ok settings)) → Lists (Err e) settings asked.original facts → IsRefused (of_command (machine files statuses facts) (commands.List asked)) (shown (unlisted_as e))
 unfolding of_command machine
 list-unlisted files statuses facts asked settings list_errors.OutOfMemory h l = tt
 list-unlisted None statuses facts asked settings (list_errors.Token key error) h l = refl
 list-unlisted (Some files) None facts asked settings (list_errors.Token key error) h l = refl
 list-unlisted (Some files) (Some statuses) facts asked settings (list_errors.Token key error) h l =
-    let told = told_of (machine_of files statuses facts) asked in
-    let none : refusal told ≡ None = (kept files statuses facts asked (λ t. Resolved t (Ok settings)) h).0 in
-    let lists : listing_over LISTING_ORDER told (all_rows told) ≡ Err (list_errors.Token key error) = l told (all_rows told) (settled files statuses facts asked settings h) in
-    let is = unrefused-rows (all_rows told) (listed_end (listing_over LISTING_ORDER told (all_rows told))) none ∙ ap listed_end lists in
+    let recorded = recorded_of (machine_of files statuses facts) asked in
+    let none : refusal recorded ≡ None = (kept files statuses facts asked (λ t. Resolved t (Ok settings)) h).0 in
+    let lists : listing_over LISTING_ORDER recorded (all_rows recorded) ≡ Err (list_errors.Token key error) = l recorded (all_rows recorded) (settled files statuses facts asked settings h) in
+    let is = unrefused-rows (all_rows recorded) (listed_end (listing_over LISTING_ORDER recorded (all_rows recorded))) none ∙ ap listed_end lists in
     subst (λ o. IsRefused (Certain o) (BadListing (list_errors.Token key error))) (sym is) refl
 
 -- the outcome of a control path
-abbrev Path : Told → Bytes → List Bytes → List Bytes → Outcome
-Path told transport os ls = unrefused (all_rows told) (opened_end transport os ls (control_path_at told (all_rows told)))
+abbrev Path : Recorded → Bytes → List Bytes → List Bytes → Outcome
+Path recorded transport os ls = unrefused (all_rows recorded) (opened_end transport os ls (control_path_at recorded (all_rows recorded)))
 
-path-is : (files : List Pair) (statuses : List CommandStatus) (facts : Facts) (asked : Asked) (transport : Bytes) (os ls : List Bytes) (settings : List Given) (r : Result (Option Bytes) ListError) → Promise (Some files) (Some statuses) facts asked (λ told. Resolved told (Ok settings)) → control_path_at (told_of (machine_of files statuses facts) asked) (all_rows (told_of (machine_of files statuses facts) asked)) ≡ r → Path (told_of (machine_of files statuses facts) asked) transport os ls ≡ opened_end transport os ls r
+path-is : (files : List Pair) (statuses : List CommandStatus) (facts : Facts) (asked : Asked) (transport : Bytes) (os ls : List Bytes) (settings : List Given) (r : Result (Option Bytes) ListError) → Promise (Some files) (Some statuses) facts asked (λ recorded. Resolved recorded (Ok settings)) → control_path_at (recorded_of (machine_of files statuses facts) asked) (all_rows (recorded_of (machine_of files statuses facts) asked)) ≡ r → Path (recorded_of (machine_of files statuses facts) asked) transport os ls ≡ opened_end transport os ls r
 path-is files statuses facts asked transport os ls settings r h is =
-    let told = told_of (machine_of files statuses facts) asked in
-    let none : refusal told ≡ None = (kept files statuses facts asked (λ t. Resolved t (Ok settings)) h).0 in
-    unrefused-rows (all_rows told) (opened_end transport os ls (control_path_at told (all_rows told))) none ∙ ap (opened_end transport os ls) is
+    let recorded = recorded_of (machine_of files statuses facts) asked in
+    let none : refusal recorded ≡ None = (kept files statuses facts asked (λ t. Resolved t (Ok settings)) h).0 in
+    unrefused-rows (all_rows recorded) (opened_end transport os ls (control_path_at recorded (all_rows recorded))) none ∙ ap (opened_end transport os ls) is
 
-pub path-found : (files : Option (List Pair)) (statuses : Option (List CommandStatus)) (facts : Facts) (asked : Asked) (transport : Bytes) (os ls : List Bytes) (settings : List Given) (path : Bytes) → Promise files statuses facts asked (λ told. Resolved told (Ok settings)) → HasControlPath (Ok (Some path)) settings asked.original facts → (of_command (machine files statuses facts) (commands.Master asked transport os ls) ≡ Certain (opens_at transport os ls path)) ⊎ (of_command (machine files statuses facts) (commands.Master asked transport os ls) ≡ Master transport os ls)
+pub path-found : (files : Option (List Pair)) (statuses : Option (List CommandStatus)) (facts : Facts) (asked : Asked) (transport : Bytes) (os ls : List Bytes) (settings : List Given) (path : Bytes) → Promise files statuses facts asked (λ recorded. Resolved recorded (Ok settings)) → HasControlPath (Ok (Some path)) settings asked.original facts → (of_command (machine files statuses facts) (commands.Master asked transport os ls) ≡ Certain (opens_at transport os ls path)) ⊎ (of_command (machine files statuses facts) (commands.Master asked transport os ls) ≡ Master transport os ls)
 unfolding of_command machine
 path-found None statuses facts asked transport os ls settings path h p = inr refl
 path-found (Some files) None facts asked transport os ls settings path h p = inr refl
 path-found (Some files) (Some statuses) facts asked transport os ls settings path h p =
-    let told = told_of (machine_of files statuses facts) asked in
-    inl (ap (λ o. Certain o) (path-is files statuses facts asked transport os ls settings (Ok (Some path)) h (p told (all_rows told) (settled files statuses facts asked settings h))))
+    let recorded = recorded_of (machine_of files statuses facts) asked in
+    inl (ap (λ o. Certain o) (path-is files statuses facts asked transport os ls settings (Ok (Some path)) h (p recorded (all_rows recorded) (settled files statuses facts asked settings h))))
 
-pub path-unset : (files : Option (List Pair)) (statuses : Option (List CommandStatus)) (facts : Facts) (asked : Asked) (transport : Bytes) (os ls : List Bytes) (settings : List Given) → Promise files statuses facts asked (λ told. Resolved told (Ok settings)) → HasControlPath (Ok None) settings asked.original facts → IsRefused (of_command (machine files statuses facts) (commands.Master asked transport os ls)) NoControlPath
+pub path-unset : (files : Option (List Pair)) (statuses : Option (List CommandStatus)) (facts : Facts) (asked : Asked) (transport : Bytes) (os ls : List Bytes) (settings : List Given) → Promise files statuses facts asked (λ recorded. Resolved recorded (Ok settings)) → HasControlPath (Ok None) settings asked.original facts → IsRefused (of_command (machine files statuses facts) (commands.Master asked transport os ls)) NoControlPath
 unfolding of_command machine
 path-unset None statuses facts asked transport os ls settings h p = refl
 path-unset (Some files) None facts asked transport os ls settings h p = refl
 path-unset (Some files) (Some statuses) facts asked transport os ls settings h p =
-    let told = told_of (machine_of files statuses facts) asked in
-    subst (λ o. IsRefused (Certain o) NoControlPath) (sym (path-is files statuses facts asked transport os ls settings (Ok None) h (p told (all_rows told) (settled files statuses facts asked settings h)))) refl
+    let recorded = recorded_of (machine_of files statuses facts) asked in
+    subst (λ o. IsRefused (Certain o) NoControlPath) (sym (path-is files statuses facts asked transport os ls settings (Ok None) h (p recorded (all_rows recorded) (settled files statuses facts asked settings h)))) refl
 
-pub path-unlisted : (files : Option (List Pair)) (statuses : Option (List CommandStatus)) (facts : Facts) (asked : Asked) (transport : Bytes) (os ls : List Bytes) (settings : List Given) (e : ListError) → Promise files statuses facts asked (λ told. Resolved told (Ok settings)) → HasControlPath (Err e) settings asked.original facts → IsRefused (of_command (machine files statuses facts) (commands.Master asked transport os ls)) (shown (unlisted_as e))
+pub path-unlisted : (files : Option (List Pair)) (statuses : Option (List CommandStatus)) (facts : Facts) (asked : Asked) (transport : Bytes) (os ls : List Bytes) (settings : List Given) (e : ListError) → Promise files statuses facts asked (λ recorded. Resolved recorded (Ok settings)) → HasControlPath (Err e) settings asked.original facts → IsRefused (of_command (machine files statuses facts) (commands.Master asked transport os ls)) (shown (unlisted_as e))
 unfolding of_command machine
 path-unlisted files statuses facts asked transport os ls settings list_errors.OutOfMemory h p = tt
 path-unlisted None statuses facts asked transport os ls settings (list_errors.Token key error) h p = refl
 path-unlisted (Some files) None facts asked transport os ls settings (list_errors.Token key error) h p = refl
 path-unlisted (Some files) (Some statuses) facts asked transport os ls settings (list_errors.Token key error) h p =
-    let told = told_of (machine_of files statuses facts) asked in
-    subst (λ o. IsRefused (Certain o) (BadListing (list_errors.Token key error))) (sym (path-is files statuses facts asked transport os ls settings (Err (list_errors.Token key error)) h (p told (all_rows told) (settled files statuses facts asked settings h)))) refl
+    let recorded = recorded_of (machine_of files statuses facts) asked in
+    subst (λ o. IsRefused (Certain o) (BadListing (list_errors.Token key error))) (sym (path-is files statuses facts asked transport os ls settings (Err (list_errors.Token key error)) h (p recorded (all_rows recorded) (settled files statuses facts asked settings h)))) refl

@@ -34,7 +34,7 @@ use Rattle.ssh_mux.specs.Ending.{shown}
 use Rattle.ssh_mux.specs.Master.{EndsMaster}
 use Rattle.ssh_mux.specs.Out.{OutTakes}
 use Rattle.ssh_mux.specs.Outcomes.{Known, Certain, Listing, Master, Client, opens_at, opens, writes_out}
-use Rattle.ssh_mux.specs.Sharing.{CallsEnd, CameFor, IdleCause, OpensAt, OpensOnce, Shares, StartCause, WaitsFor, pid_of, told_as}
+use Rattle.ssh_mux.specs.Sharing.{CallsEnd, CameFor, IdleCause, OpensAt, OpensOnce, Shares, StartCause, WaitsFor, pid_of, recorded_as}
 use Rattle.ssh_mux.specs.Status.{status_of}
 use Rattle.ssh_mux.proofs.StillLemmas.{follows, loud, on_true, quiet-count, served-house}
 
@@ -60,20 +60,20 @@ broken_end (broke.Channel n breach) old new h = inl h
 
 -- ---- how a run that was served ends
 
-pub shares_end : (May : HouseReply → Type 0) (Rest : Resting) (stands stands' : List HouseCall → Type 0) (policy : Policy) (pid turns : ℕ) (before now : Option (List HouseMark)) (start : Option (List Mark)) (seen : Seen) (refused : Option ℕ) (result : Result Status Ending) (ended : Ended) → result ≡ told_as ended → IsRun May Rest.rests stands stands' Rest.present policy pid turns before now start seen refused ended → Shares May Rest stands stands' policy pid turns before now start seen refused result
+pub shares_end : (May : HouseReply → Type 0) (Rest : Resting) (stands stands' : List HouseCall → Type 0) (policy : Policy) (pid turns : ℕ) (before now : Option (List HouseMark)) (start : Option (List Mark)) (seen : Seen) (refused : Option ℕ) (result : Result Status Ending) (ended : Ended) → result ≡ recorded_as ended → IsRun May Rest.rests stands stands' Rest.present policy pid turns before now start seen refused ended → Shares May Rest stands stands' policy pid turns before now start seen refused result
 shares_end May Rest stands stands' policy pid turns before now start seen refused result ended e run = subst (λ r. Shares May Rest stands stands' policy pid turns before now start seen refused r) (sym e) (by_end ended run) where
-  by_end : (x : Ended) → IsRun May Rest.rests stands stands' Rest.present policy pid turns before now start seen refused x → Shares May Rest stands stands' policy pid turns before now start seen refused (told_as x)
-  by_end ends.OutOfMemory run = inr (record { answer = ends.OutOfMemory; is_told = refl; run = run })
-  by_end ends.ServerEnd run = record { answer = ends.ServerEnd; is_told = refl; run = run }
-  by_end ends.Disconnected run = record { answer = ends.Disconnected; is_told = refl; run = run }
-  by_end (ends.Terminated client id) run = record { answer = ends.Terminated client id; is_told = refl; run = run }
-  by_end ends.ServerFailed run = record { answer = ends.ServerFailed; is_told = refl; run = run }
-  by_end (ends.Broke index why) run = record { answer = ends.Broke index why; is_told = refl; run = run }
-  by_end (ends.StartRefused index) run = record { answer = ends.StartRefused index; is_told = refl; run = run }
-  by_end ends.Spent run = record { answer = ends.Spent; is_told = refl; run = run }
+  by_end : (x : Ended) → IsRun May Rest.rests stands stands' Rest.present policy pid turns before now start seen refused x → Shares May Rest stands stands' policy pid turns before now start seen refused (recorded_as x)
+  by_end ends.OutOfMemory run = inr (record { answer = ends.OutOfMemory; is_recorded = refl; run = run })
+  by_end ends.ServerEnd run = record { answer = ends.ServerEnd; is_recorded = refl; run = run }
+  by_end ends.Disconnected run = record { answer = ends.Disconnected; is_recorded = refl; run = run }
+  by_end (ends.Terminated client id) run = record { answer = ends.Terminated client id; is_recorded = refl; run = run }
+  by_end ends.ServerFailed run = record { answer = ends.ServerFailed; is_recorded = refl; run = run }
+  by_end (ends.Broke index why) run = record { answer = ends.Broke index why; is_recorded = refl; run = run }
+  by_end (ends.StartRefused index) run = record { answer = ends.StartRefused index; is_recorded = refl; run = run }
+  by_end ends.Spent run = record { answer = ends.Spent; is_recorded = refl; run = run }
 
 -- a house, where one is present, may wait in place of the wire
-pub waits_end : (present : Bool) (turns : ℕ) (ended : Ended) (old new : CallCounts) → Stops present turns ended old new → OnFalse present (WaitsFor turns (so_far (told_as ended)) old new)
+pub waits_end : (present : Bool) (turns : ℕ) (ended : Ended) (old new : CallCounts) → Stops present turns ended old new → OnFalse present (WaitsFor turns (so_far (recorded_as ended)) old new)
 waits_end true turns ended old new h = tt
 waits_end false turns ends.Spent old new h = h.spent refl refl
 waits_end false turns ends.OutOfMemory old new h = tt
@@ -85,7 +85,7 @@ waits_end false turns ends.ServerFailed old new h = h.ends refl (λ e. absurd cc
 waits_end false turns (ends.Broke index why) old new h = h.ends refl (λ e. absurd cc) (λ e. absurd cc)
 
 -- what came by the end of one
-pub came_end : (ended : Ended) (old new : CallCounts) → EndedBy ended old new → CameFor (so_far (told_as ended)) old new
+pub came_end : (ended : Ended) (old new : CallCounts) → EndedBy ended old new → CameFor (so_far (recorded_as ended)) old new
 came_end ends.ServerEnd old new h = inl h
 came_end ends.Disconnected old new h = inr (inl h)
 came_end (ends.Terminated client id) old new h = inr (inr h)
@@ -130,16 +130,16 @@ pub opening_calls : (answer : Result (Unit {0}) FileError) (turns : ℕ) (status
 opening_calls answer turns status old new e = subst (CallsEnd turns status old) (sym e) (record { few = omega arith; opens = opens-most answer old.opens; wants = omega arith; starved = λ ne. absurd (ne refl); late = λ z. refl })
 
 -- behind it the wire was served
-pub serving_calls : (answer : Result (Unit {0}) FileError) (present : Bool) (turns : ℕ) (ended : Ended) (old mid new : CallCounts) → mid ≡ calls_after_open answer old → Stops present turns ended mid new → Came mid new → CallsEnd turns (so_far (told_as ended)) old new
+pub serving_calls : (answer : Result (Unit {0}) FileError) (present : Bool) (turns : ℕ) (ended : Ended) (old mid new : CallCounts) → mid ≡ calls_after_open answer old → Stops present turns ended mid new → Came mid new → CallsEnd turns (so_far (recorded_as ended)) old new
 serving_calls answer present turns ended old mid new e stops came =
     let s : Stops present turns ended (calls_after_open answer old) new = subst (λ (x : CallCounts). Stops present turns ended x new) e stops in
     let c : Came (calls_after_open answer old) new = subst (λ (x : CallCounts). Came x new) e came in
-    record { few = s.few; opens = subst (λ (n : ℕ). n ≤ old.opens + 1) (sym c.opens) (opens-most answer old.opens); wants = s.wants; starved = λ ne. ap (λ (x : Ended). so_far (told_as x)) (s.starved ne); late = s.late }
+    record { few = s.few; opens = subst (λ (n : ℕ). n ≤ old.opens + 1) (sym c.opens) (opens-most answer old.opens); wants = s.wants; starved = λ ne. ap (λ (x : Ended). so_far (recorded_as x)) (s.starved ne); late = s.late }
 
-pub idle_end : (present : Bool) (ended : Ended) (old mid new : Faults) → mid ≡ old → (present ≡ false → NoFault mid new) → OnFalse present (IdleCause (so_far (told_as ended)) old new)
+pub idle_end : (present : Bool) (ended : Ended) (old mid new : Faults) → mid ≡ old → (present ≡ false → NoFault mid new) → OnFalse present (IdleCause (so_far (recorded_as ended)) old new)
 idle_end true ended old mid new a b = tt
 idle_end false ended old mid new a b = by_end ended (subst (λ (x : Faults). NoFault x new) a (b refl)) where
-  by_end : (x : Ended) → NoFault old new → IdleCause (so_far (told_as x)) old new
+  by_end : (x : Ended) → NoFault old new → IdleCause (so_far (recorded_as x)) old new
   by_end ends.OutOfMemory h = tt
   by_end ends.ServerEnd h = h
   by_end ends.Disconnected h = h
@@ -149,7 +149,7 @@ idle_end false ended old mid new a b = by_end ended (subst (λ (x : Faults). NoF
   by_end (ends.StartRefused index) h = h
   by_end ends.Spent h = h
 
-pub start_end : (ended : Ended) (refused : Option ℕ) → ((index : ℕ) → ended ≡ ends.StartRefused index → refused ≡ Some index) → StartCause (so_far (told_as ended)) refused
+pub start_end : (ended : Ended) (refused : Option ℕ) → ((index : ℕ) → ended ≡ ends.StartRefused index → refused ≡ Some index) → StartCause (so_far (recorded_as ended)) refused
 start_end (ends.StartRefused index) refused h = subst (λ (x : Option ℕ). IsSome x) (sym (h index refl)) refl
 start_end ends.ServerEnd refused h = tt
 start_end ends.Disconnected refused h = tt

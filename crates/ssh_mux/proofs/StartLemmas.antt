@@ -11,7 +11,7 @@ use Rattle.conf_rules.specs.declared.value.Value.{Value}
 use Rattle.conf_rules.specs.Listing.{is_set}
 use Rattle.conf_rules.specs.Resolution.{all_rows}
 use Rattle.conf_rules.specs.Rows.{Row, given, value, values, values_among}
-use Rattle.conf_rules.specs.Told.{Told}
+use Rattle.conf_rules.specs.Recorded.{Recorded}
 use Rattle.mux_engine.specs.Run.{IsRun, Rested, RestedAt}
 use Rattle.mux_engine.specs.Sides.{AtWaits, Resting, RestsOf}
 use Rattle.mux_history.specs.Log.{Setting}
@@ -36,14 +36,14 @@ use Rattle.ssh_mux.specs.declared.ending.Ending.TheVariants as endings
 use Rattle.ssh_mux.specs.declared.status.Status.{Status}
 use Rattle.ssh_mux.specs.declared.status.Status.TheVariants as statuses
 use Rattle.ssh_mux.specs.Outcomes.{machine}
-use Rattle.ssh_mux.specs.Places.{told_over}
+use Rattle.ssh_mux.specs.Places.{recorded_over}
 use Rattle.ssh_mux.specs.Asks.{forward_kind}
 use Rattle.ssh_mux.specs.Sharing.{IsShared, Shares}
 use Rattle.ssh_mux.specs.Starts.{BeganWith, BegunRests, MustsAs, SettledFor, StartsAs, must_for, starts_due, starts_for, value_starts}
 use Rattle.ssh_mux.proofs.RefusalLemmas.{Promise, kept}
 
 -- the settings of a resolution
-pub settled-for : (files : Option (List Pair)) (ends_with : Option (List CommandStatus)) (facts : Facts) (asked : Asked) (settings : List Given) → Promise files ends_with facts asked (λ told. Resolved told (Ok settings)) → SettledFor (told_over (machine files ends_with facts) asked) settings
+pub settled-for : (files : Option (List Pair)) (ends_with : Option (List CommandStatus)) (facts : Facts) (asked : Asked) (settings : List Given) → Promise files ends_with facts asked (λ recorded. Resolved recorded (Ok settings)) → SettledFor (recorded_over (machine files ends_with facts) asked) settings
 unfolding machine
 settled-for None ends_with facts asked settings h = tt
 settled-for (Some files) None facts asked settings h = tt
@@ -76,9 +76,9 @@ same-starts rows settings keeps = same-made (first_value ClearAllForwardings set
     (same-first rows settings keeps ClearAllForwardings) (same-first rows settings keeps GatewayPorts) (same-first rows settings keeps ExitOnForwardFailure) (same-values rows settings keeps LocalForward) (same-values rows settings keeps RemoteForward) (same-values rows settings keeps DynamicForward)
 
 -- a house begins as is due by what is told
-pub starts-told : (told : Option Told) (settings : List Given) → SettledFor told settings → StartsAs told (starts_for settings)
-starts-told None settings s = tt
-starts-told (Some told) settings s = same-starts (all_rows told) settings s
+pub starts-recorded : (recorded : Option Recorded) (settings : List Given) → SettledFor recorded settings → StartsAs recorded (starts_for settings)
+starts-recorded None settings s = tt
+starts-recorded (Some recorded) settings s = same-starts (all_rows recorded) settings s
 
 -- ---- a run with a house that has begun
 
@@ -97,7 +97,7 @@ module _ (May : HouseReply → Type 0) (R R' : AtWaits) (stands begun stands' : 
     picks = h.picks;
     replies = h.replies;
     rows = h.rows;
-    tells = h.tells;
+    records = h.records;
     of_wire = h.of_wire;
     may = h.may;
     written = h.written;
@@ -143,7 +143,7 @@ module _ {T : Type 0} (state : T → HouseState) (present : Bool) (first : T) (s
   shared-begun : (result : Result Status Ending) → IsShared May First (state first).stands stands' policy pid turns before now start seen refused result → IsShared May Second (BeganWith starts) stands' policy pid turns before now start seen refused result
   shared-begun result h = record {
     answer = h.answer;
-    is_told = h.is_told;
+    is_recorded = h.is_recorded;
     run = run-of May First.rests Second.rests (state first).stands (BeganWith starts) stands' present policy pid turns before now start seen refused at-rest stood-for h.answer h.run;
   }
 
@@ -160,7 +160,7 @@ pub musts-begun : (status : Status) (due must : Bool) → must ≡ due → Musts
 musts-begun statuses.Memory due must e = tt
 musts-begun status due must e = e
 
-pub musts-told : (told : Option Told) (settings : List Given) (status : Status) (must : Bool) → SettledFor told settings → MustsAs status (Some (is_set (first_value ExitOnForwardFailure settings))) must → MustsAs status (must_for told) must
-musts-told None settings statuses.Memory must s h = tt
-musts-told None settings status must s h = tt
-musts-told (Some told) settings status must s h = subst (λ x. MustsAs status (Some x) must) (ap is_set (same-first (all_rows told) settings s ExitOnForwardFailure)) h
+pub musts-recorded : (recorded : Option Recorded) (settings : List Given) (status : Status) (must : Bool) → SettledFor recorded settings → MustsAs status (Some (is_set (first_value ExitOnForwardFailure settings))) must → MustsAs status (must_for recorded) must
+musts-recorded None settings statuses.Memory must s h = tt
+musts-recorded None settings status must s h = tt
+musts-recorded (Some recorded) settings status must s h = subst (λ x. MustsAs status (Some x) must) (ap is_set (same-first (all_rows recorded) settings s ExitOnForwardFailure)) h

@@ -8,7 +8,7 @@ use Rattle.conf_rules.specs.Diagnostics as ends
 use Rattle.conf_rules.specs.Diagnostics.{Ending}
 use Rattle.conf_rules.specs.Outcome.{Ends, Writes, Opens, Drills, Joins}
 use Rattle.conf_rules.specs.Resolution.{all_rows}
-use Rattle.conf_rules.specs.Told.{Told}
+use Rattle.conf_rules.specs.Recorded.{Recorded}
 use Rattle.mux_engine.specs.Sides.{Resting}
 use Rattle.mux_history.specs.Policy.{Policy}
 use Rattle.mux_outside.specs.HouseCalls.{HouseCall}
@@ -236,16 +236,16 @@ only-memory endings.MasterRefused h = absurd cc
 only-memory endings.MasterBroke h = absurd cc
 
 -- a house begins somehow, as is due
-pub some-begun : (by : Option Told) (So : Starts → Type 0) → ((starts : Starts) → So starts) → Begun by So
+pub some-begun : (by : Option Recorded) (So : Starts → Type 0) → ((starts : Starts) → So starts) → Begun by So
 some-begun None So h = let none : Starts = record { asks = []; gateway = false; must = false } in record { starts = none; due = tt; so = h none }
-some-begun (Some told) So h = record { starts = starts_due (all_rows told); due = refl; so = h (starts_due (all_rows told)) }
+some-begun (Some recorded) So h = record { starts = starts_due (all_rows recorded); due = refl; so = h (starts_due (all_rows recorded)) }
 
-pub still-shared : (k : Known) (meant : MeantEnding) (May : HouseReply → Type 0) (Rest : Starts → Resting) (stands : List HouseCall → Type 0) (by : Option Told) (policy : Policy) (pid turns : ℕ) (told : Option (List HouseMark)) (seen : Seen) (refused : Option ℕ) → IsRefused k (shown meant) → OnTrue (may_share k (status_of (shown meant))) (Begun by (λ starts. Shares May (Rest starts) (BeganWith starts) stands policy pid turns told told seen.told seen refused (Err meant)))
-still-shared k meant May Rest stands by policy pid turns told seen refused h = on (unshared k (shown meant) h) where
-  on : Unshared k (shown meant) → OnTrue (may_share k (status_of (shown meant))) (Begun by (λ starts. Shares May (Rest starts) (BeganWith starts) stands policy pid turns told told seen.told seen refused (Err meant)))
-  on (inl e) = not_true (may_share k (status_of (shown meant))) (Begun by (λ starts. Shares May (Rest starts) (BeganWith starts) stands policy pid turns told told seen.told seen refused (Err meant))) e
-  on (inr e) = on_true (may_share k (status_of (shown meant))) (Begun by (λ starts. Shares May (Rest starts) (BeganWith starts) stands policy pid turns told told seen.told seen refused (Err meant)))
-      (subst (λ m. Begun by (λ starts. Shares May (Rest starts) (BeganWith starts) stands policy pid turns told told seen.told seen refused (Err m))) (sym (only-memory meant e)) (some-begun by (λ starts. Shares May (Rest starts) (BeganWith starts) stands policy pid turns told told seen.told seen refused (Err endings.NoMemory)) (λ starts. inl (record { same_wire = refl; same_house = refl }))))
+pub still-shared : (k : Known) (meant : MeantEnding) (May : HouseReply → Type 0) (Rest : Starts → Resting) (stands : List HouseCall → Type 0) (by : Option Recorded) (policy : Policy) (pid turns : ℕ) (recorded : Option (List HouseMark)) (seen : Seen) (refused : Option ℕ) → IsRefused k (shown meant) → OnTrue (may_share k (status_of (shown meant))) (Begun by (λ starts. Shares May (Rest starts) (BeganWith starts) stands policy pid turns recorded recorded seen.recorded seen refused (Err meant)))
+still-shared k meant May Rest stands by policy pid turns recorded seen refused h = on (unshared k (shown meant) h) where
+  on : Unshared k (shown meant) → OnTrue (may_share k (status_of (shown meant))) (Begun by (λ starts. Shares May (Rest starts) (BeganWith starts) stands policy pid turns recorded recorded seen.recorded seen refused (Err meant)))
+  on (inl e) = not_true (may_share k (status_of (shown meant))) (Begun by (λ starts. Shares May (Rest starts) (BeganWith starts) stands policy pid turns recorded recorded seen.recorded seen refused (Err meant))) e
+  on (inr e) = on_true (may_share k (status_of (shown meant))) (Begun by (λ starts. Shares May (Rest starts) (BeganWith starts) stands policy pid turns recorded recorded seen.recorded seen refused (Err meant)))
+      (subst (λ m. Begun by (λ starts. Shares May (Rest starts) (BeganWith starts) stands policy pid turns recorded recorded seen.recorded seen refused (Err m))) (sym (only-memory meant e)) (some-begun by (λ starts. Shares May (Rest starts) (BeganWith starts) stands policy pid turns recorded recorded seen.recorded seen refused (Err endings.NoMemory)) (λ starts. inl (record { same_wire = refl; same_house = refl }))))
 
 -- there may be no memory for anything
 pub starved-due : (k : Known) → IsRefused k ends.NoMemory

@@ -11,8 +11,8 @@ use Rattle.conf_rules.specs.declared.causes.ResolveError.{ResolveError}
 use Rattle.conf_rules.specs.declared.causes.ResolveError.TheVariants.{At}
 use Rattle.conf_rules.specs.declared.causes.ValueError.{ValueError}
 use Rattle.conf_rules.specs.declared.causes.ValueError.TheVariants.{BadForward}
-use Rattle.conf_rules.specs.declared.control.Control.{Control}
-use Rattle.conf_rules.specs.declared.control.Control.TheVariants as controls
+use Rattle.conf_rules.specs.declared.control.MasterCommand.{MasterCommand}
+use Rattle.conf_rules.specs.declared.control.MasterCommand.TheVariants as controls
 use Rattle.conf_rules.specs.declared.key.Key.{Key}
 use Rattle.conf_rules.specs.declared.key.Key.TheVariants.{LocalForward, RemoteForward, DynamicForward}
 use Rattle.conf_rules.specs.declared.value.End.{End}
@@ -89,13 +89,13 @@ abbrev pub refused_line : {A : Type 0} → ℕ → ValueError → Result A Resol
 refused_line word e = Err (At (codes "command line") word (BadValue e))
 
 -- what can't be asked for is no forwarding
-abbrev pub told_ask : ℕ → Option StartAsk → Result StartAsk ResolveError
-told_ask word None = refused_line word BadForward
-told_ask word (Some ask) = Ok ask
+abbrev pub recorded_ask : ℕ → Option StartAsk → Result StartAsk ResolveError
+recorded_ask word None = refused_line word BadForward
+recorded_ask word (Some ask) = Ok ask
 
 -- the forwarding of a value
 abbrev pub value_ask : ℕ → Key → Result Value ValueError → Result StartAsk ResolveError
-value_ask word key (Ok (values.Forward f)) = told_ask word (start_ask (forward_kind key) f)
+value_ask word key (Ok (values.Forward f)) = recorded_ask word (start_ask (forward_kind key) f)
 value_ask word key (Ok value) = refused_line word BadForward
 value_ask word key (Err e) = refused_line word e
 
@@ -131,7 +131,7 @@ abbrev pub forwards_for : Asked → Bool → Result Asks ResolveError
 forwards_for asked opening = asks_from asked.lines >>= λ what. Ok (asks.Forwards opening what)
 
 -- what words ask of a running master, or the refusal of a forwarding that has no reading
-abbrev pub asks_for : Asked → Control → Result Asks ResolveError
+abbrev pub asks_for : Asked → MasterCommand → Result Asks ResolveError
 asks_for asked controls.Check = Ok asks.Check
 asks_for asked controls.Exit = Ok asks.Exit
 asks_for asked controls.Stop = Ok asks.Stop
@@ -139,7 +139,7 @@ asks_for asked controls.Forward = forwards_for asked true
 asks_for asked controls.Cancel = forwards_for asked false
 
 -- forwardings are named where they are asked for
-abbrev pub NamesForwards : Control → List AskedLine → Type 0
+abbrev pub NamesForwards : MasterCommand → List AskedLine → Type 0
 NamesForwards control ls =
     OnTrue (is_about_forwardings control) (IsTrue (list_any is_forwarding ls))
 

@@ -7,7 +7,7 @@ use Rattle.conf_rules.specs.Texts.{Bytes}
 use Rattle.mux_client.specs.declared.asks.Asks.{Asks}
 use Rattle.mux_client.specs.declared.talked.Talked.{Talked}
 use Rattle.mux_client.specs.declared.talked.Talked.TheVariants as talks
-use Rattle.mux_client.specs.Journal.{TalksTold, ShowsTold}
+use Rattle.mux_client.specs.Journal.{TalksRecorded, ShowsRecorded}
 use Rattle.mux_outside.specs.Counts.{counted}
 use Rattle.mux_outside.specs.declared.mark.Mark.{Mark}
 use Rattle.mux_outside.specs.CallCounts.{CallCounts}
@@ -22,7 +22,7 @@ use Rattle.ssh_mux.specs.Answers.{is_silent, may_ask, so_far}
 use Rattle.ssh_mux.specs.Asks.{asks_for}
 use Rattle.ssh_mux.specs.Outcomes.{Known, Certain, Client}
 use Rattle.ssh_mux.specs.Causes.{OutCause}
-use Rattle.ssh_mux.specs.Sharing.{CallsEnd, IdleCause, TellsEnd, WireCause}
+use Rattle.ssh_mux.specs.Sharing.{CallsEnd, IdleCause, RecordsEnd, WireCause}
 use Rattle.ssh_mux.specs.World.{OutState, World}
 
 -- ---- the joining
@@ -61,14 +61,14 @@ JoinsOnce known status before now = now ≡ before
 -- ---- the talk
 
 -- how the end of a talk is told
-abbrev pub talk_told : Talked → Result Status MeantEnding
-talk_told talks.Done = Ok Done
-talk_told (talks.Refused id) = Err endings.MasterRefused
-talk_told (talks.BadMaster at) = Err endings.MasterBroke
-talk_told talks.WriteFault = Ok Write
-talk_told talks.ServerFailed = Err endings.TransportFailed
-talk_told talks.Spent = Err endings.TurnsSpent
-talk_told talks.OutOfMemory = Err endings.NoMemory
+abbrev pub talk_recorded : Talked → Result Status MeantEnding
+talk_recorded talks.Done = Ok Done
+talk_recorded (talks.Refused id) = Err endings.MasterRefused
+talk_recorded (talks.BadMaster at) = Err endings.MasterBroke
+talk_recorded talks.WriteFault = Ok Write
+talk_recorded talks.ServerFailed = Err endings.TransportFailed
+talk_recorded talks.Spent = Err endings.TurnsSpent
+talk_recorded talks.OutOfMemory = Err endings.NoMemory
 
 -- whether a client ends so that found the control path and what it asks
 abbrev pub ends_asking : MeantEnding → Bool
@@ -86,32 +86,32 @@ EndsClient (Ok status) = IsTrue (is_silent status)
 EndsClient (Err ending) = IsTrue (ends_asking ending)
 
 -- nobody was asked: the wire and the output tell what they told before
-pub record IsUnasked (start told : Option (List Mark)) (out out' : Option (List ℕ)) : Type 0 where
-  pub same_wire : told ≡ start
+pub record IsUnasked (start recorded : Option (List Mark)) (out out' : Option (List ℕ)) : Type 0 where
+  pub same_wire : recorded ≡ start
   pub same_out : out' ≡ out
 
--- A talk that keeps its promises, and its very end; `start` and `told` are what the wire tells,
+-- A talk that keeps its promises, and its very end; `start` and `recorded` are what the wire tells,
 -- `out` and `out'` what the output does.
-pub record IsAsked (asks : Asks) (start told : Option (List Mark)) (out out' : Option (List ℕ))
+pub record IsAsked (asks : Asks) (start recorded : Option (List Mark)) (out out' : Option (List ℕ))
     (result : Result Status MeantEnding) : Type 0 where
   pub answer : Talked
-  pub is_told : result ≡ talk_told answer
-  pub talks : TalksTold asks answer start told
-  pub shows : ShowsTold asks answer start told out out'
+  pub is_recorded : result ≡ talk_recorded answer
+  pub talks : TalksRecorded asks answer start recorded
+  pub shows : ShowsRecorded asks answer start recorded out out'
 
 -- where the wire wasn't joined nobody was asked
 abbrev pub Converses : Asks → Option (List Mark) → Option (List Mark)
     → Option (List ℕ) → Option (List ℕ) → Result Status MeantEnding → Type 0
-Converses asks start told out out' (Err endings.NotOpened) = IsUnasked start told out out'
-Converses asks start told out out' (Err endings.NoMemory) =
-    IsUnasked start told out out' ⊎ IsAsked asks start told out out' (Err endings.NoMemory)
-Converses asks start told out out' result = IsAsked asks start told out out' result
+Converses asks start recorded out out' (Err endings.NotOpened) = IsUnasked start recorded out out'
+Converses asks start recorded out out' (Err endings.NoMemory) =
+    IsUnasked start recorded out out' ⊎ IsAsked asks start recorded out out' (Err endings.NoMemory)
+Converses asks start recorded out out' result = IsAsked asks start recorded out out' result
 
 -- the same of what words ask, unless that is refused
 abbrev pub ConversesOn : Result Asks ResolveError → Option (List Mark) → Option (List Mark)
     → Option (List ℕ) → Option (List ℕ) → Result Status MeantEnding → Type 0
-ConversesOn (Ok asks) start told out out' result = Converses asks start told out out' result
-ConversesOn (Err e) start told out out' result = IsUnasked start told out out'
+ConversesOn (Ok asks) start recorded out out' result = Converses asks start recorded out out' result
+ConversesOn (Err e) start recorded out out' result = IsUnasked start recorded out out'
 
 -- what a client asks: others ask nothing
 abbrev pub asks_in : Known → Option (Result Asks ResolveError)
@@ -122,49 +122,49 @@ asks_in known = None
 -- the same of what comes of words: only a client asks
 abbrev pub ConversesBy : Option (Result Asks ResolveError) → Option (List Mark)
     → Option (List Mark) → Option (List ℕ) → Option (List ℕ) → Result Status MeantEnding → Type 0
-ConversesBy (Some asks) start told out out' result = ConversesOn asks start told out out' result
-ConversesBy None start told out out' result = Unit
+ConversesBy (Some asks) start recorded out out' result = ConversesOn asks start recorded out out' result
+ConversesBy None start recorded out out' result = Unit
 
 abbrev pub ConversesFor : Known → Option (List Mark) → Option (List Mark)
     → Option (List ℕ) → Option (List ℕ) → Result Status MeantEnding → Type 0
-ConversesFor known start told out out' result =
-    OnTrue (may_ask known (so_far result)) (ConversesBy (asks_in known) start told out out' result)
+ConversesFor known start recorded out out' result =
+    OnTrue (may_ask known (so_far result)) (ConversesBy (asks_in known) start recorded out out' result)
 
 -- ---- the talk and its line
 
 -- a talk that keeps its promises, and the line of its very end
-pub record IsAnswered (asks : Asks) (start told : Option (List Mark)) (out out' : Option (List ℕ))
+pub record IsAnswered (asks : Asks) (start recorded : Option (List Mark)) (out out' : Option (List ℕ))
     (status : Status) (err err' : Option (List ℕ)) (faults faults' : ℕ) : Type 0 where
   pub answer : Talked
-  pub talks : TalksTold asks answer start told
-  pub shows : ShowsTold asks answer start told out out'
-  pub line : TellsEnd (talk_told answer) status err err' faults faults'
+  pub talks : TalksRecorded asks answer start recorded
+  pub shows : ShowsRecorded asks answer start recorded out out'
+  pub line : RecordsEnd (talk_recorded answer) status err err' faults faults'
 
 -- the same of the program: where its wire wasn't joined nobody was asked
 abbrev pub Answers : Asks → Option (List Mark) → Option (List Mark) → Option (List ℕ)
     → Option (List ℕ) → Status → Option (List ℕ) → Option (List ℕ) → ℕ → ℕ → Type 0
-Answers asks start told out out' Open err err' faults faults' = IsUnasked start told out out'
-Answers asks start told out out' Memory err err' faults faults' =
-    IsUnasked start told out out'
-    ⊎ IsAnswered asks start told out out' Memory err err' faults faults'
-Answers asks start told out out' status err err' faults faults' =
-    IsAnswered asks start told out out' status err err' faults faults'
+Answers asks start recorded out out' Open err err' faults faults' = IsUnasked start recorded out out'
+Answers asks start recorded out out' Memory err err' faults faults' =
+    IsUnasked start recorded out out'
+    ⊎ IsAnswered asks start recorded out out' Memory err err' faults faults'
+Answers asks start recorded out out' status err err' faults faults' =
+    IsAnswered asks start recorded out out' status err err' faults faults'
 
 -- the same of what words ask
 abbrev pub AnswersBy : Option (Result Asks ResolveError) → Option (List Mark)
     → Option (List Mark) → Option (List ℕ) → Option (List ℕ) → Status → Option (List ℕ)
     → Option (List ℕ) → ℕ → ℕ → Type 0
-AnswersBy (Some (Ok asks)) start told out out' status err err' faults faults' =
-    Answers asks start told out out' status err err' faults faults'
-AnswersBy (Some (Err e)) start told out out' status err err' faults faults' =
-    IsUnasked start told out out'
-AnswersBy None start told out out' status err err' faults faults' = Unit
+AnswersBy (Some (Ok asks)) start recorded out out' status err err' faults faults' =
+    Answers asks start recorded out out' status err err' faults faults'
+AnswersBy (Some (Err e)) start recorded out out' status err err' faults faults' =
+    IsUnasked start recorded out out'
+AnswersBy None start recorded out out' status err err' faults faults' = Unit
 
 -- the same of what comes of words: only a client asks
 abbrev pub AnswersFor : Known → Status → World → World → Type 0
 AnswersFor known status before after = OnTrue (may_ask known status) (AnswersBy (asks_in known)
-    before.wire.seen.told after.wire.seen.told before.out.told after.out.told status
-    before.err.told after.err.told before.err.faults after.err.faults)
+    before.wire.seen.recorded after.wire.seen.recorded before.out.recorded after.out.recorded status
+    before.err.recorded after.err.recorded before.err.faults after.err.faults)
 
 -- ---- turns
 
@@ -201,7 +201,7 @@ pub record ClientLeaves (known : Known) (turns : ℕ) (result : Result Status Me
   pub openings : new.openings ≡ old.openings
   pub unopened : new.calls.opens ≡ old.calls.opens
   -- then a running master was asked
-  pub talked : ConversesFor known old.seen.told new.seen.told out.told out'.told result
+  pub talked : ConversesFor known old.seen.recorded new.seen.recorded out.recorded out'.recorded result
   -- the sockets failed to open, and the connection failed, only where that was counted
   pub wire_cause : OnTrue (may_ask known (so_far result))
       (WireCause (so_far result) faults faults')

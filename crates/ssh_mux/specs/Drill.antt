@@ -17,7 +17,7 @@ use Rattle.mux_outside.specs.declared.house.HouseReply.TheVariants.{Refused}
 use Rattle.mux_outside.specs.declared.mark.Mark.{Mark}
 use Rattle.mux_outside.specs.declared.no_house.NoHouse.{NoHouse}
 use Rattle.mux_outside.specs.declared.turn.Tally.{Tally}
-use Rattle.mux_outside.specs.Sink.{TakesTold}
+use Rattle.mux_outside.specs.Sink.{TakesRecorded}
 use Rattle.ssh_mux.specs.declared.ending.Ending.{Ending as MeantEnding}
 use Rattle.ssh_mux.specs.declared.ending.Ending.TheVariants as endings
 use Rattle.ssh_mux.specs.declared.status.Status.{Status}
@@ -27,7 +27,7 @@ use Rattle.ssh_mux.specs.Ending.{shown}
 use Rattle.ssh_mux.specs.Err.{Reports, TookSome}
 use Rattle.ssh_mux.specs.Master.{ends_sharing}
 use Rattle.ssh_mux.specs.Out.{HandsOver}
-use Rattle.ssh_mux.specs.Sharing.{IsUnserved, OpensAt, told_as}
+use Rattle.ssh_mux.specs.Sharing.{IsUnserved, OpensAt, recorded_as}
 use Rattle.ssh_mux.specs.World.{World}
 
 -- ---- texts
@@ -68,16 +68,16 @@ AnyCalls calls = Unit {0}
 -- What was written of the end of a run. Where it ended well: the summary, without a word; a prefix
 -- of it where it could not be written; or nothing but the line of want of memory. Else the line of
 -- its ending.
-abbrev pub DrillTells : Result Status MeantEnding → Tally → Status
+abbrev pub DrillRecords : Result Status MeantEnding → Tally → Status
     → Option (List ℕ) → Option (List ℕ) → Option (List ℕ) → Option (List ℕ) → ℕ → ℕ → Type 0
-DrillTells (Ok due) tally Done out out' err err' faults faults' =
-    TakesTold (Ok tt) out out' (drill_text tally) × (err' ≡ err)
-DrillTells (Ok due) tally Write out out' err err' faults faults' =
-    TakesTold (Err Failed) out out' (drill_text tally) × (err' ≡ err)
-DrillTells (Ok due) tally Memory out out' err err' faults faults' =
+DrillRecords (Ok due) tally Done out out' err err' faults faults' =
+    TakesRecorded (Ok tt) out out' (drill_text tally) × (err' ≡ err)
+DrillRecords (Ok due) tally Write out out' err err' faults faults' =
+    TakesRecorded (Err Failed) out out' (drill_text tally) × (err' ≡ err)
+DrillRecords (Ok due) tally Memory out out' err err' faults faults' =
     (out' ≡ out) × TookSome (line_of NoMemory) err err'
-DrillTells (Ok due) tally status out out' err err' faults faults' = ⊥
-DrillTells (Err ending) tally status out out' err err' faults faults' =
+DrillRecords (Ok due) tally status out out' err err' faults faults' = ⊥
+DrillRecords (Err ending) tally status out out' err err' faults faults' =
     (out' ≡ out) × Reports status (shown ending) err err' faults faults'
 
 -- A run that keeps its promises, for clients that are permitted anything and are told process id 0,
@@ -89,7 +89,7 @@ pub record IsDrilled (turns : ℕ) (start : Option (List Mark)) (seen : Seen) (t
   pub run :
       IsRun RefusesAll NoneRests.rests AnyCalls AnyCalls false any_policy 0 turns None None start
       seen None answer
-  pub ends : DrillTells (told_as answer) tally status out out' err err' faults faults'
+  pub ends : DrillRecords (recorded_as answer) tally status out out' err err' faults faults'
 
 -- nothing is served, and no summary is written
 abbrev pub IsUndrilled :
@@ -112,8 +112,8 @@ DrillServes turns start seen tally status out out' err err' faults faults' =
 pub record IsDrill (words : List Bytes) (turns : ℕ) (status : Status) (before after : World) :
     Type 0 where
   pub opened : OpensAt [] (drill_transport words) status before.wire.openings after.wire.openings
-  pub served : DrillServes turns before.wire.seen.told after.wire.seen after.wire.tally status
-      before.out.told after.out.told before.err.told after.err.told before.err.faults
+  pub served : DrillServes turns before.wire.seen.recorded after.wire.seen after.wire.tally status
+      before.out.recorded after.out.recorded before.err.recorded after.err.recorded before.err.faults
       after.err.faults
 
 -- ---- before a line is written
@@ -142,7 +142,7 @@ pub record RunsDrill (turns : ℕ) (start : Option (List Mark)) (seen : Seen) (t
   pub run :
       IsRun RefusesAll NoneRests.rests AnyCalls AnyCalls false any_policy 0 turns None None start
       seen None answer
-  pub ends : SumsUp (told_as answer) tally result out out'
+  pub ends : SumsUp (recorded_as answer) tally result out out'
 
 -- where the wire wasn't opened nothing is served
 abbrev pub DrillShares : ℕ → Option (List Mark) → Seen → Tally
@@ -160,4 +160,4 @@ pub record DrillGoes (words : List Bytes) (turns : ℕ) (result : Result Status 
     (old new : WireState) (out out' : Option (List ℕ)) : Type 0 where
   pub ends : EndsDrill result
   pub opened : OpensAt [] (drill_transport words) (so_far result) old.openings new.openings
-  pub shared : DrillShares turns old.seen.told new.seen new.tally result out out'
+  pub shared : DrillShares turns old.seen.recorded new.seen new.tally result out out'

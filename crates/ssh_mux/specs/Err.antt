@@ -1,7 +1,7 @@
 -- What the standard error has taken.
 use Rattle.std.specs.Prelude.{◌≡◌, ℕ, List, ◌++◌, ◌⊎◌, Option, Some, None, Result, Ok, Err}
 use Rattle.conf_rules.specs.Diagnostics.{Ending, line_of, NoMemory}
-use Rattle.conf_rules.specs.Told.{Told}
+use Rattle.conf_rules.specs.Recorded.{Recorded}
 use Rattle.mux_outside.specs.Counts.{Rose, counted}
 use Rattle.mux_outside.specs.Sink.{TookPrefix}
 use Rattle.ssh_mux.specs.declared.ending.Ending.{Ending as MeantEnding}
@@ -45,31 +45,31 @@ Reports result ending before now faults faults' =
 
 -- what a call came to was told so, with this status: without a line where it has a status of its
 -- own, and else with the line of its ending, which was handed over once
-abbrev pub IsToldBy : Result Status MeantEnding → Status → OutState → OutState → Type 0
-IsToldBy (Ok due) status err err' = (status ≡ due) × (err' ≡ err)
-IsToldBy (Err ending) status err err' =
-    Reports status (shown ending) err.told err'.told err.faults err'.faults
+abbrev pub IsRecordedBy : Result Status MeantEnding → Status → OutState → OutState → Type 0
+IsRecordedBy (Ok due) status err err' = (status ≡ due) × (err' ≡ err)
+IsRecordedBy (Err ending) status err err' =
+    Reports status (shown ending) err.recorded err'.recorded err.faults err'.faults
     × (err'.puts ≡ counted err.puts)
 
 -- the run ended by an ending that is due, whose line was handed over, and whose fault, if it is
 -- one, raised its count and is told where it came up: a failed read with its path
-pub record EndsBy (known : Known) (told : Option Told) (status : Status) (before after : World) :
+pub record EndsBy (known : Known) (recorded : Option Recorded) (status : Status) (before after : World) :
     Type 0 where
   pub ending : Ending
   pub is_due : IsDue known ending
   pub has_status : status ≡ status_of ending
-  pub line : TookLine (line_of ending) before.err.told after.err.told before.err.faults
+  pub line : TookLine (line_of ending) before.err.recorded after.err.recorded before.err.faults
       after.err.faults
   pub cause : EndCause ending before.files.faults after.files.faults before.commands.faults
       after.commands.faults
-  pub place : EndPlace told ending before.commands.ran after.commands.ran before.files.failed
+  pub place : EndPlace recorded ending before.commands.ran after.commands.ran before.files.failed
       after.files.failed
 
 -- How a run ended: without a word where it went well or `out` failed, with the line of its ending
 -- otherwise; of the line of want of memory some part may be written.
-abbrev pub Ended : Known → Option Told → Status → World → World → Type 0
-Ended known told Done before after = IsWell known Done × (after.err.told ≡ before.err.told)
-Ended known told Write before after = IsWell known Write × (after.err.told ≡ before.err.told)
-Ended known told Memory before after =
-    TookSome (line_of NoMemory) before.err.told after.err.told
-Ended known told status before after = EndsBy known told status before after
+abbrev pub Ended : Known → Option Recorded → Status → World → World → Type 0
+Ended known recorded Done before after = IsWell known Done × (after.err.recorded ≡ before.err.recorded)
+Ended known recorded Write before after = IsWell known Write × (after.err.recorded ≡ before.err.recorded)
+Ended known recorded Memory before after =
+    TookSome (line_of NoMemory) before.err.recorded after.err.recorded
+Ended known recorded status before after = EndsBy known recorded status before after

@@ -11,13 +11,13 @@ use Rattle.ssh_mux.specs.Answers.{Comes, Finds, so_far}
 use Rattle.ssh_mux.specs.Causes.{Caused}
 use Rattle.ssh_mux.specs.Commands.{RunsFor, RunsUnless, commands_of}
 use Rattle.ssh_mux.specs.Outcomes.{Known, machine, of_command, of_words}
-use Rattle.ssh_mux.specs.Places.{Placed, told_over}
+use Rattle.ssh_mux.specs.Places.{Placed, recorded_over}
 use Rattle.ssh_mux.specs.Reads.{ReadsFor, ReadsUnless}
 use Rattle.ssh_mux.specs.World.{Sources}
 
 -- the machine of these sources, where they tell
 abbrev pub machine_of_sources : Sources → Facts → Option Machine
-machine_of_sources from facts = machine from.files.told from.commands.told facts
+machine_of_sources from facts = machine from.files.recorded from.commands.recorded facts
 
 -- what is known to come of a command over them
 abbrev pub coming : Sources → Facts → Command → Known
@@ -35,9 +35,9 @@ pub record Looks (facts : Facts) (command : Command) (asked : Asked) (result : R
   pub exact : Comes (coming old facts command) result
   pub ran : RunsFor (commands_of (machine_of_sources old facts) command) (so_far result)
       old.commands.ran new.commands.ran
-  pub read : ReadsFor (told_over (machine_of_sources old facts) asked) (so_far result)
+  pub read : ReadsFor (recorded_over (machine_of_sources old facts) asked) (so_far result)
       old.files.readings new.files.readings
-  pub place : Placed (told_over (machine_of_sources old facts) asked) result
+  pub place : Placed (recorded_over (machine_of_sources old facts) asked) result
       old.commands.ran new.commands.ran old.files.failed new.files.failed
   pub cause : Caused result old.files.faults new.files.faults old.commands.faults
       new.commands.faults
@@ -50,9 +50,9 @@ pub record FoundFor {A : Type 0} (shows : A → Outcome) (unknown : Known) (fact
   pub exact : Finds shows unknown (coming old facts command) result
   pub ran : RunsUnless (commands_of (machine_of_sources old facts) command) result
       old.commands.ran new.commands.ran
-  pub read : ReadsUnless (told_over (machine_of_sources old facts) asked) result
+  pub read : ReadsUnless (recorded_over (machine_of_sources old facts) asked) result
       old.files.readings new.files.readings
-  pub place : Placed (told_over (machine_of_sources old facts) asked) result
+  pub place : Placed (recorded_over (machine_of_sources old facts) asked) result
       old.commands.ran new.commands.ran old.files.failed new.files.failed
   pub cause : Caused result old.files.faults new.files.faults old.commands.faults
       new.commands.faults

@@ -4,7 +4,7 @@ use Rattle.std.specs.Bool.{OnFalse}
 use Rattle.conf_rules.specs.Outcome.{Writes, Drills, Joins}
 use Rattle.conf_rules.specs.Texts.{Bytes}
 use Rattle.mux_outside.specs.declared.file_error.FileError.TheVariants.{Failed}
-use Rattle.mux_outside.specs.Sink.{TakesTold}
+use Rattle.mux_outside.specs.Sink.{TakesRecorded}
 use Rattle.ssh_mux.specs.declared.ending.Ending.{Ending}
 use Rattle.ssh_mux.specs.declared.ending.Ending.TheVariants as endings
 use Rattle.ssh_mux.specs.declared.status.Status.{Status}
@@ -16,8 +16,8 @@ use Rattle.ssh_mux.specs.Outcomes.{Known, Certain, Listing, Client}
 -- memory
 abbrev pub HandsOver :
     Result Status Ending → Bytes → Option (List ℕ) → Option (List ℕ) → Type 0
-HandsOver (Ok Done) text before now = TakesTold (Ok tt) before now text
-HandsOver (Ok Write) text before now = TakesTold (Err Failed) before now text
+HandsOver (Ok Done) text before now = TakesRecorded (Ok tt) before now text
+HandsOver (Ok Write) text before now = TakesRecorded (Err Failed) before now text
 HandsOver (Err endings.NoMemory) text before now = now ≡ before
 HandsOver result text before now = ⊥
 
@@ -31,8 +31,8 @@ OutStays status known before now = now ≡ before
 -- the listing, of which a prefix where it failed, and nothing with any other status; where it isn't
 -- known, some listing; of a drill that writes, `IsDrill` says what
 abbrev pub OutTakes : Status → Known → Option (List ℕ) → Option (List ℕ) → Type 0
-OutTakes Done (Certain (Writes text)) before now = TakesTold (Ok tt) before now text
-OutTakes Write (Certain (Writes text)) before now = TakesTold (Err Failed) before now text
+OutTakes Done (Certain (Writes text)) before now = TakesRecorded (Ok tt) before now text
+OutTakes Write (Certain (Writes text)) before now = TakesRecorded (Err Failed) before now text
 OutTakes Done (Certain (Drills seed clients messages)) before now = Unit
 OutTakes Write (Certain (Drills seed clients messages)) before now = Unit
 OutTakes Done Listing before now = Unit

@@ -3,7 +3,7 @@ use Rattle.std.specs.Prelude.{Bool, true, false, List, Option, Some, None, Ok, E
 use Rattle.conf_rules.specs.declared.asked.Asked.{Asked}
 use Rattle.conf_rules.specs.declared.command.Command.{Command}
 use Rattle.conf_rules.specs.declared.command.Command.TheVariants as commands
-use Rattle.conf_rules.specs.declared.control.Control.{Control}
+use Rattle.conf_rules.specs.declared.control.MasterCommand.{MasterCommand}
 use Rattle.conf_rules.specs.CommandLine.{ReadCommand}
 use Rattle.conf_rules.specs.Diagnostics.{BadWords}
 use Rattle.conf_rules.specs.Outcome.{Outcome, Ends, Writes, Opens, Drills, Joins, Machine}
@@ -23,7 +23,7 @@ pub data Known : Type 0 where
   Certain : Outcome → Known
   Listing : Known
   Master : (transport : Bytes) (opens listens : List Bytes) → Known
-  Client : (asked : Asked) (what : Control) → Known
+  Client : (asked : Asked) (what : MasterCommand) → Known
 
 -- ---- the machine
 
@@ -48,7 +48,7 @@ machine files statuses facts = None
 abbrev pub untold : Command → Known
 untold (commands.List asked) = Listing
 untold (commands.Master asked transport opens listens) = Master transport opens listens
-untold (commands.Control asked what) = Client asked what
+untold (commands.MasterCommand asked what) = Client asked what
 untold (commands.Drill seed clients messages) = Certain (Drills seed clients messages)
 
 -- what is known of a command over a machine
@@ -71,7 +71,7 @@ abbrev pub opens_at : Bytes → List Bytes → List Bytes → Bytes → Outcome
 opens_at transport opens listens control = Opens control transport opens listens
 
 -- a client that asks at its control path
-abbrev pub joins_at : Asked → Control → Bytes → Outcome
+abbrev pub joins_at : Asked → MasterCommand → Bytes → Outcome
 joins_at asked what control = Joins control asked what
 
 -- ---- what it uses

@@ -3,7 +3,7 @@ use Rattle.std.specs.Prelude.{Option, Some, None, Result, Ok, Err}
 use Rattle.conf_reader.specs.ToRead.{ReadsSome}
 use Rattle.conf_resolve.specs.Readings.{Readings, ReadsAll}
 use Rattle.conf_rules.specs.ReadOrder.{all_reads}
-use Rattle.conf_rules.specs.Told.{Told}
+use Rattle.conf_rules.specs.Recorded.{Recorded}
 use Rattle.ssh_mux.specs.declared.ending.Ending.{Ending}
 use Rattle.ssh_mux.specs.declared.status.Status.{Status}
 use Rattle.ssh_mux.specs.declared.status.Status.TheVariants.{Config, Outside, Memory}
@@ -12,16 +12,16 @@ use Rattle.ssh_mux.specs.Status.{status_of}
 
 -- the files that the lines name were read, in their order and each with its limit; where the
 -- configuration is refused, or a fault or want of memory broke off, the first of them
-abbrev pub ReadsFor : Option Told → Status → Readings → Readings → Type 0
-ReadsFor (Some told) Config before now = ReadsSome (all_reads told) before now
-ReadsFor (Some told) Outside before now = ReadsSome (all_reads told) before now
-ReadsFor (Some told) Memory before now = ReadsSome (all_reads told) before now
-ReadsFor (Some told) status before now = ReadsAll (all_reads told) before now
+abbrev pub ReadsFor : Option Recorded → Status → Readings → Readings → Type 0
+ReadsFor (Some recorded) Config before now = ReadsSome (all_reads recorded) before now
+ReadsFor (Some recorded) Outside before now = ReadsSome (all_reads recorded) before now
+ReadsFor (Some recorded) Memory before now = ReadsSome (all_reads recorded) before now
+ReadsFor (Some recorded) status before now = ReadsAll (all_reads recorded) before now
 ReadsFor None status before now = Unit
 
 -- the same of a call that found something
-abbrev pub ReadsUnless : {A : Type 0} → Option Told → Result A Ending → Readings → Readings
+abbrev pub ReadsUnless : {A : Type 0} → Option Recorded → Result A Ending → Readings → Readings
     → Type 0
-ReadsUnless told (Err ending) before now = ReadsFor told (status_of (shown ending)) before now
-ReadsUnless (Some told) (Ok x) before now = ReadsAll (all_reads told) before now
+ReadsUnless recorded (Err ending) before now = ReadsFor recorded (status_of (shown ending)) before now
+ReadsUnless (Some recorded) (Ok x) before now = ReadsAll (all_reads recorded) before now
 ReadsUnless None (Ok x) before now = Unit

@@ -3,7 +3,7 @@ use Rattle.std.specs.Prelude.{◌≡◌, ℕ, Bool, IsTrue, List, Option}
 use Rattle.std.specs.Bool.{OnFalse, OnTrue}
 use Rattle.conf_rules.specs.Outcome.{Machine}
 use Rattle.conf_rules.specs.Texts.{Bytes}
-use Rattle.conf_rules.specs.Told.{Told}
+use Rattle.conf_rules.specs.Recorded.{Recorded}
 use Rattle.mux_engine.specs.Rests.{refusal_after}
 use Rattle.mux_outside.specs.Counts.{counted}
 use Rattle.mux_outside.specs.declared.facts.Facts.{Facts}
@@ -18,7 +18,7 @@ use Rattle.ssh_mux.specs.Drill.{IsDrill}
 use Rattle.ssh_mux.specs.Err.{Ended}
 use Rattle.ssh_mux.specs.Out.{OutTakes}
 use Rattle.ssh_mux.specs.Outcomes.{Known, drills, machine, of_words}
-use Rattle.ssh_mux.specs.Places.{told_for}
+use Rattle.ssh_mux.specs.Places.{recorded_for}
 use Rattle.ssh_mux.specs.Puts.{PutsOnce, prints}
 use Rattle.ssh_mux.specs.Reads.{ReadsFor}
 use Rattle.ssh_mux.specs.Sharing.{CallsEnd, CameFor, IdleCause, OpensOnce, ServesFor}
@@ -30,15 +30,15 @@ use Rattle.ssh_mux.specs.World.{World}
 module _ (words : List Bytes) (facts : Facts) (before : World) where
   -- the machine, where files and commands tell
   abbrev pub machine_before : Option Machine
-  machine_before = machine before.files.told before.commands.told facts
+  machine_before = machine before.files.recorded before.commands.recorded facts
 
   -- what is known to come of the words: where the machine is told all, and else what they ask for
   abbrev pub known : Known
   known = of_words machine_before words
 
   -- what files and commands tell for them
-  abbrev pub told : Option Told
-  told = told_for machine_before words
+  abbrev pub recorded : Option Recorded
+  recorded = recorded_for machine_before words
 
   -- the commands that are due for them
   abbrev pub due : Option (List Bytes)
@@ -53,16 +53,16 @@ module _ (words : List Bytes) (facts : Facts) (before : World) where
   pub record Runs {T : Type 0} (May : HouseReply → Type 0) (state : T → HouseState) (turns : ℕ)
       (status : Status) (after : World) : Type 0 where
     -- a master shares the connection by all its promises, with a house that begins as is due
-    pub shared : ServesFor May state known told (pid_of facts.pid) turns before after status
+    pub shared : ServesFor May state known recorded (pid_of facts.pid) turns before after status
     -- the run ends as is due, with the one line of that end or none
-    pub ended : Ended known told status before after
+    pub ended : Ended known recorded status before after
     -- that line was handed over once
     pub err_once : OnFalse (is_silent status) (after.err.puts ≡ counted before.err.puts)
     -- a fault of a file or a command was counted exactly where its status says so
     pub fault_cause : FaultCause status before.files.faults after.files.faults
         before.commands.faults after.commands.faults
     -- the output took exactly the listing
-    pub out : OutTakes status known before.out.told after.out.told
+    pub out : OutTakes status known before.out.recorded after.out.recorded
     -- it failed only where its status says so
     pub out_cause : OutCause status before.out.faults after.out.faults
     -- a listing or a summary was handed over once
@@ -70,7 +70,7 @@ module _ (words : List Bytes) (facts : Facts) (before : World) where
     -- exactly the commands were run that are due
     pub ran : RunsFor due status before.commands.ran after.commands.ran
     -- and exactly the files were read that the lines name
-    pub read : ReadsFor told status before.files.readings after.files.readings
+    pub read : ReadsFor recorded status before.files.readings after.files.readings
     -- a client says and shows what its talk does, and ends as that came out
     pub asked : AnswersFor known status before after
     -- it joined the socket of the running master once
@@ -82,7 +82,7 @@ module _ (words : List Bytes) (facts : Facts) (before : World) where
         (TalksFor turns status before.wire.calls after.wire.calls)
     -- with a house, a forwarding of the start may be refused unless the settings say that none may
     pub must : IsTrue before.house.known.present → OnTrue (may_share known status)
-        (MustsAs status (must_for told) after.house.must)
+        (MustsAs status (must_for recorded) after.house.must)
     -- one is told as refused only where one was, and none may be
     pub start : OnTrue (may_share known status)
         (StartCause status (refusal_after before.house after.house))

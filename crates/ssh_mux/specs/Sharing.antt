@@ -3,7 +3,7 @@ use Rattle.std.specs.Prelude.{◌≡◌, ◌≢◌, ◌≤◌, ◌<◌, ◌+◌,
 use Rattle.std.specs.Bool.{OnFalse, OnTrue}
 use Rattle.conf_rules.specs.Outcome.{Drills, Opens}
 use Rattle.conf_rules.specs.Texts.{Bytes}
-use Rattle.conf_rules.specs.Told.{Told}
+use Rattle.conf_rules.specs.Recorded.{Recorded}
 use Rattle.forward_rules.specs.Allows.{read_policy}
 use Rattle.mux_engine.specs.Came.{WentUp}
 use Rattle.mux_engine.specs.Rests.{refusal_after}
@@ -90,20 +90,20 @@ policy_in (Master transport opens listens) = policy_of opens listens
 policy_in known = no_policy
 
 -- how the end of a run is told
-abbrev pub told_as : Ended → Result Status MeantEnding
-told_as ends.ServerEnd = Ok Done
-told_as ends.Disconnected = Ok Done
-told_as (ends.Terminated client id) = Ok Done
-told_as ends.ServerFailed = Err endings.TransportFailed
-told_as (ends.Broke index why) = Err (endings.ServerBroke index why)
-told_as (ends.StartRefused index) = Err endings.StartRefused
-told_as ends.Spent = Err endings.TurnsSpent
-told_as ends.OutOfMemory = Err endings.NoMemory
+abbrev pub recorded_as : Ended → Result Status MeantEnding
+recorded_as ends.ServerEnd = Ok Done
+recorded_as ends.Disconnected = Ok Done
+recorded_as (ends.Terminated client id) = Ok Done
+recorded_as ends.ServerFailed = Err endings.TransportFailed
+recorded_as (ends.Broke index why) = Err (endings.ServerBroke index why)
+recorded_as (ends.StartRefused index) = Err endings.StartRefused
+recorded_as ends.Spent = Err endings.TurnsSpent
+recorded_as ends.OutOfMemory = Err endings.NoMemory
 
 -- nothing is served: the wire and the house tell what they told before
 pub record IsUnserved (before now : Option (List HouseMark)) (start : Option (List Mark))
     (seen : Seen) : Type 0 where
-  pub same_wire : seen.told ≡ start
+  pub same_wire : seen.recorded ≡ start
   pub same_house : now ≡ before
 
 -- a run that keeps its promises, and its very end; `Rest` is whether a house is present, and what
@@ -116,7 +116,7 @@ pub record IsShared (May : HouseReply → Type 0) (Rest : Resting)
     (before now : Option (List HouseMark)) (start : Option (List Mark)) (seen : Seen)
     (refused : Option ℕ) (result : Result Status MeantEnding) : Type 0 where
   pub answer : Ended
-  pub is_told : result ≡ told_as answer
+  pub is_recorded : result ≡ recorded_as answer
   pub run : IsRun May Rest.rests stands stands' Rest.present policy pid turns before now start seen
       refused answer
 
@@ -140,23 +140,23 @@ Shares May Rest stands stands' policy pid turns before now start seen refused re
 abbrev pub SharesWith : (HouseReply → Type 0) → Resting → (List HouseCall → Type 0) → Policy → ℕ → ℕ
     → HouseState → HouseState → WireState → WireState → Result Status MeantEnding → Type 0
 SharesWith May Rest stands policy pid turns house house' wire wire' result =
-    Shares May Rest stands house'.stands policy pid turns house.told house'.told wire.seen.told
+    Shares May Rest stands house'.stands policy pid turns house.recorded house'.recorded wire.seen.recorded
     wire'.seen (refusal_after house house') result
 
 -- the same of what comes of words: only a master serves, with a house that begins as is due by what
 -- is told of files and commands
 abbrev pub SharesFor : {T : Type 0} → (HouseReply → Type 0) → (T → HouseState) → Known
-    → Option Told → ℕ → ℕ → Sockets → Sockets → Result Status MeantEnding → Type 0
+    → Option Recorded → ℕ → ℕ → Sockets → Sockets → Result Status MeantEnding → Type 0
 SharesFor May state known by pid turns old new result =
     OnTrue (may_share known (so_far result)) (Begun by (λ starts. SharesWith May
     (BegunRests state old.house.known.present starts) (BeganWith starts) (policy_in known) pid turns
     old.house new.house old.wire new.wire result))
 
 -- the line of an end was handed over, if it has one; there may be no memory for it
-abbrev pub TellsEnd :
+abbrev pub RecordsEnd :
     Result Status MeantEnding → Status → Option (List ℕ) → Option (List ℕ) → ℕ → ℕ → Type 0
-TellsEnd (Ok due) status err err' faults faults' = (status ≡ due) × (err' ≡ err)
-TellsEnd (Err ending) status err err' faults faults' =
+RecordsEnd (Ok due) status err err' faults faults' = (status ≡ due) × (err' ≡ err)
+RecordsEnd (Err ending) status err err' faults faults' =
     Reports status (shown ending) err err' faults faults'
 
 -- a run that keeps its promises, and the line of its very end
@@ -168,7 +168,7 @@ pub record IsServed (May : HouseReply → Type 0) (Rest : Resting)
   pub answer : Ended
   pub run : IsRun May Rest.rests stands stands' Rest.present policy pid turns before now start seen
       refused answer
-  pub line : TellsEnd (told_as answer) status err err' faults faults'
+  pub line : RecordsEnd (recorded_as answer) status err err' faults faults'
 
 -- the same of the program: where its sockets weren't opened nothing is served
 abbrev pub Serves : (HouseReply → Type 0) → Resting → (List HouseCall → Type 0)
@@ -192,14 +192,14 @@ Serves May Rest stands stands' policy pid turns before now start seen refused st
 abbrev pub ServesWith : (HouseReply → Type 0) → Resting → (List HouseCall → Type 0) → Policy → ℕ → ℕ
     → World → World → Status → Type 0
 ServesWith May Rest stands policy pid turns before after status =
-    Serves May Rest stands after.house.stands policy pid turns before.house.told after.house.told
-    before.wire.seen.told after.wire.seen (refusal_after before.house after.house) status
-    before.err.told after.err.told before.err.faults after.err.faults
+    Serves May Rest stands after.house.stands policy pid turns before.house.recorded after.house.recorded
+    before.wire.seen.recorded after.wire.seen (refusal_after before.house after.house) status
+    before.err.recorded after.err.recorded before.err.faults after.err.faults
 
 -- the same of what comes of words: only a master serves, with a house that begins as is due by what
 -- is told of files and commands
 abbrev pub ServesFor : {T : Type 0} → (HouseReply → Type 0) → (T → HouseState) → Known
-    → Option Told → ℕ → ℕ → World → World → Status → Type 0
+    → Option Recorded → ℕ → ℕ → World → World → Status → Type 0
 ServesFor May state known by pid turns before after status =
     OnTrue (may_share known status) (Begun by (λ starts. ServesWith May
     (BegunRests state before.house.known.present starts) (BeganWith starts) (policy_in known) pid
@@ -281,7 +281,7 @@ pub record CountsFor (housed : Bool) (turns : ℕ) (status : Status) (old new : 
 
 -- what a master of which this is known leaves of its wire and its house
 pub record MasterLeaves {T : Type 0} (May : HouseReply → Type 0) (state : T → HouseState)
-    (known : Known) (by : Option Told) (pid turns : ℕ) (result : Result Status MeantEnding)
+    (known : Known) (by : Option Recorded) (pid turns : ℕ) (result : Result Status MeantEnding)
     (old new : Sockets) : Type 0 where
   -- the wire was opened once
   pub opened : OpensOnce known (so_far result) old.wire.openings new.wire.openings

@@ -12,7 +12,7 @@ use Rattle.conf_rules.specs.declared.value.Value.TheVariants as values
 use Rattle.conf_rules.specs.Listing.{is_set}
 use Rattle.conf_rules.specs.Resolution.{all_rows}
 use Rattle.conf_rules.specs.Rows.{Row, given, value, values, values_among}
-use Rattle.conf_rules.specs.Told.{Told}
+use Rattle.conf_rules.specs.Recorded.{Recorded}
 use Rattle.mux_engine.specs.Sides.{HouseWaits, Knows, Resting}
 use Rattle.mux_outside.specs.House.{HouseState}
 use Rattle.mux_outside.specs.HouseCalls.{Begins, HouseCall}
@@ -105,12 +105,12 @@ starts_due rows = record {
 }
 
 -- what a house begins with is what the rows of all that is told ask for, if this is known
-abbrev pub StartsAs : Option Told → Starts → Type 0
+abbrev pub StartsAs : Option Recorded → Starts → Type 0
 StartsAs None starts = Unit
-StartsAs (Some told) starts = starts ≡ starts_due (all_rows told)
+StartsAs (Some recorded) starts = starts ≡ starts_due (all_rows recorded)
 
 -- a house begins so by what is told of files and commands, and of this beginning something is so
-pub record Begun (by : Option Told) (So : Starts → Type 0) : Type 0 where
+pub record Begun (by : Option Recorded) (So : Starts → Type 0) : Type 0 where
   pub starts : Starts
   pub due : StartsAs by starts
   pub so : So starts
@@ -128,7 +128,7 @@ BegunRests {T} state present starts = record {
   rests = λ want now calls listeners own. IsTrue present
       → (house : T)
       × (HouseWaits want (state house).quiet (state house).must (state house).refused
-      × ((state house).told ≡ now)
+      × ((state house).recorded ≡ now)
       × (state house).stands (Begins starts ∷ calls)
       × Knows (state house).known listeners own);
 }
@@ -136,14 +136,14 @@ BegunRests {T} state present starts = record {
 -- ---- ExitOnForwardFailure
 
 -- settings keep what the rows of all that is told give
-abbrev pub SettledFor : Option Told → List Given → Type 0
+abbrev pub SettledFor : Option Recorded → List Given → Type 0
 SettledFor None settings = Unit
-SettledFor (Some told) settings = Keeps settings (flat_map given (all_rows told))
+SettledFor (Some recorded) settings = Keeps settings (flat_map given (all_rows recorded))
 
 -- whether the run of a master ends where a forwarding of the start is refused, where this is known
-abbrev pub must_for : Option Told → Option Bool
+abbrev pub must_for : Option Recorded → Option Bool
 must_for None = None
-must_for (Some told) = Some (is_set (value ExitOnForwardFailure (all_rows told)))
+must_for (Some recorded) = Some (is_set (value ExitOnForwardFailure (all_rows recorded)))
 
 -- but for want of memory, it ends so exactly where it is due, if this is known
 abbrev pub MustsAs : Status → Option Bool → Bool → Type 0

@@ -19,14 +19,14 @@ use Rattle.mux_outside.specs.WireState.{WireState}
 -- the paths and contents of all files, where they are told; which were read, each with its limit;
 -- the paths that failed; and how often one did
 pub record FilesState : Type 0 where
-  pub told : Option (List Pair)
+  pub recorded : Option (List Pair)
   pub readings : Readings
   pub failed : FailedPaths
   pub faults : ℕ
 
 -- how commands end, where this is told; which were run; and how often one could not be
 pub record CommandsState : Type 0 where
-  pub told : Option (List CommandStatus)
+  pub recorded : Option (List CommandStatus)
   pub ran : Option (List Bytes)
   pub faults : ℕ
 
@@ -39,12 +39,12 @@ pub record Sources : Type 0 where
 abbrev pub sources : {F R : Type 0} → TheFiles F → TheRunner R → F → R → Sources
 sources f r files runner = record {
   files = record {
-    told = f.told files;
+    recorded = f.recorded files;
     readings = f.readings files;
     failed = f.failed files;
     faults = f.faults files;
   };
-  commands = record { told = r.told runner; ran = r.ran runner; faults = r.faults runner };
+  commands = record { recorded = r.recorded runner; ran = r.ran runner; faults = r.faults runner };
 }
 
 -- ---- a wire and a house
@@ -64,12 +64,12 @@ sockets w h wire house =
 -- what an output took, where it is told; how often bytes were handed to it; and how often that
 -- failed
 pub record OutState : Type 0 where
-  pub told : Option (List ℕ)
+  pub recorded : Option (List ℕ)
   pub puts : ℕ
   pub faults : ℕ
 
 abbrev pub output : {S : Type 0} → TheSink S → S → OutState
-output s sink = record { told = s.told sink; puts = s.puts sink; faults = s.faults sink }
+output s sink = record { recorded = s.recorded sink; puts = s.puts sink; faults = s.faults sink }
 
 -- ---- all of it
 

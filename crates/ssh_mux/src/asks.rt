@@ -11,7 +11,7 @@ ghost use Rattle.ssh_mux.specs.declared.ending.Ending.TheVariants as endings;
 
 use crate::ending::Ending;
 use conf_options::{End, Forward, Value, ValueError, read_value};
-use conf_rules::{Asked, AskedLine, Cause, Control, Key};
+use conf_rules::{Asked, AskedLine, Cause, Key, MasterCommand};
 use mux_client::Asks;
 use mux_outside::{LONGEST_HOST, StartAsk, StartAsks};
 use ssh_fields::{OutOfMemory, Text, Texts};
@@ -180,16 +180,16 @@ fn forwards_of(alloc: Global, asked: &Asked, opening: bool) -> Result<Asks, Endi
 
 /// What a running master is asked. The words of its forwardings are read as those of the
 /// configuration are; the first that has no reading is refused as its line is there.
-pub fn asks_of(alloc: Global, asked: &Asked, control: Control) -> Result<Asks, Ending>
+pub fn asks_of(alloc: Global, asked: &Asked, control: MasterCommand) -> Result<Asks, Ending>
     requires named { NamesForwards control asked.now.lines }
     ensures exact { FindsAsks result (asks_for asked.now control) }
     ensures may { IfOk result MayAsk }
 {
     match control {
-        Control::Check => Ok(Asks::Check),
-        Control::Exit => Ok(Asks::Exit),
-        Control::Stop => Ok(Asks::Stop),
-        Control::Forward => forwards_of(alloc, asked, true),
-        Control::Cancel => forwards_of(alloc, asked, false),
+        MasterCommand::Check => Ok(Asks::Check),
+        MasterCommand::Exit => Ok(Asks::Exit),
+        MasterCommand::Stop => Ok(Asks::Stop),
+        MasterCommand::Forward => forwards_of(alloc, asked, true),
+        MasterCommand::Cancel => forwards_of(alloc, asked, false),
     }
 }

@@ -6,7 +6,7 @@ ghost use Rattle.ssh_mux.specs.Answers.{may_ask, so_far};
 ghost use Rattle.ssh_mux.specs.Asks.{NamesForwards};
 ghost use Rattle.ssh_mux.specs.Causes.{OutCause};
 ghost use Rattle.ssh_mux.specs.Client.{ClientLeaves, Converses, EndsClient, JoinsAt, TalkCounts};
-ghost use Rattle.ssh_mux.specs.Client.{talk_told};
+ghost use Rattle.ssh_mux.specs.Client.{talk_recorded};
 ghost use Rattle.ssh_mux.specs.Looks.{Looks, coming};
 ghost use Rattle.ssh_mux.specs.World.{output, sources};
 
@@ -14,7 +14,7 @@ use crate::asks::asks_of;
 use crate::ending::Ending;
 use crate::master::control_of;
 use crate::status::Status;
-use conf_rules::{Asked, Control};
+use conf_rules::{Asked, MasterCommand};
 use mux_client::{Asks, Talked, talk};
 use mux_outside::{Facts, FileError, Files, Runner, Sink, Wire};
 use ssh_fields::Text;
@@ -26,7 +26,7 @@ use std::alloc::Global;
 pub fn ask_master<W: Wire, F: Files, R: Runner, S: Sink>(
     alloc: Global,
     asked: &Asked,
-    control: Control,
+    control: MasterCommand,
     facts: &Facts,
     wire: &mut W,
     files: &mut F,
@@ -35,15 +35,15 @@ pub fn ask_master<W: Wire, F: Files, R: Runner, S: Sink>(
     turns: u64,
 ) -> Result<Status, Ending>
     requires named { NamesForwards control asked.now.lines }
-    ensures looks { Looks facts.now (commands.Control asked.now control) asked.now result
+    ensures looks { Looks facts.now (commands.MasterCommand asked.now control) asked.now result
         (sources F.Files R.Runner files.old runner.old)
         (sources F.Files R.Runner files.new runner.new) }
     ensures leaves { ClientLeaves (coming (sources F.Files R.Runner files.old runner.old) facts.now
-        (commands.Control asked.now control)) turns result (W.state wire.old) (W.state wire.new)
+        (commands.MasterCommand asked.now control)) turns result (W.state wire.old) (W.state wire.new)
         (W.faults wire.old) (W.faults wire.new) (output S.Sink out.old) (output S.Sink out.new) }
     ensures untouched { OnFalse (may_ask
         (coming (sources F.Files R.Runner files.old runner.old) facts.now
-        (commands.Control asked.now control)) (so_far result))
+        (commands.MasterCommand asked.now control)) (so_far result))
         ((wire.new ≡ wire.old) × (out.new ≡ out.old)) }
 {
     let path = control_of(alloc, asked, facts, files, runner)?;
@@ -64,8 +64,8 @@ fn join_and_talk<W: Wire, S: Sink>(
     ensures ends { EndsClient result }
     ensures joined { JoinsAt path.now (so_far result) (W.state wire.old).joinings
         (W.state wire.new).joinings }
-    ensures talked { Converses asks.now (W.state wire.old).seen.told (W.state wire.new).seen.told
-        (S.told out.old) (S.told out.new) result }
+    ensures talked { Converses asks.now (W.state wire.old).seen.recorded (W.state wire.new).seen.recorded
+        (S.recorded out.old) (S.recorded out.new) result }
     ensures out_cause { OutCause (so_far result) (S.faults out.old) (S.faults out.new) }
     ensures wire { TalkCounts turns (so_far result) (W.state wire.old) (W.state wire.new)
         (W.faults wire.old) (W.faults wire.new) }
@@ -80,7 +80,7 @@ fn join_and_talk<W: Wire, S: Sink>(
 // What the end of a talk is for the program.
 fn ending_of(talked: Talked) -> Result<Status, Ending>
     ensures ends { EndsClient result }
-    ensures told { result ≡ talk_told talked }
+    ensures recorded { result ≡ talk_recorded talked }
 {
     match talked {
         Talked::Done => Ok(Status::Done),

@@ -30,7 +30,7 @@ pub fn drill<W: Wire, S: Sink>(
     turns: u64,
 ) -> Result<Status, Ending>
     ensures goes { DrillGoes words.now turns result (W.state wire.old) (W.state wire.new)
-        (S.told out.old) (S.told out.new) }
+        (S.recorded out.old) (S.recorded out.new) }
     ensures wire { CountsFor false turns (so_far result) (W.state wire.old) (W.state wire.new)
         (W.faults wire.old) (W.faults wire.new) }
     ensures unwritten { OnFalse (may_write (so_far result)) (out.new ≡ out.old) }
@@ -53,7 +53,7 @@ fn serve_drill<W: Wire>(
     ensures opened { OpensAt [] (drill_transport words.now) (so_far result)
         (W.state wire.old).openings (W.state wire.new).openings }
     ensures served { Shares RefusesAll NoneRests AnyCalls AnyCalls any_policy 0 turns None None
-        (W.state wire.old).seen.told (W.state wire.new).seen None result }
+        (W.state wire.old).seen.recorded (W.state wire.new).seen None result }
     ensures start { StartCause (so_far result) None }
     ensures wire { CountsFor false turns (so_far result) (W.state wire.old) (W.state wire.new)
         (W.faults wire.old) (W.faults wire.new) }
@@ -97,7 +97,7 @@ fn spaced(alloc: Global, a: &[u8], b: &[u8], c: &[u8]) -> Result<Text, OutOfMemo
 
 // Hands over what a wire has counted.
 fn sum_up<S: Sink>(alloc: Global, tally: &Tally, out: &mut S) -> Result<Status, Ending>
-    ensures handed { HandsOver result (drill_text tally.now) (S.told out.old) (S.told out.new) }
+    ensures handed { HandsOver result (drill_text tally.now) (S.recorded out.old) (S.recorded out.new) }
     ensures cause { OutCause (so_far result) (S.faults out.old) (S.faults out.new) }
     ensures once { PutsOnce (so_far result) (S.puts out.old) (S.puts out.new) }
 {

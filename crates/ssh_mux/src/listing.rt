@@ -34,7 +34,7 @@ pub fn list<F: Files, R: Runner, S: Sink>(
         (sources F.Files R.Runner files.new runner.new) }
     ensures out { OutTakes (so_far result)
         (coming (sources F.Files R.Runner files.old runner.old) facts.now
-        (commands.List asked.now)) (S.told out.old) (S.told out.new) }
+        (commands.List asked.now)) (S.recorded out.old) (S.recorded out.new) }
     ensures unwritten { OnFalse (may_write (so_far result)) (out.new ≡ out.old) }
     ensures unlisted { OnFalse (writes_out
         (coming (sources F.Files R.Runner files.old runner.old) facts.now
@@ -65,7 +65,7 @@ fn listing_of<F: Files, R: Runner>(
 
 /// Hands a text over, whole: a listing, or the summary of a drill.
 pub fn hand_over<S: Sink>(out: &mut S, text: &[u8]) -> Result<Status, Ending>
-    ensures handed { HandsOver result text.now (S.told out.old) (S.told out.new) }
+    ensures handed { HandsOver result text.now (S.recorded out.old) (S.recorded out.new) }
     ensures cause { OutCause (so_far result) (S.faults out.old) (S.faults out.new) }
     ensures once { S.puts out.new ≡ counted (S.puts out.old) }
 {

@@ -2,9 +2,9 @@ ghost use Rattle.std.specs.Bool.{OnFalse};
 ghost use Rattle.std.specs.Prelude.{◌≡◌, ◌∷◌, [], List, IfOk, IsOk, IsTrue, OnOk, Some};
 ghost use Rattle.conf_rules.specs.Texts.{Bytes};
 ghost use Rattle.conf_rules.specs.declared.command.Command.TheVariants as commands;
-ghost use Rattle.conf_rules.specs.declared.control.Control.{Control};
+ghost use Rattle.conf_rules.specs.declared.control.MasterCommand.{MasterCommand};
 ghost use Rattle.forward_rules.specs.Allows.{read_policy};
-ghost use Rattle.mux_engine.specs.Called.{HasSaidNothing};
+ghost use Rattle.mux_engine.specs.Called.{HasSentNothing};
 ghost use Rattle.mux_engine.specs.Rests.{refusal_after};
 ghost use Rattle.mux_engine.specs.Sides.{RestsOf};
 ghost use Rattle.mux_outside.specs.HouseCalls.{Begins};
@@ -12,9 +12,9 @@ ghost use Rattle.ssh_mux.specs.Answers.{may_share, so_far};
 ghost use Rattle.ssh_mux.specs.Looks.{FoundFor, Looks, coming, machine_of_sources};
 ghost use Rattle.ssh_mux.specs.Master.{EndsMaster, OnlyStarves};
 ghost use Rattle.ssh_mux.specs.Outcomes.{Client, Master, joins_at, opens_at};
-ghost use Rattle.ssh_mux.specs.Places.{told_over};
+ghost use Rattle.ssh_mux.specs.Places.{recorded_over};
 ghost use Rattle.ssh_mux.specs.Sharing.{CountsFor, MasterLeaves, OpensAt, SharesWith, StartCause};
-ghost use Rattle.ssh_mux.specs.Sharing.{pid_of, policy_of as the_policy_of, told_as};
+ghost use Rattle.ssh_mux.specs.Sharing.{pid_of, policy_of as the_policy_of, recorded_as};
 ghost use Rattle.ssh_mux.specs.Starts.{BeganWith, BegunRests, MustsAs, SettledFor, starts_for};
 ghost use Rattle.ssh_mux.specs.World.{sockets, sources};
 
@@ -65,7 +65,7 @@ pub fn share<W: Wire, F: Files, R: Runner, H: House>(
     ensures leaves { MasterLeaves H.may H.state
         (coming (sources F.Files R.Runner files.old runner.old) facts.now
         (commands.Master asked.now transport.now opens.now listens.now))
-        (told_over (machine_of_sources (sources F.Files R.Runner files.old runner.old) facts.now)
+        (recorded_over (machine_of_sources (sources F.Files R.Runner files.old runner.old) facts.now)
         asked.now) (pid_of facts.now.pid) turns result
         (sockets W.Wire H.Asks.own wire.old house.old)
         (sockets W.Wire H.Asks.own wire.new house.new) }
@@ -95,13 +95,13 @@ fn found_of<F: Files, R: Runner>(
         (commands.Master asked.now transport opens listens) asked.now result
         (sources F.Files R.Runner files.old runner.old)
         (sources F.Files R.Runner files.new runner.new) }
-    ensures client { (what : Control) →
+    ensures client { (what : MasterCommand) →
         FoundFor (λ found. joins_at asked.now what found.control) (Client asked.now what) facts.now
-        (commands.Control asked.now what) asked.now result
+        (commands.MasterCommand asked.now what) asked.now result
         (sources F.Files R.Runner files.old runner.old)
         (sources F.Files R.Runner files.new runner.new) }
     ensures settled { IfOk result (λ found. SettledFor
-        (told_over (machine_of_sources (sources F.Files R.Runner files.old runner.old) facts.now)
+        (recorded_over (machine_of_sources (sources F.Files R.Runner files.old runner.old) facts.now)
         asked.now) found.settings) }
 {
     let settings = resolve(alloc, asked, facts, files, runner)?;
@@ -125,9 +125,9 @@ pub fn control_of<F: Files, R: Runner>(
         (commands.Master asked.now transport opens listens) asked.now result
         (sources F.Files R.Runner files.old runner.old)
         (sources F.Files R.Runner files.new runner.new) }
-    ensures client { (what : Control) →
+    ensures client { (what : MasterCommand) →
         FoundFor (joins_at asked.now what) (Client asked.now what) facts.now
-        (commands.Control asked.now what) asked.now result
+        (commands.MasterCommand asked.now what) asked.now result
         (sources F.Files R.Runner files.old runner.old)
         (sources F.Files R.Runner files.new runner.new) }
 {
@@ -155,7 +155,7 @@ fn begin<H: House>(alloc: Global, settings: &Settings, house: &mut H) -> Result<
     ensures known { OnOk result ((H.state house.new).known ≡ (H.state house.old).known) }
     ensures must { OnOk result (IsTrue (H.state house.old).known.present
         → (H.state house.new).must ≡ (starts_for settings.now).must) }
-    ensures told { (H.state house.new).told ≡ (H.state house.old).told }
+    ensures recorded { (H.state house.new).recorded ≡ (H.state house.old).recorded }
     ensures stands { OnOk result
         ((H.state house.new).stands (Begins (starts_for settings.now) ∷ [])) }
     ensures err { OnlyStarves result }
@@ -218,7 +218,7 @@ pub fn open_and_serve<W: Wire, H: House>(
     turns: u64,
 ) -> Result<Status, Ending>
     requires begun { H.begun house.old }
-    requires silent { HasSaidNothing (H.state house.old) }
+    requires silent { HasSentNothing (H.state house.old) }
     ensures ends { EndsMaster result }
     ensures opened { OpensAt control.now transport.now (so_far result)
         (W.state wire.old).openings (W.state wire.new).openings }
@@ -244,7 +244,7 @@ pub fn open_and_serve<W: Wire, H: House>(
 // What the end of a run is for the program.
 fn ending_of(ended: Ended) -> Result<Status, Ending>
     ensures ends { EndsMaster result }
-    ensures told { result ≡ told_as ended }
+    ensures recorded { result ≡ recorded_as ended }
 {
     match ended {
         Ended::ServerEnd | Ended::Disconnected | Ended::Terminated { .. } => Ok(Status::Done),

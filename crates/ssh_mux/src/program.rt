@@ -2,7 +2,7 @@ ghost use Rattle.std.specs.Bool.{OnTrue};
 ghost use Rattle.std.specs.Prelude.{◌≡◌, Ok};
 ghost use Rattle.conf_rules.specs.Reading.{reading};
 ghost use Rattle.ssh_mux.specs.Answers.{Leaves, is_silent, so_far};
-ghost use Rattle.ssh_mux.specs.Err.{IsToldBy};
+ghost use Rattle.ssh_mux.specs.Err.{IsRecordedBy};
 ghost use Rattle.ssh_mux.specs.Looks.{coming_of_words};
 ghost use Rattle.ssh_mux.specs.Runs.{Runs};
 ghost use Rattle.ssh_mux.specs.World.{OutState, output, sockets, sources, world};
@@ -79,13 +79,13 @@ fn obey<W: Wire, F: Files, R: Runner, S: Sink, H: House>(
     turns: u64,
 ) -> Result<Status, Ending>
     requires fresh { H.fresh house.old }
-    ensures runs { (status : TheStatus) (err told : OutState) → IsToldBy result status err told
+    ensures runs { (status : TheStatus) (err recorded : OutState) → IsRecordedBy result status err recorded
         → Runs words.now facts.now
         (world (sockets W.Wire H.Asks.own wire.old house.old)
         (sources F.Files R.Runner files.old runner.old) (output S.Sink out.old) err)
         H.may H.state turns status
         (world (sockets W.Wire H.Asks.own wire.new house.new)
-        (sources F.Files R.Runner files.new runner.new) (output S.Sink out.new) told) }
+        (sources F.Files R.Runner files.new runner.new) (output S.Sink out.new) recorded) }
     ensures leaves { Leaves
         (coming_of_words (sources F.Files R.Runner files.old runner.old) facts.now words.now)
         (so_far result) (out.new ≡ out.old) (files.new ≡ files.old) (runner.new ≡ runner.old)
@@ -114,13 +114,13 @@ fn act<W: Wire, F: Files, R: Runner, S: Sink, H: House>(
 ) -> Result<Status, Ending>
     requires read { reading words.now ≡ Ok command.now }
     requires fresh { H.fresh house.old }
-    ensures runs { (status : TheStatus) (err told : OutState) → IsToldBy result status err told
+    ensures runs { (status : TheStatus) (err recorded : OutState) → IsRecordedBy result status err recorded
         → Runs words.now facts.now
         (world (sockets W.Wire H.Asks.own wire.old house.old)
         (sources F.Files R.Runner files.old runner.old) (output S.Sink out.old) err)
         H.may H.state turns status
         (world (sockets W.Wire H.Asks.own wire.new house.new)
-        (sources F.Files R.Runner files.new runner.new) (output S.Sink out.new) told) }
+        (sources F.Files R.Runner files.new runner.new) (output S.Sink out.new) recorded) }
     ensures leaves { Leaves
         (coming_of_words (sources F.Files R.Runner files.old runner.old) facts.now words.now)
         (so_far result) (out.new ≡ out.old) (files.new ≡ files.old) (runner.new ≡ runner.old)

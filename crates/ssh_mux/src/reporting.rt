@@ -15,8 +15,8 @@ const NO_MEMORY: &[u8] = b"ssh-mux: out of memory\n";
 /// Tells how the run ended, in one line, and its status. Want of memory for the line is the
 /// status then.
 pub fn report<S: Sink>(alloc: Global, err: &mut S, ending: &Ending) -> Status
-    ensures told { Reports result (shown ending.now)
-        (S.told err.old) (S.told err.new) (S.faults err.old) (S.faults err.new) }
+    ensures recorded { Reports result (shown ending.now)
+        (S.recorded err.old) (S.recorded err.new) (S.faults err.old) (S.faults err.new) }
     ensures once { S.puts err.new ≡ counted (S.puts err.old) }
 {
     match ending.line(alloc) {
@@ -27,8 +27,8 @@ pub fn report<S: Sink>(alloc: Global, err: &mut S, ending: &Ending) -> Status
 
 // Hands a line over, whole.
 fn put_line<S: Sink>(err: &mut S, line: &[u8], status: Status) -> Status
-    ensures told { PutsLine result status line.now
-        (S.told err.old) (S.told err.new) (S.faults err.old) (S.faults err.new) }
+    ensures recorded { PutsLine result status line.now
+        (S.recorded err.old) (S.recorded err.new) (S.faults err.old) (S.faults err.new) }
     ensures once { S.puts err.new ≡ counted (S.puts err.old) }
 {
     match err.put(line) {

@@ -18,7 +18,7 @@ const FIRST_ROOM: usize = 256;
 
 /// What the system is asked for.
 #[derive(Clone, Copy)]
-enum Asked {
+enum AskedWords {
     /// The word at a place of the command line; the program's name is at 0.
     Word(usize),
     /// The entry at a place of the environment.
@@ -26,13 +26,13 @@ enum Asked {
 }
 
 // The bytes at a place, `None` behind the last one. The room is doubled until they fit.
-fn bytes_at<E: Env>(rt: &E, alloc: Global, asked: Asked) -> Result<Option<Text>, OutOfMemory> {
+fn bytes_at<E: Env>(rt: &E, alloc: Global, asked: AskedWords) -> Result<Option<Text>, OutOfMemory> {
     let mut room = FIRST_ROOM;
     for _ in 0..usize::BITS {
         let mut bytes = Vec::from_elem(alloc, 0u8, room)?;
         let filled = match asked {
-            Asked::Word(place) => rt.arg(place, &mut bytes),
-            Asked::Entry(place) => rt.var_at(place, &mut bytes),
+            AskedWords::Word(place) => rt.arg(place, &mut bytes),
+            AskedWords::Entry(place) => rt.var_at(place, &mut bytes),
         };
         match filled {
             Ok(count) => return Ok(Some(Text::copy(alloc, &bytes[..count])?)),
@@ -47,7 +47,7 @@ fn bytes_at<E: Env>(rt: &E, alloc: Global, asked: Asked) -> Result<Option<Text>,
 pub fn words_of<E: Env>(rt: &E, alloc: Global) -> Result<Texts, OutOfMemory> {
     let mut words = Texts::new(alloc);
     for place in 1..usize::MAX {
-        match bytes_at(rt, alloc, Asked::Word(place))? {
+        match bytes_at(rt, alloc, AskedWords::Word(place))? {
             Some(word) => words.push(word)?,
             None => break,
         }
@@ -70,7 +70,7 @@ fn pair_of(alloc: Global, entry: &[u8]) -> Result<Option<Pair>, OutOfMemory> {
 fn vars_of<E: Env>(rt: &E, alloc: Global) -> Result<Pairs, OutOfMemory> {
     let mut vars = Pairs::new(alloc);
     for place in 0..usize::MAX {
-        let Some(entry) = bytes_at(rt, alloc, Asked::Entry(place))? else {
+        let Some(entry) = bytes_at(rt, alloc, AskedWords::Entry(place))? else {
             break;
         };
         if let Some(pair) = pair_of(alloc, entry.as_bytes())? {

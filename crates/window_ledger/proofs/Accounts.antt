@@ -2,7 +2,7 @@
 use Rattle.std.proofs.Common.{◌≡◌, ◌+◌, ◌-◌, ◌∷◌, true, false, refl, sym, ap, ◌∙◌, arith}
 use Rattle.ssh_grammar.specs.declared.side.Side.{Side}
 use Rattle.ssh_grammar.specs.declared.side.Side.TheVariants.{Up, Down}
-use Rattle.mux_history.specs.Gist as gist
+use Rattle.mux_history.specs.Summary as summary
 use Rattle.mux_history.specs.Channels.{Channel, any_by, is_closes}
 use Rattle.mux_history.specs.Ledger.{answered, asked, carried, first_window, granted, maximum_of, other_side, packet, room, unanswered}
 use Rattle.mux_history.specs.Laws.{IsAccounted, IsWithin, with_act}
@@ -30,7 +30,7 @@ same a b parts = ap (λ r. record { room = r; maximum = a.maximum; unanswered = 
 
 -- ---- the direction of the act
 
-own-room : (way : Side) (act : gist.Act) (x : Channel) → room way (with_act way act x) ≡ room way x - carried act
+own-room : (way : Side) (act : summary.Act) (x : Channel) → room way (with_act way act x) ≡ room way x - carried act
 own-room Up act x = by_side x.by
   where
     by_side : (side : Side) → room Up (record x { by = side; acts = (Up, act) ∷ x.acts }) ≡ room Up (record x { by = side }) - carried act
@@ -42,7 +42,7 @@ own-room Down act x = by_side x.by
     by_side Up = omega arith
     by_side Down = omega arith
 
-own-maximum : (way : Side) (act : gist.Act) (x : Channel) → maximum_of way (with_act way act x) ≡ maximum_of way x
+own-maximum : (way : Side) (act : summary.Act) (x : Channel) → maximum_of way (with_act way act x) ≡ maximum_of way x
 own-maximum Up act x = by_side x.by
   where
     by_side : (side : Side) → maximum_of Up (record x { by = side; acts = (Up, act) ∷ x.acts }) ≡ maximum_of Up (record x { by = side })
@@ -54,7 +54,7 @@ own-maximum Down act x = by_side x.by
     by_side Up = refl
     by_side Down = refl
 
-own-asks : (way : Side) (act : gist.Act) (x : Channel) → IsAccounted way x → unanswered way (with_act way act x) ≡ unanswered way x + asked act
+own-asks : (way : Side) (act : summary.Act) (x : Channel) → IsAccounted way x → unanswered way (with_act way act x) ≡ unanswered way x + asked act
 own-asks Up act x sound = let fewer = sound.answered in omega arith
 own-asks Down act x sound = let fewer = sound.answered in omega arith
 
@@ -103,7 +103,7 @@ own-goes way act x may sound =
 
 -- ---- the other direction
 
-other-room : (way : Side) (act : gist.Act) (x : Channel) → first_window act ≡ 0 → IsWithin (other_side way) x → room (other_side way) (with_act way act x) ≡ room (other_side way) x + granted act
+other-room : (way : Side) (act : summary.Act) (x : Channel) → first_window act ≡ 0 → IsWithin (other_side way) x → room (other_side way) (with_act way act x) ≡ room (other_side way) x + granted act
 other-room Up act x none within = by_side x.by within
   where
     by_side : (side : Side) → IsWithin Down (record x { by = side }) → room Down (record x { by = side; acts = (Up, act) ∷ x.acts }) ≡ room Down (record x { by = side }) + granted act
@@ -115,7 +115,7 @@ other-room Down act x none within = by_side x.by within
     by_side Up within = omega arith
     by_side Down within = omega arith
 
-other-maximum : (way : Side) (act : gist.Act) (x : Channel) → packet act ≡ 0 → maximum_of (other_side way) (with_act way act x) ≡ maximum_of (other_side way) x
+other-maximum : (way : Side) (act : summary.Act) (x : Channel) → packet act ≡ 0 → maximum_of (other_side way) (with_act way act x) ≡ maximum_of (other_side way) x
 other-maximum Up act x none = by_side x.by
   where
     by_side : (side : Side) → maximum_of Down (record x { by = side; acts = (Up, act) ∷ x.acts }) ≡ maximum_of Down (record x { by = side })
@@ -127,11 +127,11 @@ other-maximum Down act x none = by_side x.by
     by_side Up = omega arith
     by_side Down = refl
 
-other-asks : (way : Side) (act : gist.Act) (x : Channel) → unanswered (other_side way) (with_act way act x) ≡ unanswered (other_side way) x - answered act
+other-asks : (way : Side) (act : summary.Act) (x : Channel) → unanswered (other_side way) (with_act way act x) ≡ unanswered (other_side way) x - answered act
 other-asks Up act x = omega arith
 other-asks Down act x = omega arith
 
-other-speech : (way : Side) (act : gist.Act) (x : Channel) → speech_of (other_side way) x ≡ speech_of (other_side way) (with_act way act x)
+other-speech : (way : Side) (act : summary.Act) (x : Channel) → speech_of (other_side way) x ≡ speech_of (other_side way) (with_act way act x)
 other-speech Up act x = refl
 other-speech Down act x = refl
 

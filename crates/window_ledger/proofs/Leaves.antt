@@ -5,13 +5,13 @@ use Rattle.ssh_grammar.specs.declared.side.Side.{Side}
 use Rattle.ssh_grammar.specs.declared.side.Side.TheVariants.{Up, Down}
 use Rattle.ssh_grammar.specs.declared.fault.Breach.{Breach}
 use Rattle.ssh_grammar.specs.declared.fault.Breach.TheVariants.{AfterClose, NotOpen}
-use Rattle.mux_history.specs.Gist.{Closes}
+use Rattle.mux_history.specs.Summary.{Closes}
 use Rattle.mux_history.specs.Channels.{Channel, any_by, is_closes, is_confirmed, is_ends}
 use Rattle.mux_history.specs.Ledger.{breach}
 use Rattle.mux_history.specs.Laws.{with_act}
 use Rattle.mux_history.proofs.RoomActs.{accounted-act, may-of}
 use Rattle.window_ledger.specs.Stands.{IsStateOf, account_of, both_closed, is_answered, speech_of}
-use Rattle.window_ledger.specs.Leaving.{is_closed, is_over_in, left_state, said_close_in}
+use Rattle.window_ledger.specs.Leaving.{is_closed, is_over_in, left_state, sent_close_in}
 use Rattle.window_ledger.specs.declared.account.Account.{Account}
 use Rattle.window_ledger.specs.declared.account.Speech.{Speech}
 use Rattle.window_ledger.specs.declared.account.Speech.TheVariants.{Closed, Ended, Speaking}
@@ -28,7 +28,7 @@ speech-closed way x = by_case (any_by way is_closes x.acts) (any_by way is_ends 
     by_case false true = refl
     by_case false false = refl
 
-pub said-is : (state : State) (x : Channel) → IsStateOf state x → said_close_in state ≡ any_by Up is_closes x.acts
+pub said-is : (state : State) (x : Channel) → IsStateOf state x → sent_close_in state ≡ any_by Up is_closes x.acts
 said-is (Opened by window maximum) x is = ap (any_by Up is_closes) (sym is.fresh)
 said-is (Confirmed up down) x is = ap (λ (a : Account). is_closed a.speech) is.upward ∙ speech-closed Up x
 

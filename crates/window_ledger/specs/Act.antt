@@ -1,12 +1,12 @@
 -- What the ledger's acts are in the history.
-use Rattle.mux_history.specs.Gist as gist
+use Rattle.mux_history.specs.Summary as summary
 use Rattle.window_ledger.specs.declared.act.Act.{Act}
 use Rattle.window_ledger.specs.declared.act.Act.TheVariants.{Data, Grant, Eof, Close, Request, Reply}
 
-abbrev pub act_of : Act → gist.Act
-act_of (Data size) = gist.Carries size
-act_of (Grant add) = gist.Grants add
-act_of Eof = gist.Ends
-act_of Close = gist.Closes
-act_of (Request want) = gist.Asks want
-act_of Reply = gist.Answers
+abbrev pub act_of : Act → summary.Act
+act_of (Data size) = summary.Carries size
+act_of (Grant add) = summary.Grants add
+act_of Eof = summary.Ends
+act_of Close = summary.Closes
+act_of (Request want) = summary.Asks want
+act_of Reply = summary.Answers

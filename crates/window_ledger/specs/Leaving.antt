@@ -12,13 +12,13 @@ is_closed Speaking = false
 is_closed Ended = false
 is_closed Closed = true
 
-abbrev pub said_close_in : State → Bool
-said_close_in (Opened by window maximum) = false
-said_close_in (Confirmed up down) = is_closed up.speech
+abbrev pub sent_close_in : State → Bool
+sent_close_in (Opened by window maximum) = false
+sent_close_in (Confirmed up down) = is_closed up.speech
 
 -- the client has sent CLOSE
-abbrev pub said_close : Ledger → Bool
-said_close ledger = said_close_in ledger.state
+abbrev pub sent_close : Ledger → Bool
+sent_close ledger = sent_close_in ledger.state
 
 abbrev pub is_over_in : State → Bool
 is_over_in (Opened by window maximum) = false

@@ -3,7 +3,7 @@ use Rattle.std.specs.Prelude.{◌≡◌, ◌+◌, ◌&&◌, ℕ, Bool, true, fal
 use Rattle.ssh_grammar.specs.declared.side.Side.{Side}
 use Rattle.ssh_grammar.specs.declared.side.Side.TheVariants.{Up, Down}
 use Rattle.ssh_grammar.specs.declared.fault.Breach.{Breach}
-use Rattle.mux_history.specs.Gist.{Act, Confirms}
+use Rattle.mux_history.specs.Summary.{Act, Confirms}
 use Rattle.mux_history.specs.Channels.{Channel, any_by, is_closes, is_confirmed, is_ends}
 use Rattle.mux_history.specs.Ledger.{breach, carried, granted, initial, maximum_of, other_side, room, sum_of, unanswered}
 use Rattle.mux_history.specs.Laws.{IsAccounted, with_act}

@@ -80,7 +80,7 @@ impl Account {
     }
 
     /// After an act of this direction's receiver.
-    pub fn hears(self, act: Act) -> Result<Account, Breach>
+    pub fn receives(self, act: Act) -> Result<Account, Breach>
         ensures { result ≡ judged (other_breach act self) (other_after act self) }
     {
         match act {

@@ -1,11 +1,11 @@
 ghost use Rattle.std.specs.Prelude.{◌≡◌, true, false, OnOk, OnErr};
-ghost use Rattle.mux_history.specs.Gist.{Grants, Carries, Ends, Closes, Asks, Answers};
+ghost use Rattle.mux_history.specs.Summary.{Grants, Carries, Ends, Closes, Asks, Answers};
 ghost use Rattle.mux_history.specs.Channels.{Channel, any_by, is_closes, is_confirmed};
 ghost use Rattle.mux_history.specs.Ledger.{room};
 ghost use Rattle.mux_history.specs.Laws.{with_act};
 ghost use Rattle.ssh_grammar.specs.declared.side.Side.TheVariants.{Up};
 ghost use Rattle.window_ledger.specs.Act.{act_of};
-ghost use Rattle.window_ledger.specs.Leaving.{is_over, left, left_state, said_close};
+ghost use Rattle.window_ledger.specs.Leaving.{is_over, left, left_state, sent_close};
 ghost use Rattle.window_ledger.specs.Stands.{Stands, IsBegun, Judges, GoesOn, IsConfirmed, AddsUp, both_closed, confirmed};
 ghost use Rattle.window_ledger.specs.Step.{judged, between, own_after, other_after, breach_in, state_after};
 
@@ -27,7 +27,7 @@ fn exchange(own: Account, other: Account, act: Act) -> Result<(Account, Account)
     ensures { result ≡ judged (between act own other) (own_after act own, other_after act other) }
 {
     let own = own.says(act)?;
-    let other = other.hears(act)?;
+    let other = other.receives(act)?;
     Ok((own, other))
 }
 
@@ -209,8 +209,8 @@ impl Ledger {
     }
 
     /// Whether the client has sent CLOSE.
-    pub fn said_close(&self) -> bool
-        ensures test { result ≡ said_close self.now }
+    pub fn sent_close(&self) -> bool
+        ensures test { result ≡ sent_close self.now }
         ensures exact { (x : Channel) → Stands self.now x → result ≡ any_by Up is_closes x.acts }
     {
         match self.state {

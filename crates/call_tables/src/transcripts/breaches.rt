@@ -257,7 +257,7 @@ const CLOSED: &str = r#"
 "#;
 
 #[test]
-fn the_server_says_nothing_after_its_close(rt: HostRuntime) -> Result<(), Fail> {
+fn the_server_sends_nothing_after_its_close(rt: HostRuntime) -> Result<(), Fail> {
     plays_each(
         rt.alloc(),
         CLOSED,

@@ -10,14 +10,14 @@ ghost use Rattle.conf_fold.specs.Entries.{entry_fits};
 ghost use Rattle.conf_reader.specs.Results.{Refuses, is_line_fault, refused_at};
 ghost use Rattle.conf_rules.specs.Results.{as_error};
 ghost use Rattle.conf_fold.specs.Results.{Evaluated, GivesLine, RanUnless, breaks_line, breaks_off, FailsInLine, FailsAt, HasLineCause, HasRunCause};
-ghost use Rattle.conf_fold.specs.Stands.{OnNext, WhereTold, FoldsEntry, Folds, next_row, setting, view_of, entry_so_far};
+ghost use Rattle.conf_fold.specs.Stands.{OnNext, WhereRecorded, FoldsEntry, Folds, next_row, setting, view_of, entry_so_far};
 ghost use Rattle.conf_rules.specs.declared.key.Key.TheVariants as keys;
 
 use super::Fold;
 use crate::entries::file_entry;
 use conf_match::eval;
 use conf_reader::{ConfLine, LineError, refuse};
-use conf_rules::{Criteria, Entry, Key, ResolveError};
+use conf_rules::{Criteria, Key, LineContent, ResolveError};
 use conf_tokens::View;
 use mux_outside::{Facts, Runner};
 use ssh_fields::Text;
@@ -41,16 +41,16 @@ fn evaluate<R: Runner>(
     view: &View<'_>,
     runner: &mut R,
 ) -> Result<bool, LineError>
-    ensures holds { WhereTold (R.told runner.old) (λ status.
+    ensures holds { WhereRecorded (R.recorded runner.old) (λ status.
         Evaluated result (verdict status (seen view.now) criteria.now).holds) }
-    ensures ran { WhereTold (R.told runner.old) (λ status.
+    ensures ran { WhereRecorded (R.recorded runner.old) (λ status.
         RanUnless (breaks_line result) (R.ran runner.old) (R.ran runner.new)
         (verdict status (seen view.now) criteria.now).ran) }
-    ensures failed { WhereTold (R.told runner.old) (λ status.
+    ensures failed { WhereRecorded (R.recorded runner.old) (λ status.
         FailsInLine result (R.ran runner.old) (R.ran runner.new)
         (verdict status (seen view.now) criteria.now).ran) }
     ensures cause { HasLineCause result (R.faults runner.old) (R.faults runner.new) }
-    ensures told { R.told runner.new ≡ R.told runner.old }
+    ensures recorded { R.recorded runner.new ≡ R.recorded runner.old }
 {
     Ok(eval(alloc, criteria, view, runner)?)
 }
@@ -63,17 +63,17 @@ impl Fold {
         facts: &Facts,
         runner: &mut R,
     ) -> Result<bool, LineError>
-        ensures holds { WhereTold (R.told runner.old) (λ status.
+        ensures holds { WhereRecorded (R.recorded runner.old) (λ status.
             Evaluated result (verdict status (view_of self.now (known facts.now))
             criteria.now).holds) }
-        ensures ran { WhereTold (R.told runner.old) (λ status.
+        ensures ran { WhereRecorded (R.recorded runner.old) (λ status.
             RanUnless (breaks_line result) (R.ran runner.old) (R.ran runner.new)
             (verdict status (view_of self.now (known facts.now)) criteria.now).ran) }
-        ensures failed { WhereTold (R.told runner.old) (λ status.
+        ensures failed { WhereRecorded (R.recorded runner.old) (λ status.
             FailsInLine result (R.ran runner.old) (R.ran runner.new)
             (verdict status (view_of self.now (known facts.now)) criteria.now).ran) }
         ensures cause { HasLineCause result (R.faults runner.old) (R.faults runner.new) }
-        ensures told { R.told runner.new ≡ R.told runner.old }
+        ensures recorded { R.recorded runner.new ≡ R.recorded runner.old }
     {
         let host = self.host()?;
         let name = match &self.name {
@@ -110,19 +110,19 @@ impl Fold {
         facts: &Facts,
         runner: &mut R,
     ) -> Result<bool, LineError>
-        ensures held { WhereTold (R.told runner.old) (λ status. active ≡ true
+        ensures held { WhereRecorded (R.recorded runner.old) (λ status. active ≡ true
             → Evaluated result (verdict status (view_of self.now (known facts.now))
             criteria.now).holds) }
         ensures idle { active ≡ false → result ≡ Ok false }
-        ensures ran { WhereTold (R.told runner.old) (λ status. active ≡ true
+        ensures ran { WhereRecorded (R.recorded runner.old) (λ status. active ≡ true
             → RanUnless (breaks_line result) (R.ran runner.old) (R.ran runner.new)
             (verdict status (view_of self.now (known facts.now)) criteria.now).ran) }
-        ensures failed { WhereTold (R.told runner.old) (λ status. active ≡ true
+        ensures failed { WhereRecorded (R.recorded runner.old) (λ status. active ≡ true
             → FailsInLine result (R.ran runner.old) (R.ran runner.new)
             (verdict status (view_of self.now (known facts.now)) criteria.now).ran) }
         ensures quiet { active ≡ false → R.ran runner.new ≡ R.ran runner.old }
         ensures cause { HasLineCause result (R.faults runner.old) (R.faults runner.new) }
-        ensures told { R.told runner.new ≡ R.told runner.old }
+        ensures recorded { R.recorded runner.new ≡ R.recorded runner.old }
     {
         if active {
             self.holds(criteria, facts, runner)
@@ -134,7 +134,7 @@ impl Fold {
     /// Takes what a line of a file says.
     pub(crate) fn take<R: Runner>(
         &mut self,
-        entry: Entry,
+        entry: LineContent,
         line: &ConfLine,
         facts: &Facts,
         runner: &mut R,
@@ -142,43 +142,43 @@ impl Fold {
         requires known { line.now.opens ≡ false → line.now.depth < length self.old.applies }
         requires opened { line.now.opens ≡ true → line.now.depth ≤ length self.old.applies }
         requires fits { entry_fits entry ≡ true }
-        ensures folds { OnNext (known facts.now) (R.told runner.old) self.old line.now
-            (λ told pass rows blocks place l. entry_so_far self.old line.now ≡ Ok entry
-            → FoldsEntry told pass rows blocks line.now place l result self.new) }
-        ensures ran { OnNext (known facts.now) (R.told runner.old) self.old line.now
-            (λ told pass rows blocks place l. entry_so_far self.old line.now ≡ Ok entry
+        ensures folds { OnNext (known facts.now) (R.recorded runner.old) self.old line.now
+            (λ recorded pass rows blocks place l. entry_so_far self.old line.now ≡ Ok entry
+            → FoldsEntry recorded pass rows blocks line.now place l result self.new) }
+        ensures ran { OnNext (known facts.now) (R.recorded runner.old) self.old line.now
+            (λ recorded pass rows blocks place l. entry_so_far self.old line.now ≡ Ok entry
             → RanUnless (breaks_line result) (R.ran runner.old) (R.ran runner.new)
-            (next_row told pass rows place l).ran) }
-        ensures failed { OnNext (known facts.now) (R.told runner.old) self.old line.now
-            (λ told pass rows blocks place l. entry_so_far self.old line.now ≡ Ok entry
+            (next_row recorded pass rows place l).ran) }
+        ensures failed { OnNext (known facts.now) (R.recorded runner.old) self.old line.now
+            (λ recorded pass rows blocks place l. entry_so_far self.old line.now ≡ Ok entry
             → FailsInLine result (R.ran runner.old) (R.ran runner.new)
-            (next_row told pass rows place l).ran) }
+            (next_row recorded pass rows place l).ran) }
         ensures cause { HasLineCause result (R.faults runner.old) (R.faults runner.new) }
         ensures depth { OnOk result (length self.new.applies ≡ line.now.depth + 1) }
         ensures unchanged { OnErr result (self.new.settings ≡ self.old.settings) }
-        ensures told { R.told runner.new ≡ R.told runner.old }
+        ensures recorded { R.recorded runner.new ≡ R.recorded runner.old }
     {
         let depth = line.depth as usize;
         match entry {
-            Entry::Host(patterns) => {
+            LineContent::Host(patterns) => {
                 let applies = self.names_it(&patterns);
                 self.open(depth, applies)?;
                 Ok(())
             }
-            Entry::Match(criteria) => {
+            LineContent::Match(criteria) => {
                 let active = self.all_apply(depth);
                 let applies = self.tests(active, &criteria, facts, runner)?;
                 self.ask(&criteria);
                 self.open(depth, applies)?;
                 Ok(())
             }
-            Entry::Gives(key, value) => {
+            LineContent::Gives(key, value) => {
                 let active = self.is_active(depth, line.opens);
                 self.enter(depth, line.opens)?;
                 self.give(key, value, active)?;
                 Ok(())
             }
-            Entry::Nothing => {
+            LineContent::Nothing => {
                 self.enter(depth, line.opens)?;
                 Ok(())
             }
@@ -198,21 +198,21 @@ impl Fold {
     ) -> Result<(), ResolveError>
         requires known { line.now.opens ≡ false → line.now.depth < length self.old.applies }
         requires opened { line.now.opens ≡ true → line.now.depth ≤ length self.old.applies }
-        ensures folds { OnNext (known facts.now) (R.told runner.old) self.old line.now
-            (λ told pass rows blocks place l.
-            Folds told pass rows blocks line.now place l result self.new) }
-        ensures ran { OnNext (known facts.now) (R.told runner.old) self.old line.now
-            (λ told pass rows blocks place l.
+        ensures folds { OnNext (known facts.now) (R.recorded runner.old) self.old line.now
+            (λ recorded pass rows blocks place l.
+            Folds recorded pass rows blocks line.now place l result self.new) }
+        ensures ran { OnNext (known facts.now) (R.recorded runner.old) self.old line.now
+            (λ recorded pass rows blocks place l.
             RanUnless (breaks_off result) (R.ran runner.old) (R.ran runner.new)
-            (next_row told pass rows place l).ran) }
-        ensures failed { OnNext (known facts.now) (R.told runner.old) self.old line.now
-            (λ told pass rows blocks place l.
+            (next_row recorded pass rows place l).ran) }
+        ensures failed { OnNext (known facts.now) (R.recorded runner.old) self.old line.now
+            (λ recorded pass rows blocks place l.
             FailsAt line.now.file line.now.number result (R.ran runner.old) (R.ran runner.new)
-            (next_row told pass rows place l).ran) }
+            (next_row recorded pass rows place l).ran) }
         ensures cause { HasRunCause result (R.faults runner.old) (R.faults runner.new) }
         ensures depth { OnOk result (length self.new.applies ≡ line.now.depth + 1) }
         ensures unchanged { OnErr result (self.new.settings ≡ self.old.settings) }
-        ensures told { R.told runner.new ≡ R.told runner.old }
+        ensures recorded { R.recorded runner.new ≡ R.recorded runner.old }
     {
         let entry = match self.said(line) {
             Ok(entry) => entry,
@@ -226,7 +226,7 @@ impl Fold {
 
     /// What a line says behind those given so far.
     #[tactic(auto, unfolding(crate::specs::Stands::entry_so_far))]
-    pub(crate) fn said(&self, line: &ConfLine) -> Result<Entry, LineError>
+    pub(crate) fn said(&self, line: &ConfLine) -> Result<LineContent, LineError>
         ensures fits { IfOk result (λ entry. entry_fits entry ≡ true) }
         ensures read { GivesLine result (entry_so_far self.now line.now) }
         ensures plain { IfErr result (λ e. is_line_fault e ≡ false) }

@@ -2,11 +2,11 @@
 ghost use Rattle.std.specs.Prelude.{◌≡◌, ◌⊎◌, false, true, IfSome, IsSome, None, OnOk, OnSome, Some, nat_eq};
 ghost use Rattle.indexmap.specs.IndexMap.{get};
 ghost use Rattle.mux_edge.specs.Entries.{HasEntry, IsAwaited, IsBlocked, IsConnected, IsFinished, IsKeptBack, IsNoted, IsPaused};
-ghost use Rattle.mux_edge.specs.Table.{Touches};
+ghost use Rattle.mux_edge.specs.StreamTable.{Touches};
 ghost use Rattle.mux_edge.specs.Ready.{IsFull};
 
-use super::Table;
-use super::ready::Door;
+use super::StreamTable;
+use super::ready::OwnListener;
 use crate::lookups::Lookups;
 use crate::stream::Stream;
 use mio::net::{TcpListener, TcpStream};
@@ -17,21 +17,21 @@ use std::io;
 use std::io::ErrorKind;
 use std::net::{Net, SocketAddr};
 
-impl Table {
+impl StreamTable {
     /// Listens at an address, with a listener of this number.
     pub fn listen<N: Net>(&mut self, rt: &N, number: u64, address: SocketAddr) -> io::Result<()>
-        ensures there { OnOk result (IsSome (get nat_eq self.new.doors number)) }
+        ensures there { OnOk result (IsSome (get nat_eq self.new.own_listeners number)) }
         ensures entries { self.new.entries ≡ self.old.entries }
         ensures listener { self.new.listener ≡ self.old.listener }
     {
         self.make_room()?;
-        self.doors.reserve(1)?;
+        self.own_listeners.reserve(1)?;
         let mut listener = TcpListener::bind(rt, address)?;
         self.poll
             .registry()
             .register(&mut listener, Token(number as usize), Interest::READABLE)?;
-        self.doors
-            .insert(number, Door::new(listener))
+        self.own_listeners
+            .insert(number, OwnListener::new(listener))
             .map_err(|_| AllocError)?;
         Ok(())
     }
@@ -76,17 +76,17 @@ impl Table {
     }
 }
 
-impl Table {
+impl StreamTable {
     /// Lets go of a listener.
     pub fn unlisten(&mut self, number: u64)
-        ensures gone { get nat_eq self.new.doors number ≡ None }
+        ensures gone { get nat_eq self.new.own_listeners number ≡ None }
         ensures entries { self.new.entries ≡ self.old.entries }
         ensures listener { self.new.listener ≡ self.old.listener }
     {
-        let Some(door) = self.doors.swap_remove(&number) else {
+        let Some(own_listener) = self.own_listeners.swap_remove(&number) else {
             return;
         };
-        self.ready.drop_door(number, &door);
+        self.ready.drop_own_listener(number, &own_listener);
     }
 
     /// Notes that the addresses of a stream are known.
@@ -105,9 +105,9 @@ impl Table {
         ensures there { OnSome result (HasEntry number self.new.entries) }
         ensures rest { Touches number self.old self.new }
     {
-        let door = self.doors.get_mut(&listener)?;
-        door.joins = false;
-        match door.listener.accept() {
+        let own_listener = self.own_listeners.get_mut(&listener)?;
+        own_listener.joins = false;
+        match own_listener.listener.accept() {
             Ok((stream, _)) => self.take_in(listener, number, stream),
             Err(e) => {
                 self.not_joined(listener, &e);
@@ -135,7 +135,7 @@ impl Table {
     // A socket that could not be accepted is no fault of the run.
     fn not_joined(&mut self, listener: u64, e: &io::Error)
         ensures { self.new ≡ record self.old {
-          doors = self.new.doors;
+          own_listeners = self.new.own_listeners;
           ready = self.new.ready;
           joins_pause = self.new.joins_pause;
         } }
@@ -152,10 +152,10 @@ impl Table {
 
     // Tries to accept again at a listener.
     fn join_again(&mut self, listener: u64)
-        ensures { self.new ≡ record self.old { doors = self.new.doors; ready = self.new.ready } }
+        ensures { self.new ≡ record self.old { own_listeners = self.new.own_listeners; ready = self.new.ready } }
     {
-        if let Some(door) = self.doors.get_mut(&listener) {
-            let _ = self.ready.note_join(listener, door);
+        if let Some(own_listener) = self.own_listeners.get_mut(&listener) {
+            let _ = self.ready.note_join(listener, own_listener);
         }
     }
 

@@ -12,7 +12,7 @@ use std::io;
 
 /// A stream with what is known of it.
 #[derive(Drop)]
-pub struct Entry {
+pub struct StreamEntry {
     pub stream: Stream,
     /// a read may stop short of what is there
     pub stops_short: bool,
@@ -36,7 +36,7 @@ pub struct Entry {
 
 /// A listener of the master's own.
 #[derive(Drop)]
-pub struct Door {
+pub struct OwnListener {
     pub listener: TcpListener,
     /// it is among those at which a socket may wait
     pub joins: bool,
@@ -54,7 +54,7 @@ pub enum Ready {
 /// What is ready, each once, so at most twice as many as there are streams and listeners, and one.
 /// A round goes over it twice: the second read of a stream mostly shows that nothing is left.
 #[derive(Drop)]
-pub struct Queue {
+pub struct ReadyQueue {
     items: VecDeque<Ready>,
     accepts: bool,
     // how many at the front were there when the round last began to go over it
@@ -63,17 +63,17 @@ pub struct Queue {
     again: bool,
 }
 
-impl Entry {
+impl StreamEntry {
     ghost use Rattle.mux_edge.specs.Connections.{met_turn};
     ghost use Rattle.mux_edge.specs.Entries.{is_silent};
 
     /// A stream, whose connection is made or is being made.
-    pub fn new(stream: Stream, stops_short: bool, connecting: bool) -> Entry
+    pub fn new(stream: Stream, stops_short: bool, connecting: bool) -> StreamEntry
         ensures short { result.stops_short ≡ stops_short }
         ensures connecting { result.connecting ≡ connecting }
         ensures blocked { result.blocked ≡ connecting }
     {
-        Entry {
+        StreamEntry {
             stream,
             stops_short,
             ended: false,
@@ -138,13 +138,13 @@ impl Entry {
     }
 }
 
-impl Door {
+impl OwnListener {
     /// A listener at which no socket waits, as far as is known.
-    pub fn new(listener: TcpListener) -> Door
+    pub fn new(listener: TcpListener) -> OwnListener
         ensures listener { result.listener ≡ listener }
         ensures joins { result.joins ≡ false }
     {
-        Door {
+        OwnListener {
             listener,
             joins: false,
         }
@@ -175,17 +175,17 @@ fn is_join(number: u64, ready: Ready) -> bool
     matches!(ready, Ready::Join(n) if n == number)
 }
 
-impl Queue {
+impl ReadyQueue {
     ghost use Rattle.mux_edge.specs.Entries.{is_silent};
 
     /// Nothing is ready so far, and no round is begun.
-    pub fn new(alloc: Global) -> Queue
+    pub fn new(alloc: Global) -> ReadyQueue
         ensures items { result.items.items ≡ [] }
         ensures accepts { result.accepts ≡ false }
         ensures front { result.front ≡ 0 }
         ensures again { result.again ≡ false }
     {
-        Queue {
+        ReadyQueue {
             items: VecDeque::new(alloc),
             accepts: false,
             front: 0,
@@ -220,23 +220,27 @@ impl Queue {
     }
 
     /// Notes that a socket may wait at a listener of the master's own.
-    pub fn note_join(&mut self, number: u64, door: &mut Door) -> Result<(), AllocError>
-        ensures listener { door.new ≡ record door.old { joins = door.new.joins } }
-        ensures noted { OnOk result (door.new.joins ≡ true) }
-        ensures queued { OnOk result (door.old.joins ≡ false
+    pub fn note_join(
+        &mut self,
+        number: u64,
+        own_listener: &mut OwnListener,
+    ) -> Result<(), AllocError>
+        ensures listener { own_listener.new ≡ record own_listener.old { joins = own_listener.new.joins } }
+        ensures noted { OnOk result (own_listener.new.joins ≡ true) }
+        ensures queued { OnOk result (own_listener.old.joins ≡ false
             → self.new.items.items ≡ self.old.items.items ++ Ready.Join number ∷ []) }
-        ensures once { door.old.joins ≡ true → self.new ≡ self.old }
+        ensures once { own_listener.old.joins ≡ true → self.new ≡ self.old }
         ensures full { OnErr result (IsFull self.old) }
     {
-        if !door.joins {
+        if !own_listener.joins {
             self.items.push_back(Ready::Join(number))?;
-            door.joins = true;
+            own_listener.joins = true;
         }
         Ok(())
     }
 
     /// Notes that a stream may be read, or that it may be once it isn't silent any more.
-    pub fn note_bytes(&mut self, number: u64, entry: &mut Entry) -> Result<(), AllocError>
+    pub fn note_bytes(&mut self, number: u64, entry: &mut StreamEntry) -> Result<(), AllocError>
         ensures entry { entry.new
             ≡ record entry.old { reads = entry.new.reads; held = entry.new.held } }
         ensures held { is_silent entry.old ≡ true → entry.new.held ≡ true }
@@ -251,7 +255,7 @@ impl Queue {
     }
 
     /// Notes that a stream may be read of which that was kept back, where it isn't silent any more.
-    pub fn note_held(&mut self, number: u64, entry: &mut Entry) -> Result<(), AllocError>
+    pub fn note_held(&mut self, number: u64, entry: &mut StreamEntry) -> Result<(), AllocError>
         ensures entry { entry.new
             ≡ record entry.old { reads = entry.new.reads; held = entry.new.held } }
         ensures noted { OnOk result (is_silent entry.old ≡ false → entry.old.held ≡ true
@@ -266,7 +270,7 @@ impl Queue {
     }
 
     /// Notes that a stream may be read.
-    pub fn note_read(&mut self, number: u64, entry: &mut Entry) -> Result<(), AllocError>
+    pub fn note_read(&mut self, number: u64, entry: &mut StreamEntry) -> Result<(), AllocError>
         ensures entry { entry.new ≡ record entry.old { reads = entry.new.reads } }
         ensures noted { OnOk result (entry.new.reads ≡ true) }
         ensures queued { OnOk result (entry.old.reads ≡ false
@@ -282,7 +286,7 @@ impl Queue {
     }
 
     /// Notes that a stream can be written to.
-    pub fn note_write(&mut self, number: u64, entry: &mut Entry) -> Result<(), AllocError>
+    pub fn note_write(&mut self, number: u64, entry: &mut StreamEntry) -> Result<(), AllocError>
         ensures entry { entry.new ≡ record entry.old { writes = entry.new.writes } }
         ensures noted { OnOk result (entry.new.writes ≡ true) }
         ensures queued { OnOk result (entry.old.writes ≡ false
@@ -298,7 +302,7 @@ impl Queue {
     }
 
     /// Notes that a connection may be made.
-    pub fn note_connect(&mut self, number: u64, entry: &mut Entry) -> Result<(), AllocError>
+    pub fn note_connect(&mut self, number: u64, entry: &mut StreamEntry) -> Result<(), AllocError>
         ensures entry { entry.new ≡ record entry.old { writes = entry.new.writes } }
         ensures noted { OnOk result (entry.new.writes ≡ true) }
         ensures queued { OnOk result (entry.old.writes ≡ false
@@ -325,7 +329,7 @@ impl Queue {
     }
 
     /// Forgets a stream.
-    pub fn drop_stream(&mut self, number: u64, entry: &Entry)
+    pub fn drop_stream(&mut self, number: u64, entry: &StreamEntry)
         ensures gone { (entry.now.reads || entry.now.writes) ≡ true → self.new.items.items
             ≡ filter (λ ready. not (is_of number ready)) self.old.items.items }
         ensures kept { (entry.now.reads || entry.now.writes) ≡ false
@@ -338,14 +342,14 @@ impl Queue {
     }
 
     /// Forgets a listener of the master's own.
-    pub fn drop_door(&mut self, number: u64, door: &Door)
-        ensures gone { door.now.joins ≡ true → self.new.items.items
+    pub fn drop_own_listener(&mut self, number: u64, own_listener: &OwnListener)
+        ensures gone { own_listener.now.joins ≡ true → self.new.items.items
             ≡ filter (λ ready. not (is_join number ready)) self.old.items.items }
-        ensures kept { door.now.joins ≡ false
+        ensures kept { own_listener.now.joins ≡ false
             → self.new.items.items ≡ self.old.items.items }
         ensures rest { self.new ≡ record self.old { items = self.new.items } }
     {
-        if door.joins {
+        if own_listener.joins {
             self.items.retain(|r| !is_join(number, *r));
         }
     }

@@ -3,22 +3,22 @@ ghost use Rattle.std.specs.Prelude.{◌≡◌, ◌<◌, length, IfSome, IfNone, 
 ghost use Rattle.mux_outside.specs.Wire.{WroteFits};
 ghost use Rattle.mux_edge.specs.Sockets.{FoundFits, IsOf, Serves};
 ghost use Rattle.mux_edge.specs.Entries.{HasEntry, IsBlocked, IsConnected, Stands};
-ghost use Rattle.mux_edge.specs.Table.{ReadsOnce, Touches};
+ghost use Rattle.mux_edge.specs.StreamTable.{ReadsOnce, Touches};
 ghost use Rattle.mux_edge.specs.declared.numbers.Numbers.{Numbers};
 
-use super::Table;
+use super::StreamTable;
 use super::ready::Ready;
 use crate::lookups::Lookups;
 use crate::numbers::Numbers;
 use crate::stream::Stream;
 use mio::net::UnixStream;
-use mux_exchange::{Sent, hear, most_read, send};
+use mux_exchange::{Sent, most_read, receive, send};
 use mux_outside::{Piece, Turn, Wrote};
 use std::io;
 use std::io::ErrorKind;
 use std::net::Net;
 
-impl Table {
+impl StreamTable {
     /// Goes on with what was ready. `None`: it was not, or not any more.
     pub fn go_on<N: Net>(
         &mut self,
@@ -44,7 +44,7 @@ impl Table {
     }
 }
 
-impl Table {
+impl StreamTable {
     // Accepts a client under this number.
     fn accept(&mut self, number: u64) -> Option<Turn>
         ensures turn { IfSome result (λ turn. turn ≡ Turn.Accepted number) }
@@ -102,7 +102,7 @@ impl Table {
             return None;
         }
         let most = most_read(number);
-        let heard = hear(&mut entry.stream, most, &mut self.spare, into);
+        let heard = receive(&mut entry.stream, most, &mut self.spare, into);
         entry.ended = heard.is_last();
         if heard.leaves_more(entry.stops_short, most) {
             let _ = self.ready.note_read(number, entry);

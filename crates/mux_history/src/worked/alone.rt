@@ -8,7 +8,7 @@ ghost use Rattle.mux_history.specs.Journal.{IsLawful, is_known};
 ghost use Rattle.mux_history.specs.Right.{AreFresh, IsAdmitted};
 ghost use Rattle.mux_history.specs.Worked.{open_setting, run, run_of, under};
 ghost use Rattle.mux_history.specs.WorkedProxy.{past_window, overgrown_down, overgrown_up, data_too_early, again_setting, foreign_data};
-ghost use Rattle.mux_history.specs.WorkedForwards.{connected, cancelled_twice, one_of_two_ports, port_8080_only, told_too_late, two_ports};
+ghost use Rattle.mux_history.specs.WorkedForwards.{connected, cancelled_twice, one_of_two_ports, port_8080_only, recorded_too_late, two_ports};
 ghost use Rattle.mux_history.specs.WorkedLosses.{all_closed, held_back, leaves_opens};
 
 /// What a client is told and what is sent for it is the same where nobody else is.
@@ -25,8 +25,8 @@ pub fn a_client_sees_nothing_of_others()
     ensures refused { IsTrue (looks_unshared (under port_8080_only 0 []) 1
         (run_of (under port_8080_only 0 []) one_of_two_ports)) }
     ensures cancels { IsTrue (looks_unshared open_setting 1 (run cancelled_twice)) }
-    ensures lost { IsTrue (looks_unshared open_setting 1 (run told_too_late)) }
-    ensures goes_on { IsTrue (looks_unshared open_setting 2 (run told_too_late)) }
+    ensures lost { IsTrue (looks_unshared open_setting 1 (run recorded_too_late)) }
+    ensures goes_on { IsTrue (looks_unshared open_setting 2 (run recorded_too_late)) }
     ensures late { IsTrue (looks_unshared open_setting 1 (run all_closed)) }
     ensures farewell { IsTrue (looks_unshared open_setting 1 (run leaves_opens)) }
 {}

@@ -6,11 +6,11 @@ ghost use Rattle.mux_history.specs.Rows.{losses};
 ghost use Rattle.mux_history.specs.Pending.{pending};
 ghost use Rattle.mux_history.specs.Log.{open_matters, fitting, overflow};
 ghost use Rattle.mux_history.specs.Journal.{is_blocked};
-ghost use Rattle.mux_history.specs.Worked.{hex, run, sent, told, hello};
-ghost use Rattle.mux_history.specs.WorkedLosses.{leaves, late_confirmation, late_success, all_closed, leaves_opens, sixty_five, crowded, held_back, freed_again};
+ghost use Rattle.mux_history.specs.Worked.{hex, run, sent, recorded, hello};
+ghost use Rattle.mux_history.specs.WorkedLosses.{leaves, late_confirmation, late_success, all_closed, leaves_opens, sixty_five, dialogs_full, held_back, freed_again};
 
 /// What a client leaves behind is closed for it, at once and when the server answers later.
-pub fn the_master_says_farewell_for_a_lost_client()
+pub fn the_master_sends_farewell_for_a_lost_client()
     ensures at_once { drop 90 (sent (run leaves)) ≡ hex (codes "00000006 00 61 00000007") }
     ensures confirmation { drop 100 (sent (run late_confirmation))
         ≡ hex (codes "00000006 00 61 00000008") }
@@ -32,9 +32,9 @@ pub fn a_farewell_has_an_order()
 /// A client that comes while 64 have open matters is refused, also where one of them is lost.
 pub fn the_sixty_fifth_client_is_refused()
     ensures loss { losses (run sixty_five) ≡ (65, None) ∷ [] }
-    ensures down { told 65 (run sixty_five) ≡ [] }
-    ensures last { told 64 (run sixty_five) ≡ hello }
-    ensures lost_counts { losses (run crowded) ≡ (1, None) ∷ (65, None) ∷ [] }
+    ensures down { recorded 65 (run sixty_five) ≡ [] }
+    ensures last { recorded 64 (run sixty_five) ≡ hello }
+    ensures lost_counts { losses (run dialogs_full) ≡ (1, None) ∷ (65, None) ∷ [] }
 {}
 
 /// A frame that fills the queue is taken, the next is not.

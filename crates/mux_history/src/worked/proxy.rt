@@ -8,12 +8,12 @@ ghost use Rattle.mux_history.specs.declared.broke.Break.TheVariants as broke;
 ghost use Rattle.mux_history.specs.declared.ended.Ended.TheVariants as ended;
 ghost use Rattle.mux_history.specs.Rows.{losses};
 ghost use Rattle.mux_history.specs.Solo.{end_of};
-ghost use Rattle.mux_history.specs.Worked.{hex, run, run_of, under, sent, told, told_in_proxy, greets, hello};
-ghost use Rattle.mux_history.specs.WorkedProxy.{session, two_sessions, sent_after_two, confirmed, past_window, overgrown_down, overgrown_up, data_to_nobody, data_too_early, again_setting, foreign_data, database_only, to_database, opens_directly, opens_display, says_at_once, server_says, enters_in_pieces, cut_short, server_fails};
+ghost use Rattle.mux_history.specs.Worked.{hex, run, run_of, under, sent, recorded, recorded_in_proxy, greets, hello};
+ghost use Rattle.mux_history.specs.WorkedProxy.{session, two_sessions, sent_after_two, confirmed, past_window, overgrown_down, overgrown_up, data_to_nobody, data_too_early, again_setting, foreign_data, database_only, to_database, opens_directly, opens_display, sends_at_once, server_sends, enters_in_pieces, cut_short, server_fails};
 
 /// What follows PROXY in the same piece is read as a payload.
 pub fn a_payload_may_follow_the_request_for_the_proxy()
-    ensures down { told 1 (run (greets 1 ++ enters_in_pieces))
+    ensures down { recorded 1 (run (greets 1 ++ enters_in_pieces))
         ≡ hello ++ hex (codes "00000008 8000000f 00000000") }
     ensures up { sent (run (greets 1 ++ enters_in_pieces)) ≡ session 0 }
 {}
@@ -25,9 +25,9 @@ pub fn opens_get_different_numbers()
 
 /// The confirmation reaches the client that opened, under that client's own number.
 pub fn a_confirmation_reaches_its_client()
-    ensures second { told_in_proxy 2 (run confirmed)
+    ensures second { recorded_in_proxy 2 (run confirmed)
         ≡ hex (codes "00000012 00 5b 00000000 00000005 00000005 00008000") }
-    ensures first { told_in_proxy 1 (run confirmed) ≡ [] }
+    ensures first { recorded_in_proxy 1 (run confirmed) ≡ [] }
 {}
 
 /// Data fills the window; one byte more drops the client, and its channel is closed.
@@ -64,13 +64,13 @@ pub fn a_closed_channel_takes_nothing()
 pub fn a_foreign_channel_takes_nothing()
     ensures loss { losses (run foreign_data) ≡ (1, Some (why.NotYours 5)) ∷ [] }
     ensures up { sent_after_two (run foreign_data) ≡ [] }
-    ensures other { told_in_proxy 2 (run foreign_data)
+    ensures other { recorded_in_proxy 2 (run foreign_data)
         ≡ hex (codes "00000012 00 5b 00000000 00000005 00000005 00008000") }
 {}
 
 /// A direct channel is opened where the policy permits it, and refused to the client elsewhere.
 pub fn a_direct_channel_needs_its_permission()
-    ensures down { told_in_proxy 1 (run_of (under database_only 0 []) opens_directly)
+    ensures down { recorded_in_proxy 1 (run_of (under database_only 0 []) opens_directly)
         ≡ hex (codes "0000001f 00 5c 00000004 00000001 0000000d") ++ (codes "not permitted"
         ++ hex (codes "00000000")) }
     ensures up { sent (run_of (under database_only 0 []) opens_directly) ≡ to_database 0 }
@@ -78,7 +78,7 @@ pub fn a_direct_channel_needs_its_permission()
 
 /// Channels of other types are refused.
 pub fn an_unknown_channel_type_is_refused()
-    ensures down { told_in_proxy 1 (run opens_display)
+    ensures down { recorded_in_proxy 1 (run opens_display)
         ≡ hex (codes "00000026 00 5c 00000004 00000003 00000014") ++ (codes "unknown channel type"
         ++ hex (codes "00000000")) }
     ensures up { sent (run opens_display) ≡ [] }
@@ -86,22 +86,22 @@ pub fn an_unknown_channel_type_is_refused()
 
 /// A frame that is none drops a client as soon as its header is there.
 pub fn a_bad_frame_drops_its_client()
-    ensures longest { losses (run (says_at_once (hex (codes "00040000 00")))) ≡ [] }
-    ensures long { losses (run (says_at_once (hex (codes "00040001"))))
+    ensures longest { losses (run (sends_at_once (hex (codes "00040000 00")))) ≡ [] }
+    ensures long { losses (run (sends_at_once (hex (codes "00040001"))))
         ≡ (1, Some (why.BadFrame (bad.Long 262145))) ∷ [] }
-    ensures short { losses (run (says_at_once (hex (codes "00000001"))))
+    ensures short { losses (run (sends_at_once (hex (codes "00000001"))))
         ≡ (1, Some (why.BadFrame (bad.Short 1))) ∷ [] }
-    ensures padding { losses (run (says_at_once (hex (codes "00000002 01"))))
+    ensures padding { losses (run (sends_at_once (hex (codes "00000002 01"))))
         ≡ (1, Some (why.BadFrame (bad.Padding 1))) ∷ [] }
 {}
 
 /// The same of the server ends the run.
 pub fn a_bad_frame_of_the_server_ends_the_run()
-    ensures long { end_of (run (server_says (hex (codes "00040001"))))
+    ensures long { end_of (run (server_sends (hex (codes "00040001"))))
         ≡ Some (ended.Broke 1 (broke.Frame (bad.Long 262145))) }
-    ensures short { end_of (run (server_says (hex (codes "00000001"))))
+    ensures short { end_of (run (server_sends (hex (codes "00000001"))))
         ≡ Some (ended.Broke 1 (broke.Frame (bad.Short 1))) }
-    ensures padding { end_of (run (server_says (hex (codes "00000002 01"))))
+    ensures padding { end_of (run (server_sends (hex (codes "00000002 01"))))
         ≡ Some (ended.Broke 1 (broke.Frame (bad.Padding 1))) }
     ensures cut { end_of (run cut_short) ≡ Some (ended.Broke 1 (broke.Cut 5)) }
     ensures failed { end_of (run server_fails) ≡ Some ended.ServerFailed }

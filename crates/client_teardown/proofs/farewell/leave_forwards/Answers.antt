@@ -5,14 +5,14 @@ use Rattle.forward_rules.proofs.Taken.{taking-others}
 use Rattle.ssh_grammar.specs.Messages.{Key}
 use Rattle.ssh_grammar.specs.SpellMessage.{cancel_forward}
 use Rattle.client_teardown.specs.Leaving.{forward_farewells}
-use Rattle.client_teardown.proofs.Cancels.{IsSent, cancels-told, has-none, none-cancel, sent-none, sent-one, taking-step}
+use Rattle.client_teardown.proofs.Cancels.{IsSent, cancels-recorded, has-none, none-cancel, sent-none, sent-one, taking-step}
 use Rattle.client_teardown.proofs.Sending.{frames, sends-all}
 use Rattle.client_teardown.proofs.farewell.leave_forwards.Goals as goal
 use Rattle.client_teardown.proofs.farewell.leave_forwards.Goals.{else-not-is_leaving, then-not-is_leaving}
 
 pub loop-init : goal.loop-init
 loop-init c = record {
-  sent = ap (λ ps. c.args.up.now.waiting ++ frames ps) (sym (cancels-told c.args.client c.args.forwards.now));
+  sent = ap (λ ps. c.args.up.now.waiting ++ frames ps) (sym (cancels-recorded c.args.client c.args.forwards.now));
   others = refl;
   remaining = omega (arith, c.count-end.ensures.exact);
   spare = omega arith;

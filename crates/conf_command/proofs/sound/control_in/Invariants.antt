@@ -1,5 +1,5 @@
 use Rattle.std.proofs.Common.{◌≡◌, drop}
-use Rattle.conf_rules.specs.declared.control.Control.TheVariants.{Check}
+use Rattle.conf_rules.specs.declared.control.MasterCommand.TheVariants.{Check}
 use Rattle.conf_rules.specs.CommandLine.{control_in}
 use Rattle.conf_command.proofs.sound.control_in.Given as goal
 

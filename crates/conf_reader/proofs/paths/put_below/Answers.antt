@@ -8,14 +8,14 @@ use Rattle.conf_rules.specs.Includes.{or_root, below}
 use Rattle.conf_reader.proofs.paths.put_below.Goals as goal
 
 pub returns-in_default-clause-found : goal.returns-in_default-clause-found
-returns-in_default-clause-found g c = λ told t.
-    same-lists (c.args.paths.now.items ++ below told c.args.component.now c.args.base.now) c.args.paths.now.items
-    (ap (λ xs. c.args.paths.now.items ++ xs) (below-none (g.F.Files.told c.args.files.now) told c.args.component.now c.args.base.now _ t (rw c.or_root.ensures at c.in_ok-names.ensures.lists) c.in_default.is (sym c.is_glob.ensures ∙ c.if-not-is_glob.false)) ∙ append-nil c.args.paths.now.items)
+returns-in_default-clause-found g c = λ recorded t.
+    same-lists (c.args.paths.now.items ++ below recorded c.args.component.now c.args.base.now) c.args.paths.now.items
+    (ap (λ xs. c.args.paths.now.items ++ xs) (below-none (g.F.Files.recorded c.args.files.now) recorded c.args.component.now c.args.base.now _ t (rw c.or_root.ensures at c.in_ok-names.ensures.lists) c.in_default.is (sym c.is_glob.ensures ∙ c.if-not-is_glob.false)) ∙ append-nil c.args.paths.now.items)
 
 pub returns-clause-found : goal.returns-clause-found
-returns-clause-found g c = λ told t f.
+returns-clause-found g c = λ recorded t f.
     ap (sum_by f) c.in_ok-put_taken.ensures
-    ∙ same-more c.args.paths.now.items (below told c.args.component.now c.args.base.now) (taken c.args.component.now c.args.base.now c.in-Some.names) (below-some (g.F.Files.told c.args.files.now) told c.args.component.now c.args.base.now _ _ t (rw c.or_root.ensures at c.in_ok-names.ensures.lists) c.in-Some.is (sym c.is_glob.ensures ∙ c.if-not-is_glob.false)) f
+    ∙ same-more c.args.paths.now.items (below recorded c.args.component.now c.args.base.now) (taken c.args.component.now c.args.base.now c.in-Some.names) (below-some (g.F.Files.recorded c.args.files.now) recorded c.args.component.now c.args.base.now _ _ t (rw c.or_root.ensures at c.in_ok-names.ensures.lists) c.in-Some.is (sym c.is_glob.ensures ∙ c.if-not-is_glob.false)) f
 
 pub returns-in_err-names-clause-failed : goal.returns-in_err-names-clause-failed
 returns-in_err-names-clause-failed g c =

@@ -17,6 +17,6 @@ returns-in_err-put_below-clause-failed g c =
     c.in_err-put_below.was (p.1 ∙ ap Err p.2) (rw c.as_bytes.ensures (asked-one component c.args.bases.items c.loop-base.base-index c.base-item.result within item)) (rw c.loop-base.invariant.failed at c.put_below.ensures.failed)
 
 pub returns-clause-found : goal.returns-clause-found
-returns-clause-found g c = λ told t.
+returns-clause-found g c = λ recorded t.
     let all : length c.args.bases.items ≤ c.loop-base.base-index = rw c.as_slice-base-items.ensures.value at c.loop-base-test.false in
-    all-found told c.args.component.now c.args.bases.items c.loop-base.paths.items c.loop-base.base-index (sym c.is_empty.ensures ∙ c.if-is_empty.false) all (c.loop-base.invariant.found told t)
+    all-found recorded c.args.component.now c.args.bases.items c.loop-base.paths.items c.loop-base.base-index (sym c.is_empty.ensures ∙ c.if-is_empty.false) all (c.loop-base.invariant.found recorded t)

@@ -2,7 +2,7 @@ use Rattle.std.proofs.Common.{◌∙◌, ◌+◌, length, sym, ap, refl, arith}
 use Rattle.std.proofs.lemmas.Result.{err_from_is_err_and}
 use Rattle.std.specs.Prelude.{Option}
 use Rattle.conf_rules.specs.declared.asked.Asked.{Asked}
-use Rattle.conf_rules.specs.Told.{Facts}
+use Rattle.conf_rules.specs.Recorded.{Facts}
 use Rattle.conf_reader.specs.declared.line.ConfLine.{ConfLine}
 use Rattle.conf_reader.specs.Firsts.{firsts_of}
 use Rattle.conf_resolve.specs.Passes.{final_rows}
@@ -10,7 +10,7 @@ use Rattle.conf_resolve.proofs.CauseLemmas.{read-causes, run-causes}
 use Rattle.conf_resolve.proofs.DepthLemmas.{depth-low, given-bounded, more-bounded}
 use Rattle.conf_resolve.proofs.PassLemmas.{goes-on, line-fails, reader-fails, all-given, line-ran, reader-ran, all-ran, start-ran, none-given}
 use Rattle.conf_resolve.proofs.ResolveLemmas.{underway}
-use Rattle.conf_resolve.proofs.FaultLemmas.{read-stands, run-stands, none-fails, none-told}
+use Rattle.conf_resolve.proofs.FaultLemmas.{read-stands, run-stands, none-fails, none-recorded}
 use Rattle.conf_resolve.proofs.IncludeLemmas.{any_place, any-meets}
 use Rattle.conf_rules.specs.ReadOrder.{read_once}
 use Rattle.conf_reader.proofs.ToReadLemmas.{none-read, stays-read, then-read, then-some}
@@ -19,14 +19,14 @@ use Rattle.conf_resolve.proofs.ReadingLemmas.{no-line, to-all}
 use Rattle.conf_resolve.proofs.resolution.pass.Goals as goal
 
 pub returns-in_err-reader-clause-passes : goal.returns-in_err-reader-clause-passes
-returns-in_err-reader-clause-passes g c = λ told asked facts tells status pass rows begins.
+returns-in_err-reader-clause-passes g c = λ recorded asked facts records status pass rows begins.
     let p = err_from_is_err_and c.from_residual.result c.from_residual.ensures.1 in
     rw (p.1, p.2) tt
 
 pub returns-in_err-reader-clause-ran : goal.returns-in_err-reader-clause-ran
-returns-in_err-reader-clause-ran g c = λ told asked facts tells status pass rows before begins began.
+returns-in_err-reader-clause-ran g c = λ recorded asked facts records status pass rows before begins began.
     let p = err_from_is_err_and c.from_residual.result c.from_residual.ensures.1 in
-    rw (p.1, p.2) (start-ran told pass rows before _ began)
+    rw (p.1, p.2) (start-ran recorded pass rows before _ began)
 
 pub loop-reader-init : goal.loop-reader-init
 loop-reader-init g c = record {
@@ -37,12 +37,12 @@ loop-reader-init g c = record {
   facts = c.in_ok-reader.ensures.facts.0;
   original = c.in_ok-reader.ensures.facts.1;
   fits = more-bounded c.in_ok-reader.reader.lines.open_files 0 (length c.args.fold.now.applies) c.in_ok-reader.ensures.none.1 (omega arith);
-  underway = λ told pass rows asked facts tells status begins.
-      underway told pass c.args.fold.now c.in_ok-reader.reader.lines rows _ begins
-      (c.in_ok-reader.ensures.left told (length told.asked.lines) facts ∙ ap (λ (a : Asked). Rattle.conf_rules.specs.Sources.lines_from told (length told.asked.lines) a.from) (sym asked)) c.in_ok-reader.ensures.read c.in_ok-reader.ensures.none.1 c.in_ok-reader.ensures.looks;
+  underway = λ recorded pass rows asked facts records status begins.
+      underway recorded pass c.args.fold.now c.in_ok-reader.reader.lines rows _ begins
+      (c.in_ok-reader.ensures.left recorded (length recorded.asked.lines) facts ∙ ap (λ (a : Asked). Rattle.conf_rules.specs.Sources.lines_from recorded (length recorded.asked.lines) a.from) (sym asked)) c.in_ok-reader.ensures.read c.in_ok-reader.ensures.none.1 c.in_ok-reader.ensures.looks;
   firsts = c.in_ok-reader.ensures.firsts;
-  failed = λ told asked facts tells. refl;
-  notes = λ told asked facts tells. stays-read _ _ _ _ (sym (c.in_ok-reader.ensures.reads told facts ∙ ap (λ (a : Asked). read_once told a.from) (sym asked))) refl;
+  failed = λ recorded asked facts records. refl;
+  notes = λ recorded asked facts records. stays-read _ _ _ _ (sym (c.in_ok-reader.ensures.reads recorded facts ∙ ap (λ (a : Asked). read_once recorded a.from) (sym asked))) refl;
 }
 
 pub line-requires-clause-known : goal.line-requires-clause-known
@@ -56,21 +56,21 @@ line-requires-clause-opened g c =
     (from.lies (length c.loop-reader.fold.applies) c.loop-reader.invariant.fits).opened
 
 pub returns-in_err-line-2-clause-passes : goal.returns-in_err-line-2-clause-passes
-returns-in_err-line-2-clause-passes g c = λ told asked facts tells status pass rows begins.
-    let u = c.loop-reader.invariant.underway told pass rows asked facts tells status begins in
+returns-in_err-line-2-clause-passes g c = λ recorded asked facts records status pass rows begins.
+    let u = c.loop-reader.invariant.underway recorded pass rows asked facts records status begins in
     let p = err_from_is_err_and c.from_residual-in_err-line-2.result c.from_residual-in_err-line-2.ensures.1 in
-    rw (p.1, p.2) (line-fails told pass rows c.loop-reader.fold c.line.new.self c.loop-reader.reader.lines c.next.new.self.lines rows _ _ u c.in-Some.line _
-    (rw c.in-Some.is at (c.in_ok-line.ensures.reads told u.place u.blocks (rw c.loop-reader.invariant.files tells) (facts ∙ sym c.loop-reader.invariant.facts) (ap (λ (a : Asked). a.original) asked ∙ sym c.loop-reader.invariant.original) u.count u.bounded))
-    (λ rows place l stands next. c.in_err-line-2.ensures.folds told pass rows u.blocks place l facts (rw c.loop-reader.invariant.runner status) stands next))
+    rw (p.1, p.2) (line-fails recorded pass rows c.loop-reader.fold c.line.new.self c.loop-reader.reader.lines c.next.new.self.lines rows _ _ u c.in-Some.line _
+    (rw c.in-Some.is at (c.in_ok-line.ensures.reads recorded u.place u.blocks (rw c.loop-reader.invariant.files records) (facts ∙ sym c.loop-reader.invariant.facts) (ap (λ (a : Asked). a.original) asked ∙ sym c.loop-reader.invariant.original) u.count u.bounded))
+    (λ rows place l stands next. c.in_err-line-2.ensures.folds recorded pass rows u.blocks place l facts (rw c.loop-reader.invariant.runner status) stands next))
 
 pub returns-in_err-line-2-clause-ran : goal.returns-in_err-line-2-clause-ran
-returns-in_err-line-2-clause-ran g c = λ told asked facts tells status pass rows before begins began.
-    let u = c.loop-reader.invariant.underway told pass rows asked facts tells status begins in
+returns-in_err-line-2-clause-ran g c = λ recorded asked facts records status pass rows before begins began.
+    let u = c.loop-reader.invariant.underway recorded pass rows asked facts records status begins in
     let p = err_from_is_err_and c.from_residual-in_err-line-2.result c.from_residual-in_err-line-2.ensures.1 in
-    rw (p.1, p.2) (line-ran told pass c.loop-reader.fold c.line.new.self c.loop-reader.reader.lines c.next.new.self.lines (final_rows told pass rows) rows _ _ _ before u c.in-Some.line _
-    (rw c.in-Some.is at (c.in_ok-line.ensures.reads told u.place u.blocks (rw c.loop-reader.invariant.files tells) (facts ∙ sym c.loop-reader.invariant.facts) (ap (λ (a : Asked). a.original) asked ∙ sym c.loop-reader.invariant.original) u.count u.bounded))
-    (λ rows place l stands next. c.in_err-line-2.ensures.folds told pass rows u.blocks place l facts (rw c.loop-reader.invariant.runner status) stands next)
-    (λ rows place l stands next. c.in_err-line-2.ensures.ran told pass rows u.blocks place l facts (rw c.loop-reader.invariant.runner status) stands next)
+    rw (p.1, p.2) (line-ran recorded pass c.loop-reader.fold c.line.new.self c.loop-reader.reader.lines c.next.new.self.lines (final_rows recorded pass rows) rows _ _ _ before u c.in-Some.line _
+    (rw c.in-Some.is at (c.in_ok-line.ensures.reads recorded u.place u.blocks (rw c.loop-reader.invariant.files records) (facts ∙ sym c.loop-reader.invariant.facts) (ap (λ (a : Asked). a.original) asked ∙ sym c.loop-reader.invariant.original) u.count u.bounded))
+    (λ rows place l stands next. c.in_err-line-2.ensures.folds recorded pass rows u.blocks place l facts (rw c.loop-reader.invariant.runner status) stands next)
+    (λ rows place l stands next. c.in_err-line-2.ensures.ran recorded pass rows u.blocks place l facts (rw c.loop-reader.invariant.runner status) stands next)
     began)
 
 pub returns-in_err-line-clause-cause : goal.returns-in_err-line-clause-cause
@@ -88,136 +88,136 @@ loop-reader-preserved g c =
     let from = rw c.in-Some.is at c.in_ok-line.ensures.given in
     let bounded = given-bounded c.loop-reader.reader.lines c.next.new.self.lines c.in-Some.line (length c.loop-reader.fold.applies) (length c.line.new.self.applies) from c.loop-reader.invariant.fits c.in_ok-line-2.ensures.depth in
     record {
-      files = c.in_ok-line.ensures.files.told ∙ c.loop-reader.invariant.files;
-      runner = c.line.ensures.told ∙ c.loop-reader.invariant.runner;
+      files = c.in_ok-line.ensures.files.recorded ∙ c.loop-reader.invariant.files;
+      runner = c.line.ensures.recorded ∙ c.loop-reader.invariant.runner;
       file_faults = c.in_ok-line.ensures.files.cause ∙ c.loop-reader.invariant.file_faults;
       run_faults = c.in_ok-line-2.ensures.cause ∙ c.loop-reader.invariant.run_faults;
       facts = ap Rattle.conf_tokens.specs.Known.known c.in_ok-line.ensures.asked.facts ∙ c.loop-reader.invariant.facts;
       original = c.in_ok-line.ensures.asked.original ∙ c.loop-reader.invariant.original;
       firsts = ap (λ (v : _). v.items) c.in_ok-line.ensures.asked.firsts ∙ c.loop-reader.invariant.firsts;
-      failed = λ told asked facts tells.
-          (c.in_ok-line.ensures.files.looks told any_place (rw c.loop-reader.invariant.files tells) (facts ∙ sym c.loop-reader.invariant.facts) (ap (λ (a : Asked). a.original) asked ∙ sym c.loop-reader.invariant.original) (any-meets told c.loop-reader.reader.lines)).0
-          ∙ c.loop-reader.invariant.failed told asked facts tells;
-      notes = λ told asked facts tells.
-          then-read _ _ _ _ _ _ (c.loop-reader.invariant.notes told asked facts tells) (rw c.in-Some.is at (c.in_ok-line.ensures.files.noted told (rw c.loop-reader.invariant.files tells) (facts ∙ sym c.loop-reader.invariant.facts) (ap (λ (a : Asked). a.original) asked ∙ sym c.loop-reader.invariant.original)));
+      failed = λ recorded asked facts records.
+          (c.in_ok-line.ensures.files.looks recorded any_place (rw c.loop-reader.invariant.files records) (facts ∙ sym c.loop-reader.invariant.facts) (ap (λ (a : Asked). a.original) asked ∙ sym c.loop-reader.invariant.original) (any-meets recorded c.loop-reader.reader.lines)).0
+          ∙ c.loop-reader.invariant.failed recorded asked facts records;
+      notes = λ recorded asked facts records.
+          then-read _ _ _ _ _ _ (c.loop-reader.invariant.notes recorded asked facts records) (rw c.in-Some.is at (c.in_ok-line.ensures.files.noted recorded (rw c.loop-reader.invariant.files records) (facts ∙ sym c.loop-reader.invariant.facts) (ap (λ (a : Asked). a.original) asked ∙ sym c.loop-reader.invariant.original)));
       fits = bounded;
-      underway = λ told pass rows asked facts tells status begins.
-          let u = c.loop-reader.invariant.underway told pass rows asked facts tells status begins in
-          goes-on told pass c.loop-reader.fold c.line.new.self c.loop-reader.reader.lines c.next.new.self.lines (final_rows told pass rows) rows _ _ u c.in-Some.line
-          (rw c.in-Some.is at (c.in_ok-line.ensures.reads told u.place u.blocks (rw c.loop-reader.invariant.files tells) (facts ∙ sym c.loop-reader.invariant.facts) (ap (λ (a : Asked). a.original) asked ∙ sym c.loop-reader.invariant.original) u.count u.bounded))
-          (λ rows place l stands next. c.in_ok-line-2.ensures.folds told pass rows u.blocks place l facts (rw c.loop-reader.invariant.runner status) stands next)
+      underway = λ recorded pass rows asked facts records status begins.
+          let u = c.loop-reader.invariant.underway recorded pass rows asked facts records status begins in
+          goes-on recorded pass c.loop-reader.fold c.line.new.self c.loop-reader.reader.lines c.next.new.self.lines (final_rows recorded pass rows) rows _ _ u c.in-Some.line
+          (rw c.in-Some.is at (c.in_ok-line.ensures.reads recorded u.place u.blocks (rw c.loop-reader.invariant.files records) (facts ∙ sym c.loop-reader.invariant.facts) (ap (λ (a : Asked). a.original) asked ∙ sym c.loop-reader.invariant.original) u.count u.bounded))
+          (λ rows place l stands next. c.in_ok-line-2.ensures.folds recorded pass rows u.blocks place l facts (rw c.loop-reader.invariant.runner status) stands next)
           (given-bounded c.loop-reader.reader.lines c.next.new.self.lines c.in-Some.line (length c.loop-reader.fold.applies) (c.in-Some.line.depth + 1) from c.loop-reader.invariant.fits refl)
-          (depth-low told pass c.loop-reader.fold u.rows u.blocks c.loop-reader.reader.lines c.next.new.self.lines c.in-Some.line u.stands from c.loop-reader.invariant.fits)
-          (c.loop-reader.invariant.firsts ∙ ap (λ h. firsts_of h c.args.asked.now.from) (sym (ap (λ (f : Facts). f.home) facts)) ∙ ap (firsts_of told.facts.home) (sym (ap (λ (a : Asked). a.from) asked)))
-          (λ test passes. (rw c.in-Some.is at (c.in_ok-line.ensures.files.looks told test (rw c.loop-reader.invariant.files tells) (facts ∙ sym c.loop-reader.invariant.facts) (ap (λ (a : Asked). a.original) asked ∙ sym c.loop-reader.invariant.original) passes).1))
+          (depth-low recorded pass c.loop-reader.fold u.rows u.blocks c.loop-reader.reader.lines c.next.new.self.lines c.in-Some.line u.stands from c.loop-reader.invariant.fits)
+          (c.loop-reader.invariant.firsts ∙ ap (λ h. firsts_of h c.args.asked.now.from) (sym (ap (λ (f : Facts). f.home) facts)) ∙ ap (firsts_of recorded.facts.home) (sym (ap (λ (a : Asked). a.from) asked)))
+          (λ test passes. (rw c.in-Some.is at (c.in_ok-line.ensures.files.looks recorded test (rw c.loop-reader.invariant.files records) (facts ∙ sym c.loop-reader.invariant.facts) (ap (λ (a : Asked). a.original) asked ∙ sym c.loop-reader.invariant.original) passes).1))
           _
-          (λ rows place l stands next. c.in_ok-line-2.ensures.ran told pass rows u.blocks place l facts (rw c.loop-reader.invariant.runner status) stands next);
+          (λ rows place l stands next. c.in_ok-line-2.ensures.ran recorded pass rows u.blocks place l facts (rw c.loop-reader.invariant.runner status) stands next);
     }
 
 pub returns-clause-passes : goal.returns-clause-passes
-returns-clause-passes g c = λ told asked facts tells status pass rows begins.
-    let u = c.loop-reader.invariant.underway told pass rows asked facts tells status begins in
-    all-given told pass c.loop-reader.fold c.loop-reader.reader.lines (final_rows told pass rows) rows _ _ u
-    (none-given told u.place u.blocks c.loop-reader.reader.lines c.next.new.self.lines _ c.in_default.not-Some (c.in_ok-line.ensures.reads told u.place u.blocks (rw c.loop-reader.invariant.files tells) (facts ∙ sym c.loop-reader.invariant.facts) (ap (λ (a : Asked). a.original) asked ∙ sym c.loop-reader.invariant.original) u.count u.bounded))
+returns-clause-passes g c = λ recorded asked facts records status pass rows begins.
+    let u = c.loop-reader.invariant.underway recorded pass rows asked facts records status begins in
+    all-given recorded pass c.loop-reader.fold c.loop-reader.reader.lines (final_rows recorded pass rows) rows _ _ u
+    (none-given recorded u.place u.blocks c.loop-reader.reader.lines c.next.new.self.lines _ c.in_default.not-Some (c.in_ok-line.ensures.reads recorded u.place u.blocks (rw c.loop-reader.invariant.files records) (facts ∙ sym c.loop-reader.invariant.facts) (ap (λ (a : Asked). a.original) asked ∙ sym c.loop-reader.invariant.original) u.count u.bounded))
 
 pub returns-clause-ran : goal.returns-clause-ran
-returns-clause-ran g c = λ told asked facts tells status pass rows before begins began.
-    let u = c.loop-reader.invariant.underway told pass rows asked facts tells status begins in
-    all-ran told pass c.loop-reader.fold c.loop-reader.reader.lines (final_rows told pass rows) rows _ _ before u
-    (none-given told u.place u.blocks c.loop-reader.reader.lines c.next.new.self.lines _ c.in_default.not-Some (c.in_ok-line.ensures.reads told u.place u.blocks (rw c.loop-reader.invariant.files tells) (facts ∙ sym c.loop-reader.invariant.facts) (ap (λ (a : Asked). a.original) asked ∙ sym c.loop-reader.invariant.original) u.count u.bounded))
+returns-clause-ran g c = λ recorded asked facts records status pass rows before begins began.
+    let u = c.loop-reader.invariant.underway recorded pass rows asked facts records status begins in
+    all-ran recorded pass c.loop-reader.fold c.loop-reader.reader.lines (final_rows recorded pass rows) rows _ _ before u
+    (none-given recorded u.place u.blocks c.loop-reader.reader.lines c.next.new.self.lines _ c.in_default.not-Some (c.in_ok-line.ensures.reads recorded u.place u.blocks (rw c.loop-reader.invariant.files records) (facts ∙ sym c.loop-reader.invariant.facts) (ap (λ (a : Asked). a.original) asked ∙ sym c.loop-reader.invariant.original) u.count u.bounded))
     began
 
 pub returns-in_err-line-clause-passes : goal.returns-in_err-line-clause-passes
-returns-in_err-line-clause-passes g c = λ told asked facts tells status pass rows begins.
-    let u = c.loop-reader.invariant.underway told pass rows asked facts tells status begins in
+returns-in_err-line-clause-passes g c = λ recorded asked facts records status pass rows begins.
+    let u = c.loop-reader.invariant.underway recorded pass rows asked facts records status begins in
     let p = err_from_is_err_and c.from_residual-in_err-line.result c.from_residual-in_err-line.ensures.1 in
-    rw (p.1, p.2) (reader-fails told pass rows c.loop-reader.fold c.loop-reader.reader.lines c.next.new.self.lines rows _ _ u _
-    (c.in_err-line.ensures.reads told u.place u.blocks (rw c.loop-reader.invariant.files tells) (facts ∙ sym c.loop-reader.invariant.facts) (ap (λ (a : Asked). a.original) asked ∙ sym c.loop-reader.invariant.original) u.count u.bounded))
+    rw (p.1, p.2) (reader-fails recorded pass rows c.loop-reader.fold c.loop-reader.reader.lines c.next.new.self.lines rows _ _ u _
+    (c.in_err-line.ensures.reads recorded u.place u.blocks (rw c.loop-reader.invariant.files records) (facts ∙ sym c.loop-reader.invariant.facts) (ap (λ (a : Asked). a.original) asked ∙ sym c.loop-reader.invariant.original) u.count u.bounded))
 
 pub returns-in_err-line-clause-ran : goal.returns-in_err-line-clause-ran
-returns-in_err-line-clause-ran g c = λ told asked facts tells status pass rows before begins began.
-    let u = c.loop-reader.invariant.underway told pass rows asked facts tells status begins in
+returns-in_err-line-clause-ran g c = λ recorded asked facts records status pass rows before begins began.
+    let u = c.loop-reader.invariant.underway recorded pass rows asked facts records status begins in
     let p = err_from_is_err_and c.from_residual-in_err-line.result c.from_residual-in_err-line.ensures.1 in
-    rw (p.1, p.2) (reader-ran told pass c.loop-reader.fold c.loop-reader.reader.lines c.next.new.self.lines (final_rows told pass rows) rows _ _ before u _
-    (c.in_err-line.ensures.reads told u.place u.blocks (rw c.loop-reader.invariant.files tells) (facts ∙ sym c.loop-reader.invariant.facts) (ap (λ (a : Asked). a.original) asked ∙ sym c.loop-reader.invariant.original) u.count u.bounded)
+    rw (p.1, p.2) (reader-ran recorded pass c.loop-reader.fold c.loop-reader.reader.lines c.next.new.self.lines (final_rows recorded pass rows) rows _ _ before u _
+    (c.in_err-line.ensures.reads recorded u.place u.blocks (rw c.loop-reader.invariant.files records) (facts ∙ sym c.loop-reader.invariant.facts) (ap (λ (a : Asked). a.original) asked ∙ sym c.loop-reader.invariant.original) u.count u.bounded)
     began)
 
 pub returns-in_err-reader-clause-fault : goal.returns-in_err-reader-clause-fault
-returns-in_err-reader-clause-fault g c = λ told asked facts tells status pass rows before begins began.
+returns-in_err-reader-clause-fault g c = λ recorded asked facts records status pass rows before begins began.
     let p = err_from_is_err_and c.from_residual.result c.from_residual.ensures.1 in
     rw (p.1, p.2) tt
 
 pub returns-in_err-line-clause-fault : goal.returns-in_err-line-clause-fault
-returns-in_err-line-clause-fault g c = λ told asked facts tells status pass rows before begins began.
-    let u = c.loop-reader.invariant.underway told pass rows asked facts tells status begins in
+returns-in_err-line-clause-fault g c = λ recorded asked facts records status pass rows before begins began.
+    let u = c.loop-reader.invariant.underway recorded pass rows asked facts records status begins in
     let p = err_from_is_err_and c.from_residual-in_err-line.result c.from_residual-in_err-line.ensures.1 in
     let home = ap (λ (f : Facts). f.home) facts in
     let from = ap (λ (a : Asked). a.from) asked in
-    rw (p.1, p.2) (read-stands told pass c.loop-reader.fold c.loop-reader.reader.lines (final_rows told pass rows) rows _ _ before u _ _ _ _ (c.loop-reader.invariant.failed told asked facts tells)
-    (λ test passes. (c.in_err-line.ensures.files.looks told test (rw c.loop-reader.invariant.files tells) (facts ∙ sym c.loop-reader.invariant.facts) (ap (λ (a : Asked). a.original) asked ∙ sym c.loop-reader.invariant.original) passes).0)
+    rw (p.1, p.2) (read-stands recorded pass c.loop-reader.fold c.loop-reader.reader.lines (final_rows recorded pass rows) rows _ _ before u _ _ _ _ (c.loop-reader.invariant.failed recorded asked facts records)
+    (λ test passes. (c.in_err-line.ensures.files.looks recorded test (rw c.loop-reader.invariant.files records) (facts ∙ sym c.loop-reader.invariant.facts) (ap (λ (a : Asked). a.original) asked ∙ sym c.loop-reader.invariant.original) passes).0)
     (no-run-fault (Option ConfLine) _ _ _ c.in_err-line.ensures.files.cause)
-    (c.loop-reader.invariant.firsts ∙ ap (λ h. firsts_of h c.args.asked.now.from) (sym home) ∙ ap (firsts_of told.facts.home) (sym from)) began)
+    (c.loop-reader.invariant.firsts ∙ ap (λ h. firsts_of h c.args.asked.now.from) (sym home) ∙ ap (firsts_of recorded.facts.home) (sym from)) began)
 
 pub returns-in_err-line-2-clause-fault : goal.returns-in_err-line-2-clause-fault
-returns-in_err-line-2-clause-fault g c = λ told asked facts tells status pass rows before begins began.
-    let u = c.loop-reader.invariant.underway told pass rows asked facts tells status begins in
+returns-in_err-line-2-clause-fault g c = λ recorded asked facts records status pass rows before begins began.
+    let u = c.loop-reader.invariant.underway recorded pass rows asked facts records status begins in
     let p = err_from_is_err_and c.from_residual-in_err-line-2.result c.from_residual-in_err-line-2.ensures.1 in
-    rw (p.1, p.2) (run-stands told pass c.loop-reader.fold c.loop-reader.reader.lines c.next.new.self.lines (final_rows told pass rows) rows _ _ _ before u c.in-Some.line _ _ _ _ _
-    (rw c.in-Some.is at (c.in_ok-line.ensures.reads told u.place u.blocks (rw c.loop-reader.invariant.files tells) (facts ∙ sym c.loop-reader.invariant.facts) (ap (λ (a : Asked). a.original) asked ∙ sym c.loop-reader.invariant.original) u.count u.bounded))
+    rw (p.1, p.2) (run-stands recorded pass c.loop-reader.fold c.loop-reader.reader.lines c.next.new.self.lines (final_rows recorded pass rows) rows _ _ _ before u c.in-Some.line _ _ _ _ _
+    (rw c.in-Some.is at (c.in_ok-line.ensures.reads recorded u.place u.blocks (rw c.loop-reader.invariant.files records) (facts ∙ sym c.loop-reader.invariant.facts) (ap (λ (a : Asked). a.original) asked ∙ sym c.loop-reader.invariant.original) u.count u.bounded))
     c.in_err-line-2.ensures.cause
-    (λ rows place l stands next. c.in_err-line-2.ensures.failed told pass rows u.blocks place l facts (rw c.loop-reader.invariant.runner status) stands next)
+    (λ rows place l stands next. c.in_err-line-2.ensures.failed recorded pass rows u.blocks place l facts (rw c.loop-reader.invariant.runner status) stands next)
     began)
 
 pub returns-in_err-reader-clause-failed : goal.returns-in_err-reader-clause-failed
-returns-in_err-reader-clause-failed g c = λ told asked facts tells status.
+returns-in_err-reader-clause-failed g c = λ recorded asked facts records status.
     let p = err_from_is_err_and c.from_residual.result c.from_residual.ensures.1 in
     rw (p.1, p.2) refl
 
 pub returns-in_err-line-clause-failed : goal.returns-in_err-line-clause-failed
-returns-in_err-line-clause-failed g c = λ told asked facts tells status.
+returns-in_err-line-clause-failed g c = λ recorded asked facts records status.
     let p = err_from_is_err_and c.from_residual-in_err-line.result c.from_residual-in_err-line.ensures.1 in
-    rw (p.1, p.2) (none-told any_place _ _ _ _ (c.loop-reader.invariant.failed told asked facts tells)
-    (c.in_err-line.ensures.files.looks told any_place (rw c.loop-reader.invariant.files tells) (facts ∙ sym c.loop-reader.invariant.facts) (ap (λ (a : Asked). a.original) asked ∙ sym c.loop-reader.invariant.original) (any-meets told c.loop-reader.reader.lines)).0)
+    rw (p.1, p.2) (none-recorded any_place _ _ _ _ (c.loop-reader.invariant.failed recorded asked facts records)
+    (c.in_err-line.ensures.files.looks recorded any_place (rw c.loop-reader.invariant.files records) (facts ∙ sym c.loop-reader.invariant.facts) (ap (λ (a : Asked). a.original) asked ∙ sym c.loop-reader.invariant.original) (any-meets recorded c.loop-reader.reader.lines)).0)
 
 pub returns-in_err-line-2-clause-failed : goal.returns-in_err-line-2-clause-failed
-returns-in_err-line-2-clause-failed g c = λ told asked facts tells status.
+returns-in_err-line-2-clause-failed g c = λ recorded asked facts records status.
     let p = err_from_is_err_and c.from_residual-in_err-line-2.result c.from_residual-in_err-line-2.ensures.1 in
     rw (p.1, p.2) (none-fails _ _ _
-    ((c.in_ok-line.ensures.files.looks told any_place (rw c.loop-reader.invariant.files tells) (facts ∙ sym c.loop-reader.invariant.facts) (ap (λ (a : Asked). a.original) asked ∙ sym c.loop-reader.invariant.original) (any-meets told c.loop-reader.reader.lines)).0
-    ∙ c.loop-reader.invariant.failed told asked facts tells))
+    ((c.in_ok-line.ensures.files.looks recorded any_place (rw c.loop-reader.invariant.files records) (facts ∙ sym c.loop-reader.invariant.facts) (ap (λ (a : Asked). a.original) asked ∙ sym c.loop-reader.invariant.original) (any-meets recorded c.loop-reader.reader.lines)).0
+    ∙ c.loop-reader.invariant.failed recorded asked facts records))
 
 pub returns-clause-failed : goal.returns-clause-failed
-returns-clause-failed g c = λ told asked facts tells status.
-    (c.in_ok-line.ensures.files.looks told any_place (rw c.loop-reader.invariant.files tells) (facts ∙ sym c.loop-reader.invariant.facts) (ap (λ (a : Asked). a.original) asked ∙ sym c.loop-reader.invariant.original) (any-meets told c.loop-reader.reader.lines)).0
-    ∙ c.loop-reader.invariant.failed told asked facts tells
+returns-clause-failed g c = λ recorded asked facts records status.
+    (c.in_ok-line.ensures.files.looks recorded any_place (rw c.loop-reader.invariant.files records) (facts ∙ sym c.loop-reader.invariant.facts) (ap (λ (a : Asked). a.original) asked ∙ sym c.loop-reader.invariant.original) (any-meets recorded c.loop-reader.reader.lines)).0
+    ∙ c.loop-reader.invariant.failed recorded asked facts records
 
 pub returns-in_err-reader-clause-noted : goal.returns-in_err-reader-clause-noted
-returns-in_err-reader-clause-noted g c = λ told asked facts tells status.
+returns-in_err-reader-clause-noted g c = λ recorded asked facts records status.
     let p = err_from_is_err_and c.from_residual.result c.from_residual.ensures.1 in
     rw p.1 (none-read _ _ _ refl)
 
 pub returns-in_err-line-clause-noted : goal.returns-in_err-line-clause-noted
-returns-in_err-line-clause-noted g c = λ told asked facts tells status.
+returns-in_err-line-clause-noted g c = λ recorded asked facts records status.
     let p = err_from_is_err_and c.from_residual-in_err-line.result c.from_residual-in_err-line.ensures.1 in
-    rw p.1 (then-some _ _ _ _ _ (c.loop-reader.invariant.notes told asked facts tells) (c.in_err-line.ensures.files.noted told (rw c.loop-reader.invariant.files tells) (facts ∙ sym c.loop-reader.invariant.facts) (ap (λ (a : Asked). a.original) asked ∙ sym c.loop-reader.invariant.original)))
+    rw p.1 (then-some _ _ _ _ _ (c.loop-reader.invariant.notes recorded asked facts records) (c.in_err-line.ensures.files.noted recorded (rw c.loop-reader.invariant.files records) (facts ∙ sym c.loop-reader.invariant.facts) (ap (λ (a : Asked). a.original) asked ∙ sym c.loop-reader.invariant.original)))
 
 pub returns-in_err-line-2-clause-noted : goal.returns-in_err-line-2-clause-noted
-returns-in_err-line-2-clause-noted g c = λ told asked facts tells status.
+returns-in_err-line-2-clause-noted g c = λ recorded asked facts records status.
     let p = err_from_is_err_and c.from_residual-in_err-line-2.result c.from_residual-in_err-line-2.ensures.1 in
-    rw p.1 (_, then-read _ _ _ _ _ _ (c.loop-reader.invariant.notes told asked facts tells) (rw c.in-Some.is at (c.in_ok-line.ensures.files.noted told (rw c.loop-reader.invariant.files tells) (facts ∙ sym c.loop-reader.invariant.facts) (ap (λ (a : Asked). a.original) asked ∙ sym c.loop-reader.invariant.original))))
+    rw p.1 (_, then-read _ _ _ _ _ _ (c.loop-reader.invariant.notes recorded asked facts records) (rw c.in-Some.is at (c.in_ok-line.ensures.files.noted recorded (rw c.loop-reader.invariant.files records) (facts ∙ sym c.loop-reader.invariant.facts) (ap (λ (a : Asked). a.original) asked ∙ sym c.loop-reader.invariant.original))))
 
 pub returns-clause-noted : goal.returns-clause-noted
-returns-clause-noted g c = λ told asked facts tells status.
-    to-all _ _ _ (then-read _ _ _ _ _ _ (c.loop-reader.invariant.notes told asked facts tells) (no-line told _ _ c.next.new.self.lines _ _ c.in_default.not-Some (c.in_ok-line.ensures.files.noted told (rw c.loop-reader.invariant.files tells) (facts ∙ sym c.loop-reader.invariant.facts) (ap (λ (a : Asked). a.original) asked ∙ sym c.loop-reader.invariant.original))))
+returns-clause-noted g c = λ recorded asked facts records status.
+    to-all _ _ _ (then-read _ _ _ _ _ _ (c.loop-reader.invariant.notes recorded asked facts records) (no-line recorded _ _ c.next.new.self.lines _ _ c.in_default.not-Some (c.in_ok-line.ensures.files.noted recorded (rw c.loop-reader.invariant.files records) (facts ∙ sym c.loop-reader.invariant.facts) (ap (λ (a : Asked). a.original) asked ∙ sym c.loop-reader.invariant.original))))
 
 pub returns-clause-cause : goal.returns-clause-cause
 returns-clause-cause g c = (c.in_ok-line.ensures.files.cause ∙ c.loop-reader.invariant.file_faults, c.loop-reader.invariant.run_faults)
 
 pub returns-clause-files : goal.returns-clause-files
-returns-clause-files g c = c.in_ok-line.ensures.files.told ∙ c.loop-reader.invariant.files
+returns-clause-files g c = c.in_ok-line.ensures.files.recorded ∙ c.loop-reader.invariant.files
 
 pub returns-in_err-line-clause-files : goal.returns-in_err-line-clause-files
-returns-in_err-line-clause-files g c = c.in_err-line.ensures.files.told ∙ c.loop-reader.invariant.files
+returns-in_err-line-clause-files g c = c.in_err-line.ensures.files.recorded ∙ c.loop-reader.invariant.files
 
 pub returns-in_err-line-2-clause-files : goal.returns-in_err-line-2-clause-files
-returns-in_err-line-2-clause-files g c = c.in_ok-line.ensures.files.told ∙ c.loop-reader.invariant.files
+returns-in_err-line-2-clause-files g c = c.in_ok-line.ensures.files.recorded ∙ c.loop-reader.invariant.files

@@ -7,7 +7,7 @@ use Rattle.mux_client.proofs.talking.offer.Given as goal
 
 abbrev pub invariant-loop : goal.invariant-loop
 invariant-loop g l = let W = g.W.Wire in record {
-  talking : (asks : Asks) (start : Option (List Mark)) (shown : List ℕ) → Talking asks start (W.state l.fn.wire).seen.told l.fn.held shown l.fn.client → Talking asks start (W.state l.wire).seen.told l.held shown l.client;
+  talking : (asks : Asks) (start : Option (List Mark)) (shown : List ℕ) → Talking asks start (W.state l.fn.wire).seen.recorded l.fn.held shown l.fn.client → Talking asks start (W.state l.wire).seen.recorded l.held shown l.client;
   between : IsBetween l.client l.held (W.state l.wire).seen;
   free : l.held ≡ [];
   stage : l.client.stage ≡ l.fn.client.stage;

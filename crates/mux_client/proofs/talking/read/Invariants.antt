@@ -5,8 +5,8 @@ use Rattle.mux_client.proofs.talking.read.Given as goal
 
 abbrev pub invariant-loop : goal.invariant-loop
 invariant-loop g l = let S = g.S.Sink in record {
-  talking : (start told : Option (List Mark)) (held shown : List ℕ) → Talking l.asks start told held shown l.fn.client
-      → ShowsOn (S.told l.fn.out) (S.told l.out) l.fn.out l.out (λ more. Talking l.asks start told held (shown ++ more) l.client);
+  talking : (start recorded : Option (List Mark)) (held shown : List ℕ) → Talking l.asks start recorded held shown l.fn.client
+      → ShowsOn (S.recorded l.fn.out) (S.recorded l.out) l.fn.out l.out (λ more. Talking l.asks start recorded held (shown ++ more) l.client);
   faults : S.faults l.out ≡ S.faults l.fn.out;
 }
 

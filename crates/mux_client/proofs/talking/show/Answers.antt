@@ -5,4 +5,4 @@ use Rattle.mux_client.proofs.talking.show.Goals as goal
 
 pub returns-in_err-text-clause-shows : goal.returns-in_err-text-clause-shows
 returns-in_err-text-clause-shows g c =
-    want-of-memory c.from_residual.result _ _ c.from_residual.ensures.1 (no-text (g.S.Sink.told c.args.out.now) c.args.out.now (text_of_line c.args.line))
+    want-of-memory c.from_residual.result _ _ c.from_residual.ensures.1 (no-text (g.S.Sink.recorded c.args.out.now) c.args.out.now (text_of_line c.args.line))

@@ -1,7 +1,7 @@
 use Rattle.std.proofs.Common.{◌≡◌, ◌∙◌, ◌∷◌, sym, subst, cond, ℕ, Bool, true, List, arith}
 use Rattle.mux_outside.specs.Streams.{without}
 use Rattle.mux_history.specs.declared.limits.TheConstants.{HOUSE}
-use Rattle.mux_machine.specs.Events.{here}
+use Rattle.mux_state.specs.Events.{here}
 use Rattle.mux_engine.specs.Serving.{scene}
 use Rattle.mux_engine.specs.Sides.{Housed, SameHouse}
 use Rattle.mux_engine.proofs.Arms.{on-ok}

@@ -1,11 +1,11 @@
 use Rattle.std.proofs.Common.{◌≤◌, ◌+◌, [], ◌∷◌, ◌++◌, sym, ap, refl, subst, ℕ, List, length, le_refl, arith}
-use Rattle.mux_outside.specs.HouseCalls.{Hears}
+use Rattle.mux_outside.specs.HouseCalls.{Receives}
 use Rattle.mux_outside.specs.Seen.{Seen}
 use Rattle.mux_outside.specs.Streams.{without}
 use Rattle.mux_outside.specs.WireState.{WireState}
 use Rattle.mux_outside.specs.declared.house_mark.HouseMark.TheVariants.{HouseTook}
 use Rattle.mux_history.specs.declared.limits.TheConstants.{HOUSE}
-use Rattle.mux_machine.specs.Events.{here}
+use Rattle.mux_state.specs.Events.{here}
 use Rattle.mux_engine.specs.Serving.{Serving}
 use Rattle.mux_engine.specs.Sides.{RestsOf, noted}
 use Rattle.mux_engine.proofs.Arms.{empty-is, on-err, some-bytes}
@@ -22,11 +22,11 @@ returns-then-is_empty-clause-serving g c held failed first calls before policy p
 
 pub returns-in_err-takes-clause-serving : goal.returns-in_err-takes-clause-serving
 returns-in_err-takes-clause-serving g c held failed first calls before policy pid start given hands v = on-err c.from_residual.result _ _ c.from_residual.ensures.0
-    (cut-here v _ _ _ [] refl c.in_err-takes.ensures.told refl (omega arith))
+    (cut-here v _ _ _ [] refl c.in_err-takes.ensures.recorded refl (omega arith))
 
 pub returns-in_err-note-clause-serving : goal.returns-in_err-note-clause-serving
 returns-in_err-note-clause-serving g c held failed first calls before policy pid start given hands v = on-err c.from_residual-in_err-note.result _ _ c.from_residual-in_err-note.ensures.0
-    (cut-here v _ _ _ (HouseTook (length c.queue_of-bytes.result.now) ∷ []) (ap (λ (x : Seen). x.told) (ap (λ (x : WireState). x.seen) c.in_err-note.ensures.state)) c.in_ok-takes.ensures.told refl (omega arith))
+    (cut-here v _ _ _ (HouseTook (length c.queue_of-bytes.result.now) ∷ []) (ap (λ (x : Seen). x.recorded) (ap (λ (x : WireState). x.seen) c.in_err-note.ensures.state)) c.in_ok-takes.ensures.recorded refl (omega arith))
 
 pub took-requires : goal.took-requires
 took-requires g c = subst (λ (b : List ℕ). length c.queue_of-bytes.result.now ≤ length b) c.queue_of-bytes.ensures.exact (le_refl _)
@@ -35,9 +35,9 @@ pub returns-clause-serving : goal.returns-clause-serving
 returns-clause-serving g c held failed first calls before policy pid start given hands v =
     let H = g.H.Asks in
     let bytes : List ℕ = c.queue_of-bytes.result.now in
-    handed-more _ (Hears bytes ∷ []) hands c.in_ok-takes.ensures.stands
-    (subst (λ (x : Seen). Serving H.may (RestsOf H.state (H.state c.args.house.now).known.present first) before (noted (H.state c.takes.new.self).told (H.state c.takes.new.self).known (calls ++ Hears bytes ∷ [])) policy pid start x held failed (given + 0) (0 ∷ without HOUSE (here c.took.new.self)) c.took.new.self) (sym (ap (λ (x : WireState). x.seen) c.in_ok-note.ensures.state))
-    (no-turns (handed (H.state c.takes.new.self).known v c.took.new.self bytes c.in_ok-takes.ensures.told c.in_ok-takes.ensures.known c.queue_of-bytes.ensures.exact (some-bytes bytes (sym c.if-is_empty.ensures)) c.queue_of-bytes.ensures.waits c.took.ensures.exact (c.took.ensures.stands bytes refl))))
+    handed-more _ (Receives bytes ∷ []) hands c.in_ok-takes.ensures.stands
+    (subst (λ (x : Seen). Serving H.may (RestsOf H.state (H.state c.args.house.now).known.present first) before (noted (H.state c.takes.new.self).recorded (H.state c.takes.new.self).known (calls ++ Receives bytes ∷ [])) policy pid start x held failed (given + 0) (0 ∷ without HOUSE (here c.took.new.self)) c.took.new.self) (sym (ap (λ (x : WireState). x.seen) c.in_ok-note.ensures.state))
+    (no-turns (handed (H.state c.takes.new.self).known v c.took.new.self bytes c.in_ok-takes.ensures.recorded c.in_ok-takes.ensures.known c.queue_of-bytes.ensures.exact (some-bytes bytes (sym c.if-is_empty.ensures)) c.queue_of-bytes.ensures.waits c.took.ensures.exact (c.took.ensures.stands bytes refl))))
 
 -- ---- the wire
 

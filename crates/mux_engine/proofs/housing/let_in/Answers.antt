@@ -3,7 +3,7 @@ use Rattle.mux_outside.specs.Seen.{Seen}
 use Rattle.mux_outside.specs.WireState.{WireState}
 use Rattle.mux_outside.specs.declared.mark.Mark.TheVariants.{Accepts}
 use Rattle.mux_history.specs.declared.limits.TheConstants.{HOUSE}
-use Rattle.mux_machine.specs.Events.{here}
+use Rattle.mux_state.specs.Events.{here}
 use Rattle.mux_outside.specs.declared.house_mark.HouseMark.TheVariants.{HouseIn}
 use Rattle.mux_engine.specs.Serving.{Promised, Serving}
 use Rattle.mux_engine.specs.Sides.{RestsOf}
@@ -16,11 +16,11 @@ use Rattle.mux_engine.proofs.housing.let_in.Goals as goal
 
 pub returns-in_err-note-clause-serving : goal.returns-in_err-note-clause-serving
 returns-in_err-note-clause-serving g c present first before now policy pid start held failed given v none there = on-err c.from_residual.result _ _ c.from_residual.ensures.0
-    (cut-still v _ (ap (λ (x : WireState). x.seen.told) c.in_err-note.ensures.state))
+    (cut-still v _ (ap (λ (x : WireState). x.seen.recorded) c.in_err-note.ensures.state))
 
 pub returns-in_err-event-clause-serving : goal.returns-in_err-event-clause-serving
 returns-in_err-event-clause-serving g c present first before now policy pid start held failed given v none there = on-err c.from_residual-in_err-event.result _ _ c.from_residual-in_err-event.ensures.0
-    (subst (λ (x : Seen). Promised g.H.Asks.may (RestsOf g.H.Asks.state present first) before now.told policy pid start x.told given) (sym (ap (λ (x : WireState). x.seen) c.in_ok-note.ensures.state)) (cut-let-in v none there))
+    (subst (λ (x : Seen). Promised g.H.Asks.may (RestsOf g.H.Asks.state present first) before now.recorded policy pid start x.recorded given) (sym (ap (λ (x : WireState). x.seen) c.in_ok-note.ensures.state)) (cut-let-in v none there))
 
 pub returns-clause-serving : goal.returns-clause-serving
 returns-clause-serving g c present first before now policy pid start held failed given v none there =

@@ -4,7 +4,7 @@ use Rattle.mux_outside.specs.HouseCalls.{HouseCall, calls_of}
 use Rattle.mux_outside.specs.Seen.{Seen}
 use Rattle.mux_outside.specs.WireState.{WireState}
 use Rattle.mux_outside.specs.declared.house_mark.HouseMark.TheVariants.{HouseAnswer}
-use Rattle.mux_machine.specs.Events.{here}
+use Rattle.mux_state.specs.Events.{here}
 use Rattle.mux_engine.specs.Serving.{Promised, Serving}
 use Rattle.mux_engine.specs.Sides.{RestsOf, noted}
 use Rattle.mux_engine.proofs.Arms.{on-err}
@@ -17,22 +17,22 @@ use Rattle.mux_engine.proofs.housing.reply.Goals as goal
 
 pub returns-in_err-note-clause-serving : goal.returns-in_err-note-clause-serving
 returns-in_err-note-clause-serving g c held failed first calls before policy pid start given hands v = on-err c.from_residual.result _ _ c.from_residual.ensures.0
-    (cut-here v _ _ _ (HouseAnswer c.in-Some.client c.in-Some.id c.in-Some.given ∷ []) (ap (λ (x : WireState). x.seen.told) c.in_err-note.ensures.state) c.in-Some.ensures.gave.told refl (omega arith))
+    (cut-here v _ _ _ (HouseAnswer c.in-Some.client c.in-Some.id c.in-Some.given ∷ []) (ap (λ (x : WireState). x.seen.recorded) c.in_err-note.ensures.state) c.in-Some.ensures.gave.recorded refl (omega arith))
 
 pub returns-in_err-event-clause-serving : goal.returns-in_err-event-clause-serving
 returns-in_err-event-clause-serving g c held failed first calls before policy pid start given hands v =
     let H = g.H.Asks in
     on-err c.from_residual-in_err-event.result _ _ c.from_residual-in_err-event.ensures.0
-    (subst (λ (x : Seen). Promised H.may (RestsOf H.state (H.state c.args.house.now).known.present first) before (H.state c.answer.new.self).told policy pid start x.told (given + 0)) (sym (ap (λ (x : WireState). x.seen) c.in_ok-note.ensures.state))
-    (no-turns-left (cut-answered (H.state c.args.house.now).known v c.in-Some.client c.in-Some.id c.in-Some.given c.requires.present c.in-Some.ensures.fits c.in-Some.ensures.gave.told)))
+    (subst (λ (x : Seen). Promised H.may (RestsOf H.state (H.state c.args.house.now).known.present first) before (H.state c.answer.new.self).recorded policy pid start x.recorded (given + 0)) (sym (ap (λ (x : WireState). x.seen) c.in_ok-note.ensures.state))
+    (no-turns-left (cut-answered (H.state c.args.house.now).known v c.in-Some.client c.in-Some.id c.in-Some.given c.requires.present c.in-Some.ensures.fits c.in-Some.ensures.gave.recorded)))
 
 pub returns-clause-serving : goal.returns-clause-serving
 returns-clause-serving g c held failed first calls before policy pid start given hands v =
     let H = g.H.Asks in
     let more : List HouseCall = calls_of (HouseAnswer c.in-Some.client c.in-Some.id c.in-Some.given ∷ []) in
     handed-more _ more hands c.in-Some.ensures.gave.stands
-    (subst (λ (x : Seen). Serving H.may (RestsOf H.state (H.state c.args.house.now).known.present first) before (noted (H.state c.answer.new.self).told (H.state c.answer.new.self).known (calls ++ more)) policy pid start x held failed (given + 0) (0 ∷ here c.event.new.self) c.event.new.self) (sym (ap (λ (x : WireState). x.seen) c.in_ok-note.ensures.state))
-    (no-turns (answered (H.state c.args.house.now).known (H.state c.answer.new.self).known v c.event.new.self c.in-Some.client c.in-Some.id c.in-Some.given c.requires.present c.requires.on c.in-Some.ensures.fits c.in-Some.ensures.gave.told c.in-Some.ensures.gave.known c.in_ok-event.ensures.takes.stands c.in_ok-event.ensures.keeps)))
+    (subst (λ (x : Seen). Serving H.may (RestsOf H.state (H.state c.args.house.now).known.present first) before (noted (H.state c.answer.new.self).recorded (H.state c.answer.new.self).known (calls ++ more)) policy pid start x held failed (given + 0) (0 ∷ here c.event.new.self) c.event.new.self) (sym (ap (λ (x : WireState). x.seen) c.in_ok-note.ensures.state))
+    (no-turns (answered (H.state c.args.house.now).known (H.state c.answer.new.self).known v c.event.new.self c.in-Some.client c.in-Some.id c.in-Some.given c.requires.present c.requires.on c.in-Some.ensures.fits c.in-Some.ensures.gave.recorded c.in-Some.ensures.gave.known c.in_ok-event.ensures.takes.stands c.in_ok-event.ensures.keeps)))
 
 pub returns-clause-on : goal.returns-clause-on
 returns-clause-on g c held failed todo w = answered-live (g.H.Asks.state c.args.house.now).known w.serving c.event.new.self c.in-Some.client c.in-Some.id c.in-Some.given c.requires.on c.in-Some.ensures.fits c.in_ok-event.ensures.takes.ends
@@ -43,7 +43,7 @@ returns-clause-answered g c = subst (λ (k : Known). length k.asks < length (g.H
 -- ---- no answer
 
 pub returns-in_default-clause-serving : goal.returns-in_default-clause-serving
-returns-in_default-clause-serving g c held failed first calls before policy pid start given hands v = still-handed (g.H.Asks.state c.answer.new.self).known hands c.in_default.ensures.gave.stands c.in_default.ensures.gave.told c.in_default.ensures.gave.known v
+returns-in_default-clause-serving g c held failed first calls before policy pid start given hands v = still-handed (g.H.Asks.state c.answer.new.self).known hands c.in_default.ensures.gave.stands c.in_default.ensures.gave.recorded c.in_default.ensures.gave.known v
 
 -- ---- the wire
 

@@ -1,5 +1,5 @@
 use Rattle.std.proofs.Common.{◌≡◌, ◌∷◌, None, length}
-use Rattle.mux_machine.specs.Events.{here}
+use Rattle.mux_state.specs.Events.{here}
 use Rattle.mux_engine.specs.Serving.{scene}
 use Rattle.mux_engine.proofs.Going.{Goes}
 use Rattle.mux_engine.proofs.housing.reply_all.Given as goal

@@ -2,8 +2,8 @@ use Rattle.std.proofs.Common.{◌≡◌, ◌∙◌, ◌∷◌, ◌++◌, [], sym
 use Rattle.std.specs.Prelude.{Ok}
 use Rattle.mux_outside.specs.Streams.{without}
 use Rattle.mux_history.specs.declared.limits.TheConstants.{HOUSE}
-use Rattle.mux_machine.specs.Events.{here}
-use Rattle.mux_machine.specs.State.{State}
+use Rattle.mux_state.specs.Events.{here}
+use Rattle.mux_state.specs.State.{State}
 use Rattle.mux_engine.specs.Serving.{scene, scene_of}
 use Rattle.mux_engine.specs.Sides.{SameHouse}
 use Rattle.mux_engine.proofs.Arms.{on-err, on-ok}

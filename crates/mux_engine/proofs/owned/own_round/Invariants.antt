@@ -5,7 +5,7 @@ use Rattle.mux_outside.specs.Streams.{among}
 use Rattle.mux_outside.specs.declared.house_mark.HouseMark.{HouseMark}
 use Rattle.mux_outside.specs.declared.mark.Mark.{Mark}
 use Rattle.mux_history.specs.Policy.{Policy}
-use Rattle.mux_machine.specs.State.{State}
+use Rattle.mux_state.specs.State.{State}
 use Rattle.mux_engine.specs.Called.{Handed}
 use Rattle.mux_engine.specs.Owned.{FailsFurther, IsOffered}
 use Rattle.mux_engine.specs.Serving.{Serving}

@@ -1,7 +1,7 @@
 use Rattle.std.proofs.Common.{[], ◌+◌, ◌∷◌, ◌∙◌, refl, ap}
 use Rattle.mux_history.specs.declared.limits.TheConstants.{HOUSE}
-use Rattle.mux_machine.specs.Events.{here}
-use Rattle.mux_machine.specs.State.{State}
+use Rattle.mux_state.specs.Events.{here}
+use Rattle.mux_state.specs.State.{State}
 use Rattle.mux_engine.specs.Sides.{noted}
 use Rattle.mux_engine.proofs.Arms.{on-err, on-ok, stays, then-stays-or-fails}
 use Rattle.mux_engine.proofs.Called.{handed-none, handed-so}
@@ -36,7 +36,7 @@ flush-requires g c = let H = g.H.Asks in let w = c.requires.served in
         present = (H.state c.args.house.now).known.present;
         first = w.first;
         before = w.before;
-        now = noted (H.state c.last_replies.new.house).told (H.state c.last_replies.new.house).known h.all;
+        now = noted (H.state c.last_replies.new.house).recorded (H.state c.last_replies.new.house).known h.all;
         policy = w.policy;
         pid = w.pid;
         start = w.start;

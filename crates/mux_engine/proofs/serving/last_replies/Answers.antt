@@ -1,5 +1,5 @@
 use Rattle.std.proofs.Common.{◌+◌, ◌∷◌, ◌∙◌, refl, sym, inl, arith}
-use Rattle.mux_machine.specs.Events.{here}
+use Rattle.mux_state.specs.Events.{here}
 use Rattle.mux_engine.proofs.Arms.{on-ok}
 use Rattle.mux_engine.proofs.Called.{handed-none, handed-so}
 use Rattle.mux_engine.proofs.HouseCalls.{reply-covers, same-house}

@@ -1,6 +1,6 @@
 use Rattle.std.proofs.Common.{◌+◌, ◌∙◌, [], refl, sym, ap, subst, arith, List, ℕ}
 use Rattle.mux_outside.proofs.HouseCalls.{hands-none}
-use Rattle.mux_machine.specs.State.{State}
+use Rattle.mux_state.specs.State.{State}
 use Rattle.mux_engine.specs.Sides.{Housed, RestsOf}
 use Rattle.mux_engine.proofs.Answering.{answer-is, failed-whole, none-given, none-held, over-still, ran-starved, ran-whole, refused-whole, spent-from, stops-whole}
 use Rattle.mux_engine.proofs.Arms.{on-err}

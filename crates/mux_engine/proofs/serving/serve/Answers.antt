@@ -20,8 +20,8 @@ returns-in_default g c =
     let wire = g.W.Wire.state c.args.wire.now in
     let house = H.state c.args.house.now in
     let Rest = RestsOf H.state house.known.present c.args.house.now in record {
-      kept = ends-starved H.may Rest house.stands house.stands house.told c.args.policy c.args.pid c.args.turns wire.seen.told _ house.told wire.seen
-          (starts-starved H.may Rest house.told c.args.policy c.args.pid wire.seen.told c.args.turns);
+      kept = ends-starved H.may Rest house.stands house.stands house.recorded c.args.policy c.args.pid c.args.turns wire.seen.recorded _ house.recorded wire.seen
+          (starts-starved H.may Rest house.recorded c.args.policy c.args.pid wire.seen.recorded c.args.turns);
       must = refl;
       ended = ended-starved _ _ _ _ _ _;
       came = λ silent. tt;
@@ -35,16 +35,16 @@ returns-in_default g c =
 
 pub run-requires-clause-running : goal.run-requires-clause-running
 run-requires-clause-running g c = let H = g.H.Asks in let r = c.requires in let o = r.opened in let e = c.in-Ok.ensures in
-    let start = starts H.may (RestsOf H.state (H.state c.args.house.now).known.present c.args.house.now) (outside (H.state c.args.house.now).told (H.state c.args.house.now).known []) c.args.policy c.args.pid (g.W.Wire.state c.args.wire.now).seen c.in-Ok.engine
+    let start = starts H.may (RestsOf H.state (H.state c.args.house.now).known.present c.args.house.now) (outside (H.state c.args.house.now).recorded (H.state c.args.house.now).known []) c.args.policy c.args.pid (g.W.Wire.state c.args.wire.now).seen c.in-Ok.engine
     e.stands e.policy e.pid e.nobody.clients e.nobody.refused (ap (λ (k : Known). k.asks) r.blank) refl refl refl o.server_alone o.none_blocked o.listens o.own o.listeners in (
       record {
         first = c.args.house.now;
         calls = [];
         hands = hands-none (H.state c.args.house.now).stands;
-        before = (H.state c.args.house.now).told;
+        before = (H.state c.args.house.now).recorded;
         policy = c.args.policy;
         pid = c.args.pid;
-        start = (g.W.Wire.state c.args.wire.now).seen.told;
+        start = (g.W.Wire.state c.args.wire.now).seen.recorded;
         given = 0;
         serving = start.0;
       },
@@ -59,15 +59,15 @@ run-requires-clause-alone g c = alone-blank _ c.requires.blank
 
 pub returns-in-Ok-run-clause-kept : goal.returns-in-Ok-run-clause-kept
 returns-in-Ok-run-clause-kept g c = let H = g.H.Asks in let r = c.requires in let o = r.opened in let e = c.in-Ok.ensures in
-    let start = starts H.may (RestsOf H.state (H.state c.args.house.now).known.present c.args.house.now) (outside (H.state c.args.house.now).told (H.state c.args.house.now).known []) c.args.policy c.args.pid (g.W.Wire.state c.args.wire.now).seen c.in-Ok.engine
+    let start = starts H.may (RestsOf H.state (H.state c.args.house.now).known.present c.args.house.now) (outside (H.state c.args.house.now).recorded (H.state c.args.house.now).known []) c.args.policy c.args.pid (g.W.Wire.state c.args.wire.now).seen c.in-Ok.engine
     e.stands e.policy e.pid e.nobody.clients e.nobody.refused (ap (λ (k : Known). k.asks) r.blank) refl refl refl o.server_alone o.none_blocked o.listens o.own o.listeners in
-    c.in-Ok-run.ensures.ran (H.state c.args.house.now).told c.args.policy c.args.pid (g.W.Wire.state c.args.wire.now).seen.told start.0 start.1
+    c.in-Ok-run.ensures.ran (H.state c.args.house.now).recorded c.args.policy c.args.pid (g.W.Wire.state c.args.wire.now).seen.recorded start.0 start.1
 
 pub returns-clause-kept : goal.returns-clause-kept
 returns-clause-kept g c = let H = g.H.Asks in let r = c.requires in let o = r.opened in let e = c.in-Ok.ensures in
-    let start = starts H.may (RestsOf H.state (H.state c.args.house.now).known.present c.args.house.now) (outside (H.state c.args.house.now).told (H.state c.args.house.now).known []) c.args.policy c.args.pid (g.W.Wire.state c.args.wire.now).seen c.in-Ok.engine
+    let start = starts H.may (RestsOf H.state (H.state c.args.house.now).known.present c.args.house.now) (outside (H.state c.args.house.now).recorded (H.state c.args.house.now).known []) c.args.policy c.args.pid (g.W.Wire.state c.args.wire.now).seen c.in-Ok.engine
     e.stands e.policy e.pid e.nobody.clients e.nobody.refused (ap (λ (k : Known). k.asks) r.blank) refl refl refl o.server_alone o.none_blocked o.listens o.own o.listeners in
-    c.in-Err.ensures.ran (H.state c.args.house.now).told c.args.policy c.args.pid (g.W.Wire.state c.args.wire.now).seen.told start.0 start.1
+    c.in-Err.ensures.ran (H.state c.args.house.now).recorded c.args.policy c.args.pid (g.W.Wire.state c.args.wire.now).seen.recorded start.0 start.1
 
 pub returns-in-Ok-run-clause-came : goal.returns-in-Ok-run-clause-came
 returns-in-Ok-run-clause-came g c = let H = g.H.Asks in

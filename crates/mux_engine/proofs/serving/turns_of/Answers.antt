@@ -1,5 +1,5 @@
 use Rattle.std.proofs.Common.{◌+◌, ◌∙◌, refl, sym, ap, arith}
-use Rattle.mux_machine.specs.State.{State}
+use Rattle.mux_state.specs.State.{State}
 use Rattle.mux_engine.specs.Sides.{RestsOf}
 use Rattle.mux_engine.proofs.Arms.{on-err}
 use Rattle.mux_engine.proofs.Called.{handed-none, handed-so}

@@ -1,8 +1,8 @@
 use Rattle.std.proofs.Common.{◌∙◌, ◌<◌, refl, sym, ap, subst, ℕ, length}
 use Rattle.mux_outside.specs.Seen.{Seen, seen_after_close}
 use Rattle.mux_outside.specs.Streams.{without}
-use Rattle.mux_machine.specs.State.{State, closed_by}
-use Rattle.mux_machine.specs.Stands.{Closes, IsFirst}
+use Rattle.mux_state.specs.State.{State, closed_by}
+use Rattle.mux_state.specs.Stands.{Closes, IsFirst}
 use Rattle.mux_engine.specs.Rests.{IsReady}
 use Rattle.mux_engine.specs.Serving.{Serving}
 use Rattle.mux_engine.specs.Sides.{Housed, RestsOf}

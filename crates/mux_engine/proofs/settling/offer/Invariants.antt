@@ -3,7 +3,7 @@ use Rattle.mux_outside.specs.declared.house_mark.HouseMark.{HouseMark}
 use Rattle.mux_outside.specs.Streams.{among}
 use Rattle.mux_outside.specs.declared.mark.Mark.{Mark}
 use Rattle.mux_history.specs.Policy.{Policy}
-use Rattle.mux_machine.specs.State.{queue_in}
+use Rattle.mux_state.specs.State.{queue_in}
 use Rattle.mux_engine.specs.Serving.{IsOfferedTo, Serving}
 use Rattle.mux_engine.specs.Sides.{RestsOf, SamePlaces, Side}
 use Rattle.mux_engine.proofs.Wired.{Worked}

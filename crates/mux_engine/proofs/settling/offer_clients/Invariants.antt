@@ -4,7 +4,7 @@ use Rattle.mux_outside.specs.Streams.{among, without}
 use Rattle.mux_outside.specs.declared.mark.Mark.{Mark}
 use Rattle.mux_history.specs.declared.limits.TheConstants.{HOUSE}
 use Rattle.mux_history.specs.Policy.{Policy}
-use Rattle.mux_machine.specs.Events.{here}
+use Rattle.mux_state.specs.Events.{here}
 use Rattle.mux_engine.specs.Serving.{Serving}
 use Rattle.mux_engine.specs.Sides.{RestsOf, SamePlaces, Side}
 use Rattle.mux_engine.proofs.Loops.{IsClient}

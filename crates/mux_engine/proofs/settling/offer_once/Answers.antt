@@ -4,7 +4,7 @@ use Rattle.mux_outside.specs.Seen.{Seen, seen_after_write}
 use Rattle.mux_outside.specs.Streams.{among, without}
 use Rattle.mux_outside.specs.declared.mark.Mark.TheVariants.{Takes, Holds, WriteFails}
 use Rattle.mux_outside.specs.declared.turn.Wrote.TheVariants as wrote
-use Rattle.mux_machine.specs.State.{State}
+use Rattle.mux_state.specs.State.{State}
 use Rattle.mux_engine.specs.Serving.{Serving}
 use Rattle.mux_engine.specs.Sides.{RestsOf}
 use Rattle.mux_engine.proofs.Arms.{Failing, empty-is, failing, offered-fails, offered-none, offered-same, on-err, some-bytes, unless-empty}
@@ -19,7 +19,7 @@ use Rattle.mux_engine.proofs.Silent.{holds-alike}
 use Rattle.mux_engine.proofs.Taken.{queue-present, took-asks, took-less, took-run}
 use Rattle.mux_engine.proofs.Todo.{nothing-left}
 use Rattle.mux_engine.proofs.Wired.{seen-is, works-none, works-starved, works-write}
-use Rattle.mux_machine.proofs.Twins.{stands-alike}
+use Rattle.mux_state.proofs.Twins.{stands-alike}
 use Rattle.mux_engine.proofs.settling.offer_once.Given as given_to
 use Rattle.mux_engine.proofs.settling.offer_once.Goals as goal
 

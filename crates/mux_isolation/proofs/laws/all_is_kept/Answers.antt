@@ -4,7 +4,7 @@ use Rattle.mux_isolation.proofs.AllRuns.{isolation}
 use Rattle.mux_isolation.proofs.Allowed.{ups-allowed}
 use Rattle.mux_isolation.proofs.Delivered.{delivered}
 use Rattle.mux_isolation.proofs.Passed.{passed}
-use Rattle.mux_isolation.proofs.Told.{downs-allowed}
+use Rattle.mux_isolation.proofs.Recorded.{downs-allowed}
 use Rattle.mux_isolation.proofs.Mays.{permissions, windows}
 use Rattle.mux_isolation.proofs.Replied.{askers-served}
 use Rattle.mux_isolation.proofs.laws.all_is_kept.Goals as goal

@@ -1,7 +1,7 @@
 -- What is opened and listened on is permitted.
 use Rattle.mux_history.proofs.RightLogs.{right-known}
 use Rattle.mux_isolation.proofs.Allowed.{ups-allowed}
-use Rattle.mux_isolation.proofs.Told.{downs-allowed}
+use Rattle.mux_isolation.proofs.Recorded.{downs-allowed}
 use Rattle.mux_isolation.proofs.Mays.{permissions}
 use Rattle.mux_isolation.proofs.laws.permissions_are_kept.Goals as goal
 

@@ -1,7 +1,7 @@
 -- Data is within its window.
 use Rattle.mux_history.proofs.RightLogs.{right-known}
 use Rattle.mux_isolation.proofs.Allowed.{ups-allowed}
-use Rattle.mux_isolation.proofs.Told.{downs-allowed}
+use Rattle.mux_isolation.proofs.Recorded.{downs-allowed}
 use Rattle.mux_isolation.proofs.Mays.{windows}
 use Rattle.mux_isolation.proofs.laws.windows_are_kept.Goals as goal
 

@@ -25,7 +25,7 @@ pub returns-clause-goes : goal.returns-clause-goes
 returns-clause-goes g c = summed-goes _ _ _ _ _ _ _ _ c.in_ok-serve_drill.ensures.ends c.in_ok-serve_drill.ensures.opened c.in_ok-serve_drill.ensures.served (rw c.tally-tally.ensures at c.sum_up.ensures.handed)
 
 pub returns-clause-wire : goal.returns-clause-wire
-returns-clause-wire g c = summed-counts _ _ (drill_text c.tally-tally.result) c.sum_up.result (g.S.Sink.told c.args.out.now) (g.S.Sink.told c.sum_up.new.out) _ _ _ _ c.in_ok-serve_drill.ensures.ends c.sum_up.ensures.handed c.in_ok-serve_drill.ensures.wire
+returns-clause-wire g c = summed-counts _ _ (drill_text c.tally-tally.result) c.sum_up.result (g.S.Sink.recorded c.args.out.now) (g.S.Sink.recorded c.sum_up.new.out) _ _ _ _ c.in_ok-serve_drill.ensures.ends c.sum_up.ensures.handed c.in_ok-serve_drill.ensures.wire
 
 pub returns-clause-unwritten : goal.returns-clause-unwritten
-returns-clause-unwritten g c = not_false _ _ (handed-tried (drill_text c.tally-tally.result) c.sum_up.result (g.S.Sink.told c.args.out.now) (g.S.Sink.told c.sum_up.new.out) c.sum_up.ensures.handed)
+returns-clause-unwritten g c = not_false _ _ (handed-tried (drill_text c.tally-tally.result) c.sum_up.result (g.S.Sink.recorded c.args.out.now) (g.S.Sink.recorded c.sum_up.new.out) c.sum_up.ensures.handed)

@@ -13,7 +13,7 @@ pub returns-in_err-begin-clause-opened : goal.returns-in_err-begin-clause-opened
 returns-in_err-begin-clause-opened g c = let p = err_from_is_err_and c.from_residual.result c.from_residual.ensures.1 in let e = c.in_err-begin.ensures.err in rw (p.1, p.2, e) (inl refl)
 
 pub returns-in_err-begin-clause-served : goal.returns-in_err-begin-clause-served
-returns-in_err-begin-clause-served g c = let p = err_from_is_err_and c.from_residual.result c.from_residual.ensures.1 in let e = c.in_err-begin.ensures.err in rw (p.1, p.2, e) (inl (record { same_wire = refl; same_house = c.in_err-begin.ensures.told }))
+returns-in_err-begin-clause-served g c = let p = err_from_is_err_and c.from_residual.result c.from_residual.ensures.1 in let e = c.in_err-begin.ensures.err in rw (p.1, p.2, e) (inl (record { same_wire = refl; same_house = c.in_err-begin.ensures.recorded }))
 
 pub returns-in_err-begin-clause-start : goal.returns-in_err-begin-clause-start
 returns-in_err-begin-clause-start g c = let p = err_from_is_err_and c.from_residual.result c.from_residual.ensures.1 in let e = c.in_err-begin.ensures.err in rw (p.1, p.2, e) tt
@@ -28,7 +28,7 @@ pub open_and_serve-requires-clause-silent : goal.open_and_serve-requires-clause-
 open_and_serve-requires-clause-silent g c = λ present. (Begins (starts_for c.args.found.now.settings) ∷ [], (refl, c.in_ok-begin.ensures.stands))
 
 pub returns-clause-served : goal.returns-clause-served
-returns-clause-served g c = shares-begun g.H.Asks.state _ _ _ c.in_ok-begin.ensures.stands _ _ _ _ _ _ _ _ _ _ _ (rw (c.in_ok-begin.ensures.known, c.in_ok-begin.ensures.told) at c.open_and_serve.ensures.served)
+returns-clause-served g c = shares-begun g.H.Asks.state _ _ _ c.in_ok-begin.ensures.stands _ _ _ _ _ _ _ _ _ _ _ (rw (c.in_ok-begin.ensures.known, c.in_ok-begin.ensures.recorded) at c.open_and_serve.ensures.served)
 
 pub returns-clause-start : goal.returns-clause-start
 returns-clause-start g c = rw c.in_ok-begin.ensures.known at c.open_and_serve.ensures.start

@@ -8,12 +8,12 @@ use Rattle.ssh_mux.specs.Outcomes.{Certain, drills, opens}
 use Rattle.ssh_mux.specs.Sharing.{pid_of}
 use Rattle.ssh_mux.specs.World.{output, sockets, sources}
 use Rattle.ssh_mux.proofs.DrillLemmas.{drill-touches}
-use Rattle.ssh_mux.proofs.EndLemmas.{same_told}
+use Rattle.ssh_mux.proofs.EndLemmas.{same_recorded}
 use Rattle.ssh_mux.proofs.JoinLemmas.{client-looks, unlisted-client}
 use Rattle.ssh_mux.proofs.MisreadLemmas.{for-read, of-drill, of-read}
 use Rattle.ssh_mux.proofs.NamedLemmas.{names-forwards}
 use Rattle.ssh_mux.proofs.Obeyed.{client-obeyed, drill-obeyed, list-obeyed, master-obeyed, misread-obeyed, obeyed-runs}
-use Rattle.ssh_mux.proofs.PlaceLemmas.{client-told, list-told, master-told}
+use Rattle.ssh_mux.proofs.PlaceLemmas.{client-recorded, list-recorded, master-recorded}
 use Rattle.ssh_mux.proofs.PolicyLemmas.{are-permitted}
 use Rattle.ssh_mux.proofs.RefusalLemmas.{list-looks, master-looks}
 use Rattle.ssh_mux.proofs.StillLemmas.{both-shown, else-or, first-still, not_false, on_false, or-else, second-still, untouched}

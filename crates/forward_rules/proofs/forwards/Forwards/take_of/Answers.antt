@@ -4,7 +4,7 @@ use Rattle.mux_history.proofs.Sends.{and-left}
 use Rattle.forward_rules.specs.Listing.{forward_of}
 use Rattle.forward_rules.specs.State.{Forward}
 use Rattle.forward_rules.specs.Step.{count_of, is_of, without_client, without_first}
-use Rattle.forward_rules.specs.Taking.{AreFew, after_taking, closed_up, first_live, is_live_of, moved_up_of, rest_after, told_of}
+use Rattle.forward_rules.specs.Taking.{AreFew, after_taking, closed_up, first_live, is_live_of, moved_up_of, rest_after, recorded_of}
 use Rattle.forward_rules.specs.declared.listed.Listed.{Listed}
 use Rattle.forward_rules.proofs.Counts.{few-without, one-less, same-map, moved-client}
 use Rattle.forward_rules.proofs.Places.{found, missed, remove-found, sees}
@@ -32,7 +32,7 @@ fewer k fs x h = ap (λ n. n + 1) (same-closed k x.cancel (without_first (is_liv
 pub returns-in_default-clause-exact : goal.returns-in_default-clause-exact
 returns-in_default-clause-exact c =
     let h : position (sees (is_live_of c.args.client)) c.self.inside.listed.items ≡ None = search rules in
-    rw (← c.self.view_is) (sym (ap (option_map told_of) (none-live c.args.client c.self.inside.listed.items h)))
+    rw (← c.self.view_is) (sym (ap (option_map recorded_of) (none-live c.args.client c.self.inside.listed.items h)))
 
 pub returns-in_default-clause-step : goal.returns-in_default-clause-step
 returns-in_default-clause-step c =
@@ -48,7 +48,7 @@ pub returns-clause-exact : goal.returns-clause-exact
 returns-clause-exact c =
     let h : position (sees (is_live_of c.args.client)) c.self.inside.listed.items ≡ Some c.in-Some.place = search rules in
     let b : c.is_some.result ≡ is_some c.remove-taken.result.cancel = search rules in
-    rw (← c.self.view_is, b) (sym (ap (option_map told_of) (one-live c.args.client c.self.inside.listed.items c.in-Some.place c.remove-taken.result h c.remove-taken.ensures.value)))
+    rw (← c.self.view_is, b) (sym (ap (option_map recorded_of) (one-live c.args.client c.self.inside.listed.items c.in-Some.place c.remove-taken.result h c.remove-taken.ensures.value)))
 
 pub returns-clause-step : goal.returns-clause-step
 returns-clause-step c =

@@ -2,12 +2,12 @@ use Rattle.std.proofs.Common.{rules, ◌∙◌, refl, ap, arith}
 use Rattle.mux_outside.specs.House.{ask_of}
 use Rattle.mux_outside.specs.HouseCalls.{Marks}
 use Rattle.mux_outside.specs.declared.house_mark.HouseMark.TheVariants.{HouseAsked}
-use Rattle.house_forward.specs.Desk.{Desk, IsAsked}
-use Rattle.house_forward.specs.Lives.{Follows}
+use Rattle.house_forward.specs.ForwardingState.{ForwardingState, IsAsked}
+use Rattle.house_forward.specs.RelayTraces.{Follows}
 use Rattle.house_forward.specs.State.{held_in}
-use Rattle.house_forward.specs.declared.holdings.Holdings.{Holdings}
+use Rattle.house_forward.specs.declared.forwarder_state.ForwarderState.{ForwarderState}
 use Rattle.house_forward.proofs.Calling.{from-same, no-ordering}
-use Rattle.house_forward.proofs.Courses.{desk-goes}
+use Rattle.house_forward.proofs.Traces.{forwarding_state-goes}
 use Rattle.house_forward.proofs.States.{hands-on}
 use Rattle.house_forward.proofs.forwarder.ForwarderAsks.ask.Goals as goal
 
@@ -22,9 +22,9 @@ returns-clause-gave g c =
     record {
       known = first_of (search rules, grind arith);
       must = first_of (search rules, grind arith);
-      told = first_of (search rules, grind arith);
-      stands = hands-on mark has new none (c.ask.ensures.ordering ∙ ap (λ (x : Holdings). x.ordering) c.reserve.ensures.has ∙ none) refl refl
-          (ap (λ (d : Desk). d.greeted) goes.1.others ∙ ap (λ (x : Holdings). x.greeted) c.reserve.ensures.has)
+      recorded = first_of (search rules, grind arith);
+      stands = hands-on mark has new none (c.ask.ensures.ordering ∙ ap (λ (x : ForwarderState). x.ordering) c.reserve.ensures.has ∙ none) refl refl
+          (ap (λ (d : ForwardingState). d.greeted) goes.1.others ∙ ap (λ (x : ForwarderState). x.greeted) c.reserve.ensures.has)
           (from-same (Follows mark) has c.reserve.new.self.has (held_in new) c.reserve.ensures.has
-          (desk-goes (IsAsked c.args.client c.args.id c.args.opening ask c.in_ok-reply.reply) (held_in c.reserve.new.self.has) (held_in new) goes));
+          (forwarding_state-goes (IsAsked c.args.client c.args.id c.args.opening ask c.in_ok-reply.reply) (held_in c.reserve.new.self.has) (held_in new) goes));
     }

@@ -1,12 +1,12 @@
 use Rattle.std.proofs.Common.{rules, refl, ap, Some, None, arith}
 use Rattle.mux_outside.specs.HouseCalls.{Marks}
 use Rattle.mux_outside.specs.declared.house_mark.HouseMark.TheVariants.{HouseAnswer}
-use Rattle.house_forward.specs.Desk.{Answers}
+use Rattle.house_forward.specs.ForwardingState.{Answers}
 use Rattle.house_forward.specs.State.{held_in, known_in}
 use Rattle.house_forward.proofs.Answering.{is-answer}
 use Rattle.house_forward.proofs.Calling.{no-ordering}
-use Rattle.house_forward.proofs.Courses.{desk-goes}
-use Rattle.house_forward.proofs.Desks.{gives-answer}
+use Rattle.house_forward.proofs.Traces.{forwarding_state-goes}
+use Rattle.house_forward.proofs.ForwardingStates.{gives-answer}
 use Rattle.house_forward.proofs.States.{hands-on}
 use Rattle.house_forward.proofs.forwarder.ForwarderHouse.answer.Goals as goal
 
@@ -20,9 +20,9 @@ returns-clause-gave g c =
     record {
       known = ap (λ asks'. record (known_in has) { asks = asks' }) k.asks;
       must = refl;
-      told = first_of (search rules, grind arith);
+      recorded = first_of (search rules, grind arith);
       stands = hands-on (Marks (HouseAnswer a.client a.id a.reply)) has _ none none refl refl refl
-          (desk-goes (Answers a.client a.id a.reply) (held_in has) _
+          (forwarding_state-goes (Answers a.client a.id a.reply) (held_in has) _
           (gives-answer a.client a.id a.reply (Some (a.client, a.id, a.reply)) has.relays has.framer has.stage has.gateway has.greeted has.forwardings has.asks asks refl
           a.ensures.exact a.ensures.taken a.ensures.done));
     }

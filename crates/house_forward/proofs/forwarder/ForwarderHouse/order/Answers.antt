@@ -2,9 +2,9 @@ use Rattle.std.proofs.Common.{rules, ◌≡◌, ◌∙◌, refl, sym, ap, subst,
 use Rattle.mux_outside.specs.House.{Known, order_marks}
 use Rattle.mux_outside.specs.HouseCalls.{calls_of}
 use Rattle.house_forward.specs.Known.{ordering_of}
-use Rattle.house_forward.specs.Lives.{GivesOrder}
+use Rattle.house_forward.specs.RelayTraces.{GivesOrder}
 use Rattle.house_forward.specs.State.{held_in, known_in}
-use Rattle.house_forward.specs.declared.holdings.Holdings.{Holdings}
+use Rattle.house_forward.specs.declared.forwarder_state.ForwarderState.{ForwarderState}
 use Rattle.house_forward.proofs.Calling.{stands-given, no-ordering}
 use Rattle.house_forward.proofs.Greeted.{greeted-on, given-silent}
 use Rattle.house_forward.proofs.forwarder.ForwarderHouse.order.Goals as goal
@@ -21,12 +21,12 @@ returns-clause-gave g c =
     record {
       known = first_of (search rules, grind arith);
       must = first_of (search rules, grind arith);
-      told = first_of (search rules, grind arith);
+      recorded = first_of (search rules, grind arith);
       stands = λ calls h. record {
         since = stands-given given (known_in has) has.ordering new.ordering calls (held_in has) (held_in new) (no-ordering has.ordering c.requires) c.requires
-            (ap (λ (x : Holdings). ordering_of x.ordering) same ∙ ap (λ (k : Known). k.ordering) gives.known)
-            (subst (λ (x : Holdings). GivesOrder given x.ordering (held_in has) (held_in x)) (sym same) gives.gives) h.since;
+            (ap (λ (x : ForwarderState). ordering_of x.ordering) same ∙ ap (λ (k : Known). k.ordering) gives.known)
+            (subst (λ (x : ForwarderState). GivesOrder given x.ordering (held_in has) (held_in x)) (sym same) gives.gives) h.since;
         greeting = greeted-on has.greeted new.greeted calls (calls_of (order_marks given))
-            (ap (λ (x : Holdings). x.greeted) same ∙ gives.word.greeted) (given-silent given) h.greeting;
+            (ap (λ (x : ForwarderState). x.greeted) same ∙ gives.word.greeted) (given-silent given) h.greeting;
       };
     }

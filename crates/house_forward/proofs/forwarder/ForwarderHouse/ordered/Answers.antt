@@ -16,7 +16,7 @@ returns-in-Some g c =
       gave = record {
         known = first_of (search rules, grind arith);
         must = first_of (search rules, grind arith);
-        told = first_of (search rules, grind arith);
+        recorded = first_of (search rules, grind arith);
         stands = λ calls h. record {
           since = stands-made has.ordering new.ordering c.args.number calls (held_in has) (held_in new) c.requires.ordering
               c.ordered.ensures.ordering c.ordered.ensures.makes h.since;

@@ -5,7 +5,7 @@ use Rattle.house_forward.proofs.forwarder.ForwarderHouse.takes.Given as goal
 
 abbrev pub invariant-loop-self : goal.invariant-loop-self
 invariant-loop-self g l = record {
-  told : g.N.Notes.told l.self.notes.notes ≡ g.N.Notes.told l.initial.self.notes.notes;
+  recorded : g.N.Notes.recorded l.self.notes.notes ≡ g.N.Notes.recorded l.initial.self.notes.notes;
   known : known_in l.self.has ≡ known_in l.initial.self.has;
   must : l.self.has.must ≡ l.initial.self.has.must;
   ordering : l.self.has.ordering ≡ None;

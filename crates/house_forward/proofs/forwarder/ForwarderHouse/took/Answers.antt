@@ -2,7 +2,7 @@ use Rattle.std.proofs.Common.{◌∙◌, refl, [], ◌∷◌}
 use Rattle.mux_outside.specs.HouseCalls.{Takes}
 use Rattle.house_forward.specs.State.{held_in}
 use Rattle.house_forward.proofs.Calling.{no-ordering, since-taken}
-use Rattle.house_forward.proofs.Courses.{stands-taken}
+use Rattle.house_forward.proofs.Traces.{stands-taken}
 use Rattle.house_forward.proofs.Greeted.{greeted-on}
 use Rattle.house_forward.proofs.forwarder.ForwarderHouse.took.Goals as goal
 

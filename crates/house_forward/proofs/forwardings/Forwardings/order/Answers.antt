@@ -1,7 +1,7 @@
 use Rattle.std.proofs.Common.{sym, ap, ◌∙◌, ◌≡◌, Some}
 use Rattle.house_forward.specs.Forwardings.{next_of}
-use Rattle.house_forward.specs.declared.forwardings.Want.TheVariants as want
-use Rattle.house_forward.proofs.Desks.{ends-listener, orders-listener}
+use Rattle.house_forward.specs.declared.forwardings.ForwardingWant.TheVariants as want
+use Rattle.house_forward.proofs.ForwardingStates.{ends-listener, orders-listener}
 use Rattle.house_forward.proofs.InOrder.{listens-first}
 use Rattle.house_forward.proofs.forwardings.Forwardings.order.Goals as goal
 

@@ -1,9 +1,9 @@
 use Rattle.std.proofs.Common.{sym, ap, refl, set, Some, None}
-use Rattle.house_forward.specs.Desk.{Desk, desk_of}
+use Rattle.house_forward.specs.ForwardingState.{ForwardingState, forwarding_state_of}
 use Rattle.house_forward.specs.Forwardings.{to_listen}
 use Rattle.house_forward.specs.declared.forwarding.Forwarding.{Forwarding}
 use Rattle.house_forward.specs.declared.forwarding.Stage.TheVariants.{Listening}
-use Rattle.house_forward.proofs.Desks.{makes-listener, same-desks}
+use Rattle.house_forward.proofs.ForwardingStates.{makes-listener, same-forwarding_states}
 use Rattle.house_forward.proofs.InOrder.{none-waits, waits-serial, made}
 use Rattle.house_forward.proofs.Numbered.{numbered-first}
 use Rattle.house_forward.proofs.Placed.{placed-set}
@@ -32,10 +32,10 @@ returns-in-Some-listener-clause-makes c =
     let g : Forwarding = record f.result.now { stage = Listening l.listener } in
     let settled = c.settle.new.self in
     rw l.is (λ gateway greeted.
-    let old = desk_of gateway greeted now asks in
-    let new : Desk = record old { all = set now.all.items c.in-Some.i g; waiting = settled.waiting.items; done = settled.done } in
+    let old = forwarding_state_of gateway greeted now asks in
+    let new : ForwardingState = record old { all = set now.all.items c.in-Some.i g; waiting = settled.waiting.items; done = settled.done } in
     makes-listener (Some l.listener) old new c.requires (rw (sym c.in-Some.ensures) (f.result.now, f.ensures.value, refl))
-    (same-desks new _ refl refl refl refl refl refl
+    (same-forwarding_states new _ refl refl refl refl refl refl
     (rw (waits-serial now.all.items c.in-Some.i f.result.now (sym c.in-Some.ensures) f.ensures.value) c.settle.ensures.waiting)
     c.settle.ensures.done))
 
@@ -46,10 +46,10 @@ returns-in-None-clause-makes c =
     let fail = c.fail.new.self in
     let refuse = c.refuse.new.self in
     rw c.in-None.is (λ gateway greeted.
-    let old = desk_of gateway greeted now asks in
-    let new = desk_of gateway greeted fail refuse in
+    let old = forwarding_state_of gateway greeted now asks in
+    let new = forwarding_state_of gateway greeted fail refuse in
     makes-listener None old new c.requires (rw (sym c.in-Some.ensures) c.fail.ensures.all)
-    (same-desks new _ refl refl refl c.fail.ensures.serials
+    (same-forwarding_states new _ refl refl refl c.fail.ensures.serials
     (first-refused to_listen now.all.items c.in-Some.i now.refused fail.refused (sym c.in-Some.ensures) c.fail.ensures.refused)
     (ap (λ q. q.items) c.fail.ensures.requests)
     (rw (waits-serial now.all.items c.in-Some.i c.index.result.now (sym c.in-Some.ensures) c.index.ensures) c.refuse.ensures.waiting)

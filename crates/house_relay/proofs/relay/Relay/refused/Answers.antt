@@ -4,8 +4,8 @@ use Rattle.proxy_frames.specs.State.{QueueState}
 use Rattle.house_relay.specs.Acts.{Refuses}
 use Rattle.house_relay.specs.Dialing.{refusal_of}
 use Rattle.house_relay.specs.Relay.{Stands, answered_in}
-use Rattle.house_relay.specs.declared.line.Line.{Line}
-use Rattle.house_relay.specs.declared.line.Line.TheVariants.{Over}
+use Rattle.house_relay.specs.declared.line.ChannelState.{ChannelState}
+use Rattle.house_relay.specs.declared.line.ChannelState.TheVariants.{Over}
 use Rattle.house_relay.proofs.Answerings.{refuses}
 use Rattle.house_relay.proofs.relay.Relay.refused.Goals as goal
 
@@ -14,7 +14,7 @@ returns-clause-stands c = λ dials acts s.
     let r = c.args.self.now in
     let queue : c.refuse.new.queue ≡ with_bytes (refusal_of c.in-Opened.version c.args.reason) r.queue =
     c.in_ok-refuse.ensures in
-    subst (λ (l : Line). Stands dials (answered_in l (Refuses c.args.reason) ∷ acts)
+    subst (λ (l : ChannelState). Stands dials (answered_in l (Refuses c.args.reason) ∷ acts)
     (record r { line = Over; queue = c.refuse.new.queue }))
     (sym c.in-Opened.is)
     (subst (λ (q : QueueState). Stands dials (Refuses c.args.reason ∷ acts) (record r { line = Over; queue = q })) (sym queue)

@@ -1,7 +1,7 @@
 use Rattle.std.proofs.Common.{◌∙◌, ap, subst, sym, None, arith}
 use Rattle.mux_client.specs.Client.{ClientState, ReadsNextTo, place_of}
-use Rattle.mux_client.specs.declared.stage.Stage.TheVariants.{Broken}
-use Rattle.mux_client.specs.declared.verdict.Line.TheVariants.{Nothing}
+use Rattle.mux_client.specs.declared.stage.TalkStage.TheVariants.{Broken}
+use Rattle.mux_client.specs.declared.verdict.OutLine.TheVariants.{Nothing}
 use Rattle.mux_client.proofs.ReadFrames.{IsCut, bad-hello, cut-frame, cut-goes, cut-stops, hello-goes, none-cut}
 use Rattle.mux_client.proofs.client.Client.greet.Goals as goal
 

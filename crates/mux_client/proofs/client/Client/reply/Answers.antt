@@ -1,6 +1,6 @@
 use Rattle.std.proofs.Common.{◌∙◌, ap, refl, subst, sym, None}
 use Rattle.mux_client.specs.Client.{ClientState, ReadsNextTo, place_of}
-use Rattle.mux_client.specs.declared.stage.Stage.TheVariants.{Broken, Refused}
+use Rattle.mux_client.specs.declared.stage.TalkStage.TheVariants.{Broken, Refused}
 use Rattle.mux_client.proofs.ReadFrames.{IsCut, breaks, cut-frame, cut-goes, cut-stops, refuses, reply-goes, none-cut}
 use Rattle.mux_client.proofs.client.Client.reply.Goals as goal
 

@@ -9,7 +9,7 @@ returns-clause-fits c =
     let play = c.args.self.now in
     let met : c.is_met.result ≡ true = grind (arith, common_steps) in
     let is : is_met c.in-Ok.step c.args.log.now.state.seen play.unread ≡ true = cc (met, c.is_met.ensures) in
-    begin_fits c.in-Ok.step c.args.log.now.state.seen play.unread play.picks c.at.result.now play.course.plan play.course.stage _ c.in-Ok.ensures.exact is refl
+    begin_fits c.in-Ok.step c.args.log.now.state.seen play.unread play.picks c.at.result.now play.trace.plan play.trace.stage _ c.in-Ok.ensures.exact is refl
 
 pub returns-clause-own_turn : goal.returns-clause-own_turn
 returns-clause-own_turn c =

@@ -2,7 +2,7 @@ use Rattle.std.proofs.Common.{arith, ap}
 use Rattle.std.proofs.lemmas.Grind.{common_steps}
 use Rattle.proxy_frames.specs.State.{FramerState}
 use Rattle.proxy_frames.proofs.Goes.{next-stands}
-use Rattle.proxy_frames.proofs.Tells.{more-wanted, fault-had, rest-bytes}
+use Rattle.proxy_frames.proofs.Records.{more-wanted, fault-had, rest-bytes}
 use Rattle.proxy_frames.proofs.framer.Framer.next.Goals as goal
 
 pub returns-in-Frame-clause-stands : goal.returns-in-Frame-clause-stands

@@ -1,6 +1,6 @@
 use Rattle.std.proofs.Common.{sym, subst}
 use Rattle.ssh_grammar.specs.declared.side.Side.TheVariants.{Up}
-use Rattle.mux_history.specs.Gist.{Closes}
+use Rattle.mux_history.specs.Summary.{Closes}
 use Rattle.mux_history.specs.Laws.{with_act}
 use Rattle.window_ledger.specs.Stands.{IsStateOf}
 use Rattle.window_ledger.proofs.Leaves.{left-now, left-said}

@@ -1,9 +1,0 @@
-use Rattle.house_forward.specs.Desk.{desk_of}
-use Rattle.house_forward.proofs.Courses.{takes}
-use Rattle.house_forward.proofs.holdings.Holdings.took.Goals as goal
-
-pub returns-clause-takes : goal.returns-clause-takes
-returns-clause-takes c =
-    let now = c.args.self.now in
-    takes c.args.stream c.args.n now.relays.all.items c.took.new.self.all.items now.framer now.stage
-    (desk_of now.gateway now.greeted now.forwardings now.asks) c.took.ensures.takes

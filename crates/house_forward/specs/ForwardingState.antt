@@ -1,0 +1,184 @@
+-- What the house has besides its relays, as its calls go on: the forwardings, the requests to the
+-- server and the asks.
+use Rattle.std.specs.Prelude.{◌≡◌, ◌+◌, ◌-◌, ℕ, Bool, true, false, not, List, [], ◌∷◌, ◌++◌, drop, length, filter, find, IfSome, Option, Some, None}
+use Rattle.std.specs.List.{position}
+use Rattle.mux_outside.specs.Streams.{among}
+use Rattle.mux_outside.specs.declared.house.HouseReply.{HouseReply}
+use Rattle.mux_outside.specs.declared.start_ask.StartAsk.{StartAsk}
+use Rattle.mux_outside.specs.declared.starts.Starts.{Starts}
+use Rattle.house_forward.specs.Asks.{turns_away, answer_of, after_answer, settled, counted}
+use Rattle.house_forward.specs.Forwardings.{Begins, Standing, what_stands, ComesUnless, reply_to, asks_after, request_of, after_sending}
+use Rattle.house_forward.specs.Forwardings.{first_of, replied_all, replied_asks, replied_done, replied_refused}
+use Rattle.house_forward.specs.Forwardings.{next_of, to_listen, listeners_of, OrderedAt, MadeAt, has_listener, made_refused, ordered_asks, ordered_done, serial_of}
+use Rattle.house_forward.specs.declared.asks.Asked.{Asked}
+use Rattle.house_forward.specs.declared.asks.Asks.{Asks}
+use Rattle.house_forward.specs.declared.asks.Outcome.TheVariants.{Done}
+use Rattle.house_forward.specs.declared.asks.Waiting.{Waiting}
+use Rattle.house_forward.specs.declared.forwarding.Forwarding.{Forwarding}
+use Rattle.house_forward.specs.declared.forwarding.ForwardingRequest.{ForwardingRequest}
+use Rattle.house_forward.specs.declared.forwardings.Forwardings.{Forwardings}
+use Rattle.house_forward.specs.declared.forwardings.ListenerOrder.{ListenerOrder}
+use Rattle.house_forward.specs.declared.forwardings.ListenerOrder.TheVariants.{Listen as ListensAt, Unlisten as Unlistens}
+use Rattle.house_forward.specs.declared.forwardings.ForwardingWant.TheVariants as want
+
+-- whether a listen host of none means all addresses, and whether the house greeted; the forwardings,
+-- in order of asking, how many there were so far, and the first of those asked for at the start that
+-- was refused; the requests that were said and have no reply yet; the asks that have no answer yet,
+-- and how many came to something
+pub record ForwardingState : Type 0 where
+  pub gateway : Bool
+  pub greeted : Bool
+  pub all : List Forwarding
+  pub serials : ℕ
+  pub refused : Option ℕ
+  pub requests : List ForwardingRequest
+  pub waiting : List Waiting
+  pub done : ℕ
+
+-- nothing happened yet
+abbrev pub empty_forwarding_state : ForwardingState
+empty_forwarding_state = record {
+  gateway = false;
+  greeted = false;
+  all = [];
+  serials = 0;
+  refused = None;
+  requests = [];
+  waiting = [];
+  done = 0;
+}
+
+-- that of the house, by what it has
+abbrev pub forwarding_state_of : Bool → Bool → Forwardings → Asks → ForwardingState
+forwarding_state_of gateway greeted forwardings asks = record {
+  gateway = gateway;
+  greeted = greeted;
+  all = forwardings.all.items;
+  serials = forwardings.serials;
+  refused = forwardings.refused;
+  requests = forwardings.requests.items;
+  waiting = asks.waiting.items;
+  done = asks.done;
+}
+
+-- ---- asks
+
+-- its forwardings as the start sees them
+abbrev pub standing_at : ForwardingState → Standing
+standing_at d = what_stands d.all d.serials d.refused
+
+-- all that is asked for at the start was asked for, one after another
+pub record BeginsWith (starts : Starts) (old new : ForwardingState) : Type 0 where
+  pub begins : Begins starts.gateway starts.asks (length starts.asks)
+      (standing_at old) (standing_at new)
+  pub others : new ≡ record old {
+    gateway = starts.gateway;
+    all = new.all;
+    serials = new.serials;
+    refused = new.refused;
+  }
+
+-- a client asks to open or close a forwarding, and this is the reply: what comes of it is known by
+-- what stands and by those that wait; it waits where it has no reply yet; and a new forwarding takes
+-- the next serial
+pub record IsAsked (client id : ℕ) (opening : Bool) (ask : StartAsk) (reply : HouseReply)
+    (old new : ForwardingState) : Type 0 where
+  pub came_to : Asked
+  pub comes : ComesUnless (turns_away client id old.waiting) old.gateway opening ask old.serials
+      old.all new.all came_to
+  pub replies : reply ≡ reply_to came_to
+  pub others : new ≡ record old {
+    all = new.all;
+    serials = old.serials + (length new.all - length old.all);
+    waiting = asks_after came_to client id opening old.waiting;
+  }
+
+-- the ask that came to something first gets its answer, and waits no longer
+pub record Answers (client id : ℕ) (reply : HouseReply) (old new : ForwardingState) : Type 0 where
+  pub answer : answer_of old.waiting ≡ Some (client, id, reply)
+  pub others : new ≡ record old { waiting = after_answer (Some (client, id, reply)) old.waiting }
+
+-- ---- what is said, and the server's replies
+
+-- the greeting is said
+abbrev pub greeting_sent : ForwardingState → ForwardingState
+greeting_sent d = record d { greeted = true }
+
+-- the request of this forwarding is said, and is unanswered
+abbrev pub request_sent : Forwarding → ForwardingState → ForwardingState
+request_sent f d = record d {
+  all = after_sending (request_of f) d.all;
+  requests = d.requests ++ request_of f ∷ [];
+}
+
+-- the server's reply to the earliest request that has none: a success, maybe with a port, or a
+-- failure
+abbrev pub reply_received : Bool → Option ℕ → ForwardingState → ForwardingState
+reply_received success port d = record d {
+  all = replied_all success port (first_of d.requests) d.all;
+  refused = replied_refused success (first_of d.requests) d.all d.refused;
+  requests = drop 1 d.requests;
+  waiting = replied_asks success port (first_of d.requests) d.all d.done d.waiting;
+  done = replied_done success port (first_of d.requests) d.all d.done;
+}
+
+-- ---- listeners
+
+-- the listener of the first forwarding that has none yet is ordered where that is to listen, and it
+-- is the next order about a listener
+pub record OrdersListener (host : List ℕ) (port : ℕ) (old new : ForwardingState) : Type 0 where
+  pub place : ℕ
+  pub first : position to_listen old.all ≡ Some place
+  pub next : next_of old.waiting old.all ≡ Some want.Listen
+  pub there : IfSome (find to_listen old.all) (λ f. (host ≡ f.listen_host) × (port ≡ f.listen_port))
+  pub ordered : OrderedAt place old.all new.all
+  pub others : new ≡ record old { all = new.all }
+
+-- it is made, with this number, or couldn't be: those that asked for it come to that
+pub record MakesListener (number : Option ℕ) (old new : ForwardingState) : Type 0 where
+  pub place : ℕ
+  pub first : position to_listen old.all ≡ Some place
+  pub made : MadeAt number place old.all new.all
+  pub others : new ≡ record old {
+    all = new.all;
+    refused = made_refused number (find to_listen old.all) old.refused;
+    waiting = ordered_asks number (serial_of (find to_listen old.all)) old.done old.waiting;
+    done = ordered_done number old.done;
+  }
+
+-- both, one behind the other; no other listener has the number
+pub record GetsListener (host : List ℕ) (port : ℕ) (number : Option ℕ)
+    (old new : ForwardingState) : Type 0 where
+  pub between : ForwardingState
+  pub orders : OrdersListener host port old between
+  pub fresh : IfSome number (λ l. among l (listeners_of between.all) ≡ false)
+  pub makes : MakesListener number between new
+
+-- a listener that is next to be closed is closed: its forwarding is gone, and those that asked to
+-- close it come to that
+pub record EndsListener (l : ℕ) (old new : ForwardingState) : Type 0 where
+  pub serial : ℕ
+  pub next : next_of old.waiting old.all ≡ Some (want.Unlisten serial l)
+  pub others : new ≡ record old {
+    all = filter (λ f. not (has_listener l f)) old.all;
+    waiting = settled serial false old.done Done old.waiting;
+    done = counted old.done;
+  }
+
+-- an order about a listener is given
+abbrev pub OrdersBy : ListenerOrder → ForwardingState → ForwardingState → Type 0
+OrdersBy (ListensAt host port) old new = OrdersListener host.one port old new
+OrdersBy (Unlistens l) old new = EndsListener l old new
+
+-- ---- by what the house has
+
+-- all but the list of its forwardings stays
+pub record ChangesList (old new : Forwardings) : Type 0 where
+  pub serials : new.serials ≡ old.serials
+  pub requests : new.requests ≡ old.requests
+  pub refused : new.refused ≡ old.refused
+
+-- its forwardings and asks go on so, whatever else it has
+abbrev pub ForwardingsGo : (ForwardingState → ForwardingState → Type 0) → Forwardings → Asks → Forwardings → Asks → Type 0
+ForwardingsGo so forwardings asks forwardings' asks' = (gateway greeted : Bool)
+    → so (forwarding_state_of gateway greeted forwardings asks) (forwarding_state_of gateway greeted forwardings' asks')

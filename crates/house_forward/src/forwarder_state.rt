@@ -1,0 +1,40 @@
+//! All that the house has but its notes.
+ghost use Rattle.std.specs.Prelude.{◌≡◌, true};
+ghost use Rattle.house_forward.specs.Known.{is_there};
+
+mod asking;
+mod orders;
+mod sockets;
+mod talking;
+
+use crate::asks::Asks;
+use crate::forwardings::Forwardings;
+use crate::ordering::Ordering;
+use crate::relays::Relays;
+use proxy_frames::Framer;
+use std::alloc::Global;
+
+/// How what is written to the house is read.
+#[derive(Clone, Copy, PartialEq, Eq)]
+enum Stage {
+    /// Control messages, until PROXY is granted.
+    Control,
+    /// Messages of the connection protocol.
+    Proxy,
+}
+
+/// All that the house has but its notes.
+#[derive(Drop)]
+pub struct ForwarderState {
+    alloc: Global,
+    gateway: bool,
+    pub must: bool,
+    pub asks: Asks,
+    ordering: Option<Ordering>,
+    greeted: bool,
+    stage: Stage,
+    framer: Framer,
+    pub forwardings: Forwardings,
+    pub relays: Relays,
+    ghost there: { is_there ordering forwardings.all.items relays.all.items ≡ true },
+}

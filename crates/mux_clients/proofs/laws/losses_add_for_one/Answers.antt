@@ -1,5 +1,0 @@
-use Rattle.mux_clients.proofs.Adds.{losses-add-for-one}
-use Rattle.mux_clients.proofs.laws.losses_add_for_one.Goals as goal
-
-pub returns : goal.returns
-returns c = losses-add-for-one

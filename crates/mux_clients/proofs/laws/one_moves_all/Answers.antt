@@ -1,5 +1,0 @@
-use Rattle.mux_clients.proofs.Ones.{one-moves-all}
-use Rattle.mux_clients.proofs.laws.one_moves_all.Goals as goal
-
-pub returns : goal.returns
-returns c = one-moves-all

@@ -1,5 +1,0 @@
-use Rattle.mux_clients.proofs.Journaled.{pieces-of-a-client}
-use Rattle.mux_clients.proofs.laws.pieces_of_a_client.Goals as goal
-
-pub returns : goal.returns
-returns c = pieces-of-a-client

@@ -1,5 +1,0 @@
-use Rattle.mux_clients.proofs.ServerJournaled.{pieces-of-the-server}
-use Rattle.mux_clients.proofs.laws.pieces_of_the_server.Goals as goal
-
-pub returns : goal.returns
-returns c = pieces-of-the-server

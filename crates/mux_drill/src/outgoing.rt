@@ -1,0 +1,78 @@
+ghost use Rattle.std.specs.Prelude.{◌≡◌, ◌≤◌, [], take, drop, length};
+
+use ssh_fields::Text;
+use std::alloc::Global;
+use std::marker::Model;
+
+// The most bytes that a turn gives.
+const PIECE: usize = 37;
+
+/// What a stream is saying, and how much of it was given.
+#[derive(Drop)]
+pub struct Outgoing {
+    stream: u64,
+    text: Text,
+    given: usize,
+}
+
+impl Model for Outgoing {
+    ghost use Rattle.std.specs.Prelude.{drop, length, ◌≤◌};
+    ghost use Rattle.mux_drill.specs.Outgoing.{Said};
+
+    ghost Value = { Said };
+
+    ghost view = { λ s. record { stream = s.stream; rest = drop s.given s.text } };
+
+    ghost invariant = { λ s. s.given ≤ length s.text };
+}
+
+impl Outgoing {
+    ghost use Rattle.mux_drill.specs.Outgoing.{gone_on};
+
+    /// A stream says a text.
+    pub fn new(stream: u64, text: Text) -> Outgoing
+        ensures { result ≡ record { stream = stream; rest = text } }
+    {
+        Outgoing {
+            stream,
+            text,
+            given: 0,
+        }
+    }
+
+    /// Nothing is said.
+    pub fn nothing(alloc: Global) -> Outgoing
+        ensures { result ≡ record { stream = 0; rest = [] } }
+    {
+        Outgoing::new(0, Text::new(alloc))
+    }
+
+    pub fn stream(&self) -> u64
+        ensures { result ≡ self.now.stream }
+    {
+        self.stream
+    }
+
+    /// What wasn't given yet.
+    pub fn rest(&self) -> &[u8]
+        ensures { result.now ≡ self.now.rest }
+    {
+        &self.text.as_bytes()[self.given..]
+    }
+
+    /// A piece of it was given.
+    pub fn go_on(&mut self)
+        ensures { self.new ≡ gone_on self.old }
+    {
+        let len = self.text.as_bytes().len();
+        self.given += PIECE.min(len - self.given);
+    }
+}
+
+/// The first piece of some bytes.
+pub fn first_piece(bytes: &[u8]) -> &[u8]
+    ensures piece { result.now ≡ take 37 bytes.now }
+    ensures short { length result.now ≤ 37 }
+{
+    &bytes[..PIECE.min(bytes.len())]
+}

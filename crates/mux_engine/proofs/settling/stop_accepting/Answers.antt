@@ -1,0 +1,29 @@
+use Rattle.std.proofs.Common.{◌≡◌, ◌∙◌, None, false, refl, sym, ap, subst}
+use Rattle.std.specs.Prelude.{is_some}
+use Rattle.mux_outside.specs.Seen.{Seen}
+use Rattle.mux_engine.specs.Serving.{Serving}
+use Rattle.mux_engine.specs.Sides.{RestsOf, SamePlaces}
+use Rattle.mux_engine.proofs.Lists.{true-false}
+use Rattle.mux_engine.proofs.Loops.{serve-hushed}
+use Rattle.mux_engine.proofs.Wired.{idle-silence, seen-is}
+use Rattle.mux_engine.proofs.settling.stop_accepting.Goals.{else-listening-via-then-listening+else-is_none, else-listening-via-else-listening}
+use Rattle.mux_engine.proofs.settling.stop_accepting.Given.{Over}
+use Rattle.mux_engine.proofs.settling.stop_accepting.Goals as goal
+
+silent : (g : Over) (c : goal.After-stop_listening g) → c.args.engine.now.ended ≡ None → c.args.engine.now.listening ≡ false
+silent g c live = elim c.else-listening.branch [
+  | else-listening-via-then-listening+else-is_none w ↦ true-false (sym w.if-is_none.ensures ∙ ap is_some (w.ended.ensures.exact ∙ live))
+  | else-listening-via-else-listening w ↦ sym w.if-listening.ensures.exact
+]
+
+pub returns-clause-serving : goal.returns-clause-serving
+returns-clause-serving g c held present first before now policy pid start failed given todo v =
+    subst (λ (x : Seen). Serving g.H.Asks.may (RestsOf g.H.Asks.state present first) before now policy pid start x held failed given todo c.args.engine.now) (sym (seen-is c.stop_listening.ensures.state)) (serve-hushed v (silent g c))
+
+pub returns-clause-places : goal.returns-clause-places
+returns-clause-places g c = subst (SamePlaces (g.W.Wire.state c.args.wire.now).seen) (sym (seen-is c.stop_listening.ensures.state)) record { streams = refl; listeners = refl; own = refl; last_own = refl }
+
+-- ---- the wire
+
+pub returns-clause-wire : goal.returns-clause-wire
+returns-clause-wire g c = idle-silence c.stop_listening.ensures.state c.stop_listening.ensures.faults

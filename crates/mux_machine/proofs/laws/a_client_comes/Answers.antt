@@ -1,5 +1,0 @@
-use Rattle.mux_machine.proofs.Comes.{goes-in}
-use Rattle.mux_machine.proofs.laws.a_client_comes.Goals as goal
-
-pub returns : goal.returns
-returns c = goes-in

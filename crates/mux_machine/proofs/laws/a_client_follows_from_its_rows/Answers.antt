@@ -1,5 +1,0 @@
-use Rattle.mux_machine.proofs.Others.{kept-by-own-rows}
-use Rattle.mux_machine.proofs.laws.a_client_follows_from_its_rows.Goals as goal
-
-pub returns : goal.returns
-returns c = kept-by-own-rows

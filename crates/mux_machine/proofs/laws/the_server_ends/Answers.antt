@@ -1,5 +1,0 @@
-use Rattle.mux_machine.proofs.Over.{goes-ended, goes-failed, goes-unwritten}
-use Rattle.mux_machine.proofs.laws.the_server_ends.Goals as goal
-
-pub returns : goal.returns
-returns c = record { ends = goes-ended; fails = goes-failed; unwritten = goes-unwritten }

@@ -1,5 +1,0 @@
-use Rattle.mux_machine.proofs.Others.{heard-leaves-idle}
-use Rattle.mux_machine.proofs.laws.the_server_leaves_others.Goals as goal
-
-pub returns : goal.returns
-returns c = heard-leaves-idle
