@@ -161,7 +161,7 @@ fn take(
                 },
             ))
         }
-        Takes::MasterCommand => {
+        Takes::Control => {
             steps.push(Step::new(here, Act::Chooses(Mode::Client)))?;
             steps.push(control_step(at, value))
         }

@@ -158,7 +158,7 @@ fn client_of(alloc: Global, end: u64, host: &[u8], steps: &[Step]) -> Result<Com
     if is_about_forwardings(control) && !names_forwarding(steps) {
         return Err(refused(end, Usage::NoForward));
     }
-    Ok(Command::MasterCommand {
+    Ok(Command::Control {
         asked: asked_of(alloc, host, steps)?,
         control,
     })

@@ -8,7 +8,7 @@ use Rattle.conf_rules.specs.Reading.{drill_of, drill_number, no_more, seed_limit
 use Rattle.conf_rules.specs.Results.{◌>>=◌}
 use Rattle.conf_rules.specs.Texts.{Bytes, split_at_each}
 use Rattle.conf_rules.specs.declared.command.Command.{Command}
-use Rattle.conf_rules.specs.declared.command.Command.TheVariants.{List as Listing, Master, MasterCommand, Drill}
+use Rattle.conf_rules.specs.declared.command.Command.TheVariants.{List as Listing, Master, Control, Drill}
 use Rattle.conf_rules.specs.CommandLine.{refused}
 use Rattle.conf_rules.specs.declared.usage.Usage.TheVariants.{BadDrill}
 use Rattle.conf_rules.specs.declared.usage.UsageError.{UsageError}
@@ -77,7 +77,7 @@ read_sound : (words : List Bytes) (r : Result Command UsageError) → drill_of w
 read_sound words (Ok (Drill s c m)) e = in_range words s c m e
 read_sound words (Ok (Listing asked)) e = tt
 read_sound words (Ok (Master asked transport opens listens)) e = tt
-read_sound words (Ok (MasterCommand asked control)) e = tt
+read_sound words (Ok (Control asked control)) e = tt
 read_sound words (Err error) e = tt
 
 -- what a text says

@@ -3,7 +3,7 @@ use Rattle.std.specs.Prelude.{ℕ, ◌≤◌, List, Option, Some, None, Result, 
 use Rattle.conf_rules.specs.Reading.{drill_of}
 use Rattle.conf_rules.specs.Texts.{split_at_each}
 use Rattle.conf_rules.specs.declared.command.Command.{Command}
-use Rattle.conf_rules.specs.declared.command.Command.TheVariants.{List as Listing, Master, MasterCommand, Drill}
+use Rattle.conf_rules.specs.declared.command.Command.TheVariants.{List as Listing, Master, Control, Drill}
 use Rattle.conf_rules.specs.declared.usage.UsageError.{UsageError}
 use Rattle.mux_drill.specs.declared.plan.Plan.{Plan}
 
@@ -13,7 +13,7 @@ plan_in (Ok (Drill seed clients messages)) =
     Some (record { seed = seed; clients = clients; messages = messages })
 plan_in (Ok (Listing asked)) = None
 plan_in (Ok (Master asked transport opens listens)) = None
-plan_in (Ok (MasterCommand asked control)) = None
+plan_in (Ok (Control asked control)) = None
 plan_in (Err e) = None
 
 -- the plan that a text says: SEED, CLIENTS and MESSAGES with single spaces between them

@@ -46,17 +46,17 @@ undrilled-joined asked what (Ok (Some path)) = refl
 undrilled-joined asked what (Ok None) = refl
 undrilled-joined asked what (Err e) = refl
 
-pub client-looks : (m : Option Machine) (asked : Asked) (what : MasterCommand) → looks (of_command m (commands.MasterCommand asked what)) ≡ true
+pub client-looks : (m : Option Machine) (asked : Asked) (what : MasterCommand) → looks (of_command m (commands.Control asked what)) ≡ true
 unfolding of_command
 client-looks None asked what = refl
 client-looks (Some m) asked what = looks-rows (all_rows (recorded_of m asked)) (joined_end asked what (control_path_at (recorded_of m asked) (all_rows (recorded_of m asked)))) (looks-joined asked what (control_path_at (recorded_of m asked) (all_rows (recorded_of m asked))))
 
-pub client-shut : (m : Option Machine) (asked : Asked) (what : MasterCommand) → opens (of_command m (commands.MasterCommand asked what)) ≡ false
+pub client-shut : (m : Option Machine) (asked : Asked) (what : MasterCommand) → opens (of_command m (commands.Control asked what)) ≡ false
 unfolding of_command
 client-shut None asked what = refl
 client-shut (Some m) asked what = shut-rows (all_rows (recorded_of m asked)) (joined_end asked what (control_path_at (recorded_of m asked) (all_rows (recorded_of m asked)))) (shut-joined asked what (control_path_at (recorded_of m asked) (all_rows (recorded_of m asked))))
 
-pub client-undrilled : (m : Option Machine) (asked : Asked) (what : MasterCommand) → drills (of_command m (commands.MasterCommand asked what)) ≡ false
+pub client-undrilled : (m : Option Machine) (asked : Asked) (what : MasterCommand) → drills (of_command m (commands.Control asked what)) ≡ false
 unfolding of_command
 client-undrilled None asked what = refl
 client-undrilled (Some m) asked what = undrilled-rows (all_rows (recorded_of m asked)) (joined_end asked what (control_path_at (recorded_of m asked) (all_rows (recorded_of m asked)))) (undrilled-joined asked what (control_path_at (recorded_of m asked) (all_rows (recorded_of m asked))))
@@ -133,7 +133,7 @@ rows-taken rows x status before now = on (refusal_in rows) where
   on (Some e) f h = ends-taken (BadLine e) status before now h
   on None f h = f h
 
-pub client-taken : (m : Option Machine) (asked : Asked) (what : MasterCommand) (status : Status) (before now : Option (List ℕ)) → OnFalse (may_ask (of_command m (commands.MasterCommand asked what)) status) (now ≡ before) → OutTakes status (of_command m (commands.MasterCommand asked what)) before now
+pub client-taken : (m : Option Machine) (asked : Asked) (what : MasterCommand) (status : Status) (before now : Option (List ℕ)) → OnFalse (may_ask (of_command m (commands.Control asked what)) status) (now ≡ before) → OutTakes status (of_command m (commands.Control asked what)) before now
 unfolding of_command
 client-taken None asked what status before now h = some-taken asked what status before now h
 client-taken (Some m) asked what status before now h =
@@ -160,13 +160,13 @@ writes-rows rows x h = on (refusal_in rows) where
   on (Some e) = refl
   on None = h
 
-client-writes : (m : Option Machine) (asked : Asked) (what : MasterCommand) → writes_out (of_command m (commands.MasterCommand asked what)) ≡ asks (of_command m (commands.MasterCommand asked what))
+client-writes : (m : Option Machine) (asked : Asked) (what : MasterCommand) → writes_out (of_command m (commands.Control asked what)) ≡ asks (of_command m (commands.Control asked what))
 unfolding of_command
 client-writes None asked what = refl
 client-writes (Some m) asked what = writes-rows (all_rows (recorded_of m asked)) (joined_end asked what (control_path_at (recorded_of m asked) (all_rows (recorded_of m asked)))) (writes-joined asked what (control_path_at (recorded_of m asked) (all_rows (recorded_of m asked))))
 
-pub unlisted-client : (m : Option Machine) (asked : Asked) (what : MasterCommand) (status : Status) (P : Type 0) → OnFalse (may_ask (of_command m (commands.MasterCommand asked what)) status) P → OnFalse (writes_out (of_command m (commands.MasterCommand asked what))) P
-unlisted-client m asked what status P h = subst (λ b. OnFalse b P) (sym (client-writes m asked what)) (ends-unlisted (asks (of_command m (commands.MasterCommand asked what))) status P h)
+pub unlisted-client : (m : Option Machine) (asked : Asked) (what : MasterCommand) (status : Status) (P : Type 0) → OnFalse (may_ask (of_command m (commands.Control asked what)) status) P → OnFalse (writes_out (of_command m (commands.Control asked what))) P
+unlisted-client m asked what status P h = subst (λ b. OnFalse b P) (sym (client-writes m asked what)) (ends-unlisted (asks (of_command m (commands.Control asked what))) status P h)
 
 -- ---- the control path of a client
 
@@ -174,7 +174,7 @@ refused-client : (asked : Asked) (what : MasterCommand) (e : ResolveError) → I
 refused-client asked what errors.OutOfMemory = tt
 refused-client asked what (errors.At file line cause) = by-cause (Client asked what) file line cause refl (λ plain. refl)
 
-pub client-refused : (files : Option (List Pair)) (statuses : Option (List CommandStatus)) (facts : Facts) (asked : Asked) (what : MasterCommand) (e : ResolveError) → Promise files statuses facts asked (λ recorded. Resolved recorded (Err e)) → IsRefused (of_command (machine files statuses facts) (commands.MasterCommand asked what)) (shown (refused_as e))
+pub client-refused : (files : Option (List Pair)) (statuses : Option (List CommandStatus)) (facts : Facts) (asked : Asked) (what : MasterCommand) (e : ResolveError) → Promise files statuses facts asked (λ recorded. Resolved recorded (Err e)) → IsRefused (of_command (machine files statuses facts) (commands.Control asked what)) (shown (refused_as e))
 unfolding of_command machine
 client-refused None statuses facts asked what e h = refused-client asked what e
 client-refused (Some files) None facts asked what e h = refused-client asked what e
@@ -190,7 +190,7 @@ path-is files statuses facts asked what settings r h is =
     let none : refusal recorded ≡ None = (kept files statuses facts asked (λ t. Resolved t (Ok settings)) h).0 in
     unrefused-rows (all_rows recorded) (joined_end asked what (control_path_at recorded (all_rows recorded))) none ∙ ap (joined_end asked what) is
 
-pub client-found : (files : Option (List Pair)) (statuses : Option (List CommandStatus)) (facts : Facts) (asked : Asked) (what : MasterCommand) (settings : List Given) (path : Bytes) → Promise files statuses facts asked (λ recorded. Resolved recorded (Ok settings)) → HasControlPath (Ok (Some path)) settings asked.original facts → (of_command (machine files statuses facts) (commands.MasterCommand asked what) ≡ Certain (joins_at asked what path)) ⊎ (of_command (machine files statuses facts) (commands.MasterCommand asked what) ≡ Client asked what)
+pub client-found : (files : Option (List Pair)) (statuses : Option (List CommandStatus)) (facts : Facts) (asked : Asked) (what : MasterCommand) (settings : List Given) (path : Bytes) → Promise files statuses facts asked (λ recorded. Resolved recorded (Ok settings)) → HasControlPath (Ok (Some path)) settings asked.original facts → (of_command (machine files statuses facts) (commands.Control asked what) ≡ Certain (joins_at asked what path)) ⊎ (of_command (machine files statuses facts) (commands.Control asked what) ≡ Client asked what)
 unfolding of_command machine
 client-found None statuses facts asked what settings path h p = inr refl
 client-found (Some files) None facts asked what settings path h p = inr refl
@@ -198,7 +198,7 @@ client-found (Some files) (Some statuses) facts asked what settings path h p =
     let recorded = recorded_of (machine_of files statuses facts) asked in
     inl (ap (λ o. Certain o) (path-is files statuses facts asked what settings (Ok (Some path)) h (p recorded (all_rows recorded) (settled files statuses facts asked settings h))))
 
-pub client-unset : (files : Option (List Pair)) (statuses : Option (List CommandStatus)) (facts : Facts) (asked : Asked) (what : MasterCommand) (settings : List Given) → Promise files statuses facts asked (λ recorded. Resolved recorded (Ok settings)) → HasControlPath (Ok None) settings asked.original facts → IsRefused (of_command (machine files statuses facts) (commands.MasterCommand asked what)) NoControlPath
+pub client-unset : (files : Option (List Pair)) (statuses : Option (List CommandStatus)) (facts : Facts) (asked : Asked) (what : MasterCommand) (settings : List Given) → Promise files statuses facts asked (λ recorded. Resolved recorded (Ok settings)) → HasControlPath (Ok None) settings asked.original facts → IsRefused (of_command (machine files statuses facts) (commands.Control asked what)) NoControlPath
 unfolding of_command machine
 client-unset None statuses facts asked what settings h p = refl
 client-unset (Some files) None facts asked what settings h p = refl
@@ -206,7 +206,7 @@ client-unset (Some files) (Some statuses) facts asked what settings h p =
     let recorded = recorded_of (machine_of files statuses facts) asked in
     subst (λ o. IsRefused (Certain o) NoControlPath) (sym (path-is files statuses facts asked what settings (Ok None) h (p recorded (all_rows recorded) (settled files statuses facts asked settings h)))) refl
 
-pub client-unlisted : (files : Option (List Pair)) (statuses : Option (List CommandStatus)) (facts : Facts) (asked : Asked) (what : MasterCommand) (settings : List Given) (e : ListError) → Promise files statuses facts asked (λ recorded. Resolved recorded (Ok settings)) → HasControlPath (Err e) settings asked.original facts → IsRefused (of_command (machine files statuses facts) (commands.MasterCommand asked what)) (shown (unlisted_as e))
+pub client-unlisted : (files : Option (List Pair)) (statuses : Option (List CommandStatus)) (facts : Facts) (asked : Asked) (what : MasterCommand) (settings : List Given) (e : ListError) → Promise files statuses facts asked (λ recorded. Resolved recorded (Ok settings)) → HasControlPath (Err e) settings asked.original facts → IsRefused (of_command (machine files statuses facts) (commands.Control asked what)) (shown (unlisted_as e))
 unfolding of_command machine
 client-unlisted files statuses facts asked what settings list_errors.OutOfMemory h p = tt
 client-unlisted None statuses facts asked what settings (list_errors.Token key error) h p = refl

@@ -60,13 +60,13 @@ steps-lines (s ∷ ss) h = by_case (asks_forwarding s) refl (steps-lines ss) h
 
 -- the lines of a client that was read
 abbrev OfClient : ReadCommand → Type 0
-OfClient (Ok (commands.MasterCommand asked control)) = NamesForwards control asked.lines
+OfClient (Ok (commands.Control asked control)) = NamesForwards control asked.lines
 OfClient read = Unit {0}
 
 client-named : (n : ℕ) (host : Bytes) (steps : List Step) (control : MasterCommand) → OfClient (client_of n host steps control)
 client-named n host steps control = by_case (is_about_forwardings control) refl (list_any asks_forwarding steps) refl
   where
-    unasked : is_about_forwardings control ≡ false → OfClient (Ok (commands.MasterCommand (asked_of host steps) control))
+    unasked : is_about_forwardings control ≡ false → OfClient (Ok (commands.Control (asked_of host steps) control))
     unasked e = subst (λ t. OnTrue t (IsTrue (list_any is_forwarding (flat_map line_in steps)))) (sym e) tt
 
     named : list_any asks_forwarding steps ≡ true → (t : Bool) → OnTrue t (IsTrue (list_any is_forwarding (flat_map line_in steps)))
@@ -74,7 +74,7 @@ client-named n host steps control = by_case (is_about_forwardings control) refl 
     named e false = tt
 
     by_case : (about : Bool) → is_about_forwardings control ≡ about → (some : Bool) → list_any asks_forwarding steps ≡ some
-        → OfClient (if about && not some then refused (n + 1) NoForward else Ok (commands.MasterCommand (asked_of host steps) control))
+        → OfClient (if about && not some then refused (n + 1) NoForward else Ok (commands.Control (asked_of host steps) control))
     by_case true a true s = named s (is_about_forwardings control)
     by_case true a false s = tt
     by_case false a true s = unasked a
@@ -146,5 +146,5 @@ reading-named (w ∷ ws) = by_case (bytes_eq w (codes "--drill"))
     by_case false = walked-named (length (w ∷ ws)) (walk_from None false (steps_from 1 Free (w ∷ ws)))
 
 -- words that are read name forwardings where they ask for them
-pub names-forwards : (words : List Bytes) (asked : Asked) (control : MasterCommand) → reading words ≡ Ok (commands.MasterCommand asked control) → NamesForwards control asked.lines
+pub names-forwards : (words : List Bytes) (asked : Asked) (control : MasterCommand) → reading words ≡ Ok (commands.Control asked control) → NamesForwards control asked.lines
 names-forwards words asked control e = subst OfClient e (reading-named words)

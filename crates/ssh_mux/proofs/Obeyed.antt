@@ -265,11 +265,11 @@ module _ {T : Type 0} (words : List Bytes) (pid turns : ℕ) (May : HouseReply �
       }
 
   -- a client
-  pub client-obeyed : (facts : Facts) (asked : Asked) (what : MasterCommand) (result : Result Status Ending) (s s' : Sources) (w w' : WireState) (f f' : Faults) (house : HouseState) (out out' : OutState) → Looks facts (commands.MasterCommand asked what) asked result s s' → ClientLeaves (coming s facts (commands.MasterCommand asked what)) turns result w w' f f' out out' → OnFalse (may_ask (coming s facts (commands.MasterCommand asked what)) (so_far result)) ((w' ≡ w) × (out'.recorded ≡ out.recorded))
-      → Obeyed (coming s facts (commands.MasterCommand asked what)) (recorded_over (machine_of_sources s facts) asked) (commands_of (machine_of_sources s facts) (commands.MasterCommand asked what)) words pid turns May state result s s' (record { wire = w; faults = f; house = house }) (record { wire = w'; faults = f'; house = house }) out out'
+  pub client-obeyed : (facts : Facts) (asked : Asked) (what : MasterCommand) (result : Result Status Ending) (s s' : Sources) (w w' : WireState) (f f' : Faults) (house : HouseState) (out out' : OutState) → Looks facts (commands.Control asked what) asked result s s' → ClientLeaves (coming s facts (commands.Control asked what)) turns result w w' f f' out out' → OnFalse (may_ask (coming s facts (commands.Control asked what)) (so_far result)) ((w' ≡ w) × (out'.recorded ≡ out.recorded))
+      → Obeyed (coming s facts (commands.Control asked what)) (recorded_over (machine_of_sources s facts) asked) (commands_of (machine_of_sources s facts) (commands.Control asked what)) words pid turns May state result s s' (record { wire = w; faults = f; house = house }) (record { wire = w'; faults = f'; house = house }) out out'
   client-obeyed facts asked what result s s' w w' f f' house out out' looks leaves still =
       let m = machine_of_sources s facts in
-      let known : Known = coming s facts (commands.MasterCommand asked what) in
+      let known : Known = coming s facts (commands.Control asked what) in
       let status : Status = so_far result in
       let none = client-undrilled m asked what in
       let closed = client-shut m asked what in

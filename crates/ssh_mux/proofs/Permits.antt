@@ -135,7 +135,7 @@ command-master n steps = by_mode (first_mode steps)
     by_control : (host : Bytes) (control : MasterCommand) → OfMaster (client_of n host steps control)
     by_control host control = by_named (is_about_forwardings control && not (list_any asks_forwarding steps))
       where
-        by_named : (t : Bool) → OfMaster (if t then refused (n + 1) NoForward else Ok (commands.MasterCommand (asked_of host steps) control))
+        by_named : (t : Bool) → OfMaster (if t then refused (n + 1) NoForward else Ok (commands.Control (asked_of host steps) control))
         by_named true = tt
         by_named false = tt
 

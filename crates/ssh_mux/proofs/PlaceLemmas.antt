@@ -58,7 +58,7 @@ pub master-recorded : (m : Option Machine) (words : List Bytes) (asked : Asked) 
 unfolding recorded_for
 master-recorded m words asked transport opens listens e = ap (recorded_by m) e
 
-pub client-recorded : (m : Option Machine) (words : List Bytes) (asked : Asked) (what : MasterCommand) → reading words ≡ Ok (commands.MasterCommand asked what) → recorded_for m words ≡ recorded_over m asked
+pub client-recorded : (m : Option Machine) (words : List Bytes) (asked : Asked) (what : MasterCommand) → reading words ≡ Ok (commands.Control asked what) → recorded_for m words ≡ recorded_over m asked
 unfolding recorded_for
 client-recorded m words asked what e = ap (recorded_by m) e
 

@@ -87,7 +87,7 @@ unprinted-joined asked what (Ok (Some path)) = refl
 unprinted-joined asked what (Ok None) = refl
 unprinted-joined asked what (Err e) = refl
 
-pub client-unprinted : (m : Option Machine) (asked : Asked) (what : MasterCommand) → prints (of_command m (commands.MasterCommand asked what)) ≡ false
+pub client-unprinted : (m : Option Machine) (asked : Asked) (what : MasterCommand) → prints (of_command m (commands.Control asked what)) ≡ false
 unfolding of_command
 client-unprinted None asked what = refl
 client-unprinted (Some m) asked what = unprinted-rows (all_rows (recorded_of m asked)) (joined_end asked what (control_path_at (recorded_of m asked) (all_rows (recorded_of m asked)))) (unprinted-joined asked what (control_path_at (recorded_of m asked) (all_rows (recorded_of m asked))))

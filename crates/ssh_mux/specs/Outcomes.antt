@@ -48,7 +48,7 @@ machine files statuses facts = None
 abbrev pub untold : Command → Known
 untold (commands.List asked) = Listing
 untold (commands.Master asked transport opens listens) = Master transport opens listens
-untold (commands.MasterCommand asked what) = Client asked what
+untold (commands.Control asked what) = Client asked what
 untold (commands.Drill seed clients messages) = Certain (Drills seed clients messages)
 
 -- what is known of a command over a machine

@@ -35,15 +35,15 @@ pub fn ask_master<W: Wire, F: Files, R: Runner, S: Sink>(
     turns: u64,
 ) -> Result<Status, Ending>
     requires named { NamesForwards control asked.now.lines }
-    ensures looks { Looks facts.now (commands.MasterCommand asked.now control) asked.now result
+    ensures looks { Looks facts.now (commands.Control asked.now control) asked.now result
         (sources F.Files R.Runner files.old runner.old)
         (sources F.Files R.Runner files.new runner.new) }
     ensures leaves { ClientLeaves (coming (sources F.Files R.Runner files.old runner.old) facts.now
-        (commands.MasterCommand asked.now control)) turns result (W.state wire.old) (W.state wire.new)
+        (commands.Control asked.now control)) turns result (W.state wire.old) (W.state wire.new)
         (W.faults wire.old) (W.faults wire.new) (output S.Sink out.old) (output S.Sink out.new) }
     ensures untouched { OnFalse (may_ask
         (coming (sources F.Files R.Runner files.old runner.old) facts.now
-        (commands.MasterCommand asked.now control)) (so_far result))
+        (commands.Control asked.now control)) (so_far result))
         ((wire.new ≡ wire.old) × (out.new ≡ out.old)) }
 {
     let path = control_of(alloc, asked, facts, files, runner)?;

@@ -97,7 +97,7 @@ fn found_of<F: Files, R: Runner>(
         (sources F.Files R.Runner files.new runner.new) }
     ensures client { (what : MasterCommand) →
         FoundFor (λ found. joins_at asked.now what found.control) (Client asked.now what) facts.now
-        (commands.MasterCommand asked.now what) asked.now result
+        (commands.Control asked.now what) asked.now result
         (sources F.Files R.Runner files.old runner.old)
         (sources F.Files R.Runner files.new runner.new) }
     ensures settled { IfOk result (λ found. SettledFor
@@ -127,7 +127,7 @@ pub fn control_of<F: Files, R: Runner>(
         (sources F.Files R.Runner files.new runner.new) }
     ensures client { (what : MasterCommand) →
         FoundFor (joins_at asked.now what) (Client asked.now what) facts.now
-        (commands.MasterCommand asked.now what) asked.now result
+        (commands.Control asked.now what) asked.now result
         (sources F.Files R.Runner files.old runner.old)
         (sources F.Files R.Runner files.new runner.new) }
 {
