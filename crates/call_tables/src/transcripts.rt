@@ -61,7 +61,7 @@ fn plays_behind(alloc: Global, beginning: &str, step: &str) -> Result<(), Fail> 
 }
 
 fn fresh(alloc: Global) -> Result<Bench, Fail> {
-    let policy = Policy::read(alloc, &Texts::new(alloc), &Texts::new(alloc))?;
+    let policy = Policy::read(alloc, &Texts::new(alloc), &Texts::new(alloc), true)?;
     let core = Core::new(alloc, policy)?;
     Ok(Bench { alloc, core })
 }

@@ -5,7 +5,7 @@ use Rattle.std.proofs.Math.ListN.{drop_of_length-le}
 use Rattle.std.proofs.Math.Seq.{take-suc}
 use Rattle.conf_rules.specs.declared.usage.Usage.{Usage}
 use Rattle.conf_rules.specs.declared.usage.Usage.TheVariants.{TwoModes, TwoDestinations, BadDestination}
-use Rattle.conf_rules.specs.Options.{Mode, Act, Chooses, Reads, Asks, Connects, Permits, Controls, Goes, Fails, Step, step}
+use Rattle.conf_rules.specs.Options.{Mode, Act, Chooses, Reads, Asks, Connects, Permits, Sessions, Controls, Goes, Fails, Step, step}
 use Rattle.conf_rules.specs.Destinations.{destination}
 use Rattle.conf_rules.specs.CommandLine.{other_mode, or_mode, Walk, faulty, onto_walk, walk_from}
 use Rattle.conf_command.specs.Walks.{fault_of, mode_in, mode_behind, going_behind, behind_sound}
@@ -42,6 +42,7 @@ walk-first mode going w (Chooses m) ss =
 walk-first mode going w (Reads from) ss = ap (λ n. onto_walk (step w (Reads from)) (walk_from n going ss)) (same-mode mode (Reads from) refl)
 walk-first mode going w (Asks line) ss = ap (λ n. onto_walk (step w (Asks line)) (walk_from n going ss)) (same-mode mode (Asks line) refl)
 walk-first mode going w (Connects transport) ss = ap (λ n. onto_walk (step w (Connects transport)) (walk_from n going ss)) (same-mode mode (Connects transport) refl)
+walk-first mode going w (Sessions may) ss = ap (λ n. onto_walk (step w (Sessions may)) (walk_from n going ss)) (same-mode mode (Sessions may) refl)
 walk-first mode going w (Permits listening word entry) ss = ap (λ n. onto_walk (step w (Permits listening word entry)) (walk_from n going ss)) (same-mode mode (Permits listening word entry) refl)
 walk-first mode going w (Controls control) ss = ap (λ n. onto_walk (step w (Controls control)) (walk_from n going ss)) (same-mode mode (Controls control) refl)
 walk-first mode going w (Goes to) ss =

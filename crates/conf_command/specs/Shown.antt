@@ -28,6 +28,7 @@ act_of (acts.Reads from) = options.Reads from
 act_of (acts.Asks line) = options.Asks line
 act_of (acts.Connects transport) = options.Connects transport
 act_of (acts.Permits listening word entry) = options.Permits listening word entry
+act_of (acts.Sessions may) = options.Sessions may
 act_of (acts.Controls control) = options.Controls control
 act_of (acts.Goes to) = options.Goes to
 act_of (acts.Fails cause) = options.Fails cause
@@ -41,6 +42,7 @@ takes_of takes.File = options.OfFile
 takes_of takes.Transport = options.OfTransport
 takes_of takes.Control = options.OfControl
 takes_of (takes.Permit listening) = options.OfPermit listening
+takes_of takes.Sessions = options.OfSessions
 
 -- what a letter is
 abbrev pub letter_of : TheLetter → Letter

@@ -2,7 +2,7 @@
 use Rattle.std.specs.Prelude.{Bool, true, false, if◌then◌else◌, List, ◌++◌, Option, Some, None, is_none}
 use Rattle.conf_rules.specs.declared.usage.Usage.{Usage}
 use Rattle.conf_rules.specs.declared.usage.Usage.TheVariants.{TwoModes, TwoDestinations, BadDestination}
-use Rattle.conf_rules.specs.Options.{Mode, Act, Chooses, Connects, Permits, Goes, Fails, Step}
+use Rattle.conf_rules.specs.Options.{Mode, Act, Chooses, Connects, Permits, Sessions, Goes, Fails, Step}
 use Rattle.conf_rules.specs.Destinations.{destination}
 use Rattle.conf_rules.specs.CommandLine.{other_mode, Walk}
 use Rattle.conf_command.specs.declared.walk.Walk.{Walk as TheWalk}
@@ -34,6 +34,7 @@ going_behind going act = going
 abbrev pub is_of_master : Act → Bool
 is_of_master (Connects transport) = true
 is_of_master (Permits listening word entry) = true
+is_of_master (Sessions may) = true
 is_of_master act = false
 
 -- a walk, without where its steps lie

@@ -23,6 +23,8 @@ pub enum Act {
         word: u64,
         entry: Text,
     },
+    /// Whether sessions are permitted.
+    Sessions(bool),
     /// What a running master is asked.
     Controls(MasterCommand),
     Goes(Text),

@@ -25,6 +25,8 @@ pub enum Takes {
     Permit {
         listening: bool,
     },
+    /// Whether sessions are permitted.
+    Sessions,
 }
 
 /// What a letter is.

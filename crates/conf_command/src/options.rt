@@ -1,6 +1,6 @@
 ghost use Rattle.std.specs.Prelude.{◌≡◌, ℕ, List, [], ◌∷◌, ◌++◌, IfOk, OnOk};
 ghost use Rattle.conf_rules.specs.declared.asked.AskedLine.TheVariants as asks;
-ghost use Rattle.conf_rules.specs.Options.{step, forward_step, file_named, control_among, controls, control_step, taken, with_value, by_letters, long_option, dashed, Free, Goes, ValueOf};
+ghost use Rattle.conf_rules.specs.Options.{step, forward_step, file_named, control_among, controls, control_step, sessions_named, sessions_steps, taken, with_value, by_letters, long_option, dashed, Free, Goes, ValueOf};
 ghost use Rattle.conf_rules.specs.CommandLine.{free_word, steps_from};
 ghost use Rattle.conf_command.specs.Shown.{act_of, takes_of, next_of};
 ghost use Rattle.conf_command.specs.Words.{word_steps, end_steps};
@@ -118,6 +118,33 @@ fn control_step(at: u64, value: &[u8]) -> Step
     }
 }
 
+/// Whether sessions are permitted.
+fn sessions_named(value: &[u8]) -> Option<bool>
+    ensures { result ≡ sessions_named value.now }
+{
+    if is_same(value, b"any") {
+        return Some(true);
+    }
+    if is_same(value, b"none") {
+        return Some(false);
+    }
+    None
+}
+
+/// Whether sessions are permitted; a value that doesn't say it is bad where it stands.
+fn take_sessions(here: u64, at: u64, value: &[u8], steps: &mut Steps) -> Result<(), OutOfMemory>
+    ensures { OnOk result (steps.new ≡ steps.old
+        ++ sessions_steps here at (sessions_named value.now)) }
+{
+    match sessions_named(value) {
+        Some(may) => steps.push(Step::new(here, Act::Sessions(may))),
+        None => {
+            steps.push(Step::new(here, Act::Sessions(false)))?;
+            steps.push(Step::new(at, Act::Fails(Usage::BadEntry)))
+        }
+    }
+}
+
 /// What an option at a word does with its value at another.
 fn take(
     alloc: Global,
@@ -161,6 +188,7 @@ fn take(
                 },
             ))
         }
+        Takes::Sessions => take_sessions(here, at, value, steps),
         Takes::Control => {
             steps.push(Step::new(here, Act::Chooses(Mode::Client)))?;
             steps.push(control_step(at, value))
@@ -227,6 +255,9 @@ fn long_option(at: u64, word: &[u8], steps: &mut Steps) -> Result<Next, OutOfMem
     }
     if is_same(word, b"permit-listen") {
         return Ok(value_of(at, Takes::Permit { listening: true }));
+    }
+    if is_same(word, b"permit-session") {
+        return Ok(value_of(at, Takes::Sessions));
     }
     steps.push(Step::new(at, Act::Fails(Usage::UnknownOption)))?;
     Ok(Next::Free)

@@ -1,5 +1,5 @@
 ghost use Rattle.std.specs.Prelude.{◌≡◌, ◌+◌, ℕ, List, IfOk, IfErr, true, false, None, length, bytes_eq, codes};
-ghost use Rattle.conf_rules.specs.CommandLine.{permitted, master_of, client_of, control_in, mode_command, host_command, command_with, command_of, walked, walk_from, steps_from, transport_in, permits, texts_of, asked_of};
+ghost use Rattle.conf_rules.specs.CommandLine.{permitted, master_of, client_of, control_in, mode_command, host_command, sessions_in, command_with, command_of, walked, walk_from, steps_from, transport_in, permits, texts_of, asked_of};
 ghost use Rattle.conf_rules.specs.Options.{Free, Step};
 ghost use Rattle.conf_rules.specs.Permissions.{bad_entry, earlier};
 ghost use Rattle.conf_rules.specs.declared.command.Command.{Command};
@@ -16,11 +16,12 @@ use crate::drill::drill_of;
 use crate::options::steps_of;
 use crate::permits::{Permits, bad_entry, earlier, permits_of, texts_of};
 use crate::sound::{
-    asked_of, control_in, host_in, is_about_forwardings, names_forwarding, transport_in,
+    asked_of, control_in, host_in, is_about_forwardings, names_forwarding, sessions_in,
+    transport_in,
 };
 use crate::step::Step;
 use crate::walk::{first_mode, not_for_others, walk_over};
-use conf_rules::{Command, Usage, UsageError};
+use conf_rules::{Command, Permissions, Usage, UsageError};
 use ssh_fields::{OutOfMemory, Text, Texts};
 use std::alloc::Global;
 
@@ -113,15 +114,22 @@ fn master_over(
     permitted: Permitted,
 ) -> Result<Command, WordsError>
     ensures ok { IfOk result (λ command. command ≡ commands.Master (asked_of host.now steps.now) transport
-        permitted.opens permitted.listens) }
+        (record {
+          opens = permitted.opens;
+          listens = permitted.listens;
+          sessions = sessions_in true steps.now;
+        })) }
     ensures err { IfErr result (λ e. e ≡ words_errors.OutOfMemory) }
 {
     match asked_of(alloc, host, steps) {
         Ok(asked) => Ok(Command::Master {
             asked,
             transport,
-            opens: permitted.opens,
-            listens: permitted.listens,
+            permits: Permissions {
+                opens: permitted.opens,
+                listens: permitted.listens,
+                sessions: sessions_in(steps),
+            },
         }),
         Err(e) => {
             drop(transport);

@@ -1,9 +1,9 @@
-ghost use Rattle.std.specs.Prelude.{◌≡◌, ℕ, [], ◌∷◌, ◌++◌, List, IfOk, OnOk, None, flat_map};
+ghost use Rattle.std.specs.Prelude.{◌≡◌, ℕ, [], ◌∷◌, ◌++◌, List, IfOk, OnOk, None, flat_map, true};
 ghost use Rattle.std.specs.Option.{option_copied};
 ghost use Rattle.std.specs.List.{list_any};
 ghost use Rattle.conf_rules.specs.declared.control.MasterCommand.TheVariants.{Check};
 ghost use Rattle.conf_rules.specs.declared.asked.ConfigFrom.TheVariants.{Standard};
-ghost use Rattle.conf_rules.specs.CommandLine.{line_in, destination_line, from_in, transport_in, control_in, is_forwarding, asks_forwarding, is_about_forwardings, host_in, asked_of};
+ghost use Rattle.conf_rules.specs.CommandLine.{line_in, destination_line, from_in, transport_in, sessions_in, control_in, is_forwarding, asks_forwarding, is_about_forwardings, host_in, asked_of};
 ghost use Rattle.conf_rules.specs.Destinations.{destination};
 ghost use Rattle.conf_command.specs.Sound.{from_at, transport_at, host_at};
 
@@ -131,6 +131,19 @@ pub fn transport_in(alloc: Global, steps: &[Step]) -> Result<Option<Text>, OutOf
         transport = transport_behind(alloc, transport, step)?;
     }
     Ok(transport)
+}
+
+/// Whether sessions are permitted: the last one named counts.
+pub fn sessions_in(steps: &[Step]) -> bool
+    ensures { result ≡ sessions_in true steps.now }
+{
+    let mut sessions = true;
+    for step in steps {
+        if let Act::Sessions(may) = step.act() {
+            sessions = *may;
+        }
+    }
+    sessions
 }
 
 /// What a running master is asked: the last one named counts.

@@ -124,7 +124,7 @@ fn is_of_master(step: &Step) -> bool
     ensures { result ≡ is_of_master step.now.act }
 {
     match step.act() {
-        Act::Connects(_) | Act::Permits { .. } => true,
+        Act::Connects(_) | Act::Permits { .. } | Act::Sessions(_) => true,
         _ => false,
     }
 }

@@ -1,7 +1,7 @@
 //! Small configurations, computed by the definitions alone.
 #![tactic(auto, unfolding(crate::specs::Numbers::digits_of, crate::specs::Heads::lines_of, crate::specs::Heads::head_of, crate::specs::Heads::uncommented, crate::specs::Heads::sent_at, crate::specs::Heads::after_keyword, crate::specs::Words::words_from, crate::specs::Words::move_of, crate::specs::Patterns::matches, crate::specs::Patterns::answer_of, crate::specs::Globs::pieces_take, crate::specs::Globs::component_takes, crate::specs::Globs::pieces_from, crate::specs::Keys::key_of, crate::specs::Keywords::meaning_of, crate::specs::Keywords::unchecked, crate::specs::Kinds::default_of, crate::specs::Values::values_of, crate::specs::Values::value_of, crate::specs::Times::seconds_from, crate::specs::Tokens::expand_from, crate::specs::Tokens::name_expanded, crate::specs::Tokens::meaning, crate::specs::Criteria::criteria_from, crate::specs::Evaluation::verdict, crate::specs::Includes::included_files, crate::specs::Includes::globbed, crate::specs::Sources::lines_in, crate::specs::Sources::file_lines, crate::specs::Sources::included, crate::specs::Sources::all_lines, crate::specs::Sources::size_limit, crate::specs::Sources::is_opening, crate::specs::Rows::values, crate::specs::Resolution::view_at, crate::specs::Resolution::line_limit, crate::specs::Resolution::row_of, crate::specs::Resolution::rows_from, crate::specs::Resolution::rows_by, crate::specs::Resolution::rows_behind, crate::specs::Resolution::all_rows, crate::specs::Entries::entry_of, crate::specs::Listing::shown, crate::specs::Listing::listing_over, crate::specs::Listing::control_path_at, crate::specs::Options::forward_words, crate::specs::CommandLine::steps_from, crate::specs::CommandLine::walk_from, crate::specs::CommandLine::command_of, crate::specs::Reading::reading, crate::specs::Reading::drill_of, crate::specs::Reading::seed_limit, crate::specs::Diagnostics::text_of, crate::specs::Diagnostics::line_of))]
 
-ghost use Rattle.std.specs.Prelude.{◌≡◌, List, [], ◌∷◌, codes, length};
+ghost use Rattle.std.specs.Prelude.{◌≡◌, List, [], ◌∷◌, codes, length, true, false};
 ghost use Rattle.conf_rules.specs.Heads.{lines_of};
 ghost use Rattle.conf_rules.specs.Memory.{Pair};
 ghost use Rattle.conf_rules.specs.Outcome.{outcome, ran_for, Opens, Drills};
@@ -85,7 +85,19 @@ pub fn control_path_of_the_master()
         ∷ codes "x" ∷ [])) ≡ says (codes "controlpath: not set") }
     ensures opened { outcome bare (codes "-M" ∷ codes "-F" ∷ codes "none" ∷ codes "--transport"
         ∷ codes "/t" ∷ codes "-S" ∷ codes "/c" ∷ codes "x" ∷ [])
-        ≡ Opens (codes "/c") (codes "/t") [] [] }
+        ≡ Opens (codes "/c") (codes "/t") (record { opens = []; listens = []; sessions = true }) }
+{}
+
+/// Sessions are permitted unless the last word on them says otherwise, which only a master has.
+pub fn sessions_of_the_master()
+    ensures none { outcome bare (codes "-M" ∷ codes "-F" ∷ codes "none" ∷ codes "--transport"
+        ∷ codes "/t" ∷ codes "-S" ∷ codes "/c" ∷ codes "--permit-session" ∷ codes "any"
+        ∷ codes "--permit-session" ∷ codes "none" ∷ codes "x" ∷ [])
+        ≡ Opens (codes "/c") (codes "/t") (record { opens = []; listens = []; sessions = false }) }
+    ensures bad { written (outcome bare (codes "-M" ∷ codes "--permit-session" ∷ codes "80" ∷ []))
+        ≡ says (codes "word 3: not a permission") }
+    ensures listing { written (outcome bare (codes "-G" ∷ codes "--permit-session" ∷ codes "80"
+        ∷ [])) ≡ says (codes "word 2: only for -M") }
 {}
 
 /// A drill is read from three numbers in their ranges.

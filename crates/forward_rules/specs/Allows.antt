@@ -52,7 +52,7 @@ ListReadsAs (Ok allow) read = read ≡ Ok (allow_of allow)
 ListReadsAs (Err (fault.Bad at)) read = read ≡ Err at
 ListReadsAs (Err fault.OutOfMemory) read = Unit {0}
 
--- ---- both lists
+-- ---- both lists, and whether sessions are permitted
 
 -- a text that is no entry: in which list it stands, and its place there
 pub record BadText : Type 0 where
@@ -60,16 +60,16 @@ pub record BadText : Type 0 where
   pub at : ℕ
 
 -- both lists once the first is read
-abbrev pub read_listens : history.Allow → List (List ℕ) → Result history.Policy BadText
-read_listens opens texts = elim (history.read_list texts) [
-  | Ok listens ↦ Ok (record { opens = opens; listens = listens })
+abbrev pub read_listens : history.Allow → List (List ℕ) → Bool → Result history.Policy BadText
+read_listens opens texts sessions = elim (history.read_list texts) [
+  | Ok listens ↦ Ok (record { opens = opens; listens = listens; sessions = sessions })
   | Err at ↦ Err (record { for_open = false; at = at })
 ]
 
 -- the list for opens is read first
-abbrev pub read_policy : List (List ℕ) → List (List ℕ) → Result history.Policy BadText
-read_policy opens listens = elim (history.read_list opens) [
-  | Ok allow ↦ read_listens allow listens
+abbrev pub read_policy : List (List ℕ) → List (List ℕ) → Bool → Result history.Policy BadText
+read_policy opens listens sessions = elim (history.read_list opens) [
+  | Ok allow ↦ read_listens allow listens sessions
   | Err at ↦ Err (record { for_open = true; at = at })
 ]
 

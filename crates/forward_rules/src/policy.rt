@@ -22,11 +22,12 @@ pub enum PolicyError {
     OutOfMemory,
 }
 
-/// What clients may open, and what they may have listened on.
+/// What clients may open, what they may have listened on, and whether they may start sessions.
 #[derive(Drop)]
 pub struct Policy {
     opens: Allowed,
     listens: Allowed,
+    sessions: bool,
 }
 
 impl Model for Policy {
@@ -35,7 +36,11 @@ impl Model for Policy {
 
     ghost Value = { history.Policy };
 
-    ghost view = { λ a. record { opens = allow_of a.opens; listens = allow_of a.listens } };
+    ghost view = { λ a. record {
+      opens = allow_of a.opens;
+      listens = allow_of a.listens;
+      sessions = a.sessions;
+    } };
 }
 
 /// The list in which the first bad text stands, and its place there.
@@ -51,9 +56,14 @@ fn bad_in(for_open: bool, fault: ListFault) -> PolicyError
 impl Policy {
     /// Reads the texts of `--permit-open` and of `--permit-listen`: `any`, `none`, or entries
     /// `/path`, `host:port`, `[address]:port` and `port`, with `*` for host or port. A list without
-    /// texts permits all.
-    pub fn read(alloc: Global, opens: &Texts, listens: &Texts) -> Result<Policy, PolicyError>
-        ensures { ReadsAs result (read_policy opens.now listens.now) }
+    /// texts permits all. Whether sessions are permitted was read before.
+    pub fn read(
+        alloc: Global,
+        opens: &Texts,
+        listens: &Texts,
+        sessions: bool,
+    ) -> Result<Policy, PolicyError>
+        ensures { ReadsAs result (read_policy opens.now listens.now sessions) }
     {
         let opens = match read_list(alloc, opens.as_slice()) {
             Ok(allowed) => allowed,
@@ -63,7 +73,18 @@ impl Policy {
             Ok(allowed) => allowed,
             Err(fault) => return Err(bad_in(false, fault)),
         };
-        Ok(Policy { opens, listens })
+        Ok(Policy {
+            opens,
+            listens,
+            sessions,
+        })
+    }
+
+    /// Whether a session may be started.
+    pub fn permits_sessions(&self) -> bool
+        ensures { result ≡ self.now.sessions }
+    {
+        self.sessions
     }
 
     /// Whether a channel may be opened to this key.

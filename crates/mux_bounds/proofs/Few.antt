@@ -10,15 +10,15 @@ use Rattle.mux_history.specs.Heard.{Breaks, Dest, Disconnects, ToClient, ToMaste
 use Rattle.mux_history.specs.Kept.{AtEach, ForEach}
 use Rattle.mux_history.specs.Ledger.{room}
 use Rattle.mux_history.specs.Log.{admits, received_row, row_of, treat}
-use Rattle.mux_history.specs.Policy.{Policy, permits}
+use Rattle.mux_history.specs.Policy.{Policy, may_open}
 use Rattle.mux_history.specs.Rows.{Admit, Fate, Gone, Heard, HouseSays, Item, Row, Says, is_lost, rows_of}
-use Rattle.mux_history.specs.Said.{Outcome, drops, fails_open, on_unused, sent_summary, sent_open, sent_payload, sends, sends_as, sends_open, silent, records}
+use Rattle.mux_history.specs.Said.{Outcome, drops, fails_open, on_unused, sent_summary, sent_open, sent_payload, sends, sends_as, sends_open, silent, records, reason_for, text_for}
 use Rattle.mux_bounds.specs.Few.{ChannelsBounded}
 use Rattle.mux_outside.specs.declared.house.HouseReply.{HouseReply}
 use Rattle.ssh_grammar.specs.Frames.{frame_payload}
-use Rattle.ssh_grammar.specs.Messages.{Direct, Opens, Session}
+use Rattle.ssh_grammar.specs.Messages.{Opens}
 use Rattle.ssh_grammar.specs.Said.{BadFraming, Body, Payload}
-use Rattle.ssh_grammar.specs.SpellMessage.{not_permitted, open_failure, too_many_channels}
+use Rattle.ssh_grammar.specs.SpellMessage.{open_failure, too_many_channels}
 use Rattle.ssh_grammar.specs.declared.fault.Bad.{Bad}
 use Rattle.mux_history.specs.declared.why.Why.TheVariants as why
 use Rattle.mux_history.proofs.Dests.{dest-ok}
@@ -66,13 +66,12 @@ room-or-none policy own pick p c what = by_unused (with_own own c)
     by_room true e = inr (is-less (length (held_of own)) 256 e)
     by_room false e = inl refl
 
-    by_type : (t : Opens) → ((sent_open policy own pick p c t).sent ≡ []) ⊎ (length (held_of own) + 1 ≤ 256)
-    by_type Session = by_room (nat_lt (length (held_of own)) 256) refl
-    by_type (Direct key) = elim (permits policy.opens key) as (λ b. ((elim b as (λ _. Outcome) [ true ↦ sends_open own pick p c | false ↦ fails_open c 1 not_permitted ]).sent ≡ []) ⊎ (length (held_of own) + 1 ≤ 256)) [ true ↦ by_room (nat_lt (length (held_of own)) 256) refl | false ↦ inl refl ]
-    by_type t = inl refl
+    by_permit : (b : Bool) → ((elim b as (λ _. Outcome) [ true ↦ sends_open own pick p c | false ↦ fails_open c (reason_for what) (text_for what) ]).sent ≡ []) ⊎ (length (held_of own) + 1 ≤ 256)
+    by_permit true = by_room (nat_lt (length (held_of own)) 256) refl
+    by_permit false = inl refl
 
     by_unused : (o : Option Channel) → ((on_unused c (sent_open policy own pick p c what) o).sent ≡ []) ⊎ (length (held_of own) + 1 ≤ 256)
-    by_unused None = by_type what
+    by_unused None = by_permit (may_open policy what)
     by_unused (Some x) = inl refl
 
 few-said : (policy : Policy) (before : List Row) (k pick : ℕ) (p : List ℕ) (reply : Option HouseReply) (fw down : List (List ℕ)) (fate : Fate) → Few before (as_row (Says k (Payload p) reply) k (sent_payload policy k (rows_of k before) pick p).sent fw down fate)

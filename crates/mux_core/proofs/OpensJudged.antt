@@ -2,18 +2,18 @@
 use Rattle.std.proofs.Common.{◌≡◌, ℕ, List, [], ◌∷◌, length, true, false, Bool, refl, ◌∙◌, ap, sym, subst, Option, Some, None, Ok, suc}
 use Rattle.std.specs.Prelude.{filter, find, ◌==◌, ◌&&◌, not, is_some, option_map, nat_lt}
 use Rattle.std.specs.List.{AllByRecursion}
-use Rattle.ssh_grammar.specs.declared.numbers.TheConstants.{ADMINISTRATIVELY_PROHIBITED, RESOURCE_SHORTAGE, UNKNOWN_CHANNEL_TYPE}
-use Rattle.ssh_grammar.specs.Messages.{Opens, Session, Direct, Forwarded, OtherType}
-use Rattle.ssh_grammar.specs.SpellMessage.{not_permitted, open_failure, too_many_channels, unknown_type}
+use Rattle.ssh_grammar.specs.declared.numbers.TheConstants.{RESOURCE_SHORTAGE}
+use Rattle.ssh_grammar.specs.Messages.{Opens}
+use Rattle.ssh_grammar.specs.SpellMessage.{open_failure, too_many_channels}
 use Rattle.ssh_grammar.specs.Frames.{frame_payload}
 use Rattle.proxy_frames.specs.State.{QueueState}
 use Rattle.mux_history.specs.declared.limits.TheConstants.{MAX_CHANNELS}
 use Rattle.mux_history.specs.declared.why.Why.TheVariants as why
 use Rattle.mux_history.specs.Summary.{Open, read_summary}
-use Rattle.mux_history.specs.Policy.{permits}
+use Rattle.mux_history.specs.Policy.{may_open}
 use Rattle.mux_history.specs.Rows.{Row, rows_of}
 use Rattle.mux_history.specs.Channels.{Channel, held_of, is_number, with_own}
-use Rattle.mux_history.specs.Said.{Outcome, drops, fails_open, on_unused, sent_open, sent_payload, sends_as, sends_open, records}
+use Rattle.mux_history.specs.Said.{Outcome, drops, fails_open, on_unused, sent_open, sent_payload, sends_as, sends_open, records, reason_for, text_for}
 use Rattle.mux_history.proofs.Finds.{filter-no, filter-yes}
 use Rattle.mux_history.proofs.Local as local
 use Rattle.channel_table.specs.Entries.{Entry}
@@ -81,27 +81,20 @@ judged s k c w m what p up v rows st serves e judges = by_use (is_some (number_o
     answer : (a : List ℕ) → sent_payload s.policy k (rows_of k rows) 0 p ≡ records (frame_payload a) → SendsIn s s k p 0 up up (verdict.Answer a) rows
     answer a does = answered-row s k 0 p (Open what c w m) a up rows st serves e (asks-nothing what c w m) does
 
-    by_kind : (what' : Opens) → used (with_own (rows_of k rows) c) ≡ false → sent_payload s.policy k (rows_of k rows) 0 p ≡ on_unused c (sent_open s.policy (rows_of k rows) 0 p c what') (with_own (rows_of k rows) c) → kind_verdict s c what' ≡ Some v → SendsIn s s k p 0 up up v rows
-    by_kind Session free does j = absurd (cc)
-    by_kind (Direct key) free does j = by_permit (permits s.policy.opens key) refl j
+    by_kind : used (with_own (rows_of k rows) c) ≡ false → sent_payload s.policy k (rows_of k rows) 0 p ≡ on_unused c (sent_open s.policy (rows_of k rows) 0 p c what) (with_own (rows_of k rows) c) → kind_verdict s c what ≡ Some v → SendsIn s s k p 0 up up v rows
+    by_kind free does j = by_permit (may_open s.policy what) refl j
       where
-        by_permit : (b : Bool) → permits s.policy.opens key ≡ b → (elim b as (λ _. Option Verdict) [ true ↦ None | false ↦ Some (verdict.Answer (open_failure c ADMINISTRATIVELY_PROHIBITED not_permitted)) ]) ≡ Some v → SendsIn s s k p 0 up up v rows
+        by_permit : (b : Bool) → may_open s.policy what ≡ b → (elim b as (λ _. Option Verdict) [ true ↦ None | false ↦ Some (verdict.Answer (open_failure c (reason_for what) (text_for what))) ]) ≡ Some v → SendsIn s s k p 0 up up v rows
         by_permit true h j = absurd (cc)
         by_permit false h j =
-            let same : verdict.Answer (open_failure c ADMINISTRATIVELY_PROHIBITED not_permitted) ≡ v = cc in
-            subst (λ u. SendsIn s s k p 0 up up u rows) same (answer (open_failure c ADMINISTRATIVELY_PROHIBITED not_permitted) (does ∙ (by-none c (sent_open s.policy (rows_of k rows) 0 p c (Direct key)) (with_own (rows_of k rows) c) free ∙ ap (λ (b : Bool). elim b as (λ _. Outcome) [ true ↦ sends_open (rows_of k rows) 0 p c | false ↦ fails_open c ADMINISTRATIVELY_PROHIBITED not_permitted ]) h)))
-    by_kind (Forwarded key) free does j =
-        let same : verdict.Answer (open_failure c UNKNOWN_CHANNEL_TYPE unknown_type) ≡ v = cc in
-        subst (λ u. SendsIn s s k p 0 up up u rows) same (answer (open_failure c UNKNOWN_CHANNEL_TYPE unknown_type) (does ∙ by-none c (sent_open s.policy (rows_of k rows) 0 p c (Forwarded key)) (with_own (rows_of k rows) c) free))
-    by_kind OtherType free does j =
-        let same : verdict.Answer (open_failure c UNKNOWN_CHANNEL_TYPE unknown_type) ≡ v = cc in
-        subst (λ u. SendsIn s s k p 0 up up u rows) same (answer (open_failure c UNKNOWN_CHANNEL_TYPE unknown_type) (does ∙ by-none c (sent_open s.policy (rows_of k rows) 0 p c OtherType) (with_own (rows_of k rows) c) free))
+            let same : verdict.Answer (open_failure c (reason_for what) (text_for what)) ≡ v = cc in
+            subst (λ u. SendsIn s s k p 0 up up u rows) same (answer (open_failure c (reason_for what) (text_for what)) (does ∙ (by-none c (sent_open s.policy (rows_of k rows) 0 p c what) (with_own (rows_of k rows) c) free ∙ ap (λ (b : Bool). elim b as (λ _. Outcome) [ true ↦ sends_open (rows_of k rows) 0 p c | false ↦ fails_open c (reason_for what) (text_for what) ]) h)))
 
     by_use : (b : Bool) → is_some (number_of_own s.channels k c) ≡ b → (elim b as (λ _. Option Verdict) [ true ↦ Some (verdict.Drop (why.OwnInUse c)) | false ↦ kind_verdict s c what ]) ≡ Some v → SendsIn s s k p 0 up up v rows
     by_use true h j =
         let same : verdict.Drop (why.OwnInUse c) ≡ v = cc in
         subst (λ u. SendsIn s s k p 0 up up u rows) same (dropped-row s k 0 p up (why.OwnInUse c) rows (does-open s k 0 c w m what p rows e ∙ by-use c (sent_open s.policy (rows_of k rows) 0 p c what) (with_own (rows_of k rows) c) (sym (uses s k c rows st) ∙ h)))
-    by_use false h j = by_kind what (sym (uses s k c rows st) ∙ h) (does-open s k 0 c w m what p rows e) j
+    by_use false h j = by_kind (sym (uses s k c rows st) ∙ h) (does-open s k 0 c w m what p rows e) j
 
 -- ---- how many channels
 
@@ -125,19 +118,16 @@ own-count s k rows st = ap length (sym (held-local k rows)) ∙ count-fit k s.ch
 pub may-go : (s : CoreState) (k pick c w m : ℕ) (what : Opens) (p : List ℕ) (rows : List Row) → Stands s rows → read_summary p ≡ Ok (Open what c w m) → open_verdict s k c what ≡ None → sent_payload s.policy k (rows_of k rows) pick p ≡ sends_open (rows_of k rows) pick p c
 may-go s k pick c w m what p rows st e judges = by_use (is_some (number_of_own s.channels k c)) refl judges
   where
-    by_kind : (what' : Opens) → used (with_own (rows_of k rows) c) ≡ false → sent_payload s.policy k (rows_of k rows) pick p ≡ on_unused c (sent_open s.policy (rows_of k rows) pick p c what') (with_own (rows_of k rows) c) → kind_verdict s c what' ≡ None → sent_payload s.policy k (rows_of k rows) pick p ≡ sends_open (rows_of k rows) pick p c
-    by_kind Session free does j = does ∙ by-none c (sent_open s.policy (rows_of k rows) pick p c Session) (with_own (rows_of k rows) c) free
-    by_kind (Direct key) free does j = by_permit (permits s.policy.opens key) refl j
+    by_kind : used (with_own (rows_of k rows) c) ≡ false → sent_payload s.policy k (rows_of k rows) pick p ≡ on_unused c (sent_open s.policy (rows_of k rows) pick p c what) (with_own (rows_of k rows) c) → kind_verdict s c what ≡ None → sent_payload s.policy k (rows_of k rows) pick p ≡ sends_open (rows_of k rows) pick p c
+    by_kind free does j = by_permit (may_open s.policy what) refl j
       where
-        by_permit : (b : Bool) → permits s.policy.opens key ≡ b → (elim b as (λ _. Option Verdict) [ true ↦ None | false ↦ Some (verdict.Answer (open_failure c ADMINISTRATIVELY_PROHIBITED not_permitted)) ]) ≡ None → sent_payload s.policy k (rows_of k rows) pick p ≡ sends_open (rows_of k rows) pick p c
-        by_permit true h j = does ∙ (by-none c (sent_open s.policy (rows_of k rows) pick p c (Direct key)) (with_own (rows_of k rows) c) free ∙ ap (λ (b : Bool). elim b as (λ _. Outcome) [ true ↦ sends_open (rows_of k rows) pick p c | false ↦ fails_open c ADMINISTRATIVELY_PROHIBITED not_permitted ]) h)
+        by_permit : (b : Bool) → may_open s.policy what ≡ b → (elim b as (λ _. Option Verdict) [ true ↦ None | false ↦ Some (verdict.Answer (open_failure c (reason_for what) (text_for what))) ]) ≡ None → sent_payload s.policy k (rows_of k rows) pick p ≡ sends_open (rows_of k rows) pick p c
+        by_permit true h j = does ∙ (by-none c (sent_open s.policy (rows_of k rows) pick p c what) (with_own (rows_of k rows) c) free ∙ ap (λ (b : Bool). elim b as (λ _. Outcome) [ true ↦ sends_open (rows_of k rows) pick p c | false ↦ fails_open c (reason_for what) (text_for what) ]) h)
         by_permit false h j = absurd (cc)
-    by_kind (Forwarded key) free does j = absurd (cc)
-    by_kind OtherType free does j = absurd (cc)
 
     by_use : (b : Bool) → is_some (number_of_own s.channels k c) ≡ b → (elim b as (λ _. Option Verdict) [ true ↦ Some (verdict.Drop (why.OwnInUse c)) | false ↦ kind_verdict s c what ]) ≡ None → sent_payload s.policy k (rows_of k rows) pick p ≡ sends_open (rows_of k rows) pick p c
     by_use true h j = absurd (cc)
-    by_use false h j = by_kind what (sym (uses s k c rows st) ∙ h) (does-open s k pick c w m what p rows e) j
+    by_use false h j = by_kind (sym (uses s k c rows st) ∙ h) (does-open s k pick c w m what p rows e) j
 
 -- 256 channels are there
 pub no-room : (s : CoreState) (k c w m : ℕ) (what : Opens) (p : List ℕ) (up : QueueState) (rows : List Row) → Stands s rows → is_served s.clients k ≡ true → read_summary p ≡ Ok (Open what c w m) → open_verdict s k c what ≡ None → nat_lt (count_of s.channels k) MAX_CHANNELS ≡ false → SendsIn s s k p 0 up up (verdict.Answer (open_failure c RESOURCE_SHORTAGE too_many_channels)) rows

@@ -1,10 +1,10 @@
 -- How a core judges an open that a client says.
 use Rattle.std.specs.Prelude.{ℕ, true, false, List, Option, Some, None, is_some}
-use Rattle.ssh_grammar.specs.declared.numbers.TheConstants.{ADMINISTRATIVELY_PROHIBITED, UNKNOWN_CHANNEL_TYPE}
-use Rattle.ssh_grammar.specs.Messages.{Opens, Session, Direct, Forwarded}
-use Rattle.ssh_grammar.specs.SpellMessage.{open_failure, not_permitted, unknown_type}
+use Rattle.ssh_grammar.specs.Messages.{Opens, Forwarded}
+use Rattle.ssh_grammar.specs.SpellMessage.{open_failure}
 use Rattle.mux_history.specs.declared.why.Why.TheVariants as why
-use Rattle.mux_history.specs.Policy.{permits}
+use Rattle.mux_history.specs.Policy.{may_open}
+use Rattle.mux_history.specs.Said.{reason_for, text_for}
 use Rattle.channel_table.specs.Entries.{number_of_own}
 use Rattle.forward_rules.specs.State.{Forward}
 use Rattle.forward_rules.specs.Step.{owner_at}
@@ -16,14 +16,12 @@ use Rattle.mux_core.specs.State.{CoreState}
 abbrev pub fails_with : ℕ → ℕ → List ℕ → Verdict
 fails_with sender reason text = verdict.Answer (open_failure sender reason text)
 
--- by what it is about: sessions and permitted direct channels alone
+-- by what it is about: permitted sessions and direct channels alone
 abbrev pub kind_verdict : CoreState → ℕ → Opens → Option Verdict
-kind_verdict s sender Session = None
-kind_verdict s sender (Direct key) = elim (permits s.policy.opens key) [
+kind_verdict s sender what = elim (may_open s.policy what) [
   | true ↦ None
-  | false ↦ Some (fails_with sender ADMINISTRATIVELY_PROHIBITED not_permitted)
+  | false ↦ Some (fails_with sender (reason_for what) (text_for what))
 ]
-kind_verdict s sender _ = Some (fails_with sender UNKNOWN_CHANNEL_TYPE unknown_type)
 
 -- the verdict on one that isn't sent whatever room there is; its own number may not be in use
 abbrev pub open_verdict : CoreState → ℕ → ℕ → Opens → Option Verdict

@@ -112,18 +112,17 @@ impl Core {
         if self.uses_own(client, sender) {
             return Some(Verdict::Drop(Why::OwnInUse { number: sender }));
         }
-        match what {
-            Opening::Session => None,
-            Opening::Direct(key) => {
-                if self.permits_open(*key) {
-                    None
-                } else {
-                    Some(refuse(sender, ADMINISTRATIVELY_PROHIBITED, b"not permitted"))
-                }
-            }
+        let permitted = match what {
+            Opening::Session => self.permits_sessions(),
+            Opening::Direct(key) => self.permits_open(*key),
             Opening::Forwarded(_) | Opening::Other => {
-                Some(refuse(sender, UNKNOWN_CHANNEL_TYPE, b"unknown channel type"))
+                return Some(refuse(sender, UNKNOWN_CHANNEL_TYPE, b"unknown channel type"));
             }
+        };
+        if permitted {
+            None
+        } else {
+            Some(refuse(sender, ADMINISTRATIVELY_PROHIBITED, b"not permitted"))
         }
     }
 

@@ -151,6 +151,12 @@ impl Core {
         self.policy.permits_open_to(key)
     }
 
+    pub(crate) fn permits_sessions(&self) -> bool
+        ensures { result ≡ self.now.policy.sessions }
+    {
+        self.policy.permits_sessions()
+    }
+
     pub(crate) fn permits_listen(&self, key: Key<'_>) -> bool
         ensures { result ≡ permits self.now.policy.listens (key_of key.entry) }
     {

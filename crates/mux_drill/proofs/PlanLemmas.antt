@@ -76,7 +76,7 @@ in_range (a ∷ b ∷ d ∷ more) s c m e =
 read_sound : (words : List Bytes) (r : Result Command UsageError) → drill_of words ≡ r → IfSome (plan_in r) IsPlan
 read_sound words (Ok (Drill s c m)) e = in_range words s c m e
 read_sound words (Ok (Listing asked)) e = tt
-read_sound words (Ok (Master asked transport opens listens)) e = tt
+read_sound words (Ok (Master asked transport permits)) e = tt
 read_sound words (Ok (Control asked control)) e = tt
 read_sound words (Err error) e = tt
 

@@ -12,7 +12,7 @@ abbrev pub plan_in : Result Command UsageError → Option Plan
 plan_in (Ok (Drill seed clients messages)) =
     Some (record { seed = seed; clients = clients; messages = messages })
 plan_in (Ok (Listing asked)) = None
-plan_in (Ok (Master asked transport opens listens)) = None
+plan_in (Ok (Master asked transport permits)) = None
 plan_in (Ok (Control asked control)) = None
 plan_in (Err e) = None
 

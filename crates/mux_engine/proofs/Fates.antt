@@ -5,13 +5,13 @@ use Rattle.ssh_grammar.specs.declared.fault.Bad.{Bad}
 use Rattle.ssh_grammar.specs.declared.fault.BadControl.{BadControl}
 use Rattle.ssh_grammar.specs.declared.fault.BadControl.TheVariants as bad
 use Rattle.ssh_grammar.specs.declared.fault.Breach.{Breach}
-use Rattle.ssh_grammar.specs.declared.numbers.TheConstants.{ADMINISTRATIVELY_PROHIBITED, DISCONNECT, RESOURCE_SHORTAGE, VERSION}
+use Rattle.ssh_grammar.specs.declared.numbers.TheConstants.{DISCONNECT, RESOURCE_SHORTAGE, VERSION}
 use Rattle.ssh_grammar.specs.declared.side.Side.TheVariants.{Down, Up}
 use Rattle.ssh_grammar.specs.Control.{Answer, Control, Hello, Terminate, OpenForward, CloseForward}
-use Rattle.ssh_grammar.specs.Messages.{Global, Opens, Session, Direct, Forward, Forwarded, Cancel, KeepAlive, OtherName}
+use Rattle.ssh_grammar.specs.Messages.{Global, Opens, Forward, Forwarded, Cancel, KeepAlive, OtherName}
 use Rattle.ssh_grammar.specs.ReadControl.{read_control}
 use Rattle.ssh_grammar.specs.Said.{Outgoing, Body, Payload, BadFraming}
-use Rattle.ssh_grammar.specs.SpellMessage.{not_permitted, too_many_channels}
+use Rattle.ssh_grammar.specs.SpellMessage.{too_many_channels}
 use Rattle.mux_outside.specs.declared.house.HouseReply.{HouseReply}
 use Rattle.mux_history.specs.declared.broke.Break.{Break}
 use Rattle.mux_history.specs.declared.broke.Break.TheVariants as broke
@@ -28,10 +28,10 @@ use Rattle.mux_history.specs.Summary.{Act, Confirmation, Fails, Summary, Open, R
 use Rattle.mux_history.specs.Heard.{Breaks, Dest, Disconnects, ToClient, ToMaster, dest, dest_asker, dest_confirmation, dest_summary, dest_open, dest_success, dest_within, for_master, received_for, received_master, pending_open}
 use Rattle.mux_history.specs.Keys.{learns_port}
 use Rattle.mux_history.specs.Ledger.{breach}
-use Rattle.mux_history.specs.Policy.{Policy, permits}
+use Rattle.mux_history.specs.Policy.{Policy, may_open}
 use Rattle.mux_history.specs.Requests.{Ask, asker}
 use Rattle.mux_history.specs.Rows.{Row, rows_of, loses, Item, Heard, Says, Fate, Goes, Refused, Drop, End}
-use Rattle.mux_history.specs.Said.{Outcome, confirmed_at, drops, fails_open, is_failing, is_full_of_asks, on_breach, on_confirmed, on_unused, on_waiting, sent_summary, sent_open, sent_payload, sent_request, sends, sends_as, sends_if, sends_open, silent, waiting_at}
+use Rattle.mux_history.specs.Said.{Outcome, confirmed_at, drops, fails_open, is_failing, is_full_of_asks, on_breach, on_confirmed, on_unused, on_waiting, sent_summary, sent_open, sent_payload, sent_request, sends, sends_as, sends_if, sends_open, silent, waiting_at, reason_for, text_for}
 use Rattle.mux_history.specs.Settings.{by_lists}
 use Rattle.mux_history.specs.Solo.{end_of}
 use Rattle.mux_history.specs.Journal.{received_item, sent_item, server_end}
@@ -90,13 +90,11 @@ fine-open own pick p sender = by_room (nat_lt (length (held_of own)) MAX_CHANNEL
     by_room false = tt
 
 fine-kind : (policy : Policy) (own : List Row) (pick : ℕ) (p : List ℕ) (sender : ℕ) (what : Opens) → Fine (sent_open policy own pick p sender what)
-fine-kind policy own pick p sender Session = fine-open own pick p sender
-fine-kind policy own pick p sender (Direct key) = by_permit (permits policy.opens key)
+fine-kind policy own pick p sender what = by_permit (may_open policy what)
   where
-    by_permit : (b : Bool) → Fine (elim b as (λ _. Outcome) [ true ↦ sends_open own pick p sender | false ↦ fails_open sender ADMINISTRATIVELY_PROHIBITED not_permitted ])
+    by_permit : (b : Bool) → Fine (elim b as (λ _. Outcome) [ true ↦ sends_open own pick p sender | false ↦ fails_open sender (reason_for what) (text_for what) ])
     by_permit true = fine-open own pick p sender
     by_permit false = tt
-fine-kind policy own pick p sender what = tt
 
 fine-unused : (c : ℕ) (o : Outcome) (x : Option Channel) → Fine o → Fine (on_unused c o x)
 fine-unused c o None q = q

@@ -11,13 +11,13 @@ use Rattle.mux_history.specs.Kept.{Every, IsMasters}
 use Rattle.mux_history.specs.Keys.{is_askable}
 use Rattle.mux_history.specs.Ledger.{breach}
 use Rattle.mux_history.specs.Log.{admits, all_recorded, bare, open_matters, queued, row_of}
-use Rattle.mux_history.specs.Policy.{Policy, permits}
+use Rattle.mux_history.specs.Policy.{Policy, may_open, permits}
 use Rattle.mux_history.specs.Rows.{Fate, Item, Refused, Row, any_of, loses}
-use Rattle.mux_history.specs.Said.{Outcome, confirmed_at, drops, fails_open, is_failing, is_full_of_asks, on_breach, on_confirmed, on_unused, on_waiting, sent_summary, sent_open, sent_request, sends, sends_as, sends_if, sends_open, silent, records, waiting_at}
+use Rattle.mux_history.specs.Said.{Outcome, confirmed_at, drops, fails_open, is_failing, is_full_of_asks, on_breach, on_confirmed, on_unused, on_waiting, reason_for, sent_summary, sent_open, sent_request, sends, sends_as, sends_if, sends_open, silent, records, text_for, waiting_at}
 use Rattle.mux_outside.specs.declared.house.HouseReply.{HouseReply}
 use Rattle.ssh_grammar.specs.Control.{Answer, CloseForward, Control, Greets, Hello, OpenForward}
 use Rattle.ssh_grammar.specs.Frames.{frame_answer}
-use Rattle.ssh_grammar.specs.Messages.{Cancel, Direct, Forward, Global, KeepAlive, Opens, OtherName, Session}
+use Rattle.ssh_grammar.specs.Messages.{Cancel, Forward, Global, KeepAlive, Opens, OtherName}
 use Rattle.ssh_grammar.specs.ReadControl.{read_control}
 use Rattle.ssh_grammar.specs.SpellMessage.{wants, with_sender}
 use Rattle.ssh_grammar.specs.declared.fault.Bad.{Bad}
@@ -83,9 +83,7 @@ sent-by policy k own pick p (Open what c w max) = by_unused (with_own own c) ref
     by_room false unused = inl refl
 
     by_type : (t : Opens) → with_own own c ≡ None → Sent own pick p (Open what c w max) (sent_open policy own pick p c t).sent
-    by_type Session unused = by_room (nat_lt (length (held_of own)) 256) unused
-    by_type (Direct key) unused = elim (permits policy.opens key) as (λ b. Sent own pick p (Open what c w max) (elim b as (λ _. Outcome) [ true ↦ sends_open own pick p c | false ↦ fails_open c 1 (codes "not permitted") ]).sent) [ true ↦ by_room (nat_lt (length (held_of own)) 256) unused | false ↦ inl refl ]
-    by_type t unused = inl refl
+    by_type t unused = elim (may_open policy t) as (λ b. Sent own pick p (Open what c w max) (elim b as (λ _. Outcome) [ true ↦ sends_open own pick p c | false ↦ fails_open c (reason_for t) (text_for t) ]).sent) [ true ↦ by_room (nat_lt (length (held_of own)) 256) unused | false ↦ inl refl ]
 
     by_unused : (o : Option Channel) → with_own own c ≡ o → Sent own pick p (Open what c w max) (on_unused c (sent_open policy own pick p c what) o).sent
     by_unused None unused = by_type what unused

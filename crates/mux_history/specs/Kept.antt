@@ -5,7 +5,7 @@ use Rattle.mux_outside.specs.declared.house.HouseReply.{HouseReply}
 use Rattle.ssh_grammar.specs.declared.side.Side.{Side}
 use Rattle.ssh_grammar.specs.declared.side.Side.TheVariants.{Up, Down}
 use Rattle.ssh_grammar.specs.declared.numbers.TheConstants.{ADMINISTRATIVELY_PROHIBITED, CONNECT_FAILED, RESOURCE_SHORTAGE}
-use Rattle.ssh_grammar.specs.Messages.{Key, Session, Direct, Forwarded, Forward, Cancel, KeepAlive}
+use Rattle.ssh_grammar.specs.Messages.{Key, Forwarded, Forward, Cancel, KeepAlive}
 use Rattle.ssh_grammar.specs.Said.{Payload}
 use Rattle.ssh_grammar.specs.SpellMessage.{cancel_forward, client_is_gone, close, not_permitted, open_failure, request_failure, too_many_channels, with_recipient, with_sender}
 use Rattle.ssh_grammar.specs.Frames.{frame_payload}
@@ -20,7 +20,7 @@ use Rattle.mux_history.specs.Pending.{joined, waiting_down}
 use Rattle.mux_history.specs.Requests.{answers, asker, is_reply}
 use Rattle.mux_history.specs.Controls.{is_sends}
 use Rattle.mux_history.specs.Keys.{is_askable}
-use Rattle.mux_history.specs.Policy.{Policy, permits}
+use Rattle.mux_history.specs.Policy.{Policy, may_open, permits}
 use Rattle.mux_history.specs.Farewell.{late}
 use Rattle.mux_history.specs.Forwardings.{Forwarding, current, is_free_at, live_at}
 use Rattle.mux_history.specs.Said.{confirmed_at, is_full_of_asks, waiting_at}
@@ -79,13 +79,13 @@ pub record Window (before : List Row) (row : Row) : Type 0 where
   pub up : EachSends (UpFits (rows_of row.client before)) (sent_by row)
   pub down : EachRecords (DownFits (rows_of row.client before)) row.down
 
--- ---- Permission: no forwarding passes its permission list, and each forwarded open meets a live
--- forwarding
+-- ---- Permission: nothing is opened and no forwarding is asked that isn't permitted, and each
+-- forwarded open meets a live forwarding
 
--- a direct channel and a forwarding that is asked are on their lists, be it by address and port or
--- by path
+-- the server is asked to open permitted sessions and direct channels alone, and for forwardings on
+-- their list alone, be it by address and port or by path
 abbrev pub IsPermitted : Policy → Summary → Type 0
-IsPermitted policy (Open (Direct key) c window maximum) = permits policy.opens key ≡ true
+IsPermitted policy (Open what c window maximum) = may_open policy what ≡ true
 IsPermitted policy (Requests (Forward key) wants) = permits policy.listens key ≡ true
 IsPermitted policy m = Unit {0}
 
@@ -218,14 +218,13 @@ MustOpen own ups p c =
 abbrev pub MustAsk : List Row → List (List ℕ) → List ℕ → Bool → Type 0
 MustAsk own ups p wants = is_full_of_asks wants own ≡ false → ups ≡ p ∷ []
 
--- a session, and a direct channel that is permitted; a forwarding that is permitted, where fewer
+-- a session and a direct channel that are permitted; a forwarding that is permitted, where fewer
 -- than 64 are asked or live; a cancel of one that is live, and a keepalive; a confirmation or
 -- failure of a server's open that waits for it; and every other message to a confirmed channel
 -- whose account allows it
 abbrev pub MustGoUp : Policy → ℕ → List Row → List (List ℕ) → List ℕ → Summary → Type 0
-MustGoUp policy k own ups p (Open Session c window maximum) = MustOpen own ups p c
-MustGoUp policy k own ups p (Open (Direct key) c window maximum) =
-    permits policy.opens key ≡ true → MustOpen own ups p c
+MustGoUp policy k own ups p (Open what c window maximum) =
+    may_open policy what ≡ true → MustOpen own ups p c
 MustGoUp policy k own ups p (Requests (Forward key) true) =
     is_askable key ≡ true → permits policy.listens key ≡ true
     → nat_lt (length (current own)) MAX_FORWARDINGS ≡ true → MustAsk own ups p true

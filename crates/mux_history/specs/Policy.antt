@@ -1,7 +1,7 @@
 -- What may be opened and what may be listened on, and how the entries of a permission list are
 -- read.
 use Rattle.std.specs.Prelude.{ℕ, ◌+◌, ◌-◌, ◌*◌, List, [], ◌∷◌, Option, Some, None, Result, Ok, Err, Bool, true, false, ◌&&◌, ◌||◌, ◌==◌, bytes_eq, nat_le, codes}
-use Rattle.ssh_grammar.specs.Messages.{Key, Tcp, Path}
+use Rattle.ssh_grammar.specs.Messages.{Key, Tcp, Path, Opens, Session, Direct}
 use Rattle.mux_history.specs.Rows.{any_of}
 
 -- hosts and ports, where `None` stands for each of them; or a path
@@ -14,10 +14,11 @@ pub data Allow : Type 0 where
   Anything : Allow
   Entries : (entries : List Entry) → Allow
 
--- the list for opens and the list for forwardings
+-- the list for opens, the list for forwardings, and whether sessions may be started
 pub record Policy : Type 0 where
   pub opens : Allow
   pub listens : Allow
+  pub sessions : Bool
 
 -- ---- what is permitted
 
@@ -42,9 +43,16 @@ abbrev pub permits : Allow → Key → Bool
 permits Anything key = true
 permits (Entries entries) key = any_of (is_for key) entries
 
+-- a client may open a session where those are permitted, a direct channel to what its list permits,
+-- and no channel of another type
+abbrev pub may_open : Policy → Opens → Bool
+may_open policy Session = policy.sessions
+may_open policy (Direct key) = permits policy.opens key
+may_open policy _ = false
+
 -- all is permitted
 abbrev pub any_policy : Policy
-any_policy = record { opens = Anything; listens = Anything }
+any_policy = record { opens = Anything; listens = Anything; sessions = true }
 
 -- ---- how a list is read: `any`, `none`, or entries `/path`, `host:port`, `[address]:port` and
 -- `port`

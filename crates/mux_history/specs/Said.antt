@@ -15,7 +15,7 @@ use Rattle.mux_history.specs.Rows.{Row, any_of, Fate, Goes, Drop}
 use Rattle.mux_history.specs.Channels.{Channel, held_of, is_confirmed, is_up, is_number, with_own}
 use Rattle.mux_history.specs.Ledger.{breach}
 use Rattle.mux_history.specs.Requests.{unanswered_asks}
-use Rattle.mux_history.specs.Policy.{Policy, permits}
+use Rattle.mux_history.specs.Policy.{Policy, may_open, permits}
 use Rattle.mux_history.specs.Keys.{is_askable}
 use Rattle.mux_history.specs.Forwardings.{current, is_free_at}
 
@@ -68,14 +68,24 @@ sends_open own pick p sender = elim (nat_lt (length (held_of own)) MAX_CHANNELS)
   | false ↦ fails_open sender RESOURCE_SHORTAGE too_many_channels
 ]
 
--- sessions and permitted direct channels alone
+-- why one that isn't permitted fails
+abbrev pub reason_for : Opens → ℕ
+reason_for Session = ADMINISTRATIVELY_PROHIBITED
+reason_for (Direct key) = ADMINISTRATIVELY_PROHIBITED
+reason_for _ = UNKNOWN_CHANNEL_TYPE
+
+-- and with which text
+abbrev pub text_for : Opens → List ℕ
+text_for Session = not_permitted
+text_for (Direct key) = not_permitted
+text_for _ = unknown_type
+
+-- permitted sessions and direct channels alone
 abbrev pub sent_open : Policy → List Row → ℕ → List ℕ → ℕ → Opens → Outcome
-sent_open policy own pick p sender Session = sends_open own pick p sender
-sent_open policy own pick p sender (Direct key) = elim (permits policy.opens key) [
+sent_open policy own pick p sender what = elim (may_open policy what) [
   | true ↦ sends_open own pick p sender
-  | false ↦ fails_open sender ADMINISTRATIVELY_PROHIBITED not_permitted
+  | false ↦ fails_open sender (reason_for what) (text_for what)
 ]
-sent_open policy own pick p sender _ = fails_open sender UNKNOWN_CHANNEL_TYPE unknown_type
 
 -- an open of the server must wait under this number
 abbrev pub on_waiting : ℕ → Outcome → Option Channel → Outcome

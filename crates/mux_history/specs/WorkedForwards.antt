@@ -1,5 +1,5 @@
 -- Worked runs with global requests: remote forwardings, their opens, and answers in order.
-use Rattle.std.specs.Prelude.{ℕ, List, [], ◌∷◌, ◌++◌, Some, None, codes}
+use Rattle.std.specs.Prelude.{ℕ, List, [], ◌∷◌, ◌++◌, Some, None, codes, true}
 use Rattle.mux_outside.specs.declared.mark.Mark.{Mark}
 use Rattle.mux_outside.specs.declared.mark.Mark.TheVariants.{Gets, Ends, WriteFails}
 use Rattle.ssh_fields.specs.Fields.{u32}
@@ -63,7 +63,7 @@ connected_twice = connected ++ Gets 0 (connects_to 40002 9) ∷ []
 -- one port may be listened on
 abbrev pub port_8080_only : Policy
 port_8080_only =
-    record { opens = Anything; listens = Entries (Ports None (Some 8080) ∷ []) }
+    record { opens = Anything; listens = Entries (Ports None (Some 8080) ∷ []); sessions = true }
 
 -- two ports are asked for
 abbrev pub one_of_two_ports : List Mark

@@ -1,5 +1,5 @@
 -- Worked limits that are too large to compute, stated with lengths.
-use Rattle.std.specs.Prelude.{ℕ, ◌≡◌, List, [], ◌++◌, None, length, drop, codes}
+use Rattle.std.specs.Prelude.{ℕ, ◌≡◌, List, [], ◌++◌, None, length, drop, codes, true}
 use Rattle.ssh_grammar.specs.declared.framing.Framing.TheVariants.{Proxy}
 use Rattle.ssh_grammar.specs.Frames.{Frame, first_frame}
 use Rattle.mux_history.specs.declared.why.Why.TheVariants.{TooManyAsks}
@@ -15,10 +15,11 @@ use Rattle.mux_history.specs.WorkedProxy.{session}
 abbrev pub payload_in : List ℕ → List ℕ
 payload_in frame = drop 5 frame
 
--- a client with 256 channels that opens one more, under its number 300
+-- a client with 256 channels that opens one more, under its number 300, where it may
 abbrev pub FullOfChannels : Type 0
 FullOfChannels =
-    (policy : Policy) (k pick : ℕ) (own : List Row) → length (held_of own) ≡ 256
+    (policy : Policy) (k pick : ℕ) (own : List Row) → policy.sessions ≡ true
+    → length (held_of own) ≡ 256
     → with_own own 300 ≡ None → sent_payload policy k own pick (payload_in (session 300))
     ≡ records (hex (codes "00000023 00 5c 0000012c 00000004 00000011")
     ++ (codes "too many channels" ++ hex (codes "00000000")))

@@ -1,5 +1,5 @@
 -- Worked runs with forwardings of paths.
-use Rattle.std.specs.Prelude.{ℕ, List, [], ◌∷◌, ◌++◌, Some, None, codes}
+use Rattle.std.specs.Prelude.{ℕ, List, [], ◌∷◌, ◌++◌, Some, None, codes, true}
 use Rattle.mux_outside.specs.declared.mark.Mark.{Mark}
 use Rattle.mux_outside.specs.declared.mark.Mark.TheVariants.{Gets, Ends}
 use Rattle.mux_history.specs.Policy.{Policy, Ports, Paths, Entries}
@@ -98,4 +98,5 @@ a_port_and_a_path =
       opens = Entries (Paths (codes "/s") ∷ []);
       listens =
           Entries (Ports None (Some 8080) ∷ []);
+      sessions = true;
     }

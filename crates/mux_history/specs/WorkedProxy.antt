@@ -1,5 +1,5 @@
 -- Worked runs in proxy mode: opens, data, windows, and channels that end.
-use Rattle.std.specs.Prelude.{ℕ, List, [], ◌∷◌, ◌++◌, Some, codes, drop}
+use Rattle.std.specs.Prelude.{ℕ, List, [], ◌∷◌, ◌++◌, Some, codes, drop, true, false}
 use Rattle.mux_outside.specs.declared.mark.Mark.{Mark}
 use Rattle.mux_outside.specs.declared.mark.Mark.TheVariants.{Gets, Ends, Fails}
 use Rattle.ssh_fields.specs.Fields.{u32}
@@ -76,10 +76,17 @@ foreign_data = confirmed
 
 -- ---- what opens are refused
 
--- one host and port may be opened
+-- one host and port may be opened, and sessions
 abbrev pub database_only : Policy
-database_only =
-    record { opens = Entries (Ports (Some (codes "db")) (Some 5432) ∷ []); listens = Anything }
+database_only = record {
+  opens = Entries (Ports (Some (codes "db")) (Some 5432) ∷ []);
+  listens = Anything;
+  sessions = true;
+}
+
+-- one host and port may be opened, and no session
+abbrev pub no_session : Policy
+no_session = record database_only { sessions = false }
 
 -- an open to another
 abbrev pub to_web : List ℕ
@@ -100,6 +107,10 @@ to_database number =
 -- both are opened
 abbrev pub opens_directly : List Mark
 opens_directly = enters 1 ++ (Gets 1 to_web ∷ Gets 1 (to_database 4) ∷ [])
+
+-- a session and the host and port are opened
+abbrev pub opens_session_too : List Mark
+opens_session_too = enters 1 ++ (Gets 1 (session 3) ∷ Gets 1 (to_database 4) ∷ [])
 
 -- an open of another type
 abbrev pub opens_display : List Mark

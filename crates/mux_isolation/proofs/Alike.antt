@@ -9,12 +9,12 @@ use Rattle.mux_history.specs.Summary.{Act, Asks, Confirmation, Summary, Open, Re
 use Rattle.mux_history.specs.Keys.{is_askable}
 use Rattle.mux_history.specs.Ledger.{breach}
 use Rattle.mux_history.specs.Pending.{waiting_down}
-use Rattle.mux_history.specs.Policy.{Policy, permits}
+use Rattle.mux_history.specs.Policy.{Policy, permits, may_open}
 use Rattle.mux_history.specs.Requests.{answers_to, asks, replies, unanswered_asks, wanted}
 use Rattle.mux_history.specs.Rows.{Row, any_of}
-use Rattle.mux_history.specs.Said.{Outcome, confirmed_at, drops, fails_open, is_failing, on_breach, on_confirmed, on_unused, on_waiting, sent_summary, sent_open, sent_request, sent_within, sends, sends_as, sends_if, sends_open, waiting_at}
+use Rattle.mux_history.specs.Said.{Outcome, confirmed_at, drops, fails_open, is_failing, on_breach, on_confirmed, on_unused, on_waiting, sent_summary, sent_open, sent_request, sent_within, sends, sends_as, sends_if, sends_open, waiting_at, reason_for, text_for}
 use Rattle.mux_history.specs.Solo.{own_ups}
-use Rattle.ssh_grammar.specs.Messages.{Cancel, Direct, Forward, Global, KeepAlive, Opens, OtherName, Session}
+use Rattle.ssh_grammar.specs.Messages.{Cancel, Forward, Global, KeepAlive, Opens, OtherName}
 use Rattle.ssh_grammar.specs.SpellMessage.{wants, with_sender}
 use Rattle.ssh_grammar.specs.declared.side.Side.{Side}
 use Rattle.ssh_grammar.specs.declared.side.Side.TheVariants.{Up}
@@ -120,13 +120,11 @@ module _ (own own' : List Row) (alike : Alike own own') where
       by_case false = refl
 
   open-said : (policy : Policy) (pick c : ℕ) (p : List ℕ) (what : Opens) → Resent pick c p → sent_open policy own' c p c what ≡ numbered (Some c) (sent_open policy own pick p c what)
-  open-said policy pick c p Session again = sends_open-said pick c p again
-  open-said policy pick c p (Direct key) again = by_case (permits policy.opens key)
+  open-said policy pick c p what again = by_case (may_open policy what)
     where
-      by_case : (b : Bool) → (elim b as (λ _. Outcome) [ true ↦ sends_open own' c p c | false ↦ fails_open c 1 (codes "not permitted") ]) ≡ numbered (Some c) (elim b as (λ _. Outcome) [ true ↦ sends_open own pick p c | false ↦ fails_open c 1 (codes "not permitted") ])
+      by_case : (b : Bool) → (elim b as (λ _. Outcome) [ true ↦ sends_open own' c p c | false ↦ fails_open c (reason_for what) (text_for what) ]) ≡ numbered (Some c) (elim b as (λ _. Outcome) [ true ↦ sends_open own pick p c | false ↦ fails_open c (reason_for what) (text_for what) ])
       by_case true = sends_open-said pick c p again
       by_case false = refl
-  open-said policy pick c p what again = refl
 
   unused-numbered : (c : ℕ) (o o' : Outcome) (x : Option Channel) → o' ≡ numbered (Some c) o → on_unused c o' x ≡ numbered (Some c) (on_unused c o x)
   unused-numbered c o o' None same = same

@@ -10,11 +10,11 @@ use Rattle.mux_history.specs.Kept.{Every, Fits, ForEach}
 use Rattle.mux_history.specs.Keys.{is_askable}
 use Rattle.mux_history.specs.Ledger.{breach}
 use Rattle.mux_history.specs.Log.{admits, bare, received_row, row_of, treat}
-use Rattle.mux_history.specs.Policy.{Policy, permits}
+use Rattle.mux_history.specs.Policy.{Policy, may_open, permits}
 use Rattle.mux_history.specs.Rows.{Admit, Gone, Heard, HouseSays, Item, Row, Says, any_of, rows_of}
-use Rattle.mux_history.specs.Said.{Outcome, confirmed_at, drops, fails_open, is_failing, is_full_of_asks, on_breach, on_confirmed, on_unused, on_waiting, sent_summary, sent_open, sent_payload, sent_request, sends, sends_as, sends_if, sends_open, silent, waiting_at}
+use Rattle.mux_history.specs.Said.{Outcome, confirmed_at, drops, fails_open, is_failing, is_full_of_asks, on_breach, on_confirmed, on_unused, on_waiting, reason_for, sent_summary, sent_open, sent_payload, sent_request, sends, sends_as, sends_if, sends_open, silent, text_for, waiting_at}
 use Rattle.ssh_fields.specs.Fields.{AreBytes}
-use Rattle.ssh_grammar.specs.Messages.{Cancel, Direct, Forward, Global, KeepAlive, Opens, OtherName, Session}
+use Rattle.ssh_grammar.specs.Messages.{Cancel, Forward, Global, KeepAlive, OtherName}
 use Rattle.ssh_grammar.specs.Said.{BadFraming, Body, Payload}
 use Rattle.ssh_grammar.specs.SpellMessage.{wants, with_sender}
 use Rattle.ssh_grammar.specs.declared.fault.Bad.{Bad}
@@ -84,17 +84,12 @@ up-said policy k own pick p (Open what c w max) bytes reads = by_unused (with_ow
     by_room may true = (as_sent may, tt)
     by_room may false = tt
 
-    by_type : (t : Opens) → what ≡ t → Every (SendOk policy own) (sent_open policy own pick p c t).sent
-    by_type Session is = by_room (subst (λ (t : Opens). MaySend policy own (Open t (word pick) w max)) (sym is) tt) (nat_lt (length (held_of own)) 256)
-    by_type (Direct key) is = by_permit (permits policy.opens key) refl
-      where
-        by_permit : (b : Bool) → permits policy.opens key ≡ b → Every (SendOk policy own) (elim b as (λ _. Outcome) [ true ↦ sends_open own pick p c | false ↦ fails_open c 1 (codes "not permitted") ]).sent
-        by_permit true e = by_room (subst (λ (t : Opens). MaySend policy own (Open t (word pick) w max)) (sym is) e) (nat_lt (length (held_of own)) 256)
-        by_permit false e = tt
-    by_type t is = tt
+    by_permit : (b : Bool) → may_open policy what ≡ b → Every (SendOk policy own) (elim b as (λ _. Outcome) [ true ↦ sends_open own pick p c | false ↦ fails_open c (reason_for what) (text_for what) ]).sent
+    by_permit true e = by_room e (nat_lt (length (held_of own)) 256)
+    by_permit false e = tt
 
     by_unused : (o : Option Channel) → Every (SendOk policy own) (on_unused c (sent_open policy own pick p c what) o).sent
-    by_unused None = by_type what refl
+    by_unused None = by_permit (may_open policy what) refl
     by_unused (Some x) = tt
 up-said policy k own pick p (Confirmation s c w max) bytes reads = by_waiting (waiting_at own s)
   where

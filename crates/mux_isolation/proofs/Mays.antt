@@ -5,17 +5,17 @@ use Rattle.mux_history.specs.Channels.{with_own}
 use Rattle.mux_history.specs.Forwardings.{live_at}
 use Rattle.mux_history.specs.Summary.{Carries, Summary, Open, Requests, Within}
 use Rattle.mux_history.specs.Kept.{DownFits, EachSends, EachRecords, Fits, ForEach, IsPermitted, MeetsLive, Permission, UpFits, Window}
-use Rattle.mux_history.specs.Policy.{Policy, permits}
+use Rattle.mux_history.specs.Policy.{Policy, may_open, permits}
 use Rattle.mux_history.specs.Rows.{Row, rows_of, sent_by}
 use Rattle.mux_history.specs.Said.{confirmed_at, sends, records}
-use Rattle.ssh_grammar.specs.Messages.{Direct, Forward, Forwarded}
+use Rattle.ssh_grammar.specs.Messages.{Forward, Forwarded}
 use Rattle.ssh_grammar.specs.SpellMessage.{wants}
 use Rattle.ssh_grammar.specs.declared.side.Side.TheVariants.{Down, Up}
 
 -- from the client's rows before it
 abbrev pub MaySend : Policy → List Row → Summary → Type 0
 MaySend policy own (Within s (Carries size)) = Fits Up size (confirmed_at own s)
-MaySend policy own (Open (Direct key) c window maximum) = permits policy.opens key ≡ true
+MaySend policy own (Open what c window maximum) = may_open policy what ≡ true
 MaySend policy own (Requests (Forward key) wants) = permits policy.listens key ≡ true
 MaySend policy own m = Unit {0}
 
@@ -37,7 +37,7 @@ send-fits policy own (Within s (Carries size)) may = may
 send-fits policy own m may = tt
 
 send-permitted : (policy : Policy) (own : List Row) (m : Summary) → MaySend policy own m → IsPermitted policy m
-send-permitted policy own (Open (Direct key) c window maximum) may = may
+send-permitted policy own (Open what c window maximum) may = may
 send-permitted policy own (Requests (Forward key) wants) may = may
 send-permitted policy own m may = tt
 

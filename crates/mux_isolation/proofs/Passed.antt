@@ -9,9 +9,9 @@ use Rattle.mux_history.specs.Keys.{is_askable}
 use Rattle.mux_history.specs.Log.{treat}
 use Rattle.mux_history.specs.Policy.{Policy, permits}
 use Rattle.mux_history.specs.Rows.{Item, Row, Says, rows_of}
-use Rattle.mux_history.specs.Said.{Outcome, drops, fails_open, is_full_of_asks, on_breach, on_confirmed, on_unused, on_waiting, sent_summary, sent_open, sent_payload, sent_request, sends, sends_as, sends_if, sends_open}
+use Rattle.mux_history.specs.Said.{Outcome, drops, fails_open, is_full_of_asks, on_breach, on_confirmed, on_unused, on_waiting, reason_for, sent_summary, sent_open, sent_payload, sent_request, sends, sends_as, sends_if, sends_open, text_for}
 use Rattle.mux_outside.specs.declared.house.HouseReply.{HouseReply}
-use Rattle.ssh_grammar.specs.Messages.{Cancel, Direct, Forward, Global, KeepAlive, Session}
+use Rattle.ssh_grammar.specs.Messages.{Cancel, Forward, Global, KeepAlive}
 use Rattle.ssh_grammar.specs.Said.{Payload}
 use Rattle.ssh_grammar.specs.SpellMessage.{with_sender}
 use Rattle.ssh_grammar.specs.declared.fault.Bad.{Bad}
@@ -52,8 +52,7 @@ all-three true false c e f g = cc
 all-three true true false e f g = cc
 
 must-go : (policy : Policy) (k : ℕ) (own : List Row) (pick : ℕ) (p : List ℕ) (m : Summary) → MustGoUp policy k own (sent_summary policy k own pick p m).sent p m
-must-go policy k own pick p (Open Session c w max) = must-open own pick p c (sends_open own pick p c) (room-left own pick p c)
-must-go policy k own pick p (Open (Direct key) c w max) = λ permitted. must-open own pick p c (sent_open policy own pick p c (Direct key)) (λ few. ap (λ b. (elim b as (λ _. Outcome) [ true ↦ sends_open own pick p c | false ↦ fails_open c 1 (codes "not permitted") ]).sent) permitted ∙ room-left own pick p c few)
+must-go policy k own pick p (Open what c w max) = λ permitted. must-open own pick p c (sent_open policy own pick p c what) (λ few. ap (λ b. (elim b as (λ _. Outcome) [ true ↦ sends_open own pick p c | false ↦ fails_open c (reason_for what) (text_for what) ]).sent) permitted ∙ room-left own pick p c few)
 must-go policy k own pick p (Requests (Forward key) true) = λ askable permitted few. must-ask policy k own p (Forward key) true (ap (λ b. (sends_if b p).sent) (all-three (is_askable key) (permits policy.listens key) (nat_lt (length (current own)) 64) askable permitted few))
 must-go policy k own pick p (Requests (Cancel key) wants) = λ free. must-ask policy k own p (Cancel key) wants (ap (λ b. (sends_if b p).sent) free)
 must-go policy k own pick p (Requests KeepAlive wants) = must-ask policy k own p KeepAlive wants refl

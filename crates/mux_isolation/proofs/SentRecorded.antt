@@ -10,14 +10,14 @@ use Rattle.mux_history.specs.Kept.{Every}
 use Rattle.mux_history.specs.Keys.{is_askable}
 use Rattle.mux_history.specs.Ledger.{breach}
 use Rattle.mux_history.specs.Log.{admits, all_recorded, fitting, goes, new_answers, open_matters}
-use Rattle.mux_history.specs.Policy.{Policy, permits}
+use Rattle.mux_history.specs.Policy.{Policy, permits, may_open}
 use Rattle.mux_history.specs.Requests.{answers, answers_to, is_reply, replies, reply_in, wanted}
 use Rattle.mux_history.specs.Rows.{Heard, Item, Refused, Row, any_of, is_lost}
-use Rattle.mux_history.specs.Said.{Outcome, confirmed_at, drops, fails_open, is_failing, is_full_of_asks, on_breach, on_confirmed, on_unused, on_waiting, sent_summary, sent_open, sent_payload, sent_request, sends, sends_as, sends_if, sends_open, silent, records, waiting_at}
+use Rattle.mux_history.specs.Said.{Outcome, confirmed_at, drops, fails_open, is_failing, is_full_of_asks, on_breach, on_confirmed, on_unused, on_waiting, sent_summary, sent_open, sent_payload, sent_request, sends, sends_as, sends_if, sends_open, silent, records, waiting_at, reason_for, text_for}
 use Rattle.mux_outside.specs.declared.house.HouseReply.{HouseReply}
 use Rattle.ssh_grammar.specs.Control.{Alive, AliveCheck, Answer, CloseForward, Control, Failed, Greets, Hello, NewSession, Okay, OpenForward, PermissionDenied, Proxies, Proxy, RemotePort, StdioForward, StopListening, Terminate, no_descriptors, unsupported}
 use Rattle.ssh_grammar.specs.Frames.{frame_answer, frame_payload}
-use Rattle.ssh_grammar.specs.Messages.{Cancel, Direct, Forward, Global, KeepAlive, Opens, OtherName, Session}
+use Rattle.ssh_grammar.specs.Messages.{Cancel, Forward, Global, KeepAlive, OtherName}
 use Rattle.ssh_grammar.specs.ReadControl.{read_control}
 use Rattle.ssh_grammar.specs.SpellMessage.{open_failure, request_failure}
 use Rattle.ssh_grammar.specs.declared.fault.Bad.{Bad}
@@ -121,13 +121,12 @@ module _ (before : List Row) (k : ℕ) where
       by_room true = tt
       by_room false = (fails-report c 4 (codes "too many channels"), tt)
 
-      by_type : (t : Opens) → Every (RecordOk before k) (sent_open policy own pick p c t).recorded
-      by_type Session = by_room (nat_lt (length (held_of own)) 256)
-      by_type (Direct key) = elim (permits policy.opens key) as (λ b. Every (RecordOk before k) (elim b as (λ _. Outcome) [ true ↦ sends_open own pick p c | false ↦ fails_open c 1 (codes "not permitted") ]).recorded) [ true ↦ by_room (nat_lt (length (held_of own)) 256) | false ↦ (fails-report c 1 (codes "not permitted"), tt) ]
-      by_type t = (fails-report c 3 (codes "unknown channel type"), tt)
+      by_permit : (b : Bool) → Every (RecordOk before k) (elim b as (λ _. Outcome) [ true ↦ sends_open own pick p c | false ↦ fails_open c (reason_for what) (text_for what) ]).recorded
+      by_permit true = by_room (nat_lt (length (held_of own)) 256)
+      by_permit false = (fails-report c (reason_for what) (text_for what), tt)
 
       by_unused : (o : Option Channel) → Every (RecordOk before k) (on_unused c (sent_open policy own pick p c what) o).recorded
-      by_unused None = by_type what
+      by_unused None = by_permit (may_open policy what)
       by_unused (Some x) = tt
   said-report policy own pick p (Confirmation s c w max) = by_waiting (waiting_at own s)
     where

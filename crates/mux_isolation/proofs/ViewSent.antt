@@ -3,13 +3,13 @@ use Rattle.std.proofs.Common.{◌≡◌, ℕ, ◌+◌, List, [], ◌∷◌, map,
 use Rattle.std.specs.Prelude.{◌==◌, ◌&&◌, not, find, option_map, nat_le, nat_lt, Result}
 use Rattle.std.proofs.lemmas.List.{length-map}
 use Rattle.mux_outside.specs.declared.house.HouseReply.{HouseReply}
-use Rattle.ssh_grammar.specs.Messages.{Cancel, Direct, Forward, Global, KeepAlive, Opens, OtherName, Session}
+use Rattle.ssh_grammar.specs.Messages.{Cancel, Forward, Global, KeepAlive, Opens, OtherName}
 use Rattle.ssh_grammar.specs.Said.{BadFraming, Body, Payload, Outgoing}
-use Rattle.ssh_grammar.specs.SpellMessage.{not_permitted, too_many_channels}
+use Rattle.ssh_grammar.specs.SpellMessage.{too_many_channels}
 use Rattle.ssh_grammar.specs.declared.fault.Bad.{Bad}
 use Rattle.ssh_grammar.specs.declared.fault.Breach.{Breach}
 use Rattle.ssh_grammar.specs.declared.fault.Breach.TheVariants.{AfterClose, AfterEof, NotOpen, Overflow, TooManyAsks, Unasked}
-use Rattle.ssh_grammar.specs.declared.numbers.TheConstants.{ADMINISTRATIVELY_PROHIBITED, RESOURCE_SHORTAGE}
+use Rattle.ssh_grammar.specs.declared.numbers.TheConstants.{RESOURCE_SHORTAGE}
 use Rattle.ssh_grammar.specs.declared.side.Side.TheVariants.{Up}
 use Rattle.mux_history.specs.declared.limits.TheConstants.{MAX_CHANNELS, MAX_CHANNEL_REQUESTS, MAX_FORWARDINGS, MAX_GLOBAL_REQUESTS, MAX_WINDOW}
 use Rattle.mux_history.specs.declared.why.Why.TheVariants as why
@@ -21,10 +21,10 @@ use Rattle.mux_history.specs.Keys.{is_askable}
 use Rattle.mux_history.specs.Ledger.{breach, packet_breach}
 use Rattle.mux_history.specs.Log.{sent_by_client}
 use Rattle.mux_history.specs.Pending.{pending_down}
-use Rattle.mux_history.specs.Policy.{Policy, permits}
+use Rattle.mux_history.specs.Policy.{Policy, permits, may_open}
 use Rattle.mux_history.specs.Requests.{answers_to, asks, replies, unanswered_asks, wanted}
 use Rattle.mux_history.specs.Rows.{Row, any_of, is_admit, is_lost, is_out}
-use Rattle.mux_history.specs.Said.{Outcome, confirmed_at, drops, fails_open, is_failing, is_full_of_asks, on_breach, on_confirmed, on_unused, on_waiting, sent_summary, sent_open, sent_payload, sent_request, sends, sends_as, sends_if, sends_open, waiting_at}
+use Rattle.mux_history.specs.Said.{Outcome, confirmed_at, drops, fails_open, is_failing, is_full_of_asks, on_breach, on_confirmed, on_unused, on_waiting, sent_summary, sent_open, sent_payload, sent_request, sends, sends_as, sends_if, sends_open, waiting_at, reason_for, text_for}
 use Rattle.mux_isolation.specs.View.{ChannelView, View, Waiting, channel_view, left_of, room_in, unanswered_in}
 use Rattle.mux_isolation.proofs.ViewChannels.{find-view}
 
@@ -142,13 +142,11 @@ module _ (own others : List Row) (same : own_view own ≡ own_view others) where
   sends-open pick p sender = ap (λ n. elim (nat_lt n MAX_CHANNELS) as (λ _. Outcome) [ true ↦ sends_as pick p | false ↦ fails_open sender RESOURCE_SHORTAGE too_many_channels ]) count
 
   said-open : (policy : Policy) (pick : ℕ) (p : List ℕ) (sender : ℕ) (what : Opens) → sent_open policy own pick p sender what ≡ sent_open policy others pick p sender what
-  said-open policy pick p sender Session = sends-open pick p sender
-  said-open policy pick p sender (Direct key) = by_case (permits policy.opens key)
+  said-open policy pick p sender what = by_case (may_open policy what)
     where
-      by_case : (b : Bool) → (elim b as (λ _. Outcome) [ true ↦ sends_open own pick p sender | false ↦ fails_open sender ADMINISTRATIVELY_PROHIBITED not_permitted ]) ≡ (elim b as (λ _. Outcome) [ true ↦ sends_open others pick p sender | false ↦ fails_open sender ADMINISTRATIVELY_PROHIBITED not_permitted ])
+      by_case : (b : Bool) → (elim b as (λ _. Outcome) [ true ↦ sends_open own pick p sender | false ↦ fails_open sender (reason_for what) (text_for what) ]) ≡ (elim b as (λ _. Outcome) [ true ↦ sends_open others pick p sender | false ↦ fails_open sender (reason_for what) (text_for what) ])
       by_case true = sends-open pick p sender
       by_case false = refl
-  said-open policy pick p sender what = refl
 
   said-request : (policy : Policy) (k : ℕ) (p : List ℕ) (what : Global) (wants : Bool) → sent_request policy k own p what wants ≡ sent_request policy k others p what wants
   said-request policy k p (Forward key) wants = ap (λ (fs : List Forwarding). sends_if (wants && (is_askable key && (permits policy.listens key && nat_lt (length fs) MAX_FORWARDINGS))) p) forwardings

@@ -5,9 +5,9 @@ use Rattle.std.specs.Prelude.{◌&&◌, ◌==◌, is_some, nat_lt}
 use Rattle.ssh_grammar.specs.declared.side.Side.TheVariants.{Up}
 use Rattle.ssh_grammar.specs.declared.fault.Bad.{Bad}
 use Rattle.ssh_grammar.specs.declared.fault.Breach.{Breach}
-use Rattle.ssh_grammar.specs.declared.numbers.TheConstants.{DISCONNECT, ADMINISTRATIVELY_PROHIBITED, RESOURCE_SHORTAGE}
-use Rattle.ssh_grammar.specs.SpellMessage.{not_permitted, too_many_channels}
-use Rattle.ssh_grammar.specs.Messages.{Opens, Session, Direct, Global, Forward, Cancel, KeepAlive, OtherName}
+use Rattle.ssh_grammar.specs.declared.numbers.TheConstants.{DISCONNECT, RESOURCE_SHORTAGE}
+use Rattle.ssh_grammar.specs.SpellMessage.{too_many_channels}
+use Rattle.ssh_grammar.specs.Messages.{Opens, Global, Forward, Cancel, KeepAlive, OtherName}
 use Rattle.ssh_grammar.specs.Said.{Payload}
 use Rattle.mux_history.specs.declared.limits.TheConstants.{MAX_CHANNELS, MAX_GLOBAL_REQUESTS}
 use Rattle.mux_history.specs.declared.why.Why.{Why}
@@ -17,8 +17,8 @@ use Rattle.mux_history.specs.Rows.{Row, Says, Fate, Goes, Drop, Refused, End, is
 use Rattle.mux_history.specs.Channels.{Channel, held_of, own_of, with_own}
 use Rattle.mux_history.specs.Choices.{takes_number}
 use Rattle.mux_history.specs.Ledger.{breach}
-use Rattle.mux_history.specs.Policy.{Policy, permits}
-use Rattle.mux_history.specs.Said.{Outcome, silent, sends, drops, confirmed_at, waiting_at, fails_open, is_failing, is_full_of_asks, on_breach, on_confirmed, on_unused, on_waiting, sent_summary, sent_open, sent_payload, sent_request, sends_as, sends_if, sends_open}
+use Rattle.mux_history.specs.Policy.{Policy, may_open}
+use Rattle.mux_history.specs.Said.{Outcome, silent, sends, drops, confirmed_at, waiting_at, fails_open, is_failing, is_full_of_asks, on_breach, on_confirmed, on_unused, on_waiting, sent_summary, sent_open, sent_payload, sent_request, sends_as, sends_if, sends_open, reason_for, text_for}
 use Rattle.mux_history.specs.Treat.{bare}
 use Rattle.mux_history.proofs.Readings.{reading-ok}
 
@@ -39,13 +39,11 @@ free-open own n pick p sender true h = absurd (cc)
 free-open own n pick p sender false h = refl
 
 free-kind : (policy : Policy) (own : List Row) (n pick : ℕ) (p : List ℕ) (sender : ℕ) (what : Opens) → FreeOf (sent_open policy own pick p sender what) (sent_open policy own n p sender what)
-free-kind policy own n pick p sender Session = free-open own n pick p sender (nat_lt (length (held_of own)) MAX_CHANNELS)
-free-kind policy own n pick p sender (Direct key) = by_permit (permits policy.opens key)
+free-kind policy own n pick p sender what = by_permit (may_open policy what)
   where
-    by_permit : (b : Bool) → FreeOf (elim b as (λ _. Outcome) [ true ↦ sends_open own pick p sender | false ↦ fails_open sender ADMINISTRATIVELY_PROHIBITED not_permitted ]) (elim b as (λ _. Outcome) [ true ↦ sends_open own n p sender | false ↦ fails_open sender ADMINISTRATIVELY_PROHIBITED not_permitted ])
+    by_permit : (b : Bool) → FreeOf (elim b as (λ _. Outcome) [ true ↦ sends_open own pick p sender | false ↦ fails_open sender (reason_for what) (text_for what) ]) (elim b as (λ _. Outcome) [ true ↦ sends_open own n p sender | false ↦ fails_open sender (reason_for what) (text_for what) ])
     by_permit true = free-open own n pick p sender (nat_lt (length (held_of own)) MAX_CHANNELS)
     by_permit false = λ h. refl
-free-kind policy own n pick p sender what = λ h. refl
 
 free-unused : (c : ℕ) (o o' : Outcome) (x : Option Channel) → FreeOf o o' → FreeOf (on_unused c o x) (on_unused c o' x)
 free-unused c o o' None f = f
@@ -97,13 +95,11 @@ quiet-open own pick p sender true = tt
 quiet-open own pick p sender false = tt
 
 quiet-kind : (policy : Policy) (own : List Row) (pick : ℕ) (p : List ℕ) (sender : ℕ) (what : Opens) → RecordsUndropped (sent_open policy own pick p sender what)
-quiet-kind policy own pick p sender Session = quiet-open own pick p sender (nat_lt (length (held_of own)) MAX_CHANNELS)
-quiet-kind policy own pick p sender (Direct key) = by_permit (permits policy.opens key)
+quiet-kind policy own pick p sender what = by_permit (may_open policy what)
   where
-    by_permit : (b : Bool) → RecordsUndropped (elim b as (λ _. Outcome) [ true ↦ sends_open own pick p sender | false ↦ fails_open sender ADMINISTRATIVELY_PROHIBITED not_permitted ])
+    by_permit : (b : Bool) → RecordsUndropped (elim b as (λ _. Outcome) [ true ↦ sends_open own pick p sender | false ↦ fails_open sender (reason_for what) (text_for what) ])
     by_permit true = quiet-open own pick p sender (nat_lt (length (held_of own)) MAX_CHANNELS)
     by_permit false = tt
-quiet-kind policy own pick p sender what = tt
 
 quiet-unused : (c : ℕ) (o : Outcome) (x : Option Channel) → RecordsUndropped o → RecordsUndropped (on_unused c o x)
 quiet-unused c o None q = q

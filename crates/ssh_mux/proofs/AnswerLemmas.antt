@@ -38,9 +38,9 @@ unjoined (Client asked what) status before now h = inr h
 unjoined (Certain (Ends ending)) status before now h = h
 unjoined (Certain (Writes text)) status before now h = h
 unjoined (Certain (Drills seed clients messages)) status before now h = h
-unjoined (Certain (Opens control transport os ls)) status before now h = h
+unjoined (Certain (Opens control transport ps)) status before now h = h
 unjoined Listing status before now h = h
-unjoined (Master transport os ls) status before now h = h
+unjoined (Master transport ps) status before now h = h
 
 pub joined_after : (k : Known) (status : Status) (ending : Ending) (b n : Option (List ℕ)) (f f' : ℕ) (before now : Option (List Bytes)) → Reports status ending b n f f' → JoinsOnce k (status_of ending) before now → JoinsOnce k status before now
 joined_after k status ending b n f f' before now r h = carried (λ s. JoinsOnce k s before now) status ending (reported status ending b n f f' r) (unjoined k (status_of ending) before now h) h

@@ -215,11 +215,11 @@ drill-takes seed clients messages words turns result w w' out out' h = drill-tak
 pub still-drill : (k : Known) (meant : Ending) (words : List Bytes) (turns : ℕ) (w : WireState) (out : Option (List ℕ)) → IsRefused k (shown meant) → OnTrue (drills k) (DrillGoes words turns (Err meant) w w out out)
 still-drill (Certain (Ends due)) meant words turns w out h = tt
 still-drill (Certain (Writes text)) meant words turns w out h = tt
-still-drill (Certain (Opens control transport os ls)) meant words turns w out h = tt
+still-drill (Certain (Opens control transport ps)) meant words turns w out h = tt
 still-drill Listing meant words turns w out h = tt
 still-drill (Certain (Joins control asked what)) meant words turns w out h = tt
 still-drill (Client asked what) meant words turns w out h = tt
-still-drill (Master transport os ls) meant words turns w out h = tt
+still-drill (Master transport ps) meant words turns w out h = tt
 still-drill (Certain (Drills seed clients messages)) endings.NoMemory words turns w out h =
     record { ends = refl; opened = inl refl; shared = inl (record { same_wire = refl; same_house = refl }, refl) }
 still-drill (Certain (Drills seed clients messages)) (endings.BadLine file line ReadFault) words turns w out h = absurd cc

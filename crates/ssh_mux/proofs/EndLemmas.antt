@@ -85,10 +85,10 @@ unwritten-stays status (Certain (Joins control asked what)) before now t = tt
 unwritten-stays status (Client asked what) before now t = tt
 unwritten-stays status (Certain (Ends due)) before now t = t
 unwritten-stays status (Certain (Writes text)) before now t = t
-unwritten-stays status (Certain (Opens control transport os ls)) before now t = t
+unwritten-stays status (Certain (Opens control transport ps)) before now t = t
 unwritten-stays status (Certain (Drills seed clients messages)) before now t = t
 unwritten-stays status Listing before now t = t
-unwritten-stays status (Master transport os ls) before now t = t
+unwritten-stays status (Master transport ps) before now t = t
 
 unwritten : (status : Status) (k : Known) (before now : Option (List ℕ)) → is_silent status ≡ false → OutTakes status k before now → OutTakes statuses.Memory k before now
 unwritten statuses.Done k before now e t = absurd cc
@@ -120,19 +120,19 @@ sink_after status ending b n f f' before now r c = carried (λ s. OutCause s bef
 -- ---- the wire
 
 unopened : (k : Known) (status : Status) (before now : Option (List OpenCall)) → OpensOnce k status before now → OpensOnce k statuses.Memory before now
-unopened (Certain (Opens control transport os ls)) statuses.Memory before now h = h
-unopened (Certain (Opens control transport os ls)) statuses.Outside before now h = inl h
-unopened (Certain (Opens control transport os ls)) status before now h = inr h
+unopened (Certain (Opens control transport ps)) statuses.Memory before now h = h
+unopened (Certain (Opens control transport ps)) statuses.Outside before now h = inl h
+unopened (Certain (Opens control transport ps)) status before now h = inr h
 unopened (Certain (Ends ending)) status before now h = h
 unopened (Certain (Writes text)) status before now h = h
 unopened (Certain (Drills seed clients messages)) status before now h = tt
 unopened Listing status before now h = h
 unopened (Certain (Joins control asked what)) status before now h = h
 unopened (Client asked what) status before now h = h
-unopened (Master transport os ls) statuses.Memory before now h = h
-unopened (Master transport os ls) statuses.Config before now h = inl h
-unopened (Master transport os ls) statuses.Outside before now h = inl h
-unopened (Master transport os ls) status before now h = inr h
+unopened (Master transport ps) statuses.Memory before now h = h
+unopened (Master transport ps) statuses.Config before now h = inl h
+unopened (Master transport ps) statuses.Outside before now h = inl h
+unopened (Master transport ps) status before now h = inr h
 
 pub opened_after : (k : Known) (status : Status) (ending : Ending) (b n : Option (List ℕ)) (f f' : ℕ) (before now : Option (List OpenCall)) → Reports status ending b n f f' → OpensOnce k (status_of ending) before now → OpensOnce k status before now
 opened_after k status ending b n f f' before now r h = carried (λ s. OpensOnce k s before now) status ending (reported status ending b n f f' r) (unopened k (status_of ending) before now h) h

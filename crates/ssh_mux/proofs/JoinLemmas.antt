@@ -28,6 +28,7 @@ use Rattle.ssh_mux.specs.Ending.{shown, refused_as, unlisted_as}
 use Rattle.ssh_mux.specs.Out.{OutTakes}
 use Rattle.ssh_mux.specs.Outcomes.{Certain, Client, machine, machine_of, of_command, joins_at, asks, looks, opens, drills, writes_out}
 use Rattle.ssh_mux.proofs.RefusalLemmas.{Promise, by-cause, kept, looks-rows, refused-rows, settled, shut-rows, undrilled-rows, unrefused-rows}
+use Rattle.conf_rules.specs.declared.command.Permissions.{Permissions}
 
 -- ---- what a client uses
 
@@ -73,20 +74,20 @@ unasked-listed : (r : Result Bytes ListError) → asks (Certain (listed_end r)) 
 unasked-listed (Ok text) = refl
 unasked-listed (Err e) = refl
 
-unasked-opened : (transport : Bytes) (os ls : List Bytes) (r : Result (Option Bytes) ListError) → asks (Certain (opened_end transport os ls r)) ≡ false
-unasked-opened transport os ls (Ok (Some path)) = refl
-unasked-opened transport os ls (Ok None) = refl
-unasked-opened transport os ls (Err e) = refl
+unasked-opened : (transport : Bytes) (ps : Permissions) (r : Result (Option Bytes) ListError) → asks (Certain (opened_end transport ps r)) ≡ false
+unasked-opened transport ps (Ok (Some path)) = refl
+unasked-opened transport ps (Ok None) = refl
+unasked-opened transport ps (Err e) = refl
 
 pub list-unasked : (m : Option Machine) (asked : Asked) → asks (of_command m (commands.List asked)) ≡ false
 unfolding of_command
 list-unasked None asked = refl
 list-unasked (Some m) asked = unasked-rows (all_rows (recorded_of m asked)) (listed_end (listing_over LISTING_ORDER (recorded_of m asked) (all_rows (recorded_of m asked)))) (unasked-listed (listing_over LISTING_ORDER (recorded_of m asked) (all_rows (recorded_of m asked))))
 
-pub master-unasked : (m : Option Machine) (asked : Asked) (transport : Bytes) (os ls : List Bytes) → asks (of_command m (commands.Master asked transport os ls)) ≡ false
+pub master-unasked : (m : Option Machine) (asked : Asked) (transport : Bytes) (ps : Permissions) → asks (of_command m (commands.Master asked transport ps)) ≡ false
 unfolding of_command
-master-unasked None asked transport os ls = refl
-master-unasked (Some m) asked transport os ls = unasked-rows (all_rows (recorded_of m asked)) (opened_end transport os ls (control_path_at (recorded_of m asked) (all_rows (recorded_of m asked)))) (unasked-opened transport os ls (control_path_at (recorded_of m asked) (all_rows (recorded_of m asked))))
+master-unasked None asked transport ps = refl
+master-unasked (Some m) asked transport ps = unasked-rows (all_rows (recorded_of m asked)) (opened_end transport ps (control_path_at (recorded_of m asked) (all_rows (recorded_of m asked)))) (unasked-opened transport ps (control_path_at (recorded_of m asked) (all_rows (recorded_of m asked))))
 
 -- ---- what its output takes
 

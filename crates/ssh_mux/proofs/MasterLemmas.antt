@@ -36,6 +36,7 @@ use Rattle.ssh_mux.proofs.PolicyLemmas.{with-policy}
 use Rattle.ssh_mux.proofs.SharingLemmas.{IsMaster, came_end, idle_end, master-came, master-idle, master-opened, master-opens, master-waits, opened_ended, opened_stops, opening_calls, serving_calls, waits_end}
 use Rattle.ssh_mux.proofs.StartLemmas.{musts-recorded, starts-recorded}
 use Rattle.ssh_mux.proofs.StillLemmas.{on_true, still-came, still-calls, still-idle, still-must, still-opened, still-shared, still-start, still-wire, unshared-waits, where_false}
+use Rattle.conf_rules.specs.declared.command.Permissions.{Permissions}
 
 -- ---- counts
 
@@ -125,24 +126,24 @@ module _ {T : Type 0} (May : HouseReply → Type 0) (state : T → HouseState) w
   }
 
   -- of one whose control path was found
-  pub served-leaves : (m : Option Machine) (asked : Asked) (transport : Bytes) (os ls : List Bytes) (control : Bytes) (by : Option Recorded) (settings : List Given) (pid turns : ℕ) (result : Result Status Ending) (k k' : Sockets) → IsMaster (of_command m (commands.Master asked transport os ls)) transport os ls control → SettledFor by settings → EndsMaster result → OpensAt control transport (so_far result) k.wire.openings k'.wire.openings
-      → SharesWith May (BegunRests state k.house.known.present (starts_for settings)) (BeganWith (starts_for settings)) (policy_of os ls) pid turns k.house k'.house k.wire k'.wire result
+  pub served-leaves : (m : Option Machine) (asked : Asked) (transport : Bytes) (ps : Permissions) (control : Bytes) (by : Option Recorded) (settings : List Given) (pid turns : ℕ) (result : Result Status Ending) (k k' : Sockets) → IsMaster (of_command m (commands.Master asked transport ps)) transport ps control → SettledFor by settings → EndsMaster result → OpensAt control transport (so_far result) k.wire.openings k'.wire.openings
+      → SharesWith May (BegunRests state k.house.known.present (starts_for settings)) (BeganWith (starts_for settings)) (policy_of ps) pid turns k.house k'.house k.wire k'.wire result
       → StartCause (so_far result) (refusal_after k.house k'.house) → (IsTrue k.house.known.present → MustsAs (so_far result) (Some (starts_for settings).must) k'.house.must) → CountsFor k.house.known.present turns (so_far result) k.wire k'.wire k.faults k'.faults
-      → MasterLeaves May state (of_command m (commands.Master asked transport os ls)) by pid turns result k k'
-  served-leaves m asked transport os ls control by settings pid turns result k k' is settled over once served start must counts =
-      let known : Known = of_command m (commands.Master asked transport os ls) in
+      → MasterLeaves May state (of_command m (commands.Master asked transport ps)) by pid turns result k k'
+  served-leaves m asked transport ps control by settings pid turns result k k' is settled over once served start must counts =
+      let known : Known = of_command m (commands.Master asked transport ps) in
       let present : Bool = k.house.known.present in
       let status : Status = so_far result in
       record {
-        opened = master-opened known transport os ls control status k.wire.openings k'.wire.openings is (master-opens result over) once;
+        opened = master-opened known transport ps control status k.wire.openings k'.wire.openings is (master-opens result over) once;
         joinings = counts.joinings;
-        served = with-policy m asked transport os ls status (λ p. Begun by (λ (starts : Starts). SharesWith May (BegunRests state present starts) (BeganWith starts) p pid turns k.house k'.house k.wire k'.wire result))
-            (on_true (may_share known status) (Begun by (λ (starts : Starts). SharesWith May (BegunRests state present starts) (BeganWith starts) (policy_of os ls) pid turns k.house k'.house k.wire k'.wire result)) (record { starts = starts_for settings; due = starts-recorded by settings settled; so = served }));
+        served = with-policy m asked transport ps status (λ p. Begun by (λ (starts : Starts). SharesWith May (BegunRests state present starts) (BeganWith starts) p pid turns k.house k'.house k.wire k'.wire result))
+            (on_true (may_share known status) (Begun by (λ (starts : Starts). SharesWith May (BegunRests state present starts) (BeganWith starts) (policy_of ps) pid turns k.house k'.house k.wire k'.wire result)) (record { starts = starts_for settings; due = starts-recorded by settings settled; so = served }));
         start = on_true (may_share known status) (StartCause status (refusal_after k.house k'.house)) start;
         must = λ p. on_true (may_share known status) (MustsAs status (must_for by) k'.house.must) (musts-recorded by settings status k'.house.must settled (must p));
         wire_cause = on_true (may_share known status) (WireCause status k.faults k'.faults) counts.cause;
         calls = counts.calls;
         came = master-came known status k.wire.calls k'.wire.calls counts.came;
-        waited = master-waits known transport os ls control present turns status k.wire.calls k'.wire.calls is counts.waited;
-        idle = λ z. master-idle known transport os ls control present status k.faults k'.faults is (counts.idle z);
+        waited = master-waits known transport ps control present turns status k.wire.calls k'.wire.calls is counts.waited;
+        idle = λ z. master-idle known transport ps control present status k.faults k'.faults is (counts.idle z);
       }

@@ -12,9 +12,9 @@ use Rattle.conf_rules.specs.declared.usage.UsageError.{UsageError}
 use Rattle.conf_rules.specs.declared.usage.Usage.TheVariants.{BadEntry, NoForward, OnlyForMaster}
 use Rattle.conf_rules.specs.Results.{◌>>=◌}
 use Rattle.conf_rules.specs.Texts.{Bytes}
-use Rattle.conf_rules.specs.Options.{Mode, Listing, Master, Client, Chooses, Reads, Asks, Connects, Permits, Controls, Goes, Fails, Act, Step, Free}
+use Rattle.conf_rules.specs.Options.{Mode, Listing, Master, Client, Chooses, Reads, Asks, Connects, Permits, Sessions, Controls, Goes, Fails, Act, Step, Free}
 use Rattle.conf_rules.specs.Permissions.{bad_entry, earlier}
-use Rattle.conf_rules.specs.CommandLine.{ReadCommand, refused, Walk, walk_from, steps_from, walked, not_for_others, first_mode, host_in, transport_in, control_in, command_of, command_with, host_command, master_of, client_of, permitted, permits, texts_of, asked_of, line_in, is_forwarding, asks_forwarding, is_about_forwardings}
+use Rattle.conf_rules.specs.CommandLine.{ReadCommand, refused, Walk, walk_from, steps_from, walked, not_for_others, first_mode, host_in, transport_in, control_in, command_of, command_with, host_command, master_of, client_of, permitted, permits, texts_of, asked_of, line_in, is_forwarding, asks_forwarding, is_about_forwardings, permissions_of}
 use Rattle.conf_rules.specs.Reading.{reading, drill_of, drill_number, seed_limit, no_more}
 use Rattle.ssh_mux.specs.Asks.{NamesForwards}
 
@@ -46,6 +46,7 @@ step-line word (Chooses mode) h = absurd cc
 step-line word (Reads from) h = absurd cc
 step-line word (Connects transport) h = absurd cc
 step-line word (Permits listening at entry) h = absurd cc
+step-line word (Sessions may) h = absurd cc
 step-line word (Controls control) h = absurd cc
 step-line word (Goes to) h = absurd cc
 step-line word (Fails cause) h = absurd cc
@@ -80,10 +81,10 @@ client-named n host steps control = by_case (is_about_forwardings control) refl 
     by_case false a true s = unasked a
     by_case false a false s = unasked a
 
-permitted-none : (steps : List Step) (asked : Asked) (transport : Bytes) → OfClient (permitted steps (commands.Master asked transport (texts_of (permits false steps)) (texts_of (permits true steps))))
+permitted-none : (steps : List Step) (asked : Asked) (transport : Bytes) → OfClient (permitted steps (commands.Master asked transport (permissions_of steps)))
 permitted-none steps asked transport = by_case (earlier (bad_entry (permits false steps)) (bad_entry (permits true steps)))
   where
-    by_case : (o : Option ℕ) → OfClient (elim o as (λ _. ReadCommand) [ Some word ↦ refused word BadEntry | None ↦ Ok (commands.Master asked transport (texts_of (permits false steps)) (texts_of (permits true steps))) ])
+    by_case : (o : Option ℕ) → OfClient (elim o as (λ _. ReadCommand) [ Some word ↦ refused word BadEntry | None ↦ Ok (commands.Master asked transport (permissions_of steps)) ])
     by_case (Some word) = tt
     by_case None = tt
 

@@ -49,6 +49,7 @@ use Rattle.ssh_mux.proofs.RefusalLemmas.{list-shut, list-undrilled, master-quiet
 use Rattle.ssh_mux.proofs.SharingLemmas.{none-counted, none-opened, none-taken}
 use Rattle.ssh_mux.proofs.StillLemmas.{else-or, follows, for-master, loud, not_false, not_true, on_false, on_true, or-else, quiet-count, quiet-out, refused-came, refused-waits, shut, shut-all, still-calls, still-caused, still-due, still-idle, still-must, still-opened, still-shared, still-start, unopened-waits, untouched, where_false}
 use Rattle.ssh_mux.proofs.TalkLemmas.{none-joined, refused-unjoined, still-asked-cause, still-asked-waits, still-joined, still-talked, unasked}
+use Rattle.conf_rules.specs.declared.command.Permissions.{Permissions}
 
 -- ---- what words come to
 
@@ -226,15 +227,15 @@ module _ {T : Type 0} (words : List Bytes) (pid turns : ℕ) (May : HouseReply �
   }
 
   -- a master
-  pub master-obeyed : (facts : Facts) (asked : Asked) (transport : Bytes) (os ls : List Bytes) (result : Result Status Ending) (s s' : Sources) (k k' : Sockets) (out : OutState) → Looks facts (commands.Master asked transport os ls) asked result s s' → MasterLeaves May state (coming s facts (commands.Master asked transport os ls)) (recorded_over (machine_of_sources s facts) asked) pid turns result k k' → OnFalse (may_share (coming s facts (commands.Master asked transport os ls)) (so_far result)) ((k'.wire ≡ k.wire) × (k'.house.recorded ≡ k.house.recorded))
-      → Obeyed (coming s facts (commands.Master asked transport os ls)) (recorded_over (machine_of_sources s facts) asked) (commands_of (machine_of_sources s facts) (commands.Master asked transport os ls)) words pid turns May state result s s' k k' out out
-  master-obeyed facts asked transport os ls result s s' k k' out looks leaves still =
+  pub master-obeyed : (facts : Facts) (asked : Asked) (transport : Bytes) (ps : Permissions) (result : Result Status Ending) (s s' : Sources) (k k' : Sockets) (out : OutState) → Looks facts (commands.Master asked transport ps) asked result s s' → MasterLeaves May state (coming s facts (commands.Master asked transport ps)) (recorded_over (machine_of_sources s facts) asked) pid turns result k k' → OnFalse (may_share (coming s facts (commands.Master asked transport ps)) (so_far result)) ((k'.wire ≡ k.wire) × (k'.house.recorded ≡ k.house.recorded))
+      → Obeyed (coming s facts (commands.Master asked transport ps)) (recorded_over (machine_of_sources s facts) asked) (commands_of (machine_of_sources s facts) (commands.Master asked transport ps)) words pid turns May state result s s' k k' out out
+  master-obeyed facts asked transport ps result s s' k k' out looks leaves still =
       let m = machine_of_sources s facts in
-      let known : Known = coming s facts (commands.Master asked transport os ls) in
+      let known : Known = coming s facts (commands.Master asked transport ps) in
       let status : Status = so_far result in
-      let none : drills known ≡ false = master-undrilled m asked transport os ls in
-      let quiet = master-quiet m asked transport os ls in
-      let apart = master-unasked m asked transport os ls in
+      let none : drills known ≡ false = master-undrilled m asked transport ps in
+      let quiet = master-quiet m asked transport ps in
+      let apart = master-unasked m asked transport ps in
       record {
         exact = looks.exact;
         place = looks.place;

@@ -12,11 +12,12 @@ use Rattle.conf_rules.specs.Results.{◌>>=◌}
 use Rattle.conf_rules.specs.Texts.{Bytes}
 use Rattle.conf_rules.specs.Options.{Mode, Listing, Master, Client, Step, Free}
 use Rattle.conf_rules.specs.Permissions.{PermitWord, is_alone, is_entry, first_not_entry, bad_entry, earlier}
-use Rattle.conf_rules.specs.CommandLine.{ReadCommand, refused, Walk, walk_from, steps_from, walked, not_for_others, first_mode, host_in, transport_in, command_of, command_with, host_command, master_of, client_of, control_in, is_about_forwardings, asks_forwarding, permitted, permits, texts_of, asked_of}
+use Rattle.conf_rules.specs.CommandLine.{ReadCommand, refused, Walk, walk_from, steps_from, walked, not_for_others, first_mode, host_in, transport_in, command_of, command_with, host_command, master_of, client_of, control_in, is_about_forwardings, asks_forwarding, permitted, permits, texts_of, asked_of, permissions_of}
 use Rattle.conf_rules.specs.Reading.{reading, drill_of, drill_number, seed_limit, no_more}
 use Rattle.mux_history.specs.Policy.{Allow, Anything, Entries, Entry, Policy, read_entry, read_entries, read_word, read_list}
 use Rattle.forward_rules.specs.Allows.{read_policy, read_listens}
 use Rattle.ssh_mux.proofs.PermitWords.{entry-same}
+use Rattle.conf_rules.specs.declared.command.Permissions.{Permissions}
 
 -- ---- lists
 
@@ -85,22 +86,22 @@ list-read (e ∷ f ∷ es) good = by_case (is_alone e.text) refl good
     by_case false alone h = texts-read e.text (texts_of (f ∷ es)) alone (entries-read 0 (e ∷ f ∷ es) h)
 
 -- both lists make a policy
-policy-read : (opens listens : List Bytes) → IsRead opens → IsRead listens → (policy : Policy) × (read_policy opens listens ≡ Ok policy)
-policy-read opens listens opened listened = (record { opens = opened.0; listens = listened.0 }, rw (opened.1, listened.1, read_policy, read_listens) refl)
+policy-read : (opens listens : List Bytes) (sessions : Bool) → IsRead opens → IsRead listens → (policy : Policy) × (read_policy opens listens sessions ≡ Ok policy)
+policy-read opens listens sessions opened listened = (record { opens = opened.0; listens = listened.0; sessions = sessions }, rw (opened.1, listened.1, read_policy, read_listens) refl)
 
 -- ---- the permissions of words that are read
 
 -- the lists are those of steps, and have no bad text
-record ArePermitted (opens listens : List Bytes) : Type 0 where
+record ArePermitted (ps : Permissions) : Type 0 where
   steps : List Step
   good_opens : bad_entry (permits false steps) ≡ None
   good_listens : bad_entry (permits true steps) ≡ None
-  are_opens : texts_of (permits false steps) ≡ opens
-  are_listens : texts_of (permits true steps) ≡ listens
+  are_opens : texts_of (permits false steps) ≡ ps.opens
+  are_listens : texts_of (permits true steps) ≡ ps.listens
 
 -- the lists of a master that was read
 abbrev OfMaster : ReadCommand → Type 0
-OfMaster (Ok (commands.Master asked transport opens listens)) = ArePermitted opens listens
+OfMaster (Ok (commands.Master asked transport ps)) = ArePermitted ps
 OfMaster read = Unit {0}
 
 none-earlier : (a b : Option ℕ) → earlier a b ≡ None → (a ≡ None) × (b ≡ None)
@@ -114,11 +115,11 @@ none-earlier (Some a) (Some b) e = absurd (by_case (nat_lt a b) e)
     by_case false e = cc
 
 -- the lists of sound steps
-permitted-master : (steps : List Step) (asked : Asked) (transport : Bytes) → OfMaster (permitted steps (commands.Master asked transport (texts_of (permits false steps)) (texts_of (permits true steps))))
+permitted-master : (steps : List Step) (asked : Asked) (transport : Bytes) → OfMaster (permitted steps (commands.Master asked transport (permissions_of steps)))
 permitted-master steps asked transport = by_case (earlier (bad_entry (permits false steps)) (bad_entry (permits true steps))) refl
   where
     by_case : (o : Option ℕ) → earlier (bad_entry (permits false steps)) (bad_entry (permits true steps)) ≡ o
-        → OfMaster (elim o as (λ _. ReadCommand) [ Some word ↦ refused word BadEntry | None ↦ Ok (commands.Master asked transport (texts_of (permits false steps)) (texts_of (permits true steps))) ])
+        → OfMaster (elim o as (λ _. ReadCommand) [ Some word ↦ refused word BadEntry | None ↦ Ok (commands.Master asked transport (permissions_of steps)) ])
     by_case (Some word) e = tt
     by_case None e =
         let good = none-earlier (bad_entry (permits false steps)) (bad_entry (permits true steps)) e in
@@ -190,10 +191,10 @@ reading-master (w ∷ ws) = by_case (bytes_eq w (codes "--drill"))
     by_case false = walked-master (length (w ∷ ws)) (walk_from None false (steps_from 1 Free (w ∷ ws)))
 
 -- words that are read give lists that a policy reads
-pub permits-read : (words : List Bytes) (asked : Asked) (transport : Bytes) (opens listens : List Bytes) → reading words ≡ Ok (commands.Master asked transport opens listens)
-    → (policy : Policy) × (read_policy opens listens ≡ Ok policy)
-permits-read words asked transport opens listens e =
-    let known : ArePermitted opens listens = subst OfMaster e (reading-master words) in
-    let opened : IsRead opens = subst IsRead known.are_opens (list-read (permits false known.steps) known.good_opens) in
-    let listened : IsRead listens = subst IsRead known.are_listens (list-read (permits true known.steps) known.good_listens) in
-    policy-read opens listens opened listened
+pub permits-read : (words : List Bytes) (asked : Asked) (transport : Bytes) (ps : Permissions) → reading words ≡ Ok (commands.Master asked transport ps)
+    → (policy : Policy) × (read_policy ps.opens ps.listens ps.sessions ≡ Ok policy)
+permits-read words asked transport ps e =
+    let known : ArePermitted ps = subst OfMaster e (reading-master words) in
+    let opened : IsRead ps.opens = subst IsRead known.are_opens (list-read (permits false known.steps) known.good_opens) in
+    let listened : IsRead ps.listens = subst IsRead known.are_listens (list-read (permits true known.steps) known.good_listens) in
+    policy-read ps.opens ps.listens ps.sessions opened listened

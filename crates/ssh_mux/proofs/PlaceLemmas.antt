@@ -25,6 +25,7 @@ use Rattle.mux_outside.specs.declared.statuses.CommandStatus.{CommandStatus}
 use Rattle.ssh_mux.specs.Ending.{shown, misread_as, refused_as, unlisted_as}
 use Rattle.ssh_mux.specs.Outcomes.{machine}
 use Rattle.ssh_mux.specs.Places.{EndPlace, recorded_over, recorded_by, recorded_for}
+use Rattle.conf_rules.specs.declared.command.Permissions.{Permissions}
 
 -- a resolution that failed
 pub failed-place : (files : Option (List Pair)) (statuses : Option (List CommandStatus)) (facts : Facts) (asked : Asked) (e : ResolveError) (before now : Option (List Bytes)) (failed failed-now : FailedPaths)
@@ -54,9 +55,9 @@ pub list-recorded : (m : Option Machine) (words : List Bytes) (asked : Asked) �
 unfolding recorded_for
 list-recorded m words asked e = ap (recorded_by m) e
 
-pub master-recorded : (m : Option Machine) (words : List Bytes) (asked : Asked) (transport : Bytes) (opens listens : List Bytes) → reading words ≡ Ok (commands.Master asked transport opens listens) → recorded_for m words ≡ recorded_over m asked
+pub master-recorded : (m : Option Machine) (words : List Bytes) (asked : Asked) (transport : Bytes) (permits : Permissions) → reading words ≡ Ok (commands.Master asked transport permits) → recorded_for m words ≡ recorded_over m asked
 unfolding recorded_for
-master-recorded m words asked transport opens listens e = ap (recorded_by m) e
+master-recorded m words asked transport permits e = ap (recorded_by m) e
 
 pub client-recorded : (m : Option Machine) (words : List Bytes) (asked : Asked) (what : MasterCommand) → reading words ≡ Ok (commands.Control asked what) → recorded_for m words ≡ recorded_over m asked
 unfolding recorded_for

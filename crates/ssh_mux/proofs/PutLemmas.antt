@@ -69,11 +69,11 @@ loud-puts false P h = h
 pub unprinted : (k : Known) → writes_out k ≡ false → prints k ≡ false
 unprinted (Certain (Ends ending)) e = refl
 unprinted (Certain (Writes text)) e = absurd cc
-unprinted (Certain (Opens control transport os ls)) e = refl
+unprinted (Certain (Opens control transport ps)) e = refl
 unprinted (Certain (Drills seed clients messages)) e = absurd cc
 unprinted (Certain (Joins control asked what)) e = refl
 unprinted Listing e = absurd cc
-unprinted (Master transport os ls) e = refl
+unprinted (Master transport ps) e = refl
 unprinted (Client asked what) e = refl
 
 unprinted-rows : (rows : List Row) (x : Outcome) → prints (Certain x) ≡ false → prints (Certain (unrefused rows x)) ≡ false

@@ -29,6 +29,7 @@ use Rattle.mux_outside.specs.declared.statuses.CommandStatus.{CommandStatus}
 use Rattle.ssh_mux.specs.Answers.{IsRefused, is_refusal, refuses_master}
 use Rattle.ssh_mux.specs.Ending.{shown, refused_as, unlisted_as}
 use Rattle.ssh_mux.specs.Outcomes.{Known, Certain, Listing, Master, Client, machine, machine_of, of_command, opens_at, looks, writes_out, opens, drills}
+use Rattle.conf_rules.specs.declared.command.Permissions.{Permissions}
 
 -- ---- outcomes of rows
 
@@ -72,20 +73,20 @@ undrilled-listed : (r : Result Bytes ListError) → drills (Certain (listed_end 
 undrilled-listed (Ok text) = refl
 undrilled-listed (Err e) = refl
 
-looks-opened : (transport : Bytes) (os ls : List Bytes) (r : Result (Option Bytes) ListError) → looks (Certain (opened_end transport os ls r)) ≡ true
-looks-opened transport os ls (Ok (Some path)) = refl
-looks-opened transport os ls (Ok None) = refl
-looks-opened transport os ls (Err e) = refl
+looks-opened : (transport : Bytes) (ps : Permissions) (r : Result (Option Bytes) ListError) → looks (Certain (opened_end transport ps r)) ≡ true
+looks-opened transport ps (Ok (Some path)) = refl
+looks-opened transport ps (Ok None) = refl
+looks-opened transport ps (Err e) = refl
 
-quiet-opened : (transport : Bytes) (os ls : List Bytes) (r : Result (Option Bytes) ListError) → writes_out (Certain (opened_end transport os ls r)) ≡ false
-quiet-opened transport os ls (Ok (Some path)) = refl
-quiet-opened transport os ls (Ok None) = refl
-quiet-opened transport os ls (Err e) = refl
+quiet-opened : (transport : Bytes) (ps : Permissions) (r : Result (Option Bytes) ListError) → writes_out (Certain (opened_end transport ps r)) ≡ false
+quiet-opened transport ps (Ok (Some path)) = refl
+quiet-opened transport ps (Ok None) = refl
+quiet-opened transport ps (Err e) = refl
 
-undrilled-opened : (transport : Bytes) (os ls : List Bytes) (r : Result (Option Bytes) ListError) → drills (Certain (opened_end transport os ls r)) ≡ false
-undrilled-opened transport os ls (Ok (Some path)) = refl
-undrilled-opened transport os ls (Ok None) = refl
-undrilled-opened transport os ls (Err e) = refl
+undrilled-opened : (transport : Bytes) (ps : Permissions) (r : Result (Option Bytes) ListError) → drills (Certain (opened_end transport ps r)) ≡ false
+undrilled-opened transport ps (Ok (Some path)) = refl
+undrilled-opened transport ps (Ok None) = refl
+undrilled-opened transport ps (Err e) = refl
 
 -- ---- what commands use
 
@@ -99,25 +100,25 @@ unfolding of_command
 list-shut None asked = refl
 list-shut (Some m) asked = shut-rows (all_rows (recorded_of m asked)) (listed_end (listing_over LISTING_ORDER (recorded_of m asked) (all_rows (recorded_of m asked)))) (shut-listed (listing_over LISTING_ORDER (recorded_of m asked) (all_rows (recorded_of m asked))))
 
-pub master-looks : (m : Option Machine) (asked : Asked) (transport : Bytes) (os ls : List Bytes) → looks (of_command m (commands.Master asked transport os ls)) ≡ true
+pub master-looks : (m : Option Machine) (asked : Asked) (transport : Bytes) (ps : Permissions) → looks (of_command m (commands.Master asked transport ps)) ≡ true
 unfolding of_command
-master-looks None asked transport os ls = refl
-master-looks (Some m) asked transport os ls = looks-rows (all_rows (recorded_of m asked)) (opened_end transport os ls (control_path_at (recorded_of m asked) (all_rows (recorded_of m asked)))) (looks-opened transport os ls (control_path_at (recorded_of m asked) (all_rows (recorded_of m asked))))
+master-looks None asked transport ps = refl
+master-looks (Some m) asked transport ps = looks-rows (all_rows (recorded_of m asked)) (opened_end transport ps (control_path_at (recorded_of m asked) (all_rows (recorded_of m asked)))) (looks-opened transport ps (control_path_at (recorded_of m asked) (all_rows (recorded_of m asked))))
 
-pub master-quiet : (m : Option Machine) (asked : Asked) (transport : Bytes) (os ls : List Bytes) → writes_out (of_command m (commands.Master asked transport os ls)) ≡ false
+pub master-quiet : (m : Option Machine) (asked : Asked) (transport : Bytes) (ps : Permissions) → writes_out (of_command m (commands.Master asked transport ps)) ≡ false
 unfolding of_command
-master-quiet None asked transport os ls = refl
-master-quiet (Some m) asked transport os ls = quiet-rows (all_rows (recorded_of m asked)) (opened_end transport os ls (control_path_at (recorded_of m asked) (all_rows (recorded_of m asked)))) (quiet-opened transport os ls (control_path_at (recorded_of m asked) (all_rows (recorded_of m asked))))
+master-quiet None asked transport ps = refl
+master-quiet (Some m) asked transport ps = quiet-rows (all_rows (recorded_of m asked)) (opened_end transport ps (control_path_at (recorded_of m asked) (all_rows (recorded_of m asked)))) (quiet-opened transport ps (control_path_at (recorded_of m asked) (all_rows (recorded_of m asked))))
 
 pub list-undrilled : (m : Option Machine) (asked : Asked) → drills (of_command m (commands.List asked)) ≡ false
 unfolding of_command
 list-undrilled None asked = refl
 list-undrilled (Some m) asked = undrilled-rows (all_rows (recorded_of m asked)) (listed_end (listing_over LISTING_ORDER (recorded_of m asked) (all_rows (recorded_of m asked)))) (undrilled-listed (listing_over LISTING_ORDER (recorded_of m asked) (all_rows (recorded_of m asked))))
 
-pub master-undrilled : (m : Option Machine) (asked : Asked) (transport : Bytes) (os ls : List Bytes) → drills (of_command m (commands.Master asked transport os ls)) ≡ false
+pub master-undrilled : (m : Option Machine) (asked : Asked) (transport : Bytes) (ps : Permissions) → drills (of_command m (commands.Master asked transport ps)) ≡ false
 unfolding of_command
-master-undrilled None asked transport os ls = refl
-master-undrilled (Some m) asked transport os ls = undrilled-rows (all_rows (recorded_of m asked)) (opened_end transport os ls (control_path_at (recorded_of m asked) (all_rows (recorded_of m asked)))) (undrilled-opened transport os ls (control_path_at (recorded_of m asked) (all_rows (recorded_of m asked))))
+master-undrilled None asked transport ps = refl
+master-undrilled (Some m) asked transport ps = undrilled-rows (all_rows (recorded_of m asked)) (opened_end transport ps (control_path_at (recorded_of m asked) (all_rows (recorded_of m asked)))) (undrilled-opened transport ps (control_path_at (recorded_of m asked) (all_rows (recorded_of m asked))))
 
 -- ---- a configuration that is refused
 
@@ -126,7 +127,7 @@ abbrev Plain : Known → Ending → Type 0
 Plain (Certain (Ends due)) ending = ending ≡ due
 Plain (Certain other) ending = ⊥
 Plain Listing ending = IsTrue (is_refusal ending)
-Plain (Master transport os ls) ending = IsTrue (refuses_master ending)
+Plain (Master transport ps) ending = IsTrue (refuses_master ending)
 Plain (Client asked what) ending = IsTrue (refuses_master ending)
 
 pub by-cause : (k : Known) (file : Bytes) (line : ℕ) (cause : Cause) → looks k ≡ true → (is_fault cause ≡ false → Plain k (BadLine (errors.At file line cause))) → IsRefused k (BadLine (errors.At file line cause))
@@ -134,11 +135,11 @@ by-cause k file line ReadFault l h = l
 by-cause k file line RunFault l h = l
 by-cause (Certain (Ends due)) file line cause l h = h refl
 by-cause (Certain (Writes text)) file line cause l h = h refl
-by-cause (Certain (Opens control transport os ls)) file line cause l h = h refl
+by-cause (Certain (Opens control transport ps)) file line cause l h = h refl
 by-cause (Certain (Drills seed clients messages)) file line cause l h = absurd (h refl)
 by-cause (Certain (Joins control asked what)) file line cause l h = absurd (h refl)
 by-cause Listing file line cause l h = h refl
-by-cause (Master transport os ls) file line cause l h = h refl
+by-cause (Master transport ps) file line cause l h = h refl
 by-cause (Client asked what) file line cause l h = h refl
 
 plain-rows : (rows : List Row) (x : Outcome) (e : ResolveError) → refusal_in rows ≡ Some e → Plain (Certain (unrefused rows x)) (BadLine e)
@@ -160,9 +161,9 @@ refused-listing : (e : ResolveError) → IsRefused Listing (shown (refused_as e)
 refused-listing errors.OutOfMemory = tt
 refused-listing (errors.At file line cause) = by-cause Listing file line cause refl (λ plain. refl)
 
-refused-master : (transport : Bytes) (os ls : List Bytes) (e : ResolveError) → IsRefused (Master transport os ls) (shown (refused_as e))
-refused-master transport os ls errors.OutOfMemory = tt
-refused-master transport os ls (errors.At file line cause) = by-cause (Master transport os ls) file line cause refl (λ plain. refl)
+refused-master : (transport : Bytes) (ps : Permissions) (e : ResolveError) → IsRefused (Master transport ps) (shown (refused_as e))
+refused-master transport ps errors.OutOfMemory = tt
+refused-master transport ps (errors.At file line cause) = by-cause (Master transport ps) file line cause refl (λ plain. refl)
 
 pub list-refused : (files : Option (List Pair)) (statuses : Option (List CommandStatus)) (facts : Facts) (asked : Asked) (e : ResolveError) → Promise files statuses facts asked (λ recorded. Resolved recorded (Err e)) → IsRefused (of_command (machine files statuses facts) (commands.List asked)) (shown (refused_as e))
 unfolding of_command machine
@@ -173,14 +174,14 @@ list-refused (Some files) (Some statuses) facts asked e h =
     let listed = listing_over LISTING_ORDER recorded (all_rows recorded) in
     refused-rows recorded (listed_end listed) e (looks-listed listed) (kept files statuses facts asked (λ t. Resolved t (Err e)) h)
 
-pub master-refused : (files : Option (List Pair)) (statuses : Option (List CommandStatus)) (facts : Facts) (asked : Asked) (transport : Bytes) (os ls : List Bytes) (e : ResolveError) → Promise files statuses facts asked (λ recorded. Resolved recorded (Err e)) → IsRefused (of_command (machine files statuses facts) (commands.Master asked transport os ls)) (shown (refused_as e))
+pub master-refused : (files : Option (List Pair)) (statuses : Option (List CommandStatus)) (facts : Facts) (asked : Asked) (transport : Bytes) (ps : Permissions) (e : ResolveError) → Promise files statuses facts asked (λ recorded. Resolved recorded (Err e)) → IsRefused (of_command (machine files statuses facts) (commands.Master asked transport ps)) (shown (refused_as e))
 unfolding of_command machine
-master-refused None statuses facts asked transport os ls e h = refused-master transport os ls e
-master-refused (Some files) None facts asked transport os ls e h = refused-master transport os ls e
-master-refused (Some files) (Some statuses) facts asked transport os ls e h =
+master-refused None statuses facts asked transport ps e h = refused-master transport ps e
+master-refused (Some files) None facts asked transport ps e h = refused-master transport ps e
+master-refused (Some files) (Some statuses) facts asked transport ps e h =
     let recorded = recorded_of (machine_of files statuses facts) asked in
     let path = control_path_at recorded (all_rows recorded) in
-    refused-rows recorded (opened_end transport os ls path) e (looks-opened transport os ls path) (kept files statuses facts asked (λ t. Resolved t (Err e)) h)
+    refused-rows recorded (opened_end transport ps path) e (looks-opened transport ps path) (kept files statuses facts asked (λ t. Resolved t (Err e)) h)
 
 -- ---- settings
 
@@ -215,35 +216,35 @@ list-unlisted (Some files) (Some statuses) facts asked settings (list_errors.Tok
 
 -- the outcome of a control path
 abbrev Path : Recorded → Bytes → List Bytes → List Bytes → Outcome
-Path recorded transport os ls = unrefused (all_rows recorded) (opened_end transport os ls (control_path_at recorded (all_rows recorded)))
+Path recorded transport ps = unrefused (all_rows recorded) (opened_end transport ps (control_path_at recorded (all_rows recorded)))
 
-path-is : (files : List Pair) (statuses : List CommandStatus) (facts : Facts) (asked : Asked) (transport : Bytes) (os ls : List Bytes) (settings : List Given) (r : Result (Option Bytes) ListError) → Promise (Some files) (Some statuses) facts asked (λ recorded. Resolved recorded (Ok settings)) → control_path_at (recorded_of (machine_of files statuses facts) asked) (all_rows (recorded_of (machine_of files statuses facts) asked)) ≡ r → Path (recorded_of (machine_of files statuses facts) asked) transport os ls ≡ opened_end transport os ls r
-path-is files statuses facts asked transport os ls settings r h is =
+path-is : (files : List Pair) (statuses : List CommandStatus) (facts : Facts) (asked : Asked) (transport : Bytes) (ps : Permissions) (settings : List Given) (r : Result (Option Bytes) ListError) → Promise (Some files) (Some statuses) facts asked (λ recorded. Resolved recorded (Ok settings)) → control_path_at (recorded_of (machine_of files statuses facts) asked) (all_rows (recorded_of (machine_of files statuses facts) asked)) ≡ r → Path (recorded_of (machine_of files statuses facts) asked) transport ps ≡ opened_end transport ps r
+path-is files statuses facts asked transport ps settings r h is =
     let recorded = recorded_of (machine_of files statuses facts) asked in
     let none : refusal recorded ≡ None = (kept files statuses facts asked (λ t. Resolved t (Ok settings)) h).0 in
-    unrefused-rows (all_rows recorded) (opened_end transport os ls (control_path_at recorded (all_rows recorded))) none ∙ ap (opened_end transport os ls) is
+    unrefused-rows (all_rows recorded) (opened_end transport ps (control_path_at recorded (all_rows recorded))) none ∙ ap (opened_end transport ps) is
 
-pub path-found : (files : Option (List Pair)) (statuses : Option (List CommandStatus)) (facts : Facts) (asked : Asked) (transport : Bytes) (os ls : List Bytes) (settings : List Given) (path : Bytes) → Promise files statuses facts asked (λ recorded. Resolved recorded (Ok settings)) → HasControlPath (Ok (Some path)) settings asked.original facts → (of_command (machine files statuses facts) (commands.Master asked transport os ls) ≡ Certain (opens_at transport os ls path)) ⊎ (of_command (machine files statuses facts) (commands.Master asked transport os ls) ≡ Master transport os ls)
+pub path-found : (files : Option (List Pair)) (statuses : Option (List CommandStatus)) (facts : Facts) (asked : Asked) (transport : Bytes) (ps : Permissions) (settings : List Given) (path : Bytes) → Promise files statuses facts asked (λ recorded. Resolved recorded (Ok settings)) → HasControlPath (Ok (Some path)) settings asked.original facts → (of_command (machine files statuses facts) (commands.Master asked transport ps) ≡ Certain (opens_at transport ps path)) ⊎ (of_command (machine files statuses facts) (commands.Master asked transport ps) ≡ Master transport ps)
 unfolding of_command machine
-path-found None statuses facts asked transport os ls settings path h p = inr refl
-path-found (Some files) None facts asked transport os ls settings path h p = inr refl
-path-found (Some files) (Some statuses) facts asked transport os ls settings path h p =
+path-found None statuses facts asked transport ps settings path h p = inr refl
+path-found (Some files) None facts asked transport ps settings path h p = inr refl
+path-found (Some files) (Some statuses) facts asked transport ps settings path h p =
     let recorded = recorded_of (machine_of files statuses facts) asked in
-    inl (ap (λ o. Certain o) (path-is files statuses facts asked transport os ls settings (Ok (Some path)) h (p recorded (all_rows recorded) (settled files statuses facts asked settings h))))
+    inl (ap (λ o. Certain o) (path-is files statuses facts asked transport ps settings (Ok (Some path)) h (p recorded (all_rows recorded) (settled files statuses facts asked settings h))))
 
-pub path-unset : (files : Option (List Pair)) (statuses : Option (List CommandStatus)) (facts : Facts) (asked : Asked) (transport : Bytes) (os ls : List Bytes) (settings : List Given) → Promise files statuses facts asked (λ recorded. Resolved recorded (Ok settings)) → HasControlPath (Ok None) settings asked.original facts → IsRefused (of_command (machine files statuses facts) (commands.Master asked transport os ls)) NoControlPath
+pub path-unset : (files : Option (List Pair)) (statuses : Option (List CommandStatus)) (facts : Facts) (asked : Asked) (transport : Bytes) (ps : Permissions) (settings : List Given) → Promise files statuses facts asked (λ recorded. Resolved recorded (Ok settings)) → HasControlPath (Ok None) settings asked.original facts → IsRefused (of_command (machine files statuses facts) (commands.Master asked transport ps)) NoControlPath
 unfolding of_command machine
-path-unset None statuses facts asked transport os ls settings h p = refl
-path-unset (Some files) None facts asked transport os ls settings h p = refl
-path-unset (Some files) (Some statuses) facts asked transport os ls settings h p =
+path-unset None statuses facts asked transport ps settings h p = refl
+path-unset (Some files) None facts asked transport ps settings h p = refl
+path-unset (Some files) (Some statuses) facts asked transport ps settings h p =
     let recorded = recorded_of (machine_of files statuses facts) asked in
-    subst (λ o. IsRefused (Certain o) NoControlPath) (sym (path-is files statuses facts asked transport os ls settings (Ok None) h (p recorded (all_rows recorded) (settled files statuses facts asked settings h)))) refl
+    subst (λ o. IsRefused (Certain o) NoControlPath) (sym (path-is files statuses facts asked transport ps settings (Ok None) h (p recorded (all_rows recorded) (settled files statuses facts asked settings h)))) refl
 
-pub path-unlisted : (files : Option (List Pair)) (statuses : Option (List CommandStatus)) (facts : Facts) (asked : Asked) (transport : Bytes) (os ls : List Bytes) (settings : List Given) (e : ListError) → Promise files statuses facts asked (λ recorded. Resolved recorded (Ok settings)) → HasControlPath (Err e) settings asked.original facts → IsRefused (of_command (machine files statuses facts) (commands.Master asked transport os ls)) (shown (unlisted_as e))
+pub path-unlisted : (files : Option (List Pair)) (statuses : Option (List CommandStatus)) (facts : Facts) (asked : Asked) (transport : Bytes) (ps : Permissions) (settings : List Given) (e : ListError) → Promise files statuses facts asked (λ recorded. Resolved recorded (Ok settings)) → HasControlPath (Err e) settings asked.original facts → IsRefused (of_command (machine files statuses facts) (commands.Master asked transport ps)) (shown (unlisted_as e))
 unfolding of_command machine
-path-unlisted files statuses facts asked transport os ls settings list_errors.OutOfMemory h p = tt
-path-unlisted None statuses facts asked transport os ls settings (list_errors.Token key error) h p = refl
-path-unlisted (Some files) None facts asked transport os ls settings (list_errors.Token key error) h p = refl
-path-unlisted (Some files) (Some statuses) facts asked transport os ls settings (list_errors.Token key error) h p =
+path-unlisted files statuses facts asked transport ps settings list_errors.OutOfMemory h p = tt
+path-unlisted None statuses facts asked transport ps settings (list_errors.Token key error) h p = refl
+path-unlisted (Some files) None facts asked transport ps settings (list_errors.Token key error) h p = refl
+path-unlisted (Some files) (Some statuses) facts asked transport ps settings (list_errors.Token key error) h p =
     let recorded = recorded_of (machine_of files statuses facts) asked in
-    subst (λ o. IsRefused (Certain o) (BadListing (list_errors.Token key error))) (sym (path-is files statuses facts asked transport os ls settings (Err (list_errors.Token key error)) h (p recorded (all_rows recorded) (settled files statuses facts asked settings h)))) refl
+    subst (λ o. IsRefused (Certain o) (BadListing (list_errors.Token key error))) (sym (path-is files statuses facts asked transport ps settings (Err (list_errors.Token key error)) h (p recorded (all_rows recorded) (settled files statuses facts asked settings h)))) refl

@@ -37,6 +37,7 @@ use Rattle.ssh_mux.specs.Outcomes.{Known, Certain, Listing, Master, Client, open
 use Rattle.ssh_mux.specs.Sharing.{CallsEnd, CameFor, IdleCause, OpensAt, OpensOnce, Shares, StartCause, WaitsFor, pid_of, recorded_as}
 use Rattle.ssh_mux.specs.Status.{status_of}
 use Rattle.ssh_mux.proofs.StillLemmas.{follows, loud, on_true, quiet-count, served-house}
+use Rattle.conf_rules.specs.declared.command.Permissions.{Permissions}
 
 -- ---- what is counted
 
@@ -168,33 +169,33 @@ pid_is (Some pid) = refl
 
 -- what was found of it
 abbrev pub IsMaster : Known → Bytes → List Bytes → List Bytes → Bytes → Type 0
-IsMaster k transport os ls control = (k ≡ Certain (opens_at transport os ls control)) ⊎ (k ≡ Master transport os ls)
+IsMaster k transport ps control = (k ≡ Certain (opens_at transport ps control)) ⊎ (k ≡ Master transport ps)
 
-certain-comes : (transport : Bytes) (os ls : List Bytes) (control : Bytes) (result : Result Status Ending) → EndsMaster result → Comes (Certain (opens_at transport os ls control)) result
-certain-comes transport os ls control (Ok statuses.Done) h = refl
-certain-comes transport os ls control (Ok status) h = absurd cc
-certain-comes transport os ls control (Err endings.NotOpened) h = refl
-certain-comes transport os ls control (Err endings.TransportFailed) h = refl
-certain-comes transport os ls control (Err (endings.ServerBroke index why)) h = refl
-certain-comes transport os ls control (Err endings.TurnsSpent) h = refl
-certain-comes transport os ls control (Err endings.StartRefused) h = refl
-certain-comes transport os ls control (Err endings.NoMemory) h = tt
-certain-comes transport os ls control (Err ending) h = absurd cc
+certain-comes : (transport : Bytes) (ps : Permissions) (control : Bytes) (result : Result Status Ending) → EndsMaster result → Comes (Certain (opens_at transport ps control)) result
+certain-comes transport ps control (Ok statuses.Done) h = refl
+certain-comes transport ps control (Ok status) h = absurd cc
+certain-comes transport ps control (Err endings.NotOpened) h = refl
+certain-comes transport ps control (Err endings.TransportFailed) h = refl
+certain-comes transport ps control (Err (endings.ServerBroke index why)) h = refl
+certain-comes transport ps control (Err endings.TurnsSpent) h = refl
+certain-comes transport ps control (Err endings.StartRefused) h = refl
+certain-comes transport ps control (Err endings.NoMemory) h = tt
+certain-comes transport ps control (Err ending) h = absurd cc
 
-some-comes : (transport : Bytes) (os ls : List Bytes) (result : Result Status Ending) → EndsMaster result → Comes (Master transport os ls) result
-some-comes transport os ls (Ok statuses.Done) h = refl
-some-comes transport os ls (Ok status) h = absurd cc
-some-comes transport os ls (Err endings.NotOpened) h = refl
-some-comes transport os ls (Err endings.TransportFailed) h = refl
-some-comes transport os ls (Err (endings.ServerBroke index why)) h = refl
-some-comes transport os ls (Err endings.TurnsSpent) h = refl
-some-comes transport os ls (Err endings.StartRefused) h = refl
-some-comes transport os ls (Err endings.NoMemory) h = tt
-some-comes transport os ls (Err ending) h = absurd cc
+some-comes : (transport : Bytes) (ps : Permissions) (result : Result Status Ending) → EndsMaster result → Comes (Master transport ps) result
+some-comes transport ps (Ok statuses.Done) h = refl
+some-comes transport ps (Ok status) h = absurd cc
+some-comes transport ps (Err endings.NotOpened) h = refl
+some-comes transport ps (Err endings.TransportFailed) h = refl
+some-comes transport ps (Err (endings.ServerBroke index why)) h = refl
+some-comes transport ps (Err endings.TurnsSpent) h = refl
+some-comes transport ps (Err endings.StartRefused) h = refl
+some-comes transport ps (Err endings.NoMemory) h = tt
+some-comes transport ps (Err ending) h = absurd cc
 
-pub master-comes : (k : Known) (transport : Bytes) (os ls : List Bytes) (control : Bytes) (result : Result Status Ending) → IsMaster k transport os ls control → EndsMaster result → Comes k result
-master-comes k transport os ls control result (inl e) h = subst (λ x. Comes x result) (sym e) (certain-comes transport os ls control result h)
-master-comes k transport os ls control result (inr e) h = subst (λ x. Comes x result) (sym e) (some-comes transport os ls result h)
+pub master-comes : (k : Known) (transport : Bytes) (ps : Permissions) (control : Bytes) (result : Result Status Ending) → IsMaster k transport ps control → EndsMaster result → Comes k result
+master-comes k transport ps control result (inl e) h = subst (λ x. Comes x result) (sym e) (certain-comes transport ps control result h)
+master-comes k transport ps control result (inr e) h = subst (λ x. Comes x result) (sym e) (some-comes transport ps result h)
 
 -- it may have opened its wire
 pub master-opens : (result : Result Status Ending) → EndsMaster result → may_open (so_far result) ≡ true
@@ -208,51 +209,51 @@ master-opens (Err endings.StartRefused) h = refl
 master-opens (Err endings.NoMemory) h = refl
 master-opens (Err ending) h = absurd cc
 
-pub opens-for : (k : Known) (transport : Bytes) (os ls : List Bytes) (control : Bytes) → IsMaster k transport os ls control → opens k ≡ true
-opens-for k transport os ls control (inl e) = subst (λ x. opens x ≡ true) (sym e) refl
-opens-for k transport os ls control (inr e) = subst (λ x. opens x ≡ true) (sym e) refl
+pub opens-for : (k : Known) (transport : Bytes) (ps : Permissions) (control : Bytes) → IsMaster k transport ps control → opens k ≡ true
+opens-for k transport ps control (inl e) = subst (λ x. opens x ≡ true) (sym e) refl
+opens-for k transport ps control (inr e) = subst (λ x. opens x ≡ true) (sym e) refl
 
-pub master-waits : (k : Known) (transport : Bytes) (os ls : List Bytes) (control : Bytes) (present : Bool) (turns : ℕ) (status : Status) (old new : CallCounts) → IsMaster k transport os ls control → OnFalse present (WaitsFor turns status old new) → OnFalse (serves_house present k) (OnTrue (may_share k status) (WaitsFor turns status old new))
-master-waits k transport os ls control present turns status old new m h = served-house present (opens k) (OnTrue (may_share k status) (WaitsFor turns status old new)) (opens-for k transport os ls control m) (follows present (WaitsFor turns status old new) (OnTrue (may_share k status) (WaitsFor turns status old new)) (on_true (may_share k status) (WaitsFor turns status old new)) h)
+pub master-waits : (k : Known) (transport : Bytes) (ps : Permissions) (control : Bytes) (present : Bool) (turns : ℕ) (status : Status) (old new : CallCounts) → IsMaster k transport ps control → OnFalse present (WaitsFor turns status old new) → OnFalse (serves_house present k) (OnTrue (may_share k status) (WaitsFor turns status old new))
+master-waits k transport ps control present turns status old new m h = served-house present (opens k) (OnTrue (may_share k status) (WaitsFor turns status old new)) (opens-for k transport ps control m) (follows present (WaitsFor turns status old new) (OnTrue (may_share k status) (WaitsFor turns status old new)) (on_true (may_share k status) (WaitsFor turns status old new)) h)
 
 pub master-came : (k : Known) (status : Status) (old new : CallCounts) → CameFor status old new → OnTrue (may_share k status) (CameFor status old new)
 master-came k status old new h = on_true (may_share k status) (CameFor status old new) h
 
-pub master-idle : (k : Known) (transport : Bytes) (os ls : List Bytes) (control : Bytes) (present : Bool) (status : Status) (w w' : Faults) → IsMaster k transport os ls control → OnFalse present (IdleCause status w w') → OnFalse (serves_house present k) (IdleCause status w w')
-master-idle k transport os ls control present status w w' m h = served-house present (opens k) (IdleCause status w w') (opens-for k transport os ls control m) h
+pub master-idle : (k : Known) (transport : Bytes) (ps : Permissions) (control : Bytes) (present : Bool) (status : Status) (w w' : Faults) → IsMaster k transport ps control → OnFalse present (IdleCause status w w') → OnFalse (serves_house present k) (IdleCause status w w')
+master-idle k transport ps control present status w w' m h = served-house present (opens k) (IdleCause status w w') (opens-for k transport ps control m) h
 
-pub master-shares : (k : Known) (transport : Bytes) (os ls : List Bytes) (control : Bytes) (result : Result Status Ending) → IsMaster k transport os ls control → EndsMaster result → may_share k (so_far result) ≡ true
-master-shares k transport os ls control result (inl e) h = rw (master-opens result h) (subst (λ x. opens x ≡ true) (sym e) refl)
-master-shares k transport os ls control result (inr e) h = rw (master-opens result h) (subst (λ x. opens x ≡ true) (sym e) refl)
+pub master-shares : (k : Known) (transport : Bytes) (ps : Permissions) (control : Bytes) (result : Result Status Ending) → IsMaster k transport ps control → EndsMaster result → may_share k (so_far result) ≡ true
+master-shares k transport ps control result (inl e) h = rw (master-opens result h) (subst (λ x. opens x ≡ true) (sym e) refl)
+master-shares k transport ps control result (inr e) h = rw (master-opens result h) (subst (λ x. opens x ≡ true) (sym e) refl)
 
-certain-opened : (transport : Bytes) (os ls : List Bytes) (control : Bytes) (status : Status) (before now : Option (List OpenCall)) → may_open status ≡ true → OpensAt control transport status before now → OpensOnce (Certain (opens_at transport os ls control)) status before now
-certain-opened transport os ls control statuses.Outside before now m h = absurd cc
-certain-opened transport os ls control status before now m h = h
+certain-opened : (transport : Bytes) (ps : Permissions) (control : Bytes) (status : Status) (before now : Option (List OpenCall)) → may_open status ≡ true → OpensAt control transport status before now → OpensOnce (Certain (opens_at transport ps control)) status before now
+certain-opened transport ps control statuses.Outside before now m h = absurd cc
+certain-opened transport ps control status before now m h = h
 
-some-opened : (transport control : Bytes) (os ls : List Bytes) (status : Status) (before now : Option (List OpenCall)) → may_open status ≡ true → OpensAt control transport status before now → OpensOnce (Master transport os ls) status before now
-some-opened transport control os ls statuses.Usage before now m h = absurd cc
-some-opened transport control os ls statuses.Config before now m h = absurd cc
-some-opened transport control os ls statuses.Outside before now m h = absurd cc
-some-opened transport control os ls statuses.Memory before now m (inl h) = inl h
-some-opened transport control os ls statuses.Memory before now m (inr h) = inr (record { control = control; once = h })
-some-opened transport control os ls status before now m h = record { control = control; once = h }
+some-opened : (transport control : Bytes) (ps : Permissions) (status : Status) (before now : Option (List OpenCall)) → may_open status ≡ true → OpensAt control transport status before now → OpensOnce (Master transport ps) status before now
+some-opened transport control ps statuses.Usage before now m h = absurd cc
+some-opened transport control ps statuses.Config before now m h = absurd cc
+some-opened transport control ps statuses.Outside before now m h = absurd cc
+some-opened transport control ps statuses.Memory before now m (inl h) = inl h
+some-opened transport control ps statuses.Memory before now m (inr h) = inr (record { control = control; once = h })
+some-opened transport control ps status before now m h = record { control = control; once = h }
 
-pub master-opened : (k : Known) (transport : Bytes) (os ls : List Bytes) (control : Bytes) (status : Status) (before now : Option (List OpenCall)) → IsMaster k transport os ls control → may_open status ≡ true → OpensAt control transport status before now → OpensOnce k status before now
-master-opened k transport os ls control status before now (inl e) m h = subst (λ x. OpensOnce x status before now) (sym e) (certain-opened transport os ls control status before now m h)
-master-opened k transport os ls control status before now (inr e) m h = subst (λ x. OpensOnce x status before now) (sym e) (some-opened transport control os ls status before now m h)
+pub master-opened : (k : Known) (transport : Bytes) (ps : Permissions) (control : Bytes) (status : Status) (before now : Option (List OpenCall)) → IsMaster k transport ps control → may_open status ≡ true → OpensAt control transport status before now → OpensOnce k status before now
+master-opened k transport ps control status before now (inl e) m h = subst (λ x. OpensOnce x status before now) (sym e) (certain-opened transport ps control status before now m h)
+master-opened k transport ps control status before now (inr e) m h = subst (λ x. OpensOnce x status before now) (sym e) (some-opened transport control ps status before now m h)
 
 -- ---- what others leave
 
 -- a command that opens nothing
 pub none-opened : (k : Known) (status : Status) (before : Option (List OpenCall)) → opens k ≡ false → OpensOnce k status before before
-none-opened (Certain (Opens control transport os ls)) status before e = absurd cc
+none-opened (Certain (Opens control transport ps)) status before e = absurd cc
 none-opened (Certain (Ends ending)) status before e = refl
 none-opened (Certain (Writes text)) status before e = refl
 none-opened (Certain (Drills seed clients messages)) status before e = tt
 none-opened Listing status before e = refl
 none-opened (Certain (Joins control asked what)) status before e = refl
 none-opened (Client asked what) status before e = refl
-none-opened (Master transport os ls) status before e = absurd cc
+none-opened (Master transport ps) status before e = absurd cc
 
 -- one that writes nothing to the output
 pub none-taken : (k : Known) (status : Status) (before : Option (List ℕ)) → writes_out k ≡ false → OutTakes status k before before
@@ -263,13 +264,13 @@ none-taken (Client asked what) status before e = absurd cc
 none-taken (Certain (Ends ending)) statuses.Done before e = refl
 none-taken (Certain (Ends ending)) statuses.Write before e = refl
 none-taken (Certain (Ends ending)) status before e = refl
-none-taken (Certain (Opens control transport os ls)) statuses.Done before e = refl
-none-taken (Certain (Opens control transport os ls)) statuses.Write before e = refl
-none-taken (Certain (Opens control transport os ls)) status before e = refl
+none-taken (Certain (Opens control transport ps)) statuses.Done before e = refl
+none-taken (Certain (Opens control transport ps)) statuses.Write before e = refl
+none-taken (Certain (Opens control transport ps)) status before e = refl
 none-taken (Certain (Drills seed clients messages)) status before e = absurd cc
-none-taken (Master transport os ls) statuses.Done before e = refl
-none-taken (Master transport os ls) statuses.Write before e = refl
-none-taken (Master transport os ls) status before e = refl
+none-taken (Master transport ps) statuses.Done before e = refl
+none-taken (Master transport ps) statuses.Write before e = refl
+none-taken (Master transport ps) status before e = refl
 
 pub none-counted : (k : Known) (result : Result Status Ending) (count : ℕ) → writes_out k ≡ false → Comes k result → OutCause (so_far result) count count
 none-counted k (Ok statuses.Write) count e h = let x : false ≡ true = sym e ∙ h in absurd cc

@@ -145,11 +145,11 @@ still-due k (ends.BadLine (At file line ReadFault)) h = h
 still-due k (ends.BadLine (At file line RunFault)) h = h
 still-due (Certain (Ends due)) ending h = h
 still-due (Certain (Writes text)) ending h = h
-still-due (Certain (Opens control transport os ls)) ending h = absurd h
+still-due (Certain (Opens control transport ps)) ending h = absurd h
 still-due (Certain (Drills seed clients messages)) ending h = absurd h
 still-due Listing ending h = h
 still-due (Certain (Joins control asked what)) ending h = absurd h
-still-due (Master transport os ls) ending h = or-left (refuses_master ending) (ends_master ending) h
+still-due (Master transport ps) ending h = or-left (refuses_master ending) (ends_master ending) h
 still-due (Client asked what) ending h = or-left (refuses_master ending) (ends_client ending) h
 
 -- nothing more was taken
@@ -158,10 +158,10 @@ out-stays status (Certain (Joins control asked what)) before = on_false (may_ope
 out-stays status (Client asked what) before = on_false (may_open status) before
 out-stays status (Certain (Ends due)) before = refl
 out-stays status (Certain (Writes text)) before = refl
-out-stays status (Certain (Opens control transport os ls)) before = refl
+out-stays status (Certain (Opens control transport ps)) before = refl
 out-stays status (Certain (Drills seed clients messages)) before = refl
 out-stays status Listing before = refl
-out-stays status (Master transport os ls) before = refl
+out-stays status (Master transport ps) before = refl
 
 pub quiet-out : (status : Status) (k : Known) (before : Option (List ℕ)) → is_silent status ≡ false → OutTakes status k before before
 quiet-out statuses.Done k before e = absurd cc
@@ -179,19 +179,19 @@ still-opened (Certain (Drills seed clients messages)) ending before h = tt
 still-opened Listing ending before h = refl
 still-opened (Certain (Joins control asked what)) ending before h = refl
 still-opened (Client asked what) ending before h = refl
-still-opened (Certain (Opens control transport os ls)) ends.NoMemory before h = inl refl
-still-opened (Certain (Opens control transport os ls)) (ends.BadLine (At file line ReadFault)) before h = refl
-still-opened (Certain (Opens control transport os ls)) (ends.BadLine (At file line RunFault)) before h = refl
-still-opened (Certain (Opens control transport os ls)) ending before h = absurd h
-still-opened (Master transport os ls) ends.NoMemory before h = inl refl
-still-opened (Master transport os ls) (ends.BadLine OutOfMemory) before h = inl refl
-still-opened (Master transport os ls) (ends.BadLine (At file line ReadFault)) before h = refl
-still-opened (Master transport os ls) (ends.BadLine (At file line RunFault)) before h = refl
-still-opened (Master transport os ls) (ends.BadLine (At file line cause)) before h = refl
-still-opened (Master transport os ls) (ends.BadListing (list_errors.Token key error)) before h = refl
-still-opened (Master transport os ls) (ends.BadListing list_errors.OutOfMemory) before h = inl refl
-still-opened (Master transport os ls) ends.NoControlPath before h = refl
-still-opened (Master transport os ls) ending before h = absurd cc
+still-opened (Certain (Opens control transport ps)) ends.NoMemory before h = inl refl
+still-opened (Certain (Opens control transport ps)) (ends.BadLine (At file line ReadFault)) before h = refl
+still-opened (Certain (Opens control transport ps)) (ends.BadLine (At file line RunFault)) before h = refl
+still-opened (Certain (Opens control transport ps)) ending before h = absurd h
+still-opened (Master transport ps) ends.NoMemory before h = inl refl
+still-opened (Master transport ps) (ends.BadLine OutOfMemory) before h = inl refl
+still-opened (Master transport ps) (ends.BadLine (At file line ReadFault)) before h = refl
+still-opened (Master transport ps) (ends.BadLine (At file line RunFault)) before h = refl
+still-opened (Master transport ps) (ends.BadLine (At file line cause)) before h = refl
+still-opened (Master transport ps) (ends.BadListing (list_errors.Token key error)) before h = refl
+still-opened (Master transport ps) (ends.BadListing list_errors.OutOfMemory) before h = inl refl
+still-opened (Master transport ps) ends.NoControlPath before h = refl
+still-opened (Master transport ps) ending before h = absurd cc
 
 -- no wire is opened by it, but maybe for want of memory
 abbrev Unshared : Known → Ending → Type 0
@@ -204,19 +204,19 @@ unshared (Certain (Drills seed clients messages)) ending h = inl (shut (Certain 
 unshared Listing ending h = inl (shut Listing (status_of ending) refl)
 unshared (Certain (Joins control asked what)) ending h = inl (shut (Certain (Joins control asked what)) (status_of ending) refl)
 unshared (Client asked what) ending h = inl (shut (Client asked what) (status_of ending) refl)
-unshared (Certain (Opens control transport os ls)) ends.NoMemory h = inr refl
-unshared (Certain (Opens control transport os ls)) (ends.BadLine (At file line ReadFault)) h = inl refl
-unshared (Certain (Opens control transport os ls)) (ends.BadLine (At file line RunFault)) h = inl refl
-unshared (Certain (Opens control transport os ls)) ending h = absurd h
-unshared (Master transport os ls) ends.NoMemory h = inr refl
-unshared (Master transport os ls) (ends.BadLine OutOfMemory) h = inr refl
-unshared (Master transport os ls) (ends.BadLine (At file line ReadFault)) h = inl refl
-unshared (Master transport os ls) (ends.BadLine (At file line RunFault)) h = inl refl
-unshared (Master transport os ls) (ends.BadLine (At file line cause)) h = inl refl
-unshared (Master transport os ls) (ends.BadListing (list_errors.Token key error)) h = inl refl
-unshared (Master transport os ls) (ends.BadListing list_errors.OutOfMemory) h = inr refl
-unshared (Master transport os ls) ends.NoControlPath h = inl refl
-unshared (Master transport os ls) ending h = absurd cc
+unshared (Certain (Opens control transport ps)) ends.NoMemory h = inr refl
+unshared (Certain (Opens control transport ps)) (ends.BadLine (At file line ReadFault)) h = inl refl
+unshared (Certain (Opens control transport ps)) (ends.BadLine (At file line RunFault)) h = inl refl
+unshared (Certain (Opens control transport ps)) ending h = absurd h
+unshared (Master transport ps) ends.NoMemory h = inr refl
+unshared (Master transport ps) (ends.BadLine OutOfMemory) h = inr refl
+unshared (Master transport ps) (ends.BadLine (At file line ReadFault)) h = inl refl
+unshared (Master transport ps) (ends.BadLine (At file line RunFault)) h = inl refl
+unshared (Master transport ps) (ends.BadLine (At file line cause)) h = inl refl
+unshared (Master transport ps) (ends.BadListing (list_errors.Token key error)) h = inl refl
+unshared (Master transport ps) (ends.BadListing list_errors.OutOfMemory) h = inr refl
+unshared (Master transport ps) ends.NoControlPath h = inl refl
+unshared (Master transport ps) ending h = absurd cc
 
 -- only want of memory has its status
 pub only-memory : (meant : MeantEnding) → status_of (shown meant) ≡ statuses.Memory → meant ≡ endings.NoMemory
@@ -251,12 +251,12 @@ still-shared k meant May Rest stands by policy pid turns recorded seen refused h
 pub starved-due : (k : Known) → IsRefused k ends.NoMemory
 starved-due (Certain (Ends due)) = tt
 starved-due (Certain (Writes text)) = tt
-starved-due (Certain (Opens control transport os ls)) = tt
+starved-due (Certain (Opens control transport ps)) = tt
 starved-due (Certain (Drills seed clients messages)) = tt
 starved-due Listing = tt
 starved-due (Certain (Joins control asked what)) = tt
 starved-due (Client asked what) = tt
-starved-due (Master transport os ls) = tt
+starved-due (Master transport ps) = tt
 
 -- the wire wasn't called
 pub still-calls : (turns : ℕ) (status : Status) (calls : CallCounts) → CallsEnd turns status calls calls
@@ -300,11 +300,11 @@ drill-starved (Certain (Drills seed clients messages)) (ends.BadLine (At file li
 drill-starved (Certain (Drills seed clients messages)) ending h d = absurd h
 drill-starved (Certain (Ends due)) ending h d = absurd cc
 drill-starved (Certain (Writes text)) ending h d = absurd cc
-drill-starved (Certain (Opens control transport os ls)) ending h d = absurd cc
+drill-starved (Certain (Opens control transport ps)) ending h d = absurd cc
 drill-starved Listing ending h d = absurd cc
 drill-starved (Certain (Joins control asked what)) ending h d = absurd cc
 drill-starved (Client asked what) ending h d = absurd cc
-drill-starved (Master transport os ls) ending h d = absurd cc
+drill-starved (Master transport ps) ending h d = absurd cc
 
 -- what holds where a wire may have been opened for a master
 pub for-master : (opened shares drilled : Bool) (P : Type 0) → drilled ≡ false → OnTrue (opened && shares) P → OnTrue (opened && (shares || drilled)) P

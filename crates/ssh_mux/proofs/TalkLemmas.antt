@@ -41,9 +41,9 @@ unjoined : (k : Known) (ending : Ending) → IsRefused k ending → Unjoined k e
 unjoined (Certain (Ends due)) ending h = none-asks (Certain (Ends due)) ending refl
 unjoined (Certain (Writes text)) ending h = none-asks (Certain (Writes text)) ending refl
 unjoined (Certain (Drills seed clients messages)) ending h = none-asks (Certain (Drills seed clients messages)) ending refl
-unjoined (Certain (Opens control transport os ls)) ending h = none-asks (Certain (Opens control transport os ls)) ending refl
+unjoined (Certain (Opens control transport ps)) ending h = none-asks (Certain (Opens control transport ps)) ending refl
 unjoined Listing ending h = none-asks Listing ending refl
-unjoined (Master transport os ls) ending h = none-asks (Master transport os ls) ending refl
+unjoined (Master transport ps) ending h = none-asks (Master transport ps) ending refl
 unjoined (Certain (Joins control asked what)) ends.NoMemory h = inr refl
 unjoined (Certain (Joins control asked what)) (ends.BadLine (At file line ReadFault)) h = inl refl
 unjoined (Certain (Joins control asked what)) (ends.BadLine (At file line RunFault)) h = inl refl
@@ -91,9 +91,9 @@ pub still-joined : (k : Known) (ending : Ending) (before : Option (List Bytes)) 
 still-joined (Certain (Ends due)) ending before h = refl
 still-joined (Certain (Writes text)) ending before h = refl
 still-joined (Certain (Drills seed clients messages)) ending before h = refl
-still-joined (Certain (Opens control transport os ls)) ending before h = refl
+still-joined (Certain (Opens control transport ps)) ending before h = refl
 still-joined Listing ending before h = refl
-still-joined (Master transport os ls) ending before h = refl
+still-joined (Master transport ps) ending before h = refl
 still-joined (Certain (Joins control asked what)) ends.NoMemory before h = inl refl
 still-joined (Certain (Joins control asked what)) (ends.BadLine (At file line ReadFault)) before h = refl
 still-joined (Certain (Joins control asked what)) (ends.BadLine (At file line RunFault)) before h = refl
@@ -120,8 +120,8 @@ pub none-joined : (k : Known) (status : Status) (before now : Option (List Bytes
 none-joined (Certain (Ends due)) status before now e h = h
 none-joined (Certain (Writes text)) status before now e h = h
 none-joined (Certain (Drills seed clients messages)) status before now e h = h
-none-joined (Certain (Opens control transport os ls)) status before now e h = h
+none-joined (Certain (Opens control transport ps)) status before now e h = h
 none-joined Listing status before now e h = h
-none-joined (Master transport os ls) status before now e h = h
+none-joined (Master transport ps) status before now e h = h
 none-joined (Certain (Joins control asked what)) status before now e h = absurd cc
 none-joined (Client asked what) status before now e h = absurd cc

@@ -67,11 +67,11 @@ IsDue known (BadLine (At file line ReadFault)) = IsTrue (looks known)
 IsDue known (BadLine (At file line RunFault)) = IsTrue (looks known)
 IsDue (Certain (Ends due)) ending = ending ≡ due
 IsDue (Certain (Writes text)) ending = ⊥
-IsDue (Certain (Opens control transport opens listens)) ending = IsTrue (ends_master ending)
+IsDue (Certain (Opens control transport permits)) ending = IsTrue (ends_master ending)
 IsDue (Certain (Drills seed clients messages)) ending = IsTrue (ends_drill ending)
 IsDue (Certain (Joins control asked what)) ending = IsAskDue (asks_for asked what) ending
 IsDue Listing ending = IsTrue (is_refusal ending)
-IsDue (Master transport opens listens) ending = IsTrue (refuses_master ending || ends_master ending)
+IsDue (Master transport permits) ending = IsTrue (refuses_master ending || ends_master ending)
 IsDue (Client asked what) ending = IsTrue (refuses_master ending || ends_client ending)
 
 -- the same before a listing is written, a wire is opened or the forwardings of a client are read
@@ -81,11 +81,11 @@ IsRefused known (BadLine (At file line ReadFault)) = IsTrue (looks known)
 IsRefused known (BadLine (At file line RunFault)) = IsTrue (looks known)
 IsRefused (Certain (Ends due)) ending = ending ≡ due
 IsRefused (Certain (Writes text)) ending = ⊥
-IsRefused (Certain (Opens control transport opens listens)) ending = ⊥
+IsRefused (Certain (Opens control transport permits)) ending = ⊥
 IsRefused (Certain (Drills seed clients messages)) ending = ⊥
 IsRefused (Certain (Joins control asked what)) ending = ⊥
 IsRefused Listing ending = IsTrue (is_refusal ending)
-IsRefused (Master transport opens listens) ending = IsTrue (refuses_master ending)
+IsRefused (Master transport permits) ending = IsTrue (refuses_master ending)
 IsRefused (Client asked what) ending = IsTrue (refuses_master ending)
 
 -- what was found is what the outcome shows, or the outcome isn't known; or the ending is due

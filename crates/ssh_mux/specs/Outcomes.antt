@@ -16,13 +16,14 @@ use Rattle.mux_outside.specs.declared.pairs.Pair.{Pair}
 use Rattle.mux_outside.specs.declared.statuses.CommandStatus.{CommandStatus}
 use Rattle.mux_outside.specs.Files.{content_at, names_in}
 use Rattle.mux_outside.specs.Runner.{status_of}
+use Rattle.conf_rules.specs.declared.command.Permissions.{Permissions}
 
 -- what is known: all that comes of words, or only that they ask for a listing, for a master over a
 -- transport with these permissions, or for a client that asks a running master
 pub data Known : Type 0 where
   Certain : Outcome → Known
   Listing : Known
-  Master : (transport : Bytes) (opens listens : List Bytes) → Known
+  Master : (transport : Bytes) (permits : Permissions) → Known
   Client : (asked : Asked) (what : MasterCommand) → Known
 
 -- ---- the machine
@@ -47,7 +48,7 @@ machine files statuses facts = None
 -- what is known of a command for itself
 abbrev pub untold : Command → Known
 untold (commands.List asked) = Listing
-untold (commands.Master asked transport opens listens) = Master transport opens listens
+untold (commands.Master asked transport permits) = Master transport permits
 untold (commands.Control asked what) = Client asked what
 untold (commands.Drill seed clients messages) = Certain (Drills seed clients messages)
 
@@ -67,8 +68,8 @@ of_words (Some m) words = Certain (outcome m words)
 of_words None words = untold_words (reading words)
 
 -- a master with these permissions that opens its control path
-abbrev pub opens_at : Bytes → List Bytes → List Bytes → Bytes → Outcome
-opens_at transport opens listens control = Opens control transport opens listens
+abbrev pub opens_at : Bytes → Permissions → Bytes → Outcome
+opens_at transport permits control = Opens control transport permits
 
 -- a client that asks at its control path
 abbrev pub joins_at : Asked → MasterCommand → Bytes → Outcome
@@ -98,8 +99,8 @@ drills other = false
 
 -- whether a wire may be opened for a master
 abbrev pub opens : Known → Bool
-opens (Certain (Opens control transport permitted_opens permitted_listens)) = true
-opens (Master transport permitted_opens permitted_listens) = true
+opens (Certain (Opens control transport permits)) = true
+opens (Master transport permits) = true
 opens other = false
 
 -- whether a wire may be joined, and a running master asked

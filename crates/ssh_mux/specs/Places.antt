@@ -21,7 +21,7 @@ recorded_over None asked = None
 -- the same of words: those of a drill look at no files
 abbrev pub recorded_by : Option Machine → ReadCommand → Option Recorded
 recorded_by m (Ok (commands.List asked)) = recorded_over m asked
-recorded_by m (Ok (commands.Master asked transport opens listens)) = recorded_over m asked
+recorded_by m (Ok (commands.Master asked transport permits)) = recorded_over m asked
 recorded_by m (Ok (commands.Control asked what)) = recorded_over m asked
 recorded_by m reading = None
 

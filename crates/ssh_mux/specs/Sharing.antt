@@ -35,6 +35,7 @@ use Rattle.ssh_mux.specs.Err.{Reports}
 use Rattle.ssh_mux.specs.Outcomes.{Known, Certain, Master}
 use Rattle.ssh_mux.specs.Starts.{BeganWith, Begun, BegunRests, MustsAs, must_for}
 use Rattle.ssh_mux.specs.World.{Sockets, World}
+use Rattle.conf_rules.specs.declared.command.Permissions.{Permissions}
 
 -- ---- the opening
 
@@ -65,28 +66,28 @@ OpensSome transport status before now = OpensBy transport before now
 -- the same of what comes of words: but for a drill, of which `IsDrill` says it, only a master opens
 -- the wire, and none behind a fault
 abbrev pub OpensOnce : Known → Status → Option (List OpenCall) → Option (List OpenCall) → Type 0
-OpensOnce (Certain (Opens control transport opens listens)) Outside before now = now ≡ before
-OpensOnce (Certain (Opens control transport opens listens)) status before now =
+OpensOnce (Certain (Opens control transport permits)) Outside before now = now ≡ before
+OpensOnce (Certain (Opens control transport permits)) status before now =
     OpensAt control transport status before now
 OpensOnce (Certain (Drills seed clients messages)) status before now = Unit
-OpensOnce (Master transport opens listens) status before now = OpensSome transport status before now
+OpensOnce (Master transport permits) status before now = OpensSome transport status before now
 OpensOnce known status before now = now ≡ before
 
 -- ---- the run
 
 -- nothing is permitted
 abbrev pub no_policy : Policy
-no_policy = record { opens = Entries []; listens = Entries [] }
+no_policy = record { opens = Entries []; listens = Entries []; sessions = false }
 
 -- the policy of permissions: one that does not read permits nothing
-abbrev pub policy_of : List Bytes → List Bytes → Policy
-policy_of opens listens =
-    elim (read_policy opens listens) [ Ok policy ↦ policy | Err bad ↦ no_policy ]
+abbrev pub policy_of : Permissions → Policy
+policy_of permits = elim (read_policy permits.opens permits.listens permits.sessions)
+    [ Ok policy ↦ policy | Err bad ↦ no_policy ]
 
 -- the policy of a master: what is none permits nothing
 abbrev pub policy_in : Known → Policy
-policy_in (Certain (Opens control transport opens listens)) = policy_of opens listens
-policy_in (Master transport opens listens) = policy_of opens listens
+policy_in (Certain (Opens control transport permits)) = policy_of permits
+policy_in (Master transport permits) = policy_of permits
 policy_in known = no_policy
 
 -- how the end of a run is told

@@ -14,6 +14,7 @@ use crate::ending::Ending;
 use crate::listing::hand_over;
 use crate::master::{open_and_serve, policy_of};
 use crate::status::Status;
+use conf_rules::Permissions;
 use conf_tokens::put_number;
 use mux_outside::{NoHouse, Sink, Tally, Wire};
 use ssh_fields::{OutOfMemory, Text, Texts};
@@ -59,8 +60,14 @@ fn serve_drill<W: Wire>(
         (W.faults wire.old) (W.faults wire.new) }
 {
     let transport = transport_of(alloc, words.as_slice())?;
-    let none = Texts::new(alloc);
-    let policy = policy_of(alloc, &none, &none)?;
+    let opens = Texts::new(alloc);
+    let listens = Texts::new(alloc);
+    let permits = Permissions {
+        opens,
+        listens,
+        sessions: true,
+    };
+    let policy = policy_of(alloc, &permits)?;
     let control = Text::new(alloc);
     let mut house = NoHouse;
     open_and_serve(

@@ -2,6 +2,7 @@ ghost use Rattle.std.specs.Bool.{OnFalse};
 ghost use Rattle.std.specs.Prelude.{◌≡◌, ◌∷◌, [], List, IfOk, IsOk, IsTrue, OnOk, Some};
 ghost use Rattle.conf_rules.specs.Texts.{Bytes};
 ghost use Rattle.conf_rules.specs.declared.command.Command.TheVariants as commands;
+ghost use Rattle.conf_rules.specs.declared.command.Permissions.{Permissions};
 ghost use Rattle.conf_rules.specs.declared.control.MasterCommand.{MasterCommand};
 ghost use Rattle.forward_rules.specs.Allows.{read_policy};
 ghost use Rattle.mux_engine.specs.Called.{HasSentNothing};
@@ -24,12 +25,12 @@ use crate::status::Status;
 use conf_options::Settings;
 use conf_output::control_path;
 use conf_resolve::resolve;
-use conf_rules::Asked;
+use conf_rules::{Asked, Permissions};
 use forward_rules::{Policy, PolicyError};
 use mux_engine::serve;
 use mux_history::Ended;
 use mux_outside::{Facts, FileError, Files, House, Runner, Wire};
-use ssh_fields::{Text, Texts};
+use ssh_fields::Text;
 use std::alloc::Global;
 
 /// What is found of what the words ask for.
@@ -47,8 +48,7 @@ pub fn share<W: Wire, F: Files, R: Runner, H: House>(
     alloc: Global,
     asked: &Asked,
     transport: &Text,
-    opens: &Texts,
-    listens: &Texts,
+    permits: &Permissions,
     facts: &Facts,
     wire: &mut W,
     files: &mut F,
@@ -56,26 +56,26 @@ pub fn share<W: Wire, F: Files, R: Runner, H: House>(
     house: &mut H,
     turns: u64,
 ) -> Result<Status, Ending>
-    requires permitted { IsOk (read_policy opens.now listens.now) }
+    requires permitted { IsOk (read_policy permits.now.opens permits.now.listens permits.now.sessions) }
     requires fresh { H.fresh house.old }
     ensures looks { Looks facts.now
-        (commands.Master asked.now transport.now opens.now listens.now) asked.now result
+        (commands.Master asked.now transport.now permits.now) asked.now result
         (sources F.Files R.Runner files.old runner.old)
         (sources F.Files R.Runner files.new runner.new) }
     ensures leaves { MasterLeaves H.may H.state
         (coming (sources F.Files R.Runner files.old runner.old) facts.now
-        (commands.Master asked.now transport.now opens.now listens.now))
+        (commands.Master asked.now transport.now permits.now))
         (recorded_over (machine_of_sources (sources F.Files R.Runner files.old runner.old) facts.now)
         asked.now) (pid_of facts.now.pid) turns result
         (sockets W.Wire H.Asks.own wire.old house.old)
         (sockets W.Wire H.Asks.own wire.new house.new) }
     ensures untouched { OnFalse (may_share
         (coming (sources F.Files R.Runner files.old runner.old) facts.now
-        (commands.Master asked.now transport.now opens.now listens.now)) (so_far result))
+        (commands.Master asked.now transport.now permits.now)) (so_far result))
         ((wire.new ≡ wire.old) × (house.new ≡ house.old)) }
 {
     let found = found_of(alloc, asked, facts, files, runner)?;
-    let policy = policy_of(alloc, opens, listens)?;
+    let policy = policy_of(alloc, permits)?;
     let pid = facts.pid.unwrap_or(0);
     begin_and_serve(alloc, &found, transport, policy, pid, wire, house, turns)
 }
@@ -89,10 +89,10 @@ fn found_of<F: Files, R: Runner>(
     files: &mut F,
     runner: &mut R,
 ) -> Result<Found, Ending>
-    ensures master { (transport : Bytes) (opens listens : List Bytes) →
-        FoundFor (λ found. opens_at transport opens listens found.control)
-        (Master transport opens listens) facts.now
-        (commands.Master asked.now transport opens listens) asked.now result
+    ensures master { (transport : Bytes) (permits : Permissions) →
+        FoundFor (λ found. opens_at transport permits found.control)
+        (Master transport permits) facts.now
+        (commands.Master asked.now transport permits) asked.now result
         (sources F.Files R.Runner files.old runner.old)
         (sources F.Files R.Runner files.new runner.new) }
     ensures client { (what : MasterCommand) →
@@ -120,9 +120,9 @@ pub fn control_of<F: Files, R: Runner>(
     files: &mut F,
     runner: &mut R,
 ) -> Result<Text, Ending>
-    ensures master { (transport : Bytes) (opens listens : List Bytes) →
-        FoundFor (opens_at transport opens listens) (Master transport opens listens) facts.now
-        (commands.Master asked.now transport opens listens) asked.now result
+    ensures master { (transport : Bytes) (permits : Permissions) →
+        FoundFor (opens_at transport permits) (Master transport permits) facts.now
+        (commands.Master asked.now transport permits) asked.now result
         (sources F.Files R.Runner files.old runner.old)
         (sources F.Files R.Runner files.new runner.new) }
     ensures client { (what : MasterCommand) →
@@ -136,12 +136,12 @@ pub fn control_of<F: Files, R: Runner>(
 }
 
 /// The policy of permissions without a bad entry.
-pub fn policy_of(alloc: Global, opens: &Texts, listens: &Texts) -> Result<Policy, Ending>
-    requires permitted { IsOk (read_policy opens.now listens.now) }
-    ensures exact { IfOk result (λ policy. policy ≡ the_policy_of opens.now listens.now) }
+pub fn policy_of(alloc: Global, permits: &Permissions) -> Result<Policy, Ending>
+    requires permitted { IsOk (read_policy permits.now.opens permits.now.listens permits.now.sessions) }
+    ensures exact { IfOk result (λ policy. policy ≡ the_policy_of permits.now) }
     ensures err { OnlyStarves result }
 {
-    match Policy::read(alloc, opens, listens) {
+    match Policy::read(alloc, &permits.opens, &permits.listens, permits.sessions) {
         Ok(policy) => Ok(policy),
         Err(PolicyError::OutOfMemory) => Err(Ending::NoMemory),
         Err(PolicyError::BadEntry { .. }) => unreachable!(),

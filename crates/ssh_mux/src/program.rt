@@ -131,10 +131,9 @@ fn act<W: Wire, F: Files, R: Runner, S: Sink, H: House>(
         Command::Master {
             asked,
             transport,
-            opens,
-            listens,
+            permits,
         } => share(
-            alloc, asked, transport, opens, listens, facts, wire, files, runner, house, turns,
+            alloc, asked, transport, permits, facts, wire, files, runner, house, turns,
         ),
         Command::Control { asked, control } => ask_master(
             alloc, asked, *control, facts, wire, files, runner, out, turns,

@@ -9,7 +9,7 @@ ghost use Rattle.mux_history.specs.declared.ended.Ended.TheVariants as ended;
 ghost use Rattle.mux_history.specs.Rows.{losses};
 ghost use Rattle.mux_history.specs.Solo.{end_of};
 ghost use Rattle.mux_history.specs.Worked.{hex, run, run_of, under, sent, recorded, recorded_in_proxy, greets, hello};
-ghost use Rattle.mux_history.specs.WorkedProxy.{session, two_sessions, sent_after_two, confirmed, past_window, overgrown_down, overgrown_up, data_to_nobody, data_too_early, again_setting, foreign_data, database_only, to_database, opens_directly, opens_display, sends_at_once, server_sends, enters_in_pieces, cut_short, server_fails};
+ghost use Rattle.mux_history.specs.WorkedProxy.{session, two_sessions, sent_after_two, confirmed, past_window, overgrown_down, overgrown_up, data_to_nobody, data_too_early, again_setting, foreign_data, database_only, no_session, to_database, opens_directly, opens_session_too, opens_display, sends_at_once, server_sends, enters_in_pieces, cut_short, server_fails};
 
 /// What follows PROXY in the same piece is read as a payload.
 pub fn a_payload_may_follow_the_request_for_the_proxy()
@@ -74,6 +74,17 @@ pub fn a_direct_channel_needs_its_permission()
         ≡ hex (codes "0000001f 00 5c 00000004 00000001 0000000d") ++ (codes "not permitted"
         ++ hex (codes "00000000")) }
     ensures up { sent (run_of (under database_only 0 []) opens_directly) ≡ to_database 0 }
+{}
+
+/// A session is started where the policy permits sessions, and refused to the client elsewhere; what
+/// else is permitted is opened all the same.
+pub fn a_session_needs_its_permission()
+    ensures down { recorded_in_proxy 1 (run_of (under no_session 0 []) opens_session_too)
+        ≡ hex (codes "0000001f 00 5c 00000003 00000001 0000000d") ++ (codes "not permitted"
+        ++ hex (codes "00000000")) }
+    ensures up { sent (run_of (under no_session 0 []) opens_session_too) ≡ to_database 0 }
+    ensures permitted { sent (run_of (under database_only 0 []) opens_session_too)
+        ≡ session 0 ++ to_database 1 }
 {}
 
 /// Channels of other types are refused.

@@ -1,4 +1,4 @@
-use Rattle.std.proofs.Common.{◌≡◌, List, [], inl, refl, sym, ap, subst, ◌∙◌}
+use Rattle.std.proofs.Common.{◌≡◌, List, [], true, inl, refl, ◌∙◌}
 use Rattle.std.specs.Prelude.{IsOk}
 use Rattle.conf_rules.specs.Texts.{Bytes}
 use Rattle.forward_rules.specs.Allows.{read_policy}
@@ -9,14 +9,14 @@ use Rattle.ssh_mux.proofs.MasterLemmas.{starved-counts}
 use Rattle.ssh_mux.proofs.drill.serve_drill.Goals as goal
 
 -- lists without an entry permit anything
-none-read : (none : List Bytes) → none ≡ [] → IsOk (read_policy none none)
-none-read none e = subst (λ n. IsOk (read_policy n n)) (sym e) refl
+any-read : (os ls : List Bytes) → os ≡ [] → ls ≡ [] → IsOk (read_policy os ls true)
+any-read os ls e f = rw (e, f) refl
 
-none-policy : (none : List Bytes) → none ≡ [] → policy_of none none ≡ any_policy
-none-policy none e = ap (λ n. policy_of n n) e
+any-lists : (os ls : List Bytes) → os ≡ [] → ls ≡ [] → policy_of (record { opens = os; listens = ls; sessions = true }) ≡ any_policy
+any-lists os ls e f = rw (e, f) refl
 
 pub policy_of-requires : goal.policy_of-requires
-policy_of-requires g c = record { permitted = none-read c.new-none.result c.new-none.ensures }
+policy_of-requires g c = record { permitted = any-read c.new-opens.result c.new-listens.result c.new-opens.ensures c.new-listens.ensures }
 
 pub returns-in_err-transport-clause-ends : goal.returns-in_err-transport-clause-ends
 returns-in_err-transport-clause-ends g c = let p = err_from_is_err_and c.from_residual.result c.from_residual.ensures.1 in rw (p.1, p.2) refl
@@ -52,7 +52,7 @@ pub returns-clause-opened : goal.returns-clause-opened
 returns-clause-opened g c = rw (c.new-control.ensures, c.in_ok-transport.ensures, c.as_slice.ensures) at c.open_and_serve.ensures.opened
 
 pub returns-clause-served : goal.returns-clause-served
-returns-clause-served g c = rw (c.in_ok-policy.ensures.exact ∙ none-policy c.new-none.result c.new-none.ensures) at c.open_and_serve.ensures.served
+returns-clause-served g c = rw (c.in_ok-policy.ensures.exact ∙ any-lists c.new-opens.result c.new-listens.result c.new-opens.ensures c.new-listens.ensures) at c.open_and_serve.ensures.served
 
 pub returns-clause-start : goal.returns-clause-start
 returns-clause-start g c = c.open_and_serve.ensures.start

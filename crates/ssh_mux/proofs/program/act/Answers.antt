@@ -20,7 +20,7 @@ use Rattle.ssh_mux.proofs.StillLemmas.{both-shown, else-or, first-still, not_fal
 use Rattle.ssh_mux.proofs.program.act.Goals as goal
 
 pub share-requires : goal.share-requires
-share-requires g c = record { permitted = are-permitted _ _ _ _ _ (rw c.in-Master.is at c.requires.read); fresh = c.requires.fresh }
+share-requires g c = record { permitted = are-permitted _ _ _ _ (rw c.in-Master.is at c.requires.read); fresh = c.requires.fresh }
 
 pub ask_master-requires : goal.ask_master-requires
 ask_master-requires g c = record { named = names-forwards _ _ _ (rw c.in-Control.is at c.requires.read) }
@@ -41,7 +41,7 @@ returns-in-List-clause-leaves g c = record {
 
 pub returns-in-Master-clause-runs : goal.returns-in-Master-clause-runs
 returns-in-Master-clause-runs g c = let e = rw c.in-Master.is at c.requires.read in obeyed-runs c.args.words.now c.args.facts.now c.args.turns g.H.Asks.may g.H.Asks.state (sources g.F.Files g.R.Runner c.args.files.now c.args.runner.now) (sources g.F.Files g.R.Runner c.share.new.files c.share.new.runner) (sockets g.W.Wire g.H.Asks c.args.wire.now c.args.house.now) (sockets g.W.Wire g.H.Asks c.share.new.wire c.share.new.house) (output g.S.Sink c.args.out.now) (output g.S.Sink c.args.out.now) _ _ _ c.share.result (of-read _ _ _ e) (master-recorded _ _ _ _ _ _ e) (for-read _ _ _ e)
-    (master-obeyed c.args.words.now (pid_of c.args.facts.now.pid) c.args.turns g.H.Asks.may g.H.Asks.state c.args.facts.now c.in-Master.asked c.in-Master.transport c.in-Master.opens c.in-Master.listens c.share.result (sources g.F.Files g.R.Runner c.args.files.now c.args.runner.now) (sources g.F.Files g.R.Runner c.share.new.files c.share.new.runner) (sockets g.W.Wire g.H.Asks c.args.wire.now c.args.house.now) (sockets g.W.Wire g.H.Asks c.share.new.wire c.share.new.house) (output g.S.Sink c.args.out.now) c.share.ensures.looks c.share.ensures.leaves (both-shown _ g.W.Wire.state (λ h. (g.H.Asks.state h).recorded) _ _ _ _ c.share.ensures.untouched))
+    (master-obeyed c.args.words.now (pid_of c.args.facts.now.pid) c.args.turns g.H.Asks.may g.H.Asks.state c.args.facts.now c.in-Master.asked c.in-Master.transport c.in-Master.permits c.share.result (sources g.F.Files g.R.Runner c.args.files.now c.args.runner.now) (sources g.F.Files g.R.Runner c.share.new.files c.share.new.runner) (sockets g.W.Wire g.H.Asks c.args.wire.now c.args.house.now) (sockets g.W.Wire g.H.Asks c.share.new.wire c.share.new.house) (output g.S.Sink c.args.out.now) c.share.ensures.looks c.share.ensures.leaves (both-shown _ g.W.Wire.state (λ h. (g.H.Asks.state h).recorded) _ _ _ _ c.share.ensures.untouched))
 
 pub returns-in-Master-clause-leaves : goal.returns-in-Master-clause-leaves
 returns-in-Master-clause-leaves g c = record {
@@ -49,7 +49,7 @@ returns-in-Master-clause-leaves g c = record {
   unlisted = on_false _ _;
   files = rw (of-read _ _ _ (rw c.in-Master.is at c.requires.read)) (not_false _ _ (master-looks _ _ _ _ _));
   runner = rw (of-read _ _ _ (rw c.in-Master.is at c.requires.read)) (not_false _ _ (master-looks _ _ _ _ _));
-  wire = rw (of-read _ _ _ (rw c.in-Master.is at c.requires.read)) (or-else (touches (coming (sources g.F.Files g.R.Runner c.args.files.now c.args.runner.now) c.args.facts.now (commands.Master c.in-Master.asked c.in-Master.transport c.in-Master.opens c.in-Master.listens)) (so_far c.share.result)) (may_ask (coming (sources g.F.Files g.R.Runner c.args.files.now c.args.runner.now) c.args.facts.now (commands.Master c.in-Master.asked c.in-Master.transport c.in-Master.opens c.in-Master.listens)) (so_far c.share.result)) (c.share.new.wire ≡ c.args.wire.now) (untouched (may_open (so_far c.share.result)) (opens (coming (sources g.F.Files g.R.Runner c.args.files.now c.args.runner.now) c.args.facts.now (commands.Master c.in-Master.asked c.in-Master.transport c.in-Master.opens c.in-Master.listens))) (drills (coming (sources g.F.Files g.R.Runner c.args.files.now c.args.runner.now) c.args.facts.now (commands.Master c.in-Master.asked c.in-Master.transport c.in-Master.opens c.in-Master.listens))) (c.share.new.wire ≡ c.args.wire.now) (first-still _ _ _ c.share.ensures.untouched)));
+  wire = rw (of-read _ _ _ (rw c.in-Master.is at c.requires.read)) (or-else (touches (coming (sources g.F.Files g.R.Runner c.args.files.now c.args.runner.now) c.args.facts.now (commands.Master c.in-Master.asked c.in-Master.transport c.in-Master.permits)) (so_far c.share.result)) (may_ask (coming (sources g.F.Files g.R.Runner c.args.files.now c.args.runner.now) c.args.facts.now (commands.Master c.in-Master.asked c.in-Master.transport c.in-Master.permits)) (so_far c.share.result)) (c.share.new.wire ≡ c.args.wire.now) (untouched (may_open (so_far c.share.result)) (opens (coming (sources g.F.Files g.R.Runner c.args.files.now c.args.runner.now) c.args.facts.now (commands.Master c.in-Master.asked c.in-Master.transport c.in-Master.permits))) (drills (coming (sources g.F.Files g.R.Runner c.args.files.now c.args.runner.now) c.args.facts.now (commands.Master c.in-Master.asked c.in-Master.transport c.in-Master.permits))) (c.share.new.wire ≡ c.args.wire.now) (first-still _ _ _ c.share.ensures.untouched)));
   house = rw (of-read _ _ _ (rw c.in-Master.is at c.requires.read)) (second-still _ _ _ c.share.ensures.untouched);
 }
 
