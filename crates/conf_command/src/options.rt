@@ -119,13 +119,13 @@ fn control_step(at: u64, value: &[u8]) -> Step
 }
 
 /// Whether sessions are permitted.
-fn sessions_named(value: &[u8]) -> Option<bool>
-    ensures { result ≡ sessions_named value.now }
+fn sessions_named(word: &[u8]) -> Option<bool>
+    ensures { result ≡ sessions_named word.now }
 {
-    if is_same(value, b"any") {
+    if is_same(word, b"any") {
         return Some(true);
     }
-    if is_same(value, b"none") {
+    if is_same(word, b"none") {
         return Some(false);
     }
     None
